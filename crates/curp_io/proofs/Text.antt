@@ -1,0 +1,72 @@
+-- Lemmas on lines.
+use Rattle.std.proofs.Common.{◌≡◌, ◌≢◌, ℕ, suc, ◌+◌, ◌<◌, true, false, not, cond, List, [], ◌∷◌, ◌++◌, length, take, drop, refl, ap, arith}
+use Rattle.std.specs.Prelude.{◌==◌}
+use Rattle.std.specs.List.{position_or_len}
+use Rattle.curp_io.specs.Text.{line_of, rest_of, lines_of, begin_first}
+
+-- a text that isn't empty is its first line and the lines of the rest
+pub lines_of_first : (bytes : List ℕ) → bytes ≢ [] → lines_of bytes ≡ line_of bytes ∷ lines_of (rest_of bytes)
+lines_of_first [] more = absurd (more refl)
+lines_of_first (byte ∷ []) more =
+    elim (byte == 10) as (λ t. cond t ([] ∷ []) ((byte ∷ []) ∷ []) ≡ cond t [] (byte ∷ []) ∷ lines_of (cond t [] [])) [
+      | true ↦ refl
+      | false ↦ refl
+    ]
+lines_of_first (byte ∷ next ∷ bytes) more =
+    let rest : List ℕ = next ∷ bytes in
+    let e : lines_of rest ≡ line_of rest ∷ lines_of (rest_of rest) = lines_of_first (next ∷ bytes) (λ h. absurd cc) in
+    elim (byte == 10) as (λ t. cond t ([] ∷ lines_of rest) (begin_first byte (lines_of rest)) ≡ cond t [] (byte ∷ line_of rest) ∷ lines_of (cond t rest (rest_of rest))) [
+      | true ↦ refl
+      | false ↦ ap (λ w. begin_first byte w) e
+    ]
+
+-- Below, bytes xs with no line feed are their own first line.
+
+pub line_of-append_none : (xs ys : List ℕ) → line_of xs ≡ xs → line_of (xs ++ ys) ≡ xs ++ line_of ys
+line_of-append_none [] ys h = refl
+line_of-append_none (x ∷ xs) ys h =
+    elim (x == 10) as (λ t. cond t [] (x ∷ line_of xs) ≡ x ∷ xs → cond t [] (x ∷ line_of (xs ++ ys)) ≡ x ∷ xs ++ line_of ys) [
+      | true ↦ λ e. absurd cc
+      | false ↦ λ e. ap (λ w. x ∷ w) (line_of-append_none xs ys cc)
+    ] h
+
+pub line_of-append_some : (xs ys : List ℕ) → length (line_of xs) < length xs → line_of (xs ++ ys) ≡ line_of xs
+line_of-append_some [] ys h = absurd (omega arith)
+line_of-append_some (x ∷ xs) ys h =
+    elim (x == 10) as (λ t. length (cond t [] (x ∷ line_of xs)) < length (x ∷ xs) → cond t [] (x ∷ line_of (xs ++ ys)) ≡ cond t [] (x ∷ line_of xs)) [
+      | true ↦ λ e. refl
+      | false ↦ λ e. ap (λ w. x ∷ w) (line_of-append_some xs ys (omega arith))
+    ] h
+
+pub rest_of-append_some : (xs ys : List ℕ) → length (line_of xs) < length xs → rest_of (xs ++ ys) ≡ rest_of xs ++ ys
+rest_of-append_some [] ys h = absurd (omega arith)
+rest_of-append_some (x ∷ xs) ys h =
+    elim (x == 10) as (λ t. length (cond t [] (x ∷ line_of xs)) < length (x ∷ xs) → cond t (xs ++ ys) (rest_of (xs ++ ys)) ≡ cond t xs (rest_of xs) ++ ys) [
+      | true ↦ λ e. refl
+      | false ↦ λ e. rest_of-append_some xs ys (omega arith)
+    ] h
+
+pub take_line : (xs : List ℕ) → take (length (line_of xs)) xs ≡ line_of xs
+take_line [] = refl
+take_line (x ∷ xs) =
+    elim (x == 10) as (λ t. take (length (cond t [] (x ∷ line_of xs))) (x ∷ xs) ≡ cond t [] (x ∷ line_of xs)) [
+      | true ↦ refl
+      | false ↦ ap (λ w. x ∷ w) (take_line xs)
+    ]
+
+pub drop_line : (xs : List ℕ) → drop (suc (length (line_of xs))) xs ≡ rest_of xs
+drop_line [] = refl
+drop_line (x ∷ xs) =
+    elim (x == 10) as (λ t. drop (suc (length (cond t [] (x ∷ line_of xs)))) (x ∷ xs) ≡ cond t xs (rest_of xs)) [
+      | true ↦ refl
+      | false ↦ drop_line xs
+    ]
+
+-- the first line feed stands after the first line
+pub feed_place : (xs : List ℕ) → position_or_len (λ byte. byte == 10) xs ≡ length (line_of xs)
+feed_place [] = refl
+feed_place (x ∷ xs) =
+    elim (x == 10) as (λ t. cond (not t) (1 + position_or_len (λ byte. byte == 10) xs) 0 ≡ length (cond t [] (x ∷ line_of xs))) [
+      | true ↦ refl
+      | false ↦ omega (arith, feed_place xs)
+    ]

@@ -1,0 +1,106 @@
+ghost use Rattle.std.specs.Prelude.{◌≡◌, ◌≢◌, ◌≤◌, ◌++◌, [], true, None, Some, IfOk};
+ghost use Rattle.curp_io.specs.Streams.{Rose};
+ghost use Rattle.curp_io.specs.Text.{Answers, nothing_read, number_after, repeated};
+
+use crate::source::Source;
+use crate::window::{Found, Window};
+use curp_base::NoMemory;
+use std::alloc::Global;
+use std::marker::Model;
+
+/// What a call of `next_line` found.
+#[derive(Clone, Copy, Debug, PartialEq, Eq)]
+pub enum NextLine {
+    /// A line, which `text` gives.
+    Line,
+    /// No byte was left.
+    End,
+    /// The source failed.
+    ReadFault,
+    /// Line number `at`, from 1, has more than 65,536 bytes.
+    TooLong { at: u64 },
+}
+
+/// Takes the bytes of a source apart into lines.
+///
+/// A line is the bytes up to a line feed, without it. The last line needs no line feed, and none follows a line feed
+/// at the end. Bytes that were read ahead are kept here, so one source is to be read by one of these.
+#[derive(Debug, Drop)]
+pub struct Lines {
+    window: Window,
+    number: u64,
+    failed: Option<NextLine>,
+}
+
+impl Model for Lines {
+    ghost use Rattle.curp_io.specs.Text.{Progress};
+
+    ghost Value = { Progress };
+
+    ghost view = { λ lines. record {
+      ahead = lines.window.ahead;
+      line = lines.window.line;
+      number = lines.number;
+      failed = lines.failed;
+    } };
+}
+
+impl Lines {
+    /// Takes a buffer of 65,537 bytes.
+    pub fn new(alloc: Global) -> Result<Lines, NoMemory>
+        ensures { IfOk result (λ lines. lines ≡ nothing_read) }
+    {
+        Ok(Lines {
+            window: Window::new(alloc)?,
+            number: 0,
+            failed: None,
+        })
+    }
+
+    /// The line that the last call of `next_line` gave. It is empty where that gave none.
+    pub fn text(&self) -> &[u8]
+        ensures { result.now ≡ self.now.line }
+    {
+        self.window.line()
+    }
+
+    /// Gives the next line of the bytes read ahead and those that the source has left. It takes no memory. A read
+    /// fault and a line that is too long are answered by every later call again, which then reads nothing.
+    pub fn next_line<S: Source>(&mut self, source: &mut S) -> NextLine
+        ensures bytes { S.tells source.old ≡ true → self.old.failed ≡ None → Answers self.old.number
+            (self.old.ahead ++ S.left source.old) result self.new.line (self.new.ahead ++ S.left source.new) }
+        ensures number { self.old.failed ≡ None → self.new.number ≡ number_after self.old.number result }
+        ensures failed { self.old.failed ≡ None → self.new.failed ≡ repeated result }
+        ensures repeats { (answer : NextLine) → self.old.failed ≡ Some answer → (result ≡ answer) × (self.new ≡ self.old) × (source.new ≡ source.old) }
+        ensures no_text { self.old.failed ≡ None → result ≢ NextLine.Line → self.new.line ≡ [] }
+        ensures tells { S.tells source.old ≡ true → S.tells source.new ≡ true }
+        ensures cause { self.old.failed ≡ None → result ≡ NextLine.ReadFault → Rose (S.faults source.old) (S.faults source.new) }
+        ensures never_falls { S.faults source.old ≤ S.faults source.new }
+    {
+        if let Some(answer) = self.failed {
+            return answer;
+        }
+        self.window.forget_line();
+        match self.window.find_line(source) {
+            Found::Line(len) => {
+                self.window.give_line(len);
+                self.number = self.number.saturating_add(1);
+                NextLine::Line
+            }
+            Found::End => NextLine::End,
+            Found::ReadFault => self.fail(NextLine::ReadFault),
+            Found::TooLong => self.fail(NextLine::TooLong {
+                at: self.number.saturating_add(1),
+            }),
+        }
+    }
+
+    /// Answers, now and from now on.
+    fn fail(&mut self, answer: NextLine) -> NextLine
+        ensures answer { result ≡ answer }
+        ensures after { self.new ≡ record self.old { failed = Some answer } }
+    {
+        self.failed = Some(answer);
+        answer
+    }
+}

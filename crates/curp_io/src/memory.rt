@@ -1,0 +1,207 @@
+ghost use Rattle.std.specs.Prelude.{◌≡◌, ◌≢◌, ◌≤◌, ◌<◌, ◌-◌, ◌^◌, ◌↔◌, [], length, true, if◌then◌else◌, IfOk};
+ghost use Rattle.curp_io.specs.Memory.{called, fails, fresh_calls, supplied};
+ghost use Rattle.curp_io.specs.Streams.{FitsBuffer, MovesOn, Puts, Rose, Takes};
+
+use crate::sink::{Flushed, Put, Sink};
+use crate::source::{Source, Taken};
+use crate::sure::{copy_front, take_whole};
+use curp_base::NoMemory;
+use std::alloc::Global;
+use std::marker::Model;
+
+/// The calls of a source or a sink, of which those with the listed numbers fail. The first call has number 1.
+#[derive(Debug, Drop)]
+struct Schedule {
+    made: u64,
+    failing: Vec<u64>,
+    faults: u64,
+}
+
+enum Turn {
+    Goes,
+    Fails,
+}
+
+impl Model for Schedule {
+    ghost use Rattle.curp_io.specs.Memory.{Calls};
+
+    ghost Value = { Calls };
+
+    ghost view = { λ s. record { made = s.made; failing = s.failing.items; faults = s.faults } };
+}
+
+impl Schedule {
+    fn new(alloc: Global, failing: &[u64]) -> Result<Schedule, NoMemory>
+        ensures calls { IfOk result (λ calls. calls ≡ fresh_calls failing.now) }
+    {
+        Ok(Schedule {
+            made: 0,
+            failing: Vec::from_slice(alloc, failing)?,
+            faults: 0,
+        })
+    }
+
+    /// Counts a call, and says whether it fails.
+    fn turn(&mut self) -> Turn
+        ensures calls { self.new ≡ called self.old }
+        ensures fails { result ≡ (if fails self.old then Turn.Fails else Turn.Goes) }
+        ensures never_falls { self.old.faults ≤ self.new.faults }
+    {
+        self.made = self.made.saturating_add(1);
+        if self.failing.contains(&self.made) {
+            self.faults = self.faults.saturating_add(1);
+            Turn::Fails
+        } else {
+            Turn::Goes
+        }
+    }
+}
+
+/// A source over bytes in memory, whose listed calls fail.
+#[derive(Debug, Drop)]
+pub struct MemorySource {
+    bytes: Vec<u8>,
+    at: usize,
+    piece: usize,
+    schedule: Schedule,
+}
+
+impl Model for MemorySource {
+    ghost use Rattle.std.specs.Prelude.{◌≤◌, ◌<◌, drop, vec_len};
+    ghost use Rattle.curp_io.specs.Memory.{Supply};
+
+    ghost Value = { Supply };
+
+    ghost view = { λ s. record { left = drop s.at s.bytes.items; piece = s.piece; calls = s.schedule } };
+
+    ghost invariant = { λ s. (s.at ≤ vec_len s.bytes) × (0 < s.piece) };
+}
+
+impl MemorySource {
+    /// A source of these bytes that gives as many a call as there is room for. The calls with the numbers in
+    /// `failing`, from 1, fail.
+    pub fn new(alloc: Global, bytes: &[u8], failing: &[u64]) -> Result<MemorySource, NoMemory>
+        ensures left { IfOk result (λ source. source.left ≡ bytes.now) }
+        ensures piece { IfOk result (λ source. source.piece ≡ 2 ^ 64 - 1) }
+        ensures calls { IfOk result (λ source. source.calls ≡ fresh_calls failing.now) }
+    {
+        MemorySource::in_pieces(alloc, bytes, failing, usize::MAX)
+    }
+
+    /// The same, and it gives at most `piece` bytes a call.
+    pub fn in_pieces(
+        alloc: Global,
+        bytes: &[u8],
+        failing: &[u64],
+        piece: usize,
+    ) -> Result<MemorySource, NoMemory>
+        requires { 0 < piece }
+        ensures left { IfOk result (λ source. source.left ≡ bytes.now) }
+        ensures piece { IfOk result (λ source. source.piece ≡ piece) }
+        ensures calls { IfOk result (λ source. source.calls ≡ fresh_calls failing.now) }
+    {
+        Ok(MemorySource {
+            bytes: Vec::from_slice(alloc, bytes)?,
+            at: 0,
+            piece,
+            schedule: Schedule::new(alloc, failing)?,
+        })
+    }
+}
+
+impl Source for MemorySource {
+    ghost tells = { λ _. true };
+
+    ghost left = { λ source. source.left };
+
+    ghost faults = { λ source. source.calls.faults };
+
+    fn take(&mut self, buf: &mut [u8]) -> Taken
+        ensures fits { FitsBuffer result buf.new }
+        ensures bytes { Takes self.old.left self.new.left result buf.new }
+        ensures cause { result ≡ Taken.Failed → Rose self.old.calls.faults self.new.calls.faults }
+        ensures never_falls { self.old.calls.faults ≤ self.new.calls.faults }
+        ensures answer { result ≡ supplied self.old (length buf.old) }
+        ensures calls { self.new.calls ≡ called self.old.calls }
+        ensures piece { self.new.piece ≡ self.old.piece }
+    {
+        match self.schedule.turn() {
+            Turn::Fails => Taken::Failed,
+            Turn::Goes => {
+                let count = copy_front(&self.bytes[self.at..], buf, self.piece);
+                self.at += count;
+                Taken::Bytes(count)
+            }
+        }
+    }
+}
+
+/// A sink that holds its bytes in memory, and whose listed calls of `put` and `flush`, counted together, fail.
+#[derive(Debug, Drop)]
+pub struct MemorySink {
+    bytes: Vec<u8>,
+    schedule: Schedule,
+}
+
+impl Model for MemorySink {
+    ghost use Rattle.curp_io.specs.Memory.{Store};
+
+    ghost Value = { Store };
+
+    ghost view = { λ s. record { held = s.bytes.items; calls = s.schedule } };
+}
+
+impl MemorySink {
+    /// An empty sink. The calls with the numbers in `failing`, from 1, fail.
+    pub fn new(alloc: Global, failing: &[u64]) -> Result<MemorySink, NoMemory>
+        ensures held { IfOk result (λ sink. sink.held ≡ []) }
+        ensures calls { IfOk result (λ sink. sink.calls ≡ fresh_calls failing.now) }
+    {
+        Ok(MemorySink {
+            bytes: Vec::new(alloc),
+            schedule: Schedule::new(alloc, failing)?,
+        })
+    }
+
+    pub fn bytes(&self) -> &[u8]
+        ensures { result.now ≡ self.now.held }
+    {
+        &self.bytes
+    }
+}
+
+impl Sink for MemorySink {
+    ghost tells = { λ _. true };
+
+    ghost held = { λ sink. sink.held };
+
+    ghost faults = { λ sink. sink.calls.faults };
+
+    fn put(&mut self, bytes: &[u8]) -> Put
+        ensures moves_on { MovesOn result bytes.now }
+        ensures bytes { Puts self.old.held self.new.held result bytes.now }
+        ensures cause { result ≡ Put.Failed → Rose self.old.calls.faults self.new.calls.faults }
+        ensures never_falls { self.old.calls.faults ≤ self.new.calls.faults }
+        ensures fails { (result ≡ Put.Failed) ↔ (fails self.old.calls ≡ true) }
+        ensures whole { fails self.old.calls ≢ true → result ≢ Put.NoMemory → result ≡ Put.Took (length bytes.now) }
+        ensures calls { self.new.calls ≡ called self.old.calls }
+    {
+        match self.schedule.turn() {
+            Turn::Fails => Put::Failed,
+            Turn::Goes => take_whole(&mut self.bytes, bytes),
+        }
+    }
+
+    fn flush(&mut self) -> Flushed
+        ensures bytes { self.new.held ≡ self.old.held }
+        ensures cause { result ≡ Flushed.Failed → Rose self.old.calls.faults self.new.calls.faults }
+        ensures never_falls { self.old.calls.faults ≤ self.new.calls.faults }
+        ensures answer { result ≡ (if fails self.old.calls then Flushed.Failed else Flushed.Done) }
+        ensures calls { self.new.calls ≡ called self.old.calls }
+    {
+        match self.schedule.turn() {
+            Turn::Fails => Flushed::Failed,
+            Turn::Goes => Flushed::Done,
+        }
+    }
+}

@@ -1,0 +1,117 @@
+ghost use Rattle.std.specs.Prelude.{◌≡◌, min, take, length, [], true, IfOk};
+ghost use Rattle.curp_io.specs.Sure.{PutsAll};
+
+use crate::sink::{Flushed, Put, Sink};
+use crate::source::{Source, Taken};
+use curp_base::NoMemory;
+use std::alloc::Global;
+use std::marker::Model;
+
+/// A source over bytes in memory that never fails.
+#[derive(Debug, Drop)]
+pub struct SureSource {
+    bytes: Vec<u8>,
+    at: usize,
+}
+
+impl Model for SureSource {
+    ghost use Rattle.std.specs.Prelude.{List, ℕ, ◌≤◌, drop, vec_len};
+
+    ghost Value = { List ℕ };
+
+    ghost view = { λ s. drop s.at s.bytes.items };
+
+    ghost invariant = { λ s. s.at ≤ vec_len s.bytes };
+}
+
+impl SureSource {
+    pub fn new(alloc: Global, bytes: &[u8]) -> Result<SureSource, NoMemory>
+        ensures { IfOk result (λ left. left ≡ bytes.now) }
+    {
+        Ok(SureSource {
+            bytes: Vec::from_slice(alloc, bytes)?,
+            at: 0,
+        })
+    }
+}
+
+impl Source for SureSource {
+    ghost tells = { λ _. true };
+
+    ghost left = { λ left. left };
+
+    ghost faults = { λ _. 0 };
+
+    fn take(&mut self, buf: &mut [u8]) -> Taken {
+        let count = copy_front(&self.bytes[self.at..], buf, usize::MAX);
+        self.at += count;
+        Taken::Bytes(count)
+    }
+}
+
+/// A sink that holds its bytes in memory and never fails.
+#[derive(Debug, Drop)]
+pub struct SureSink {
+    bytes: Vec<u8>,
+}
+
+impl Model for SureSink {
+    ghost use Rattle.std.specs.Prelude.{List, ℕ};
+
+    ghost Value = { List ℕ };
+
+    ghost view = { λ s. s.bytes.items };
+}
+
+impl SureSink {
+    /// An empty sink. It takes no memory until bytes are put.
+    pub fn new(alloc: Global) -> SureSink
+        ensures { result ≡ [] }
+    {
+        SureSink {
+            bytes: Vec::new(alloc),
+        }
+    }
+
+    pub fn bytes(&self) -> &[u8]
+        ensures { result.now ≡ self.now }
+    {
+        &self.bytes
+    }
+}
+
+impl Sink for SureSink {
+    ghost tells = { λ _. true };
+
+    ghost held = { λ held. held };
+
+    ghost faults = { λ _. 0 };
+
+    fn put(&mut self, bytes: &[u8]) -> Put {
+        take_whole(&mut self.bytes, bytes)
+    }
+
+    fn flush(&mut self) -> Flushed {
+        Flushed::Done
+    }
+}
+
+/// Copies bytes from the front of one slice to the front of another, at most `most`, and says how many.
+pub(crate) fn copy_front(from: &[u8], to: &mut [u8], most: usize) -> usize
+    ensures count { result ≡ min (min most (length to.old)) (length from.now) }
+    ensures bytes { take result to.new ≡ take result from.now }
+{
+    let count = most.min(to.len()).min(from.len());
+    to[..count].copy_from_slice(&from[..count]);
+    count
+}
+
+/// Adds a whole piece to the bytes held, if there is memory.
+pub(crate) fn take_whole(held: &mut Vec<u8>, piece: &[u8]) -> Put
+    ensures { PutsAll held.old.items held.new.items result piece.now }
+{
+    match held.extend_from_slice(piece) {
+        Ok(()) => Put::Took(piece.len()),
+        Err(_) => Put::NoMemory,
+    }
+}
