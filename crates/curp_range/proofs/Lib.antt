@@ -1,0 +1,6 @@
+pub mod Ascending
+pub mod Cuts
+pub mod Joins
+pub mod Places
+pub mod Same
+pub mod Tests

@@ -1,0 +1,8 @@
+//! Ranges of hashes: which hashes of 64 bits a store owns, as ranges are taken out, put in and united.
+#![tactic(auto)]
+
+pub mod laws;
+mod ranges;
+mod spans;
+
+pub use ranges::{PutError, Ranges, TakeError};

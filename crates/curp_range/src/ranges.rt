@@ -1,0 +1,195 @@
+ghost use Rattle.std.specs.Prelude.{◌≡◌, ℕ, ◌+◌, ◌≤◌, ◌&&◌, ◌||◌, not, IsTrue, IsFalse, ◌↔◌, [], ◌∷◌, IfOk, OnOk, OnErr};
+ghost use Rattle.curp_range.specs.Spans.{is_in, is_owned, Ascend, Covers, Lacks, Meets};
+
+use crate::spans;
+use curp_base::NoMemory;
+use std::alloc::Global;
+use std::marker::Model;
+
+/// A set of hashes of 64 bits. Contracts see its spans, and for how many more spans it has room.
+/// A range from `lo` to `hi` has both of them.
+#[derive(Debug, Drop)]
+pub struct Ranges {
+    spans: Vec<(u64, u64)>,
+}
+
+impl Model for Ranges {
+    ghost use Rattle.std.specs.Prelude.{◌-◌, vec_len, vec_capacity};
+    ghost use Rattle.curp_range.specs.Spans.{RangeSet, Ascend};
+
+    ghost Value = { RangeSet };
+
+    ghost view = { λ r. record { spans = r.spans.items; spare = vec_capacity r.spans - vec_len r.spans } };
+
+    ghost invariant = { λ r. Ascend r.spans.items };
+}
+
+/// Why a range is not taken out.
+#[derive(Clone, Copy, Debug, PartialEq, Eq)]
+pub enum TakeError {
+    /// Some hash of the range is not owned.
+    NotOwned,
+}
+
+/// Why a range is not put in.
+#[derive(Clone, Copy, Debug, PartialEq, Eq)]
+pub enum PutError {
+    /// Some hash of the range is owned already.
+    Overlap,
+}
+
+impl Ranges {
+    /// The hashes of one range.
+    pub fn new(alloc: Global, lo: u64, hi: u64) -> Result<Ranges, NoMemory>
+        requires { lo ≤ hi }
+        ensures { IfOk result (λ ranges. ranges.spans ≡ (lo, hi) ∷ []) }
+    {
+        let spans = Vec::from_slice(alloc, &[(lo, hi)])?;
+        Ok(Ranges { spans })
+    }
+
+    /// Whether the hash is owned.
+    pub fn owns(&self, hash: u64) -> bool
+        ensures { result ≡ is_owned self.now.spans hash }
+    {
+        spans::covers(&self.spans, hash, hash)
+    }
+
+    /// Whether each hash of the range is owned.
+    pub fn covers(&self, lo: u64, hi: u64) -> bool
+        requires { lo ≤ hi }
+        ensures covered { IsTrue result ↔ Covers self.now.spans lo hi }
+        ensures lacking { IsFalse result ↔ Lacks self.now.spans lo hi }
+    {
+        spans::covers(&self.spans, lo, hi)
+    }
+
+    /// The spans of the owned hashes: each has a first and a last hash, and the next begins at least two above the last.
+    pub fn spans(&self) -> &[(u64, u64)]
+        ensures value { result.now ≡ self.now.spans }
+        ensures ascend { Ascend self.now.spans }
+    {
+        &self.spans
+    }
+
+    /// A value that owns the same hashes.
+    pub fn copy(&self, alloc: Global) -> Result<Ranges, NoMemory>
+        ensures { IfOk result (λ copy. copy.spans ≡ self.now.spans) }
+    {
+        let spans = Vec::from_slice(alloc, &self.spans)?;
+        Ok(Ranges { spans })
+    }
+
+    /// Makes room for so many more spans.
+    pub fn reserve(&mut self, spare: u64) -> Result<(), NoMemory>
+        ensures spans { self.new.spans ≡ self.old.spans }
+        ensures room { OnOk result (spare ≤ self.new.spare) }
+        ensures kept { self.old.spare ≤ self.new.spare }
+        ensures err { OnErr result (self.new ≡ self.old) }
+    {
+        self.spans.reserve(spare as usize)
+    }
+
+    /// Owns the hashes of the range no longer, if it owned each of them. It takes no memory.
+    pub fn take_out(&mut self, lo: u64, hi: u64) -> Result<(), TakeError>
+        requires ordered { lo ≤ hi }
+        requires room { 1 ≤ self.old.spare }
+        ensures ok { OnOk result ((h : ℕ) → is_owned self.new.spans h ≡ (is_owned self.old.spans h && not (is_in lo hi h))) }
+        ensures not_owned { (result ≡ Err TakeError.NotOwned) ↔ Lacks self.old.spans lo hi }
+        ensures err { OnErr result (self.new ≡ self.old) }
+        ensures spare { self.old.spare ≤ self.new.spare + 1 }
+    {
+        if !spans::covers(&self.spans, lo, hi) {
+            return Err(TakeError::NotOwned);
+        }
+        spans::cut(&mut self.spans, lo, hi);
+        Ok(())
+    }
+
+    /// Owns the hashes of the range too, if it owned none of them. It takes no memory.
+    pub fn put_in(&mut self, lo: u64, hi: u64) -> Result<(), PutError>
+        requires ordered { lo ≤ hi }
+        requires room { 1 ≤ self.old.spare }
+        ensures ok { OnOk result ((h : ℕ) → is_owned self.new.spans h ≡ (is_owned self.old.spans h || is_in lo hi h)) }
+        ensures overlap { (result ≡ Err PutError.Overlap) ↔ Meets self.old.spans lo hi }
+        ensures err { OnErr result (self.new ≡ self.old) }
+        ensures spare { self.old.spare ≤ self.new.spare + 1 }
+    {
+        if spans::meets(&self.spans, lo, hi) {
+            return Err(PutError::Overlap);
+        }
+        self.unite(lo, hi);
+        Ok(())
+    }
+
+    /// Owns the hashes of the range, whatever of it was owned before. It takes no memory.
+    pub fn unite(&mut self, lo: u64, hi: u64)
+        requires ordered { lo ≤ hi }
+        requires room { 1 ≤ self.old.spare }
+        ensures owned { (h : ℕ) → is_owned self.new.spans h ≡ (is_owned self.old.spans h || is_in lo hi h) }
+        ensures spare { self.old.spare ≤ self.new.spare + 1 }
+    {
+        spans::join(&mut self.spans, lo, hi);
+    }
+}
+
+#[cfg(test)]
+mod tests {
+    use super::*;
+    use std::test::Fail;
+
+    fn ten(alloc: Global) -> Result<Ranges, NoMemory>
+        ensures { IfOk result (λ ranges. 1 ≤ ranges.spare) }
+    {
+        let mut ranges = Ranges::new(alloc, 0, 9)?;
+        ranges.reserve(1)?;
+        Ok(ranges)
+    }
+
+    #[test]
+    fn takes_out_and_puts_in_whole_ranges(rt: HostRuntime) -> Result<(), Fail> {
+        let mut ranges = ten(rt.alloc())?;
+        assert_eq!(rt; ranges.take_out(3, 5), Ok(()));
+        assert_eq!(rt; ranges.spans(), [(0, 2), (6, 9)].as_slice());
+        ranges.reserve(1)?;
+        assert_eq!(rt; ranges.take_out(5, 6), Err(TakeError::NotOwned));
+        ranges.reserve(1)?;
+        assert_eq!(rt; ranges.put_in(2, 4), Err(PutError::Overlap));
+        ranges.reserve(1)?;
+        assert_eq!(rt; ranges.put_in(3, 5), Ok(()));
+        assert_eq!(rt; ranges.spans(), [(0, 9)].as_slice());
+        assert!(rt; ranges.covers(0, 9));
+        assert!(rt; !ranges.owns(10));
+        Ok(())
+    }
+
+    #[test]
+    fn unites_over_a_gap(rt: HostRuntime) -> Result<(), Fail> {
+        let mut ranges = ten(rt.alloc())?;
+        assert_eq!(rt; ranges.take_out(3, 5), Ok(()));
+        ranges.reserve(1)?;
+        ranges.unite(12, 20);
+        assert_eq!(rt; ranges.spans(), [(0, 2), (6, 9), (12, 20)].as_slice());
+        ranges.reserve(1)?;
+        ranges.unite(2, 11);
+        assert_eq!(rt; ranges.spans(), [(0, 20)].as_slice());
+        Ok(())
+    }
+
+    #[test]
+    fn has_the_first_and_the_last_hash_of_all(rt: HostRuntime) -> Result<(), Fail> {
+        let mut ranges = Ranges::new(rt.alloc(), 0, u64::MAX)?;
+        ranges.reserve(2)?;
+        assert_eq!(rt; ranges.take_out(0, 0), Ok(()));
+        assert_eq!(rt; ranges.take_out(u64::MAX, u64::MAX), Ok(()));
+        assert_eq!(rt; ranges.spans(), [(1, u64::MAX - 1)].as_slice());
+        assert!(rt; !ranges.owns(u64::MAX));
+        let mut copy = ranges.copy(rt.alloc())?;
+        copy.reserve(2)?;
+        copy.unite(u64::MAX, u64::MAX);
+        copy.unite(0, 1);
+        assert!(rt; copy.covers(0, u64::MAX));
+        assert_eq!(rt; copy.spans(), [(0, u64::MAX)].as_slice());
+        Ok(())
+    }
+}
