@@ -1,0 +1,5 @@
+pub mod Searched
+mod Puts
+mod Hashes
+mod Values
+mod Apart

@@ -1,0 +1,27 @@
+-- The hashes of keys, and which commands have one in common.
+use Rattle.std.specs.Prelude.{ℕ, ◌*◌, ◌%◌, ◌^◌, ◌==◌, Bool, bit_xor, List, [], ◌∷◌, map}
+use Rattle.std.specs.List.{list_any}
+use Rattle.curp_cmd.specs.Store.{keys_of}
+use Rattle.curp_cmd.specs.declared.command.Command.{Command}
+use Rattle.curp_cmd.specs.declared.hash.TheConstants.{OFFSET_BASIS, PRIME}
+
+-- the hash behind the bytes, where it is h in front of them
+abbrev pub hashed_from : ℕ → List ℕ → ℕ
+hashed_from h [] = h
+hashed_from h (byte ∷ bytes) = hashed_from ((bit_xor h byte * PRIME) % 2 ^ 64) bytes
+
+-- FNV-1a with 64 bits
+unfoldable pub hash_of : List ℕ → ℕ
+hash_of bytes = hashed_from OFFSET_BASIS bytes
+
+-- the hashes of the keys that a command names
+abbrev pub hashes_of : Command → List ℕ
+hashes_of command = map hash_of (keys_of command)
+
+-- a key of the command has this hash
+abbrev pub touches : Command → ℕ → Bool
+touches command h = list_any (λ x. x == h) (hashes_of command)
+
+-- a hash of the one is a hash of the other
+abbrev pub conflicts : Command → Command → Bool
+conflicts a b = list_any (touches b) (hashes_of a)

@@ -1,0 +1,81 @@
+ghost use Rattle.std.specs.Prelude.{◌≡◌};
+ghost use Rattle.curp_cmd.specs.Hash.{hash_of, touches, conflicts};
+
+use crate::{Command, Key};
+
+/// Where FNV-1a with 64 bits begins.
+pub const OFFSET_BASIS: u64 = 0xcbf29ce484222325;
+
+/// What FNV-1a with 64 bits multiplies by at each byte.
+pub const PRIME: u64 = 0x100000001b3;
+
+/// The hash of the bytes: FNV-1a with 64 bits.
+#[tactic(auto, unfolding(crate::specs::Hash::hash_of))]
+pub fn bytes_hash(bytes: &[u8]) -> u64
+    ensures { result ≡ hash_of bytes.now }
+{
+    let mut hash = OFFSET_BASIS;
+    for byte in bytes {
+        hash = (hash ^ u64::from(*byte)).wrapping_mul(PRIME);
+    }
+    hash
+}
+
+/// The hash of the key's bytes. Keys may share a hash.
+pub fn key_hash(key: &Key) -> u64
+    ensures { result ≡ hash_of key.now }
+{
+    bytes_hash(key.bytes())
+}
+
+/// Whether a key of the command has this hash.
+pub fn touches(command: &Command, hash: u64) -> bool
+    ensures { result ≡ touches command.now hash }
+{
+    match command {
+        Command::Get(key)
+        | Command::Put(key, _)
+        | Command::Delete(key)
+        | Command::Incr(key)
+        | Command::Append(key, _)
+        | Command::CondPut(key, _, _) => key_hash(key) == hash,
+        Command::Multi(pairs) => pairs
+            .as_slice()
+            .iter()
+            .any(|pair| key_hash(&pair.0) == hash),
+    }
+}
+
+/// Whether a hash of the one is a hash of the other. Commands that don't conflict may be done in either order.
+pub fn conflict(a: &Command, b: &Command) -> bool
+    ensures { result ≡ conflicts a.now b.now }
+{
+    match a {
+        Command::Get(key)
+        | Command::Put(key, _)
+        | Command::Delete(key)
+        | Command::Incr(key)
+        | Command::Append(key, _)
+        | Command::CondPut(key, _, _) => touches(b, key_hash(key)),
+        Command::Multi(pairs) => pairs
+            .as_slice()
+            .iter()
+            .any(|pair| touches(b, key_hash(&pair.0))),
+    }
+}
+
+#[cfg(test)]
+mod tests {
+    use super::*;
+
+    // The vectors that the authors of FNV published.
+    #[test]
+    fn hashes_as_published(rt: HostRuntime) {
+        assert_eq!(rt; bytes_hash(b""), 0xcbf29ce484222325);
+        assert_eq!(rt; bytes_hash(b"a"), 0xaf63dc4c8601ec8c);
+        assert_eq!(rt; bytes_hash(b"b"), 0xaf63df4c8601f1a5);
+        assert_eq!(rt; bytes_hash(b"c"), 0xaf63de4c8601eff2);
+        assert_eq!(rt; bytes_hash(b"fo"), 0x08985907b541d342);
+        assert_eq!(rt; bytes_hash(b"foobar"), 0x85944171f73967e8);
+    }
+}

@@ -1,0 +1,24 @@
+//! Keys, values, commands and requests, and the store that gives one thread's answers.
+#![tactic(auto)]
+
+mod command;
+mod entry;
+mod hash;
+mod held;
+mod key;
+pub mod laws;
+mod migration;
+mod node;
+mod pairs;
+mod store;
+mod value;
+
+pub use command::{Answer, Command, Request, RequestId};
+pub use entry::{Entry, room};
+pub use hash::{OFFSET_BASIS, PRIME, bytes_hash, conflict, key_hash, touches};
+pub use key::{Key, KeyError};
+pub use migration::{Package, TablePart};
+pub use node::{NodeId, NodeKind};
+pub use pairs::{MultiError, Pairs};
+pub use store::Store;
+pub use value::{Value, ValueError};

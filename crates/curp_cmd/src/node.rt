@@ -1,0 +1,16 @@
+/// What a node is.
+#[derive(Clone, Copy, Debug, PartialEq, Eq)]
+pub enum NodeKind {
+    Manager,
+    Client,
+    Master,
+    Backup,
+    Witness,
+}
+
+/// The name of a node: its kind, and its number among its kind. The manager has the number 0, all others count from 1.
+#[derive(Clone, Copy, Debug, PartialEq, Eq)]
+pub struct NodeId {
+    pub kind: NodeKind,
+    pub number: u32,
+}
