@@ -1,0 +1,67 @@
+ghost use Rattle.std.specs.Prelude.{◌≡◌, ◌+◌, ◌≤◌, [], ◌∷◌, ◌++◌, OnOk};
+ghost use Rattle.curp_order.specs.Recorded.{invocation, completion};
+
+use crate::Event;
+use curp_base::NoMemory;
+use curp_cmd::{Answer, Command, RequestId};
+use std::alloc::Global;
+use std::marker::Model;
+
+/// What all clients saw, in the order in which it happened. Contracts see the events, and for how many more there is room.
+#[derive(Debug, Drop)]
+pub struct History {
+    events: Vec<Event>,
+}
+
+impl Model for History {
+    ghost use Rattle.std.specs.Prelude.{◌-◌, vec_len, vec_capacity};
+    ghost use Rattle.curp_order.specs.Recorded.{Recorded};
+
+    ghost Value = { Recorded };
+
+    ghost view = { λ h. record { events = h.events.items; spare = vec_capacity h.events - vec_len h.events } };
+}
+
+impl History {
+    /// Nothing happened yet. It takes no memory.
+    pub fn new(alloc: Global) -> History
+        ensures { result.events ≡ [] }
+    {
+        History {
+            events: Vec::new(alloc),
+        }
+    }
+
+    /// Makes room for so many more events.
+    pub fn reserve(&mut self, events: u64) -> Result<(), NoMemory>
+        ensures events { self.new.events ≡ self.old.events }
+        ensures room { OnOk result (events ≤ self.new.spare) }
+        ensures kept { self.old.spare ≤ self.new.spare }
+    {
+        self.events.reserve(events as usize)
+    }
+
+    /// A client invoked a command, or a request has its answer, or both in this order. It takes no memory.
+    pub fn record(
+        &mut self,
+        invoked: Option<(RequestId, Command)>,
+        completed: Option<(RequestId, Answer)>,
+    )
+        requires { 2 ≤ self.old.spare }
+        ensures { self.new.events ≡ (self.old.events ++ invocation invoked) ++ completion completed }
+    {
+        if let Some((id, command)) = invoked {
+            self.events.push_reserved(Event::Invoke { id, command });
+        }
+        if let Some((id, answer)) = completed {
+            self.events.push_reserved(Event::Complete { id, answer });
+        }
+    }
+
+    /// The events, the newest last.
+    pub fn events(&self) -> &[Event]
+        ensures { result.now ≡ self.now.events }
+    {
+        &self.events
+    }
+}

@@ -1,0 +1,18 @@
+//! Histories, what an order of a history is, and the answers of one thread.
+#![tactic(auto)]
+
+mod history;
+mod run;
+
+use curp_cmd::{Answer, Command, RequestId};
+pub use history::History;
+pub use run::run_order;
+
+/// What clients saw: a request was invoked, or its answer came.
+#[derive(Clone, Copy, Debug, PartialEq, Eq)]
+pub enum Event {
+    /// A client asks for the command.
+    Invoke { id: RequestId, command: Command },
+    /// The client has its answer.
+    Complete { id: RequestId, answer: Answer },
+}
