@@ -1,0 +1,67 @@
+-- A whole script: the header, the steps, and how it ends.
+use Rattle.std.specs.Prelude.{ℕ, ◌+◌, nat_lt, nat_eq, if◌then◌else◌, List, [], ◌∷◌, length, Option, Some, None, Result, Ok, Err}
+use Rattle.std.specs.List.{list_any}
+use Rattle.curp_script.specs.declared.script.Header.{Header}
+use Rattle.curp_script.specs.declared.script.Step.{Step}
+use Rattle.curp_script.specs.declared.script.Step.TheVariants.{Invoke, Deliver}
+use Rattle.curp_script.specs.declared.script.Word.TheVariants.{Line}
+use Rattle.curp_script.specs.declared.script.LineError.{LineError}
+use Rattle.curp_script.specs.declared.script.LineError.TheVariants.{BadJson, Later}
+use Rattle.curp_script.specs.Grammar.{header_in, step_in}
+
+-- how many bytes a line may have
+abbrev pub line_limit : ℕ
+line_limit = 65536
+
+-- A script is read to its end, or up to the first line that is refused.
+pub data Ending : Type 0 where
+  Whole : Ending
+  Bad : (line : ℕ) (reason : LineError) → Ending
+  TooLong : (line : ℕ) → Ending
+
+-- steps, and how the script ends behind them
+pub record Steps : Type 0 where
+  pub steps : List Step
+  pub ending : Ending
+
+abbrev pub ends : Ending → Steps
+ends ending = record { steps = []; ending = ending }
+
+-- a client number that an earlier line invoked isn't invoked again in what is built, even if there is no such client
+abbrev pub at_most_once : List ℕ → Result Step LineError → Result Step LineError
+at_most_once invoked (Ok (Invoke client command)) = if list_any (nat_eq client) invoked then Err (Later Line) else Ok (Invoke client command)
+at_most_once invoked (Ok (Deliver message)) = Ok (Deliver message)
+at_most_once invoked (Err reason) = Err reason
+
+-- the client numbers that were invoked, after this line too
+abbrev pub invoked_after : List ℕ → Result Step LineError → List ℕ
+invoked_after invoked (Ok (Invoke client command)) = client ∷ invoked
+invoked_after invoked (Ok (Deliver message)) = invoked
+invoked_after invoked (Err reason) = invoked
+
+-- line number n is that step, or is refused
+abbrev pub first_of : ℕ → Result Step LineError → Steps → Steps
+first_of n (Err reason) more = ends (Bad n reason)
+first_of n (Ok step) more = record { steps = step ∷ more.steps; ending = more.ending }
+
+-- the steps that lines are, from line number n on, where these client numbers were invoked before
+abbrev pub steps_in : ℕ → List ℕ → List (List ℕ) → Steps
+steps_in n invoked [] = ends Whole
+steps_in n invoked (line ∷ lines) =
+    if nat_lt line_limit (length line) then ends (TooLong n)
+    else first_of n (at_most_once invoked (step_in line)) (steps_in (n + 1) (invoked_after invoked (step_in line)) lines)
+
+pub record Script : Type 0 where
+  pub header : Option Header
+  pub body : Steps
+
+abbrev pub begun_with : Result Header LineError → Steps → Script
+begun_with (Err reason) more = record { header = None; body = ends (Bad 1 reason) }
+begun_with (Ok header) more = record { header = Some header; body = more }
+
+-- the script that lines are. One without any line is refused as if its first line were no JSON
+abbrev pub script_of : List (List ℕ) → Script
+script_of [] = record { header = None; body = ends (Bad 1 BadJson) }
+script_of (line ∷ lines) =
+    if nat_lt line_limit (length line) then record { header = None; body = ends (TooLong 1) }
+    else begun_with (header_in line) (steps_in 2 [] lines)
