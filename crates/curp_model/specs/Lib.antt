@@ -1,0 +1,5 @@
+pub mod Moved
+pub mod Client
+pub mod Backup
+pub mod Master
+pub mod World
