@@ -1,0 +1,14 @@
+pub mod Numbered
+pub mod OneThread
+pub mod Duplicates
+pub mod Facts
+pub mod Effects
+pub mod BackupEffects
+pub mod MasterEffects
+pub mod Growing
+pub mod MasterMoves
+pub mod BackupMoves
+pub mod ClientMoves
+pub mod Runs
+pub mod Laws
+pub mod Named
