@@ -1,0 +1,101 @@
+ghost use Rattle.std.specs.Prelude.{Some, flat_map};
+ghost use Rattle.std.specs.Fmt.{WritesOnOk};
+ghost use Rattle.curp_report.specs.Text.{answer_text, byte_text, bytes_text, command_text, expected_text, pair_text};
+
+use crate::Shown;
+use curp_cmd::{Answer, Command, Pairs, Value};
+use std::fmt;
+
+impl fmt::Display for Shown<&[u8]> {
+    ghost output = { λ shown. Some (bytes_text shown.0.now) };
+
+    fn fmt<W: fmt::Write>(&self, f: &mut fmt::Formatter<W>) -> fmt::Result {
+        if self.0.is_empty() {
+            return write!(f, ".");
+        }
+        for byte in self.0 {
+            write_byte(f, *byte)?;
+        }
+        Ok(())
+    }
+}
+
+/// Two lower-case hexadecimal digits.
+fn write_byte<W: fmt::Write>(f: &mut fmt::Formatter<W>, byte: u8) -> fmt::Result
+    ensures { WritesOnOk W.write_str_gives f.old result (byte_text byte) f.new }
+{
+    write!(f, "{byte:02x}")
+}
+
+impl fmt::Display for Shown<Command> {
+    ghost output = { λ shown. Some (command_text shown.0) };
+
+    fn fmt<W: fmt::Write>(&self, f: &mut fmt::Formatter<W>) -> fmt::Result {
+        match self.0 {
+            Command::Get(key) => write!(f, "get {}", Shown(key.bytes())),
+            Command::Put(key, value) => {
+                write!(f, "put {} {}", Shown(key.bytes()), Shown(value.bytes()))
+            }
+            Command::Delete(key) => write!(f, "delete {}", Shown(key.bytes())),
+            Command::Incr(key) => write!(f, "incr {}", Shown(key.bytes())),
+            Command::Append(key, more) => {
+                write!(f, "append {} {}", Shown(key.bytes()), Shown(more.bytes()))
+            }
+            Command::CondPut(key, expected, value) => write!(
+                f,
+                "condput {} {} {}",
+                Shown(key.bytes()),
+                Shown(Expected(expected)),
+                Shown(value.bytes())
+            ),
+            Command::Multi(pairs) => write!(f, "multi{}", Shown(pairs)),
+        }
+    }
+}
+
+/// The value that a conditional put expects, if it expects one.
+#[derive(Clone, Copy)]
+pub(crate) struct Expected(pub(crate) Option<Value>);
+
+impl fmt::Display for Shown<Expected> {
+    ghost output = { λ shown. Some (expected_text shown.0.0) };
+
+    fn fmt<W: fmt::Write>(&self, f: &mut fmt::Formatter<W>) -> fmt::Result {
+        match self.0.0 {
+            None => write!(f, "-"),
+            Some(value) => write!(f, "{}", Shown(value.bytes())),
+        }
+    }
+}
+
+impl fmt::Display for Shown<Pairs> {
+    ghost output = { λ shown. Some (flat_map pair_text shown.0) };
+
+    fn fmt<W: fmt::Write>(&self, f: &mut fmt::Formatter<W>) -> fmt::Result {
+        for (key, value) in self.0.as_slice() {
+            write!(f, " {} {}", Shown(key.bytes()), Shown(value.bytes()))?;
+        }
+        Ok(())
+    }
+}
+
+impl fmt::Display for Shown<Answer> {
+    ghost output = { λ shown. Some (answer_text shown.0) };
+
+    fn fmt<W: fmt::Write>(&self, f: &mut fmt::Formatter<W>) -> fmt::Result {
+        match self.0 {
+            Answer::Done => write!(f, "done"),
+            Answer::Removed(true) => write!(f, "removed"),
+            Answer::Removed(false) => write!(f, "absent"),
+            Answer::Number(number) => write!(f, "number {number}"),
+            Answer::Length(length) => write!(f, "length {length}"),
+            Answer::Swapped(true) => write!(f, "swapped"),
+            Answer::Swapped(false) => write!(f, "kept"),
+            Answer::NotNumber => write!(f, "not-number"),
+            Answer::Overflow => write!(f, "overflow"),
+            Answer::TooLong => write!(f, "too-long"),
+            Answer::Found(None) => write!(f, "none"),
+            Answer::Found(Some(value)) => write!(f, "found {}", Shown(value.bytes())),
+        }
+    }
+}

@@ -1,0 +1,25 @@
+//! The text of a run: a line for each step, with the messages that it sent and what it completed behind it, and at the end
+//! the order. Every line ends with a line feed.
+//!
+//! ```text
+//! s1 done
+//! m1 C1 M1 sync 1.1 f1 e1 v1 put 61 31
+//! s2 refused no-message
+//! order 0
+//! ```
+#![tactic(auto)]
+
+mod body;
+mod command;
+mod names;
+mod order;
+mod step;
+#[cfg(test)]
+mod tests;
+
+pub use order::order_text;
+pub use step::step_text;
+
+/// A value of another crate, as the text of a run shows it.
+#[derive(Drop)]
+pub(crate) struct Shown<T>(pub(crate) T);
