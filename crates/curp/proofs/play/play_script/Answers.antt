@@ -1,0 +1,9 @@
+use Rattle.curp.proofs.Endings.{nothing_behind, prints_an_order}
+use Rattle.curp.proofs.play.play_script.Goals as goal
+
+pub returns-clause-end : goal.returns-clause-end
+returns-clause-end g c = λ tells ok. nothing_behind _ _ (c.play_steps.ensures.end (c.in-Ok-read_header.ensures.tells tells) ok)
+
+pub returns-clause-order : goal.returns-clause-order
+returns-clause-order g c = λ tells ok.
+    prints_an_order _ _ _ (c.in-Ok-read_header.ensures.opened tells) c.history_stands.ensures c.order_stands.ensures

@@ -1,0 +1,104 @@
+-- One line of a script, and what it leaves of the script.
+use Rattle.std.specs.Prelude.{◌≡◌, ℕ, ◌||◌, nat_eq, false, List, [], ◌∷◌, None, Ok, Err, ⊤}
+use Rattle.std.specs.List.{list_any}
+use Rattle.curp_script.specs.declared.script.Step.{Step}
+use Rattle.curp_script.specs.declared.script.Step.TheVariants.{Invoke, Deliver}
+use Rattle.curp_script.specs.Script.{Whole, Bad, TooLong, Steps, Script, ends, at_most_once}
+use Rattle.curp_script.specs.Grammar.{header_in, step_in}
+use Rattle.curp_model.specs.World.{World, HasNotInvoked}
+use Rattle.curp.specs.declared.play.Turn.{Turn}
+use Rattle.curp.specs.declared.play.Turn.TheVariants as turn
+use Rattle.curp.specs.declared.status.Status.{Status}
+use Rattle.curp.specs.declared.status.Status.TheVariants as status
+
+-- the script ends here, or reading failed, or there was no memory
+abbrev pub StopsAs : Steps → Status → Type 0
+StopsAs due status.ReadFault = ⊤
+StopsAs due status.NoMemory = ⊤
+StopsAs due (status.BadLine line reason) = due ≡ ends (Bad line reason)
+StopsAs due (status.LineTooLong line) = due ≡ ends (TooLong line)
+StopsAs due status.Ok = ⊥
+StopsAs due status.Usage = ⊥
+StopsAs due status.WriteFault = ⊥
+
+-- a line is refused, or there was no memory
+abbrev pub LineStops : ℕ → List ℕ → List ℕ → Status → Type 0
+LineStops line invoked text (status.BadLine number reason) = (number ≡ line) × (at_most_once invoked (step_in text) ≡ Err reason)
+LineStops line invoked text status.NoMemory = ⊤
+LineStops line invoked text status.ReadFault = ⊥
+LineStops line invoked text status.WriteFault = ⊥
+LineStops line invoked text status.Ok = ⊥
+LineStops line invoked text status.Usage = ⊥
+LineStops line invoked text (status.LineTooLong number) = ⊥
+
+-- the script has no header, or reading failed, or there was no memory
+abbrev pub HeaderStops : Script → Status → Type 0
+HeaderStops s status.ReadFault = ⊤
+HeaderStops s status.NoMemory = ⊤
+HeaderStops s (status.BadLine line reason) = s ≡ record { header = None; body = ends (Bad line reason) }
+HeaderStops s (status.LineTooLong line) = s ≡ record { header = None; body = ends (TooLong line) }
+HeaderStops s status.Ok = ⊥
+HeaderStops s status.Usage = ⊥
+HeaderStops s status.WriteFault = ⊥
+
+-- the first line is refused, or there was no memory
+abbrev pub FirstLineStops : List ℕ → Status → Type 0
+FirstLineStops text (status.BadLine line reason) = (line ≡ 1) × (header_in text ≡ Err reason)
+FirstLineStops text status.NoMemory = ⊤
+FirstLineStops text status.ReadFault = ⊥
+FirstLineStops text status.WriteFault = ⊥
+FirstLineStops text status.Ok = ⊥
+FirstLineStops text status.Usage = ⊥
+FirstLineStops text (status.LineTooLong line) = ⊥
+
+-- what was due of the script before the turn, and is due after it
+abbrev pub Turns : Steps → Turn → Steps → Type 0
+Turns due (turn.Step s) rest = due ≡ record { steps = s ∷ rest.steps; ending = rest.ending }
+Turns due turn.End rest = due ≡ ends Whole
+Turns due (turn.Stop stop) rest = StopsAs due stop
+
+-- what a line is that isn't too long, where these clients were invoked before
+abbrev pub LineTurns : ℕ → List ℕ → List ℕ → Turn → Type 0
+LineTurns line invoked text (turn.Step s) = (step_in text ≡ Ok s) × (at_most_once invoked (step_in text) ≡ Ok s)
+LineTurns line invoked text turn.End = ⊥
+LineTurns line invoked text (turn.Stop stop) = LineStops line invoked text stop
+
+-- the clients that were invoked after a step, before which its client wasn't among them
+abbrev pub InvokedBy : Step → List ℕ → List ℕ → Type 0
+InvokedBy (Invoke client command) old new =
+    (list_any (nat_eq client) old ≡ false) × ((other : ℕ) → list_any (nat_eq other) new ≡ (nat_eq other client || list_any (nat_eq other) old))
+InvokedBy (Deliver message) old new = new ≡ old
+
+abbrev pub Invokes : Turn → List ℕ → List ℕ → Type 0
+Invokes (turn.Step s) old new = InvokedBy s old new
+Invokes turn.End old new = ⊤
+Invokes (turn.Stop stop) old new = ⊤
+
+-- whoever isn't among these hasn't invoked
+abbrev pub OthersAreFresh : World → List ℕ → Type 0
+OthersAreFresh w invoked = (n : ℕ) → list_any (nat_eq n) invoked ≡ false → HasNotInvoked w n
+
+-- a stop of what writes
+abbrev pub IsOfWriting : Status → Type 0
+IsOfWriting status.WriteFault = ⊤
+IsOfWriting status.NoMemory = ⊤
+IsOfWriting status.ReadFault = ⊥
+IsOfWriting (status.BadLine line reason) = ⊥
+IsOfWriting (status.LineTooLong line) = ⊥
+IsOfWriting status.Ok = ⊥
+IsOfWriting status.Usage = ⊥
+
+-- a stop of what reads
+abbrev pub IsOfReading : Status → Type 0
+IsOfReading status.ReadFault = ⊤
+IsOfReading status.NoMemory = ⊤
+IsOfReading (status.BadLine line reason) = ⊤
+IsOfReading (status.LineTooLong line) = ⊤
+IsOfReading status.WriteFault = ⊥
+IsOfReading status.Ok = ⊥
+IsOfReading status.Usage = ⊥
+
+abbrev pub IsOfReadingTurn : Turn → Type 0
+IsOfReadingTurn (turn.Step s) = ⊤
+IsOfReadingTurn turn.End = ⊤
+IsOfReadingTurn (turn.Stop stop) = IsOfReading stop

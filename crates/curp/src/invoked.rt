@@ -1,0 +1,45 @@
+ghost use Rattle.std.specs.Prelude.{◌≡◌, ℕ, ◌||◌, nat_eq, OnOk, OnErr, [], true};
+ghost use Rattle.std.specs.List.{list_any};
+
+use curp_base::NoMemory;
+use std::alloc::Global;
+use std::collections::BTreeSet;
+use std::marker::Model;
+
+/// The client numbers that a script invoked. Contracts see them in ascending order.
+#[derive(Drop)]
+pub(crate) struct Invoked {
+    clients: BTreeSet<u32>,
+}
+
+impl Model for Invoked {
+    ghost use Rattle.std.specs.Prelude.{List, ℕ};
+
+    ghost Value = { List ℕ };
+
+    ghost view = { λ i. i.clients.keys };
+}
+
+impl Invoked {
+    pub(crate) fn new(alloc: Global) -> Invoked
+        ensures { result ≡ [] }
+    {
+        Invoked {
+            clients: BTreeSet::new(alloc),
+        }
+    }
+
+    pub(crate) fn contains(&self, client: u32) -> bool
+        ensures { result ≡ list_any (nat_eq client) self.now }
+    {
+        self.clients.contains(&client)
+    }
+
+    pub(crate) fn insert(&mut self, client: u32) -> Result<(), NoMemory>
+        ensures ok { OnOk result ((other : ℕ) → list_any (nat_eq other) self.new ≡ (nat_eq other client || list_any (nat_eq other) self.old)) }
+        ensures err { OnErr result (self.new ≡ self.old) }
+    {
+        self.clients.insert(client)?;
+        Ok(())
+    }
+}
