@@ -1,5 +1,6 @@
 -- Lemmas on At, Each and IsPrefix.
 use Rattle.std.proofs.Common.{replicate, ◌≡◌, ◌≢◌, ◌⊎◌, inl, inr, ℕ, zero, suc, ◌+◌, ◌<◌, ◌≤◌, List, [], ◌∷◌, ◌++◌, length, set, get_or, take, drop, map, refl, ap, sym, ◌∙◌, subst, arith, add-one, append_assoc, append-nil, length-append, slice_get, Option, Some, None, Bor}
+use Rattle.std.proofs.lemmas.List.{map-append}
 use Rattle.std.specs.Option.{option_copied}
 use Rattle.std.specs.Slice.{IsItemAt}
 use Rattle.std.proofs.lemmas.Option.{slice_get_within, slice_get-get_or, slice_get_past, slice_get_read}
@@ -77,6 +78,11 @@ at_drop zero xs k x h = (k, omega arith, h)
 at_drop (suc n) [] k x h = absurd cc
 at_drop (suc n) (y ∷ xs) k x h = let r = at_drop n xs k x h in (suc r.0, omega arith, r.2)
 
+pub at_map : {A B : Type 0} (f : A → B) (xs : List A) (k : ℕ) (x : A) → At xs k x → At (map f xs) k (f x)
+at_map f [] k x h = absurd cc
+at_map f (y ∷ xs) zero x h = let same : y ≡ x = cc in ap (λ z. Some (f z)) same
+at_map f (y ∷ xs) (suc k) x h = at_map f xs k x h
+
 pub prefix_self : {A : Type 0} (xs : List A) → IsPrefix xs xs
 prefix_self xs = record { rest = []; is = append-nil xs }
 
@@ -145,6 +151,9 @@ prefix_drop zero p = p
 prefix_drop (suc n) {xs = []} {ys = ys} p = record { rest = drop (suc n) ys; is = refl }
 prefix_drop (suc n) {xs = x ∷ xs} {ys = []} p = absurd (cc (p.is))
 prefix_drop (suc n) {xs = x ∷ xs} {ys = y ∷ ys} p = prefix_drop n (prefix_head x y xs ys p).1
+
+pub prefix_map : {A B : Type 0} (f : A → B) {xs ys : List A} → IsPrefix xs ys → IsPrefix (map f xs) (map f ys)
+prefix_map f {xs = xs} p = record { rest = map f p.rest; is = sym (map-append f xs p.rest) ∙ ap (map f) p.is }
 
 pub at_replicate : {A : Type 0} (n : ℕ) (x : A) (k : ℕ) (y : A) → At (replicate n x) k y → (k < n) × (x ≡ y)
 at_replicate zero x k y h = absurd cc

@@ -57,3 +57,19 @@ impl<T: Copy> Items<T> {
         Ok(Items { items })
     }
 }
+
+/// A value that is copied where there is memory for it.
+pub trait TryCopy: Sized {
+    fn try_copy(&self, alloc: Global) -> Result<Self, NoMemory>
+        ensures copy { IfOk result (λ copy. copy ≡ self.now) };
+}
+
+impl<T: TryCopy + Drop> TryCopy for Items<T> {
+    fn try_copy(&self, alloc: Global) -> Result<Items<T>, NoMemory> {
+        let mut items = Vec::with_capacity(alloc, self.items.len())?;
+        for item in &self.items {
+            items.push(item.try_copy(alloc)?)?;
+        }
+        Ok(Items { items })
+    }
+}

@@ -1,5 +1,5 @@
 -- The store: a finite map from keys to values, and what a command does to it and answers.
-use Rattle.std.specs.Prelude.{ℕ, ◌+◌, ◌-◌, ◌^◌, ◌==◌, nat_le, Bool, true, false, if◌then◌else◌, List, [], ◌∷◌, ◌++◌, length, map as each, Option, Some, None, unwrap_or, refl}
+use Rattle.std.specs.Prelude.{ℕ, ◌+◌, ◌-◌, ◌^◌, ◌==◌, nat_le, Bool, true, false, not, if◌then◌else◌, List, [], ◌∷◌, ◌++◌, length, map as each, Option, Some, None, unwrap_or, refl}
 use Rattle.std.specs.Coded.{Coded, code_by, coded×, coded_list, coded_ℕ}
 use Rattle.std.specs.Int.{w64, from_be_bytes, to_be_bytes}
 use Rattle.std.specs.Option.{option_eq}
@@ -40,6 +40,18 @@ is_update (Incr key) = true
 is_update (Append key more) = true
 is_update (CondPut key expected value) = true
 is_update (Multi pairs) = true
+
+-- the answers to a command that could not be done as it stood
+abbrev pub is_undone : Answer → Bool
+is_undone Done = false
+is_undone (Removed was) = false
+is_undone (Number n) = false
+is_undone (Length n) = false
+is_undone (Swapped did) = not did
+is_undone NotNumber = true
+is_undone Overflow = true
+is_undone TooLong = true
+is_undone (Found value) = false
 
 -- what a command answers, and the store after it
 pub record Applied : Type 0 where

@@ -37,10 +37,7 @@ impl Command {
         ensures too_many_pairs { (result ≡ Err MultiError.TooManyPairs) ↔ (4 < length pairs.now) }
         ensures key_twice { (result ≡ Err MultiError.KeyTwice) ↔ ((length pairs.now ≤ 4) × (names_twice pairs.now ≡ true)) }
     {
-        match Pairs::new(pairs) {
-            Ok(pairs) => Ok(Command::Multi(pairs)),
-            Err(error) => Err(error),
-        }
+        Ok(Command::Multi(Pairs::new(pairs)?))
     }
 
     /// How many keys it names.

@@ -2,7 +2,7 @@ ghost use Rattle.std.specs.Prelude.{◌≡◌, IfOk};
 ghost use Rattle.curp_cmd.specs.Entry.{room_of, pairs_put};
 
 use crate::{Command, Package, Request};
-use curp_base::NoMemory;
+use curp_base::{NoMemory, TryCopy};
 use std::alloc::Global;
 
 /// What a log has in one place.
@@ -40,6 +40,12 @@ impl Entry {
             }),
             Entry::Expire { client } => Ok(Entry::Expire { client: *client }),
         }
+    }
+}
+
+impl TryCopy for Entry {
+    fn try_copy(&self, alloc: Global) -> Result<Entry, NoMemory> {
+        self.copy(alloc)
     }
 }
 

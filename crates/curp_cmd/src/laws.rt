@@ -1,8 +1,8 @@
 //! Laws of the store. Each is the contract of a function that does nothing, and a caller has it by calling that function.
-ghost use Rattle.std.specs.Prelude.{◌≡◌, ◌≢◌, ℕ, List, Some, false};
+ghost use Rattle.std.specs.Prelude.{◌≡◌, ◌≢◌, ℕ, List, Some, false, true};
 ghost use Rattle.std.specs.FinMap as map;
 ghost use Rattle.curp_cmd.specs.Hash.{conflicts};
-ghost use Rattle.curp_cmd.specs.Store.{Contents, applied, is_update};
+ghost use Rattle.curp_cmd.specs.Store.{Contents, applied, is_undone, is_update};
 
 use crate::Command;
 
@@ -15,6 +15,11 @@ pub fn put_changes_one_key()
 /// A command that is no update leaves the store as it was.
 pub fn reads_change_nothing()
     ensures { (s : Contents) (command : Command) → is_update command ≡ false → (applied s command).after ≡ s }
+{}
+
+/// A command that isn't done (NotNumber, Overflow, TooLong, Swapped(false)) leaves the store as it was.
+pub fn undone_changes_nothing()
+    ensures { (s : Contents) (command : Command) → is_undone (applied s command).answer ≡ true → (applied s command).after ≡ s }
 {}
 
 /// Two commands with no hash in common may be done in either order: the store is the same after both, and each answers as it

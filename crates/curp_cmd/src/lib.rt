@@ -18,7 +18,7 @@ pub use entry::{Entry, room};
 pub use hash::{OFFSET_BASIS, PRIME, bytes_hash, conflict, key_hash, touches};
 pub use key::{Key, KeyError};
 pub use migration::{Package, TablePart};
-pub use node::{NodeId, NodeKind};
+pub use node::{Keeper, NodeId, NodeKind};
 pub use pairs::{MultiError, Pairs};
 pub use store::Store;
 pub use value::{Value, ValueError};

@@ -14,3 +14,10 @@ pub struct NodeId {
     pub kind: NodeKind,
     pub number: u32,
 }
+
+/// The two kinds of node that keep a partition's requests, and that another of their kind may replace.
+#[derive(Clone, Copy, Debug, PartialEq, Eq)]
+pub enum Keeper {
+    Backup,
+    Witness,
+}

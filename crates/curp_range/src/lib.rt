@@ -2,7 +2,9 @@
 #![tactic(auto)]
 
 pub mod laws;
+mod listed;
 mod ranges;
 mod spans;
 
+pub use listed::Spans;
 pub use ranges::{PutError, Ranges, TakeError};

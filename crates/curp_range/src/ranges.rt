@@ -72,6 +72,14 @@ impl Ranges {
         &self.spans
     }
 
+    // The spans, given back. It takes no memory.
+    pub(crate) fn into_vec(self) -> Vec<(u64, u64)>
+        ensures spans { result.items ≡ self.spans }
+        ensures ascend { Ascend self.spans }
+    {
+        self.spans
+    }
+
     /// A value that owns the same hashes.
     pub fn copy(&self, alloc: Global) -> Result<Ranges, NoMemory>
         ensures { IfOk result (λ copy. copy.spans ≡ self.now.spans) }

@@ -1,0 +1,73 @@
+ghost use Rattle.std.specs.Prelude.{◌≡◌, length, IfOk};
+ghost use Rattle.curp_range.specs.Spans.{Ascend};
+
+use crate::Ranges;
+use curp_base::NoMemory;
+use std::alloc::Global;
+use std::marker::Model;
+
+/// The spans of a set of hashes, as plain data: each has a first and a last hash, and the next begins at least two above
+/// the last. Contracts see the list.
+#[derive(Debug, Drop)]
+pub struct Spans {
+    spans: Vec<(u64, u64)>,
+}
+
+impl Model for Spans {
+    ghost use Rattle.std.specs.Prelude.{ℕ, List};
+    ghost use Rattle.curp_range.specs.Spans.{Ascend};
+
+    ghost Value = { List (ℕ × ℕ) };
+
+    ghost view = { λ s. s.spans.items };
+
+    ghost invariant = { λ s. Ascend s.spans.items };
+}
+
+impl Spans {
+    /// The spans of a set of hashes. It takes no memory.
+    pub fn new(ranges: Ranges) -> Spans
+        ensures { result ≡ ranges.spans }
+    {
+        Spans {
+            spans: ranges.into_vec(),
+        }
+    }
+
+    pub fn as_slice(&self) -> &[(u64, u64)]
+        ensures value { result.now ≡ self.now }
+        ensures ascend { Ascend self.now }
+    {
+        &self.spans
+    }
+
+    pub fn len(&self) -> usize
+        ensures { result ≡ length self.now }
+    {
+        self.spans.len()
+    }
+
+    pub fn copy(&self, alloc: Global) -> Result<Spans, NoMemory>
+        ensures { IfOk result (λ copy. copy ≡ self.now) }
+    {
+        let spans = Vec::from_slice(alloc, &self.spans)?;
+        Ok(Spans { spans })
+    }
+}
+
+#[cfg(test)]
+mod tests {
+    use super::*;
+    use std::test::Fail;
+
+    #[test]
+    fn spans_of_ranges_are_copied(rt: HostRuntime) -> Result<(), Fail> {
+        let mut ranges = Ranges::new(rt.alloc(), 0, 9)?;
+        ranges.reserve(1)?;
+        ranges.unite(20, 29);
+        let copy = Spans::new(ranges).copy(rt.alloc())?;
+        assert_eq!(rt; copy.as_slice(), [(0, 9), (20, 29)].as_slice());
+        assert_eq!(rt; copy.len(), 2);
+        Ok(())
+    }
+}
