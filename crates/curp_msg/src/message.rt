@@ -1,0 +1,26 @@
+ghost use Rattle.std.specs.Prelude.{◌≡◌, IfOk};
+
+use crate::Body;
+use curp_base::NoMemory;
+use curp_cmd::NodeId;
+use std::alloc::Global;
+
+/// A message: who sent it, whom it goes to, and what it says.
+#[derive(Debug, Drop)]
+pub struct Message {
+    pub from: NodeId,
+    pub to: NodeId,
+    pub body: Body,
+}
+
+impl Message {
+    pub fn copy(&self, alloc: Global) -> Result<Message, NoMemory>
+        ensures { IfOk result (λ copy. copy ≡ self.now) }
+    {
+        Ok(Message {
+            from: self.from,
+            to: self.to,
+            body: self.body.copy(alloc)?,
+        })
+    }
+}
