@@ -1,1 +1,5 @@
-mod Texts
+mod Counting
+mod Hashes
+mod Lines
+mod Parts
+mod ReadBack

@@ -1,19 +1,40 @@
 -- The lines of a script, as JSON.
-use Rattle.std.specs.Prelude.{ℕ, ◌+◌, ◌-◌, ◌*◌, ◌^◌, ◌==◌, ◌&&◌, nat_le, if◌then◌else◌, codes, Bool, true, false, List, [], ◌∷◌, length, Option, Some, None, is_some, option_and_then, option_map, unwrap_or, Result, Err}
+use Rattle.std.specs.Prelude.{ℕ, ◌-◌, ◌^◌, ◌==◌, ◌&&◌, nat_lt, if◌then◌else◌, Bool, not, List, [], ◌∷◌, length, Option, Some, None, is_some, option_and_then, option_map, unwrap_or, Result, Ok, Err, ⊤}
 use Rattle.std.specs.Option.{ok_or}
-use Rattle.std.specs.Str.{is_utf8, bytes_eq}
+use Rattle.std.specs.Str.{is_utf8}
 use Rattle.serde_json.specs.Data.{Data, Items, no_items, item}
 use Rattle.serde_json.specs.Events.{members_len}
 use Rattle.serde_json.specs.Read.{read}
-use Rattle.serde_json.specs.Find.{get, as_object, as_array, as_str, as_number, as_u64, as_bool}
+use Rattle.serde_json.specs.Find.{get, as_null, as_object, as_array, as_str, as_number, as_u64, as_bool}
+use Rattle.curp_cmd.specs.Pairs.{Pair, names_twice}
 use Rattle.curp_cmd.specs.declared.command.Command.{Command}
-use Rattle.curp_cmd.specs.declared.command.Command.TheVariants.{Put}
+use Rattle.curp_cmd.specs.declared.command.Command.TheVariants.{Get, Put, Delete, Incr, Append, CondPut, Multi}
 use Rattle.curp_script.specs.declared.script.Header.{Header}
+use Rattle.curp_script.specs.declared.script.Protocol.{Protocol}
+use Rattle.curp_script.specs.declared.script.Protocol.TheVariants.{One}
 use Rattle.curp_script.specs.declared.script.Step.{Step}
-use Rattle.curp_script.specs.declared.script.Step.TheVariants.{Invoke, Deliver}
-use Rattle.curp_script.specs.declared.script.Word.TheVariants.{Line}
-use Rattle.curp_script.specs.declared.script.LineError.{LineError}
-use Rattle.curp_script.specs.declared.script.LineError.TheVariants.{BadJson, Later}
+use Rattle.curp_script.specs.declared.script.Step.TheVariants.{Invoke, Deliver, Retry, Fetch, Sync, Collect, Recover, Replace, Migrate, Nudge, Expire, Stop}
+use Rattle.curp_script.specs.declared.kind.Kind.{Kind}
+use Rattle.curp_script.specs.declared.kind.Kind.TheVariants as kind
+use Rattle.curp_script.specs.declared.kind.Verb.{Verb}
+use Rattle.curp_script.specs.declared.kind.Verb.TheVariants as verb
+use Rattle.curp_script.specs.declared.error.Word.{Word}
+use Rattle.curp_script.specs.declared.error.Word.TheVariants as word
+use Rattle.curp_script.specs.declared.error.FieldName.{FieldName}
+use Rattle.curp_script.specs.declared.error.FieldName.TheVariants as field
+use Rattle.curp_script.specs.declared.error.LineError.{LineError}
+use Rattle.curp_script.specs.declared.error.LineError.TheVariants.{BadJson, BadField, Later}
+use Rattle.curp_script.specs.Built.{is_built}
+use Rattle.curp_script.specs.Digits.{bytes_of, at_most, at_least, hash_of}
+use Rattle.curp_script.specs.Headers.{is_within}
+use Rattle.curp_script.specs.Text.{field_text}
+use Rattle.curp_script.specs.Words.{kind_of, verb_of, is_get, keeper_of, node_of}
+
+-- the ? of the logic: the second step, if the first gave a value
+infixl 10 ◌>>=◌
+abbrev pub ◌>>=◌ : {A B : Type 0} → Result A LineError → (A → Result B LineError) → Result B LineError
+Ok x >>= f = f x
+Err e >>= f = Err e
 
 -- ---- JSON
 
@@ -33,45 +54,40 @@ object_in line = option_and_then only_object (json_of line)
 abbrev pub name_count : Data → ℕ
 name_count d = unwrap_or (option_map members_len (as_object d)) 0
 
--- ---- values of names
+-- ---- the values of names
+
+-- the value under a name, in a form, or else that name is bad
+abbrev pub field_as : {A : Type 0} → (Data → Option A) → FieldName → Data → Result A LineError
+field_as form name d = ok_or (option_and_then form (get (field_text name) d)) (BadField name)
+
+-- the text under a name, as what it stands for, or else that name is bad
+abbrev pub text_as : {A : Type 0} → (List ℕ → Option A) → FieldName → Data → Result A LineError
+text_as form name d = ok_or (option_and_then form (option_and_then as_str (get (field_text name) d))) (BadField name)
+
+-- behind all the names of its table, so many of them, a line has no other
+abbrev pub no_other : ℕ → Data → Result ⊤ LineError
+no_other names d = if name_count d == names then Ok tt else Err (BadField field.Other)
+
+-- a form of the grammar that is needed must be built
+abbrev pub built_where : Bool → Word → Result ⊤ LineError
+built_where needed w = if needed && not (is_built w) then Err (Later w) else Ok tt
+
+-- a form of the grammar, which must be built
+abbrev pub built : Word → Result ⊤ LineError
+built w = if is_built w then Ok tt else Err (Later w)
 
 -- a whole number from low to high
 abbrev pub number_within : ℕ → ℕ → Data → Option ℕ
 number_within low high d =
-    option_and_then (λ n. if nat_le low n && nat_le n high then Some n else None) (option_and_then as_u64 (as_number d))
+    option_and_then (λ n. if is_within low high n then Some n else None) (option_and_then as_u64 (as_number d))
 
 -- the number under a name, from low to high
-abbrev pub number_at : List ℕ → ℕ → ℕ → Data → Option ℕ
-number_at name low high d = option_and_then (number_within low high) (get name d)
+abbrev pub number_at : FieldName → ℕ → ℕ → Data → Result ℕ LineError
+number_at name low high d = field_as (number_within low high) name d
 
--- the truth value false
-abbrev pub only_false : Bool → Option Bool
-only_false true = None
-only_false false = Some false
-
--- ---- bytes as hexadecimal digits
-
--- the value of a digit, 0 to 9 or a to f in lower case
-abbrev pub digit_of : ℕ → Option ℕ
-digit_of c = if nat_le 48 c && nat_le c 57 then Some (c - 48) else (if nat_le 97 c && nat_le c 102 then Some (c - 87) else None)
-
--- the byte that two digits write, the higher digit first
-abbrev pub byte_of : ℕ → ℕ → Option ℕ
-byte_of high low = option_and_then (λ h. option_map (λ l. 16 * h + l) (digit_of low)) (digit_of high)
-
--- two digits for each byte
-abbrev pub bytes_of : List ℕ → Option (List ℕ)
-bytes_of [] = Some []
-bytes_of (high ∷ []) = None
-bytes_of (high ∷ low ∷ rest) = option_and_then (λ byte. option_map (λ bytes. byte ∷ bytes) (bytes_of rest)) (byte_of high low)
-
--- bytes, if they are no more than that
-abbrev pub at_most : ℕ → List ℕ → Option (List ℕ)
-at_most most bytes = if nat_le (length bytes) most then Some bytes else None
-
--- bytes, if they are no fewer than that
-abbrev pub at_least : ℕ → List ℕ → Option (List ℕ)
-at_least least bytes = if nat_le least (length bytes) then Some bytes else None
+-- the number of a node, a place or a request
+abbrev pub index_at : FieldName → Data → Result ℕ LineError
+index_at name d = number_at name 0 (2 ^ 32 - 1) d
 
 -- so many bytes as a text of digits
 abbrev pub bytes_within : ℕ → ℕ → Data → Option (List ℕ)
@@ -79,71 +95,238 @@ bytes_within least most d = option_and_then (at_least least) (option_and_then (a
 
 -- ---- the header
 
--- four numbers in their ranges, one partition, the first protocol, and no fast path: these names and no other
-abbrev pub header_of : Data → Option Header
-header_of d =
-    option_and_then (λ clients.
-    option_and_then (λ f.
-    option_and_then (λ fast.
-    option_and_then (λ parts.
-    option_and_then (λ protocol.
-    option_and_then (λ sets.
-    option_and_then (λ ways.
-    if name_count d == 7 then Some (record { clients = clients; f = f; sets = sets; ways = ways }) else None)
-    (number_at (codes "ways") 1 16 d))
-    (number_at (codes "sets") 1 1024 d))
-    (number_at (codes "protocol") 1 1 d))
-    (number_at (codes "parts") 1 1 d))
-    (option_and_then only_false (option_and_then as_bool (get (codes "fast") d))))
-    (number_at (codes "f") 1 5 d))
-    (number_at (codes "clients") 1 64 d)
+-- true only where that is built
+abbrev pub fast_at : Data → Result Bool LineError
+fast_at d = do
+  fast ← field_as as_bool field.Fast d
+  _ ← built_where fast word.Fast
+  Ok fast
+
+-- more than one partition only where that is built
+abbrev pub parts_at : Data → Result ℕ LineError
+parts_at d = do
+  parts ← number_at field.Parts 1 16 d
+  _ ← built_where (nat_lt 1 parts) word.Parts
+  Ok parts
+
+-- the first protocol; the second isn't built
+abbrev pub protocol_at : Data → Result Protocol LineError
+protocol_at d = do
+  protocol ← number_at field.Protocol 1 2 d
+  if protocol == 1 then Ok One else Err (Later word.Protocol)
+
+-- the header that an object is
+abbrev pub header_of : Data → Result Header LineError
+header_of d = do
+  clients ← number_at field.Clients 1 64 d
+  f ← number_at field.F 1 5 d
+  fast ← fast_at d
+  parts ← parts_at d
+  protocol ← protocol_at d
+  sets ← number_at field.Sets 1 1024 d
+  ways ← number_at field.Ways 1 16 d
+  _ ← no_other 7 d
+  Ok (record { clients = clients; f = f; fast = fast; parts = parts; protocol = protocol; sets = sets; ways = ways })
+
+-- ---- a command
+
+-- a key has 1 to 32 bytes
+abbrev pub key_in : Data → Option (List ℕ)
+key_in d = bytes_within 1 32 d
+
+-- a value has 0 to 128 bytes
+abbrev pub value_in : Data → Option (List ℕ)
+value_in d = bytes_within 0 128 d
+
+-- the value that a key is expected to have, or null where it is to be absent
+abbrev pub expected_in : Data → Option (Option (List ℕ))
+expected_in d = if is_some (as_null d) then Some None else option_map (λ value. Some value) (value_in d)
+
+-- a key and its value
+abbrev pub pair_in : Data → Data → Option Pair
+pair_in key value = option_and_then (λ k. option_map (λ v. (k, v)) (value_in value)) (key_in key)
+
+-- a key alone
+abbrev pub key_alone : Items → Option (List ℕ)
+key_alone (item key no_items) = key_in key
+key_alone _ = None
+
+-- one pair
+abbrev pub one_pair : Items → Option Pair
+one_pair (item key (item value no_items)) = pair_in key value
+one_pair _ = None
+
+-- a key, what it is expected to have, and a value
+abbrev pub cond_put_of : Items → Option Command
+cond_put_of (item key (item expected (item value no_items))) =
+    option_and_then (λ k. option_and_then (λ e. option_map (λ v. CondPut k e v) (value_in value)) (expected_in expected)) (key_in key)
+cond_put_of _ = None
+
+-- pairs, one behind another
+abbrev pub pairs_in : Items → Option (List Pair)
+pairs_in no_items = Some []
+pairs_in (item key no_items) = None
+pairs_in (item key (item value rest)) = option_and_then (λ p. option_map (λ pairs. p ∷ pairs) (pairs_in rest)) (pair_in key value)
+
+-- 1 to 4 pairs, no key twice
+abbrev pub multi_put : List Pair → Option Command
+multi_put pairs = if is_within 1 4 (length pairs) && not (names_twice pairs) then Some (Multi pairs) else None
+
+-- what a command is by its word and what stands behind it
+abbrev pub command_by : Verb → Items → Option Command
+command_by verb.Get parts = option_map (λ key. Get key) (key_alone parts)
+command_by verb.Put parts = option_map (λ p. Put p.0 p.1) (one_pair parts)
+command_by verb.Delete parts = option_map (λ key. Delete key) (key_alone parts)
+command_by verb.Incr parts = option_map (λ key. Incr key) (key_alone parts)
+command_by verb.Append parts = option_map (λ p. Append p.0 p.1) (one_pair parts)
+command_by verb.CondPut parts = cond_put_of parts
+command_by verb.Multi parts = option_and_then multi_put (pairs_in parts)
+
+-- a word, then byte strings, with the faults of an invocation's cmd
+abbrev pub command_of : Items → Result Command LineError
+command_of no_items = Err (BadField field.Cmd)
+command_of (item first parts) = do
+  verb ← ok_or (option_and_then verb_of (as_str first)) (BadField field.Cmd)
+  _ ← built_where (is_get verb) word.Get
+  ok_or (command_by verb parts) (BadField field.Cmd)
+
+-- the command of an invocation. A fault anywhere in it is one of cmd
+abbrev pub command_at : Data → Result Command LineError
+command_at d = do
+  items ← field_as as_array field.Cmd d
+  command_of items
 
 -- ---- a step
 
--- the put of a key of 1 to 32 bytes and a value of 0 to 128 bytes
-abbrev pub put_of : Data → Data → Option Command
-put_of key value = option_and_then (λ k. option_map (λ v. Put k v) (bytes_within 0 128 value)) (bytes_within 1 32 key)
-
--- ["put", key, value]
-abbrev pub command_of : Items → Option Command
-command_of (item word (item key (item value no_items))) =
-    option_and_then (λ w. if bytes_eq w (codes "put") then put_of key value else None) (as_str word)
-command_of _ = None
-
--- the command under a name
-abbrev pub command_at : List ℕ → Data → Option Command
-command_at name d = option_and_then command_of (option_and_then as_array (get name d))
-
 -- {"client": .., "cmd": .., "do": "invoke"}
-abbrev pub invoke_of : Data → Option Step
-invoke_of d =
-    option_and_then (λ client.
-    option_and_then (λ command.
-    if name_count d == 3 then Some (Invoke client command) else None)
-    (command_at (codes "cmd") d))
-    (number_at (codes "client") 0 (2 ^ 32 - 1) d)
+abbrev pub invoke_of : Data → Result Step LineError
+invoke_of d = do
+  _ ← built word.Invoke
+  client ← index_at field.Client d
+  command ← command_at d
+  _ ← no_other 3 d
+  Ok (Invoke client command)
 
 -- {"do": "deliver", "msg": ..}
-abbrev pub deliver_of : Data → Option Step
-deliver_of d =
-    option_and_then (λ message.
-    if name_count d == 2 then Some (Deliver message) else None)
-    (number_at (codes "msg") 0 (2 ^ 64 - 1) d)
+abbrev pub deliver_of : Data → Result Step LineError
+deliver_of d = do
+  message ← number_at field.Msg 0 (2 ^ 64 - 1) d
+  _ ← no_other 2 d
+  Ok (Deliver message)
 
--- what an object is by the word under "do"
-abbrev pub step_by : List ℕ → Data → Option Step
-step_by word d = if bytes_eq word (codes "invoke") then invoke_of d else (if bytes_eq word (codes "deliver") then deliver_of d else None)
+-- {"client": .., "do": "retry", "seq": ..}
+abbrev pub retry_of : Data → Result Step LineError
+retry_of d = do
+  _ ← built word.Retry
+  client ← index_at field.Client d
+  seq ← index_at field.Seq d
+  _ ← no_other 3 d
+  Ok (Retry client seq)
+
+-- {"client": .., "do": "fetch"}
+abbrev pub fetch_of : Data → Result Step LineError
+fetch_of d = do
+  _ ← built word.Fetch
+  client ← index_at field.Client d
+  _ ← no_other 2 d
+  Ok (Fetch client)
+
+-- {"do": "sync", "master": ..}
+abbrev pub sync_of : Data → Result Step LineError
+sync_of d = do
+  _ ← built word.Sync
+  master ← index_at field.Master d
+  _ ← no_other 2 d
+  Ok (Sync master)
+
+-- {"do": "collect", "master": ..}
+abbrev pub collect_of : Data → Result Step LineError
+collect_of d = do
+  _ ← built word.Collect
+  master ← index_at field.Master d
+  _ ← no_other 2 d
+  Ok (Collect master)
+
+-- {"backup": .., "do": "recover", "part": .., "witness": ..}
+abbrev pub recover_of : Data → Result Step LineError
+recover_of d = do
+  _ ← built word.Recover
+  backup ← index_at field.Backup d
+  part ← index_at field.Part d
+  witness ← index_at field.Witness d
+  _ ← no_other 4 d
+  Ok (Recover part backup witness)
+
+-- {"do": "replace", "kind": .., "part": .., "place": ..}
+abbrev pub replace_of : Data → Result Step LineError
+replace_of d = do
+  _ ← built word.Replace
+  keeper ← text_as keeper_of field.Kind d
+  part ← index_at field.Part d
+  place ← index_at field.Place d
+  _ ← no_other 4 d
+  Ok (Replace keeper part place)
+
+-- {"do": "migrate", "hi": .., "lo": .., "to": ..}
+abbrev pub migrate_of : Data → Result Step LineError
+migrate_of d = do
+  _ ← built word.Migrate
+  hi ← text_as hash_of field.Hi d
+  lo ← text_as hash_of field.Lo d
+  to ← index_at field.To d
+  _ ← no_other 4 d
+  Ok (Migrate lo hi to)
+
+-- {"do": "nudge"}
+abbrev pub nudge_of : Data → Result Step LineError
+nudge_of d = do
+  _ ← built word.Nudge
+  _ ← no_other 1 d
+  Ok Nudge
+
+-- {"client": .., "do": "expire"}
+abbrev pub expire_of : Data → Result Step LineError
+expire_of d = do
+  _ ← built word.Expire
+  client ← index_at field.Client d
+  _ ← no_other 2 d
+  Ok (Expire client)
+
+-- {"do": "stop", "node": ..}
+abbrev pub stop_of : Data → Result Step LineError
+stop_of d = do
+  _ ← built word.Stop
+  node ← text_as node_of field.Node d
+  _ ← no_other 2 d
+  Ok (Stop node)
+
+-- what an object is by the kind that it names
+abbrev pub step_by : Kind → Data → Result Step LineError
+step_by kind.Invoke d = invoke_of d
+step_by kind.Deliver d = deliver_of d
+step_by kind.Retry d = retry_of d
+step_by kind.Fetch d = fetch_of d
+step_by kind.Sync d = sync_of d
+step_by kind.Collect d = collect_of d
+step_by kind.Recover d = recover_of d
+step_by kind.Replace d = replace_of d
+step_by kind.Migrate d = migrate_of d
+step_by kind.Nudge d = nudge_of d
+step_by kind.Expire d = expire_of d
+step_by kind.Stop d = stop_of d
 
 -- the step that an object is
-abbrev pub step_of : Data → Option Step
-step_of d = option_and_then (λ word. step_by word d) (option_and_then as_str (get (codes "do") d))
+abbrev pub step_of : Data → Result Step LineError
+step_of d = do
+  kind ← text_as kind_of field.Do d
+  step_by kind d
 
 -- ---- lines
 
--- A line that is no JSON object is bad; an object outside the grammar is of a form that isn't built yet.
-abbrev pub read_as : {A : Type 0} → (Data → Option A) → Option Data → Result A LineError
+-- a line that is no JSON object is bad
+abbrev pub read_as : {A : Type 0} → (Data → Result A LineError) → Option Data → Result A LineError
 read_as form None = Err BadJson
-read_as form (Some d) = ok_or (form d) (Later Line)
+read_as form (Some d) = form d
 
 -- the header that a line is, or why it is none
 abbrev pub header_in : List ℕ → Result Header LineError

@@ -1,23 +1,28 @@
 -- A whole script: the header, the steps, and how it ends.
-use Rattle.std.specs.Prelude.{ℕ, ◌+◌, nat_lt, nat_eq, if◌then◌else◌, List, [], ◌∷◌, length, Option, Some, None, Result, Ok, Err}
+use Rattle.std.specs.Prelude.{ℕ, ◌+◌, ◌-◌, nat_lt, nat_eq, if◌then◌else◌, List, [], ◌∷◌, length, Option, Some, None, Result, Ok, Err}
 use Rattle.std.specs.List.{list_any}
 use Rattle.curp_script.specs.declared.script.Header.{Header}
 use Rattle.curp_script.specs.declared.script.Step.{Step}
-use Rattle.curp_script.specs.declared.script.Step.TheVariants.{Invoke, Deliver}
-use Rattle.curp_script.specs.declared.script.Word.TheVariants.{Line}
-use Rattle.curp_script.specs.declared.script.LineError.{LineError}
-use Rattle.curp_script.specs.declared.script.LineError.TheVariants.{BadJson, Later}
+use Rattle.curp_script.specs.declared.script.Step.TheVariants.{Invoke}
+use Rattle.curp_script.specs.declared.error.Word.TheVariants as word
+use Rattle.curp_script.specs.declared.error.LineError.{LineError}
+use Rattle.curp_script.specs.declared.error.LineError.TheVariants.{BadJson, Later}
 use Rattle.curp_script.specs.Grammar.{header_in, step_in}
 
 -- how many bytes a line may have
 abbrev pub line_limit : ℕ
 line_limit = 65536
 
--- A script is read to its end, or up to the first line that is refused.
+-- how many steps a script may have
+abbrev pub step_limit : ℕ
+step_limit = 200000
+
+-- A script is read to its end, or up to the first line that is refused, is too long, or holds a step too many.
 pub data Ending : Type 0 where
   Whole : Ending
   Bad : (line : ℕ) (reason : LineError) → Ending
   TooLong : (line : ℕ) → Ending
+  TooMany : Ending
 
 -- steps, and how the script ends behind them
 pub record Steps : Type 0 where
@@ -29,20 +34,18 @@ ends ending = record { steps = []; ending = ending }
 
 -- a client number that an earlier line invoked isn't invoked again in what is built, even if there is no such client
 abbrev pub at_most_once : List ℕ → Result Step LineError → Result Step LineError
-at_most_once invoked (Ok (Invoke client command)) = if list_any (nat_eq client) invoked then Err (Later Line) else Ok (Invoke client command)
-at_most_once invoked (Ok (Deliver message)) = Ok (Deliver message)
-at_most_once invoked (Err reason) = Err reason
+at_most_once invoked (Ok (Invoke client command)) = if list_any (nat_eq client) invoked then Err (Later word.Invoke) else Ok (Invoke client command)
+at_most_once invoked line = line
 
 -- the client numbers that were invoked, after this line too
 abbrev pub invoked_after : List ℕ → Result Step LineError → List ℕ
 invoked_after invoked (Ok (Invoke client command)) = client ∷ invoked
-invoked_after invoked (Ok (Deliver message)) = invoked
-invoked_after invoked (Err reason) = invoked
+invoked_after invoked line = invoked
 
--- line number n is that step, or is refused
+-- line number n is that step, which is step number n - 1 and may be one too many, or is refused
 abbrev pub first_of : ℕ → Result Step LineError → Steps → Steps
 first_of n (Err reason) more = ends (Bad n reason)
-first_of n (Ok step) more = record { steps = step ∷ more.steps; ending = more.ending }
+first_of n (Ok step) more = if nat_lt step_limit (n - 1) then ends TooMany else record { steps = step ∷ more.steps; ending = more.ending }
 
 -- the steps that lines are, from line number n on, where these client numbers were invoked before
 abbrev pub steps_in : ℕ → List ℕ → List (List ℕ) → Steps

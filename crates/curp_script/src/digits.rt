@@ -1,5 +1,5 @@
 ghost use Rattle.std.specs.Prelude.{◌≡◌, ◌≤◌, ◌<◌, length, take, IfSome, option_map, option_and_then};
-ghost use Rattle.curp_script.specs.Grammar.{digit_of, byte_of, bytes_of, at_most};
+ghost use Rattle.curp_script.specs.Digits.{digit_of, byte_of, bytes_of, at_most};
 
 // The value of a lower-case hexadecimal digit.
 fn digit_of(digit: u8) -> Option<u8>

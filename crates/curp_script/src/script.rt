@@ -1,69 +1,124 @@
-use curp_cmd::Command;
-use std::fmt;
+ghost use Rattle.std.specs.Prelude.{◌≡◌};
+ghost use Rattle.curp_script.specs.Headers.{bad_field, is_within, most_parts};
+
+use crate::{FieldName, Word};
+use curp_cmd::{Command, Keeper, NodeId};
 
 /// The first line of a script: how many nodes there are, and how they work.
 #[derive(Clone, Copy, Debug, PartialEq, Eq)]
 pub struct Header {
     /// How many clients there are, 1 to 64.
     pub clients: u32,
-    /// How many backups a master has, 1 to 5.
+    /// How many backups, and how many witnesses, a partition has, 1 to 5.
     pub f: u32,
-    /// How many sets a witness has, 1 to 1024. No witness is built yet.
+    /// Whether a client may complete an update in one round trip, by the witnesses.
+    pub fast: bool,
+    /// How many partitions there are, 1 to 16.
+    pub parts: u32,
+    pub protocol: Protocol,
+    /// How many sets a witness has, 1 to 1024.
     pub sets: u32,
-    /// How many slots a set of a witness has, 1 to 16. No witness is built yet.
+    /// How many slots a set of a witness has, 1 to 16.
     pub ways: u32,
+}
+
+/// How reads are done. A second protocol isn't built yet.
+#[derive(Clone, Copy, Debug, PartialEq, Eq)]
+pub enum Protocol {
+    One,
 }
 
 /// A step of a script.
 #[derive(Clone, Copy, Debug, PartialEq, Eq)]
 pub enum Step {
     /// A client invokes a command.
-    Invoke { client: u32, command: Command },
+    Invoke {
+        client: u32,
+        command: Command,
+    },
     /// The message of that number, counted from 1 through the whole run, comes to its addressee.
-    Deliver { message: u64 },
+    Deliver {
+        message: u64,
+    },
+    /// A client sends a pending request of its own again.
+    Retry {
+        client: u32,
+        seq: u32,
+    },
+    /// A client asks the manager for the configuration.
+    Fetch {
+        client: u32,
+    },
+    /// A master sends its backups what they don't have.
+    Sync {
+        master: u32,
+    },
+    /// A master tells its witnesses which requests they may drop.
+    Collect {
+        master: u32,
+    },
+    /// A new master for a partition is made from what a backup and a witness keep.
+    Recover {
+        part: u32,
+        backup: u32,
+        witness: u32,
+    },
+    /// The keeper in a place of a partition gives way to a fresh one.
+    Replace {
+        keeper: Keeper,
+        part: u32,
+        place: u32,
+    },
+    /// The hashes from `lo` to `hi`, both counted, go to another partition.
+    Migrate {
+        lo: u64,
+        hi: u64,
+        to: u32,
+    },
+    /// The manager sends again what it waits for.
+    Nudge,
+    /// A client is declared gone, and what is kept for it goes with it.
+    Expire {
+        client: u32,
+    },
+    /// A node does nothing from then on.
+    Stop {
+        node: NodeId,
+    },
 }
 
-/// Why a line is refused.
-#[derive(Clone, Copy, Debug, PartialEq, Eq)]
-pub enum LineError {
-    /// The line is no JSON object.
-    BadJson,
-    /// The line is any other object that isn't read: a form that isn't built yet, or a misspelt one.
-    Later { word: Word },
-    /// There was no memory to read it.
-    NoMemory,
-}
-
-/// The form that isn't built yet.
-#[derive(Clone, Copy, Debug, PartialEq, Eq)]
-pub enum Word {
-    Line,
-}
-
-impl fmt::Display for LineError {
-    ghost use Rattle.std.specs.Prelude.{Some};
-    ghost use Rattle.curp_script.specs.Text.{reason_text};
-
-    ghost output = { λ reason. Some (reason_text reason) };
-
-    fn fmt<W: fmt::Write>(&self, f: &mut fmt::Formatter<W>) -> fmt::Result {
-        match self {
-            LineError::BadJson => f.write_str("bad json"),
-            LineError::Later { word } => write!(f, "not built yet: {word}"),
-            LineError::NoMemory => f.write_str("out of memory"),
+impl Header {
+    /// The first name, in byte order, whose value is out of its range or isn't built yet.
+    pub fn bad_field(&self) -> Option<FieldName>
+        ensures { result ≡ bad_field self.now }
+    {
+        if !is_within(1, 64, self.clients) {
+            Some(FieldName::Clients)
+        } else if !is_within(1, 5, self.f) {
+            Some(FieldName::F)
+        } else if self.fast && !Word::Fast.is_built() {
+            Some(FieldName::Fast)
+        } else if !is_within(1, most_parts(), self.parts) {
+            Some(FieldName::Parts)
+        } else if !is_within(1, 1024, self.sets) {
+            Some(FieldName::Sets)
+        } else if !is_within(1, 16, self.ways) {
+            Some(FieldName::Ways)
+        } else {
+            None
         }
     }
 }
 
-impl fmt::Display for Word {
-    ghost use Rattle.std.specs.Prelude.{Some};
-    ghost use Rattle.curp_script.specs.Text.{word_text};
+fn is_within(low: u32, high: u32, number: u32) -> bool
+    ensures { result ≡ is_within low high number }
+{
+    low <= number && number <= high
+}
 
-    ghost output = { λ word. Some (word_text word) };
-
-    fn fmt<W: fmt::Write>(&self, f: &mut fmt::Formatter<W>) -> fmt::Result {
-        match self {
-            Word::Line => f.write_str("line"),
-        }
-    }
+// How many partitions a header may ask for.
+fn most_parts() -> u32
+    ensures { result ≡ most_parts }
+{
+    if Word::Parts.is_built() { 16 } else { 1 }
 }

@@ -1,6 +1,6 @@
 use Rattle.std.proofs.Common.{rules, arith, refl, ◌≡◌, ◌≤◌, ◌<◌, length, take, drop, option_map, option_and_then, Option, Some, None, ℕ, ◌+◌, ◌-◌, List, [], ◌∷◌, ◌++◌, slice_index, slice_set, append_assoc}
 use Rattle.std.proofs.lemmas.Grind.{common_steps}
-use Rattle.curp_script.specs.Grammar.{byte_of, bytes_of, at_most}
+use Rattle.curp_script.specs.Digits.{byte_of, bytes_of, at_most}
 use Rattle.curp_script.proofs.digits.decode.Goals as goal
 
 -- the first two digits write the first byte

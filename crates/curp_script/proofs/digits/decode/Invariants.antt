@@ -1,5 +1,5 @@
 use Rattle.std.proofs.Common.{◌≡◌, ◌≤◌, ◌++◌, length, take, option_map}
-use Rattle.curp_script.specs.Grammar.{bytes_of}
+use Rattle.curp_script.specs.Digits.{bytes_of}
 use Rattle.curp_script.proofs.digits.decode.Given as goal
 
 abbrev pub invariant-pairs : goal.invariant-pairs

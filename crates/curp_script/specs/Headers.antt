@@ -1,0 +1,34 @@
+-- The ranges of a header's values.
+use Rattle.std.specs.Prelude.{ℕ, ◌≤◌, ◌&&◌, nat_le, if◌then◌else◌, Bool, not, Option, Some, None}
+use Rattle.curp_script.specs.declared.script.Header.{Header}
+use Rattle.curp_script.specs.declared.error.Word.TheVariants as word
+use Rattle.curp_script.specs.declared.error.FieldName.{FieldName}
+use Rattle.curp_script.specs.declared.error.FieldName.TheVariants.{Clients, F, Fast, Parts, Sets, Ways}
+use Rattle.curp_script.specs.Built.{is_built}
+
+-- a number from low to high
+abbrev pub is_within : ℕ → ℕ → ℕ → Bool
+is_within low high n = nat_le low n && nat_le n high
+
+-- how many partitions a header may ask for
+abbrev pub most_parts : ℕ
+most_parts = if is_built word.Parts then 16 else 1
+
+-- the first name, in byte order, whose value is out of its range or isn't built
+abbrev pub bad_field : Header → Option FieldName
+bad_field h =
+    if not (is_within 1 64 h.clients) then Some Clients
+    else if not (is_within 1 5 h.f) then Some F
+    else if h.fast && not (is_built word.Fast) then Some Fast
+    else if not (is_within 1 most_parts h.parts) then Some Parts
+    else if not (is_within 1 1024 h.sets) then Some Sets
+    else if not (is_within 1 16 h.ways) then Some Ways
+    else None
+
+-- each number is in the range that the format gives it, whatever is built
+pub record InRange (h : Header) : Type 0 where
+  pub clients : (1 ≤ h.clients) × (h.clients ≤ 64)
+  pub f : (1 ≤ h.f) × (h.f ≤ 5)
+  pub parts : (1 ≤ h.parts) × (h.parts ≤ 16)
+  pub sets : (1 ≤ h.sets) × (h.sets ≤ 1024)
+  pub ways : (1 ≤ h.ways) × (h.ways ≤ 16)

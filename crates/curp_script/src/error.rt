@@ -1,0 +1,190 @@
+ghost use Rattle.std.specs.Prelude.{◌≡◌};
+ghost use Rattle.curp_script.specs.Built.{is_built};
+ghost use Rattle.curp_script.specs.Text.{field_text, word_text};
+
+use std::fmt;
+
+/// Why a line is refused.
+#[derive(Clone, Copy, Debug, PartialEq, Eq)]
+pub enum LineError {
+    /// The line is no JSON object.
+    BadJson,
+    /// The name is absent, or its value is of another type or out of its range.
+    BadField { name: FieldName },
+    /// The line has a form of the grammar that isn't built yet.
+    Later { word: Word },
+    /// There was no memory to read it.
+    NoMemory,
+}
+
+/// A name that a line may have. `Other` stands for every name that the line's kind doesn't have.
+#[derive(Clone, Copy, Debug, PartialEq, Eq)]
+pub enum FieldName {
+    Backup,
+    Client,
+    Clients,
+    Cmd,
+    Do,
+    F,
+    Fast,
+    Hi,
+    Kind,
+    Lo,
+    Master,
+    Msg,
+    Node,
+    Other,
+    Part,
+    Parts,
+    Place,
+    Protocol,
+    Seq,
+    Sets,
+    To,
+    Ways,
+    Witness,
+}
+
+/// A form of the grammar that is built on its own: a value of the header, a command, or a kind of step.
+#[derive(Clone, Copy, Debug, PartialEq, Eq)]
+pub enum Word {
+    /// The header's `fast` is true.
+    Fast,
+    /// The header's `parts` is more than 1.
+    Parts,
+    /// The header's `protocol` is 2.
+    Protocol,
+    /// The command `get`.
+    Get,
+    Invoke,
+    Retry,
+    Fetch,
+    Sync,
+    Collect,
+    Recover,
+    Replace,
+    Migrate,
+    Nudge,
+    Expire,
+    Stop,
+}
+
+impl FieldName {
+    /// The name as lines have it.
+    pub fn as_str(self) -> &'static str
+        ensures { result.now ≡ field_text self }
+    {
+        match self {
+            FieldName::Backup => "backup",
+            FieldName::Client => "client",
+            FieldName::Clients => "clients",
+            FieldName::Cmd => "cmd",
+            FieldName::Do => "do",
+            FieldName::F => "f",
+            FieldName::Fast => "fast",
+            FieldName::Hi => "hi",
+            FieldName::Kind => "kind",
+            FieldName::Lo => "lo",
+            FieldName::Master => "master",
+            FieldName::Msg => "msg",
+            FieldName::Node => "node",
+            FieldName::Other => "other",
+            FieldName::Part => "part",
+            FieldName::Parts => "parts",
+            FieldName::Place => "place",
+            FieldName::Protocol => "protocol",
+            FieldName::Seq => "seq",
+            FieldName::Sets => "sets",
+            FieldName::To => "to",
+            FieldName::Ways => "ways",
+            FieldName::Witness => "witness",
+        }
+    }
+}
+
+impl Word {
+    /// Whether scripts may have this form. A line that has another one is refused with `Later`.
+    #[tactic(auto, unfolding(crate::specs::Built::is_built))]
+    pub fn is_built(self) -> bool
+        ensures { result ≡ is_built self }
+    {
+        match self {
+            Word::Invoke => true,
+            Word::Fast
+            | Word::Parts
+            | Word::Protocol
+            | Word::Get
+            | Word::Retry
+            | Word::Fetch
+            | Word::Sync
+            | Word::Collect
+            | Word::Recover
+            | Word::Replace
+            | Word::Migrate
+            | Word::Nudge
+            | Word::Expire
+            | Word::Stop => false,
+        }
+    }
+
+    /// The word as lines have it.
+    pub fn as_str(self) -> &'static str
+        ensures { result.now ≡ word_text self }
+    {
+        match self {
+            Word::Fast => "fast",
+            Word::Parts => "parts",
+            Word::Protocol => "protocol",
+            Word::Get => "get",
+            Word::Invoke => "invoke",
+            Word::Retry => "retry",
+            Word::Fetch => "fetch",
+            Word::Sync => "sync",
+            Word::Collect => "collect",
+            Word::Recover => "recover",
+            Word::Replace => "replace",
+            Word::Migrate => "migrate",
+            Word::Nudge => "nudge",
+            Word::Expire => "expire",
+            Word::Stop => "stop",
+        }
+    }
+}
+
+impl fmt::Display for LineError {
+    ghost use Rattle.std.specs.Prelude.{Some};
+    ghost use Rattle.curp_script.specs.Text.{reason_text};
+
+    ghost output = { λ reason. Some (reason_text reason) };
+
+    fn fmt<W: fmt::Write>(&self, f: &mut fmt::Formatter<W>) -> fmt::Result {
+        match self {
+            LineError::BadJson => f.write_str("bad json"),
+            LineError::BadField { name } => write!(f, "bad field {name}"),
+            LineError::Later { word } => write!(f, "not built yet: {word}"),
+            LineError::NoMemory => f.write_str("out of memory"),
+        }
+    }
+}
+
+impl fmt::Display for FieldName {
+    ghost use Rattle.std.specs.Prelude.{Some};
+    ghost use Rattle.curp_script.specs.Text.{field_text};
+
+    ghost output = { λ name. Some (field_text name) };
+
+    fn fmt<W: fmt::Write>(&self, f: &mut fmt::Formatter<W>) -> fmt::Result {
+        f.write_str(self.as_str())
+    }
+}
+
+impl fmt::Display for Word {
+    ghost use Rattle.std.specs.Prelude.{Some};
+    ghost use Rattle.curp_script.specs.Text.{word_text};
+
+    ghost output = { λ word. Some (word_text word) };
+
+    fn fmt<W: fmt::Write>(&self, f: &mut fmt::Formatter<W>) -> fmt::Result {
+        f.write_str(self.as_str())
+    }
+}

@@ -1,0 +1,81 @@
+ghost use Rattle.std.specs.Prelude.{◌≡◌};
+ghost use Rattle.curp_script.specs.Digits.{hash_of, counted};
+ghost use Rattle.curp_script.specs.Words.{keeper_of, node_of, counted_node, letter_kind};
+
+use crate::digits::decode;
+use curp_cmd::{Keeper, NodeId, NodeKind};
+
+// A hash, which 16 digits write.
+pub(crate) fn hash_of(text: &str) -> Option<u64>
+    ensures { result ≡ hash_of text.now }
+{
+    let mut bytes = [0; 8];
+    let len = decode(text, &mut bytes)?;
+    (len == 8).then_some(u64::from_be_bytes(bytes))
+}
+
+pub(crate) fn keeper_of(text: &str) -> Option<Keeper>
+    ensures { result ≡ keeper_of text.now }
+{
+    match text {
+        "backup" => Some(Keeper::Backup),
+        "witness" => Some(Keeper::Witness),
+        _ => None,
+    }
+}
+
+// The name of a node: G, or a letter and a number.
+pub(crate) fn node_of(text: &str) -> Option<NodeId>
+    ensures { result ≡ node_of text.now }
+{
+    match text {
+        "G" => Some(NodeId {
+            kind: NodeKind::Manager,
+            number: 0,
+        }),
+        _ => counted_node(text),
+    }
+}
+
+fn counted_node(text: &str) -> Option<NodeId>
+    ensures { result ≡ counted_node text.now }
+{
+    let [letter, digits @ ..] = text.as_bytes() else {
+        return None;
+    };
+    let kind = letter_kind(*letter)?;
+    let number = counted(digits)?;
+    Some(NodeId { kind, number })
+}
+
+fn letter_kind(letter: u8) -> Option<NodeKind>
+    ensures { result ≡ letter_kind letter }
+{
+    match letter {
+        b'C' => Some(NodeKind::Client),
+        b'M' => Some(NodeKind::Master),
+        b'B' => Some(NodeKind::Backup),
+        b'W' => Some(NodeKind::Witness),
+        _ => None,
+    }
+}
+
+// The number from 1 to 2^32 - 1 that decimal digits write, the first of them no zero.
+fn counted(digits: &[u8]) -> Option<u32>
+    ensures { result ≡ counted digits.now }
+{
+    let [b'1'..=b'9', ..] = digits else {
+        return None;
+    };
+    let mut number: u64 = 0;
+    for digit in digits {
+        if !digit.is_ascii_digit() {
+            return None;
+        }
+        number = 10 * number + (*digit - b'0') as u64;
+        if number > u32::MAX as u64 {
+            return None;
+        }
+    }
+    Some(number as u32)
+}
