@@ -3,21 +3,23 @@ use Rattle.std.proofs.Common.{◌≡◌, ℕ, ◌-◌, List, ◌++◌, set, Some
 use Rattle.curp_base.specs.Words.{numbered}
 use Rattle.curp_base.proofs.Lists.{prefix_self, prefix_length, Each-append, Each-weaker}
 use Rattle.curp_cmd.specs.declared.node.NodeId.{NodeId}
-use Rattle.curp_msg.specs.declared.Message.{Message}
-use Rattle.curp_msg.specs.declared.Body.{Body}
-use Rattle.curp_msg.specs.declared.Body.TheVariants.{Sync, Reply, Refuse, Append, Stored}
+use Rattle.curp_msg.specs.declared.answer.AppendAnswer.{AppendAnswer}
+use Rattle.curp_msg.specs.declared.answer.AppendAnswer.TheVariants.{Stored}
+use Rattle.curp_msg.specs.declared.message.Message.{Message}
+use Rattle.curp_msg.specs.declared.body.Body.{Body}
+use Rattle.curp_msg.specs.declared.body.Body.TheVariants.{Appended}
 use Rattle.curp_order.specs.declared.Event.{Event}
-use Rattle.curp_model.specs.Moved.{Moved}
-use Rattle.curp_model.specs.Client.{ClientState}
-use Rattle.curp_model.specs.Master.{MasterState}
-use Rattle.curp_model.specs.Backup.{BackupState}
+use Rattle.curp_plain.specs.Moved.{Moved}
+use Rattle.curp_plain.specs.Client.{ClientState}
+use Rattle.curp_plain.specs.Master.{MasterState, entries_of}
+use Rattle.curp_plain.specs.Backup.{BackupState}
 use Rattle.curp_law_order.proofs.Numbered.{numbered_set_cases, numbered_set_same}
-use Rattle.curp_law_order.proofs.Facts.{BodyOk, MessageOk, BackupOk, BackupsOk, Facts}
-use Rattle.curp_law_order.proofs.Effects.{BodyTells, Tells, BackupEffect}
+use Rattle.curp_law_order.proofs.Facts.{AppendedOk, BodyOk, MessageOk, BackupOk, BackupsOk, Facts}
+use Rattle.curp_law_order.proofs.Effects.{AnswerTells, BodyTells, Tells, BackupEffect}
 use Rattle.curp_law_order.proofs.Growing.{BackupsGrow, one_grows, durable_grows, said_grows}
 
 module _ (cs : List ClientState) (m : MasterState) (bs : List BackupState) (sent : List Message) (h : List Event) (facts : Facts cs m bs sent h) (n : ℕ) (b : BackupState) (here : numbered bs n ≡ Some b) where
-  module _ (r : Moved BackupState) (effect : BackupEffect m.log n b r) where
+  module _ (r : Moved BackupState) (effect : BackupEffect (entries_of m.log) n b r) where
     abbrev others : List BackupState
     others = set bs (n - 1) r.state
 
@@ -35,16 +37,17 @@ module _ (cs : List ClientState) (m : MasterState) (bs : List BackupState) (sent
       | inr o ↦ subst (BackupOk m.log m.marks k) o.1 (subst (λ (i : ℕ). BackupOk m.log m.marks i r.state) (sym o.0) moved_ok)
     ]
 
-    body_ok : (from to : NodeId) (body : Body) → BodyTells n r.state from body → BodyOk h m.log others from to body
-    body_ok from to (Stored epoch long round) tells = record {
+    answer_ok : (from : ℕ) (answer : AppendAnswer) → AnswerTells n r.state from answer → AppendedOk others from answer
+    answer_ok from (Stored long) tells = record {
       b = r.state;
       here = subst (λ (i : ℕ). numbered others i ≡ Some r.state) (sym tells.0) (numbered_set_same bs n b r.state here);
       low = tells.1;
     }
-    body_ok from to (Sync q epoch version) tells = absurd tells
-    body_ok from to (Reply id epoch version a) tells = absurd tells
-    body_ok from to (Refuse id refusal) tells = absurd tells
-    body_ok from to (Append epoch base round entries) tells = absurd tells
+    answer_ok from _ tells = absurd tells
+
+    body_ok : (from to : NodeId) (body : Body) → BodyTells n r.state from body → BodyOk h m.log others from to body
+    body_ok from to (Appended a) tells = answer_ok from.number a.answer tells
+    body_ok from to _ tells = absurd tells
 
     pub backup_keeps : Facts cs m others (sent ++ r.messages) h
     backup_keeps = record {

@@ -8,13 +8,13 @@ use Rattle.curp_cmd.specs.declared.command.Command.{Command}
 use Rattle.curp_cmd.specs.declared.command.Answer.{Answer}
 use Rattle.curp_cmd.specs.declared.command.Request.{Request}
 use Rattle.curp_cmd.specs.declared.command.RequestId.{RequestId}
-use Rattle.curp_msg.specs.declared.Message.{Message}
+use Rattle.curp_msg.specs.declared.message.Message.{Message}
 use Rattle.curp_order.specs.declared.Event.{Event}
 use Rattle.curp_order.specs.declared.Event.TheVariants.{Invoke, Complete}
 use Rattle.curp_order.specs.Order.{IsHistory}
-use Rattle.curp_model.specs.Client.{ClientState, next_request, sync_of, is_pending}
-use Rattle.curp_model.specs.Master.{MasterState}
-use Rattle.curp_model.specs.Backup.{BackupState}
+use Rattle.curp_plain.specs.Client.{ClientState, next_request, sync_of, is_pending}
+use Rattle.curp_plain.specs.Master.{MasterState}
+use Rattle.curp_plain.specs.Backup.{BackupState}
 use Rattle.curp_law_order.proofs.Numbered.{numbered_same, numbered_set_cases, numbered_set_same, numbered_set_other, any_at, filter_at}
 use Rattle.curp_law_order.proofs.Facts.{Durable, MessageOk, LogOk, ClientsOk, InTime, Completes, id_of, Facts}
 use Rattle.curp_law_order.proofs.Growing.{same_backups, asked_grows, said_grows}

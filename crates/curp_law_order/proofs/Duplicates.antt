@@ -5,9 +5,9 @@ use Rattle.curp_base.specs.Words.{At}
 use Rattle.curp_cmd.specs.declared.command.Answer.{Answer}
 use Rattle.curp_cmd.specs.declared.command.Request.{Request}
 use Rattle.curp_cmd.specs.declared.command.RequestId.{RequestId}
-use Rattle.curp_model.specs.declared.Check.TheVariants.{Known, New}
-use Rattle.curp_model.specs.Master.{same_id, found, check, answers_of}
-use Rattle.curp_model.proofs.Laws.{length-answers_of}
+use Rattle.curp_plain.specs.declared.Check.TheVariants.{Known, New}
+use Rattle.curp_plain.specs.Master.{same_id, found, check, answers_of}
+use Rattle.curp_plain.proofs.Laws.{length-answers_of}
 
 same_id-true : (a b : RequestId) → same_id a b ≡ true → a ≡ b
 same_id-true a b e =

@@ -6,14 +6,17 @@ use Rattle.curp_cmd.specs.declared.command.Command.{Command}
 use Rattle.curp_cmd.specs.declared.command.Answer.{Answer}
 use Rattle.curp_cmd.specs.declared.command.Request.{Request}
 use Rattle.curp_cmd.specs.declared.command.RequestId.{RequestId}
+use Rattle.curp_cmd.specs.declared.entry.Entry.{Entry}
 use Rattle.curp_cmd.specs.declared.node.NodeId.{NodeId}
-use Rattle.curp_msg.specs.declared.Message.{Message}
-use Rattle.curp_msg.specs.declared.Body.{Body}
-use Rattle.curp_msg.specs.declared.Body.TheVariants.{Reply, Refuse, Append, Stored}
-use Rattle.curp_model.specs.Moved.{Moved, client_node}
-use Rattle.curp_model.specs.declared.Mark.{Mark}
-use Rattle.curp_model.specs.Master.{MasterState, synced}
-use Rattle.curp_model.specs.Backup.{BackupState}
+use Rattle.curp_msg.specs.declared.answer.AppendAnswer.{AppendAnswer}
+use Rattle.curp_msg.specs.declared.answer.AppendAnswer.TheVariants.{Stored}
+use Rattle.curp_msg.specs.declared.message.Message.{Message}
+use Rattle.curp_msg.specs.declared.body.Body.{Body}
+use Rattle.curp_msg.specs.declared.body.Body.TheVariants.{Reply, Refuse, Append, Appended}
+use Rattle.curp_plain.specs.Moved.{Moved, client_node}
+use Rattle.curp_plain.specs.declared.Mark.{Mark}
+use Rattle.curp_plain.specs.Master.{MasterState, entries_of, synced}
+use Rattle.curp_plain.specs.Backup.{BackupState}
 use Rattle.curp_law_order.proofs.Facts.{Stands, AppendOk}
 
 -- a reply is to what stands in the log and is synced
@@ -24,9 +27,9 @@ pub record ReplySays (m : MasterState) (to : NodeId) (id : RequestId) (a : Answe
   pub addressed : to ≡ client_node id.client
 
 abbrev pub BodySays : MasterState → NodeId → Body → Type 0
-BodySays m to (Append epoch base round entries) = AppendOk m.log base entries
-BodySays m to (Reply id epoch version a) = ReplySays m to id a
-BodySays m to (Refuse id refusal) = ⊤
+BodySays m to (Append a) = AppendOk (entries_of m.log) a.base a.entries
+BodySays m to (Reply r) = ReplySays m to r.id r.answer
+BodySays m to (Refuse r) = ⊤
 BodySays m to _ = ⊥
 
 abbrev pub Says : MasterState → Message → Type 0
@@ -49,16 +52,21 @@ pub record MasterEffect (Asked : RequestId → Command → Type 0) (Told : ℕ �
   pub marks : (n : ℕ) (a : Mark) → numbered m.marks n ≡ Some a → (b : Mark) × (numbered r.state.marks n ≡ Some b) × MarkMove Told n a b
   pub says : Each (Says r.state) r.messages
 
+-- what a backup's answer says of it
+abbrev pub AnswerTells : ℕ → BackupState → ℕ → AppendAnswer → Type 0
+AnswerTells n b from (Stored long) = (from ≡ n) × (long ≤ length b.log)
+AnswerTells n b from _ = ⊥
+
 -- what a backup's message says of it
 abbrev pub BodyTells : ℕ → BackupState → NodeId → Body → Type 0
-BodyTells n b from (Stored epoch long round) = (from.number ≡ n) × (long ≤ length b.log)
+BodyTells n b from (Appended a) = AnswerTells n b from.number a.answer
 BodyTells n b from _ = ⊥
 
 abbrev pub Tells : ℕ → BackupState → Message → Type 0
 Tells n b x = BodyTells n b x.from x.body
 
 -- a backup only adds what stands in the master's log
-pub record BackupEffect (whole : List Request) (n : ℕ) (b : BackupState) (r : Moved BackupState) : Type 0 where
+pub record BackupEffect (whole : List Entry) (n : ℕ) (b : BackupState) (r : Moved BackupState) : Type 0 where
   pub quiet : r.completed ≡ None
   pub grown : IsPrefix b.log r.state.log
   pub front : IsPrefix r.state.log whole

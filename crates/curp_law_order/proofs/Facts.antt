@@ -6,19 +6,22 @@ use Rattle.curp_cmd.specs.declared.command.Command.{Command}
 use Rattle.curp_cmd.specs.declared.command.Answer.{Answer}
 use Rattle.curp_cmd.specs.declared.command.Request.{Request}
 use Rattle.curp_cmd.specs.declared.command.RequestId.{RequestId}
+use Rattle.curp_cmd.specs.declared.entry.Entry.{Entry}
 use Rattle.curp_cmd.specs.declared.node.NodeId.{NodeId}
-use Rattle.curp_msg.specs.declared.Message.{Message}
-use Rattle.curp_msg.specs.declared.Body.{Body}
-use Rattle.curp_msg.specs.declared.Body.TheVariants.{Sync, Reply, Refuse, Append, Stored}
+use Rattle.curp_msg.specs.declared.answer.AppendAnswer.{AppendAnswer}
+use Rattle.curp_msg.specs.declared.answer.AppendAnswer.TheVariants.{Stored}
+use Rattle.curp_msg.specs.declared.message.Message.{Message}
+use Rattle.curp_msg.specs.declared.body.Body.{Body}
+use Rattle.curp_msg.specs.declared.body.Body.TheVariants.{Sync, Reply, Refuse, Append, Appended}
 use Rattle.curp_order.specs.declared.Event.{Event}
 use Rattle.curp_order.specs.declared.Event.TheVariants.{Invoke, Complete}
 use Rattle.curp_order.specs.Order.{IsHistory}
-use Rattle.curp_model.specs.Moved.{client_node}
-use Rattle.curp_model.specs.Client.{ClientState}
-use Rattle.curp_model.specs.declared.Mark.{Mark}
-use Rattle.curp_model.specs.Master.{MasterState, answers_of}
-use Rattle.curp_model.specs.Backup.{BackupState}
-use Rattle.curp_model.specs.World.{World, messages}
+use Rattle.curp_plain.specs.Moved.{client_node}
+use Rattle.curp_plain.specs.Client.{ClientState}
+use Rattle.curp_plain.specs.declared.Mark.{Mark}
+use Rattle.curp_plain.specs.Master.{MasterState, answers_of, entries_of}
+use Rattle.curp_plain.specs.Backup.{BackupState}
+use Rattle.curp_plain.specs.World.{World, messages}
 
 abbrev pub Asked : List Event → RequestId → Command → Type 0
 Asked h id c = (i : ℕ) × At h i (Invoke id c)
@@ -42,8 +45,9 @@ pub record ReplyOk (log : List Request) (backups : List BackupState) (to : NodeI
   pub durable : Durable log backups id a
   pub addressed : to ≡ client_node id.client
 
-pub record AppendOk (log : List Request) (base : ℕ) (entries : List Request) : Type 0 where
-  pub part : IsPrefix entries (drop base log)
+-- the entries stand in the whole log from base on
+pub record AppendOk (whole : List Entry) (base : ℕ) (entries : List Entry) : Type 0 where
+  pub part : IsPrefix entries (drop base whole)
 
 -- backup n is that long, or longer
 pub record StoredOk (backups : List BackupState) (n long : ℕ) : Type 0 where
@@ -51,12 +55,19 @@ pub record StoredOk (backups : List BackupState) (n long : ℕ) : Type 0 where
   pub here : numbered backups n ≡ Some b
   pub low : long ≤ length b.log
 
+-- no backup answers anything else
+abbrev pub AppendedOk : List BackupState → ℕ → AppendAnswer → Type 0
+AppendedOk backups n (Stored long) = StoredOk backups n long
+AppendedOk backups n _ = ⊥
+
+-- what each message says. One without a case is never sent
 abbrev pub BodyOk : List Event → List Request → List BackupState → NodeId → NodeId → Body → Type 0
-BodyOk h log backups from to (Sync r epoch version) = Asked h r.id r.command
-BodyOk h log backups from to (Reply id epoch version a) = ReplyOk log backups to id a
-BodyOk h log backups from to (Refuse id refusal) = ⊤
-BodyOk h log backups from to (Append epoch base round entries) = AppendOk log base entries
-BodyOk h log backups from to (Stored epoch long round) = StoredOk backups from.number long
+BodyOk h log backups from to (Sync ask) = Asked h ask.request.id ask.request.command
+BodyOk h log backups from to (Reply r) = ReplyOk log backups to r.id r.answer
+BodyOk h log backups from to (Refuse r) = ⊤
+BodyOk h log backups from to (Append a) = AppendOk (entries_of log) a.base a.entries
+BodyOk h log backups from to (Appended a) = AppendedOk backups from.number a.answer
+BodyOk h log backups from to _ = ⊥
 
 abbrev pub MessageOk : List Event → List Request → List BackupState → Message → Type 0
 MessageOk h log backups m = BodyOk h log backups m.from m.to m.body
@@ -69,7 +80,7 @@ pub record LogOk (h : List Event) (log : List Request) : Type 0 where
 
 -- a backup has a beginning of the log, and the master's mark says no more than that
 pub record BackupOk (log : List Request) (marks : List Mark) (n : ℕ) (b : BackupState) : Type 0 where
-  pub front : IsPrefix b.log log
+  pub front : IsPrefix b.log (entries_of log)
   pub mark : Mark
   pub marked : numbered marks n ≡ Some mark
   pub low : mark.length ≤ length b.log

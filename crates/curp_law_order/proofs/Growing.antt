@@ -2,20 +2,24 @@
 use Rattle.std.proofs.Common.{◌≡◌, ℕ, ◌-◌, List, set, Some, sym, subst, arith, inl, inr}
 use Rattle.std.proofs.lemmas.Bool.{cases_eq}
 use Rattle.curp_base.specs.Words.{Each, IsPrefix, numbered}
-use Rattle.curp_base.proofs.Lists.{prefix_at, prefix_self, prefix_trans, prefix_drop, prefix_length, Each-weaker}
+use Rattle.curp_base.proofs.Lists.{prefix_at, prefix_self, prefix_trans, prefix_drop, prefix_map, prefix_length, Each-weaker}
 use Rattle.curp_cmd.specs.declared.command.Command.{Command}
 use Rattle.curp_cmd.specs.declared.command.Answer.{Answer}
 use Rattle.curp_cmd.specs.declared.command.Request.{Request}
 use Rattle.curp_cmd.specs.declared.command.RequestId.{RequestId}
+use Rattle.curp_cmd.specs.declared.entry.Entry.{Entry}
 use Rattle.curp_cmd.specs.declared.node.NodeId.{NodeId}
-use Rattle.curp_msg.specs.declared.Message.{Message}
-use Rattle.curp_msg.specs.declared.Body.{Body}
-use Rattle.curp_msg.specs.declared.Body.TheVariants.{Sync, Reply, Refuse, Append, Stored}
+use Rattle.curp_msg.specs.declared.answer.AppendAnswer.{AppendAnswer}
+use Rattle.curp_msg.specs.declared.answer.AppendAnswer.TheVariants.{Stored}
+use Rattle.curp_msg.specs.declared.message.Message.{Message}
+use Rattle.curp_msg.specs.declared.body.Body.{Body}
+use Rattle.curp_msg.specs.declared.body.Body.TheVariants.{Sync, Reply, Refuse, Append, Appended}
 use Rattle.curp_order.specs.declared.Event.{Event}
-use Rattle.curp_model.specs.Backup.{BackupState}
+use Rattle.curp_plain.specs.Master.{entry_of, entries_of}
+use Rattle.curp_plain.specs.Backup.{BackupState}
 use Rattle.curp_law_order.proofs.OneThread.{answers_of_prefix}
 use Rattle.curp_law_order.proofs.Numbered.{numbered_same, numbered_set_cases, numbered_set_same, numbered_set_other}
-use Rattle.curp_law_order.proofs.Facts.{Asked, Stands, Durable, ReplyOk, AppendOk, StoredOk, BodyOk, MessageOk}
+use Rattle.curp_law_order.proofs.Facts.{Asked, Stands, Durable, ReplyOk, AppendOk, StoredOk, AppendedOk, BodyOk, MessageOk}
 
 -- no backup takes anything back, and there are as many
 pub record BackupsGrow (bs cs : List BackupState) : Type 0 where
@@ -57,18 +61,23 @@ module _ {log more : List Request} (p : IsPrefix log more) {bs cs : List BackupS
   reply_grows : (to : NodeId) (id : RequestId) (a : Answer) → ReplyOk log bs to id a → ReplyOk more cs to id a
   reply_grows to id a ok = record { durable = durable_grows id a ok.durable; addressed = ok.addressed }
 
-  append_grows : (base : ℕ) (entries : List Request) → AppendOk log base entries → AppendOk more base entries
-  append_grows base entries ok = record { part = prefix_trans ok.part (prefix_drop base p) }
+  append_grows : (base : ℕ) (entries : List Entry) → AppendOk (entries_of log) base entries → AppendOk (entries_of more) base entries
+  append_grows base entries ok = record { part = prefix_trans ok.part (prefix_drop base (prefix_map entry_of p)) }
 
   stored_grows : (n long : ℕ) → StoredOk bs n long → StoredOk cs n long
   stored_grows n long ok = let c = g.after n ok.b ok.here in record { b = c.0; here = c.1; low = omega (arith, ok.low, prefix_length c.2) }
 
+  appended_grows : (n : ℕ) (answer : AppendAnswer) → AppendedOk bs n answer → AppendedOk cs n answer
+  appended_grows n (Stored long) ok = stored_grows n long ok
+  appended_grows n _ ok = absurd ok
+
   body_grows : {h k : List Event} → IsPrefix h k → (from to : NodeId) (body : Body) → BodyOk h log bs from to body → BodyOk k more cs from to body
-  body_grows q from to (Sync r epoch version) ok = asked_grows q r.id r.command ok
-  body_grows q from to (Reply id epoch version a) ok = reply_grows to id a ok
-  body_grows q from to (Refuse id refusal) ok = tt
-  body_grows q from to (Append epoch base round entries) ok = append_grows base entries ok
-  body_grows q from to (Stored epoch long round) ok = stored_grows from.number long ok
+  body_grows q from to (Sync ask) ok = asked_grows q ask.request.id ask.request.command ok
+  body_grows q from to (Reply r) ok = reply_grows to r.id r.answer ok
+  body_grows q from to (Refuse r) ok = tt
+  body_grows q from to (Append a) ok = append_grows a.base a.entries ok
+  body_grows q from to (Appended a) ok = appended_grows from.number a.answer ok
+  body_grows q from to _ ok = absurd ok
 
   pub said_grows : {h k : List Event} → IsPrefix h k → (sent : List Message) → Each (MessageOk h log bs) sent → Each (MessageOk k more cs) sent
   said_grows {h} {k} q sent ok = Each-weaker (MessageOk h log bs) (MessageOk k more cs) (λ (m : Message). body_grows q m.from m.to m.body) sent ok

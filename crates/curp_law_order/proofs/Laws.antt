@@ -1,17 +1,17 @@
 -- What the facts say of the order and of the backups.
 use Rattle.std.proofs.Common.{◌≡◌, ℕ, suc, sym, ◌∙◌, subst}
 use Rattle.curp_base.specs.Words.{At, IsPrefix}
-use Rattle.curp_base.proofs.Lists.{prefix_back, Each-at, Each-from_at}
+use Rattle.curp_base.proofs.Lists.{at_map, prefix_back, Each-at, Each-from_at}
 use Rattle.curp_cmd.specs.declared.command.Command.{Command}
 use Rattle.curp_cmd.specs.declared.command.Answer.{Answer}
 use Rattle.curp_cmd.specs.declared.command.Request.{Request}
 use Rattle.curp_cmd.specs.declared.command.RequestId.{RequestId}
-use Rattle.curp_msg.specs.declared.Body.TheVariants.{Reply}
+use Rattle.curp_msg.specs.declared.body.Body.TheVariants.{Reply}
 use Rattle.curp_order.specs.declared.Event.TheVariants.{Complete}
 use Rattle.curp_order.specs.Order.{IsOrder}
-use Rattle.curp_model.specs.Master.{answers_of}
-use Rattle.curp_model.specs.Backup.{BackupState}
-use Rattle.curp_model.specs.World.{World, messages, order}
+use Rattle.curp_plain.specs.Master.{answers_of, entry_of, entries_of}
+use Rattle.curp_plain.specs.Backup.{BackupState}
+use Rattle.curp_plain.specs.World.{World, messages, order}
 use Rattle.curp_law_order.specs.Laws.{IsStored, BackupsFollow, CompletedIsStored, RepliesAreStored}
 use Rattle.curp_law_order.proofs.OneThread.{request_at, at_request}
 use Rattle.curp_law_order.proofs.Facts.{Asked, Durable, BodyOk, MessageOk, Inv}
@@ -53,11 +53,11 @@ module _ (w : World) (inv : Inv w) where
         inv.in_time i j earlier later a c ij hi hj k l r.0 s.0 r.1 (r.2 ∙ xi) s.1 (s.2 ∙ yi);
   }
 
-  front : (k : ℕ) (b : BackupState) → At w.backups k b → IsPrefix b.log w.master.log
+  front : (k : ℕ) (b : BackupState) → At w.backups k b → IsPrefix b.log (entries_of w.master.log)
   front k b at = (inv.backups (suc k) b at).front
 
   pub backups_follow : BackupsFollow w
-  backups_follow = Each-from_at (λ b. IsPrefix b.log w.master.log) w.backups front
+  backups_follow = Each-from_at (λ b. IsPrefix b.log (entries_of w.master.log)) w.backups front
 
   is_stored : (id : RequestId) (a : Answer) → Durable w.master.log w.backups id a → IsStored w id
   is_stored id a s =
@@ -67,14 +67,14 @@ module _ (w : World) (inv : Inv w) where
         request = r;
         its_id = s.stands.its_id;
         in_master = s.stands.stands;
-        in_backups = Each-from_at (λ b. At b.log s.index r) w.backups (λ k b here. prefix_back (front k b here) s.index r (s.stored (suc k) b here) s.stands.stands);
+        in_backups = Each-from_at (λ b. At b.log s.index (entry_of r)) w.backups (λ k b here. prefix_back (front k b here) s.index (entry_of r) (s.stored (suc k) b here) (at_map entry_of w.master.log s.index r s.stands.stands));
       }
 
   pub completed_is_stored : CompletedIsStored w
   completed_is_stored i id a at = is_stored id a (inv.completes i id a at)
 
   pub replies_are_stored : RepliesAreStored w
-  replies_are_stored i m at id epoch version a same =
+  replies_are_stored i m at r same =
       let said : MessageOk w.history w.master.log w.backups m = Each-at (MessageOk w.history w.master.log w.backups) (messages w) inv.said i m at in
-      let of_reply : BodyOk w.history w.master.log w.backups m.from m.to (Reply id epoch version a) = subst (BodyOk w.history w.master.log w.backups m.from m.to) same said in
-      is_stored id a of_reply.durable
+      let of_reply : BodyOk w.history w.master.log w.backups m.from m.to (Reply r) = subst (BodyOk w.history w.master.log w.backups m.from m.to) same said in
+      is_stored r.id r.answer of_reply.durable

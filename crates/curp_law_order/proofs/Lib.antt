@@ -12,3 +12,4 @@ pub mod ClientMoves
 pub mod Runs
 pub mod Laws
 pub mod Named
+pub mod FullWorld

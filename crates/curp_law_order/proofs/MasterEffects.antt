@@ -2,6 +2,7 @@
 use Rattle.std.proofs.Common.{◌≡◌, ℕ, zero, suc, ◌+◌, ◌-◌, ◌<◌, ◌≤◌, max, List, [], ◌∷◌, length, drop, set, Option, Some, None, refl, ap, sym, subst, arith, inl, inr, ltb}
 use Rattle.std.specs.Bool.{⊤}
 use Rattle.std.proofs.lemmas.Bool.{cond_both, ltb-true, cases_eq, cases_lt}
+use Rattle.std.proofs.lemmas.List.{drop-map}
 use Rattle.curp_base.specs.Words.{At, Each, numbered}
 use Rattle.curp_base.proofs.Lists.{at_take, at_drop, prefix_self}
 use Rattle.curp_cmd.specs.declared.command.Command.{Command}
@@ -11,14 +12,16 @@ use Rattle.curp_cmd.specs.declared.command.RequestId.{RequestId}
 use Rattle.curp_cmd.specs.declared.node.NodeId.{NodeId}
 use Rattle.curp_cmd.specs.declared.node.NodeKind.{NodeKind}
 use Rattle.curp_cmd.specs.declared.node.NodeKind.TheVariants.{Backup}
-use Rattle.curp_msg.specs.declared.Message.{Message}
-use Rattle.curp_msg.specs.declared.Body.{Body}
-use Rattle.curp_msg.specs.declared.Body.TheVariants.{Sync, Stored}
-use Rattle.curp_model.specs.Moved.{sends}
-use Rattle.curp_model.specs.declared.Mark.{Mark}
-use Rattle.curp_model.specs.declared.Check.{Check}
-use Rattle.curp_model.specs.declared.Check.TheVariants.{Known, New}
-use Rattle.curp_model.specs.Master.{MasterState, check, answers_of, least, synced, appends_from, begins_round, reply_to, refuse, decided, between, replies, settle, raised, on_stored, from_backup, on_master}
+use Rattle.curp_msg.specs.declared.answer.AppendAnswer.{AppendAnswer}
+use Rattle.curp_msg.specs.declared.answer.AppendAnswer.TheVariants.{Stored}
+use Rattle.curp_msg.specs.declared.message.Message.{Message}
+use Rattle.curp_msg.specs.declared.body.Body.{Body}
+use Rattle.curp_msg.specs.declared.body.Body.TheVariants.{Sync, Appended}
+use Rattle.curp_plain.specs.Moved.{sends}
+use Rattle.curp_plain.specs.declared.Mark.{Mark}
+use Rattle.curp_plain.specs.declared.Check.{Check}
+use Rattle.curp_plain.specs.declared.Check.TheVariants.{Known, New}
+use Rattle.curp_plain.specs.Master.{MasterState, entry_of, check, answers_of, least, synced, appends_from, begins_round, reply_to, refuse, decided, between, replies, settle, raised, on_stored, from_backup, on_appended, on_master}
 use Rattle.curp_law_order.proofs.Numbered.{place, numbered_same, numbered_set_same, numbered_set_other}
 use Rattle.curp_law_order.proofs.Duplicates.{check_known, check_new}
 use Rattle.curp_law_order.proofs.Facts.{Stands}
@@ -47,7 +50,7 @@ module _ (Asked : RequestId → Command → Type 0) (Told : ℕ → ℕ → Type
 
   appends_say : (m : MasterState) (n : ℕ) (marks : List Mark) → Each (Says m) (appends_from m n marks)
   appends_say m n [] = tt
-  appends_say m n (a ∷ marks) = (record { part = prefix_self _ }, appends_say m (n + 1) marks)
+  appends_say m n (a ∷ marks) = (record { part = rw (drop-map entry_of a.length m.log) (prefix_self _) }, appends_say m (n + 1) marks)
 
   pushed_effect : (m : MasterState) (r : Request) → Asked r.id r.command → check m.log r.id ≡ New → MasterEffect Asked Told m (decided m r New)
   unfolding decided begins_round
@@ -121,14 +124,23 @@ module _ (Asked : RequestId → Command → Type 0) (Told : ℕ → ℕ → Type
   backup_effect m Backup n length round told = stored_effect m n length round (numbered m.marks n) refl told
   backup_effect m _ n length round told = only_says m m [] refl refl tt
 
+  -- what an answer to an append has to say before it comes
+  abbrev pub AnswerHeard : ℕ → AppendAnswer → Type 0
+  AnswerHeard n (Stored length) = Told n length
+  AnswerHeard n _ = ⊤
+
+  appended_effect : (m : MasterState) (from : NodeId) (round : ℕ) (answer : AppendAnswer) → AnswerHeard from.number answer → MasterEffect Asked Told m (on_appended m from round answer)
+  appended_effect m from round (Stored length) told = backup_effect m from.kind from.number length round told
+  appended_effect m from round _ told = only_says m m [] refl refl tt
+
   -- what a message to the master has to say before it comes
   abbrev pub Heard : NodeId → Body → Type 0
-  Heard from (Sync r epoch version) = Asked r.id r.command
-  Heard from (Stored epoch length round) = Told from.number length
+  Heard from (Sync ask) = Asked ask.request.id ask.request.command
+  Heard from (Appended a) = AnswerHeard from.number a.answer
   Heard from _ = ⊤
 
   pub master_effect : (m : MasterState) (from : NodeId) (body : Body) → Heard from body → MasterEffect Asked Told m (on_master m from body)
   unfolding on_master
-  master_effect m from (Sync r epoch version) heard = sync_effect m r heard (check m.log r.id) refl
-  master_effect m from (Stored epoch length round) heard = backup_effect m from.kind from.number length round heard
+  master_effect m from (Sync ask) heard = sync_effect m ask.request heard (check m.log ask.request.id) refl
+  master_effect m from (Appended a) heard = appended_effect m from a.round a.answer heard
   master_effect m from _ heard = only_says m m [] refl refl tt

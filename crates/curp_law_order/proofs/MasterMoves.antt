@@ -1,21 +1,21 @@
 -- The master's moves keep the facts.
 use Rattle.std.proofs.Common.{◌≡◌, ◌⊎◌, ℕ, ◌<◌, List, [], ◌∷◌, ◌++◌, length, ap, sym, ◌∙◌, subst, arith, inl, inr}
 use Rattle.curp_base.specs.Words.{At, IsPrefix}
-use Rattle.curp_base.proofs.Lists.{at_append, at_push_cases, at_within, prefix_self, prefix_push, prefix_trans, Each-append, Each-weaker}
+use Rattle.curp_base.proofs.Lists.{at_append, at_push_cases, at_within, prefix_self, prefix_push, prefix_trans, prefix_map, Each-append, Each-weaker}
 use Rattle.curp_cmd.specs.declared.command.Command.{Command}
 use Rattle.curp_cmd.specs.declared.command.Answer.{Answer}
 use Rattle.curp_cmd.specs.declared.command.Request.{Request}
 use Rattle.curp_cmd.specs.declared.command.RequestId.{RequestId}
 use Rattle.curp_cmd.specs.declared.node.NodeId.{NodeId}
-use Rattle.curp_msg.specs.declared.Message.{Message}
-use Rattle.curp_msg.specs.declared.Body.{Body}
-use Rattle.curp_msg.specs.declared.Body.TheVariants.{Sync, Reply, Refuse, Append, Stored}
+use Rattle.curp_msg.specs.declared.message.Message.{Message}
+use Rattle.curp_msg.specs.declared.body.Body.{Body}
+use Rattle.curp_msg.specs.declared.body.Body.TheVariants.{Reply, Refuse, Append}
 use Rattle.curp_order.specs.declared.Event.{Event}
 use Rattle.curp_order.specs.declared.Event.TheVariants.{Complete}
-use Rattle.curp_model.specs.Moved.{Moved}
-use Rattle.curp_model.specs.Client.{ClientState}
-use Rattle.curp_model.specs.Master.{MasterState}
-use Rattle.curp_model.specs.Backup.{BackupState}
+use Rattle.curp_plain.specs.Moved.{Moved}
+use Rattle.curp_plain.specs.Client.{ClientState}
+use Rattle.curp_plain.specs.Master.{MasterState, entry_of}
+use Rattle.curp_plain.specs.Backup.{BackupState}
 use Rattle.curp_law_order.proofs.Numbered.{numbered_same}
 use Rattle.curp_law_order.proofs.Facts.{Asked, Durable, StoredOk, BodyOk, MessageOk, LogOk, BackupsOk, InTime, Facts}
 use Rattle.curp_law_order.proofs.Effects.{ReplySays, BodySays, Says, Pushed, MasterEffect}
@@ -79,7 +79,7 @@ module _ (cs : List ClientState) (m : MasterState) (bs : List BackupState) (sent
         let ok = facts.backups n b here in
         let new = effect.marks n ok.mark ok.marked in
         record {
-          front = prefix_trans ok.front grown;
+          front = prefix_trans ok.front (prefix_map entry_of grown);
           mark = new.0;
           marked = new.1;
           low = elim (new.2).told [
@@ -97,11 +97,10 @@ module _ (cs : List ClientState) (m : MasterState) (bs : List BackupState) (sent
     }
 
     body_ok : (from to : NodeId) (body : Body) → BodySays r.state to body → BodyOk h r.state.log bs from to body
-    body_ok from to (Sync q epoch version) says = absurd says
-    body_ok from to (Reply id epoch version a) says = record { durable = reply_ok to id a says; addressed = says.addressed }
-    body_ok from to (Refuse id refusal) says = tt
-    body_ok from to (Append epoch base round entries) says = says
-    body_ok from to (Stored epoch long round) says = absurd says
+    body_ok from to (Reply q) says = record { durable = reply_ok to q.id q.answer says; addressed = says.addressed }
+    body_ok from to (Refuse q) says = tt
+    body_ok from to (Append a) says = says
+    body_ok from to _ says = absurd says
 
     pub master_keeps : Facts cs r.state bs (sent ++ r.messages) h
     master_keeps = record {

@@ -4,9 +4,9 @@ use Rattle.std.specs.List.{filter, list_any}
 use Rattle.std.proofs.lemmas.Bool.{cases_Bool}
 use Rattle.curp_base.specs.Words.{At, numbered}
 use Rattle.curp_base.proofs.Lists.{at_set_cases, at_set_same, at_set_other, at_replicate, at_replicated}
-use Rattle.curp_msg.specs.declared.Message.{Message}
-use Rattle.curp_model.specs.World.{all_of, kept}
-use Rattle.curp_model.proofs.Laws.{all_of-push}
+use Rattle.curp_msg.specs.declared.message.Message.{Message}
+use Rattle.curp_plain.specs.World.{all_of, kept}
+use Rattle.curp_plain.proofs.Laws.{all_of-push}
 
 pub numbered_same : {A : Type 0} (xs : List A) (n : ℕ) (x y : A) → numbered xs n ≡ Some x → numbered xs n ≡ Some y → x ≡ y
 numbered_same xs n x y h g = cc

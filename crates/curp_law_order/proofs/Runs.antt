@@ -1,30 +1,32 @@
 -- Each step keeps the facts, so they hold after every run.
-use Rattle.std.proofs.Common.{◌≡◌, ℕ, ◌-◌, List, [], ◌∷◌, ◌++◌, set, replicate, Option, Some, None, refl, ap, sym, ◌∙◌, subst, arith, append-nil}
-use Rattle.std.proofs.lemmas.Bool.{cond_both}
+use Rattle.std.proofs.Common.{◌≡◌, ℕ, ◌-◌, List, [], ◌∷◌, ◌++◌, set, replicate, Option, Some, None, refl, ap, sym, ◌∙◌, ◌&&◌, subst, arith, append-nil, ltb}
+use Rattle.std.proofs.lemmas.Bool.{cond_both, and_parts}
 use Rattle.curp_base.specs.Words.{At, IsPrefix, numbered}
 use Rattle.curp_base.proofs.Lists.{prefix_self, Each-at}
 use Rattle.curp_cmd.specs.declared.command.Command.{Command}
-use Rattle.curp_cmd.specs.declared.command.Answer.{Answer}
-use Rattle.curp_cmd.specs.declared.command.RequestId.{RequestId}
 use Rattle.curp_cmd.specs.declared.node.NodeId.{NodeId}
 use Rattle.curp_cmd.specs.declared.node.NodeKind.{NodeKind}
 use Rattle.curp_cmd.specs.declared.node.NodeKind.TheVariants.{Client, Master, Backup}
-use Rattle.curp_msg.specs.declared.Message.{Message}
-use Rattle.curp_msg.specs.declared.Completed.{Completed}
-use Rattle.curp_msg.specs.declared.Body.{Body}
-use Rattle.curp_msg.specs.declared.Body.TheVariants.{Sync, Reply, Append, Stored}
+use Rattle.curp_msg.specs.declared.answer.AppendAnswer.{AppendAnswer}
+use Rattle.curp_msg.specs.declared.answer.AppendAnswer.TheVariants.{Stored}
+use Rattle.curp_msg.specs.declared.message.Message.{Message}
+use Rattle.curp_msg.specs.declared.machine.Completed.{Completed}
+use Rattle.curp_msg.specs.declared.body.Body.{Body}
+use Rattle.curp_msg.specs.declared.body.Body.TheVariants.{Sync, Reply, Append, Appended}
+use Rattle.curp_msg.specs.declared.body.Reply.{Reply as AReply}
 use Rattle.curp_order.specs.declared.Event.{Event}
 use Rattle.curp_script.specs.declared.script.Step.{Step}
 use Rattle.curp_script.specs.declared.script.Step.TheVariants.{Invoke, Deliver}
-use Rattle.curp_model.specs.Moved.{Moved, quiet}
-use Rattle.curp_model.specs.Client.{ClientState, fresh_client, is_pending, on_invoke, on_reply, on_client}
-use Rattle.curp_model.specs.Master.{MasterState, no_mark, on_master}
-use Rattle.curp_model.specs.Backup.{BackupState, fresh_backup, on_backup}
-use Rattle.curp_model.specs.World.{World, all_of, kept, messages, completion, made, with_client, invokes, to_client, to_master, to_backup, arrives, delivers, step, run, opening}
+use Rattle.curp_msg.specs.declared.outcome.StepResult.TheVariants.{Full}
+use Rattle.curp_plain.specs.Moved.{Moved, quiet}
+use Rattle.curp_plain.specs.Client.{ClientState, fresh_client, is_pending, on_invoke, on_reply, on_client}
+use Rattle.curp_plain.specs.Master.{MasterState, no_mark, entries_of, on_master}
+use Rattle.curp_plain.specs.Backup.{BackupState, fresh_backup, on_backup}
+use Rattle.curp_plain.specs.World.{World, Stepped, all_of, kept, messages, weight, weight_limit, refused, unless_full, completion, made, with_client, invokes, to_client, to_master, to_backup, arrives, delivers, step, run, opening}
 use Rattle.curp_law_order.proofs.Numbered.{place, numbered_set_itself, numbered_replicate, numbered_replicated, all_of-kept}
-use Rattle.curp_law_order.proofs.Facts.{Asked, StoredOk, BodyOk, MessageOk, BackupsOk, Facts, Inv}
+use Rattle.curp_law_order.proofs.Facts.{Asked, StoredOk, AppendedOk, BodyOk, MessageOk, BackupsOk, Facts, Inv}
 use Rattle.curp_law_order.proofs.BackupEffects.{Carried, backup_effect}
-use Rattle.curp_law_order.proofs.MasterEffects.{Heard, master_effect}
+use Rattle.curp_law_order.proofs.MasterEffects.{AnswerHeard, Heard, master_effect}
 use Rattle.curp_law_order.proofs.MasterMoves.{master_keeps}
 use Rattle.curp_law_order.proofs.BackupMoves.{backup_keeps}
 use Rattle.curp_law_order.proofs.ClientMoves.{invoke_keeps, reply_keeps}
@@ -43,10 +45,13 @@ no_event : (h : List Event) (c : Option Completed) → c ≡ None → (h ++ []) 
 no_event h c none = ap (λ (x : Option Completed). (h ++ []) ++ completion x) none ∙ append-nil (h ++ []) ∙ append-nil h
 
 module _ (w : World) (inv : Inv w) where
+  unless_full_keeps : (s : Stepped) → Inv s.world → Inv (unless_full w s).world
+  unless_full_keeps s kept = cond_both (ltb weight_limit (weight w)) (refused w (Full (weight w))) s (λ (x : Stepped). Inv x.world) (λ full. inv) (λ light. kept)
+
   invoked_keeps : (n : ℕ) (command : Command) (o : Option ClientState) → numbered w.clients n ≡ o → Inv (invokes w n command o).world
   unfolding on_invoke
   invoked_keeps n command None is = inv
-  invoked_keeps n command (Some c) is = packed _ w.master w.backups w.sent _ _ _ (append-nil _) (invoke_keeps w.clients w.master w.backups (messages w) w.history inv n c is command)
+  invoked_keeps n command (Some c) is = unless_full_keeps _ (packed _ w.master w.backups w.sent _ _ _ (append-nil _) (invoke_keeps w.clients w.master w.backups (messages w) w.history inv n c is command))
 
   -- a client that does nothing
   client_rests : (n : ℕ) (c : ClientState) → numbered w.clients n ≡ Some c → Inv (made w (with_client w n) [] (quiet c)).world
@@ -54,45 +59,49 @@ module _ (w : World) (inv : Inv w) where
       (subst (λ (cs : List ClientState). Facts cs w.master w.backups (messages w ++ []) w.history) (sym (numbered_set_itself w.clients n c is))
       (nothing_sent w.clients w.master w.backups (messages w) w.history inv))
 
-  reply_arrives : (n : ℕ) (c : ClientState) → numbered w.clients n ≡ Some c → (from to : NodeId) (id : RequestId) (epoch version : ℕ) (a : Answer) → to.number ≡ n
-      → BodyOk w.history w.master.log w.backups from to (Reply id epoch version a) → Inv (made w (with_client w n) [] (on_reply c id a)).world
+  reply_arrives : (n : ℕ) (c : ClientState) → numbered w.clients n ≡ Some c → (from to : NodeId) (r : AReply) → to.number ≡ n
+      → BodyOk w.history w.master.log w.backups from to (Reply r) → Inv (made w (with_client w n) [] (on_reply c r)).world
   unfolding on_reply
-  reply_arrives n c is from to id epoch version a place ok =
-      cond_both (is_pending c id.seq) _ _ (λ (r : Moved ClientState). Inv (made w (with_client w n) [] r).world)
-      (λ y. packed _ w.master w.backups w.sent [] _ _ (ap (λ (h : List Event). h ++ completion (Some (record { id = id; answer = a }))) (append-nil w.history))
+  reply_arrives n c is from to r place ok =
+      cond_both (r.synced && is_pending c r.id.seq) _ _ (λ (x : Moved ClientState). Inv (made w (with_client w n) [] x).world)
+      (λ y. packed _ w.master w.backups w.sent [] _ _ (ap (λ (h : List Event). h ++ completion (Some (record { id = r.id; answer = r.answer; by = None }))) (append-nil w.history))
       (nothing_sent _ w.master w.backups (messages w) _
-      (reply_keeps w.clients w.master w.backups (messages w) w.history inv n c is id (sym (ap (λ (x : NodeId). x.number) ok.addressed) ∙ place) a y ok.durable)))
+      (reply_keeps w.clients w.master w.backups (messages w) w.history inv n c is r.id (sym (ap (λ (x : NodeId). x.number) ok.addressed) ∙ place) r.answer (and_parts r.synced (is_pending c r.id.seq) y).1 ok.durable)))
       (λ no. client_rests n c is)
 
   client_moves : (n : ℕ) (c : ClientState) → numbered w.clients n ≡ Some c → (from to : NodeId) (body : Body) → to.number ≡ n → BodyOk w.history w.master.log w.backups from to body
       → Inv (made w (with_client w n) [] (on_client c body)).world
   unfolding on_client
-  client_moves n c is from to (Reply id epoch version a) place ok = reply_arrives n c is from to id epoch version a place ok
+  client_moves n c is from to (Reply r) place ok = reply_arrives n c is from to r place ok
   client_moves n c is from to _ place ok = client_rests n c is
 
   client_keeps : (n : ℕ) (from to : NodeId) (body : Body) → to.number ≡ n → BodyOk w.history w.master.log w.backups from to body → (o : Option ClientState) → numbered w.clients n ≡ o → Inv (to_client w n body o).world
   client_keeps n from to body place ok None is = inv
-  client_keeps n from to body place ok (Some c) is = client_moves n c is from to body place ok
+  client_keeps n from to body place ok (Some c) is = unless_full_keeps _ (client_moves n c is from to body place ok)
+
+  answer_heard : (n : ℕ) (answer : AppendAnswer) → AppendedOk w.backups n answer → AnswerHeard (Asked w.history) (StoredOk w.backups) n answer
+  answer_heard n (Stored long) ok = ok
+  answer_heard n _ ok = tt
 
   heard : (from to : NodeId) (body : Body) → BodyOk w.history w.master.log w.backups from to body → Heard (Asked w.history) (StoredOk w.backups) from body
-  heard from to (Sync r epoch version) ok = ok
-  heard from to (Stored epoch long round) ok = ok
+  heard from to (Sync ask) ok = ok
+  heard from to (Appended a) ok = answer_heard from.number a.answer ok
   heard from to _ ok = tt
 
   to_master_keeps : (from to : NodeId) (body : Body) → BodyOk w.history w.master.log w.backups from to body → Inv (to_master w from body).world
   to_master_keeps from to body ok =
       let e = master_effect (Asked w.history) (StoredOk w.backups) w.master from body (heard from to body ok) in
-      packed w.clients _ w.backups w.sent _ w.history _ (no_event w.history _ e.quiet) (master_keeps w.clients w.master w.backups (messages w) w.history inv (on_master w.master from body) e)
+      unless_full_keeps _ (packed w.clients _ w.backups w.sent _ w.history _ (no_event w.history _ e.quiet) (master_keeps w.clients w.master w.backups (messages w) w.history inv (on_master w.master from body) e))
 
-  carried : (from to : NodeId) (body : Body) → BodyOk w.history w.master.log w.backups from to body → Carried w.master.log body
-  carried from to (Append epoch base round entries) ok = ok
+  carried : (from to : NodeId) (body : Body) → BodyOk w.history w.master.log w.backups from to body → Carried (entries_of w.master.log) body
+  carried from to (Append a) ok = ok
   carried from to _ ok = tt
 
   to_backup_keeps : (n : ℕ) (from to : NodeId) (body : Body) → BodyOk w.history w.master.log w.backups from to body → (o : Option BackupState) → numbered w.backups n ≡ o → Inv (to_backup w n body o).world
   to_backup_keeps n from to body ok None is = inv
   to_backup_keeps n from to body ok (Some b) is =
-      let e = backup_effect w.master.log n b body (inv.backups n b is).front (carried from to body ok) in
-      packed w.clients w.master _ w.sent _ w.history _ (no_event w.history _ e.quiet) (backup_keeps w.clients w.master w.backups (messages w) w.history inv n b is (on_backup n b body) e)
+      let e = backup_effect (entries_of w.master.log) n b body (inv.backups n b is).front (carried from to body ok) in
+      unless_full_keeps _ (packed w.clients w.master _ w.sent _ w.history _ (no_event w.history _ e.quiet) (backup_keeps w.clients w.master w.backups (messages w) w.history inv n b is (on_backup n b body) e))
 
   arrives_keeps : (kind : NodeKind) (n : ℕ) (from to : NodeId) (body : Body) → to.number ≡ n → BodyOk w.history w.master.log w.backups from to body → Inv (arrives w kind n from body).world
   arrives_keeps Client n from to body place ok = client_keeps n from to body place ok (numbered w.clients n) refl
@@ -112,6 +121,7 @@ module _ (w : World) (inv : Inv w) where
   unfolding step
   step_keeps (Invoke n command) = invoked_keeps n command (numbered w.clients n) refl
   step_keeps (Deliver number) = delivers_keeps number (numbered (messages w) number) refl
+  step_keeps _ = inv
 
 pub run_keeps : (steps : List Step) (w : World) → Inv w → Inv (run w steps)
 run_keeps [] w inv = inv

@@ -2,13 +2,13 @@
 //! with nothing in it, and a caller has the law by the call.
 #![tactic(auto)]
 
-ghost use Rattle.std.specs.Prelude.{◌≡◌, ◌≢◌, ℕ, List};
+ghost use Rattle.std.specs.Prelude.{◌≡◌, ◌≢◌, ◌<◌, ℕ, List};
 ghost use Rattle.curp_base.specs.Words.{numbered};
 ghost use Rattle.curp_cmd.specs.declared.node.NodeKind.TheVariants.{Client, Master, Backup};
 ghost use Rattle.curp_order.specs.Order.{IsHistory, IsOrder};
 ghost use Rattle.curp_script.specs.declared.script.Step.{Step};
-ghost use Rattle.curp_model.specs.declared.StepResult.TheVariants.{Done};
-ghost use Rattle.curp_model.specs.World.{World, step, run, opening, order};
+ghost use Rattle.curp_msg.specs.declared.outcome.StepResult.TheVariants.{Done, NoMessage, NoNode, Full};
+ghost use Rattle.curp_plain.specs.World.{World, weight, weight_limit, step, run, opening, order};
 ghost use Rattle.curp_law_order.specs.Laws.{IsSpared, BackupsFollow, CompletedIsStored, RepliesAreStored};
 
 /// After any steps, whatever was lost, repeated or overtaken on the way, the order is one of the history: the store is
@@ -28,6 +28,13 @@ pub fn only_the_named_node_moves()
     ensures master { (w : World) (s : Step) → ((n : ℕ) → IsSpared w s Master n) → (step w s).world.master ≡ w.master }
     ensures backups { (w : World) (s : Step) (n : ℕ) → IsSpared w s Backup n → numbered (step w s).world.backups n ≡ numbered w.backups n }
     ensures refused { (w : World) (s : Step) → (step w s).outcome.result ≢ Done → (step w s).world ≡ w }
+{}
+
+/// A world whose messages weigh more than the limit stands still: no step changes it, and one that isn't refused for
+/// another cause is refused with that weight.
+pub fn full_changes_nothing()
+    ensures world { (w : World) (s : Step) → weight_limit < weight w → (step w s).world ≡ w }
+    ensures result { (w : World) (s : Step) → weight_limit < weight w → (step w s).outcome.result ≢ NoMessage → (step w s).outcome.result ≢ NoNode → (step w s).outcome.result ≡ Full (weight w) }
 {}
 
 /// After any steps, no backup has anything that the master hasn't, nor at another place.

@@ -1,4 +1,4 @@
-use Rattle.curp_model.specs.World.{run, opening}
+use Rattle.curp_plain.specs.World.{run, opening}
 use Rattle.curp_law_order.proofs.Runs.{always}
 use Rattle.curp_law_order.proofs.Laws.{replies_are_stored}
 use Rattle.curp_law_order.proofs.replies_are_stored.Goals as goal

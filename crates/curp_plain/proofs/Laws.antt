@@ -4,8 +4,8 @@ use Rattle.std.proofs.lemmas.List.{length-map}
 use Rattle.curp_cmd.specs.declared.command.Request.{Request}
 use Rattle.curp_cmd.specs.Store.{nothing}
 use Rattle.curp_order.proofs.Laws.{length-answers}
-use Rattle.curp_model.specs.Master.{requests_of, answers_of}
-use Rattle.curp_model.specs.World.{all_of}
+use Rattle.curp_plain.specs.Master.{requests_of, answers_of}
+use Rattle.curp_plain.specs.World.{all_of}
 
 -- one more list comes behind all
 pub all_of-push : {A : Type 0} (lists : List (List A)) (xs : List A) → all_of (lists ++ xs ∷ []) ≡ all_of lists ++ xs

@@ -3,35 +3,11 @@
 #![tactic(auto)]
 
 use curp_cmd::Answer;
-use curp_msg::Completed;
 
 /// There is one epoch, and one version of the list of backups.
 pub const FIRST_EPOCH: u32 = 1;
 
 pub const FIRST_VERSION: u32 = 1;
-
-/// How a step went.
-#[derive(Clone, Copy, Debug, PartialEq, Eq)]
-pub enum StepResult {
-    /// It was made.
-    Done,
-    /// No message of that number was sent.
-    NoMessage,
-    /// There is no node of that name.
-    NoNode,
-}
-
-/// What a step did.
-#[derive(Clone, Copy, Debug, PartialEq, Eq)]
-pub struct Outcome {
-    pub result: StepResult,
-    /// The number of the step's first message, were it to send one. Messages are numbered from 1 through the whole run.
-    pub first: u64,
-    /// How many messages it sent.
-    pub sent: u64,
-    /// The request that it completed.
-    pub completed: Option<Completed>,
-}
 
 /// What a master knows of a backup.
 #[derive(Clone, Copy, Debug, PartialEq, Eq)]

@@ -1,22 +1,26 @@
 -- The master: it keeps the log, gives it to the backups, and answers what all of them have stored.
-use Rattle.std.specs.Prelude.{ℕ, ◌+◌, ◌-◌, ◌==◌, ◌&&◌, Bool, min, max, nat_lt, if◌then◌else◌, List, [], ◌∷◌, ◌++◌, map, take, drop, replicate, Option, Some, None, slice_set}
+use Rattle.std.specs.Prelude.{ℕ, ◌+◌, ◌-◌, ◌==◌, ◌&&◌, Bool, true, min, max, nat_lt, if◌then◌else◌, List, [], ◌∷◌, ◌++◌, map, take, drop, replicate, Option, Some, None, slice_set}
 use Rattle.curp_base.specs.Words.{numbered}
 use Rattle.curp_cmd.specs.declared.command.Command.{Command}
 use Rattle.curp_cmd.specs.declared.command.Answer.{Answer}
 use Rattle.curp_cmd.specs.declared.command.Request.{Request}
 use Rattle.curp_cmd.specs.declared.command.RequestId.{RequestId}
+use Rattle.curp_cmd.specs.declared.entry.Entry.{Entry}
+use Rattle.curp_cmd.specs.declared.entry.Entry.TheVariants.{Op}
 use Rattle.curp_cmd.specs.declared.node.NodeId.{NodeId}
 use Rattle.curp_cmd.specs.declared.node.NodeKind.{NodeKind}
 use Rattle.curp_cmd.specs.declared.node.NodeKind.TheVariants.{Backup}
-use Rattle.curp_msg.specs.declared.Message.{Message}
-use Rattle.curp_msg.specs.declared.Body.{Body}
-use Rattle.curp_msg.specs.declared.Body.TheVariants.{Sync, Reply, Refuse, Append, Stored}
-use Rattle.curp_msg.specs.declared.Refusal.TheVariants.{InProgress}
+use Rattle.curp_msg.specs.declared.message.Message.{Message}
+use Rattle.curp_msg.specs.declared.answer.AppendAnswer.{AppendAnswer}
+use Rattle.curp_msg.specs.declared.answer.AppendAnswer.TheVariants.{Stored}
+use Rattle.curp_msg.specs.declared.answer.Refusal.TheVariants.{InProgress}
+use Rattle.curp_msg.specs.declared.body.Body.{Body}
+use Rattle.curp_msg.specs.declared.body.Body.TheVariants.{Sync, Reply, Refuse, Append, Appended}
 use Rattle.curp_order.specs.Order.{answers}
-pub use Rattle.curp_model.specs.declared.Mark.{Mark}
-pub use Rattle.curp_model.specs.declared.Check.{Check}
-pub use Rattle.curp_model.specs.declared.Check.TheVariants.{Known, New}
-use Rattle.curp_model.specs.Moved.{Moved, quiet, sends, client_node, master_node, backup_node, first_epoch, first_version}
+pub use Rattle.curp_plain.specs.declared.Mark.{Mark}
+pub use Rattle.curp_plain.specs.declared.Check.{Check}
+pub use Rattle.curp_plain.specs.declared.Check.TheVariants.{Known, New}
+use Rattle.curp_plain.specs.Moved.{Moved, quiet, sends, client_node, master_node, backup_node, first_epoch, first_version}
 
 -- nothing is acknowledged yet
 abbrev pub no_mark : Mark
@@ -36,6 +40,14 @@ fresh_master backups = record { log = []; marks = replicate backups no_mark; rou
 -- the requests of a log, in order
 abbrev pub requests_of : List Request → List (RequestId × Command)
 requests_of log = map (λ r. (r.id, r.command)) log
+
+-- a request as an entry: its client has the answers of its requests below `first`
+abbrev pub entry_of : Request → Entry
+entry_of r = Op r r.first
+
+-- the log as backups keep it
+abbrev pub entries_of : List Request → List Entry
+entries_of log = map entry_of log
 
 -- what one thread answers to the entries of a log
 abbrev pub answers_of : List Request → List Answer
@@ -71,7 +83,7 @@ check log id = found 0 log (answers_of log) id
 
 -- a backup gets the entries from its acknowledged length on
 abbrev pub append_to : MasterState → ℕ → Mark → Message
-append_to m n a = record { from = master_node; to = backup_node n; body = Append first_epoch a.length m.round (drop a.length m.log) }
+append_to m n a = record { from = master_node; to = backup_node n; body = Append (record { epoch = first_epoch; base = a.length; round = m.round; entries = entries_of (drop a.length m.log) }) }
 
 -- to each backup, numbered from n on
 abbrev pub appends_from : MasterState → ℕ → List Mark → List Message
@@ -85,10 +97,10 @@ begins_round m = let n = record m { round = m.round + 1 } in sends n (appends_fr
 -- ---- requests
 
 abbrev pub reply_to : RequestId → Answer → Message
-reply_to id answer = record { from = master_node; to = client_node id.client; body = Reply id first_epoch first_version answer }
+reply_to id answer = record { from = master_node; to = client_node id.client; body = Reply (record { id = id; synced = true; epoch = first_epoch; version = first_version; answer = answer }) }
 
 abbrev pub refuse : RequestId → Message
-refuse id = record { from = master_node; to = client_node id.client; body = Refuse id InProgress }
+refuse id = record { from = master_node; to = client_node id.client; body = Refuse (record { id = id; refusal = InProgress }) }
 
 -- a request that is known gets its answer again if it is synced, and is refused while it isn't; one that is new is
 -- pushed and waits for the round that begins
@@ -125,8 +137,13 @@ abbrev pub from_backup : MasterState → NodeKind → ℕ → (length round : �
 from_backup m Backup n length round = on_stored m n length round (numbered m.marks n)
 from_backup m _ n length round = quiet m
 
+-- a backup answers an append of a round
+abbrev pub on_appended : MasterState → NodeId → (round : ℕ) → AppendAnswer → Moved MasterState
+on_appended m from round (Stored length) = from_backup m from.kind from.number length round
+on_appended m from round _ = quiet m
+
 -- a message comes to the master
 unfoldable pub on_master : MasterState → NodeId → Body → Moved MasterState
-on_master m from (Sync r epoch version) = decided m r (check m.log r.id)
-on_master m from (Stored epoch length round) = from_backup m from.kind from.number length round
+on_master m from (Sync ask) = decided m ask.request (check m.log ask.request.id)
+on_master m from (Appended a) = on_appended m from a.round a.answer
 on_master m from _ = quiet m

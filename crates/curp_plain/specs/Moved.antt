@@ -2,8 +2,8 @@
 use Rattle.std.specs.Prelude.{ℕ, List, [], Option, None}
 use Rattle.curp_cmd.specs.declared.node.NodeId.{NodeId}
 use Rattle.curp_cmd.specs.declared.node.NodeKind.TheVariants.{Client, Master, Backup}
-use Rattle.curp_msg.specs.declared.Message.{Message}
-use Rattle.curp_msg.specs.declared.Completed.{Completed}
+use Rattle.curp_msg.specs.declared.message.Message.{Message}
+use Rattle.curp_msg.specs.declared.machine.Completed.{Completed}
 
 abbrev pub client_node : ℕ → NodeId
 client_node n = record { kind = Client; number = n }

@@ -1,14 +1,14 @@
 -- The client: it numbers its requests, and counts those that are pending (after RIFL).
-use Rattle.std.specs.Prelude.{ℕ, Bool, ◌+◌, ◌==◌, min, not, if◌then◌else◌, List, [], ◌∷◌, ◌++◌, Some, fold}
+use Rattle.std.specs.Prelude.{ℕ, Bool, ◌+◌, ◌==◌, ◌&&◌, min, not, if◌then◌else◌, List, [], ◌∷◌, ◌++◌, Some, None, fold}
 use Rattle.std.specs.List.{list_any, filter}
 use Rattle.curp_cmd.specs.declared.command.Command.{Command}
-use Rattle.curp_cmd.specs.declared.command.Answer.{Answer}
 use Rattle.curp_cmd.specs.declared.command.Request.{Request}
 use Rattle.curp_cmd.specs.declared.command.RequestId.{RequestId}
-use Rattle.curp_msg.specs.declared.Message.{Message}
-use Rattle.curp_msg.specs.declared.Body.{Body}
-use Rattle.curp_msg.specs.declared.Body.TheVariants.{Sync, Reply}
-use Rattle.curp_model.specs.Moved.{Moved, quiet, sends, client_node, master_node, first_epoch, first_version}
+use Rattle.curp_msg.specs.declared.message.Message.{Message}
+use Rattle.curp_msg.specs.declared.body.Body.{Body}
+use Rattle.curp_msg.specs.declared.body.Body.TheVariants.{Sync, Reply}
+use Rattle.curp_msg.specs.declared.body.Reply.{Reply as AReply}
+use Rattle.curp_plain.specs.Moved.{Moved, quiet, sends, client_node, master_node, first_epoch, first_version}
 
 -- the number of the last request, 0 where there is none, and the numbers of those that are pending
 pub record ClientState : Type 0 where
@@ -32,7 +32,7 @@ next_request n c command = record {
 
 -- the master is asked to answer once all backups have stored the request
 abbrev pub sync_of : Request → Message
-sync_of r = record { from = client_node r.id.client; to = master_node; body = Sync r first_epoch first_version }
+sync_of r = record { from = client_node r.id.client; to = master_node; body = Sync (record { request = r; epoch = first_epoch; version = first_version }) }
 
 -- client n invokes a command
 unfoldable pub on_invoke : ℕ → ClientState → Command → Moved ClientState
@@ -43,18 +43,18 @@ on_invoke n c command = sends
 abbrev pub is_pending : ClientState → ℕ → Bool
 is_pending c seq = list_any (λ s. s == seq) c.pending
 
--- a pending request completes with the first answer that comes for it
-unfoldable pub on_reply : ClientState → RequestId → Answer → Moved ClientState
-on_reply c id answer =
-    if is_pending c id.seq
+-- a pending request completes with the first synced answer that comes for it
+unfoldable pub on_reply : ClientState → AReply → Moved ClientState
+on_reply c r =
+    if r.synced && is_pending c r.id.seq
     then record {
-      state = record { last = c.last; pending = filter (λ s. not (s == id.seq)) c.pending };
+      state = record { last = c.last; pending = filter (λ s. not (s == r.id.seq)) c.pending };
       messages = [];
-      completed = Some (record { id = id; answer = answer });
+      completed = Some (record { id = r.id; answer = r.answer; by = None });
     }
     else quiet c
 
 -- a message comes to a client
 unfoldable pub on_client : ClientState → Body → Moved ClientState
-on_client c (Reply id epoch version answer) = on_reply c id answer
+on_client c (Reply r) = on_reply c r
 on_client c _ = quiet c
