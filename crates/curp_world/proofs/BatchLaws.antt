@@ -1,15 +1,18 @@
 -- Batches of items that are numbered through: where a number stands, and one more batch.
-use Rattle.std.proofs.Common.{◌≡◌, ◌≢◌, ℕ, zero, suc, ◌+◌, ◌-◌, ◌<◌, ◌≤◌, ◌^◌, None, Result, Ok, Err, IfErr, MatchResult, List, [], ◌∷◌, ◌++◌, length, get_or, slice_get, refl, ap, sym, ◌∙◌, arith, append-nil, length-append}
+use Rattle.std.proofs.Common.{◌≡◌, ◌≢◌, ℕ, zero, suc, ◌+◌, ◌-◌, ◌<◌, ◌≤◌, ◌^◌, min, map, None, Result, Ok, Err, IfErr, MatchResult, List, [], ◌∷◌, ◌++◌, length, get_or, slice_get, refl, ap, sym, ◌∙◌, arith, append-nil, length-append}
+use Rattle.std.specs.List.{sum, sum_by}
 use Rattle.std.specs.List.Sorted.{IsBinarySearchResult}
+use Rattle.std.proofs.lemmas.List.Sums.{sum-map, sum_by-append}
 use Rattle.std.specs.Ordering.{nat_cmp}
 use Rattle.std.proofs.lemmas.List.Sorted.{searched}
 use Rattle.std.proofs.lemmas.Bool.Decides.{nat_tests}
 use Rattle.curp_base.specs.Words.{Each, numbered}
 use Rattle.curp_base.proofs.Lists.{Each-append}
-use Rattle.curp_msg.specs.declared.Message.{Message}
-use Rattle.curp_model.specs.World.{all_of, sent_at}
-use Rattle.curp_model.proofs.Laws.{all_of-push}
-use Rattle.curp_world.specs.Batches.{firsts_from, SentSome, IsNumbered, Rise, StandsAt, IsGapAt, IsBatchOf}
+use Rattle.curp_msg.specs.declared.message.Message.{Message}
+use Rattle.curp_msg.specs.Weight.{weight_of}
+use Rattle.curp_plain.specs.World.{all_of, sent_at}
+use Rattle.curp_plain.proofs.Laws.{all_of-push}
+use Rattle.curp_world.specs.Batches.{firsts_from, SentSome, IsKept, weight_of_all, Rise, StandsAt, IsGapAt, IsBatchOf}
 
 -- ---- the search
 
@@ -47,16 +50,34 @@ firsts_from-push n (ys ∷ rest) xs =
     let e : n + length ys + length (all_of rest) ≡ n + length (ys ++ all_of rest) = omega (arith, length-append ys (all_of rest)) in
     ap (λ firsts. n ∷ firsts) (firsts_from-push (n + length ys) rest xs ∙ ap (λ k. firsts_from (n + length ys) rest ++ k ∷ []) e)
 
+-- ---- the weight
+
+sum_map-append : (xs ys : List Message) → sum (map weight_of (xs ++ ys)) ≡ sum (map weight_of xs) + sum (map weight_of ys)
+sum_map-append xs ys = sum-map weight_of (xs ++ ys) ∙ sum_by-append weight_of xs ys ∙ sym (ap (λ n. n + sum (map weight_of ys)) (sum-map weight_of xs) ∙ ap (λ n. sum_by weight_of xs + n) (sum-map weight_of ys))
+
+-- two sums that stand still, added, and their sum
+sums_stand : (a b n : ℕ) → min (min a n + min b n) n ≡ min (a + b) n
+sums_stand a b n = omega arith
+
+-- one more batch adds its weight
+weight_push : (lists : List (List Message)) (xs : List Message) → min (weight_of_all (all_of lists) + weight_of_all xs) (2 ^ 64 - 1) ≡ weight_of_all (all_of (lists ++ xs ∷ []))
+weight_push lists xs =
+    sums_stand (sum (map weight_of (all_of lists))) (sum (map weight_of xs)) (2 ^ 64 - 1)
+    ∙ ap (λ n. min n (2 ^ 64 - 1)) (sym (ap (λ l. sum (map weight_of l)) (all_of-push lists xs) ∙ sum_map-append (all_of lists) xs))
+
+-- ---- one more batch
+
 -- one more batch has the numbers from the next one on
-pub numbered_push : (firsts : List ℕ) (lists : List (List Message)) (next : ℕ) (xs : List Message) (count : ℕ) → count ≡ length xs → 1 ≤ count → next + count < 2 ^ 64 → IsNumbered firsts lists next
-    → IsNumbered (firsts ++ next ∷ []) (lists ++ xs ∷ []) (next + count)
-numbered_push firsts lists next xs count counted some fits is = record {
+pub kept_push : (firsts : List ℕ) (lists : List (List Message)) (next weight : ℕ) (xs : List Message) (count added : ℕ) → count ≡ length xs → added ≡ weight_of_all xs → 1 ≤ count → next + count < 2 ^ 64
+    → IsKept firsts lists next weight → IsKept (firsts ++ next ∷ []) (lists ++ xs ∷ []) (next + count) (min (weight + added) (2 ^ 64 - 1))
+kept_push firsts lists next weight xs count added counted weighed some fits is = record {
   firsts_are =
       let e : next ≡ 1 + length (all_of lists) = omega (arith, is.next_is) in
       rw (firsts_from-push 1 lists xs, is.firsts_are, e) refl;
   none_empty = Each-append SentSome lists (xs ∷ []) is.none_empty (omega arith, tt);
   next_is = omega (arith, is.next_is, ap length (all_of-push lists xs), length-append (all_of lists) xs);
   fits = fits;
+  weight_is = rw (is.weight_is, weighed) (weight_push lists xs);
 }
 
 -- ---- the item of a number

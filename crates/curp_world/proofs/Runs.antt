@@ -1,7 +1,7 @@
 -- Runs of one step more.
 use Rattle.std.proofs.Common.{◌≡◌, List, [], ◌∷◌, ◌++◌, Result, Ok, Err, OnOk, OnErr, refl, ap, sym, ◌∙◌, subst}
 use Rattle.curp_script.specs.declared.script.Step.{Step}
-use Rattle.curp_model.specs.World.{World, step, run, opening}
+use Rattle.curp_plain.specs.World.{World, step, run, opening}
 use Rattle.curp_world.specs.Reached.{Reached}
 
 pub run_more : (w : World) (ss : List Step) (s : Step) → run w (ss ++ s ∷ []) ≡ (step (run w ss) s).world

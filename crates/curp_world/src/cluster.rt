@@ -1,38 +1,36 @@
-ghost use Rattle.std.specs.Prelude.{◌≡◌, ◌≤◌, ◌++◌, ◌+◌, length, replicate, OnOk, OnErr, IfOk};
+ghost use Rattle.std.specs.Prelude.{◌≡◌, ◌≤◌, ◌++◌, ◌+◌, length, replicate, nat_lt, OnOk, OnErr, IfOk};
 ghost use Rattle.curp_base.specs.Words.{numbered};
 ghost use Rattle.curp_order.specs.Recorded.{invocation};
-ghost use Rattle.curp_model.specs.Client.{fresh_client};
-ghost use Rattle.curp_model.specs.Backup.{fresh_backup};
-ghost use Rattle.curp_model.specs.World as world;
+ghost use Rattle.curp_plain.specs.Client.{fresh_client};
+ghost use Rattle.curp_plain.specs.Backup.{fresh_backup};
+ghost use Rattle.curp_plain.specs.World as world;
 
-use crate::backup::Backup;
-use crate::client::Client;
-use crate::master::Master;
-use crate::output::Output;
-use crate::places::place_of;
 use crate::sent::Sent;
 use curp_base::NoMemory;
 use curp_cmd::{Command, NodeId, NodeKind, RequestId};
-use curp_model::{Outcome, StepResult};
-use curp_msg::{Body, Message};
+use curp_inv::{BackupNode, ClientNode, MasterNode, place_of};
+use curp_msg::{Body, Done, Message, Outcome, StepResult};
 use curp_order::History;
 use curp_script::Step;
 use std::alloc::Global;
 use std::marker::Model;
 
+/// Beyond this weight of all messages no node gets anything more.
+const WEIGHT_LIMIT: u64 = 2_000_000;
+
 /// All nodes, every message that was ever sent, and the history.
 #[derive(Drop)]
 pub(crate) struct Cluster {
     alloc: Global,
-    clients: Vec<Client>,
-    master: Master,
-    backups: Vec<Backup>,
+    clients: Vec<ClientNode>,
+    master: MasterNode,
+    backups: Vec<BackupNode>,
     sent: Sent,
     history: History,
 }
 
 impl Model for Cluster {
-    ghost use Rattle.curp_model.specs.World.{World};
+    ghost use Rattle.curp_plain.specs.World.{World};
 
     ghost Value = { World };
 
@@ -47,14 +45,14 @@ impl Cluster {
         Ok(Cluster {
             alloc,
             clients: fresh_clients(alloc, clients)?,
-            master: Master::new(alloc, backups)?,
+            master: MasterNode::new(alloc, backups)?,
             backups: fresh_backups(alloc, backups)?,
             sent: Sent::new(alloc),
             history: History::new(alloc),
         })
     }
 
-    pub(crate) fn master(&self) -> &Master
+    pub(crate) fn master(&self) -> &MasterNode
         ensures { result.now ≡ self.now.master }
     {
         &self.master
@@ -72,8 +70,41 @@ impl Cluster {
         &self.history
     }
 
-    #[tactic(auto, unfolding(curp_model::specs::World::step))]
+    #[tactic(auto, unfolding(curp_plain::specs::World::weight))]
+    pub(crate) fn weight(&self) -> u64
+        ensures { result ≡ world.weight self.now }
+    {
+        self.sent.weight()
+    }
+
+    fn is_full(&self) -> bool
+        ensures { result ≡ nat_lt world.weight_limit (world.weight self.now) }
+    {
+        self.weight() > WEIGHT_LIMIT
+    }
+
+    // A step that can't be made changes nothing.
+    fn refused(&self, cause: StepResult) -> Outcome
+        ensures { result ≡ (world.refused self.now cause).outcome }
+    {
+        Outcome {
+            result: cause,
+            first: self.sent.next(),
+            sent: 0,
+            completed: None,
+        }
+    }
+
+    // No node gets anything where all messages weigh too much.
+    fn full(&self) -> Outcome
+        ensures { result ≡ (world.refused self.now (StepResult.Full (world.weight self.now))).outcome }
+    {
+        let weight = self.weight();
+        self.refused(StepResult::Full { weight })
+    }
+
     /// Makes a step.
+    #[tactic(auto, unfolding(curp_plain::specs::World::step))]
     pub(crate) fn step(&mut self, step: &Step) -> Result<Outcome, NoMemory>
         requires { world.CanStep self.old step.now }
         ensures state { OnOk result (self.new ≡ (world.step self.old step.now).world) }
@@ -83,6 +114,7 @@ impl Cluster {
         match step {
             Step::Invoke { client, command } => self.invoke(*client, command),
             Step::Deliver { message } => self.deliver(*message),
+            _ => Ok(self.refused(StepResult::NoNode)),
         }
     }
 
@@ -94,18 +126,21 @@ impl Cluster {
         ensures err { OnErr result (self.new ≡ self.old) }
     {
         let Some(index) = place_of(number as u64, self.clients.len()) else {
-            return Ok(refused(&self.sent, StepResult::NoNode));
+            return Ok(self.refused(StepResult::NoNode));
         };
+        if self.is_full() {
+            return Ok(self.full());
+        }
         self.sent.reserve()?;
         self.history.reserve(2)?;
         let client = &mut self.clients[index];
         let id = client.next_id(number);
-        let output = client.invoke(self.alloc, number, command)?;
+        let done = client.invoke(number, command)?;
         Ok(keep(
             &mut self.sent,
             &mut self.history,
             Some((id, *command)),
-            output,
+            done,
         ))
     }
 
@@ -116,7 +151,7 @@ impl Cluster {
         ensures err { OnErr result (self.new ≡ self.old) }
     {
         let message = match self.sent.get(number) {
-            None => return Ok(refused(&self.sent, StepResult::NoMessage)),
+            None => return Ok(self.refused(StepResult::NoMessage)),
             Some(message) => message.copy(self.alloc)?,
         };
         self.arrive(&message)
@@ -131,7 +166,7 @@ impl Cluster {
             NodeKind::Client => self.to_client(message.to.number, &message.body),
             NodeKind::Master => self.to_master(message.from, &message.body),
             NodeKind::Backup => self.to_backup(message.to.number, &message.body),
-            NodeKind::Manager | NodeKind::Witness => Ok(refused(&self.sent, StepResult::NoNode)),
+            NodeKind::Manager | NodeKind::Witness => Ok(self.refused(StepResult::NoNode)),
         }
     }
 
@@ -141,13 +176,15 @@ impl Cluster {
         ensures err { OnErr result (self.new ≡ self.old) }
     {
         let Some(index) = place_of(number as u64, self.clients.len()) else {
-            return Ok(refused(&self.sent, StepResult::NoNode));
+            return Ok(self.refused(StepResult::NoNode));
         };
+        if self.is_full() {
+            return Ok(self.full());
+        }
         self.sent.reserve()?;
         self.history.reserve(2)?;
-        let client = &mut self.clients[index];
-        let output = client.on(self.alloc, body);
-        Ok(keep(&mut self.sent, &mut self.history, None, output))
+        let done = self.clients[index].on(body);
+        Ok(keep(&mut self.sent, &mut self.history, None, done))
     }
 
     fn to_master(&mut self, from: NodeId, body: &Body) -> Result<Outcome, NoMemory>
@@ -155,10 +192,13 @@ impl Cluster {
         ensures outcome { IfOk result (λ outcome. outcome ≡ (world.to_master self.old from body.now).outcome) }
         ensures err { OnErr result (self.new ≡ self.old) }
     {
+        if self.is_full() {
+            return Ok(self.full());
+        }
         self.sent.reserve()?;
         self.history.reserve(2)?;
-        let output = self.master.on(self.alloc, from, body)?;
-        Ok(keep(&mut self.sent, &mut self.history, None, output))
+        let done = self.master.on(from, body)?;
+        Ok(keep(&mut self.sent, &mut self.history, None, done))
     }
 
     fn to_backup(&mut self, number: u32, body: &Body) -> Result<Outcome, NoMemory>
@@ -167,68 +207,58 @@ impl Cluster {
         ensures err { OnErr result (self.new ≡ self.old) }
     {
         let Some(index) = place_of(number as u64, self.backups.len()) else {
-            return Ok(refused(&self.sent, StepResult::NoNode));
+            return Ok(self.refused(StepResult::NoNode));
         };
+        if self.is_full() {
+            return Ok(self.full());
+        }
         self.sent.reserve()?;
         self.history.reserve(2)?;
-        let backup = &mut self.backups[index];
-        let output = backup.on(self.alloc, number, body)?;
-        Ok(keep(&mut self.sent, &mut self.history, None, output))
+        let done = self.backups[index].on(number, body)?;
+        Ok(keep(&mut self.sent, &mut self.history, None, done))
     }
 }
 
-fn fresh_clients(alloc: Global, count: u32) -> Result<Vec<Client>, NoMemory>
+fn fresh_clients(alloc: Global, count: u32) -> Result<Vec<ClientNode>, NoMemory>
     ensures { IfOk result (λ clients. clients.items ≡ replicate count fresh_client) }
 {
     let mut clients = Vec::with_capacity(alloc, count as usize)?;
     for made in 0..count {
-        clients.push(Client::new())?;
+        clients.push(ClientNode::new(alloc))?;
     }
     Ok(clients)
 }
 
-fn fresh_backups(alloc: Global, count: u32) -> Result<Vec<Backup>, NoMemory>
+fn fresh_backups(alloc: Global, count: u32) -> Result<Vec<BackupNode>, NoMemory>
     ensures { IfOk result (λ backups. backups.items ≡ replicate count fresh_backup) }
 {
     let mut backups = Vec::with_capacity(alloc, count as usize)?;
     for made in 0..count {
-        backups.push(Backup::new(alloc))?;
+        backups.push(BackupNode::new(alloc))?;
     }
     Ok(backups)
 }
 
-// A step that can't be made changes nothing.
-fn refused(sent: &Sent, cause: StepResult) -> Outcome
-    ensures { result ≡ record { result = cause; first = length (world.all_of sent.now.lists) + 1; sent = 0; completed = None } }
-{
-    Outcome {
-        result: cause,
-        first: sent.next(),
-        sent: 0,
-        completed: None,
-    }
-}
-
-// What an input made a node send and complete is kept, behind an invocation where it was one.
+// What a node did on an input is kept, behind an invocation where it was one.
 fn keep(
     sent: &mut Sent,
     history: &mut History,
     invoked: Option<(RequestId, Command)>,
-    output: Output,
+    done: Done,
 ) -> Outcome
     requires sent { 1 ≤ sent.old.spare }
     requires history { 2 ≤ history.old.spare }
-    ensures sent { sent.new.lists ≡ world.kept sent.old.lists output.messages.items }
-    ensures history { history.new.events ≡ (history.old.events ++ invocation invoked) ++ world.completion output.completed }
-    ensures outcome { result ≡ record { result = StepResult.Done; first = length (world.all_of sent.old.lists) + 1; sent = length output.messages.items; completed = output.completed } }
+    ensures sent { sent.new.lists ≡ world.kept sent.old.lists done.sent }
+    ensures history { history.new.events ≡ (history.old.events ++ invocation invoked) ++ world.completion done.completed }
+    ensures outcome { result ≡ record { result = StepResult.Done; first = length (world.all_of sent.old.lists) + 1; sent = length done.sent; completed = done.completed } }
 {
     let outcome = Outcome {
         result: StepResult::Done,
         first: sent.next(),
-        sent: output.messages.len() as u64,
-        completed: output.completed,
+        sent: done.sent.len() as u64,
+        completed: done.completed,
     };
-    sent.push(output.messages);
-    history.record(invoked, output.completed.map(|c| (c.id, c.answer)));
+    sent.push(done.sent);
+    history.record(invoked, done.completed.map(|c| (c.id, c.answer)));
     outcome
 }

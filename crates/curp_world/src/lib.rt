@@ -1,19 +1,12 @@
-//! The world: clients, the master and backups as code, and the steps of a script.
+//! The world as code: its nodes, every message that was ever sent, the history, and the steps of a script.
 #![tactic(auto)]
 
-mod backup;
-mod client;
 mod cluster;
-mod log;
-mod master;
-mod names;
-mod output;
-mod places;
 mod sent;
 #[cfg(test)]
 mod tests;
 mod world;
 
-pub use curp_model::{Outcome, StepResult};
-pub use curp_script::{Header, Step};
-pub use world::World;
+pub use curp_msg::{Outcome, StepResult};
+pub use curp_script::{FieldName, Header, Step};
+pub use world::{BeginError, World};

@@ -1,11 +1,11 @@
 ghost use Rattle.std.specs.Prelude.{◌≡◌, ◌+◌, ◌≤◌, ◌<◌, ◌^◌, [], length, OnOk, IfOk, IfErr, IfSome, IfNone};
 ghost use Rattle.std.specs.Option.{option_copied};
 ghost use Rattle.curp_base.specs.Words.{numbered};
-ghost use Rattle.curp_model.specs.World.{all_of, kept, sent_at};
-ghost use Rattle.curp_world.specs.Batches.{Rise, StandsAt, IsGapAt, IsBatchOf};
+ghost use Rattle.curp_plain.specs.World.{all_of, kept, sent_at};
+ghost use Rattle.curp_world.specs.Batches.{Rise, StandsAt, IsGapAt, IsBatchOf, weight_of_all};
 
 use curp_base::{Items, NoMemory};
-use curp_msg::Message;
+use curp_msg::{Message, weight};
 use std::alloc::{AllocError, Global};
 use std::marker::Model;
 
@@ -19,17 +19,19 @@ pub(crate) struct Sent {
     // The number of the first message of each batch.
     firsts: Vec<u64>,
     next: u64,
+    // What all messages weigh.
+    weight: u64,
 }
 
 impl Model for Sent {
     ghost use Rattle.std.specs.Prelude.{◌-◌, ◌^◌, nat_le, if◌then◌else◌, vec_len, vec_capacity, min};
-    ghost use Rattle.curp_world.specs.Batches.{Batched, IsNumbered};
+    ghost use Rattle.curp_world.specs.Batches.{Batched, IsKept};
 
     ghost Value = { Batched };
 
     ghost view = { λ s. record { lists = s.batches.items; spare = if nat_le s.next (2 ^ 63) then min (vec_capacity s.batches - vec_len s.batches) (vec_capacity s.firsts - vec_len s.firsts) else 0 } };
 
-    ghost invariant = { λ s. IsNumbered s.firsts.items s.batches.items s.next };
+    ghost invariant = { λ s. IsKept s.firsts.items s.batches.items s.next s.weight };
 }
 
 impl Sent {
@@ -40,6 +42,7 @@ impl Sent {
             batches: Vec::new(alloc),
             firsts: Vec::new(alloc),
             next: 1,
+            weight: 0,
         }
     }
 
@@ -57,17 +60,19 @@ impl Sent {
     }
 
     /// Keeps what a step sent. It takes no memory.
-    pub(crate) fn push(&mut self, messages: Vec<Message>)
+    pub(crate) fn push(&mut self, messages: Items<Message>)
         requires { 1 ≤ self.old.spare }
-        ensures { self.new.lists ≡ kept self.old.lists messages.items }
+        ensures { self.new.lists ≡ kept self.old.lists messages }
     {
-        if messages.is_empty() {
+        if messages.len() == 0 {
             return;
         }
         let first = self.next;
         self.next += messages.len() as u64;
+        let added = weight_of_all(messages.as_slice());
+        self.weight = self.weight.saturating_add(added);
         self.firsts.push_reserved(first);
-        self.batches.push_reserved(Items::new(messages));
+        self.batches.push_reserved(messages);
     }
 
     /// The number that the next message gets.
@@ -75,6 +80,13 @@ impl Sent {
         ensures { result ≡ length (all_of self.now.lists) + 1 }
     {
         self.next
+    }
+
+    /// The weight of all messages. It stands still at 2^64 - 1.
+    pub(crate) fn weight(&self) -> u64
+        ensures { result ≡ weight_of_all (all_of self.now.lists) }
+    {
+        self.weight
     }
 
     /// The message of that number.
@@ -96,6 +108,17 @@ impl Sent {
             Err(_) => &[],
         }
     }
+}
+
+// What messages weigh in all.
+fn weight_of_all(messages: &[Message]) -> u64
+    ensures { result ≡ weight_of_all messages.now }
+{
+    let mut total: u64 = 0;
+    for message in messages {
+        total = total.saturating_add(weight(message));
+    }
+    total
 }
 
 // The batch that has a number or, of a number past all, the last one.

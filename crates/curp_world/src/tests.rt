@@ -1,16 +1,18 @@
 use crate::World;
 use curp_base::NoMemory;
 use curp_cmd::{Answer, Command, Key, RequestId, Value};
-use curp_model::{Outcome, StepResult};
-use curp_msg::Completed;
+use curp_msg::{Completed, Outcome, StepResult};
 use curp_order::Event;
-use curp_script::{Header, Step};
+use curp_script::{Header, Protocol, Step};
 use std::alloc::Global;
 use std::test::Fail;
 
 const HEADER: Header = Header {
     clients: 1,
     f: 2,
+    fast: false,
+    parts: 1,
+    protocol: Protocol::One,
     sets: 1,
     ways: 1,
 };
@@ -18,7 +20,7 @@ const HEADER: Header = Header {
 const ID: RequestId = RequestId { client: 1, seq: 1 };
 
 // A world in which that client has invoked the command, and what that did.
-fn invoked(alloc: Global, client: u32, command: Command) -> Result<(World, Outcome), NoMemory> {
+fn invoked(alloc: Global, client: u32, command: Command) -> Result<(World, Outcome), Fail> {
     let mut world = World::begin(alloc, &HEADER)?;
     let outcome = world.step(&Step::Invoke { client, command })?;
     Ok((world, outcome))
@@ -41,6 +43,11 @@ fn made(first: u64, sent: u64, completed: Option<Completed>) -> Outcome {
 fn a_put_is_answered_once_both_backups_store_it(rt: HostRuntime) -> Result<(), Fail> {
     let command = Command::Put(Key::new(b"a")?, Value::new(b"1")?);
     let answer = Answer::Done;
+    let completed = Some(Completed {
+        id: ID,
+        answer,
+        by: None,
+    });
     let (mut world, first) = invoked(rt.alloc(), 1, command)?;
     assert_eq!(rt; first, made(1, 1, None));
     for (message, first, sent, completed) in [
@@ -51,7 +58,7 @@ fn a_put_is_answered_once_both_backups_store_it(rt: HostRuntime) -> Result<(), F
         (3, 6, 1, None),
         (6, 7, 1, None),
         (1, 8, 1, None),
-        (7, 9, 0, Some(Completed { id: ID, answer })),
+        (7, 9, 0, completed),
         (8, 9, 0, None),
     ] {
         let outcome = deliver(&mut world, message)?;
@@ -78,5 +85,19 @@ fn an_invocation_sends_one_message(rt: HostRuntime) -> Result<(), Fail> {
     assert_eq!(rt; deliver(&mut world, 2)?.result, StepResult::NoMessage);
     let (_, stranger) = invoked(rt.alloc(), 2, command)?;
     assert_eq!(rt; stranger.result, StepResult::NoNode);
+    Ok(())
+}
+
+// Each of the two appends weighs 4: 1, 1 for its entry, and 2 for the pairs in it. All others weigh 1.
+#[test]
+fn a_multi_put_of_two_pairs_weighs_three_in_an_append(rt: HostRuntime) -> Result<(), Fail> {
+    let one = Value::new(b"1")?;
+    let command = Command::multi(&[(Key::new(b"a")?, one), (Key::new(b"b")?, one)])?;
+    let (mut world, _) = invoked(rt.alloc(), 1, command)?;
+    assert_eq!(rt; world.weight(), 1, "the client's message");
+    for (message, weight) in [(1, 9), (1, 10), (2, 11), (3, 12), (5, 12), (6, 13)] {
+        deliver(&mut world, message)?;
+        assert_eq!(rt; world.weight(), weight, "after message {message}");
+    }
     Ok(())
 }

@@ -1,19 +1,29 @@
-ghost use Rattle.std.specs.Prelude.{◌≡◌, ◌+◌, ◌<◌, ◌^◌, [], length, OnOk, OnErr, IfOk};
+ghost use Rattle.std.specs.Prelude.{◌≡◌, ◌+◌, ◌<◌, ◌^◌, ◌↔◌, [], length, OnOk, OnErr, IfOk};
 ghost use Rattle.std.specs.Option.{option_copied};
 ghost use Rattle.curp_base.specs.Words.{numbered};
 ghost use Rattle.curp_order.specs.Order.{IsHistory, IsOrder};
-ghost use Rattle.curp_model.specs.Master.{requests_of};
-ghost use Rattle.curp_model.specs.World as world;
+ghost use Rattle.curp_script.specs.declared.error.FieldName.{FieldName};
+ghost use Rattle.curp_script.specs.Headers.{bad_field};
+ghost use Rattle.curp_plain.specs.Master.{requests_of};
+ghost use Rattle.curp_plain.specs.World as world;
 
 use crate::cluster::Cluster;
 use curp_base::NoMemory;
 use curp_cmd::{Answer, Command, Request, RequestId};
-use curp_model::Outcome;
-use curp_msg::Message;
+use curp_msg::{Message, Outcome};
 use curp_order::History;
-use curp_script::{Header, Step};
+use curp_script::{FieldName, Header, Step};
 use std::alloc::Global;
 use std::marker::Model;
+
+/// Why no world begins.
+#[derive(Clone, Copy, Debug, PartialEq, Eq)]
+pub enum BeginError {
+    /// The header's value of that name is out of its range or isn't built yet. It is the first such name, in byte order.
+    BadHeader { field: FieldName },
+    /// There was no memory for it.
+    NoMemory,
+}
 
 /// A run of a script: the nodes, every message that was ever sent, and the history. A message that no step delivers is
 /// lost; one may be delivered often, and in any order.
@@ -23,7 +33,7 @@ pub struct World {
 }
 
 impl Model for World {
-    ghost use Rattle.curp_model.specs.World as model;
+    ghost use Rattle.curp_plain.specs.World as model;
     ghost use Rattle.curp_world.specs.Reached.{Reached};
 
     ghost Value = { model.World };
@@ -35,12 +45,17 @@ impl Model for World {
 
 impl World {
     /// The world of a header before any step: its clients, the master and its backups, all fresh.
-    pub fn begin(alloc: Global, header: &Header) -> Result<World, NoMemory>
-        ensures { IfOk result (λ w. w ≡ world.world header.now []) }
+    pub fn begin(alloc: Global, header: &Header) -> Result<World, BeginError>
+        ensures ok { IfOk result (λ w. w ≡ world.world header.now []) }
+        ensures bad_header { (field : FieldName) → (result ≡ Err (BeginError.BadHeader field)) ↔ (bad_field header.now ≡ Some field) }
     {
-        Ok(World {
-            cluster: Cluster::new(alloc, header.clients, header.f)?,
-        })
+        if let Some(field) = header.bad_field() {
+            return Err(BeginError::BadHeader { field });
+        }
+        match Cluster::new(alloc, header.clients, header.f) {
+            Ok(cluster) => Ok(World { cluster }),
+            Err(_) => Err(BeginError::NoMemory),
+        }
     }
 
     /// Makes a step. Whoever invokes hasn't invoked before.
@@ -51,6 +66,14 @@ impl World {
         ensures err { OnErr result (self.new ≡ self.old) }
     {
         self.cluster.step(step)
+    }
+
+    /// What all messages weigh that were ever sent. A message weighs 1, and 1 more for each entry that it carries, each pair of
+    /// a multi-put in an entry, and each other thing that `curp_msg::weight` names. The sum stands still at 2^64 - 1.
+    pub fn weight(&self) -> u64
+        ensures { result ≡ world.weight self.now }
+    {
+        self.cluster.weight()
     }
 
     /// The message of that number, counted from 1.
@@ -83,23 +106,23 @@ impl World {
         ensures is_order { IsOrder self.now.history (world.order self.now) }
     {
         curp_law_order::order_stands();
-        let log = self.cluster.master().log();
-        with_answers(alloc, log.entries(), log.answers())
+        let master = self.cluster.master();
+        with_answers(alloc, master.requests(), master.answers())
     }
 }
 
 // Each request with its answer.
 fn with_answers(
     alloc: Global,
-    entries: &[Request],
+    requests: &[Request],
     answers: &[Answer],
 ) -> Result<Vec<(RequestId, Command, Answer)>, NoMemory>
-    requires { length entries.now ≡ length answers.now }
-    ensures { IfOk result (λ list. list.items ≡ world.with_answers (requests_of entries.now) answers.now) }
+    requires { length requests.now ≡ length answers.now }
+    ensures { IfOk result (λ list. list.items ≡ world.with_answers (requests_of requests.now) answers.now) }
 {
-    let mut list = Vec::with_capacity(alloc, entries.len())?;
-    for index in 0..entries.len() {
-        list.push((entries[index].id, entries[index].command, answers[index]))?;
+    let mut list = Vec::with_capacity(alloc, requests.len())?;
+    for index in 0..requests.len() {
+        list.push((requests[index].id, requests[index].command, answers[index]))?;
     }
     Ok(list)
 }

@@ -1,5 +1,5 @@
 use Rattle.std.proofs.Common.{◌≡◌, replicate}
-use Rattle.curp_model.specs.Backup.{fresh_backup}
+use Rattle.curp_plain.specs.Backup.{fresh_backup}
 use Rattle.curp_world.proofs.cluster.fresh_backups.Given as goal
 
 abbrev pub invariant-loop-made : goal.invariant-loop-made
