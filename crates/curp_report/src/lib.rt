@@ -3,19 +3,26 @@
 //!
 //! ```text
 //! s1 done
-//! m1 C1 M1 sync 1.1 f1 e1 v1 put 61 31
+//! m1 C1 M1 update 1.1 f1 e1 v1 put 61 31
+//! m2 C1 W1 record 1.1 f1 e1 put 61 31
 //! s2 refused no-message
 //! order 0
 //! ```
 #![tactic(auto)]
 
+mod backup;
 mod body;
+mod client;
 mod command;
+mod hash;
+mod manager;
+mod master;
 mod names;
 mod order;
 mod step;
 #[cfg(test)]
 mod tests;
+mod witness;
 
 pub use order::order_text;
 pub use step::step_text;

@@ -1,8 +1,8 @@
-ghost use Rattle.std.specs.Prelude.{Some};
-ghost use Rattle.curp_report.specs.Text.{id_text, node_text};
+ghost use Rattle.std.specs.Prelude.{Some, flat_map};
+ghost use Rattle.curp_report.specs.Text.{id_text, node_text, nodes_text, spaced_id, spaced_request};
 
 use crate::Shown;
-use curp_cmd::{NodeId, NodeKind, RequestId};
+use curp_cmd::{NodeId, NodeKind, Request, RequestId};
 use std::fmt;
 
 impl fmt::Display for Shown<RequestId> {
@@ -10,6 +10,28 @@ impl fmt::Display for Shown<RequestId> {
 
     fn fmt<W: fmt::Write>(&self, f: &mut fmt::Formatter<W>) -> fmt::Result {
         write!(f, "{}.{}", self.0.client, self.0.seq)
+    }
+}
+
+impl fmt::Display for Shown<&[RequestId]> {
+    ghost output = { λ shown. Some (flat_map spaced_id shown.0.now) };
+
+    fn fmt<W: fmt::Write>(&self, f: &mut fmt::Formatter<W>) -> fmt::Result {
+        for id in self.0 {
+            write!(f, " {}", Shown(*id))?;
+        }
+        Ok(())
+    }
+}
+
+impl fmt::Display for Shown<&[Request]> {
+    ghost output = { λ shown. Some (flat_map spaced_request shown.0.now) };
+
+    fn fmt<W: fmt::Write>(&self, f: &mut fmt::Formatter<W>) -> fmt::Result {
+        for request in self.0 {
+            write!(f, " {}", Shown(request.id))?;
+        }
+        Ok(())
     }
 }
 
@@ -25,5 +47,19 @@ impl fmt::Display for Shown<NodeId> {
             NodeKind::Backup => write!(f, "B{number}"),
             NodeKind::Witness => write!(f, "W{number}"),
         }
+    }
+}
+
+impl fmt::Display for Shown<&[NodeId]> {
+    ghost output = { λ shown. Some (nodes_text shown.0.now) };
+
+    fn fmt<W: fmt::Write>(&self, f: &mut fmt::Formatter<W>) -> fmt::Result {
+        if let Some((first, others)) = self.0.split_first() {
+            write!(f, "{}", Shown(*first))?;
+            for node in others {
+                write!(f, "+{}", Shown(*node))?;
+            }
+        }
+        Ok(())
     }
 }

@@ -3,8 +3,7 @@ ghost use Rattle.curp_report.specs.Text.{message_lines, result_text, step_text};
 
 use crate::Shown;
 use curp_base::NoMemory;
-use curp_model::{Outcome, StepResult};
-use curp_msg::Message;
+use curp_msg::{Message, Outcome, StepResult};
 use std::alloc::Global;
 use std::fmt;
 
@@ -16,6 +15,10 @@ impl fmt::Display for Shown<StepResult> {
             StepResult::Done => write!(f, "done"),
             StepResult::NoMessage => write!(f, "refused no-message"),
             StepResult::NoNode => write!(f, "refused no-node"),
+            StepResult::Gone => write!(f, "refused gone"),
+            StepResult::Manager => write!(f, "refused manager"),
+            StepResult::Full { weight } => write!(f, "refused full {weight}"),
+            StepResult::Refused { number } => write!(f, "refused call {number}"),
         }
     }
 }
