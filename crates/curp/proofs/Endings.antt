@@ -4,7 +4,7 @@ use Rattle.curp_order.specs.Order.{IsHistory, IsOrder}
 use Rattle.curp_script.specs.declared.script.Header.{Header}
 use Rattle.curp_script.specs.declared.script.Step.{Step}
 use Rattle.curp_script.specs.Script.{Steps, Script}
-use Rattle.curp_model.specs.World.{World, order, run, opening}
+use Rattle.curp_plain.specs.World.{World, order, run, opening}
 use Rattle.curp.specs.Play.{PrintsAnOrder}
 
 pub nothing_behind : (xs ys : List ℕ) → xs ++ ys ≡ [] → ys ≡ []

@@ -4,7 +4,7 @@ use Rattle.curp_base.specs.Words.{IsPrefix}
 use Rattle.curp_io.specs.Streams.{HoldsPart}
 use Rattle.curp_script.specs.declared.script.Step.{Step}
 use Rattle.curp_script.specs.Script.{Ending, Whole, Bad, TooLong, Steps, ends}
-use Rattle.curp_model.specs.World.{World, step, answered_order}
+use Rattle.curp_plain.specs.World.{World, step, answered_order}
 use Rattle.curp_report.specs.Text.{order_text}
 use Rattle.curp.specs.declared.play.Turn.TheVariants as turn
 use Rattle.curp.specs.declared.status.Status.{Status}
@@ -62,6 +62,7 @@ wrote_last text before now after piece status.NoMemory s w = part_of_last text b
 wrote_last text before now after piece status.Ok s w = all_written text before now after piece s w
 wrote_last text before now after piece (status.BadLine line reason) s w = all_written text before now after piece s w
 wrote_last text before now after piece (status.LineTooLong line) s w = all_written text before now after piece s w
+wrote_last text before now after piece status.TooManySteps s w = all_written text before now after piece s w
 wrote_last text before now after piece status.Usage s w = absurd w
 
 -- after a stop of what writes, a front was written
@@ -72,6 +73,7 @@ wrote_part text before after status.ReadFault i p = absurd i
 wrote_part text before after status.Ok i p = absurd i
 wrote_part text before after (status.BadLine line reason) i p = absurd i
 wrote_part text before after (status.LineTooLong line) i p = absurd i
+wrote_part text before after status.TooManySteps i p = absurd i
 wrote_part text before after status.Usage i p = absurd i
 
 pub ends_writing : (e : Ending) (s : Status) → IsOfWriting s → EndsAs e s
@@ -81,6 +83,7 @@ ends_writing e status.ReadFault i = absurd i
 ends_writing e status.Ok i = absurd i
 ends_writing e (status.BadLine line reason) i = absurd i
 ends_writing e (status.LineTooLong line) i = absurd i
+ends_writing e status.TooManySteps i = absurd i
 ends_writing e status.Usage i = absurd i
 
 -- the first step's text, and the rest
@@ -101,6 +104,7 @@ wrote_stop text before now n w due status.ReadFault f i = part_so_far text befor
 wrote_stop text before now n w due status.NoMemory f i = part_so_far text before now _ f
 wrote_stop text before now n w due (status.BadLine line reason) f i = all_written text before now now [] (rw i at f) (sym (append-nil now))
 wrote_stop text before now n w due (status.LineTooLong line) f i = all_written text before now now [] (rw i at f) (sym (append-nil now))
+wrote_stop text before now n w due status.TooManySteps f i = all_written text before now now [] (rw i at f) (sym (append-nil now))
 wrote_stop text before now n w due status.WriteFault f i = absurd i
 wrote_stop text before now n w due status.Ok f i = absurd i
 wrote_stop text before now n w due status.Usage f i = absurd i
@@ -110,6 +114,7 @@ ends_stop e due status.ReadFault is i = tt
 ends_stop e due status.NoMemory is i = tt
 ends_stop e due (status.BadLine line reason) is i = sym is ∙ ap (λ (d : Steps). d.ending) i
 ends_stop e due (status.LineTooLong line) is i = sym is ∙ ap (λ (d : Steps). d.ending) i
+ends_stop e due status.TooManySteps is i = sym is ∙ ap (λ (d : Steps). d.ending) i
 ends_stop e due status.WriteFault is i = absurd i
 ends_stop e due status.Ok is i = absurd i
 ends_stop e due status.Usage is i = absurd i

@@ -19,4 +19,5 @@ code_of (status.BadLine line reason) = 3
 code_of status.ReadFault = 4
 code_of status.WriteFault = 5
 code_of status.NoMemory = 6
+code_of status.TooManySteps = 7
 code_of (status.LineTooLong line) = 10

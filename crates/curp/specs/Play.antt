@@ -5,8 +5,8 @@ use Rattle.curp_io.specs.Text.{lines_of}
 use Rattle.curp_order.specs.Order.{IsHistory, IsOrder}
 use Rattle.curp_script.specs.declared.script.Header.{Header}
 use Rattle.curp_script.specs.declared.script.Step.{Step}
-use Rattle.curp_script.specs.Script.{Ending, Whole, Bad, TooLong, Steps, Script, script_of}
-use Rattle.curp_model.specs.World.{World, Stepped, step, run, world, order, answered_order, sent_at}
+use Rattle.curp_script.specs.Script.{Ending, Whole, Bad, TooLong, TooMany, Steps, Script, script_of}
+use Rattle.curp_plain.specs.World.{World, Stepped, step, run, world, order, answered_order, sent_at}
 use Rattle.curp_report.specs.Text.{step_text, order_text}
 use Rattle.curp.specs.declared.status.Status.{Status}
 use Rattle.curp.specs.declared.status.Status.TheVariants as status
@@ -27,6 +27,7 @@ abbrev pub closing_text : Ending → World → List ℕ
 closing_text Whole w = order_text (answered_order w)
 closing_text (Bad line reason) w = []
 closing_text (TooLong line) w = []
+closing_text TooMany w = []
 
 abbrev pub body_text : ℕ → World → Steps → List ℕ
 body_text number w body = steps_text number w body.steps ++ closing_text body.ending (run w body.steps)
@@ -49,6 +50,7 @@ abbrev pub status_of : Ending → Status
 status_of Whole = status.Ok
 status_of (Bad line reason) = status.BadLine line reason
 status_of (TooLong line) = status.LineTooLong line
+status_of TooMany = status.TooManySteps
 
 -- it ended as the script does, or before that by a fault or for want of memory
 abbrev pub EndsAs : Ending → Status → Type 0
@@ -58,6 +60,7 @@ EndsAs ending status.NoMemory = ⊤
 EndsAs ending status.Ok = ending ≡ Whole
 EndsAs ending (status.BadLine line reason) = ending ≡ Bad line reason
 EndsAs ending (status.LineTooLong line) = ending ≡ TooLong line
+EndsAs ending status.TooManySteps = ending ≡ TooMany
 EndsAs ending status.Usage = ⊥
 
 -- the whole text was written; after a fault or for want of memory, a front of it
@@ -68,6 +71,7 @@ Wrote text before after status.NoMemory = HoldsPart before after text
 Wrote text before after status.Ok = after ≡ before ++ text
 Wrote text before after (status.BadLine line reason) = after ≡ before ++ text
 Wrote text before after (status.LineTooLong line) = after ≡ before ++ text
+Wrote text before after status.TooManySteps = after ≡ before ++ text
 Wrote text before after status.Usage = ⊥
 
 -- ---- the order

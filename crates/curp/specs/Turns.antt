@@ -1,11 +1,11 @@
 -- One line of a script, and what it leaves of the script.
-use Rattle.std.specs.Prelude.{◌≡◌, ℕ, ◌||◌, nat_eq, false, List, [], ◌∷◌, None, Ok, Err, ⊤}
+use Rattle.std.specs.Prelude.{◌≡◌, ℕ, ◌-◌, ◌||◌, nat_eq, nat_lt, Bool, true, false, List, [], ◌∷◌, None, Ok, Err, ⊤}
 use Rattle.std.specs.List.{list_any}
 use Rattle.curp_script.specs.declared.script.Step.{Step}
-use Rattle.curp_script.specs.declared.script.Step.TheVariants.{Invoke, Deliver}
-use Rattle.curp_script.specs.Script.{Whole, Bad, TooLong, Steps, Script, ends, at_most_once}
+use Rattle.curp_script.specs.declared.script.Step.TheVariants.{Invoke}
+use Rattle.curp_script.specs.Script.{Whole, Bad, TooLong, TooMany, Steps, Script, ends, at_most_once, step_limit}
 use Rattle.curp_script.specs.Grammar.{header_in, step_in}
-use Rattle.curp_model.specs.World.{World, HasNotInvoked}
+use Rattle.curp_plain.specs.World.{World, HasNotInvoked}
 use Rattle.curp.specs.declared.play.Turn.{Turn}
 use Rattle.curp.specs.declared.play.Turn.TheVariants as turn
 use Rattle.curp.specs.declared.status.Status.{Status}
@@ -17,12 +17,18 @@ StopsAs due status.ReadFault = ⊤
 StopsAs due status.NoMemory = ⊤
 StopsAs due (status.BadLine line reason) = due ≡ ends (Bad line reason)
 StopsAs due (status.LineTooLong line) = due ≡ ends (TooLong line)
+StopsAs due status.TooManySteps = due ≡ ends TooMany
 StopsAs due status.Ok = ⊥
 StopsAs due status.Usage = ⊥
 StopsAs due status.WriteFault = ⊥
 
--- a line is refused, or there was no memory
+-- line number n holds a step too many
+abbrev pub is_beyond : ℕ → Bool
+is_beyond n = nat_lt step_limit (n - 1)
+
+-- a line is refused, or holds a step too many, or there was no memory
 abbrev pub LineStops : ℕ → List ℕ → List ℕ → Status → Type 0
+LineStops line invoked text status.TooManySteps = (s : Step) × (at_most_once invoked (step_in text) ≡ Ok s) × (is_beyond line ≡ true)
 LineStops line invoked text (status.BadLine number reason) = (number ≡ line) × (at_most_once invoked (step_in text) ≡ Err reason)
 LineStops line invoked text status.NoMemory = ⊤
 LineStops line invoked text status.ReadFault = ⊥
@@ -38,6 +44,7 @@ HeaderStops s status.NoMemory = ⊤
 HeaderStops s (status.BadLine line reason) = s ≡ record { header = None; body = ends (Bad line reason) }
 HeaderStops s (status.LineTooLong line) = s ≡ record { header = None; body = ends (TooLong line) }
 HeaderStops s status.Ok = ⊥
+HeaderStops s status.TooManySteps = ⊥
 HeaderStops s status.Usage = ⊥
 HeaderStops s status.WriteFault = ⊥
 
@@ -48,6 +55,7 @@ FirstLineStops text status.NoMemory = ⊤
 FirstLineStops text status.ReadFault = ⊥
 FirstLineStops text status.WriteFault = ⊥
 FirstLineStops text status.Ok = ⊥
+FirstLineStops text status.TooManySteps = ⊥
 FirstLineStops text status.Usage = ⊥
 FirstLineStops text (status.LineTooLong line) = ⊥
 
@@ -59,15 +67,20 @@ Turns due (turn.Stop stop) rest = StopsAs due stop
 
 -- what a line is that isn't too long, where these clients were invoked before
 abbrev pub LineTurns : ℕ → List ℕ → List ℕ → Turn → Type 0
-LineTurns line invoked text (turn.Step s) = (step_in text ≡ Ok s) × (at_most_once invoked (step_in text) ≡ Ok s)
+LineTurns line invoked text (turn.Step s) = (step_in text ≡ Ok s) × (at_most_once invoked (step_in text) ≡ Ok s) × (is_beyond line ≡ false)
 LineTurns line invoked text turn.End = ⊥
 LineTurns line invoked text (turn.Stop stop) = LineStops line invoked text stop
+
+-- the step invokes a client that was invoked before
+abbrev pub repeats : List ℕ → Step → Bool
+repeats invoked (Invoke client command) = list_any (nat_eq client) invoked
+repeats invoked _ = false
 
 -- the clients that were invoked after a step, before which its client wasn't among them
 abbrev pub InvokedBy : Step → List ℕ → List ℕ → Type 0
 InvokedBy (Invoke client command) old new =
     (list_any (nat_eq client) old ≡ false) × ((other : ℕ) → list_any (nat_eq other) new ≡ (nat_eq other client || list_any (nat_eq other) old))
-InvokedBy (Deliver message) old new = new ≡ old
+InvokedBy _ old new = new ≡ old
 
 abbrev pub Invokes : Turn → List ℕ → List ℕ → Type 0
 Invokes (turn.Step s) old new = InvokedBy s old new
@@ -85,6 +98,7 @@ IsOfWriting status.NoMemory = ⊤
 IsOfWriting status.ReadFault = ⊥
 IsOfWriting (status.BadLine line reason) = ⊥
 IsOfWriting (status.LineTooLong line) = ⊥
+IsOfWriting status.TooManySteps = ⊥
 IsOfWriting status.Ok = ⊥
 IsOfWriting status.Usage = ⊥
 
@@ -94,6 +108,7 @@ IsOfReading status.ReadFault = ⊤
 IsOfReading status.NoMemory = ⊤
 IsOfReading (status.BadLine line reason) = ⊤
 IsOfReading (status.LineTooLong line) = ⊤
+IsOfReading status.TooManySteps = ⊤
 IsOfReading status.WriteFault = ⊥
 IsOfReading status.Ok = ⊥
 IsOfReading status.Usage = ⊥

@@ -1,7 +1,9 @@
-ghost use Rattle.std.specs.Prelude.{◌≡◌, ℕ, ◌||◌, nat_eq, OnOk, OnErr, [], true};
+ghost use Rattle.std.specs.Prelude.{◌≡◌, ℕ, ◌||◌, nat_eq, OnOk, OnErr, [], true, false};
 ghost use Rattle.std.specs.List.{list_any};
+ghost use Rattle.curp.specs.Turns.{InvokedBy, repeats};
 
 use curp_base::NoMemory;
+use curp_script::Step;
 use std::alloc::Global;
 use std::collections::BTreeSet;
 use std::marker::Model;
@@ -41,5 +43,27 @@ impl Invoked {
     {
         self.clients.insert(client)?;
         Ok(())
+    }
+
+    /// Whether the step invokes a client that is among them.
+    pub(crate) fn repeats(&self, step: &Step) -> bool
+        ensures { result ≡ repeats self.now step.now }
+    {
+        match step {
+            Step::Invoke { client, .. } => self.contains(*client),
+            _ => false,
+        }
+    }
+
+    /// Adds the client that the step invokes, if it invokes one.
+    pub(crate) fn note(&mut self, step: &Step) -> Result<(), NoMemory>
+        requires { repeats self.old step.now ≡ false }
+        ensures ok { OnOk result (InvokedBy step.now self.old self.new) }
+        ensures err { OnErr result (self.new ≡ self.old) }
+    {
+        match step {
+            Step::Invoke { client, .. } => self.insert(*client),
+            _ => Ok(()),
+        }
     }
 }

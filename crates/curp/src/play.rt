@@ -2,8 +2,9 @@ ghost use Rattle.std.specs.Prelude.{◌≡◌, ◌≢◌, ◌+◌, ◌-◌, ◌<
 ghost use Rattle.curp_io.specs.Streams.{HoldsPart, Rose};
 ghost use Rattle.curp_io.specs.Text.{lines_of, nothing_read};
 ghost use Rattle.curp_script.specs.Grammar.{header_in};
-ghost use Rattle.curp_script.specs.Script.{Whole, steps_in};
-ghost use Rattle.curp_model.specs.World as model;
+ghost use Rattle.curp_script.specs.Headers.{bad_field};
+ghost use Rattle.curp_script.specs.Script.{Whole, step_limit, steps_in};
+ghost use Rattle.curp_plain.specs.World as model;
 ghost use Rattle.curp_report.specs.Text.{order_text};
 ghost use Rattle.curp.specs.Play.{script_in, text_of, made_text, body_text, EndsAs, Wrote, PrintsAnOrder};
 ghost use Rattle.curp.specs.Turns.{Turns, LineTurns, Invokes, OthersAreFresh, IsOfReading, IsOfReadingTurn, IsOfWriting, HeaderStops, FirstLineStops};
@@ -13,8 +14,11 @@ use crate::status::Status;
 use curp_io::{Flushed, Lines, NextLine, Sink, Source, Written, write_piece};
 use curp_report::{order_text, step_text};
 use curp_script::{Header, LineError, Step, Word, parse_header, parse_line};
-use curp_world::World;
+use curp_world::{BeginError, World};
 use std::alloc::Global;
+
+/// How many steps a script may have.
+pub(crate) const STEP_LIMIT: u64 = 200_000;
 
 /// Reads a script, plays it, and writes what every step did and one order of the requests. It takes no handle, and
 /// returns.
@@ -50,10 +54,27 @@ pub fn play_script<S: Source, K: Sink>(alloc: Global, source: &mut S, sink: &mut
         Ok(header) => header,
         Err(stop) => return stop,
     };
-    let Ok(mut world) = World::begin(alloc, &header) else {
-        return Status::NoMemory;
+    let mut world = match begin(alloc, &header) {
+        Ok(world) => world,
+        Err(stop) => return stop,
     };
     play_steps(alloc, &mut lines, source, &mut world, sink)
+}
+
+// The world before any step. A header that was read is one of a world.
+fn begin(alloc: Global, header: &Header) -> Result<World, Status>
+    requires { bad_field header.now ≡ None }
+    ensures ok { IfOk result (λ w. w ≡ model.world header.now []) }
+    ensures err { IfErr result (λ stop. stop ≡ Status.NoMemory) }
+{
+    match World::begin(alloc, header) {
+        Ok(world) => Ok(world),
+        Err(BeginError::NoMemory) => Err(Status::NoMemory),
+        Err(BeginError::BadHeader { field }) => {
+            let reason = LineError::BadField { name: field };
+            Err(Status::BadLine { line: 1, reason })
+        }
+    }
 }
 
 // The header of the script.
@@ -66,6 +87,7 @@ fn read_header<S: Source>(
     ensures opened { S.tells source.old ≡ true → IfOk result (λ header. script_in (S.left source.old)
         ≡ record { header = Some header; body = steps_in 2 [] (lines_of (lines.new.ahead ++ S.left source.new)) }) }
     ensures refused { S.tells source.old ≡ true → IfErr result (HeaderStops (script_in (S.left source.old))) }
+    ensures valid { IfOk result (λ header. bad_field header ≡ None) }
     ensures goes_on { OnOk result ((lines.new.failed ≡ None) × (lines.new.number ≡ 1)) }
     ensures reading { IfErr result IsOfReading }
     ensures tells { S.tells source.old ≡ true → S.tells source.new ≡ true }
@@ -87,6 +109,7 @@ fn read_header<S: Source>(
 fn header_of_line(alloc: Global, text: &[u8]) -> Result<Header, Status>
     ensures ok { IfOk result (λ header. header_in text.now ≡ Ok header) }
     ensures err { IfErr result (FirstLineStops text.now) }
+    ensures valid { IfOk result (λ header. bad_field header ≡ None) }
 {
     match parse_header(alloc, text) {
         Ok(header) => Ok(header),
@@ -117,7 +140,7 @@ fn read_step<S: Source>(
         (steps_in (line + 1) invoked.new (lines_of (lines.new.ahead ++ S.left source.new))) }
     ensures end { S.tells source.old ≡ true → result ≡ Turn.End → lines.new.ahead ++ S.left source.new ≡ [] }
     ensures invoked { Invokes result invoked.old invoked.new }
-    ensures goes_on { (step : _) → result ≡ Turn.Step step → (lines.new.failed ≡ None) × (lines.new.number ≡ line) }
+    ensures goes_on { (step : _) → result ≡ Turn.Step step → (lines.new.failed ≡ None) × (lines.new.number ≡ line) × (line ≤ step_limit + 1) }
     ensures reading { IsOfReadingTurn result }
     ensures tells { S.tells source.old ≡ true → S.tells source.new ≡ true }
     ensures cause { result ≡ Turn.Stop Status.ReadFault → Rose (S.faults source.old) (S.faults source.new) }
@@ -132,6 +155,7 @@ fn read_step<S: Source>(
 }
 
 // The step that a line is, where its client wasn't invoked before.
+#[tactic(auto, using(crate::proofs::Scripts::once_by_repeats))]
 fn step_of_line(alloc: Global, text: &[u8], invoked: &mut Invoked, line: u64) -> Turn
     ensures due { LineTurns line invoked.old text.now result }
     ensures invoked { Invokes result invoked.old invoked.new }
@@ -141,14 +165,15 @@ fn step_of_line(alloc: Global, text: &[u8], invoked: &mut Invoked, line: u64) ->
         Err(LineError::NoMemory) => return Turn::Stop(Status::NoMemory),
         Err(reason) => return Turn::Stop(Status::BadLine { line, reason }),
     };
-    if let Step::Invoke { client, .. } = step {
-        if invoked.contains(client) {
-            let reason = LineError::Later { word: Word::Line };
-            return Turn::Stop(Status::BadLine { line, reason });
-        }
-        if invoked.insert(client).is_err() {
-            return Turn::Stop(Status::NoMemory);
-        }
+    if invoked.repeats(&step) {
+        let reason = LineError::Later { word: Word::Invoke };
+        return Turn::Stop(Status::BadLine { line, reason });
+    }
+    if line > STEP_LIMIT + 1 {
+        return Turn::Stop(Status::TooManySteps);
+    }
+    if invoked.note(&step).is_err() {
+        return Turn::Stop(Status::NoMemory);
     }
     Turn::Step(step)
 }
@@ -239,7 +264,8 @@ fn play_steps<S: Source, K: Sink>(
     ensures never_usage { result ≢ Status.Usage }
 {
     let mut invoked = Invoked::new(alloc);
-    'steps: for number in 1..u64::MAX {
+    let mut number = 1;
+    'steps: loop {
         match read_step(alloc, lines, source, &mut invoked, number + 1) {
             Turn::Step(step) => {
                 if let Err(stop) = make_step(alloc, world, number, &step, sink) {
@@ -249,7 +275,6 @@ fn play_steps<S: Source, K: Sink>(
             Turn::End => return close(alloc, world, sink),
             Turn::Stop(stop) => return stop,
         }
+        number += 1;
     }
-    // No input is that long.
-    Status::NoMemory
 }

@@ -1,6 +1,7 @@
 ghost use Rattle.std.specs.Prelude.{◌≡◌};
 ghost use Rattle.curp.specs.Command.{code_of};
 
+use crate::play::STEP_LIMIT;
 use curp_script::LineError;
 use std::fmt;
 
@@ -19,6 +20,8 @@ pub enum Status {
     WriteFault,
     /// There was no memory left.
     NoMemory,
+    /// There is a step after the 200,000th.
+    TooManySteps,
     /// That line, counted from 1, is the first above 65,536 bytes.
     LineTooLong { line: u64 },
 }
@@ -35,6 +38,7 @@ impl Status {
             Status::ReadFault => 4,
             Status::WriteFault => 5,
             Status::NoMemory => 6,
+            Status::TooManySteps => 7,
             Status::LineTooLong { .. } => 10,
         }
     }
@@ -50,6 +54,7 @@ impl fmt::Display for Status {
             Status::ReadFault => write!(f, "reading failed"),
             Status::WriteFault => write!(f, "writing failed"),
             Status::NoMemory => write!(f, "out of memory"),
+            Status::TooManySteps => write!(f, "more than {STEP_LIMIT} steps"),
             Status::LineTooLong { line } => write!(f, "line {line} is too long"),
         }
     }

@@ -3,7 +3,7 @@ ghost use Rattle.std.specs.Prelude.{◌≤◌};
 
 use crate::{Status, run};
 use curp_io::{MemorySink, MemorySource};
-use curp_script::{LineError, Word};
+use curp_script::{FieldName, LineError, Word};
 use std::alloc::Global;
 use std::test::Fail;
 
@@ -63,6 +63,75 @@ const TWO_BACKUPS_TEXT: &str = "s1 done\n\
     order 1\n\
     1.1 put 61 31 -> done\n";
 
+const ALL_UPDATES: &str =
+    "{\"clients\":7,\"f\":1,\"fast\":false,\"parts\":1,\"protocol\":1,\"sets\":16,\"ways\":4}\n\
+    {\"client\":1,\"cmd\":[\"append\",\"61\",\"6162\"],\"do\":\"invoke\"}\n\
+    {\"client\":2,\"cmd\":[\"incr\",\"61\"],\"do\":\"invoke\"}\n\
+    {\"client\":3,\"cmd\":[\"condput\",\"61\",\"6162\",\"\"],\"do\":\"invoke\"}\n\
+    {\"client\":4,\"cmd\":[\"delete\",\"61\"],\"do\":\"invoke\"}\n\
+    {\"client\":5,\"cmd\":[\"condput\",\"61\",null,\"31\"],\"do\":\"invoke\"}\n\
+    {\"client\":6,\"cmd\":[\"multi\",\"61\",\"0000000000000001\",\"62\",\"33\"],\"do\":\"invoke\"}\n\
+    {\"client\":7,\"cmd\":[\"incr\",\"61\"],\"do\":\"invoke\"}\n\
+    {\"do\":\"deliver\",\"msg\":1}\n\
+    {\"do\":\"deliver\",\"msg\":2}\n\
+    {\"do\":\"deliver\",\"msg\":3}\n\
+    {\"do\":\"deliver\",\"msg\":4}\n\
+    {\"do\":\"deliver\",\"msg\":5}\n\
+    {\"do\":\"deliver\",\"msg\":6}\n\
+    {\"do\":\"deliver\",\"msg\":7}\n\
+    {\"do\":\"deliver\",\"msg\":14}\n\
+    {\"do\":\"deliver\",\"msg\":15}\n\
+    {\"do\":\"deliver\",\"msg\":22}\n";
+
+const ALL_UPDATES_TEXT: &str = "s1 done\n\
+    m1 C1 M1 sync 1.1 f1 e1 v1 append 61 6162\n\
+    s2 done\n\
+    m2 C2 M1 sync 2.1 f1 e1 v1 incr 61\n\
+    s3 done\n\
+    m3 C3 M1 sync 3.1 f1 e1 v1 condput 61 6162 .\n\
+    s4 done\n\
+    m4 C4 M1 sync 4.1 f1 e1 v1 delete 61\n\
+    s5 done\n\
+    m5 C5 M1 sync 5.1 f1 e1 v1 condput 61 - 31\n\
+    s6 done\n\
+    m6 C6 M1 sync 6.1 f1 e1 v1 multi 61 0000000000000001 62 33\n\
+    s7 done\n\
+    m7 C7 M1 sync 7.1 f1 e1 v1 incr 61\n\
+    s8 done\n\
+    m8 M1 B1 append e1 b0 n1 r1\n\
+    s9 done\n\
+    m9 M1 B1 append e1 b0 n2 r2\n\
+    s10 done\n\
+    m10 M1 B1 append e1 b0 n3 r3\n\
+    s11 done\n\
+    m11 M1 B1 append e1 b0 n4 r4\n\
+    s12 done\n\
+    m12 M1 B1 append e1 b0 n5 r5\n\
+    s13 done\n\
+    m13 M1 B1 append e1 b0 n6 r6\n\
+    s14 done\n\
+    m14 M1 B1 append e1 b0 n7 r7\n\
+    s15 done\n\
+    m15 B1 M1 stored e1 l7 r7\n\
+    s16 done\n\
+    m16 M1 C1 reply 1.1 synced e1 v1 length 2\n\
+    m17 M1 C2 reply 2.1 synced e1 v1 not-number\n\
+    m18 M1 C3 reply 3.1 synced e1 v1 swapped\n\
+    m19 M1 C4 reply 4.1 synced e1 v1 removed\n\
+    m20 M1 C5 reply 5.1 synced e1 v1 swapped\n\
+    m21 M1 C6 reply 6.1 synced e1 v1 done\n\
+    m22 M1 C7 reply 7.1 synced e1 v1 number 2\n\
+    s17 done\n\
+    c 7.1 number 2\n\
+    order 7\n\
+    1.1 append 61 6162 -> length 2\n\
+    2.1 incr 61 -> not-number\n\
+    3.1 condput 61 6162 . -> swapped\n\
+    4.1 delete 61 -> removed\n\
+    5.1 condput 61 - 31 -> swapped\n\
+    6.1 multi 61 0000000000000001 62 33 -> done\n\
+    7.1 incr 61 -> number 2\n";
+
 const HEADER: &str =
     "{\"clients\":2,\"f\":1,\"fast\":false,\"parts\":1,\"protocol\":1,\"sets\":16,\"ways\":4}";
 
@@ -70,7 +139,15 @@ const INVOKE: &str = "{\"client\":1,\"cmd\":[\"put\",\"61\",\"31\"],\"do\":\"inv
 
 const STEP_1: &str = "s1 done\nm1 C1 M1 sync 1.1 f1 e1 v1 put 61 31\n";
 
-const LATER: LineError = LineError::Later { word: Word::Line };
+const DELIVER_9: &str = "{\"do\":\"deliver\",\"msg\":9}";
+
+fn bad(name: FieldName) -> LineError {
+    LineError::BadField { name }
+}
+
+fn later(word: Word) -> LineError {
+    LineError::Later { word }
+}
 
 // What `curp play` writes for a script that comes in pieces of so many bytes, and how it ends. The calls of these numbers
 // fail.
@@ -91,56 +168,111 @@ fn played(
 
 #[test]
 fn scripts_give_their_texts(rt: HostRuntime) -> Result<(), Fail> {
-    let twice = format!(in rt.alloc(); "{HEADER}\n{INVOKE}\n{INVOKE}\n")?;
-    let fast = ONE_PUT.replace(rt.alloc(), "false", "true")?;
-    let unsent = format!(in rt.alloc(); "{HEADER}\n{{\"do\":\"deliver\",\"msg\":9}}\n")?;
-    let nobody = format!(in rt.alloc();
-        "{HEADER}\n{{\"client\":3,\"cmd\":[\"put\",\"61\",\"\"],\"do\":\"invoke\"}}\n"
-    )?;
-    let cut = format!(in rt.alloc(); "{HEADER}\n{INVOKE}\n{{\"do\":\"deli")?;
-    let bad = Status::BadLine {
-        line: 3,
-        reason: LineError::BadJson,
-    };
-    let later = Status::BadLine {
-        line: 3,
-        reason: LATER,
-    };
-    for (script, text, status) in [
-        (ONE_PUT, ONE_PUT_TEXT, Status::Ok),
-        (TWO_BACKUPS, TWO_BACKUPS_TEXT, Status::Ok),
-        (HEADER, "order 0\n", Status::Ok),
-        (
-            unsent.as_str(),
-            "s1 refused no-message\norder 0\n",
-            Status::Ok,
-        ),
-        (nobody.as_str(), "s1 refused no-node\norder 0\n", Status::Ok),
-        (
-            fast.as_str(),
-            "",
-            Status::BadLine {
-                line: 1,
-                reason: LATER,
-            },
-        ),
-        (twice.as_str(), STEP_1, later),
-        (cut.as_str(), STEP_1, bad),
-        (
-            "",
-            "",
-            Status::BadLine {
-                line: 1,
-                reason: LineError::BadJson,
-            },
-        ),
+    for (script, text) in [
+        (ONE_PUT, ONE_PUT_TEXT),
+        (TWO_BACKUPS, TWO_BACKUPS_TEXT),
+        (ALL_UPDATES, ALL_UPDATES_TEXT),
+        (HEADER, "order 0\n"),
     ] {
         for size in [1, 100_000] {
-            let (ended, sink) = played(rt.alloc(), script, size, &[], &[])?;
-            assert_eq!(rt; ended, status, "of {script}");
+            let (status, sink) = played(rt.alloc(), script, size, &[], &[])?;
+            assert_eq!(rt; status, Status::Ok, "of {script}");
             assert_eq!(rt; sink.bytes(), text.as_bytes(), "of {script}");
         }
     }
+    Ok(())
+}
+
+// What the lines behind a header give: the text, and how it ends.
+#[test]
+fn lines_are_played_or_refused(rt: HostRuntime) -> Result<(), Fail> {
+    let key_32 = "61".repeat(rt.alloc(), 32)?;
+    let long_key = format!(in rt.alloc();
+        "{{\"client\":1,\"cmd\":[\"incr\",\"{key_32}\"],\"do\":\"invoke\"}}"
+    )?;
+    let long_text = format!(in rt.alloc();
+        "s1 done\nm1 C1 M1 sync 1.1 f1 e1 v1 incr {key_32}\norder 0\n"
+    )?;
+    let longer_key = format!(in rt.alloc();
+        "{{\"client\":1,\"cmd\":[\"incr\",\"{key_32}61\"],\"do\":\"invoke\"}}"
+    )?;
+    let twice = format!(in rt.alloc(); "{INVOKE}\n{INVOKE}")?;
+    let again = format!(in rt.alloc();
+        "{INVOKE}\n{{\"client\":1,\"cmd\":[\"incr\",\"61\"],\"do\":\"invoke\",\"x\":1}}"
+    )?;
+    let cut = format!(in rt.alloc(); "{INVOKE}\n{{\"do\":\"deli")?;
+    let nobody = "{\"client\":3,\"cmd\":[\"put\",\"61\",\"\"],\"do\":\"invoke\"}";
+    let get = "{\"client\":1,\"cmd\":[\"get\",\"61\"],\"do\":\"invoke\"}";
+    for (lines, text, ends) in [
+        (DELIVER_9, "s1 refused no-message\norder 0\n", None),
+        (nobody, "s1 refused no-node\norder 0\n", None),
+        (long_key.as_str(), long_text.as_str(), None),
+        (longer_key.as_str(), "", Some((2, bad(FieldName::Cmd)))),
+        (get, "", Some((2, later(Word::Get)))),
+        (twice.as_str(), STEP_1, Some((3, later(Word::Invoke)))),
+        (again.as_str(), STEP_1, Some((3, bad(FieldName::Other)))),
+        (cut.as_str(), STEP_1, Some((3, LineError::BadJson))),
+        (
+            "{\"do\":\"stop\",\"node\":\"M1\"}",
+            "",
+            Some((2, later(Word::Stop))),
+        ),
+        ("{\"do\":\"dance\"}", "", Some((2, bad(FieldName::Do)))),
+        (
+            "{\"do\":\"deliver\",\"msg\":1,\"x\":2}",
+            "",
+            Some((2, bad(FieldName::Other))),
+        ),
+        ("", "", Some((2, LineError::BadJson))),
+    ] {
+        let script = format!(in rt.alloc(); "{HEADER}\n{lines}\n")?;
+        let (status, sink) = played(rt.alloc(), script.as_str(), 1_000, &[], &[])?;
+        let want = match ends {
+            None => Status::Ok,
+            Some((line, reason)) => Status::BadLine { line, reason },
+        };
+        assert_eq!(rt; status, want, "of {lines}");
+        assert_eq!(rt; sink.bytes(), text.as_bytes(), "of {lines}");
+    }
+    Ok(())
+}
+
+#[test]
+fn headers_are_refused_by_their_first_fault(rt: HostRuntime) -> Result<(), Fail> {
+    for (old, new, reason) in [
+        ("\"f\":1", "\"f\":6", bad(FieldName::F)),
+        ("false", "true", later(Word::Fast)),
+        ("\"parts\":1", "\"parts\":2", later(Word::Parts)),
+        ("\"parts\":1", "\"parts\":17", bad(FieldName::Parts)),
+        ("\"protocol\":1", "\"protocol\":2", later(Word::Protocol)),
+        ("}", "", LineError::BadJson),
+    ] {
+        let header = HEADER.replace(rt.alloc(), old, new)?;
+        let (status, sink) = played(rt.alloc(), header.as_str(), 1_000, &[], &[])?;
+        assert_eq!(rt; status, Status::BadLine { line: 1, reason }, "of {header}");
+        assert!(rt; sink.bytes().is_empty());
+    }
+    let (status, sink) = played(rt.alloc(), "", 1_000, &[], &[])?;
+    let reason = LineError::BadJson;
+    assert_eq!(rt; status, Status::BadLine { line: 1, reason });
+    assert!(rt; sink.bytes().is_empty());
+    Ok(())
+}
+
+#[test]
+fn a_script_has_up_to_200000_steps(rt: HostRuntime) -> Result<(), Fail> {
+    let mut script = String::from_str(rt.alloc(), HEADER)?;
+    let mut text = String::new(rt.alloc());
+    for number in 1..=200_000 {
+        script.push('\n')?;
+        script.push_str(DELIVER_9)?;
+        writeln!(text, "s{number} refused no-message")?;
+    }
+    script.push('\n')?;
+    script.push_str(DELIVER_9)?;
+    let (status, sink) = played(rt.alloc(), script.as_str(), 100_000, &[], &[])?;
+    assert_eq!(rt; status, Status::TooManySteps);
+    assert!(rt; sink.bytes() == text.as_bytes());
     Ok(())
 }
 
@@ -199,6 +331,11 @@ fn lines_have_up_to_65536_bytes(rt: HostRuntime) -> Result<(), Fail> {
         let (ended, _) = played(rt.alloc(), line.as_str(), 1_000, &[], &[])?;
         assert_eq!(rt; ended, status);
     }
+    let blanks = " ".repeat(rt.alloc(), 65_537)?;
+    let script = format!(in rt.alloc(); "{HEADER}\n{blanks}\n")?;
+    let (ended, sink) = played(rt.alloc(), script.as_str(), 1_000, &[], &[])?;
+    assert_eq!(rt; ended, Status::LineTooLong { line: 2 });
+    assert!(rt; sink.bytes().is_empty());
     Ok(())
 }
 

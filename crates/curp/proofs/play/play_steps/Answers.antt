@@ -1,7 +1,7 @@
 use Rattle.std.proofs.Common.{◌≡◌, refl, ap, sym, subst, ◌∙◌, arith, List, ◌++◌, ◌+◌}
 use Rattle.curp_io.specs.Text.{lines_of}
 use Rattle.curp_script.specs.Script.{Steps, steps_in}
-use Rattle.curp_model.specs.World.{World}
+use Rattle.curp_plain.specs.World.{World}
 use Rattle.curp.specs.Play.{body_text}
 use Rattle.curp.specs.Turns.{OthersAreFresh}
 use Rattle.curp.proofs.Fresh.{fresh_after}
@@ -29,6 +29,7 @@ steps-preserved g c =
     let i = c.steps.invariant in
     let on = c.in-Step.ensures.goes_on c.in-Step.step refl in
     record {
+      counted = (omega arith, on.2);
       going_on = on.0;
       numbered = on.1;
       fresh = subst (λ (w : World). OthersAreFresh w c.read_step.new.invoked) (sym c.in_default.ensures.made) (fresh_after c.steps.world c.in-Step.step c.steps.invoked c.read_step.new.invoked i.fresh c.in-Step.ensures.invoked);

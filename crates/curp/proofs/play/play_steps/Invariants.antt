@@ -1,6 +1,6 @@
-use Rattle.std.proofs.Common.{◌≡◌, ◌≤◌, ◌+◌, ◌++◌, true, None, [], ◌∷◌}
+use Rattle.std.proofs.Common.{◌≡◌, ◌≤◌, ◌+◌, ◌-◌, ◌++◌, true, None, [], ◌∷◌}
 use Rattle.curp_io.specs.Text.{lines_of}
-use Rattle.curp_script.specs.Script.{steps_in}
+use Rattle.curp_script.specs.Script.{steps_in, step_limit}
 use Rattle.curp.specs.Play.{body_text}
 use Rattle.curp.specs.Turns.{OthersAreFresh}
 use Rattle.curp.proofs.SoFar.{SoFar}
@@ -13,6 +13,7 @@ invariant-steps g l =
     let due = steps_in (l.number + 1) l.invoked (lines_of (l.lines.ahead ++ left l.source)) in
     let all = steps_in 2 [] (lines_of (l.fn.lines.ahead ++ left l.fn.source)) in
     record {
+      counted : (1 ≤ l.number) × (l.number ≤ step_limit + 1);
       going_on : l.lines.failed ≡ None;
       numbered : l.lines.number ≡ l.number;
       fresh : OthersAreFresh l.world l.invoked;
@@ -24,3 +25,6 @@ invariant-steps g l =
       written : g.S.Source.tells l.fn.source ≡ true → g.K.Sink.tells l.fn.sink ≡ true
           → SoFar (body_text 1 l.fn.world all) (g.K.Sink.held l.fn.sink) (g.K.Sink.held l.sink) (body_text l.number l.world due);
     }
+
+abbrev pub decreases-steps : goal.decreases-steps
+decreases-steps g l = step_limit + 2 - l.number
