@@ -1,0 +1,93 @@
+-- The backup: it keeps the entries of a master of its epoch, and takes nothing of an epoch below its fence (the fence is
+-- this project's form of what keeps superseded masters out).
+use Rattle.std.specs.Prelude.{ℕ, ◌-◌, ◌==◌, nat_le, nat_lt, if◌then◌else◌, Bool, false, List, [], ◌∷◌, ◌++◌, length, drop, Option, Some, None}
+use Rattle.curp_cmd.specs.declared.entry.Entry.{Entry}
+use Rattle.curp_cmd.specs.declared.node.NodeId.{NodeId}
+use Rattle.curp_msg.specs.declared.answer.AppendAnswer.{AppendAnswer}
+use Rattle.curp_msg.specs.declared.answer.AppendAnswer.TheVariants.{Stored, Fenced, Gap, NotInstalled}
+use Rattle.curp_msg.specs.declared.answer.FenceReply.{FenceReply}
+use Rattle.curp_msg.specs.declared.answer.FenceReply.TheVariants as reply
+use Rattle.curp_msg.specs.declared.body.Body.{Body}
+use Rattle.curp_msg.specs.declared.body.Body.TheVariants.{Append, Appended, Install, Fence, FenceAnswer}
+use Rattle.curp_model.specs.Moved.{Moved, quiet, sends, says, backup_node}
+
+-- the epoch at which it is installed, if it is
+pub record BackupState : Type 0 where
+  pub installed : Option ℕ
+  pub fence : ℕ
+  pub log : List Entry
+
+-- before it is installed
+abbrev pub fresh_backup : BackupState
+fresh_backup = record { installed = None; fence = 0; log = [] }
+
+-- as at opening: installed, with nothing yet
+abbrev pub installed_backup : ℕ → BackupState
+installed_backup epoch = record { installed = Some epoch; fence = 0; log = [] }
+
+-- ---- install
+
+-- an epoch stays for good
+abbrev pub installed_once : BackupState → ℕ → Option ℕ → BackupState
+installed_once b epoch None = record b { installed = Some epoch }
+installed_once b epoch (Some own) = b
+
+-- one that isn't installed yet is installed, unless its fence is above
+abbrev pub install : BackupState → ℕ → BackupState
+install b epoch = if nat_lt epoch b.fence then b else installed_once b epoch b.installed
+
+-- ---- append
+
+-- it serves a master of that epoch
+abbrev pub is_installed_at : Option ℕ → ℕ → Bool
+is_installed_at None epoch = false
+is_installed_at (Some own) epoch = own == epoch
+
+-- the log after entries that stand in the master's log from base on: those past its own length are added
+abbrev pub longer : List Entry → ℕ → List Entry → List Entry
+longer log base entries = log ++ drop (length log - base) entries
+
+-- what an append gives: the state after it, and the answer
+pub record Kept : Type 0 where
+  pub state : BackupState
+  pub answer : AppendAnswer
+
+-- an answer that changes nothing more
+abbrev pub keeps : BackupState → AppendAnswer → Kept
+keeps b answer = record { state = b; answer = answer }
+
+-- first Fenced, then NotInstalled, then Gap
+unfoldable pub append : BackupState → ℕ → ℕ → List Entry → Kept
+append b epoch base entries =
+    if nat_lt epoch b.fence then keeps b (Fenced b.fence)
+    else if is_installed_at b.installed epoch
+    then if nat_le base (length b.log)
+    then keeps (record b { log = longer b.log base entries }) (Stored (length (longer b.log base entries)))
+    else keeps b (Gap (length b.log))
+    else keeps b NotInstalled
+
+-- ---- fence
+
+-- what a fence gives: the state after it, and the answer
+pub record Asked : Type 0 where
+  pub state : BackupState
+  pub answer : FenceReply
+
+-- the whole log, unless its fence is above
+unfoldable pub fence : BackupState → ℕ → Asked
+fence b epoch =
+    if nat_lt epoch b.fence then record { state = b; answer = reply.Fenced b.fence }
+    else record { state = record b { fence = epoch }; answer = reply.Log b.log }
+
+-- ---- messages
+
+-- a message comes to backup n. Its answers bear the epoch, and the round, of what they answer
+unfoldable pub on_backup : ℕ → BackupState → NodeId → Body → Moved BackupState
+on_backup n b from (Append a) =
+    let k = append b a.epoch a.base a.entries in
+    sends k.state (says (backup_node n) from (Appended (record { epoch = a.epoch; round = a.round; answer = k.answer })) ∷ [])
+on_backup n b from (Install epoch) = quiet (install b epoch)
+on_backup n b from (Fence epoch) =
+    let f = fence b epoch in
+    sends f.state (says (backup_node n) from (FenceAnswer (record { epoch = epoch; answer = f.answer })) ∷ [])
+on_backup n b from _ = quiet b

@@ -1,0 +1,417 @@
+-- What holds after every step, as statements. From the facts about messages and nodes it follows that any one pair of a
+-- backup and a witness of an adopted list is enough to recover from (this project's own).
+use Rattle.std.specs.Prelude.{◌≡◌, ◌≤◌, ◌<◌, ◌⊎◌, ℕ, ◌+◌, Bool, true, false, List, length, take, drop, Option, Some, None, ⊤}
+use Rattle.curp_base.specs.Words.{At, Each, IsPrefix, numbered}
+use Rattle.curp_cmd.specs.declared.command.Answer.{Answer}
+use Rattle.curp_cmd.specs.declared.command.Request.{Request}
+use Rattle.curp_cmd.specs.declared.command.RequestId.{RequestId}
+use Rattle.curp_cmd.specs.declared.entry.Entry.{Entry}
+use Rattle.curp_cmd.specs.declared.entry.Entry.TheVariants.{Take, Give, Expire}
+use Rattle.curp_cmd.specs.declared.migration.Package.{Package}
+use Rattle.curp_cmd.specs.declared.node.NodeId.{NodeId}
+use Rattle.curp_cmd.specs.declared.node.NodeKind.{NodeKind}
+use Rattle.curp_cmd.specs.declared.node.NodeKind.TheVariants as kind
+use Rattle.curp_msg.specs.declared.answer.AppendAnswer.{AppendAnswer}
+use Rattle.curp_msg.specs.declared.answer.AppendAnswer.TheVariants.{Stored}
+use Rattle.curp_msg.specs.declared.answer.FenceReply.{FenceReply}
+use Rattle.curp_msg.specs.declared.answer.FenceReply.TheVariants.{Log}
+use Rattle.curp_msg.specs.declared.body.Accepted.{Accepted}
+use Rattle.curp_msg.specs.declared.body.Append.{Append}
+use Rattle.curp_msg.specs.declared.body.Appended.{Appended}
+use Rattle.curp_msg.specs.declared.body.Body.{Body}
+use Rattle.curp_msg.specs.declared.body.Body.TheVariants as body
+use Rattle.curp_msg.specs.declared.body.Gc.{Gc}
+use Rattle.curp_msg.specs.declared.body.Parcel.{Parcel}
+use Rattle.curp_msg.specs.declared.body.Prepare.{Prepare}
+use Rattle.curp_msg.specs.declared.body.Recover.{Recover}
+use Rattle.curp_msg.specs.declared.body.Reply.{Reply}
+use Rattle.curp_msg.specs.declared.config.Config.{Config}
+use Rattle.curp_msg.specs.declared.config.PartConfig.{PartConfig}
+use Rattle.curp_msg.specs.declared.message.Message.{Message}
+use Rattle.curp_model.specs.Backup.{BackupState}
+use Rattle.curp_model.specs.Client.{Attempt, ClientState, Pending}
+use Rattle.curp_model.specs.Log.{IsDone, Stands}
+use Rattle.curp_model.specs.Manager as manager
+use Rattle.curp_model.specs.Manager.{ManagerState, Doing, opening_config}
+use Rattle.curp_model.specs.Master.{MasterState}
+use Rattle.curp_model.specs.Moved.{says, manager_node, client_node}
+use Rattle.curp_model.specs.Ranges.{opening_range}
+use Rattle.curp_model.specs.Recovery.{MasterNode, Fresh, Recovering, Serving, RecoveryState, RecoveryPhase, Asking, Storing, Waiting, Replayed, replay}
+use Rattle.curp_model.specs.Witness.{WitnessState, frozen_requests}
+use Rattle.curp_model.specs.World.{World, messages}
+
+-- ---- words
+
+-- a message was sent at some time
+pub record WasSent (w : World) (m : Message) : Type 0 where
+  pub place : ℕ
+  pub stands : At (messages w) place m
+
+-- x is among xs
+pub record IsAmong {A : Type 0} (x : A) (xs : List A) : Type 0 where
+  pub place : ℕ
+  pub stands : At xs place x
+
+-- the range that a partition had at opening
+abbrev pub lo_of : World → ℕ → ℕ
+lo_of w p = (opening_range w.manager.shape.parts p).lo
+
+-- the last hash of that range
+abbrev pub hi_of : World → ℕ → ℕ
+hi_of w p = (opening_range w.manager.shape.parts p).hi
+
+-- a node of the world, by its kind and its number
+abbrev pub IsNodeOf : World → NodeKind → ℕ → Type 0
+IsNodeOf w kind.Manager n = n ≡ 0
+IsNodeOf w kind.Client n = (1 ≤ n) × (n ≤ length w.clients)
+IsNodeOf w kind.Master n = (1 ≤ n) × (n ≤ length w.masters)
+IsNodeOf w kind.Backup n = (1 ≤ n) × (n ≤ length w.backups)
+IsNodeOf w kind.Witness n = (1 ≤ n) × (n ≤ length w.witnesses)
+
+-- a name of a node of the world
+abbrev pub IsNode : World → NodeId → Type 0
+IsNode w node = IsNodeOf w node.kind node.number
+
+-- the state of a backup, and of a witness, by its name
+pub record IsBackup (w : World) (node : NodeId) (b : BackupState) : Type 0 where
+  pub its_kind : node.kind ≡ kind.Backup
+  pub its_state : numbered w.backups node.number ≡ Some b
+
+-- the state of a witness by its name
+pub record IsWitness (w : World) (node : NodeId) (x : WitnessState) : Type 0 where
+  pub its_kind : node.kind ≡ kind.Witness
+  pub its_state : numbered w.witnesses node.number ≡ Some x
+
+-- the state of a master by its name
+pub record IsMaster (w : World) (node : NodeId) (m : MasterNode) : Type 0 where
+  pub its_kind : node.kind ≡ kind.Master
+  pub its_state : numbered w.masters node.number ≡ Some m
+
+-- the log and the last round of a master that has a log, recovering ones included
+pub record Logged : Type 0 where
+  pub log : List Entry
+  pub round : ℕ
+
+-- the log of a recovery, once it has one
+abbrev pub phase_log : RecoveryPhase → Option Logged
+phase_log (Asking log requests) = None
+phase_log (Storing r) = Some (record { log = r.log; round = r.round })
+phase_log (Waiting r) = Some (record { log = r.log; round = r.round })
+
+-- a master's log, once it has one
+abbrev pub node_log : MasterNode → Option Logged
+node_log Fresh = None
+node_log (Recovering s) = phase_log s.phase
+node_log (Serving m) = Some (record { log = m.log; round = m.round })
+
+-- a master, by its name, with its log
+pub record HasLog (w : World) (node : NodeId) (l : Logged) : Type 0 where
+  pub m : MasterNode
+  pub is : IsMaster w node m
+  pub its_log : node_log m ≡ Some l
+
+-- ---- the lists that were given
+
+-- a master of a partition and an epoch, with its lists in a version
+pub record Lists : Type 0 where
+  pub part : ℕ
+  pub epoch : ℕ
+  pub version : ℕ
+  pub master : NodeId
+  pub backups : List NodeId
+  pub witnesses : List NodeId
+
+-- the lists of a configuration entry
+abbrev pub lists_of_part : PartConfig → Lists
+lists_of_part c = record { part = c.part; epoch = c.epoch; version = c.version; master = c.master; backups = c.backups; witnesses = c.witnesses }
+
+-- the lists of an order to recover
+abbrev pub lists_of_order : NodeId → Recover → Lists
+lists_of_order master o = record { part = o.part; epoch = o.epoch; version = o.version; master = master; backups = o.backups; witnesses = o.witnesses }
+
+-- new lists of the same master
+abbrev pub lists_of_prepare : Lists → Prepare → Lists
+lists_of_prepare old p = record old { version = p.version; backups = p.backups; witnesses = p.witnesses }
+
+-- at opening, by an order to recover, or by new lists
+pub data IsGiven (w : World) : Lists → Type 0 where
+  AtOpening : (k : ℕ) (c : PartConfig) → At (opening_config w.manager.shape).parts k c → IsGiven w (lists_of_part c)
+  ByRecovery : (node : NodeId) (o : Recover) → WasSent w (says manager_node node (body.Recover o)) → IsGiven w (lists_of_order node o)
+  ByReplacement : (old : Lists) (p : Prepare) → IsGiven w old → WasSent w (says manager_node old.master (body.Prepare p)) → IsGiven w (lists_of_prepare old p)
+
+-- those of version 1, and those of which the manager told the master that they are adopted
+pub record WasAdopted (w : World) (l : Lists) : Type 0 where
+  pub given : IsGiven w l
+  pub told : (l.version ≡ 1) ⊎ WasSent w (says manager_node l.master (body.Adopted (record { part = l.part; epoch = l.epoch; version = l.version })))
+
+-- the present entry of a partition
+abbrev pub IsAdoptedNow : World → PartConfig → Type 0
+IsAdoptedNow w c = numbered w.manager.config.parts c.part ≡ Some c
+
+-- ---- completable, and good pairs
+
+-- a reply on its way to its client
+abbrev pub reply_message : NodeId → Reply → Message
+reply_message node r = says node (client_node r.id.client) (body.Reply r)
+
+-- a master of the partition has sent a synced reply
+pub record IsAnswered (w : World) (p : ℕ) (id : RequestId) (a : Answer) : Type 0 where
+  pub lists : Lists
+  pub given : IsGiven w lists
+  pub its_part : lists.part ≡ p
+  pub reply : Reply
+  pub sent : WasSent w (reply_message lists.master reply)
+  pub its_id : reply.id ≡ id
+  pub its_answer : reply.answer ≡ a
+  pub is_synced : reply.synced ≡ true
+
+-- or an unsynced one, and each witness of that version has accepted at that epoch
+pub record IsWitnessed (w : World) (p : ℕ) (id : RequestId) (a : Answer) : Type 0 where
+  pub lists : Lists
+  pub given : IsGiven w lists
+  pub its_part : lists.part ≡ p
+  pub reply : Reply
+  pub sent : WasSent w (reply_message lists.master reply)
+  pub its_id : reply.id ≡ id
+  pub its_answer : reply.answer ≡ a
+  pub is_early : reply.synced ≡ false
+  pub its_epoch : reply.epoch ≡ lists.epoch
+  pub its_version : reply.version ≡ lists.version
+  pub accepts : Each (λ x. WasSent w (says x (client_node id.client) (body.Accepted (record { id = id; epoch = lists.epoch })))) lists.witnesses
+
+-- what a client has completed with, or may still complete with
+abbrev pub Completable : World → ℕ → RequestId → Answer → Type 0
+Completable w p id a = IsAnswered w p id a ⊎ IsWitnessed w p id a
+
+-- its request is held, and the replay has it with that answer
+pub record IsReplayed (w : World) (p : ℕ) (b : BackupState) (x : WitnessState) (id : RequestId) (a : Answer) : Type 0 where
+  pub request : Request
+  pub its_id : request.id ≡ id
+  pub is_held : IsAmong request (frozen_requests x)
+  pub done : IsDone (lo_of w p) (hi_of w p) (replay (lo_of w p) (hi_of w p) b.log (frozen_requests x)) id a
+
+-- what can complete stands in the backup's log, or is held by the witness and replayed with that answer
+pub record PairGood (w : World) (p : ℕ) (b : BackupState) (x : WitnessState) : Type 0 where
+  pub found : (id : RequestId) (a : Answer) → Completable w p id a
+      → Stands (lo_of w p) (hi_of w p) b.log id a ⊎ IsReplayed w p b x id a
+
+-- any pair of each adopted list, stopped ones by their last state
+abbrev pub PairsGood : World → Type 0
+PairsGood w = (c : PartConfig) → IsAdoptedNow w c → (node other : NodeId) → IsAmong node c.backups → IsAmong other c.witnesses
+    → (b : BackupState) (x : WitnessState) → IsBackup w node b → IsWitness w other x → PairGood w c.part b x
+
+-- ---- what a message says stays true
+
+-- the entries of an append stand in its master's log from its base on, and its round was begun
+pub record AppendOk (w : World) (from : NodeId) (a : Append) : Type 0 where
+  pub l : Logged
+  pub its_log : HasLog w from l
+  pub part : IsPrefix a.entries (drop a.base l.log)
+  pub begun : a.round ≤ l.round
+
+-- the backup is that long, and the round is that of an append of that epoch which was sent to it
+pub record StoredOk (w : World) (from to : NodeId) (epoch round long : ℕ) : Type 0 where
+  pub b : BackupState
+  pub is : IsBackup w from b
+  pub low : long ≤ length b.log
+  pub append : Append
+  pub sent : WasSent w (says to from (body.Append append))
+  pub its_epoch : append.epoch ≡ epoch
+  pub its_round : append.round ≡ round
+
+-- what a backup's answer to an append says
+abbrev pub AppendAnswerOk : World → NodeId → NodeId → Appended → AppendAnswer → Type 0
+AppendAnswerOk w from to a (Stored long) = StoredOk w from to a.epoch a.round long
+AppendAnswerOk w from to a _ = ⊤
+
+-- the log is that backup's for good
+pub record FencedLogOk (w : World) (from : NodeId) (epoch : ℕ) (entries : List Entry) : Type 0 where
+  pub b : BackupState
+  pub is : IsBackup w from b
+  pub its_log : b.log ≡ entries
+  pub fenced : epoch ≤ b.fence
+
+-- what a backup's answer to a fence says
+abbrev pub FenceReplyOk : World → NodeId → ℕ → FenceReply → Type 0
+FenceReplyOk w from epoch (Log entries) = FencedLogOk w from epoch entries
+FenceReplyOk w from epoch _ = ⊤
+
+-- the requests are that witness's for good
+pub record FrozenOk (w : World) (from : NodeId) (requests : List Request) : Type 0 where
+  pub x : WitnessState
+  pub is : IsWitness w from x
+  pub its_requests : frozen_requests x ≡ requests
+
+-- the id is held, or a collection of that epoch which lists it was sent to that witness
+pub record HeldBy (w : World) (from : NodeId) (id : RequestId) : Type 0 where
+  pub x : WitnessState
+  pub is : IsWitness w from x
+  pub request : Request
+  pub its_id : request.id ≡ id
+  pub is_held : IsAmong request (frozen_requests x)
+
+-- a collection that lists the id was sent to the witness
+pub record Collected (w : World) (from : NodeId) (id : RequestId) (epoch : ℕ) : Type 0 where
+  pub node : NodeId
+  pub gc : Gc
+  pub sent : WasSent w (says node from (body.Gc gc))
+  pub its_epoch : gc.epoch ≡ epoch
+  pub listed : IsAmong id gc.ids
+
+-- what an accept says
+abbrev pub AcceptedOk : World → NodeId → Accepted → Type 0
+AcceptedOk w from a = HeldBy w from a.id ⊎ Collected w from a.id a.epoch
+
+-- the id of a synced reply stands with that answer on each backup of that version's list, and of each later list of the epoch
+abbrev pub SyncedOk : World → NodeId → Reply → Type 0
+SyncedOk w from r = (l : Lists) → IsGiven w l → l.master ≡ from → r.version ≤ l.version → WasAdopted w l
+    → Each (λ node. (b : BackupState) → IsBackup w node b → Stands (lo_of w l.part) (hi_of w l.part) b.log r.id r.answer) l.backups
+
+-- the package is that of the Take of its migration
+pub record PackageOk (w : World) (migration : ℕ) (carried : Package) : Type 0 where
+  pub node : NodeId
+  pub l : Logged
+  pub its_log : HasLog w node l
+  pub taken : IsAmong (Take migration carried) l.log
+
+-- a master has told the manager this package
+pub record WasTaken (w : World) (t : Parcel) : Type 0 where
+  pub node : NodeId
+  pub told : WasSent w (says node manager_node (body.Taken t))
+
+-- what was told of a migration stands on each backup of the sender's partition's adopted list
+abbrev pub OnAdopted : World → ℕ → (List Entry → Type 0) → Type 0
+OnAdopted w p Has = (c : PartConfig) → IsAdoptedNow w c → c.part ≡ p → Each (λ node. (b : BackupState) → IsBackup w node b → Has b.log) c.backups
+
+-- the take of a migration stands in a log
+abbrev pub TakeStands : ℕ → Package → List Entry → Type 0
+TakeStands migration carried log = IsAmong (Take migration carried) log
+
+-- the give of a migration stands in a log
+abbrev pub GiveStands : ℕ → List Entry → Type 0
+GiveStands migration log = (carried : Package) × IsAmong (Give migration carried) log
+
+-- something of the sender's partition
+abbrev pub FromPart : World → NodeId → ((p : ℕ) → Type 0) → Type 0
+FromPart w from P = (l : Lists) → IsGiven w l → l.master ≡ from → P l.part
+
+-- every fresh backup has the whole log as it was at Recovered: the replay over the backup and the witness that were named
+pub record RecoveredOk (w : World) (from : NodeId) (epoch : ℕ) : Type 0 where
+  pub order : Recover
+  pub sent : WasSent w (says manager_node from (body.Recover order))
+  pub its_epoch : order.epoch ≡ epoch
+  pub b : BackupState
+  pub its_backup : IsBackup w order.backup b
+  pub x : WitnessState
+  pub its_witness : IsWitness w order.witness x
+  pub on_all : Each (λ node. (f : BackupState) → IsBackup w node f → IsPrefix (replay order.lo order.hi b.log (frozen_requests x)) f.log) order.backups
+
+-- an entry that may be pushed while a master switches
+abbrev pub IsOnlyExpire : Entry → Type 0
+IsOnlyExpire (Expire client) = ⊤
+IsOnlyExpire _ = ⊥
+
+-- Every backup of the prepared list has the log as it was when Prepared of that version was first sent, which is as far as
+-- any append before it reaches; and its master has pushed no Op, Take or Give since without having taken that list
+pub record PreparedOk (w : World) (from : NodeId) (version : ℕ) : Type 0 where
+  pub lists : Lists
+  pub given : IsGiven w lists
+  pub its_master : lists.master ≡ from
+  pub its_version : lists.version ≡ version
+  pub l : Logged
+  pub its_log : HasLog w from l
+  pub place : ℕ
+  pub prepared : At (messages w) place (says from manager_node (body.Prepared version))
+  pub first : (k : ℕ) → At (messages w) k (says from manager_node (body.Prepared version)) → place ≤ k
+  pub cut : ℕ
+  pub reaches : (k : ℕ) (to : NodeId) (a : Append) → k < place → At (messages w) k (says from to (body.Append a)) → a.base + length a.entries ≤ cut
+  pub reached : (k : ℕ) × (to : NodeId) × (a : Append) × (k < place) × At (messages w) k (says from to (body.Append a)) × (a.base + length a.entries ≡ cut)
+  pub on_all : Each (λ node. (b : BackupState) → IsBackup w node b → IsPrefix (take cut l.log) b.log) lists.backups
+  pub since : (m : MasterState) → IsMaster w from (Serving m) → m.version < version → Each IsOnlyExpire (drop cut m.log)
+
+-- each entry of a configuration is one that was adopted
+abbrev pub ConfigOk : World → Config → Type 0
+ConfigOk w config = Each (λ c. WasAdopted w (lists_of_part c)) config.parts
+
+-- it is a master that had lists of that epoch, and of that version
+pub record Speaks (w : World) (from : NodeId) (epoch version : ℕ) : Type 0 where
+  pub lists : Lists
+  pub adopted : WasAdopted w lists
+  pub its_master : lists.master ≡ from
+  pub its_epoch : lists.epoch ≡ epoch
+  pub its_version : lists.version ≡ version
+
+-- it is a master that has served, in that epoch
+pub record Served (w : World) (from : NodeId) (epoch : ℕ) : Type 0 where
+  pub version : ℕ
+  pub speaks : Speaks w from epoch version
+
+-- it is a master that has served
+pub record IsServer (w : World) (from : NodeId) : Type 0 where
+  pub epoch : ℕ
+  pub served : Served w from epoch
+
+-- what a reply says
+abbrev pub ReplyOk : World → NodeId → Reply → Bool → Type 0
+ReplyOk w from r true = Speaks w from r.epoch r.version × SyncedOk w from r
+ReplyOk w from r false = Speaks w from r.epoch r.version
+
+-- what a message says, by its kind
+abbrev pub BodyOk : World → NodeId → NodeId → Body → Type 0
+BodyOk w from to (body.Append a) = AppendOk w from a
+BodyOk w from to (body.Appended a) = AppendAnswerOk w from to a a.answer
+BodyOk w from to (body.FenceAnswer a) = FenceReplyOk w from a.epoch a.answer
+BodyOk w from to (body.FrozenAnswer requests) = FrozenOk w from requests
+BodyOk w from to (body.Accepted a) = AcceptedOk w from a
+BodyOk w from to (body.Reply r) = ReplyOk w from r r.synced
+BodyOk w from to (body.Worth v) = Served w from v.epoch
+BodyOk w from to (body.Gc g) = Served w from g.epoch
+BodyOk w from to (body.Taken t) = IsServer w from × PackageOk w t.migration t.package × FromPart w from (λ p. OnAdopted w p (TakeStands t.migration t.package))
+BodyOk w from to (body.GiveIn t) = WasTaken w t × PackageOk w t.migration t.package
+BodyOk w from to (body.Given migration) = IsServer w from × FromPart w from (λ p. OnAdopted w p (GiveStands migration))
+BodyOk w from to (body.Recovered r) = RecoveredOk w from r.epoch
+BodyOk w from to (body.Prepared version) = PreparedOk w from version
+BodyOk w from to (body.Configuration config) = ConfigOk w config
+BodyOk w from to _ = ⊤
+
+-- Of every message ever sent: its sender and its addressee are nodes, and what it says is so
+pub record MessageOk (w : World) (m : Message) : Type 0 where
+  pub sender : IsNode w m.from
+  pub addressee : IsNode w m.to
+  pub says_so : BodyOk w m.from m.to m.body
+
+-- a recovering master's log, once it has one, is the replay over the backup and the witness that its order named
+pub record ReplayOk (w : World) (s : RecoveryState) (r : Replayed) : Type 0 where
+  pub b : BackupState
+  pub its_backup : IsBackup w s.order.backup b
+  pub x : WitnessState
+  pub its_witness : IsWitness w s.order.witness x
+  pub is : r.log ≡ replay s.order.lo s.order.hi b.log (frozen_requests x)
+  pub its_cut : r.cut ≡ length b.log
+
+-- what a recovery keeps, by its phase
+abbrev pub PhaseOk : World → RecoveryState → RecoveryPhase → Type 0
+PhaseOk w s (Asking log requests) = ⊤
+PhaseOk w s (Storing r) = ReplayOk w s r
+PhaseOk w s (Waiting r) = ReplayOk w s r
+
+-- while an attempt is the newest and unfinished, the two that it names are of the adopted list
+abbrev pub AttemptOk : PartConfig → Option Doing → Type 0
+AttemptOk c (Some (manager.Recovering node o)) = IsAmong o.backup c.backups × IsAmong o.witness c.witnesses
+AttemptOk c _ = ⊤
+
+-- an attempt of a client was made by adopted lists
+pub record AttemptWas (w : World) (a : Attempt) : Type 0 where
+  pub lists : Lists
+  pub adopted : WasAdopted w lists
+  pub its_master : a.master ≡ lists.master
+  pub its_epoch : a.epoch ≡ lists.epoch
+  pub its_version : a.version ≡ lists.version
+  pub its_witnesses : a.witnesses ≡ lists.witnesses
+
+-- what was said, and what recoveries and clients go by
+pub record SaidOk (w : World) : Type 0 where
+  pub messages_ok : Each (MessageOk w) (messages w)
+  pub recoveries : (node : NodeId) (s : RecoveryState) → IsMaster w node (Recovering s) → PhaseOk w s s.phase
+  pub attempts : Each (λ c. AttemptOk c (numbered w.manager.doing c.part)) w.manager.config.parts
+  pub sendings : Each (λ (c : ClientState). Each (λ (p : Pending). Each (AttemptWas w) p.attempts) c.pending) w.clients

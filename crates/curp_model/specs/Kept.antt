@@ -1,0 +1,331 @@
+-- What holds after every step of the nodes and of the order, as statements (this project's own).
+use Rattle.std.specs.Prelude.{◌≡◌, ◌≤◌, ◌<◌, ◌⊎◌, ℕ, ◌^◌, true, false, List, [], length, take, Some, ⊤}
+use Rattle.std.specs.Cmp.Lexicographic.{slice_cmp}
+use Rattle.std.specs.FinMap as store
+use Rattle.std.specs.FinMap.Entries.{find}
+use Rattle.std.specs.Ordering.{nat_cmp}
+use Rattle.curp_base.specs.Words.{At, Each, IsPrefix}
+use Rattle.curp_cmd.specs.Hash.{hash_of}
+use Rattle.curp_cmd.specs.Store.{Contents, nothing, applied}
+use Rattle.curp_cmd.specs.declared.command.Answer.{Answer}
+use Rattle.curp_cmd.specs.declared.command.Request.{Request}
+use Rattle.curp_cmd.specs.declared.command.RequestId.{RequestId}
+use Rattle.curp_cmd.specs.declared.entry.Entry.{Entry}
+use Rattle.curp_cmd.specs.declared.entry.Entry.TheVariants.{Op, Take, Give}
+use Rattle.curp_cmd.specs.declared.migration.Package.{Package}
+use Rattle.curp_cmd.specs.declared.node.NodeId.{NodeId}
+use Rattle.curp_msg.specs.declared.answer.AppendAnswer.TheVariants.{Stored}
+use Rattle.curp_msg.specs.declared.answer.FenceReply.{FenceReply}
+use Rattle.curp_msg.specs.declared.answer.FenceReply.TheVariants.{Log}
+use Rattle.curp_msg.specs.declared.answer.GcAnswer.{GcAnswer}
+use Rattle.curp_msg.specs.declared.answer.GcAnswer.TheVariants.{Suspects}
+use Rattle.curp_msg.specs.declared.answer.Refusal.{Refusal}
+use Rattle.curp_msg.specs.declared.answer.Refusal.TheVariants as refusal
+use Rattle.curp_msg.specs.declared.body.Appended.{Appended}
+use Rattle.curp_msg.specs.declared.body.Body.{Body}
+use Rattle.curp_msg.specs.declared.body.Body.TheVariants as body
+use Rattle.curp_msg.specs.declared.body.Recover.{Recover}
+use Rattle.curp_msg.specs.declared.message.Message.{Message}
+use Rattle.curp_msg.specs.declared.body.Gc.{Gc}
+use Rattle.curp_msg.specs.declared.body.Reply.{Reply}
+use Rattle.curp_msg.specs.declared.body.Worth.{Worth}
+use Rattle.curp_msg.specs.declared.config.PartConfig.{PartConfig}
+use Rattle.curp_order.specs.Order.{store_after}
+use Rattle.curp_order.specs.declared.Event.TheVariants.{Complete}
+use Rattle.curp_range.specs.Spans.{Owns, is_in}
+use Rattle.curp_model.specs.declared.Check.{Check}
+use Rattle.curp_model.specs.declared.Mode.TheVariants as mode
+use Rattle.curp_model.specs.declared.Check.TheVariants.{Expired, Stale, Known, New}
+use Rattle.curp_model.specs.Backup.{BackupState}
+use Rattle.curp_model.specs.Facts.{WasSent, IsAmong, lo_of, hi_of, IsBackup, IsMaster, IsWitness, Logged, HasLog, Lists, IsGiven, WasAdopted, IsAdoptedNow, SaidOk, PairsGood, reply_message}
+use Rattle.curp_model.specs.Log.{IsLog, IsDone, LogState, entry_touches, meaning}
+use Rattle.curp_model.specs.Manager.{Migration}
+use Rattle.curp_model.specs.Marks.{Mark, Looked, shown}
+use Rattle.curp_model.specs.Master as master
+use Rattle.curp_model.specs.Master.{MasterState, Captured, Acknowledged, from_backup, has, is_among}
+use Rattle.curp_model.specs.Moved.{says, client_node, manager_node}
+use Rattle.curp_model.specs.Recovery.{Recovering, RecoveryState, Replayed, Serving, Storing, Waiting, replay}
+use Rattle.curp_model.specs.Requests.{hashes}
+use Rattle.curp_model.specs.Table.{check}
+use Rattle.curp_model.specs.Witness.{WitnessState, frozen_requests}
+use Rattle.curp_model.specs.World.{World, messages, order}
+
+-- ---- logs
+
+-- the logs of all masters, recovering ones included, are logs
+abbrev pub LogsOk : World → Type 0
+LogsOk w = (l : Lists) → IsGiven w l → (its : Logged) → HasLog w l.master its → IsLog (lo_of w l.part) (hi_of w l.part) its.log
+
+-- a backup's log is a beginning of that of the master of its partition and epoch
+pub record FollowsLog (w : World) (l : Lists) (b : BackupState) : Type 0 where
+  pub its : Logged
+  pub its_log : HasLog w l.master its
+  pub front : IsPrefix b.log its.log
+
+-- which knows no more of the backup than there is, and of no round that it hasn't begun
+pub record KnowsNoMore (w : World) (l : Lists) (node : NodeId) (b : BackupState) : Type 0 where
+  pub known : (m : MasterState) → IsMaster w l.master (Serving m)
+      → ((from_backup m.acknowledged node).length ≤ length b.log) × ((from_backup m.acknowledged node).round ≤ m.round)
+  pub complete : (s : RecoveryState) (r : Replayed) → IsMaster w l.master (Recovering s) → (s.phase ≡ Storing r) ⊎ (s.phase ≡ Waiting r)
+      → is_among node r.complete ≡ true → IsPrefix r.log b.log
+
+-- each backup follows its master's log
+abbrev pub BackupsFollow : World → Type 0
+BackupsFollow w = (l : Lists) → IsGiven w l → (node : NodeId) → IsAmong node l.backups → (b : BackupState) → IsBackup w node b
+    → ((b.log ≡ []) ⊎ FollowsLog w l b) × KnowsNoMore w l node b
+
+-- the lists that a master serves by
+abbrev pub lists_of_master : NodeId → MasterState → Lists
+lists_of_master node m =
+    record { part = m.part; epoch = m.epoch; version = m.version; master = node; backups = m.backups; witnesses = m.witnesses }
+
+-- a serving master has the last lists that were adopted for its epoch
+pub record ServesLast (w : World) (node : NodeId) (m : MasterState) : Type 0 where
+  pub adopted : WasAdopted w (lists_of_master node m)
+  pub last : (l : Lists) → WasAdopted w l → l.master ≡ node → l.epoch ≡ m.epoch → l.version ≤ m.version
+
+-- each serving master serves by the last lists
+abbrev pub MastersFollow : World → Type 0
+MastersFollow w = (node : NodeId) (m : MasterState) → IsMaster w node (Serving m) → m.phase ≡ master.Serving → ServesLast w node m
+
+-- ---- early replies
+
+-- The Op of an unsynced reply is free: between what was synced in that step and its index no entry touches its hashes, and
+-- what was synced is on each backup of that version's list
+pub record EarlyOk (w : World) (l : Lists) (r : Reply) : Type 0 where
+  pub its : Logged
+  pub its_log : HasLog w l.master its
+  pub done : IsDone (lo_of w l.part) (hi_of w l.part) its.log r.id r.answer
+  pub free : (m : MasterState) → IsMaster w l.master (Serving m) → has done.index m.free ≡ true
+  pub synced : ℕ
+  pub below : synced ≤ done.index
+  pub apart : (k : ℕ) (e : Entry) → synced ≤ k → k < done.index → At its.log k e → Each (λ h. entry_touches e h ≡ false) (hashes done.request.command)
+  pub stored : Each (λ node. (b : BackupState) → IsBackup w node b → synced ≤ length b.log) l.backups
+
+-- each unsynced reply is of a free op
+abbrev pub EarlyRepliesOk : World → Type 0
+EarlyRepliesOk w = (l : Lists) → IsGiven w l → (r : Reply) → WasSent w (reply_message l.master r) → r.synced ≡ false → r.version ≡ l.version
+    → EarlyOk w l r
+
+-- ---- collections
+
+-- what the check says of an id that may be collected
+abbrev pub IsCollectable : Check → Type 0
+IsCollectable (Known a index) = ⊤
+IsCollectable (Stale first) = ⊤
+IsCollectable Expired = ⊤
+IsCollectable New = ⊥
+
+-- After so many entries the id stands in the log, or is stale or expired, and every backup of the list that the master had,
+-- and of each later list of the epoch, has so many
+pub record CollectionOk (w : World) (node to : NodeId) (epoch : ℕ) (id : RequestId) : Type 0 where
+  pub lists : Lists
+  pub its_epoch : lists.epoch ≡ epoch
+  pub its_witness : IsAmong to lists.witnesses
+  pub adopted : WasAdopted w lists
+  pub its_master : lists.master ≡ node
+  pub its : Logged
+  pub its_log : HasLog w node its
+  pub count : ℕ
+  pub checked : IsCollectable (check (meaning (lo_of w lists.part) (hi_of w lists.part) (take count its.log)).table id)
+  pub stored : (l : Lists) → WasAdopted w l → l.master ≡ node → lists.version ≤ l.version
+      → Each (λ backup. (b : BackupState) → IsBackup w backup b → count ≤ length b.log) l.backups
+
+-- each id of a collection may be collected
+abbrev pub CollectionsOk : World → Type 0
+CollectionsOk w = (node to : NodeId) (gc : Gc) → WasSent w (says node to (body.Gc gc)) → Each (CollectionOk w node to gc.epoch) gc.ids
+
+-- ---- first numbers
+
+-- a client has completed all its requests below a number
+abbrev pub HasCompletedBelow : World → ℕ → ℕ → Type 0
+HasCompletedBelow w client first = (seq : ℕ) → 1 ≤ seq → seq < first → (i : ℕ) × (a : Answer) × At w.history i (Complete (record { client = client; seq = seq }) a)
+
+-- the same of a line of a table's first numbers
+abbrev pub AllCompletedBelow : World → ℕ × ℕ → Type 0
+AllCompletedBelow w line = HasCompletedBelow w line.0 line.1
+
+-- the first number that a request carries, and the one that an entry acknowledges
+abbrev pub RequestFirstOk : World → Request → Type 0
+RequestFirstOk w r = HasCompletedBelow w r.id.client r.first
+
+-- the first numbers of an entry
+abbrev pub EntryFirstOk : World → Entry → Type 0
+EntryFirstOk w (Op r acknowledged) = RequestFirstOk w r × HasCompletedBelow w r.id.client acknowledged
+EntryFirstOk w (Take migration taken) = Each (AllCompletedBelow w) taken.table.firsts
+EntryFirstOk w (Give migration given) = Each (AllCompletedBelow w) given.table.firsts
+EntryFirstOk w _ = ⊤
+
+-- the first numbers of a backup's log
+abbrev pub ReplyFirstOk : World → FenceReply → Type 0
+ReplyFirstOk w (Log entries) = Each (EntryFirstOk w) entries
+ReplyFirstOk w _ = ⊤
+
+-- the first numbers of suspects
+abbrev pub SuspectsFirstOk : World → GcAnswer → Type 0
+SuspectsFirstOk w (Suspects requests) = Each (RequestFirstOk w) requests
+SuspectsFirstOk w _ = ⊤
+
+-- the first number that a refusal tells
+abbrev pub RefusalFirstOk : World → ℕ → Refusal → Type 0
+RefusalFirstOk w client (refusal.Stale first) = HasCompletedBelow w client first
+RefusalFirstOk w client _ = ⊤
+
+-- the first numbers of a message
+abbrev pub BodyFirstOk : World → Body → Type 0
+BodyFirstOk w (body.Update ask) = RequestFirstOk w ask.request
+BodyFirstOk w (body.Sync ask) = RequestFirstOk w ask.request
+BodyFirstOk w (body.Read ask) = RequestFirstOk w ask.request
+BodyFirstOk w (body.Record r) = RequestFirstOk w r.request
+BodyFirstOk w (body.Append a) = Each (EntryFirstOk w) a.entries
+BodyFirstOk w (body.FenceAnswer a) = ReplyFirstOk w a.answer
+BodyFirstOk w (body.FrozenAnswer requests) = Each (RequestFirstOk w) requests
+BodyFirstOk w (body.Collected c) = SuspectsFirstOk w c.answer
+BodyFirstOk w (body.Refuse r) = RefusalFirstOk w r.id.client r.refusal
+BodyFirstOk w (body.Taken t) = Each (AllCompletedBelow w) t.package.table.firsts
+BodyFirstOk w (body.GiveIn t) = Each (AllCompletedBelow w) t.package.table.firsts
+BodyFirstOk w _ = ⊤
+
+-- each first number in a log, a package or a message is one below which its client has completed all
+pub record FirstNumbersOk (w : World) : Type 0 where
+  pub in_logs : (l : Lists) → IsGiven w l → (its : Logged) → HasLog w l.master its → Each (EntryFirstOk w) its.log
+  pub in_messages : Each (λ (m : Message). BodyFirstOk w m.body) (messages w)
+
+-- ---- adoption
+
+-- The log of an adopted recovery began as the replay of a fenced backup and a frozen witness of the lists before it, and
+-- every fresh backup has it whole
+pub record AdoptionOk (w : World) (l : Lists) : Type 0 where
+  pub before : Lists
+  pub was : WasAdopted w before
+  pub its_part : before.part ≡ l.part
+  pub earlier : before.epoch < l.epoch
+  pub node : NodeId
+  pub named : IsAmong node before.backups
+  pub b : BackupState
+  pub its_backup : IsBackup w node b
+  pub fenced : l.epoch ≤ b.fence
+  pub other : NodeId
+  pub named_too : IsAmong other before.witnesses
+  pub x : WitnessState
+  pub its_witness : IsWitness w other x
+  pub frozen : x.mode ≡ mode.Frozen
+  pub last : (o : Lists) → WasAdopted w o → o.part ≡ l.part → o.epoch < l.epoch → o.version ≤ before.version
+  pub order : Recover
+  pub ordered : WasSent w (says manager_node l.master (body.Recover order))
+  pub its_epoch : order.epoch ≡ l.epoch
+  pub its_node : order.backup ≡ node
+  pub its_other : order.witness ≡ other
+  pub its : Logged
+  pub its_log : HasLog w l.master its
+  pub began : IsPrefix (replay (lo_of w l.part) (hi_of w l.part) b.log (frozen_requests x)) its.log
+  pub on_all : Each (λ fresh. (f : BackupState) → IsBackup w fresh f → IsPrefix (replay (lo_of w l.part) (hi_of w l.part) b.log (frozen_requests x)) f.log) l.backups
+
+-- each adopted recovery began so
+abbrev pub AdoptionsOk : World → Type 0
+AdoptionsOk w = (l : Lists) → WasAdopted w l → 1 < l.epoch → AdoptionOk w l
+
+-- ---- ownership, and the stores together
+
+-- the meaning of the adopted log of a partition
+pub record AdoptedLog (w : World) (c : PartConfig) : Type 0 where
+  pub now : IsAdoptedNow w c
+  pub its : Logged
+  pub its_log : HasLog w c.master its
+
+-- what an adopted log means
+abbrev pub adopted_meaning : (w : World) (c : PartConfig) → AdoptedLog w c → LogState
+adopted_meaning w c l = meaning (lo_of w c.part) (hi_of w c.part) l.its.log
+
+-- the hash lies in the range of the migration in work, whose Take stands in an adopted log and whose Give stands in none
+pub record OnItsWay (w : World) (h : ℕ) : Type 0 where
+  pub migration : Migration
+  pub in_work : w.manager.moving ≡ Some migration
+  pub inside : is_in migration.range.lo migration.range.hi h ≡ true
+  pub carried : Package
+  pub source : PartConfig
+  pub source_log : AdoptedLog w source
+  pub taken : IsAmong (Take migration.number carried) source_log.its.log
+  pub nowhere : (c : PartConfig) (l : AdoptedLog w c) (p : Package) → IsAmong (Give migration.number p) l.its.log → ⊥
+
+-- one partition owns the hash, and no other
+pub record OwnedByOne (w : World) (h : ℕ) : Type 0 where
+  pub owner : PartConfig
+  pub owner_log : AdoptedLog w owner
+  pub owns : Owns (adopted_meaning w owner owner_log).owned h
+  pub alone : (c : PartConfig) (l : AdoptedLog w c) → Owns (adopted_meaning w c l).owned h → c.part ≡ owner.part
+
+-- each hash has one owner, or is on its way
+abbrev pub HashesOwned : World → Type 0
+HashesOwned w = (h : ℕ) → h < 2 ^ 64 → OwnedByOne w h ⊎ OnItsWay w h
+
+-- the store of one thread over the marks
+abbrev pub marks_store : World → Contents
+marks_store w = store_after nothing (order w)
+
+-- it has at each key what the owner's store has, or what the package on its way has
+pub record StoresTogether (w : World) : Type 0 where
+  pub owned : (key : List ℕ) (o : OwnedByOne w (hash_of key)) → store.get (marks_store w) key ≡ store.get (adopted_meaning w o.owner o.owner_log).store key
+  pub moving : (key : List ℕ) (o : OnItsWay w (hash_of key)) → store.get (marks_store w) key ≡ find (slice_cmp nat_cmp) key o.carried.pairs
+
+-- ---- values, and captures that wait
+
+-- a mark is kept, and one thread at that mark gives the value
+pub record ValueMarked (w : World) (part epoch capture : ℕ) (id : RequestId) (a : Answer) : Type 0 where
+  pub place : ℕ
+  pub mark : Mark
+  pub stands : At w.marks place mark
+  pub its_part : mark.part ≡ part
+  pub its_epoch : mark.epoch ≡ epoch
+  pub its_id : mark.id ≡ id
+  pub length : ℕ
+  pub is_capture : mark.place ≡ Looked capture length
+  pub gives : (applied (store_after nothing (shown (take place w.marks))) mark.command).answer ≡ a
+
+-- each value that was sent has its mark
+abbrev pub ValuesMarked : World → Type 0
+ValuesMarked w = (l : Lists) → IsGiven w l → (v : Worth) → WasSent w (says l.master (client_node v.id.client) (body.Worth v))
+    → ValueMarked w l.part l.epoch v.capture v.id v.answer
+
+-- neither what the master knows of the backup nor any answer that the backup sent is of that round
+pub record NeverSoLate (w : World) (l : Lists) (m : MasterState) (c : Captured) (node : NodeId) : Type 0 where
+  pub known : (from_backup m.acknowledged node).round < c.round
+  pub sent : (a : Appended) (long : ℕ) → WasSent w (says node l.master (body.Appended a)) → a.epoch ≡ l.epoch → a.answer ≡ Stored long → a.round < c.round
+
+-- A later recovery was adopted, and the backup that the first such one named is fenced above, and has a log too short for the
+-- capture, or has acknowledged no round so late, nor ever will
+pub record PassedBy (w : World) (l : Lists) (m : MasterState) (c : Captured) : Type 0 where
+  pub later : Lists
+  pub adopted : WasAdopted w later
+  pub its_part : later.part ≡ l.part
+  pub above : l.epoch < later.epoch
+  pub first : (other : Lists) → WasAdopted w other → other.part ≡ l.part → l.epoch < other.epoch → later.epoch ≤ other.epoch
+  pub order : Recover
+  pub ordered : WasSent w (says manager_node later.master (body.Recover order))
+  pub b : BackupState
+  pub is : IsBackup w order.backup b
+  pub fenced : l.epoch < b.fence
+  pub passed : (length b.log < c.length) ⊎ NeverSoLate w l m c order.backup
+
+-- each capture that waits is marked or passed by
+abbrev pub CapturesOk : World → Type 0
+CapturesOk w = (l : Lists) → IsGiven w l → (m : MasterState) → IsMaster w l.master (Serving m)
+    → Each (λ c. ValueMarked w l.part l.epoch c.number c.id c.answer ⊎ PassedBy w l m c) m.captures
+
+-- ---- all together
+
+-- what holds after every step
+pub record Kept (w : World) : Type 0 where
+  pub pairs : PairsGood w
+  pub said : SaidOk w
+  pub logs : LogsOk w
+  pub backups : BackupsFollow w
+  pub masters : MastersFollow w
+  pub early : EarlyRepliesOk w
+  pub collections : CollectionsOk w
+  pub firsts : FirstNumbersOk w
+  pub adoptions : AdoptionsOk w
+  pub owned : HashesOwned w
+  pub stores : StoresTogether w
+  pub values : ValuesMarked w
+  pub captures : CapturesOk w

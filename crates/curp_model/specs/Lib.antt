@@ -1,0 +1,17 @@
+pub mod Moved
+pub mod Requests
+pub mod Ranges
+pub mod Witness
+pub mod Backup
+pub mod Table
+pub mod Log
+pub mod Master
+pub mod Recovery
+pub mod Client
+pub mod Manager
+pub mod Marks
+pub mod World
+pub mod Text
+pub mod Facts
+pub mod Kept
+pub mod Laws
