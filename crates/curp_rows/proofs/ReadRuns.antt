@@ -1,0 +1,34 @@
+-- The definitions give these examples their texts: reads.
+use Rattle.std.proofs.Common.{◌≡◌, refl, ◌∙◌}
+use Rattle.std.specs.Fmt.{digits}
+use Rattle.curp_cmd.specs.Store.{applied}
+use Rattle.curp_cmd.specs.Hash.{hash_of}
+use Rattle.curp_msg.specs.Weight.{weight_of}
+use Rattle.curp_report.specs.Text.{step_text, order_text}
+use Rattle.curp_model.specs.Witness.{hold, gc, on_witness}
+use Rattle.curp_model.specs.Backup.{append, fence, on_backup}
+use Rattle.curp_model.specs.Table.{check, merge}
+use Rattle.curp_model.specs.Log.{after_entry}
+use Rattle.curp_model.specs.Master.{on_update, on_read, settle, on_appended, on_collected, on_serving, serving_ordered}
+use Rattle.curp_model.specs.Recovery.{on_recover, on_master, master_ordered}
+use Rattle.curp_model.specs.Client.{invoke, retry, on_client, client_ordered}
+use Rattle.curp_model.specs.Manager.{recover, replace, on_recovered, on_prepared, migrate, on_taken, on_given, expire, nudge, on_manager, manager_ordered}
+use Rattle.curp_model.specs.World.{opening, weight, step}
+use Rattle.curp_model.specs.Text.{text_of}
+use Rattle.curp_rows.specs.ReadByARound
+use Rattle.curp_rows.specs.ReadAtASupersededMaster
+use Rattle.curp_rows.proofs.ListedWorld.{listed_text, same_text}
+
+read_by_a_round-computes : listed_text ReadByARound.script_header ReadByARound.script_steps ≡ ReadByARound.script_text
+unfolding digits applied hash_of weight_of step_text order_text hold gc on_witness append fence on_backup check merge after_entry on_update on_read settle on_appended on_collected on_serving serving_ordered on_recover on_master master_ordered invoke retry on_client client_ordered recover replace on_recovered on_prepared migrate on_taken on_given expire nudge on_manager manager_ordered opening weight step
+read_by_a_round-computes = refl
+
+pub read_by_a_round : text_of ReadByARound.script_header ReadByARound.script_steps ≡ ReadByARound.script_text
+read_by_a_round = same_text ReadByARound.script_header ReadByARound.script_steps ∙ read_by_a_round-computes
+
+read_at_a_superseded_master-computes : listed_text ReadAtASupersededMaster.script_header ReadAtASupersededMaster.script_steps ≡ ReadAtASupersededMaster.script_text
+unfolding digits applied hash_of weight_of step_text order_text hold gc on_witness append fence on_backup check merge after_entry on_update on_read settle on_appended on_collected on_serving serving_ordered on_recover on_master master_ordered invoke retry on_client client_ordered recover replace on_recovered on_prepared migrate on_taken on_given expire nudge on_manager manager_ordered opening weight step
+read_at_a_superseded_master-computes = refl
+
+pub read_at_a_superseded_master : text_of ReadAtASupersededMaster.script_header ReadAtASupersededMaster.script_steps ≡ ReadAtASupersededMaster.script_text
+read_at_a_superseded_master = same_text ReadAtASupersededMaster.script_header ReadAtASupersededMaster.script_steps ∙ read_at_a_superseded_master-computes

@@ -1,0 +1,62 @@
+-- A worked example: conflict and sync.
+use Rattle.std.specs.Prelude.{ℕ, true, List, [], ◌∷◌, codes}
+use Rattle.curp_cmd.specs.declared.command.Command.TheVariants as command
+use Rattle.curp_script.specs.declared.script.Header.{Header}
+use Rattle.curp_script.specs.declared.script.Protocol.TheVariants.{One}
+use Rattle.curp_script.specs.declared.script.Step.{Step}
+use Rattle.curp_script.specs.declared.script.Step.TheVariants as steps
+use Rattle.curp_rows.specs.Lines.{lines}
+
+abbrev pub script_header : Header
+script_header = record { clients = 2; f = 1; fast = true; parts = 1; protocol = One; sets = 16; ways = 4 }
+
+abbrev pub script_steps : List Step
+script_steps =
+    steps.Invoke 1 (command.Put (97 ∷ []) (49 ∷ []))
+    ∷ steps.Invoke 2 (command.Put (97 ∷ []) (50 ∷ []))
+    ∷ steps.Deliver 2
+    ∷ steps.Deliver 4
+    ∷ steps.Deliver 1
+    ∷ steps.Deliver 3
+    ∷ steps.Deliver 6
+    ∷ steps.Deliver 9
+    ∷ steps.Deliver 8
+    ∷ steps.Deliver 11
+    ∷ steps.Deliver 12
+    ∷ steps.Deliver 7
+    ∷ steps.Deliver 5
+    ∷ []
+
+abbrev pub script_text : List ℕ
+script_text = lines (
+    codes "s1 done"
+    ∷ codes "m1 C1 M1 update 1.1 f1 e1 v1 put 61 31"
+    ∷ codes "m2 C1 W1 record 1.1 f1 e1 put 61 31"
+    ∷ codes "s2 done"
+    ∷ codes "m3 C2 M1 update 2.1 f1 e1 v1 put 61 32"
+    ∷ codes "m4 C2 W1 record 2.1 f1 e1 put 61 32"
+    ∷ codes "s3 done"
+    ∷ codes "m5 W1 C1 accepted 1.1 e1"
+    ∷ codes "s4 done"
+    ∷ codes "m6 W1 C2 rejected 2.1 conflict 1.1"
+    ∷ codes "s5 done"
+    ∷ codes "m7 M1 C1 reply 1.1 unsynced e1 v1 done"
+    ∷ codes "s6 done"
+    ∷ codes "m8 M1 B1 append e1 b0 n2 r1"
+    ∷ codes "s7 done"
+    ∷ codes "m9 C2 M1 sync 2.1 f1 e1 v1 put 61 32"
+    ∷ codes "s8 done"
+    ∷ codes "m10 M1 C2 refuse 2.1 in-progress"
+    ∷ codes "s9 done"
+    ∷ codes "m11 B1 M1 stored e1 l2 r1"
+    ∷ codes "s10 done"
+    ∷ codes "m12 M1 C2 reply 2.1 synced e1 v1 done"
+    ∷ codes "s11 done"
+    ∷ codes "c 2.1 done"
+    ∷ codes "s12 done"
+    ∷ codes "s13 done"
+    ∷ codes "c 1.1 done"
+    ∷ codes "order 2"
+    ∷ codes "1.1 put 61 31 -> done"
+    ∷ codes "2.1 put 61 32 -> done"
+    ∷ [])

@@ -1,0 +1,36 @@
+-- A worked example: put in one round trip.
+use Rattle.std.specs.Prelude.{ℕ, true, List, [], ◌∷◌, codes}
+use Rattle.curp_cmd.specs.declared.command.Command.TheVariants as command
+use Rattle.curp_script.specs.declared.script.Header.{Header}
+use Rattle.curp_script.specs.declared.script.Protocol.TheVariants.{One}
+use Rattle.curp_script.specs.declared.script.Step.{Step}
+use Rattle.curp_script.specs.declared.script.Step.TheVariants as steps
+use Rattle.curp_rows.specs.Lines.{lines}
+
+abbrev pub script_header : Header
+script_header = record { clients = 2; f = 1; fast = true; parts = 1; protocol = One; sets = 16; ways = 4 }
+
+abbrev pub script_steps : List Step
+script_steps =
+    steps.Invoke 1 (command.Put (97 ∷ []) (49 ∷ []))
+    ∷ steps.Deliver 1
+    ∷ steps.Deliver 2
+    ∷ steps.Deliver 3
+    ∷ steps.Deliver 4
+    ∷ []
+
+abbrev pub script_text : List ℕ
+script_text = lines (
+    codes "s1 done"
+    ∷ codes "m1 C1 M1 update 1.1 f1 e1 v1 put 61 31"
+    ∷ codes "m2 C1 W1 record 1.1 f1 e1 put 61 31"
+    ∷ codes "s2 done"
+    ∷ codes "m3 M1 C1 reply 1.1 unsynced e1 v1 done"
+    ∷ codes "s3 done"
+    ∷ codes "m4 W1 C1 accepted 1.1 e1"
+    ∷ codes "s4 done"
+    ∷ codes "s5 done"
+    ∷ codes "c 1.1 done"
+    ∷ codes "order 1"
+    ∷ codes "1.1 put 61 31 -> done"
+    ∷ [])

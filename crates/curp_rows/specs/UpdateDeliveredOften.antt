@@ -1,0 +1,56 @@
+-- A worked example: update delivered often.
+use Rattle.std.specs.Prelude.{ℕ, true, List, [], ◌∷◌, codes}
+use Rattle.curp_cmd.specs.declared.command.Command.TheVariants as command
+use Rattle.curp_script.specs.declared.script.Header.{Header}
+use Rattle.curp_script.specs.declared.script.Protocol.TheVariants.{One}
+use Rattle.curp_script.specs.declared.script.Step.{Step}
+use Rattle.curp_script.specs.declared.script.Step.TheVariants as steps
+use Rattle.curp_rows.specs.Lines.{lines}
+
+abbrev pub script_header : Header
+script_header = record { clients = 2; f = 1; fast = true; parts = 1; protocol = One; sets = 16; ways = 4 }
+
+abbrev pub script_steps : List Step
+script_steps =
+    steps.Invoke 1 (command.Put (97 ∷ []) (49 ∷ []))
+    ∷ steps.Deliver 1
+    ∷ steps.Deliver 1
+    ∷ steps.Deliver 2
+    ∷ steps.Deliver 3
+    ∷ steps.Deliver 5
+    ∷ steps.Deliver 1
+    ∷ steps.Deliver 1
+    ∷ steps.Invoke 1 (command.Put (98 ∷ []) (50 ∷ []))
+    ∷ steps.Deliver 8
+    ∷ steps.Deliver 1
+    ∷ []
+
+abbrev pub script_text : List ℕ
+script_text = lines (
+    codes "s1 done"
+    ∷ codes "m1 C1 M1 update 1.1 f1 e1 v1 put 61 31"
+    ∷ codes "m2 C1 W1 record 1.1 f1 e1 put 61 31"
+    ∷ codes "s2 done"
+    ∷ codes "m3 M1 C1 reply 1.1 unsynced e1 v1 done"
+    ∷ codes "s3 done"
+    ∷ codes "m4 M1 C1 reply 1.1 unsynced e1 v1 done"
+    ∷ codes "s4 done"
+    ∷ codes "m5 W1 C1 accepted 1.1 e1"
+    ∷ codes "s5 done"
+    ∷ codes "s6 done"
+    ∷ codes "c 1.1 done"
+    ∷ codes "s7 done"
+    ∷ codes "m6 M1 C1 reply 1.1 unsynced e1 v1 done"
+    ∷ codes "s8 done"
+    ∷ codes "m7 M1 C1 reply 1.1 unsynced e1 v1 done"
+    ∷ codes "s9 done"
+    ∷ codes "m8 C1 M1 update 1.2 f2 e1 v1 put 62 32"
+    ∷ codes "m9 C1 W1 record 1.2 f2 e1 put 62 32"
+    ∷ codes "s10 done"
+    ∷ codes "m10 M1 C1 reply 1.2 unsynced e1 v1 done"
+    ∷ codes "s11 done"
+    ∷ codes "m11 M1 C1 refuse 1.1 stale f2"
+    ∷ codes "order 2"
+    ∷ codes "1.1 put 61 31 -> done"
+    ∷ codes "1.2 put 62 32 -> done"
+    ∷ [])
