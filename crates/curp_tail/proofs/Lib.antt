@@ -1,0 +1,2 @@
+pub mod Ascendings
+pub mod Tails

@@ -1,0 +1,9 @@
+//! The end of a log that isn't synced yet: what its entries touch, and whether a hash or a command is among it.
+#![tactic(auto)]
+
+pub mod laws;
+mod tail;
+mod touched;
+
+pub use tail::{Kept, Tail};
+pub use touched::{Hashes, Touched};
