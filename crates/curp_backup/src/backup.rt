@@ -3,7 +3,7 @@ ghost use Rattle.curp_model.specs.Backup.{fresh_backup, install, append, fence};
 ghost use Rattle.curp_backup.specs.Answers.{install_answer, Answers, Replies};
 
 use crate::{AppendError, FenceError, Fenced};
-use curp_base::{NoMemory, TryCopy};
+use curp_base::{copies_of, past};
 use curp_cmd::Entry;
 use std::alloc::Global;
 use std::marker::Model;
@@ -130,30 +130,10 @@ impl Backup {
     }
 }
 
-// The entries past so many.
-fn past(entries: &[Entry], count: u64) -> &[Entry]
-    ensures { result.now ≡ drop count entries.now }
-{
-    if count < entries.len() as u64 {
-        &entries[count as usize..]
-    } else {
-        &[]
-    }
-}
-
-fn copies_of(alloc: Global, entries: &[Entry]) -> Result<Vec<Entry>, NoMemory>
-    ensures { IfOk result (λ copies. copies.items ≡ entries.now) }
-{
-    let mut copies = Vec::with_capacity(alloc, entries.len())?;
-    for entry in entries {
-        copies.push(entry.try_copy(alloc)?)?;
-    }
-    Ok(copies)
-}
-
 #[cfg(test)]
 mod tests {
     use super::*;
+    use curp_base::NoMemory;
     use std::process::Abort;
     use std::test::Fail;
 

@@ -1,4 +1,4 @@
-ghost use Rattle.std.specs.Prelude.{◌≡◌, ◌++◌, [], ◌∷◌, length, IfOk};
+ghost use Rattle.std.specs.Prelude.{◌≡◌, ◌++◌, [], ◌∷◌, length, drop, IfOk};
 
 use crate::NoMemory;
 use std::alloc::Global;
@@ -66,10 +66,29 @@ pub trait TryCopy: Sized {
 
 impl<T: TryCopy + Drop> TryCopy for Items<T> {
     fn try_copy(&self, alloc: Global) -> Result<Items<T>, NoMemory> {
-        let mut items = Vec::with_capacity(alloc, self.items.len())?;
-        for item in &self.items {
-            items.push(item.try_copy(alloc)?)?;
-        }
+        let items = copies_of(alloc, &self.items)?;
         Ok(Items { items })
+    }
+}
+
+/// Copies of items, in their order.
+pub fn copies_of<T: TryCopy + Drop>(alloc: Global, items: &[T]) -> Result<Vec<T>, NoMemory>
+    ensures { IfOk result (λ copies. copies.items ≡ items.now) }
+{
+    let mut copies = Vec::with_capacity(alloc, items.len())?;
+    for item in items {
+        copies.push(item.try_copy(alloc)?)?;
+    }
+    Ok(copies)
+}
+
+/// The items past so many.
+pub fn past<T>(items: &[T], count: u64) -> &[T]
+    ensures { result.now ≡ drop count items.now }
+{
+    if count < items.len() as u64 {
+        &items[count as usize..]
+    } else {
+        &[]
     }
 }

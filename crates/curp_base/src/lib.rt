@@ -5,7 +5,7 @@ mod ascending;
 mod items;
 
 pub use ascending::{AscendingKeys, AscendingPairs, keys_ascend, pairs_ascend};
-pub use items::{Items, TryCopy};
+pub use items::{Items, TryCopy, copies_of, past};
 use std::alloc::AllocError;
 
 /// There was no memory left. It is the one failure that no clause predicts.
