@@ -48,7 +48,7 @@ pub enum Body {
     Fence { epoch: u32 },
     /// A backup answers a fence.
     FenceAnswer(FenceAnswer),
-    /// A recovering master asks a witness for what it holds. From then on it holds nothing more.
+    /// A recovering master asks a witness for what it holds. From then on it takes nothing more, and keeps what it holds.
     Freeze { epoch: u32 },
     /// A witness says which requests it holds.
     FrozenAnswer { requests: Items<Request> },

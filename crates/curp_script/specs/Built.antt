@@ -5,18 +5,18 @@ use Rattle.curp_script.specs.declared.error.Word.TheVariants.{Fast, Parts, Proto
 
 -- scripts may have this form
 unfoldable pub is_built : Word → Bool
-is_built Fast = false
+is_built Fast = true
 is_built Parts = false
 is_built Protocol = false
 is_built Get = false
 is_built Invoke = true
 is_built Retry = false
 is_built Fetch = false
-is_built Sync = false
+is_built Sync = true
 is_built Collect = false
 is_built Recover = false
 is_built Replace = false
 is_built Migrate = false
 is_built Nudge = false
 is_built Expire = false
-is_built Stop = false
+is_built Stop = true

@@ -109,21 +109,18 @@ impl Word {
         ensures { result ≡ is_built self }
     {
         match self {
-            Word::Invoke => true,
-            Word::Fast
-            | Word::Parts
+            Word::Fast | Word::Invoke | Word::Sync | Word::Stop => true,
+            Word::Parts
             | Word::Protocol
             | Word::Get
             | Word::Retry
             | Word::Fetch
-            | Word::Sync
             | Word::Collect
             | Word::Recover
             | Word::Replace
             | Word::Migrate
             | Word::Nudge
-            | Word::Expire
-            | Word::Stop => false,
+            | Word::Expire => false,
         }
     }
 
