@@ -46,7 +46,7 @@ pub record Accept : Type 0 where
   pub epoch : ℕ
 
 -- A request that isn't completed: its sendings, the newest last, whether a synced reply was asked for since the last of
--- them, and what was delivered for it
+-- them, and what was delivered for it, each once
 pub record Pending : Type 0 where
   pub request : Request
   pub attempts : List Attempt
@@ -195,20 +195,32 @@ with_evidence c p = if_proved c p (proved_answer p)
 abbrev pub early_reply : NodeId → Reply → Early
 early_reply from r = record { master = from; epoch = r.epoch; version = r.version; answer = r.answer }
 
+-- the same master has replied, at the same epoch and version
+abbrev pub is_told : Early → Early → Bool
+is_told e told = same_node told.master e.master && (told.epoch == e.epoch) && (told.version == e.version)
+
+-- one more unsynced reply. Of those of a master, an epoch and a version the first is kept
+abbrev pub with_early : List Early → Early → List Early
+with_early early e = if list_any (is_told e) early then early else early ++ e ∷ []
+
+-- one more accept, unless it came before
+abbrev pub with_accept : List Accept → Accept → List Accept
+with_accept accepts a = if has_accepted accepts a.epoch a.witness then accepts else accepts ++ a ∷ []
+
 -- a pending update completes with a synced reply
 abbrev pub replied : ClientState → NodeId → Reply → Option Pending → Moved ClientState
 replied c from r None = quiet c
 replied c from r (Some p) =
     if not (is_update p.request.command) then quiet c
     else if r.synced then completes_with c r.id r.answer None
-    else with_evidence c (record p { early = p.early ++ early_reply from r ∷ [] })
+    else with_evidence c (record p { early = with_early p.early (early_reply from r) })
 
 -- a witness's accept is kept as evidence of a pending update
 abbrev pub accepted : ClientState → NodeId → Accepted → Option Pending → Moved ClientState
 accepted c from a None = quiet c
 accepted c from a (Some p) =
     if is_update p.request.command
-    then with_evidence c (record p { accepts = p.accepts ++ record { witness = from; epoch = a.epoch } ∷ [] })
+    then with_evidence c (record p { accepts = with_accept p.accepts (record { witness = from; epoch = a.epoch }) })
     else quiet c
 
 -- a pending read completes with the first value

@@ -3,6 +3,7 @@ pub mod Requests
 pub mod Ranges
 pub mod Witness
 pub mod Backup
+pub mod Built
 pub mod Table
 pub mod Log
 pub mod Master

@@ -2,8 +2,10 @@
 -- touches its hashes, and everything else when all backups have it. Where a line names neither CURP nor RIFL, the form is this
 -- project's own.
 use Rattle.std.specs.Prelude.{ℕ, ◌+◌, ◌-◌, ◌^◌, ◌==◌, ◌&&◌, nat_le, nat_lt, min, max, if◌then◌else◌, Bool, true, false, not, List, [], ◌∷◌, ◌++◌, length, map, take, drop, slice_get, flat_map, Option, Some, None}
+use Rattle.std.specs.BTreeSet.{insert_key}
 use Rattle.std.specs.FinMap as store
 use Rattle.std.specs.List.{filter, list_any, list_all}
+use Rattle.std.specs.Ordering.{nat_cmp}
 use Rattle.curp_cmd.specs.declared.command.Answer.{Answer}
 use Rattle.curp_cmd.specs.declared.command.Answer.TheVariants.{Found}
 use Rattle.curp_cmd.specs.declared.command.Command.{Command}
@@ -36,7 +38,7 @@ use Rattle.curp_model.specs.declared.Check.TheVariants.{Expired, Stale, Known, N
 use Rattle.curp_model.specs.Log.{LogState, Taken, Given, meaning, answer_after, is_touched, package_of}
 use Rattle.curp_model.specs.Moved.{Moved, quiet, sends, says, says_each, manager_node, client_node, master_node}
 use Rattle.curp_model.specs.Ranges.{owns_all}
-use Rattle.curp_model.specs.Requests.{same_id, hashes, ascending}
+use Rattle.curp_model.specs.Requests.{same_id, hashes}
 use Rattle.curp_model.specs.Table.{check, is_gone}
 
 -- ---- the state
@@ -73,8 +75,8 @@ pub data Phase : Type 0 where
   Serving : Phase
   Switching : Switch → Phase
 
--- Indexes of entries count from 0. `held` are those whose requests wait for a synced reply, `free` those that no entry
--- touched which wasn't synced as they were pushed
+-- Indexes of entries count from 0, and ascend. `held` are those whose requests wait for a synced reply, `free` those that no
+-- entry touched which wasn't synced as they were pushed
 pub record MasterState : Type 0 where
   pub part : ℕ
   pub epoch : ℕ
@@ -247,7 +249,7 @@ pub data Wish : Type 0 where
 
 -- a request waits for its synced reply, and a round begins
 abbrev pub holds_back : ℕ → MasterState → ℕ → Moved MasterState
-holds_back n m index = begins_round n (record m { held = m.held ++ index ∷ [] })
+holds_back n m index = begins_round n (record m { held = insert_key nat_cmp m.held index })
 
 -- a known op that waits for no reply: told again where it is free and its client wants that (CURP)
 abbrev pub again : ℕ → MasterState → Wish → RequestId → Answer → ℕ → Moved MasterState
@@ -372,7 +374,7 @@ between low high entries = take (high - low) (drop low entries)
 -- first held requests, then captures, then migrations
 unfoldable pub settle : ℕ → MasterState → Moved MasterState
 settle n m =
-    let due = ascending (filter (λ index. nat_lt index (synced m)) m.held) in
+    let due = filter (λ index. nat_lt index (synced m)) m.held in
     sends
     (record m {
       held = filter (λ index. not (nat_lt index (synced m))) m.held;

@@ -34,6 +34,11 @@ says from to body = record { from = from; to = to; body = body }
 abbrev pub says_each : NodeId → List NodeId → Body → List Message
 says_each from nodes body = map (λ to. says from to body) nodes
 
+-- a node's state, with the node's number
+pub record Node (S : Type 0) : Type 0 where
+  pub number : ℕ
+  pub state : S
+
 -- What one input does to a node: its next state, the messages that it sends in their order, the request that completes,
 -- and the number by which a local order is refused, else 0
 pub record Moved (S : Type 0) : Type 0 where

@@ -28,7 +28,7 @@ use Rattle.curp_model.specs.Log.{Taken}
 use Rattle.curp_model.specs.Master.{MasterState, Captured, Phase, Serving, Switching, Wish, AtOnce, WhenSynced, state_of, is_serving, synced, is_clean, is_among, stored_on, begins_round, reply, answers_with, pushed, marked_free, pushed_new, checked, on_update, new_read, checked_read, read_command, on_read, synced_reply, is_ready, value_of, moved_entry, between, settle, raised, prepares, goes_on, on_appended, adopted_in, told_again, push_take, take_after, on_take, if_it_counts, reacts, on_serving, same_node}
 use Rattle.curp_model.specs.Moved.{Moved, quiet, sends, says, within, manager_node, master_node}
 use Rattle.curp_model.specs.Ranges.{owns_all}
-use Rattle.curp_model.specs.Requests.{hashes, ascending}
+use Rattle.curp_model.specs.Requests.{hashes}
 use Rattle.curp_model.specs.Recovery as recovery
 use Rattle.curp_model.specs.Recovery.{RecoveryState, RecoveryPhase, Asking, Storing, Waiting, MasterNode, both_there, log_comes, fence_answered, on_recovering, on_master}
 use Rattle.curp_model.specs.Table.{check}
@@ -141,7 +141,7 @@ same_reply n m index (Some (Op r acknowledged)) = ap (λ a. reply n m true r.id 
 same_reply n m index e = refl
 
 abbrev pub due_below : MasterState → List ℕ
-due_below m = ascending (filter (λ index. nat_lt index (synced m)) m.held)
+due_below m = filter (λ index. nat_lt index (synced m)) m.held
 
 abbrev pub settled_with : ℕ → MasterState → List Message → Moved MasterState
 settled_with n m replies = sends
