@@ -1,0 +1,43 @@
+-- A hash that is put in its place among others.
+use Rattle.std.proofs.Common.{◌≡◌, ℕ, zero, suc, ◌+◌, List, [], ◌∷◌, Option, Some, None, refl, ap, arith}
+use Rattle.std.specs.BTreeSet.{insert_key}
+use Rattle.std.specs.List.{insert}
+use Rattle.std.specs.Option.{option_map}
+use Rattle.std.specs.Ordering.{nat_cmp, match_ordering}
+use Rattle.std.specs.declared.cmp.Ordering.{Ordering}
+use Rattle.std.specs.declared.cmp.Ordering.TheVariants.{Less, Equal, Greater}
+use Rattle.curp_slots.specs.Slots.{gap}
+
+pub put_in_gap : (xs : List ℕ) (k at : ℕ) → gap xs k ≡ Some at → insert xs at k ≡ insert_key nat_cmp xs k
+put_in_gap [] k zero e = refl
+put_in_gap [] k (suc at) e = absurd cc
+put_in_gap (x ∷ xs) k at e = go (nat_cmp k x) e (λ j. put_in_gap xs k j)
+  where
+    behind : (o : Option ℕ) → gap xs k ≡ o → option_map (λ at. at + 1) o ≡ Some at → ((j : ℕ) → gap xs k ≡ Some j → insert xs j k ≡ insert_key nat_cmp xs k)
+        → insert (x ∷ xs) at k ≡ x ∷ insert_key nat_cmp xs k
+    behind None here e rest = absurd cc
+    behind (Some j) here e rest =
+        let next : at ≡ j + 1 = cc in
+        let here_too : suc j ≡ at = omega (arith, next) in
+        rw (← here_too) (ap (λ ys. x ∷ ys) (rest j here))
+
+    go : (r : Ordering) → match_ordering r (Some 0) None (option_map (λ at. at + 1) (gap xs k)) ≡ Some at
+        → ((j : ℕ) → gap xs k ≡ Some j → insert xs j k ≡ insert_key nat_cmp xs k)
+        → insert (x ∷ xs) at k ≡ match_ordering r (k ∷ x ∷ xs) (x ∷ xs) (x ∷ insert_key nat_cmp xs k)
+    go Less e rest = let first : 0 ≡ at = cc in rw (← first) refl
+    go Equal e rest = absurd cc
+    go Greater e rest = behind (gap xs k) refl e rest
+
+pub no_gap : (xs : List ℕ) (k : ℕ) → gap xs k ≡ None → xs ≡ insert_key nat_cmp xs k
+no_gap [] k e = absurd cc
+no_gap (x ∷ xs) k e = go (nat_cmp k x) e (no_gap xs k)
+  where
+    behind : (o : Option ℕ) → gap xs k ≡ o → option_map (λ at. at + 1) o ≡ None → (gap xs k ≡ None → xs ≡ insert_key nat_cmp xs k) → x ∷ xs ≡ x ∷ insert_key nat_cmp xs k
+    behind None here e rest = ap (λ ys. x ∷ ys) (rest here)
+    behind (Some j) here e rest = absurd cc
+
+    go : (r : Ordering) → match_ordering r (Some 0) None (option_map (λ at. at + 1) (gap xs k)) ≡ None → (gap xs k ≡ None → xs ≡ insert_key nat_cmp xs k)
+        → x ∷ xs ≡ match_ordering r (k ∷ x ∷ xs) (x ∷ xs) (x ∷ insert_key nat_cmp xs k)
+    go Less e rest = absurd cc
+    go Equal e rest = refl
+    go Greater e rest = behind (gap xs k) refl e rest

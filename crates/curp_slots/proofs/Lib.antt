@@ -1,0 +1,9 @@
+pub mod Accepting
+pub mod Filling
+pub mod Gaps
+pub mod Holdings
+pub mod Ids
+pub mod Registers
+pub mod Sortings
+pub mod Taken
+pub mod Touching

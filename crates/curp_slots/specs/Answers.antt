@@ -1,0 +1,24 @@
+-- What a witness answers.
+use Rattle.std.specs.Prelude.{Option, Some, None, Result, Ok, Err}
+use Rattle.curp_model.specs.Witness.{WitnessState}
+use Rattle.curp_model.specs.declared.Mode.{Mode}
+use Rattle.curp_model.specs.declared.Mode.TheVariants.{Idle, Normal, Frozen}
+use Rattle.curp_msg.specs.declared.answer.Reason.{Reason}
+use Rattle.curp_slots.specs.declared.error.NotIdle.{NotIdle}
+use Rattle.curp_slots.specs.declared.witness.Held.{Held}
+use Rattle.curp_slots.specs.declared.witness.Held.TheVariants.{Accepted, Rejected}
+
+-- why it doesn't hold a request: for none of the reasons where it does
+abbrev pub refusal : Held → Option Reason
+refusal Accepted = None
+refusal (Rejected why) = Some why
+
+-- by its mode
+abbrev pub started_in : Mode → Result (Unit {0}) NotIdle
+started_in Idle = Ok tt
+started_in Normal = Err (record { mode = Normal })
+started_in Frozen = Err (record { mode = Frozen })
+
+-- only one that wasn't started is started
+abbrev pub start_answer : WitnessState → Result (Unit {0}) NotIdle
+start_answer w = started_in w.mode

@@ -1,0 +1,5 @@
+pub mod Answers
+pub mod Hashed
+pub mod Holding
+pub mod Register
+pub mod Slots

@@ -1,0 +1,28 @@
+use curp_base::NoMemory;
+use curp_model::Mode;
+
+/// Why there is no witness of a shape.
+#[derive(Clone, Copy, Debug, PartialEq, Eq)]
+pub enum ShapeError {
+    /// There are not 1 to 1024 sets, or not 1 to 16 ways.
+    BadShape,
+    /// There was no memory for its slots.
+    NoMemory,
+}
+
+/// A witness isn't started again: it has this mode already.
+#[derive(Clone, Copy, Debug, PartialEq, Eq)]
+pub struct NotIdle {
+    pub mode: Mode,
+}
+
+impl From<NoMemory> for ShapeError {
+    ghost use Rattle.std.specs.Prelude.{◌≡◌};
+    ghost use Rattle.curp_slots.specs.declared.error.ShapeError.TheVariants.{NoMemory};
+
+    ghost from_gives = { λ _ error. error ≡ NoMemory };
+
+    fn from(_no_memory: NoMemory) -> ShapeError {
+        ShapeError::NoMemory
+    }
+}

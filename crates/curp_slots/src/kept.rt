@@ -1,0 +1,49 @@
+ghost use Rattle.std.specs.Prelude.{◌≡◌};
+ghost use Rattle.curp_model.specs.Witness.{newly_held};
+ghost use Rattle.curp_slots.specs.Register.{marked};
+
+use curp_cmd::Request;
+use std::marker::Model;
+
+/// A request that is held, how many collections it has survived, and whether it is suspected.
+#[derive(Drop)]
+pub struct Kept {
+    request: Request,
+    survived: u64,
+    suspected: bool,
+}
+
+impl Model for Kept {
+    ghost use Rattle.curp_model.specs.Witness.{Held};
+
+    ghost Value = { Held };
+
+    ghost view = { λ k. record { request = k.request; survived = k.survived; suspected = k.suspected } };
+}
+
+impl Kept {
+    pub fn new(request: &Request) -> Kept
+        ensures { result ≡ newly_held request.now }
+    {
+        Kept {
+            request: *request,
+            survived: 0,
+            suspected: false,
+        }
+    }
+
+    pub fn request(&self) -> &Request
+        ensures { result.now ≡ self.now.request }
+    {
+        &self.request
+    }
+
+    /// Suspects it, if it has survived at least three collections.
+    pub fn mark(&mut self)
+        ensures { self.new ≡ marked self.old }
+    {
+        if self.survived >= 3 {
+            self.suspected = true;
+        }
+    }
+}

@@ -1,0 +1,137 @@
+ghost use Rattle.std.specs.Prelude.{◌≡◌, ◌<◌, [], length, false, map, IfOk, IfErr};
+ghost use Rattle.std.specs.BTreeMap.{values};
+ghost use Rattle.curp_base.specs.Words.{Each};
+ghost use Rattle.curp_model.specs.Witness.{newly_held, placed, requests_by_hash};
+ghost use Rattle.curp_slots.specs.Hashed.{least_places, request_at, requests_of};
+ghost use Rattle.curp_slots.specs.Register.{IdsAscend, IsFilled, IsGap, IsPlace, PlacesAscend, marked_at, is_held};
+
+use crate::hashes::least_hash;
+use crate::kept::Kept;
+use curp_base::NoMemory;
+use curp_cmd::{Request, RequestId};
+use std::alloc::Global;
+use std::collections::BTreeMap;
+use std::marker::Model;
+
+/// Where the request with an id stands among those in the order of arrival.
+#[derive(Clone, Copy, Debug)]
+pub struct Place {
+    pub id: RequestId,
+    pub at: u32,
+}
+
+/// The requests that a witness holds. Contracts see them in ascending order of their ids, and for how many there is room.
+#[derive(Drop)]
+pub struct Register {
+    room: u32,
+    // In the order of arrival.
+    kept: Vec<Kept>,
+    // In ascending order of the ids.
+    index: Vec<Place>,
+}
+
+impl Model for Register {
+    ghost use Rattle.curp_slots.specs.Register.{Registered, IsRegister, held_by};
+    ghost use Rattle.std.specs.Prelude.{vec_capacity};
+
+    ghost Value = { Registered };
+
+    ghost view = { λ r. record { room = r.room; held = held_by r.kept.items r.index.items } };
+
+    ghost invariant = { λ r. IsRegister r.room r.kept.items (vec_capacity r.kept) r.index.items (vec_capacity r.index) };
+}
+
+impl Register {
+    /// No requests, and room for so many.
+    pub fn new(alloc: Global, room: u32) -> Result<Register, NoMemory>
+        ensures { IfOk result (λ register. register ≡ record { room = room; held = [] }) }
+    {
+        let kept = Vec::with_capacity(alloc, room as usize)?;
+        let index = Vec::with_capacity(alloc, room as usize)?;
+        Ok(Register { room, kept, index })
+    }
+
+    /// Whether the request with that id is held.
+    pub fn holds(&self, id: &RequestId) -> bool
+        ensures { result ≡ is_held id.now self.now.held }
+    {
+        find(&self.index, id).is_ok()
+    }
+
+    /// Holds a request more. It takes no memory, since there is room.
+    pub fn add(&mut self, request: &Request)
+        requires room { length self.old.held < self.old.room }
+        requires absent { is_held request.now.id self.old.held ≡ false }
+        ensures value { self.new ≡ record self.old { held = placed (newly_held request.now) self.old.held } }
+        ensures ascend { IdsAscend self.new.held }
+    {
+        if let Err(gap) = find(&self.index, &request.id) {
+            let at = self.kept.len() as u32;
+            self.kept.push_reserved(Kept::new(request));
+            let place = Place { id: request.id, at };
+            self.index.insert(gap, place).unwrap();
+        }
+    }
+
+    /// Marks the request with that id, if it is held.
+    pub fn mark(&mut self, id: &RequestId)
+        ensures value { self.new ≡ record self.old { held = map (marked_at id.now) self.old.held } }
+        ensures ascend { IdsAscend self.new.held }
+    {
+        if let Ok(place) = find(&self.index, id) {
+            let at = self.index[place].at as usize;
+            self.kept[at].mark();
+        }
+    }
+
+    /// The requests, in ascending order of their least hashes.
+    pub fn by_least_hash(&self, alloc: Global) -> Result<Vec<Request>, NoMemory>
+        ensures { IfOk result (λ requests. requests.items ≡ requests_by_hash (requests_of self.now.held)) }
+    {
+        let sorted = places_by_hash(alloc, &self.kept, &self.index)?;
+        requests_at(alloc, &self.kept, &sorted)
+    }
+}
+
+/// The places, in ascending order of the least hashes of what stands there.
+fn places_by_hash(
+    alloc: Global,
+    kept: &[Kept],
+    index: &[Place],
+) -> Result<BTreeMap<u64, u32>, NoMemory>
+    requires { Each (IsFilled kept.now) index.now }
+    ensures sorted { IfOk result (λ sorted. sorted.entries ≡ least_places kept.now index.now) }
+    ensures within { IfOk result (λ sorted. Each (λ at. at < length kept.now) (values sorted)) }
+{
+    let mut sorted = BTreeMap::new(alloc);
+    for place in index {
+        let request = kept[place.at as usize].request();
+        sorted.insert(least_hash(&request.command), place.at)?;
+    }
+    Ok(sorted)
+}
+
+/// The requests at those places.
+fn requests_at(
+    alloc: Global,
+    kept: &[Kept],
+    places: &BTreeMap<u64, u32>,
+) -> Result<Vec<Request>, NoMemory>
+    requires { Each (λ at. at < length kept.now) (values places.now) }
+    ensures { IfOk result (λ requests. requests.items ≡ map (request_at kept.now) (values places.now)) }
+{
+    let mut requests = Vec::with_capacity(alloc, places.len())?;
+    for at in places.values() {
+        requests.push(*kept[*at as usize].request())?;
+    }
+    Ok(requests)
+}
+
+/// Where the place of the request with the id stands in the index, or where it would go.
+fn find(index: &[Place], id: &RequestId) -> Result<usize, usize>
+    requires { PlacesAscend index.now }
+    ensures found { IfOk result (IsPlace index.now id.now) }
+    ensures absent { IfErr result (IsGap index.now id.now) }
+{
+    index.binary_search_by_key(id, |place| place.id)
+}

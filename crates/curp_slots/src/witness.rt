@@ -1,0 +1,301 @@
+ghost use Rattle.std.specs.Prelude.{◌≡◌, ◌<◌, ◌≤◌, ◌↔◌, ◌⊎◌, false, length, IfOk, OnOk, OnErr, Err};
+ghost use Rattle.curp_model.specs.Requests.{hashes as each_once};
+ghost use Rattle.curp_model.specs.Witness.{by_room, conflict, freeze, fresh_witness, frozen_requests, full_set, hold, holds, start, stranger_to, turned_away};
+ghost use Rattle.curp_slots.specs.Answers.{refusal, start_answer};
+ghost use Rattle.curp_slots.specs.Holding.{with_owner_marked, with_owners_marked};
+ghost use Rattle.curp_slots.specs.Slots.{owner};
+
+use crate::hashes::hashes_of;
+use crate::register::Register;
+use crate::slots::Slots;
+use crate::{NotIdle, ShapeError};
+use curp_base::NoMemory;
+use curp_cmd::{Request, RequestId};
+use curp_model::Mode;
+use curp_msg::Reason;
+use std::alloc::Global;
+use std::marker::Model;
+
+/// What a witness does with a request.
+#[derive(Clone, Copy, Debug, PartialEq, Eq)]
+pub enum Held {
+    /// It holds the request, or held one with that id already.
+    Accepted,
+    /// It doesn't hold the request, for that reason.
+    Rejected(Reason),
+}
+
+/// A witness: it holds requests that don't conflict, until they are stored.
+#[derive(Drop)]
+pub struct Witness {
+    alloc: Global,
+    mode: Mode,
+    epoch: Option<u32>,
+    slots: Slots,
+    register: Register,
+}
+
+impl Model for Witness {
+    ghost use Rattle.std.specs.Prelude.{length};
+    ghost use Rattle.curp_model.specs.Witness.{WitnessState};
+    ghost use Rattle.curp_slots.specs.Holding.{IsWitness};
+
+    ghost Value = { WitnessState };
+
+    ghost view = { λ w. record { mode = w.mode; epoch = w.epoch; sets = length w.slots.sets; ways = w.slots.ways; held = w.register.held } };
+
+    ghost invariant = { λ w. IsWitness w.slots w.register };
+}
+
+impl Witness {
+    /// A witness that wasn't started, with so many sets of so many slots. All the memory that it needs to hold requests is
+    /// taken here.
+    pub fn new(alloc: Global, sets: u32, ways: u32) -> Result<Witness, ShapeError>
+        ensures ok { IfOk result (λ witness. witness ≡ fresh_witness sets ways) }
+        ensures bad_shape { (result ≡ Err ShapeError.BadShape) ↔ ((sets < 1) ⊎ ((1024 < sets) ⊎ ((ways < 1) ⊎ (16 < ways)))) }
+    {
+        if !(1..=1024).contains(&sets) || !(1..=16).contains(&ways) {
+            return Err(ShapeError::BadShape);
+        }
+        let slots = Slots::new(alloc, sets, ways)?;
+        let register = Register::new(alloc, sets * ways)?;
+        Ok(Witness {
+            alloc,
+            mode: Mode::Idle,
+            epoch: None,
+            slots,
+            register,
+        })
+    }
+
+    /// Starts the witness at that epoch, once. Nothing that it answers depends on the partition, so that takes no part.
+    pub fn start(&mut self, _part: u32, epoch: u32) -> Result<(), NotIdle>
+        ensures state { self.new ≡ start self.old epoch }
+        ensures answer { result ≡ start_answer self.old }
+    {
+        match self.mode {
+            Mode::Idle => {
+                self.mode = Mode::Normal;
+                self.epoch = Some(epoch);
+                Ok(())
+            }
+            mode => Err(NotIdle { mode }),
+        }
+    }
+
+    /// Holds the request, if it was started at that epoch, isn't frozen, holds none that conflicts, and has a slot for each
+    /// of the request's hashes (CURP's record). One with an id that is held is accepted as it is, whatever its command. What
+    /// conflicts and has survived three collections is suspected. It takes no memory, and looks only at the slots of the
+    /// request's hashes and at what has them, but for making room for its id among those that are held.
+    #[tactic(auto, unfolding(curp_model::specs::Witness::hold))]
+    pub fn hold(&mut self, epoch: u32, request: &Request) -> Held
+        ensures state { self.new ≡ (hold self.old epoch request.now).state }
+        ensures answer { refusal result ≡ (hold self.old epoch request.now).reason }
+    {
+        if let Some(why) = self.turned_away(epoch) {
+            return Held::Rejected(why);
+        }
+        if self.holds(&request.id) {
+            return Held::Accepted;
+        }
+        self.hold_new(request, hashes_of(&request.command).as_slice())
+    }
+
+    /// Holds nothing more from then on, for good, and gives a copy of all that it holds, in ascending order of the least
+    /// hashes.
+    pub fn freeze(&mut self) -> Result<Vec<Request>, NoMemory>
+        ensures state { OnOk result (self.new ≡ freeze self.old) }
+        ensures answer { IfOk result (λ requests. requests.items ≡ frozen_requests self.old) }
+        ensures err { OnErr result (self.new ≡ self.old) }
+    {
+        let requests = self.register.by_least_hash(self.alloc)?;
+        self.mode = Mode::Frozen;
+        Ok(requests)
+    }
+
+    /// What it does with requests now.
+    pub fn mode(&self) -> Mode
+        ensures { result ≡ self.now.mode }
+    {
+        self.mode
+    }
+
+    /// The epoch at which it was started, if it was.
+    pub fn epoch(&self) -> Option<u32>
+        ensures { result ≡ self.now.epoch }
+    {
+        self.epoch
+    }
+
+    /// Whether it holds the request with that id.
+    pub fn holds(&self, id: &RequestId) -> bool
+        ensures { result ≡ holds self.now id.now }
+    {
+        self.register.holds(id)
+    }
+
+    // Why it turns away whatever comes at that epoch.
+    fn turned_away(&self, epoch: u32) -> Option<Reason>
+        ensures { result ≡ turned_away self.now.mode (stranger_to epoch self.now.epoch) }
+    {
+        if let Mode::Idle = self.mode {
+            return Some(Reason::Idle);
+        }
+        if let Some(epoch) = self.stranger_to(epoch) {
+            return Some(Reason::Stranger { epoch });
+        }
+        match self.mode {
+            Mode::Frozen => Some(Reason::Frozen),
+            _ => None,
+        }
+    }
+
+    // The epoch at which it was started, if it isn't that one.
+    fn stranger_to(&self, epoch: u32) -> Option<u32>
+        ensures { result ≡ stranger_to epoch self.now.epoch }
+    {
+        match self.epoch {
+            Some(own) if own != epoch => Some(own),
+            _ => None,
+        }
+    }
+
+    // Holds a request with those hashes and an id that isn't held, if there is room for it.
+    fn hold_new(&mut self, request: &Request, hashes: &[u64]) -> Held
+        requires new { holds self.old request.now.id ≡ false }
+        requires hashes { hashes.now ≡ each_once request.now.command }
+        requires some { 1 ≤ length hashes.now }
+        requires few { length hashes.now ≤ 4 }
+        ensures state { self.new ≡ (by_room self.old request.now (conflict self.old request.now) (full_set self.old request.now)).state }
+        ensures answer { refusal result ≡ (by_room self.old request.now (conflict self.old request.now) (full_set self.old request.now)).reason }
+    {
+        if let Some(held) = self.slots.least_owner(hashes) {
+            mark_owners(&self.slots, &mut self.register, hashes);
+            return Held::Rejected(Reason::Conflict { held });
+        }
+        if let Some(set) = self.slots.full_set(hashes) {
+            return Held::Rejected(Reason::SetFull { set });
+        }
+        self.slots.take(hashes, &request.id);
+        self.register.add(request);
+        Held::Accepted
+    }
+}
+
+/// Marks the requests that have a slot for one of the hashes.
+fn mark_owners(slots: &Slots, register: &mut Register, hashes: &[u64])
+    ensures { register.new ≡ record register.old { held = with_owners_marked slots.now.sets hashes.now register.old.held } }
+{
+    if let [hash, rest @ ..] = hashes {
+        mark_owner(slots, register, *hash);
+        mark_owners(slots, register, rest);
+    }
+}
+
+/// Marks the request that has a slot for the hash, if one has it.
+fn mark_owner(slots: &Slots, register: &mut Register, hash: u64)
+    ensures { register.new ≡ record register.old { held = with_owner_marked (owner slots.now.sets hash) register.old.held } }
+{
+    if let Some(id) = slots.owner(hash) {
+        register.mark(&id);
+    }
+}
+
+#[cfg(test)]
+mod tests {
+    use super::*;
+    use curp_cmd::{Command, Key, Value};
+    use std::test::Fail;
+
+    fn put(client: u32, seq: u32, key: &[u8], value: &[u8]) -> Result<Request, Fail> {
+        Ok(Request {
+            id: RequestId { client, seq },
+            first: 1,
+            command: Command::Put(Key::new(key)?, Value::new(value)?),
+        })
+    }
+
+    #[test]
+    fn has_the_shapes_that_are_allowed(rt: HostRuntime) {
+        let alloc = rt.alloc();
+        for (sets, ways) in [(0, 1), (1, 0), (1025, 1), (1, 17)] {
+            assert_eq!(rt;
+                Witness::new(alloc, sets, ways).err(),
+                Some(ShapeError::BadShape)
+            );
+        }
+        for (sets, ways) in [(1024, 16), (1, 1)] {
+            assert!(rt; Witness::new(alloc, sets, ways).is_ok());
+        }
+    }
+
+    #[test]
+    fn answers_each_call(rt: HostRuntime) -> Result<(), Fail> {
+        let mut witness = Witness::new(rt.alloc(), 1, 1)?;
+        let held = put(1, 1, b"a", b"1")?;
+        assert_eq!(rt; witness.hold(2, &held), Held::Rejected(Reason::Idle));
+        assert_eq!(rt; witness.start(1, 2), Ok(()));
+        assert_eq!(rt; witness.start(1, 2), Err(NotIdle { mode: Mode::Normal }));
+        let conflict = Reason::Conflict { held: held.id };
+        for (epoch, request, answer) in [
+            (1, held, Held::Rejected(Reason::Stranger { epoch: 2 })),
+            (2, held, Held::Accepted),
+            (2, held, Held::Accepted),
+            (2, put(2, 1, b"a", b"2")?, Held::Rejected(conflict)),
+            (
+                2,
+                put(2, 1, b"b", b"2")?,
+                Held::Rejected(Reason::SetFull { set: 0 }),
+            ),
+            (2, put(1, 1, b"b", b"2")?, Held::Accepted),
+        ] {
+            assert_eq!(rt; witness.hold(epoch, &request), answer);
+        }
+        assert_eq!(rt; witness.epoch(), Some(2));
+        for _ in 0..2 {
+            let frozen = witness.freeze()?;
+            assert_eq!(rt; frozen.as_slice(), [held].as_slice());
+        }
+        assert_eq!(rt; witness.hold(2, &held), Held::Rejected(Reason::Frozen));
+        assert_eq!(rt; witness.mode(), Mode::Frozen);
+        assert!(rt; witness.holds(&held.id));
+        Ok(())
+    }
+
+    #[test]
+    fn takes_a_slot_for_each_hash(rt: HostRuntime) -> Result<(), Fail> {
+        let mut witness = Witness::new(rt.alloc(), 1, 4)?;
+        assert_eq!(rt; witness.start(1, 1), Ok(()));
+        let one = Value::new(b"1")?;
+        let [a, b, c, d] = [
+            Key::new(b"a")?,
+            Key::new(b"b")?,
+            Key::new(b"c")?,
+            Key::new(b"d")?,
+        ];
+        let all = Request {
+            id: RequestId { client: 1, seq: 1 },
+            first: 1,
+            command: Command::multi(&[(a, one), (b, one), (c, one), (d, one)])?,
+        };
+        assert_eq!(rt; witness.hold(1, &all), Held::Accepted);
+        let full = Held::Rejected(Reason::SetFull { set: 0 });
+        assert_eq!(rt; witness.hold(1, &put(1, 2, b"e", b"1")?), full);
+        Ok(())
+    }
+
+    // The least hashes are those of "a", "c" and "b", in this order, as the authors of FNV published them.
+    #[test]
+    fn gives_requests_by_their_least_hashes(rt: HostRuntime) -> Result<(), Fail> {
+        let mut witness = Witness::new(rt.alloc(), 1, 4)?;
+        assert_eq!(rt; witness.start(1, 1), Ok(()));
+        let (b, c) = (put(1, 1, b"b", b"1")?, put(1, 2, b"c", b"1")?);
+        let a = put(1, 3, b"a", b"1")?;
+        for request in [b, c, a] {
+            assert_eq!(rt; witness.hold(1, &request), Held::Accepted);
+        }
+        let frozen = witness.freeze()?;
+        assert_eq!(rt; frozen.as_slice(), [a, c, b].as_slice());
+        Ok(())
+    }
+}
