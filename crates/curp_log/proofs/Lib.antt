@@ -1,0 +1,5 @@
+pub mod Fold
+pub mod Stands
+pub mod Grows
+pub mod Calls
+pub mod Owned
