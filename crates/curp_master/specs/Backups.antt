@@ -1,0 +1,18 @@
+-- What a master knows of its backups.
+use Rattle.std.specs.Prelude.{◌≡◌, ℕ, ◌<◌, true, false, List, map, length, slice_index_or}
+use Rattle.curp_cmd.specs.declared.node.NodeId.{NodeId}
+use Rattle.curp_model.specs.Master.{Acknowledged, from_backup, same_node}
+
+-- the lengths that the backups of a list have acknowledged
+abbrev pub lengths : List Acknowledged → List NodeId → List ℕ
+lengths all backups = map (λ b. (from_backup all b).length) backups
+
+-- below a place none is of the backup
+abbrev pub NoneBelow : List Acknowledged → NodeId → ℕ → Type 0
+NoneBelow all backup at = (k : ℕ) (d : Acknowledged) → k < at → same_node (slice_index_or all k d).backup backup ≡ false
+
+-- the first that is of the backup stands at that place
+pub record IsFirst (all : List Acknowledged) (backup : NodeId) (at : ℕ) : Type 0 where
+  pub within : at < length all
+  pub its : (d : Acknowledged) → same_node (slice_index_or all at d).backup backup ≡ true
+  pub before : NoneBelow all backup at

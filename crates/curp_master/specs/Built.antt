@@ -1,0 +1,40 @@
+-- Which messages and orders a master acts on until the others are built: the updates, what backups acknowledge, and the order
+-- to begin a round.
+use Rattle.std.specs.Prelude.{ℕ, List}
+use Rattle.curp_cmd.specs.declared.node.NodeId.{NodeId}
+use Rattle.curp_msg.specs.declared.body.Body.{Body}
+use Rattle.curp_msg.specs.declared.body.Body.TheVariants.{Update, Sync, Appended}
+use Rattle.curp_msg.specs.declared.machine.Input.{Input}
+use Rattle.curp_msg.specs.declared.machine.Input.TheVariants as input
+use Rattle.curp_msg.specs.declared.machine.Local.{Local}
+use Rattle.curp_msg.specs.declared.machine.Local.TheVariants as local
+use Rattle.curp_msg.specs.declared.message.Message.{Message}
+use Rattle.curp_model.specs.Master.{MasterState, on_serving, serving_ordered, if_it_counts}
+use Rattle.curp_model.specs.Moved.{Moved, Node, quiet}
+
+-- a message comes to the serving master n
+unfoldable pub on_built : ℕ → MasterState → NodeId → Body → Moved MasterState
+on_built n m from (Update ask) = on_serving n m from (Update ask)
+on_built n m from (Sync ask) = on_serving n m from (Sync ask)
+on_built n m from (Appended a) = on_serving n m from (Appended a)
+on_built n m from _ = quiet m
+
+-- an order comes to the serving master n
+unfoldable pub built_ordered : ℕ → MasterState → Local → Moved MasterState
+built_ordered n m local.Sync = serving_ordered n m local.Sync
+built_ordered n m _ = quiet m
+
+-- an input comes to the serving master n
+abbrev pub on_input : ℕ → MasterState → Input → Moved MasterState
+on_input n m (input.Message message) = on_built n m message.from message.body
+on_input n m (input.Local order) = built_ordered n m order
+
+-- ---- parts of a move
+
+-- the node behind a move whose numbers count
+abbrev pub after : Node MasterState → Moved MasterState → Node MasterState
+after node moved = record node { state = (if_it_counts node.state moved).state }
+
+-- and what it sends
+abbrev pub told : Node MasterState → Moved MasterState → List Message
+told node moved = (if_it_counts node.state moved).messages

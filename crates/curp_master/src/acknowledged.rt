@@ -1,0 +1,166 @@
+ghost use Rattle.std.specs.Prelude.{◌≡◌, map, length, fold, min, max, OnOk, IfOk, IfSome, IfNone};
+ghost use Rattle.curp_model.specs.Master.{from_backup, is_among, least, raised, same_node};
+ghost use Rattle.curp_master.specs.Backups.{lengths, IsFirst, NoneBelow};
+
+use curp_base::{NoMemory, TryCopy, copies_of};
+use curp_cmd::NodeId;
+use std::alloc::Global;
+use std::marker::Model;
+
+/// The greatest length of its log and the last round that a backup has acknowledged.
+#[derive(Debug, Drop)]
+pub(crate) struct Acknowledged {
+    backup: NodeId,
+    long: u64,
+    round: u64,
+}
+
+impl Model for Acknowledged {
+    ghost use Rattle.curp_model.specs.Master.{Acknowledged};
+
+    ghost Value = { Acknowledged };
+
+    ghost view = { λ a. record { backup = a.backup; length = a.long; round = a.round } };
+}
+
+impl Acknowledged {
+    pub(crate) fn new(backup: NodeId, long: u64, round: u64) -> Acknowledged
+        ensures { result ≡ record { backup = backup; length = long; round = round } }
+    {
+        Acknowledged {
+            backup,
+            long,
+            round,
+        }
+    }
+
+    fn length(&self) -> u64
+        ensures { result ≡ self.now.length }
+    {
+        self.long
+    }
+
+    fn is_from(&self, backup: &NodeId) -> bool
+        ensures { result ≡ same_node self.now.backup backup.now }
+    {
+        self.backup == *backup
+    }
+
+    // What is acknowledged never falls.
+    fn raise(&mut self, long: u64, round: u64)
+        ensures { self.new ≡ record { backup = self.old.backup; length = max self.old.length long; round = max self.old.round round } }
+    {
+        self.long = self.long.max(long);
+        self.round = self.round.max(round);
+    }
+}
+
+impl TryCopy for Acknowledged {
+    fn try_copy(&self, _alloc: Global) -> Result<Acknowledged, NoMemory> {
+        Ok(Acknowledged {
+            backup: self.backup,
+            long: self.long,
+            round: self.round,
+        })
+    }
+}
+
+/// What each backup acknowledges as a list of them begins.
+pub(crate) fn all_at(
+    alloc: Global,
+    backups: &[NodeId],
+    long: u64,
+    round: u64,
+) -> Result<Vec<Acknowledged>, NoMemory>
+    ensures { IfOk result (λ all. all.items ≡ map (λ b. record { backup = b; length = long; round = round }) backups.now) }
+{
+    let mut all = Vec::with_capacity(alloc, backups.len())?;
+    for backup in backups {
+        all.push(Acknowledged::new(*backup, long, round))?;
+    }
+    Ok(all)
+}
+
+/// What is acknowledged with a length and a round of that backup more.
+pub(crate) fn raised(
+    alloc: Global,
+    acknowledged: &[Acknowledged],
+    backup: &NodeId,
+    long: u64,
+    round: u64,
+) -> Result<Vec<Acknowledged>, NoMemory>
+    ensures { IfOk result (λ all. all.items ≡ raised acknowledged.now backup.now long round) }
+{
+    let mut all = copies_of(alloc, acknowledged)?;
+    raise(&mut all, backup, long, round)?;
+    Ok(all)
+}
+
+fn raise(
+    all: &mut Vec<Acknowledged>,
+    backup: &NodeId,
+    long: u64,
+    round: u64,
+) -> Result<(), NoMemory>
+    ensures { OnOk result (all.new.items ≡ raised all.old.items backup.now long round) }
+{
+    match place_of(all, backup) {
+        Some(at) => {
+            all[at].raise(long, round);
+            Ok(())
+        }
+        None => {
+            all.push(Acknowledged::new(*backup, long, round))?;
+            Ok(())
+        }
+    }
+}
+
+/// The length that a backup has acknowledged, at first 0.
+pub(crate) fn length_from(acknowledged: &[Acknowledged], backup: &NodeId) -> u64
+    ensures { result ≡ (from_backup acknowledged.now backup.now).length }
+{
+    match place_of(acknowledged, backup) {
+        Some(at) => acknowledged[at].length(),
+        None => 0,
+    }
+}
+
+/// The least length that a backup of the list has acknowledged.
+pub(crate) fn least_length(acknowledged: &[Acknowledged], backups: &[NodeId]) -> u64
+    ensures { result ≡ least (lengths acknowledged.now backups.now) }
+{
+    match backups {
+        [] => 0,
+        [first, others @ ..] => least_of(acknowledged, length_from(acknowledged, first), others),
+    }
+}
+
+/// The least of a length and those that backups have acknowledged.
+fn least_of(acknowledged: &[Acknowledged], length: u64, backups: &[NodeId]) -> u64
+    ensures { result ≡ fold (λ least b. min least (from_backup acknowledged.now b).length) length backups.now }
+{
+    backups.iter().fold(length, |least, backup| {
+        least.min(length_from(acknowledged, backup))
+    })
+}
+
+/// Whether a node is one of these.
+pub(crate) fn is_among(node: &NodeId, nodes: &[NodeId]) -> bool
+    ensures { result ≡ is_among node.now nodes.now }
+{
+    nodes.contains(node)
+}
+
+/// Where the first acknowledgement of a backup stands.
+fn place_of(acknowledged: &[Acknowledged], backup: &NodeId) -> Option<usize>
+    ensures first { IfSome result (IsFirst acknowledged.now backup.now) }
+    ensures none { IfNone result (NoneBelow acknowledged.now backup.now (length acknowledged.now)) }
+{
+    for at in 0..acknowledged.len() {
+        if acknowledged[at].is_from(backup) {
+            return Some(at);
+        }
+    }
+    None
+}

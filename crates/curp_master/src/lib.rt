@@ -1,0 +1,12 @@
+//! The serving master as a data structure: it answers an update at once where nothing that isn't synced touches its keys, and
+//! everything else once all backups have it.
+#![tactic(auto)]
+
+mod acknowledged;
+mod indexes;
+mod journal;
+mod master;
+mod messages;
+mod queue;
+
+pub use master::Master;
