@@ -1,0 +1,5 @@
+pub mod Firsts
+pub mod Alls
+pub mod Invoking
+pub mod Replacing
+pub mod Evidence

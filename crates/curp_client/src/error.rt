@@ -1,0 +1,77 @@
+ghost use Rattle.std.specs.Prelude.{◌≡◌};
+ghost use Rattle.curp_client.specs.Refusals.{invoke_number, retry_number};
+
+use curp_base::NoMemory;
+
+/// Why a client invokes nothing.
+#[derive(Clone, Copy, Debug, PartialEq, Eq)]
+pub enum InvokeError {
+    /// It has 8 pending requests already.
+    TooMany,
+    /// Its numbers are at their end: the last was 2^32 - 1.
+    Numbers,
+    /// No one partition of its configuration owns all keys of the command.
+    Split,
+    /// There was no memory for the request or its messages.
+    NoMemory,
+}
+
+/// Why a client doesn't send a request again.
+#[derive(Clone, Copy, Debug, PartialEq, Eq)]
+pub enum RetryError {
+    /// No request of that number is pending.
+    NotPending,
+    /// No one partition of its configuration owns all keys of the command.
+    Split,
+    /// There was no memory for the attempt or its messages.
+    NoMemory,
+}
+
+impl InvokeError {
+    /// The number by which a step tells the refusal.
+    pub fn number(self) -> u8
+        ensures { result ≡ invoke_number self }
+    {
+        match self {
+            InvokeError::TooMany => 1,
+            InvokeError::Numbers => 2,
+            InvokeError::Split => 3,
+            InvokeError::NoMemory => 4,
+        }
+    }
+}
+
+impl RetryError {
+    /// The number by which a step tells the refusal.
+    pub fn number(self) -> u8
+        ensures { result ≡ retry_number self }
+    {
+        match self {
+            RetryError::NotPending => 1,
+            RetryError::Split => 2,
+            RetryError::NoMemory => 3,
+        }
+    }
+}
+
+impl From<NoMemory> for InvokeError {
+    ghost use Rattle.std.specs.Prelude.{◌≡◌};
+    ghost use Rattle.curp_client.specs.declared.error.InvokeError.TheVariants.{NoMemory};
+
+    ghost from_gives = { λ _ error. error ≡ NoMemory };
+
+    fn from(_no_memory: NoMemory) -> InvokeError {
+        InvokeError::NoMemory
+    }
+}
+
+impl From<NoMemory> for RetryError {
+    ghost use Rattle.std.specs.Prelude.{◌≡◌};
+    ghost use Rattle.curp_client.specs.declared.error.RetryError.TheVariants.{NoMemory};
+
+    ghost from_gives = { λ _ error. error ≡ NoMemory };
+
+    fn from(_no_memory: NoMemory) -> RetryError {
+        RetryError::NoMemory
+    }
+}

@@ -1,0 +1,14 @@
+//! A client as a data structure: its requests until they complete, and what was delivered for each of them.
+#![tactic(auto)]
+
+mod client;
+mod error;
+mod names;
+mod owner;
+mod pending;
+#[cfg(test)]
+mod tests;
+
+pub use client::Client;
+pub use error::{InvokeError, RetryError};
+pub use pending::{Accept, Attempt, Early, Pending};
