@@ -1,73 +1,121 @@
--- What one input may do to the master and to a backup, as the world's proof reads it.
-use Rattle.std.proofs.Common.{◌≡◌, ℕ, ◌<◌, ◌≤◌, List, [], ◌∷◌, ◌++◌, length, None, Some, ◌⊎◌}
+-- What one input may do to the master, to a backup and to a witness, as the world's proof reads it.
+use Rattle.std.proofs.Common.{◌≡◌, ◌⊎◌, ℕ, ◌<◌, ◌≤◌, true, List, [], ◌∷◌, ◌++◌, length, drop, None}
 use Rattle.std.specs.Bool.{⊤}
-use Rattle.curp_base.specs.Words.{At, Each, IsPrefix, numbered}
+use Rattle.curp_base.specs.Words.{Each, IsPrefix}
 use Rattle.curp_cmd.specs.declared.command.Command.{Command}
-use Rattle.curp_cmd.specs.declared.command.Answer.{Answer}
 use Rattle.curp_cmd.specs.declared.command.Request.{Request}
 use Rattle.curp_cmd.specs.declared.command.RequestId.{RequestId}
 use Rattle.curp_cmd.specs.declared.entry.Entry.{Entry}
+use Rattle.curp_cmd.specs.declared.entry.Entry.TheVariants.{Op}
 use Rattle.curp_cmd.specs.declared.node.NodeId.{NodeId}
+use Rattle.curp_cmd.specs.declared.node.NodeKind.TheVariants as kind
 use Rattle.curp_msg.specs.declared.answer.AppendAnswer.{AppendAnswer}
 use Rattle.curp_msg.specs.declared.answer.AppendAnswer.TheVariants.{Stored}
-use Rattle.curp_msg.specs.declared.message.Message.{Message}
+use Rattle.curp_msg.specs.declared.body.Accepted.{Accepted}
+use Rattle.curp_msg.specs.declared.body.Append.{Append}
+use Rattle.curp_msg.specs.declared.body.Appended.{Appended}
 use Rattle.curp_msg.specs.declared.body.Body.{Body}
-use Rattle.curp_msg.specs.declared.body.Body.TheVariants.{Reply, Refuse, Append, Appended}
-use Rattle.curp_plain.specs.Moved.{Moved, client_node}
-use Rattle.curp_plain.specs.declared.Mark.{Mark}
-use Rattle.curp_plain.specs.Master.{MasterState, entries_of, synced}
-use Rattle.curp_plain.specs.Backup.{BackupState}
-use Rattle.curp_law_order.proofs.Facts.{Stands, AppendOk}
+use Rattle.curp_msg.specs.declared.body.Body.TheVariants as body
+use Rattle.curp_msg.specs.declared.body.Reply.{Reply}
+use Rattle.curp_msg.specs.declared.message.Message.{Message}
+use Rattle.curp_script.specs.declared.script.Header.{Header}
+use Rattle.curp_model.specs.declared.Check.TheVariants.{New}
+use Rattle.curp_model.specs.Backup.{BackupState}
+use Rattle.curp_model.specs.Log.{meaning}
+use Rattle.curp_model.specs.Master.{Acknowledged, MasterState, from_backup, synced}
+use Rattle.curp_model.specs.Moved.{Moved, backup_node, client_node, master_node, witness_node}
+use Rattle.curp_model.specs.Table.{check}
+use Rattle.curp_model.specs.Witness.{WitnessState, holds}
+use Rattle.curp_law_order.specs.Shape.{ServesAsOpened}
+use Rattle.curp_law_order.proofs.Facts.{Done, first_hash, last_hash}
+use Rattle.curp_law_order.proofs.Growing.{HoldsOn}
 
--- a reply is to what stands in the log and is synced
-pub record ReplySays (m : MasterState) (to : NodeId) (id : RequestId) (a : Answer) : Type 0 where
-  pub index : ℕ
-  pub stands : Stands m.log id a index
-  pub durable : index < synced m
-  pub addressed : to ≡ client_node id.client
+-- ---- the master
 
-abbrev pub BodySays : MasterState → NodeId → Body → Type 0
-BodySays m to (Append a) = AppendOk (entries_of m.log) a.base a.entries
-BodySays m to (Reply r) = ReplySays m to r.id r.answer
-BodySays m to (Refuse r) = ⊤
-BodySays m to _ = ⊥
+-- a reply is to what stands in the log, and where it says so, to what is synced
+pub record ReplySays (h : Header) (log : List Entry) (limit : ℕ) (to : NodeId) (r : Reply) : Type 0 where
+  pub addressed : to ≡ client_node r.id.client
+  pub done : Done h log r.id r.answer
+  pub durable : r.synced ≡ true → done.index < limit
 
-abbrev pub Says : MasterState → Message → Type 0
-Says m x = BodySays m x.to x.body
+-- an append has what stands in the log from its base on
+pub record AppendSays (log : List Entry) (from to : NodeId) (a : Append) : Type 0 where
+  pub sender : from ≡ master_node 1
+  pub addressed : to.kind ≡ kind.Backup
+  pub part : IsPrefix a.entries (drop a.base log)
+
+abbrev pub BodySays : Header → List Entry → ℕ → NodeId → NodeId → Body → Type 0
+BodySays h log limit from to (body.Append a) = AppendSays log from to a
+BodySays h log limit from to (body.Reply r) = ReplySays h log limit to r
+BodySays h log limit from to (body.Refuse r) = to ≡ client_node r.id.client
+BodySays h log limit from to _ = ⊥
+
+-- by a log of which so much is synced
+abbrev pub Says : Header → List Entry → ℕ → Message → Type 0
+Says h log limit x = BodySays h log limit x.from x.to x.body
 
 -- a new request that was asked for
-pub record Pushed (Asked : RequestId → Command → Type 0) (before after : List Request) : Type 0 where
+pub record Pushed (Asked : RequestId → Command → Type 0) (h : Header) (before after : List Entry) : Type 0 where
   pub request : Request
-  pub grown : after ≡ before ++ request ∷ []
-  pub is_new : (k : ℕ) (r : Request) → At before k r → r.id ≡ request.id → ⊥
+  pub acknowledged : ℕ
+  pub grown : after ≡ before ++ Op request acknowledged ∷ []
+  pub is_new : check (meaning (first_hash h) (last_hash h) before).table request.id ≡ New
   pub asked : Asked request.id request.command
 
--- a mark is kept, or raised to a length that backup n said
-pub record MarkMove (Told : ℕ → ℕ → Type 0) (n : ℕ) (before after : Mark) : Type 0 where
-  pub told : (after.length ≡ before.length) ⊎ Told n after.length
+abbrev pub LogMove : (RequestId → Command → Type 0) → Header → List Entry → List Entry → Type 0
+LogMove Asked h before after = (after ≡ before) ⊎ Pushed Asked h before after
 
-pub record MasterEffect (Asked : RequestId → Command → Type 0) (Told : ℕ → ℕ → Type 0) (m : MasterState) (r : Moved MasterState) : Type 0 where
+-- what is known of a backup rises no further than what that backup told
+abbrev pub AcksMove : (NodeId → ℕ → Type 0) → List Acknowledged → List Acknowledged → Type 0
+AcksMove Told before after = (node : NodeId) (limit : ℕ) → (from_backup before node).length ≤ limit → ((long : ℕ) → Told node long → long ≤ limit) → (from_backup after node).length ≤ limit
+
+pub record MasterEffect (Asked : RequestId → Command → Type 0) (Told : NodeId → ℕ → Type 0) (h : Header) (m : MasterState) (r : Moved MasterState) : Type 0 where
   pub quiet : r.completed ≡ None
-  pub log : (r.state.log ≡ m.log) ⊎ Pushed Asked m.log r.state.log
-  pub marks : (n : ℕ) (a : Mark) → numbered m.marks n ≡ Some a → (b : Mark) × (numbered r.state.marks n ≡ Some b) × MarkMove Told n a b
-  pub says : Each (Says r.state) r.messages
+  pub accepted : r.refused ≡ 0
+  pub serves : ServesAsOpened h r.state
+  pub log : LogMove Asked h m.log r.state.log
+  pub acks : AcksMove Told m.acknowledged r.state.acknowledged
+  pub says : Each (Says h r.state.log (synced r.state)) r.messages
+
+-- ---- a backup
 
 -- what a backup's answer says of it
-abbrev pub AnswerTells : ℕ → BackupState → ℕ → AppendAnswer → Type 0
-AnswerTells n b from (Stored long) = (from ≡ n) × (long ≤ length b.log)
-AnswerTells n b from _ = ⊥
+abbrev pub AnswerTells : BackupState → AppendAnswer → Type 0
+AnswerTells b (Stored long) = long ≤ length b.log
+AnswerTells b _ = ⊤
 
--- what a backup's message says of it
-abbrev pub BodyTells : ℕ → BackupState → NodeId → Body → Type 0
-BodyTells n b from (Appended a) = AnswerTells n b from.number a.answer
-BodyTells n b from _ = ⊥
+pub record AppendedTells (n : ℕ) (b : BackupState) (from to : NodeId) (a : Appended) : Type 0 where
+  pub sender : from ≡ backup_node n
+  pub addressed : to ≡ master_node 1
+  pub tells : AnswerTells b a.answer
 
-abbrev pub Tells : ℕ → BackupState → Message → Type 0
-Tells n b x = BodyTells n b x.from x.body
+abbrev pub BackupTells : ℕ → BackupState → NodeId → NodeId → Body → Type 0
+BackupTells n b from to (body.Appended a) = AppendedTells n b from to a
+BackupTells n b from to _ = ⊥
 
 -- a backup only adds what stands in the master's log
 pub record BackupEffect (whole : List Entry) (n : ℕ) (b : BackupState) (r : Moved BackupState) : Type 0 where
   pub quiet : r.completed ≡ None
+  pub accepted : r.refused ≡ 0
   pub grown : IsPrefix b.log r.state.log
   pub front : IsPrefix r.state.log whole
-  pub says : Each (Tells n r.state) r.messages
+  pub says : Each (λ (x : Message). BackupTells n r.state x.from x.to x.body) r.messages
+
+-- ---- a witness
+
+pub record AcceptedTells (n : ℕ) (w : WitnessState) (from to : NodeId) (a : Accepted) : Type 0 where
+  pub sender : from ≡ witness_node n
+  pub addressed : to ≡ client_node a.id.client
+  pub held : holds w a.id ≡ true
+
+abbrev pub WitnessTells : ℕ → WitnessState → NodeId → NodeId → Body → Type 0
+WitnessTells n w from to (body.Accepted a) = AcceptedTells n w from to a
+WitnessTells n w from to (body.Rejected r) = to.kind ≡ kind.Client
+WitnessTells n w from to _ = ⊥
+
+-- a witness drops nothing
+pub record WitnessEffect (n : ℕ) (w : WitnessState) (r : Moved WitnessState) : Type 0 where
+  pub quiet : r.completed ≡ None
+  pub accepted : r.refused ≡ 0
+  pub grown : HoldsOn w r.state
+  pub says : Each (λ (x : Message). WitnessTells n r.state x.from x.to x.body) r.messages

@@ -1,118 +1,260 @@
 -- What holds after every step.
-use Rattle.std.proofs.Common.{◌≡◌, ℕ, ◌<◌, ◌≤◌, List, length, drop, Some}
+use Rattle.std.proofs.Common.{◌≡◌, ◌⊎◌, ℕ, ◌*◌, ◌<◌, ◌≤◌, true, List, [], ◌∷◌, length, drop, Some}
 use Rattle.std.specs.Bool.{⊤}
+use Rattle.std.specs.FinMap.Entries.{find}
+use Rattle.std.specs.Prelude.{take}
 use Rattle.curp_base.specs.Words.{At, Each, IsPrefix, numbered}
-use Rattle.curp_cmd.specs.declared.command.Command.{Command}
+use Rattle.curp_cmd.specs.RequestId.{id_cmp}
 use Rattle.curp_cmd.specs.declared.command.Answer.{Answer}
+use Rattle.curp_cmd.specs.declared.command.Command.{Command}
 use Rattle.curp_cmd.specs.declared.command.Request.{Request}
 use Rattle.curp_cmd.specs.declared.command.RequestId.{RequestId}
 use Rattle.curp_cmd.specs.declared.entry.Entry.{Entry}
+use Rattle.curp_cmd.specs.declared.entry.Entry.TheVariants.{Op}
 use Rattle.curp_cmd.specs.declared.node.NodeId.{NodeId}
+use Rattle.curp_cmd.specs.declared.node.NodeKind.TheVariants as kind
 use Rattle.curp_msg.specs.declared.answer.AppendAnswer.{AppendAnswer}
 use Rattle.curp_msg.specs.declared.answer.AppendAnswer.TheVariants.{Stored}
-use Rattle.curp_msg.specs.declared.message.Message.{Message}
+use Rattle.curp_msg.specs.declared.body.Accepted.{Accepted}
+use Rattle.curp_msg.specs.declared.body.Append.{Append}
+use Rattle.curp_msg.specs.declared.body.Appended.{Appended}
+use Rattle.curp_msg.specs.declared.body.Ask.{Ask}
 use Rattle.curp_msg.specs.declared.body.Body.{Body}
-use Rattle.curp_msg.specs.declared.body.Body.TheVariants.{Sync, Reply, Refuse, Append, Appended}
+use Rattle.curp_msg.specs.declared.body.Body.TheVariants as body
+use Rattle.curp_msg.specs.declared.body.Record.{Record}
+use Rattle.curp_msg.specs.declared.body.Reply.{Reply}
+use Rattle.curp_msg.specs.declared.message.Message.{Message}
+use Rattle.curp_order.specs.Order.{IsHistory}
 use Rattle.curp_order.specs.declared.Event.{Event}
 use Rattle.curp_order.specs.declared.Event.TheVariants.{Invoke, Complete}
-use Rattle.curp_order.specs.Order.{IsHistory}
-use Rattle.curp_plain.specs.Moved.{client_node}
-use Rattle.curp_plain.specs.Client.{ClientState}
-use Rattle.curp_plain.specs.declared.Mark.{Mark}
-use Rattle.curp_plain.specs.Master.{MasterState, answers_of, entries_of}
-use Rattle.curp_plain.specs.Backup.{BackupState}
-use Rattle.curp_plain.specs.World.{World, messages}
+use Rattle.curp_script.specs.declared.script.Header.{Header}
+use Rattle.curp_model.specs.Backup.{BackupState}
+use Rattle.curp_model.specs.Client.{Accept, Attempt, ClientState, Early, Pending}
+use Rattle.curp_model.specs.Log.{IsDone, answer_after, meaning}
+use Rattle.curp_model.specs.Manager.{opening_config, opening_manager, opening_part}
+use Rattle.curp_model.specs.Marks.{Mark}
+use Rattle.curp_model.specs.Master.{MasterState, from_backup}
+use Rattle.curp_model.specs.Moved.{backup_node, client_node, master_node}
+use Rattle.curp_model.specs.Ranges.{opening_range}
+use Rattle.curp_model.specs.Recovery.{Serving}
+use Rattle.curp_model.specs.Table.{Noted}
+use Rattle.curp_model.specs.Witness.{WitnessState, holds}
+use Rattle.curp_model.specs.World.{World, messages, shape_of}
+use Rattle.curp_law_order.specs.Marked.{marks_of}
+use Rattle.curp_law_order.specs.Shape.{ServesAsOpened}
+
+-- what the facts speak of: a world with one serving master
+pub record Scene : Type 0 where
+  pub clients : List ClientState
+  pub master : MasterState
+  pub backups : List BackupState
+  pub witnesses : List WitnessState
+  pub sent : List Message
+  pub history : List Event
+  pub marks : List Mark
+
+-- the range of the opening
+abbrev pub first_hash : Header → ℕ
+first_hash h = (opening_range h.parts 1).lo
+
+-- its end
+abbrev pub last_hash : Header → ℕ
+last_hash h = (opening_range h.parts 1).hi
+
+-- the witnesses of the opening
+abbrev pub watchers : Header → List NodeId
+watchers h = (opening_part (shape_of h) 1).witnesses
+
+-- ---- words
 
 abbrev pub Asked : List Event → RequestId → Command → Type 0
-Asked h id c = (i : ℕ) × At h i (Invoke id c)
+Asked events id c = (i : ℕ) × At events i (Invoke id c)
 
--- the request stands in the log at an index, with its answer
-pub record Stands (log : List Request) (id : RequestId) (a : Answer) (k : ℕ) : Type 0 where
-  pub request : Request
-  pub stands : At log k request
-  pub its_id : request.id ≡ id
-  pub its_answer : At (answers_of log) k a
+-- the request stands in the log with that answer
+abbrev pub Done : Header → List Entry → RequestId → Answer → Type 0
+Done h log id a = IsDone (first_hash h) (last_hash h) log id a
 
--- it stands there, and each backup reaches beyond it
-pub record Durable (log : List Request) (backups : List BackupState) (id : RequestId) (a : Answer) : Type 0 where
-  pub index : ℕ
-  pub stands : Stands log id a index
-  pub stored : (n : ℕ) (b : BackupState) → numbered backups n ≡ Some b → index < length b.log
+-- each backup reaches beyond the place
+abbrev pub IsOnEach : List BackupState → ℕ → Type 0
+IsOnEach backups index = (n : ℕ) (b : BackupState) → numbered backups n ≡ Some b → index < length b.log
+
+-- the witness of that name holds the request, if there is one
+abbrev pub IsHeldBy : List WitnessState → RequestId → NodeId → Type 0
+IsHeldBy witnesses id node = (x : WitnessState) → numbered witnesses node.number ≡ Some x → holds x id ≡ true
 
 -- ---- what a message says
 
-pub record ReplyOk (log : List Request) (backups : List BackupState) (to : NodeId) (id : RequestId) (a : Answer) : Type 0 where
-  pub durable : Durable log backups id a
-  pub addressed : to ≡ client_node id.client
+-- a request that was invoked, and goes to the master
+pub record AskOk (s : Scene) (to : NodeId) (ask : Ask) : Type 0 where
+  pub asked : Asked s.history ask.request.id ask.request.command
+  pub addressed : to ≡ master_node 1
 
--- the entries stand in the whole log from base on
-pub record AppendOk (whole : List Entry) (base : ℕ) (entries : List Entry) : Type 0 where
-  pub part : IsPrefix entries (drop base whole)
+-- a request that was invoked, from its client to a witness
+pub record RecordOk (s : Scene) (from to : NodeId) (r : Record) : Type 0 where
+  pub asked : Asked s.history r.request.id r.request.command
+  pub sender : from ≡ client_node r.request.id.client
+  pub addressed : to.kind ≡ kind.Witness
 
--- backup n is that long, or longer
-pub record StoredOk (backups : List BackupState) (n long : ℕ) : Type 0 where
-  pub b : BackupState
-  pub here : numbered backups n ≡ Some b
-  pub low : long ≤ length b.log
+-- the request stands in the log with that answer, and where the reply is synced, each backup reaches beyond it
+pub record ReplyOk (h : Header) (s : Scene) (to : NodeId) (r : Reply) : Type 0 where
+  pub addressed : to ≡ client_node r.id.client
+  pub done : Done h s.master.log r.id r.answer
+  pub stored : r.synced ≡ true → IsOnEach s.backups done.index
 
--- no backup answers anything else
-abbrev pub AppendedOk : List BackupState → ℕ → AppendAnswer → Type 0
-AppendedOk backups n (Stored long) = StoredOk backups n long
-AppendedOk backups n _ = ⊥
+-- the witness that says so holds the request
+pub record AcceptedOk (s : Scene) (from to : NodeId) (a : Accepted) : Type 0 where
+  pub addressed : to ≡ client_node a.id.client
+  pub held : IsHeldBy s.witnesses a.id from
+
+-- the entries stand in the master's log from the base on
+pub record AppendOk (s : Scene) (from to : NodeId) (a : Append) : Type 0 where
+  pub sender : from ≡ master_node 1
+  pub addressed : to.kind ≡ kind.Backup
+  pub part : IsPrefix a.entries (drop a.base s.master.log)
+
+-- the backup of that number is that long
+abbrev pub IsLong : List BackupState → ℕ → ℕ → Type 0
+IsLong backups n long = (b : BackupState) → numbered backups n ≡ Some b → long ≤ length b.log
+
+-- what the answer to an append says of the backup
+abbrev pub AnswerOk : List BackupState → ℕ → AppendAnswer → Type 0
+AnswerOk backups n (Stored long) = IsLong backups n long
+AnswerOk backups n _ = ⊤
+
+-- a backup's answer, which goes to the master
+pub record AppendedOk (s : Scene) (from to : NodeId) (a : Appended) : Type 0 where
+  pub addressed : to ≡ master_node 1
+  pub long : AnswerOk s.backups from.number a.answer
 
 -- what each message says. One without a case is never sent
-abbrev pub BodyOk : List Event → List Request → List BackupState → NodeId → NodeId → Body → Type 0
-BodyOk h log backups from to (Sync ask) = Asked h ask.request.id ask.request.command
-BodyOk h log backups from to (Reply r) = ReplyOk log backups to r.id r.answer
-BodyOk h log backups from to (Refuse r) = ⊤
-BodyOk h log backups from to (Append a) = AppendOk (entries_of log) a.base a.entries
-BodyOk h log backups from to (Appended a) = AppendedOk backups from.number a.answer
-BodyOk h log backups from to _ = ⊥
+abbrev pub BodyOk : Header → Scene → NodeId → NodeId → Body → Type 0
+BodyOk h s from to (body.Update ask) = AskOk s to ask
+BodyOk h s from to (body.Sync ask) = AskOk s to ask
+BodyOk h s from to (body.Record r) = RecordOk s from to r
+BodyOk h s from to (body.Reply r) = ReplyOk h s to r
+BodyOk h s from to (body.Refuse r) = to ≡ client_node r.id.client
+BodyOk h s from to (body.Accepted a) = AcceptedOk s from to a
+BodyOk h s from to (body.Rejected r) = to.kind ≡ kind.Client
+BodyOk h s from to (body.Append a) = AppendOk s from to a
+BodyOk h s from to (body.Appended a) = AppendedOk s from to a
+BodyOk h s from to _ = ⊥
 
-abbrev pub MessageOk : List Event → List Request → List BackupState → Message → Type 0
-MessageOk h log backups m = BodyOk h log backups m.from m.to m.body
+abbrev pub MessageOk : Header → Scene → Message → Type 0
+MessageOk h s m = BodyOk h s m.from m.to m.body
 
--- ---- what holds of the parts
+-- ---- what holds of the log
 
-pub record LogOk (h : List Event) (log : List Request) : Type 0 where
-  pub asked : (k : ℕ) (r : Request) → At log k r → Asked h r.id r.command
-  pub once : (j k : ℕ) (r s : Request) → At log j r → At log k s → r.id ≡ s.id → j ≡ k
+-- an entry that is an op
+abbrev pub IsOp : Entry → Type 0
+IsOp (Op r acknowledged) = ⊤
+IsOp _ = ⊥
 
--- a backup has a beginning of the log, and the master's mark says no more than that
-pub record BackupOk (log : List Request) (marks : List Mark) (n : ℕ) (b : BackupState) : Type 0 where
-  pub front : IsPrefix b.log (entries_of log)
-  pub mark : Mark
-  pub marked : numbered marks n ≡ Some mark
-  pub low : mark.length ≤ length b.log
+-- an op of the request at the noted index
+pub record NotedAt (lo hi : ℕ) (log : List Entry) (id : RequestId) (n : Noted) : Type 0 where
+  pub request : Request
+  pub acknowledged : ℕ
+  pub stands : At log n.index (Op request acknowledged)
+  pub its_id : request.id ≡ id
+  pub its_answer : answer_after lo hi (take n.index log) request.command ≡ n.answer
 
-abbrev pub BackupsOk : List Request → List Mark → List BackupState → Type 0
-BackupsOk log marks backups = (n : ℕ) (b : BackupState) → numbered backups n ≡ Some b → BackupOk log marks n b
+-- what the reply table notes of a request stands in the log at that index, with that answer
+abbrev pub NotedOk : ℕ → ℕ → List Entry → Type 0
+NotedOk lo hi log = (id : RequestId) (n : Noted) → find id_cmp id (meaning lo hi log).table.records ≡ Some n → NotedAt lo hi log id n
 
-abbrev pub id_of : ℕ → ℕ → RequestId
-id_of client seq = record { client = client; seq = seq }
+pub record LogOk (h : Header) (events : List Event) (log : List Entry) : Type 0 where
+  pub only_ops : Each IsOp log
+  pub asked : (k : ℕ) (r : Request) (a : ℕ) → At log k (Op r a) → Asked events r.id r.command
+  pub once : (j k : ℕ) (r s : Request) (a b : ℕ) → At log j (Op r a) → At log k (Op s b) → r.id ≡ s.id → j ≡ k
+  pub noted : NotedOk (first_hash h) (last_hash h) log
 
--- clients count what they invoked, and hold as pending what was invoked and isn't completed
-pub record ClientsOk (clients : List ClientState) (h : List Event) : Type 0 where
-  pub known : (i : ℕ) (id : RequestId) (c : Command) → At h i (Invoke id c) → (s : ClientState) × (numbered clients id.client ≡ Some s) × (id.seq ≤ s.last)
-  pub invoked : (n : ℕ) (s : ClientState) → numbered clients n ≡ Some s → (k seq : ℕ) → At s.pending k seq → (i : ℕ) × (c : Command) × At h i (Invoke (id_of n seq) c)
-  pub waits : (n : ℕ) (s : ClientState) → numbered clients n ≡ Some s → (k seq : ℕ) → At s.pending k seq → (i : ℕ) (a : Answer) → At h i (Complete (id_of n seq) a) → ⊥
+-- ---- what holds of the nodes
+
+-- a backup has a beginning of the log, and the master knows of no more
+pub record BackupOk (m : MasterState) (n : ℕ) (b : BackupState) : Type 0 where
+  pub front : IsPrefix b.log m.log
+  pub known : (from_backup m.acknowledged (backup_node n)).length ≤ length b.log
+
+-- a sending went to the nodes of the opening
+pub record AttemptOk (h : Header) (a : Attempt) : Type 0 where
+  pub its_master : a.master ≡ master_node 1
+  pub its_witnesses : a.witnesses ≡ watchers h
+
+-- a pending request was invoked by its client, and its evidence is right
+pub record PendingOk (h : Header) (s : Scene) (n : ℕ) (p : Pending) : Type 0 where
+  pub its_client : p.request.id.client ≡ n
+  pub invoked : Asked s.history p.request.id p.request.command
+  pub attempts : Each (AttemptOk h) p.attempts
+  pub early : Each (λ (e : Early). Done h s.master.log p.request.id e.answer) p.early
+  pub accepts : Each (λ (a : Accept). IsHeldBy s.witnesses p.request.id a.witness) p.accepts
+
+pub record ClientOk (h : Header) (s : Scene) (n : ℕ) (c : ClientState) : Type 0 where
+  pub config : c.config ≡ opening_config (shape_of h)
+  pub pending : (k : ℕ) (p : Pending) → At c.pending k p → PendingOk h s n p
+
+-- clients count what they invoked
+abbrev pub ClientsKnow : List ClientState → List Event → Type 0
+ClientsKnow clients events = (i : ℕ) (id : RequestId) (c : Command) → At events i (Invoke id c)
+    → (s : ClientState) × (numbered clients id.client ≡ Some s) × (id.seq ≤ s.last)
+
+-- what is pending isn't completed
+abbrev pub ClientsWait : List ClientState → List Event → Type 0
+ClientsWait clients events = (n : ℕ) (c : ClientState) → numbered clients n ≡ Some c → (k : ℕ) (p : Pending) → At c.pending k p
+    → (i : ℕ) (a : Answer) → At events i (Complete p.request.id a) → ⊥
+
+-- ---- what holds of the history and the order
+
+-- a completed request stands in the log, and on each backup, or each witness holds it
+pub record CompletedOk (h : Header) (s : Scene) (id : RequestId) (a : Answer) : Type 0 where
+  pub done : Done h s.master.log id a
+  pub kept : IsOnEach s.backups done.index ⊎ Each (IsHeldBy s.witnesses id) (watchers h)
 
 -- what completed before another was invoked stands before it
-abbrev pub InTime : List Event → List Request → Type 0
-InTime h log = (i j : ℕ) (earlier later : RequestId) (a : Answer) (c : Command) → i < j → At h i (Complete earlier a) → At h j (Invoke later c)
-    → (k l : ℕ) (r s : Request) → At log k r → r.id ≡ earlier → At log l s → s.id ≡ later → k < l
+abbrev pub InTime : List Event → List Entry → Type 0
+InTime events log = (i j : ℕ) (earlier later : RequestId) (a : Answer) (c : Command) → i < j → At events i (Complete earlier a) → At events j (Invoke later c)
+    → (k l : ℕ) (r s : Request) (b d : ℕ) → At log k (Op r b) → r.id ≡ earlier → At log l (Op s d) → s.id ≡ later → k < l
 
-abbrev pub Completes : List Event → List Request → List BackupState → Type 0
-Completes h log backups = (i : ℕ) (id : RequestId) (a : Answer) → At h i (Complete id a) → Durable log backups id a
+-- ---- all together
 
-pub record Facts (cs : List ClientState) (m : MasterState) (bs : List BackupState) (sent : List Message) (h : List Event) : Type 0 where
-  pub said : Each (MessageOk h m.log bs) sent
-  pub log : LogOk h m.log
-  pub backups : BackupsOk m.log m.marks bs
-  pub history : IsHistory h
-  pub clients : ClientsOk cs h
-  pub completes : Completes h m.log bs
-  pub in_time : InTime h m.log
+-- there is one partition, and there are as many nodes as at opening
+pub record CountsOk (h : Header) (s : Scene) : Type 0 where
+  pub parts : h.parts ≡ 1
+  pub clients : length s.clients ≡ h.clients
+  pub backups : length s.backups ≡ h.parts * h.f
+  pub witnesses : length s.witnesses ≡ h.parts * h.f
 
-abbrev pub Inv : World → Type 0
-Inv w = Facts w.clients w.master w.backups (messages w) w.history
+pub record StateOk (h : Header) (s : Scene) : Type 0 where
+  pub counts : CountsOk h s
+  pub serves : ServesAsOpened h s.master
+  pub log : LogOk h s.history s.master.log
+  pub backups : (n : ℕ) (b : BackupState) → numbered s.backups n ≡ Some b → BackupOk s.master n b
+  pub clients : (n : ℕ) (c : ClientState) → numbered s.clients n ≡ Some c → ClientOk h s n c
+  pub know : ClientsKnow s.clients s.history
+  pub wait : ClientsWait s.clients s.history
+  pub history : IsHistory s.history
+  pub completes : (i : ℕ) (id : RequestId) (a : Answer) → At s.history i (Complete id a) → CompletedOk h s id a
+  pub in_time : InTime s.history s.master.log
+  pub marks : s.marks ≡ marks_of s.master.log s.history
+
+pub record Facts (h : Header) (s : Scene) : Type 0 where
+  pub said : Each (MessageOk h s) s.sent
+  pub state : StateOk h s
+
+-- the world with that master, as the facts see it
+abbrev pub scene_of : World → MasterState → Scene
+scene_of w m = record {
+  clients = w.clients;
+  master = m;
+  backups = w.backups;
+  witnesses = w.witnesses;
+  sent = messages w;
+  history = w.history;
+  marks = w.marks;
+}
+
+pub record Inv (h : Header) (w : World) : Type 0 where
+  pub master : MasterState
+  pub serves : w.masters ≡ Serving master ∷ []
+  pub manager : w.manager ≡ opening_manager (shape_of h)
+  pub sets : w.sets ≡ h.sets
+  pub ways : w.ways ≡ h.ways
+  pub facts : Facts h (scene_of w master)

@@ -1,146 +1,332 @@
 -- Each input of the master has its effect.
-use Rattle.std.proofs.Common.{◌≡◌, ℕ, zero, suc, ◌+◌, ◌-◌, ◌<◌, ◌≤◌, max, List, [], ◌∷◌, length, drop, set, Option, Some, None, refl, ap, sym, subst, arith, inl, inr, ltb}
+use Rattle.std.proofs.Common.{◌≡◌, inl, inr, ℕ, zero, suc, ◌+◌, ◌-◌, ◌<◌, ◌≤◌, ◌==◌, ◌^◌, ◌&&◌, max, Bool, true, false, cond, not, nat_lt, List, [], ◌∷◌, ◌++◌, length, take, drop, map, Option, Some, slice_get, refl, ap, sym, ◌∙◌, subst, arith}
 use Rattle.std.specs.Bool.{⊤}
-use Rattle.std.proofs.lemmas.Bool.{cond_both, ltb-true, cases_eq, cases_lt}
-use Rattle.std.proofs.lemmas.List.{drop-map}
-use Rattle.curp_base.specs.Words.{At, Each, numbered}
-use Rattle.curp_base.proofs.Lists.{at_take, at_drop, prefix_self}
-use Rattle.curp_cmd.specs.declared.command.Command.{Command}
+use Rattle.std.specs.List.{filter, flat_map}
+use Rattle.std.specs.FinMap.Entries.{find}
+use Rattle.std.proofs.Math.Seq.{take-append_seam}
+use Rattle.std.proofs.lemmas.Bool.{cond_both}
+use Rattle.std.proofs.lemmas.Bool.Decides.{nat_tests}
+use Rattle.curp_base.specs.Words.{At, Each}
+use Rattle.curp_base.proofs.Lists.{at_take, at_drop, at_push, prefix_self, Each-append, Each-at, Each-from_at, Each-map}
+use Rattle.curp_cmd.specs.RequestId.{id_cmp}
 use Rattle.curp_cmd.specs.declared.command.Answer.{Answer}
+use Rattle.curp_cmd.specs.declared.command.Command.{Command}
 use Rattle.curp_cmd.specs.declared.command.Request.{Request}
 use Rattle.curp_cmd.specs.declared.command.RequestId.{RequestId}
+use Rattle.curp_cmd.specs.declared.entry.Entry.{Entry}
+use Rattle.curp_cmd.specs.declared.entry.Entry.TheVariants.{Op}
 use Rattle.curp_cmd.specs.declared.node.NodeId.{NodeId}
-use Rattle.curp_cmd.specs.declared.node.NodeKind.{NodeKind}
-use Rattle.curp_cmd.specs.declared.node.NodeKind.TheVariants.{Backup}
+use Rattle.curp_cmd.specs.declared.node.NodeKind.TheVariants as kind
 use Rattle.curp_msg.specs.declared.answer.AppendAnswer.{AppendAnswer}
 use Rattle.curp_msg.specs.declared.answer.AppendAnswer.TheVariants.{Stored}
-use Rattle.curp_msg.specs.declared.message.Message.{Message}
+use Rattle.curp_msg.specs.declared.answer.Refusal.{Refusal}
+use Rattle.curp_msg.specs.declared.body.Ask.{Ask}
 use Rattle.curp_msg.specs.declared.body.Body.{Body}
-use Rattle.curp_msg.specs.declared.body.Body.TheVariants.{Sync, Appended}
-use Rattle.curp_plain.specs.Moved.{sends}
-use Rattle.curp_plain.specs.declared.Mark.{Mark}
-use Rattle.curp_plain.specs.declared.Check.{Check}
-use Rattle.curp_plain.specs.declared.Check.TheVariants.{Known, New}
-use Rattle.curp_plain.specs.Master.{MasterState, entry_of, check, answers_of, least, synced, appends_from, begins_round, reply_to, refuse, decided, between, replies, settle, raised, on_stored, from_backup, on_appended, on_master}
-use Rattle.curp_law_order.proofs.Numbered.{place, numbered_same, numbered_set_same, numbered_set_other}
-use Rattle.curp_law_order.proofs.Duplicates.{check_known, check_new}
-use Rattle.curp_law_order.proofs.Facts.{Stands}
-use Rattle.curp_law_order.proofs.Effects.{Says, MarkMove, MasterEffect}
+use Rattle.curp_msg.specs.declared.body.Body.TheVariants as body
+use Rattle.curp_msg.specs.declared.machine.Local.TheVariants as local
+use Rattle.curp_msg.specs.declared.message.Message.{Message}
+use Rattle.curp_script.specs.declared.script.Header.{Header}
+use Rattle.curp_model.specs.declared.Check.{Check}
+use Rattle.curp_model.specs.declared.Check.TheVariants.{Expired, Stale, Known, New}
+use Rattle.curp_model.specs.Log.{LogState, answer_after, meaning}
+use Rattle.curp_model.specs.Master.{MasterState, Acknowledged, Captured, Queued, Wish, AtOnce, WhenSynced, Phase, again, answers_with, append_to, appends, begins_round, between, checked, fresh_backups, from_backup, goes_on, has, if_it_counts, is_among, is_clean, is_ready, is_serving, known_at, moved_entry, next_round, on_appended, on_serving, on_stored, on_update, pushed_new, raised, reacts, same_node, serving_ordered, settle, state_of, stored_on, sync_in, synced, synced_reply, synced_replies, value_of}
+use Rattle.curp_model.specs.Moved.{Moved, backup_node, quiet, sends}
+use Rattle.curp_model.specs.Ranges.{owns_all}
+use Rattle.curp_model.specs.Requests.{hashes}
+use Rattle.curp_model.specs.Table.{check}
+use Rattle.curp_law_order.specs.Shape.{ServesAsOpened}
+use Rattle.curp_law_order.proofs.Names.{same_node-true}
+use Rattle.curp_law_order.proofs.Numbered.{filter_at}
+use Rattle.curp_law_order.proofs.Facts.{Done, IsOp, NotedAt, NotedOk, first_hash, last_hash}
+use Rattle.curp_law_order.proofs.Entries.{check_known}
+use Rattle.curp_law_order.proofs.Effects.{Says, LogMove, AcksMove, MasterEffect}
 
-least_at : (marks : List Mark) (k : ℕ) (a : Mark) → At marks k a → least marks ≤ a.length
-least_at [] k a h = absurd cc
-least_at (b ∷ []) zero a h = let e : b ≡ a = cc in omega (arith, ap (λ (x : Mark). x.length) e)
-least_at (b ∷ []) (suc k) a h = absurd cc
-least_at (b ∷ c ∷ rest) zero a h = let e : b ≡ a = cc in omega (arith, ap (λ (x : Mark). x.length) e)
-least_at (b ∷ c ∷ rest) (suc k) a h = omega (arith, least_at (c ∷ rest) k a h)
+-- what is acknowledged rises only at the backup that says so, and only so far
+pub raised_below : (acks : List Acknowledged) (from : NodeId) (long round : ℕ) (node : NodeId) (limit : ℕ) → (from_backup acks node).length ≤ limit → (from ≡ node → long ≤ limit)
+    → (from_backup (raised acks from long round) node).length ≤ limit
+raised_below [] from long round node limit low told =
+    cond_both (same_node from node) _ _ (λ (a : Acknowledged). a.length ≤ limit) (λ y. told (same_node-true from node y)) (λ n. low)
+raised_below (a ∷ acks) from long round node limit low told = go (same_node a.backup from) refl (λ l. raised_below acks from long round node limit l told)
+  where
+    go : (b : Bool) → same_node a.backup from ≡ b → ((from_backup acks node).length ≤ limit → (from_backup (raised acks from long round) node).length ≤ limit) → (from_backup (cond b (record { backup = from; length = max a.length long; round = max a.round round } ∷ acks) (a ∷ raised acks from long round)) node).length ≤ limit
+    go true e rest =
+        let same : a.backup ≡ from = same_node-true a.backup from e in
+        cond_both (same_node from node) _ _ (λ (x : Acknowledged). x.length ≤ limit)
+        (λ y.
+        let here : (from_backup (a ∷ acks) node).length ≡ a.length = rw same (rw y refl) in
+        omega (arith, low, here, told (same_node-true from node y)))
+        (λ n. let there : (from_backup (a ∷ acks) node).length ≡ (from_backup acks node).length = rw same (rw n refl) in omega (arith, low, there))
+    go false e rest = go2 (same_node a.backup node) low
+      where
+        go2 : (c : Bool) → (cond c a (from_backup acks node)).length ≤ limit → (cond c a (from_backup (raised acks from long round) node)).length ≤ limit
+        go2 true l = l
+        go2 false l = rest l
 
--- what is synced, each backup has acknowledged
-pub least_le : (marks : List Mark) (n : ℕ) (a : Mark) → numbered marks n ≡ Some a → least marks ≤ a.length
-least_le marks n a h = let p = place marks n a h in least_at marks p.0 a p.2
+-- with these parts changed it serves as before
+serving_with : (h : Header) (m : MasterState) → ServesAsOpened h m → (log : List Entry) (acknowledged : List Acknowledged) (settled round : ℕ) (captures : List Captured) (captured : ℕ) (held free : List ℕ) (queue : List Queued) → captures ≡ []
+    → ServesAsOpened h (record m { log = log; acknowledged = acknowledged; settled = settled; round = round; captures = captures; captured = captured; held = held; free = free; queue = queue })
+serving_with h m s log acknowledged settled round captures captured held free queue none = record {
+  part = s.part;
+  epoch = s.epoch;
+  version = s.version;
+  backups = s.backups;
+  witnesses = s.witnesses;
+  lo = s.lo;
+  hi = s.hi;
+  phase = s.phase;
+  captures = none;
+}
 
-module _ (Asked : RequestId → Command → Type 0) (Told : ℕ → ℕ → Type 0) where
-  -- the log and the marks stay
-  only_says : (m n : MasterState) (messages : List Message) → n.log ≡ m.log → n.marks ≡ m.marks → Each (Says n) messages → MasterEffect Asked Told m (sends n messages)
-  only_says m n messages log marks says = record {
-    quiet = refl;
-    log = inl log;
-    marks = λ i a h. (a, rw marks h, record { told = inl refl });
-    says = says;
+abbrev IsBackupName : NodeId → Type 0
+IsBackupName node = node.kind ≡ kind.Backup
+
+stored_on_backups : (h : Header) (m : MasterState) → ServesAsOpened h m → Each IsBackupName (stored_on m)
+stored_on_backups h m s =
+    Each-append IsBackupName m.backups (fresh_backups m.phase m.backups)
+    (subst (Each IsBackupName) (sym s.backups) (Each-map IsBackupName backup_node _ (Each-from_at (λ (n : ℕ). IsBackupName (backup_node n)) _ (λ k x at. refl))))
+    (subst (λ (p : Phase). Each IsBackupName (fresh_backups p m.backups)) (sym s.phase) tt)
+
+appends_say : (h : Header) (m : MasterState) (limit : ℕ) → ServesAsOpened h m → Each (Says h m.log limit) (appends 1 m)
+appends_say h m limit s =
+    Each-map (Says h m.log limit) (append_to 1 m) (stored_on m) (Each-from_at (λ (b : NodeId). Says h m.log limit (append_to 1 m b)) (stored_on m)
+    (λ k b at. record { sender = refl; addressed = Each-at IsBackupName (stored_on m) (stored_on_backups h m s) k b at; part = prefix_self _ }))
+
+none_moved : (P : Message → Type 0) (es : List Entry) → Each IsOp es → Each P (flat_map (moved_entry 1) es)
+none_moved P [] ops = tt
+none_moved P (Op r a ∷ es) ops = none_moved P es ops.1
+none_moved P (_ ∷ es) ops = absurd (ops.0)
+
+-- what an answer to an append has to say before it comes
+abbrev pub AnswerHeard : (NodeId → ℕ → Type 0) → NodeId → AppendAnswer → Type 0
+AnswerHeard Told from (Stored long) = Told from long
+AnswerHeard Told from _ = ⊤
+
+-- what a message to the master has to say before it comes; what has ⊥ can't come yet
+abbrev pub Heard : (RequestId → Command → Type 0) → (NodeId → ℕ → Type 0) → NodeId → Body → Type 0
+Heard Asked Told from (body.Update ask) = Asked ask.request.id ask.request.command
+Heard Asked Told from (body.Sync ask) = Asked ask.request.id ask.request.command
+Heard Asked Told from (body.Appended a) = AnswerHeard Told from a.answer
+Heard Asked Told from (body.Read ask) = ⊥
+Heard Asked Told from (body.Collected c) = ⊥
+Heard Asked Told from (body.Prepare p) = ⊥
+Heard Asked Told from (body.Adopted a) = ⊥
+Heard Asked Told from (body.TakeOut t) = ⊥
+Heard Asked Told from (body.GiveIn g) = ⊥
+Heard Asked Told from (body.ExpireClient client) = ⊥
+Heard Asked Told from _ = ⊤
+
+module _ (h : Header) (Asked : RequestId → Command → Type 0) (Told : NodeId → ℕ → Type 0) (m : MasterState) (serves : ServesAsOpened h m) (ops : Each IsOp m.log) (noted : NotedOk (first_hash h) (last_hash h) m.log) where
+  abbrev Effect : Moved MasterState → Type 0
+  Effect r = MasterEffect Asked Told h m r
+
+  same_acks : AcksMove Told m.acknowledged m.acknowledged
+  same_acks node limit low told = low
+
+  moves : (n : MasterState) (messages : List Message) → ServesAsOpened h n → LogMove Asked h m.log n.log → AcksMove Told m.acknowledged n.acknowledged → Each (Says h n.log (synced n)) messages → Effect (sends n messages)
+  moves n messages s log acks says = record { quiet = refl; accepted = refl; serves = s; log = log; acks = acks; says = says }
+
+  -- the log and what is acknowledged stay
+  says_only : (messages : List Message) → Each (Says h m.log (synced m)) messages → Effect (sends m messages)
+  says_only messages says = moves m messages serves (inl refl) same_acks says
+
+  rests : Effect (quiet m)
+  rests = says_only [] tt
+
+  refuses : (id : RequestId) (why : Refusal) → Effect (answers_with 1 m id why)
+  refuses id why = says_only _ (refl, tt)
+
+  -- a round begins
+  begins : (n : MasterState) → ServesAsOpened h (next_round n) → LogMove Asked h m.log n.log → AcksMove Told m.acknowledged n.acknowledged → Effect (begins_round 1 n)
+  begins n s log acks = moves (next_round n) (appends 1 (next_round n)) s log acks (appends_say h (next_round n) (synced (next_round n)) s)
+
+  state_is : state_of m ≡ meaning (first_hash h) (last_hash h) m.log
+  state_is i = meaning (serves.lo i) (serves.hi i) m.log
+
+  holds : (held : List ℕ) → Effect (begins_round 1 (record m { held = held }))
+  holds held = begins (record m { held = held }) (serving_with h m serves m.log m.acknowledged m.settled (m.round + 1) m.captures m.captured held m.free m.queue serves.captures) (inl refl) same_acks
+
+  -- ---- a known request
+
+  -- what is known stands in the log
+  known_stands : (id : RequestId) (a : Answer) (index : ℕ) → check (state_of m).table id ≡ Known a index → NotedAt (first_hash h) (last_hash h) m.log id (record { answer = a; index = index })
+  known_stands id a index e =
+      noted id (record { answer = a; index = index })
+      (subst (λ (s : LogState). find id_cmp id s.table.records ≡ Some (record { answer = a; index = index })) state_is (check_known (state_of m).table id a index e))
+
+  abbrev known_done : (id : RequestId) (a : Answer) (index : ℕ) → check (state_of m).table id ≡ Known a index → Done h m.log id a
+  known_done id a index e = record {
+    index = index;
+    request = (known_stands id a index e).request;
+    acknowledged = (known_stands id a index e).acknowledged;
+    stands = (known_stands id a index e).stands;
+    its_id = (known_stands id a index e).its_id;
+    its_answer = (known_stands id a index e).its_answer;
   }
 
-  appends_say : (m : MasterState) (n : ℕ) (marks : List Mark) → Each (Says m) (appends_from m n marks)
-  appends_say m n [] = tt
-  appends_say m n (a ∷ marks) = (record { part = rw (drop-map entry_of a.length m.log) (prefix_self _) }, appends_say m (n + 1) marks)
+  again_effect : (wish : Wish) (id : RequestId) (a : Answer) (index : ℕ) → check (state_of m).table id ≡ Known a index → Effect (again 1 m wish id a index)
+  again_effect AtOnce id a index e =
+      cond_both (has index m.free) _ _ Effect (λ y. says_only _ (record { addressed = refl; done = known_done id a index e; durable = λ t. absurd cc }, tt)) (λ n. holds _)
+  again_effect WhenSynced id a index e = holds _
 
-  pushed_effect : (m : MasterState) (r : Request) → Asked r.id r.command → check m.log r.id ≡ New → MasterEffect Asked Told m (decided m r New)
-  unfolding decided begins_round
-  pushed_effect m r asked new = record {
-    quiet = refl;
-    log = inr (record { request = r; grown = refl; is_new = check_new m.log r.id new; asked = asked });
-    marks = λ i a h. (a, h, record { told = inl refl });
-    says = appends_say _ 1 m.marks;
-  }
+  known_at_effect : (wish : Wish) (id : RequestId) (a : Answer) (index : ℕ) → check (state_of m).table id ≡ Known a index → (o : Option Entry) → Effect (known_at 1 m wish id a index o)
+  known_at_effect wish id a index e (Some (Op r acknowledged)) =
+      cond_both (has index m.held) _ _ Effect (λ y. refuses id _) (λ n. again_effect wish id a index e)
+  known_at_effect wish id a index e _ = refuses id _
 
-  known_effect : (m : MasterState) (r : Request) (a : Answer) (k : ℕ) → check m.log r.id ≡ Known a k → MasterEffect Asked Told m (decided m r (Known a k))
-  unfolding decided
-  known_effect m r a k known =
-      cond_both (ltb k (synced m)) (sends m (reply_to r.id a ∷ [])) (sends m (refuse r.id ∷ [])) (MasterEffect Asked Told m)
-      (λ y. only_says m m _ refl refl (let f = check_known m.log r.id a k known in record { index = k; stands = record { request = f.0; stands = f.1; its_id = f.2; its_answer = f.3 }; durable = ltb-true k _ y; addressed = refl }, tt))
-      (λ n. only_says m m _ refl refl (tt, tt))
+  known_effect : (wish : Wish) (ask : Ask) (a : Answer) (index : ℕ) → check (state_of m).table ask.request.id ≡ Known a index → Effect (checked 1 m wish ask (Known a index))
+  known_effect wish ask a index e =
+      cond_both (nat_lt index (synced m)) _ _ Effect
+      (λ y. says_only _ (record { addressed = refl; done = known_done ask.request.id a index e; durable = λ t. grind (arith, nat_tests) }, tt))
+      (λ n. known_at_effect wish ask.request.id a index e (slice_get m.log index))
 
-  sync_effect : (m : MasterState) (r : Request) → Asked r.id r.command → (v : Check) → check m.log r.id ≡ v → MasterEffect Asked Told m (decided m r v)
-  sync_effect m r asked (Known a k) e = known_effect m r a k e
-  sync_effect m r asked New e = pushed_effect m r asked e
+  -- ---- a new request
 
-  -- each reply of a settling is of an entry below what is synced
-  replies_say : (m : MasterState) (rs : List Request) (answered : List Answer) → ((i : ℕ) (r : Request) (a : Answer) → At rs i r → At answered i a → (k : ℕ) × Stands m.log r.id a k × (k < synced m))
-      → Each (Says m) (replies rs answered)
-  replies_say m [] answered f = tt
-  replies_say m (r ∷ rs) [] f = tt
-  replies_say m (r ∷ rs) (a ∷ answered) f =
-      let s = f zero r a refl refl in
-      (record { index = s.0; stands = s.1; durable = s.2; addressed = refl }, replies_say m rs answered (λ i x b h g. f (suc i) x b h g))
+  module _ (r : Request) (asked : Asked r.id r.command) (new : check (state_of m).table r.id ≡ New) where
+    abbrev longer : List Entry
+    longer = m.log ++ Op r r.first ∷ []
 
-  settled_say : (m : MasterState) → Each (Says (record m { settled = synced m })) (replies (between m.settled (synced m) m.log) (between m.settled (synced m) (answers_of m.log)))
-  settled_say m = replies_say (record m { settled = synced m }) _ _ (λ i r a h g.
-      let t = at_take (synced m - m.settled) (drop m.settled m.log) i r h in
-      let u = at_take (synced m - m.settled) (drop m.settled (answers_of m.log)) i a g in
-      let d = at_drop m.settled m.log i r t.1 in
-      let e = at_drop m.settled (answers_of m.log) i a u.1 in
-      let s : e.0 ≡ d.0 = omega (arith, d.1, e.1) in
-      (d.0, record { request = r; stands = d.2; its_id = refl; its_answer = subst (λ (j : ℕ). At (answers_of m.log) j a) s e.2 }, omega (arith, d.1, t.0)))
+    is_pushed : LogMove Asked h m.log longer
+    is_pushed = inr (record {
+      request = r;
+      acknowledged = r.first;
+      grown = refl;
+      is_new = subst (λ (s : LogState). check s.table r.id ≡ New) state_is new;
+      asked = asked;
+    })
 
-  raised_move : (n length round : ℕ) (a : Mark) → Told n length → MarkMove Told n a (raised a length round)
-  raised_move n length round a told = record {
-    told = elim (cases_lt a.length length) [
-      | inl lt ↦ inr (let e : max a.length length ≡ length = omega arith in subst (Told n) (sym e) told)
-      | inr ge ↦ inl (omega arith)
-    ];
-  }
+    serves_on : (free held : List ℕ) (queue : List Queued) (round : ℕ) → ServesAsOpened h (record m { log = longer; round = round; held = held; free = free; queue = queue })
+    serves_on free held queue round = serving_with h m serves longer m.acknowledged m.settled round m.captures m.captured held free queue serves.captures
 
-  marks_move : (marks : List Mark) (n length round : ℕ) (a : Mark) → numbered marks n ≡ Some a → Told n length → (k : ℕ) (b : Mark) → numbered marks k ≡ Some b
-      → (c : Mark) × (numbered (set marks (n - 1) (raised a length round)) k ≡ Some c) × MarkMove Told k b c
-  marks_move marks n length round a e told k b h = elim (cases_eq n k) [
-    | inl same ↦
-        let is : a ≡ b = numbered_same marks k a b (subst (λ (i : ℕ). numbered marks i ≡ Some a) same e) h in (
-          raised a length round,
-          subst (λ (i : ℕ). numbered (set marks (n - 1) (raised a length round)) i ≡ Some (raised a length round)) same (numbered_set_same marks n a (raised a length round) e),
-          subst (λ (i : ℕ). MarkMove Told i b (raised a length round)) same (subst (λ (x : Mark). MarkMove Told n x (raised a length round)) is (raised_move n length round a told)),
+    own_answer : answer_after (first_hash h) (last_hash h) (take (length m.log) longer) r.command ≡ answer_after m.lo m.hi (take (length m.log) m.log) r.command
+    own_answer =
+        ap (λ (before : List Entry). answer_after (first_hash h) (last_hash h) before r.command) (take-append_seam m.log (Op r r.first ∷ []) ∙ sym (take-all m.log))
+        ∙ (λ i. answer_after (sym serves.lo i) (sym serves.hi i) (take (length m.log) m.log) r.command)
+      where
+        take-all : (xs : List Entry) → take (length xs) xs ≡ xs
+        take-all [] = refl
+        take-all (x ∷ xs) = ap (λ (l : List Entry). x ∷ l) (take-all xs)
+
+    pushed_effect : (wish : Wish) (clean : Bool) → Effect (pushed_new 1 m wish r clean)
+    pushed_effect AtOnce true =
+        moves _ _ (serves_on _ _ _ _) is_pushed same_acks (
+          record {
+            addressed = refl;
+            done = record {
+              index = length m.log;
+              request = r;
+              acknowledged = r.first;
+              stands = at_push m.log (Op r r.first) (length m.log) refl;
+              its_id = refl;
+              its_answer = own_answer;
+            };
+            durable = λ t. absurd cc;
+          },
+          tt,
         )
-    | inr ne ↦ (b, numbered_set_other marks n a (raised a length round) e k b (omega arith) h, record { told = inl refl })
-  ]
+    pushed_effect AtOnce false = begins _ (serves_on _ _ _ _) is_pushed same_acks
+    pushed_effect WhenSynced true = begins _ (serves_on _ _ _ _) is_pushed same_acks
+    pushed_effect WhenSynced false = begins _ (serves_on _ _ _ _) is_pushed same_acks
 
-  stored_effect : (m : MasterState) (n length round : ℕ) (o : Option Mark) → numbered m.marks n ≡ o → Told n length → MasterEffect Asked Told m (on_stored m n length round o)
-  unfolding on_stored settle
-  stored_effect m n length round None e told = only_says m m [] refl refl tt
-  stored_effect m n length round (Some a) e told = record {
-    quiet = refl;
-    log = inl refl;
-    marks = marks_move m.marks n length round a e told;
-    says = settled_say (record m { marks = set m.marks (n - 1) (raised a length round) });
-  }
+  new_effect : (wish : Wish) (ask : Ask) → Asked ask.request.id ask.request.command → check (state_of m).table ask.request.id ≡ New → Effect (checked 1 m wish ask New)
+  new_effect wish ask asked new =
+      cond_both (not (ask.version == m.version)) _ _ Effect (λ y. refuses ask.request.id _)
+      (λ n. cond_both (not (owns_all (state_of m).owned (hashes ask.request.command))) _ _ Effect (λ y. refuses ask.request.id _)
+      (λ n. pushed_effect ask.request asked new wish (is_clean m ask.request.command)))
 
-  backup_effect : (m : MasterState) (kind : NodeKind) (n length round : ℕ) → Told n length → MasterEffect Asked Told m (from_backup m kind n length round)
-  backup_effect m Backup n length round told = stored_effect m n length round (numbered m.marks n) refl told
-  backup_effect m _ n length round told = only_says m m [] refl refl tt
+  checked_effect : (wish : Wish) (ask : Ask) → Asked ask.request.id ask.request.command → (c : Check) → check (state_of m).table ask.request.id ≡ c → Effect (checked 1 m wish ask c)
+  checked_effect wish ask asked Expired e = refuses ask.request.id _
+  checked_effect wish ask asked (Stale first) e = refuses ask.request.id _
+  checked_effect wish ask asked (Known a index) e = known_effect wish ask a index e
+  checked_effect wish ask asked New e = new_effect wish ask asked e
 
-  -- what an answer to an append has to say before it comes
-  abbrev pub AnswerHeard : ℕ → AppendAnswer → Type 0
-  AnswerHeard n (Stored length) = Told n length
-  AnswerHeard n _ = ⊤
+  update_effect : (wish : Wish) (ask : Ask) → Asked ask.request.id ask.request.command → Effect (on_update 1 m wish ask)
+  unfolding on_update
+  update_effect wish ask asked =
+      cond_both (not (ask.epoch == m.epoch)) _ _ Effect (λ y. refuses ask.request.id _)
+      (λ n. cond_both (not (is_serving m.phase)) _ _ Effect (λ y. refuses ask.request.id _)
+      (λ n. checked_effect wish ask asked (check (state_of m).table ask.request.id) refl))
 
-  appended_effect : (m : MasterState) (from : NodeId) (round : ℕ) (answer : AppendAnswer) → AnswerHeard from.number answer → MasterEffect Asked Told m (on_appended m from round answer)
-  appended_effect m from round (Stored length) told = backup_effect m from.kind from.number length round told
-  appended_effect m from round _ told = only_says m m [] refl refl tt
+  -- ---- an acknowledgement
 
-  -- what a message to the master has to say before it comes
-  abbrev pub Heard : NodeId → Body → Type 0
-  Heard from (Sync ask) = Asked ask.request.id ask.request.command
-  Heard from (Appended a) = AnswerHeard from.number a.answer
-  Heard from _ = ⊤
+  module _ (acks : List Acknowledged) (rise : AcksMove Told m.acknowledged acks) where
+    abbrev told : MasterState
+    told = record m { acknowledged = acks }
 
-  pub master_effect : (m : MasterState) (from : NodeId) (body : Body) → Heard from body → MasterEffect Asked Told m (on_master m from body)
-  unfolding on_master
-  master_effect m from (Sync ask) heard = sync_effect m ask.request heard (check m.log ask.request.id) refl
-  master_effect m from (Appended a) heard = appended_effect m from a.round a.answer heard
-  master_effect m from _ heard = only_says m m [] refl refl tt
+    reply_says : (index : ℕ) → index < synced told → (o : Option Entry) → slice_get m.log index ≡ o → Each (Says h m.log (synced told)) (synced_reply 1 told index o)
+    reply_says index low (Some (Op r acknowledged)) e = (
+      record {
+        addressed = refl;
+        done = record { index = index; request = r; acknowledged = acknowledged; stands = e; its_id = refl; its_answer = λ i. answer_after (sym serves.lo i) (sym serves.hi i) (take index m.log) r.command };
+        durable = λ t. low;
+      },
+      tt,
+    )
+    reply_says index low _ e = tt
+
+    replies_say : (indexes : List ℕ) → ((k i : ℕ) → At indexes k i → i < synced told) → Each (Says h m.log (synced told)) (synced_replies 1 told indexes)
+    replies_say [] low = tt
+    replies_say (i ∷ indexes) low =
+        Each-append (Says h m.log (synced told)) _ _ (reply_says i (low zero i refl) (slice_get m.log i) refl) (replies_say indexes (λ k j at. low (suc k) j at))
+
+    due_low : (k i : ℕ) → At (filter (λ index. nat_lt index (synced told)) m.held) k i → i < synced told
+    due_low k i at = let f = filter_at (λ index. nat_lt index (synced told)) m.held k i at in grind (arith, nat_tests, f.2)
+
+    between_ops : Each IsOp (between m.settled (synced told) m.log)
+    between_ops = Each-from_at IsOp _ (λ k e at.
+        let t = at_take (synced told - m.settled) (drop m.settled m.log) k e at in
+        let d = at_drop m.settled m.log k e t.1 in
+        Each-at IsOp m.log ops d.0 e d.2)
+
+    none_ready : filter (is_ready told) m.captures ≡ []
+    none_ready = ap (filter (is_ready told)) serves.captures
+
+    none_left : filter (λ c. not (is_ready told c)) m.captures ≡ []
+    none_left = ap (filter (λ c. not (is_ready told c))) serves.captures
+
+    settle_effect : Effect (settle 1 told)
+    unfolding settle
+    settle_effect =
+        moves _ _ (serving_with h m serves m.log acks (synced told) m.round _ m.captured _ m.free m.queue none_left) (inl refl) rise
+        (Each-append (Says h m.log (synced told)) _ _
+        (Each-append (Says h m.log (synced told)) _ _ (replies_say _ due_low) (subst (λ (cs : List Captured). Each (Says h m.log (synced told)) (map (value_of 1 told) cs)) (sym none_ready) tt))
+        (none_moved (Says h m.log (synced told)) _ between_ops))
+
+  stored_effect : (from : NodeId) (long round : ℕ) → Told from long → Effect (on_stored 1 m from long round)
+  stored_effect from long round heard =
+      let acks = raised m.acknowledged from long round in
+      cond_both (is_among from (stored_on m)) _ _ Effect
+      (λ y. subst (λ (p : Phase). Effect (goes_on 1 (record m { acknowledged = acks }) p)) (sym serves.phase)
+      (settle_effect acks (λ node limit low tells. raised_below m.acknowledged from long round node limit low (λ same. tells long (subst (λ (x : NodeId). Told x long) same heard)))))
+      (λ n. rests)
+
+  appended_effect : (from : NodeId) (round : ℕ) (answer : AppendAnswer) → AnswerHeard Told from answer → Effect (on_appended 1 m from round answer)
+  unfolding on_appended
+  appended_effect from round (Stored long) heard = stored_effect from long round heard
+  appended_effect from round _ heard = rests
+
+  -- ---- inputs
+
+  if_it_counts_effect : (r : Moved MasterState) → Effect r → Effect (if_it_counts m r)
+  if_it_counts_effect r e = cond_both (nat_lt r.state.round (2 ^ 64) && nat_lt r.state.captured (2 ^ 64)) _ _ Effect (λ y. e) (λ n. rests)
+
+  reacts_effect : (from : NodeId) (b : Body) → Heard Asked Told from b → Effect (reacts 1 m from b)
+  reacts_effect from (body.Update ask) heard = update_effect AtOnce ask heard
+  reacts_effect from (body.Sync ask) heard = update_effect WhenSynced ask heard
+  reacts_effect from (body.Appended a) heard = appended_effect from a.round a.answer heard
+  reacts_effect from (body.Read ask) heard = absurd heard
+  reacts_effect from (body.Collected c) heard = absurd heard
+  reacts_effect from (body.Prepare p) heard = absurd heard
+  reacts_effect from (body.Adopted a) heard = absurd heard
+  reacts_effect from (body.TakeOut t) heard = absurd heard
+  reacts_effect from (body.GiveIn g) heard = absurd heard
+  reacts_effect from (body.ExpireClient client) heard = absurd heard
+  reacts_effect from _ heard = rests
+
+  pub master_effect : (from : NodeId) (b : Body) → Heard Asked Told from b → Effect (on_serving 1 m from b)
+  unfolding on_serving
+  master_effect from b heard = if_it_counts_effect (reacts 1 m from b) (reacts_effect from b heard)
+
+  pub sync_effect : Effect (serving_ordered 1 m local.Sync)
+  unfolding serving_ordered
+  sync_effect = if_it_counts_effect (sync_in 1 m m.phase) (subst (λ (p : Phase). Effect (sync_in 1 m p)) (sym serves.phase)
+      (begins m (serving_with h m serves m.log m.acknowledged m.settled (m.round + 1) m.captures m.captured m.held m.free m.queue serves.captures) (inl refl) same_acks))

@@ -1,12 +1,11 @@
 -- Lists that are numbered from 1, where one item is set, and what a filter and a flattening keep.
-use Rattle.std.proofs.Common.{◌≡◌, ◌≢◌, ◌⊎◌, inl, inr, ℕ, zero, suc, ◌+◌, ◌-◌, ◌<◌, ◌≤◌, Bool, true, List, [], ◌∷◌, ◌++◌, set, replicate, Some, slice_get, refl, ap, sym, ◌∙◌, subst, arith, append-nil}
+use Rattle.std.proofs.Common.{◌≡◌, ◌≢◌, ◌⊎◌, inl, inr, ℕ, zero, suc, ◌+◌, ◌-◌, Bool, true, List, [], ◌∷◌, ◌++◌, set, replicate, Some, refl, ap, sym, ◌∙◌, subst, arith, append-nil, append_assoc}
 use Rattle.std.specs.List.{filter, list_any}
 use Rattle.std.proofs.lemmas.Bool.{cases_Bool}
 use Rattle.curp_base.specs.Words.{At, numbered}
-use Rattle.curp_base.proofs.Lists.{at_set_cases, at_set_same, at_set_other, at_replicate, at_replicated}
+use Rattle.curp_base.proofs.Lists.{at_set_cases, at_set_same, at_set_other, at_replicate}
 use Rattle.curp_msg.specs.declared.message.Message.{Message}
-use Rattle.curp_plain.specs.World.{all_of, kept}
-use Rattle.curp_plain.proofs.Laws.{all_of-push}
+use Rattle.curp_model.specs.World.{all_of, kept}
 
 pub numbered_same : {A : Type 0} (xs : List A) (n : ℕ) (x y : A) → numbered xs n ≡ Some x → numbered xs n ≡ Some y → x ≡ y
 numbered_same xs n x y h g = cc
@@ -45,36 +44,8 @@ numbered_set_other {A} xs n old y here m x ne h =
     let q = place xs m x h in
     at_place (set xs (n - 1) y) q.0 m x q.1 (subst (λ (l : List A). At l q.0 x) (sym (set_at xs n p.0 y p.1)) (at_set_other xs p.0 q.0 x y (omega (arith, q.1, p.1)) q.2))
 
-get_set_other : {A : Type 0} (xs : List A) (i k : ℕ) (y : A) → k ≢ i → slice_get (set xs i y) k ≡ slice_get xs k
-get_set_other [] i k y ne = refl
-get_set_other (z ∷ xs) zero zero y ne = absurd (ne refl)
-get_set_other (z ∷ xs) zero (suc k) y ne = refl
-get_set_other (z ∷ xs) (suc i) zero y ne = refl
-get_set_other (z ∷ xs) (suc i) (suc k) y ne = get_set_other xs i k y (omega arith)
-
--- to set one item leaves the others
-pub numbered_others : {A : Type 0} (xs : List A) (n : ℕ) (old y : A) → numbered xs n ≡ Some old → (m : ℕ) → m ≢ n → numbered (set xs (n - 1) y) m ≡ numbered xs m
-numbered_others xs n old y here zero ne = refl
-numbered_others xs n old y here (suc m) ne = let p = place xs n old here in get_set_other xs (n - 1) m y (omega (arith, p.1))
-
-set_itself : {A : Type 0} (xs : List A) (k : ℕ) (x : A) → At xs k x → set xs k x ≡ xs
-set_itself [] k x h = refl
-set_itself (y ∷ xs) zero x h = cc
-set_itself (y ∷ xs) (suc k) x h = ap (λ l. y ∷ l) (set_itself xs k x h)
-
--- what stands there already, set again
-pub numbered_set_itself : {A : Type 0} (xs : List A) (n : ℕ) (x : A) → numbered xs n ≡ Some x → set xs (n - 1) x ≡ xs
-numbered_set_itself xs n x h = let p = place xs n x h in set_at xs n p.0 x p.1 ∙ set_itself xs p.0 x p.2
-
-pub numbered_replicate : {A : Type 0} (count : ℕ) (x : A) (n : ℕ) (y : A) → numbered (replicate count x) n ≡ Some y → (x ≡ y) × (n ≤ count)
-numbered_replicate count x n y h =
-    let p = place (replicate count x) n y h in
-    let r = at_replicate count x p.0 y p.2 in
-    (r.1, omega (arith, r.0, p.1))
-
-pub numbered_replicated : {A : Type 0} (count : ℕ) (x : A) (n : ℕ) → 0 < n → n ≤ count → numbered (replicate count x) n ≡ Some x
-numbered_replicated count x zero low high = absurd (omega arith)
-numbered_replicated count x (suc n) low high = at_replicated count x n (omega arith)
+pub numbered_replicate : {A : Type 0} (count : ℕ) (x : A) (n : ℕ) (y : A) → numbered (replicate count x) n ≡ Some y → x ≡ y
+numbered_replicate count x n y h = let p = place (replicate count x) n y h in (at_replicate count x p.0 y p.2).1
 
 -- an item that an `any` finds
 pub any_at : {A : Type 0} (p : A → Bool) (xs : List A) → list_any p xs ≡ true → (k : ℕ) × (x : A) × At xs k x × (p x ≡ true)
@@ -96,6 +67,11 @@ filter_at {A} p (y ∷ xs) k x h = elim (cases_Bool (p y)) [
   | inl t ↦ kept_at x p y (filter p xs) xs (λ j g. filter_at p xs j x g) t k (rw t at h)
   | inr f ↦ let r = filter_at p xs k x (rw f at h) in (suc r.0, r.1, r.2)
 ]
+
+-- one more list comes behind all
+all_of-push : {A : Type 0} (lists : List (List A)) (xs : List A) → all_of (lists ++ xs ∷ []) ≡ all_of lists ++ xs
+all_of-push [] xs = append-nil xs
+all_of-push (ys ∷ rest) xs = ap (λ l. ys ++ l) (all_of-push rest xs) ∙ sym (append_assoc ys (all_of rest) xs)
 
 -- what a step sends comes behind all messages
 pub all_of-kept : (sent : List (List Message)) (out : List Message) → all_of (kept sent out) ≡ all_of sent ++ out

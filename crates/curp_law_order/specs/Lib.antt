@@ -1,1 +1,4 @@
-pub mod Laws
+pub mod Shape
+pub mod Sent
+pub mod Marked
+pub mod Stored

@@ -1,54 +1,68 @@
-//! The order that the world shows is an order of its history. There is no code here: a law is the contract of a function
+//! What holds of a world after every script of what is built. There is no code here: a law is the contract of a function
 //! with nothing in it, and a caller has the law by the call.
 #![tactic(auto)]
 
-ghost use Rattle.std.specs.Prelude.{◌≡◌, ◌≢◌, ◌<◌, ℕ, List};
-ghost use Rattle.curp_base.specs.Words.{numbered};
-ghost use Rattle.curp_cmd.specs.declared.node.NodeKind.TheVariants.{Client, Master, Backup};
+ghost use Rattle.std.specs.Prelude.{◌≡◌, ℕ, List, [], ◌∷◌};
+ghost use Rattle.curp_base.specs.Words.{At};
+ghost use Rattle.curp_law_order.specs.Marked.{marks_of, requests_of};
+ghost use Rattle.curp_law_order.specs.Sent.{IsBuilt};
+ghost use Rattle.curp_law_order.specs.Shape.{HasShape};
+ghost use Rattle.curp_law_order.specs.Stored.{BackupsFollow, CompletedIsStored, RepliesAreStored};
+ghost use Rattle.curp_model.specs.Built.{IsScript};
+ghost use Rattle.curp_model.specs.Master.{MasterState};
+ghost use Rattle.curp_model.specs.Recovery.{Serving};
+ghost use Rattle.curp_model.specs.World.{world, messages, order};
+ghost use Rattle.curp_msg.specs.declared.message.Message.{Message};
 ghost use Rattle.curp_order.specs.Order.{IsHistory, IsOrder};
+ghost use Rattle.curp_script.specs.declared.script.Header.{Header};
 ghost use Rattle.curp_script.specs.declared.script.Step.{Step};
-ghost use Rattle.curp_msg.specs.declared.outcome.StepResult.TheVariants.{Done, NoMessage, NoNode, Full};
-ghost use Rattle.curp_plain.specs.World.{World, weight, weight_limit, step, run, opening, order};
-ghost use Rattle.curp_law_order.specs.Laws.{IsSpared, BackupsFollow, CompletedIsStored, RepliesAreStored};
 
-/// After any steps, whatever was lost, repeated or overtaken on the way, the order is one of the history: the store is
-/// linearizable.
+/// The order is one of the history, whatever was lost, repeated or overtaken on the way: the store is linearizable.
 pub fn order_stands()
-    ensures { (clients backups : ℕ) (steps : List Step) → let w = run (opening clients backups) steps in IsOrder w.history (order w) }
+    ensures order { (h : Header) (steps : List Step) → IsScript h steps → IsOrder (world h steps).history (order (world h steps)) }
 {}
 
-/// After any steps, each request was invoked at most once, and completed at most once, after that.
+/// Each request was invoked at most once, and completed at most once, after that.
 pub fn history_stands()
-    ensures { (clients backups : ℕ) (steps : List Step) → IsHistory (run (opening clients backups) steps).history }
+    ensures history { (h : Header) (steps : List Step) → IsScript h steps → IsHistory (world h steps).history }
 {}
 
-/// A step changes the node that it names, and no other, in any world. There is one master, whatever the number in its name.
-pub fn only_the_named_node_moves()
-    ensures clients { (w : World) (s : Step) (n : ℕ) → IsSpared w s Client n → numbered (step w s).world.clients n ≡ numbered w.clients n }
-    ensures master { (w : World) (s : Step) → ((n : ℕ) → IsSpared w s Master n) → (step w s).world.master ≡ w.master }
-    ensures backups { (w : World) (s : Step) (n : ℕ) → IsSpared w s Backup n → numbered (step w s).world.backups n ≡ numbered w.backups n }
-    ensures refused { (w : World) (s : Step) → (step w s).outcome.result ≢ Done → (step w s).world ≡ w }
+/// There are the nodes of the opening and no others. The manager doesn't move, and the one master serves by the lists that
+/// it began with.
+pub fn shape_stays()
+    ensures shape { (h : Header) (steps : List Step) → IsScript h steps → HasShape h (world h steps) }
 {}
 
-/// A world whose messages weigh more than the limit stands still: no step changes it, and one that isn't refused for
-/// another cause is refused with that weight.
-pub fn full_changes_nothing()
-    ensures world { (w : World) (s : Step) → weight_limit < weight w → (step w s).world ≡ w }
-    ensures result { (w : World) (s : Step) → weight_limit < weight w → (step w s).outcome.result ≢ NoMessage → (step w s).outcome.result ≢ NoNode → (step w s).outcome.result ≡ Full (weight w) }
+/// Each message that was sent is of a kind that its addressee knows.
+pub fn messages_are_built()
+    ensures built { (h : Header) (steps : List Step) → IsScript h steps → (k : ℕ) (m : Message) → At (messages (world h steps)) k m → IsBuilt m }
 {}
 
-/// After any steps, no backup has anything that the master hasn't, nor at another place.
+/// The marks are those of the ops of the master's log, flagged where the history has the completion. So the order is that of
+/// the log.
+pub fn marks_tell_the_log()
+    ensures marks { (h : Header) (steps : List Step) → IsScript h steps → (m : MasterState) → (world h steps).masters ≡ Serving m ∷ []
+        → (world h steps).marks ≡ marks_of m.log (world h steps).history }
+    ensures order { (h : Header) (steps : List Step) → IsScript h steps → (m : MasterState) → (world h steps).masters ≡ Serving m ∷ []
+        → order (world h steps) ≡ requests_of m.log }
+{}
+
+/// No backup has anything that the master hasn't, nor at another place.
 pub fn backups_follow()
-    ensures { (clients backups : ℕ) (steps : List Step) → BackupsFollow (run (opening clients backups) steps) }
+    ensures follow { (h : Header) (steps : List Step) → IsScript h steps → (m : MasterState) → (world h steps).masters ≡ Serving m ∷ []
+        → BackupsFollow (world h steps) m }
 {}
 
-/// After any steps, what completed is stored on all backups: any one of them has each request whose answer a client has
-/// seen.
+/// What completed stands in the master's log, and besides on all backups, or all witnesses hold it: any one backup and any one
+/// witness have it between them.
 pub fn completed_is_stored()
-    ensures { (clients backups : ℕ) (steps : List Step) → CompletedIsStored (run (opening clients backups) steps) }
+    ensures stored { (h : Header) (steps : List Step) → IsScript h steps → (m : MasterState) → (world h steps).masters ≡ Serving m ∷ []
+        → CompletedIsStored (world h steps) m }
 {}
 
-/// After any steps, the request of each reply is stored on all backups, whether the reply comes or is lost.
+/// The request of each synced reply is stored on all backups, and that of each other reply stands in the master's log with
+/// its answer, whether the reply comes or is lost.
 pub fn replies_are_stored()
-    ensures { (clients backups : ℕ) (steps : List Step) → RepliesAreStored (run (opening clients backups) steps) }
+    ensures stored { (h : Header) (steps : List Step) → IsScript h steps → (m : MasterState) → (world h steps).masters ≡ Serving m ∷ []
+        → RepliesAreStored (world h steps) m }
 {}

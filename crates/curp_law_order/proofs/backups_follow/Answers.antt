@@ -1,7 +1,14 @@
-use Rattle.curp_plain.specs.World.{run, opening}
+use Rattle.std.proofs.Common.{subst}
+use Rattle.curp_model.specs.World.{world}
+use Rattle.curp_law_order.specs.Stored.{BackupsFollow}
 use Rattle.curp_law_order.proofs.Runs.{always}
-use Rattle.curp_law_order.proofs.Laws.{backups_follow}
+use Rattle.curp_law_order.proofs.Laws.{follow, same_master}
 use Rattle.curp_law_order.proofs.backups_follow.Goals as goal
 
 pub returns : goal.returns
-returns c = λ clients backups steps. backups_follow (run (opening clients backups) steps) (always clients backups steps)
+returns c = record {
+  follow = λ h steps script m is.
+      let w = world h steps in
+      let inv = always h steps script in
+      subst (BackupsFollow w) (same_master h w inv m is) (follow h w inv);
+}
