@@ -1,0 +1,16 @@
+use Rattle.curp_law_trip.proofs.Deliveries.{accepted_is, replied_is, sent_is}
+use Rattle.curp_law_trip.proofs.Numbers.{heard_used, ordered_used}
+use Rattle.curp_law_trip.proofs.Trips.{all_count, completes}
+use Rattle.curp_law_trip.proofs.one_round_trip.Goals as goal
+
+pub returns : goal.returns
+returns c = record {
+  sent = sent_is;
+  replied = replied_is;
+  accepted = accepted_is;
+  completes = completes;
+  all_count = all_count;
+  fresh_numbers = λ fast config. tt;
+  ordered_numbers = ordered_used;
+  heard_numbers = heard_used;
+}
