@@ -1,4 +1,1 @@
 pub mod Answered
-pub mod Checks
-pub mod Numbers
-pub mod Settling

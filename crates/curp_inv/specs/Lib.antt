@@ -1,1 +1,3 @@
-pub mod Log
+pub mod Machines
+pub mod Serving
+pub mod Refusals

@@ -1,104 +1,149 @@
-ghost use Rattle.std.specs.Prelude.{◌≡◌, ◌-◌, ◌≤◌, ◌++◌, List, length, drop, OnOk, OnErr, IfOk};
-ghost use Rattle.curp_plain.specs.Backup.{fresh_backup, on_append, on_backup};
+ghost use Rattle.std.specs.Prelude.{◌≡◌, OnOk, OnErr, IfOk};
+ghost use Rattle.curp_model.specs.Backup.{installed_backup, on_backup};
+ghost use Rattle.curp_model.specs.Moved as nodes;
+ghost use Rattle.curp_inv.specs.Machines.{reacts};
 
 use crate::done::{quiet, sends};
-use crate::names::{backup_node, master_node};
-use curp_base::{NoMemory, TryCopy};
-use curp_cmd::Entry;
-use curp_msg::{Append, AppendAnswer, Appended, Body, Done, Message};
-use std::alloc::Global;
+use curp_backup::{AppendError, Backup, FenceError};
+use curp_base::{Items, NoMemory};
+use curp_cmd::{NodeId, NodeKind};
+use curp_msg::{
+    Append, AppendAnswer, Appended, Body, Core, Done, FenceAnswer, FenceReply, Input, Message,
+};
+use std::alloc::{AllocError, Global};
 use std::marker::Model;
 
-/// A backup: it keeps the entries that the master gives it.
+/// A backup as a node.
 #[derive(Drop)]
 pub struct BackupNode {
     alloc: Global,
-    log: Vec<Entry>,
+    number: u32,
+    backup: Backup,
 }
 
 impl Model for BackupNode {
-    ghost use Rattle.curp_plain.specs.Backup.{BackupState};
+    ghost use Rattle.curp_model.specs.Backup.{BackupState};
+    ghost use Rattle.curp_model.specs.Moved.{Node};
 
-    ghost Value = { BackupState };
+    ghost Value = { Node BackupState };
 
-    ghost view = { λ b. record { log = b.log.items } };
+    ghost view = { λ n. record { number = n.number; state = n.backup } };
 }
 
 impl BackupNode {
-    /// A backup that keeps nothing yet. It takes no memory.
-    pub fn new(alloc: Global) -> BackupNode
-        ensures { result ≡ fresh_backup }
+    /// A backup of that number as at opening: it is installed at that epoch, and keeps nothing. It takes no memory.
+    pub fn new(alloc: Global, number: u32, epoch: u32) -> BackupNode
+        ensures number { result.number ≡ number }
+        ensures state { result.state ≡ installed_backup epoch }
     {
+        let mut backup = Backup::new(alloc);
+        // A fresh backup takes each epoch.
+        let _installed = backup.install(epoch);
         BackupNode {
             alloc,
-            log: Vec::new(alloc),
+            number,
+            backup,
         }
     }
 
-    /// A message comes to the backup, which has that number.
-    #[tactic(auto, unfolding(curp_plain::specs::Backup::on_backup))]
-    pub fn on(&mut self, number: u32, body: &Body) -> Result<Done, NoMemory>
-        ensures state { OnOk result (self.new ≡ (on_backup number self.old body.now).state) }
-        ensures sent { IfOk result (λ done. done.sent ≡ (on_backup number self.old body.now).messages) }
-        ensures completed { IfOk result (λ done. done.completed ≡ (on_backup number self.old body.now).completed) }
-        ensures refused { IfOk result (λ done. done.refused ≡ 0) }
+    fn name(&self) -> NodeId
+        ensures { result ≡ nodes.backup_node self.now.number }
+    {
+        NodeId {
+            kind: NodeKind::Backup,
+            number: self.number,
+        }
+    }
+
+    fn answer(&self, to: NodeId, body: Body) -> Message
+        ensures { result ≡ nodes.says (nodes.backup_node self.now.number) to body }
+    {
+        Message {
+            from: self.name(),
+            to,
+            body,
+        }
+    }
+
+    #[tactic(auto, unfolding(curp_model::specs::Backup::on_backup))]
+    fn hear(&mut self, message: &Message) -> Result<Done, NoMemory>
+        ensures state { OnOk result (self.new ≡ (reacts self.old (on_backup self.old.number self.old.state message.now.from message.now.body)).0) }
+        ensures done { IfOk result (λ done. done ≡ (reacts self.old (on_backup self.old.number self.old.state message.now.from message.now.body)).1) }
         ensures err { OnErr result (self.new ≡ self.old) }
     {
-        match body {
-            Body::Append(append) => self.on_append(number, append),
+        match &message.body {
+            Body::Append(append) => self.on_append(message.from, append),
+            Body::Install { epoch } => {
+                let _installed = self.backup.install(*epoch);
+                Ok(quiet(self.alloc))
+            }
+            Body::Fence { epoch } => self.on_fence(message.from, *epoch),
             _ => Ok(quiet(self.alloc)),
         }
     }
 
-    #[tactic(auto, unfolding(curp_plain::specs::Backup::on_append))]
-    fn on_append(&mut self, number: u32, append: &Append) -> Result<Done, NoMemory>
-        ensures state { OnOk result (self.new ≡ (on_append number self.old append.now.epoch append.now.base append.now.round append.now.entries).state) }
-        ensures sent { IfOk result (λ done. done.sent ≡ (on_append number self.old append.now.epoch append.now.base append.now.round append.now.entries).messages) }
-        ensures completed { IfOk result (λ done. done.completed ≡ (on_append number self.old append.now.epoch append.now.base append.now.round append.now.entries).completed) }
-        ensures refused { IfOk result (λ done. done.refused ≡ 0) }
+    #[tactic(auto, unfolding(curp_model::specs::Backup::on_backup))]
+    fn on_append(&mut self, from: NodeId, append: &Append) -> Result<Done, NoMemory>
+        ensures state { OnOk result (self.new ≡ (reacts self.old (on_backup self.old.number self.old.state from (Body.Append append.now))).0) }
+        ensures done { IfOk result (λ done. done ≡ (reacts self.old (on_backup self.old.number self.old.state from (Body.Append append.now))).1) }
         ensures err { OnErr result (self.new ≡ self.old) }
     {
-        let length = self.log.len() as u64;
-        if append.base > length {
-            return Ok(quiet(self.alloc));
-        }
-        // The one change comes last, so that nothing has changed where memory is wanting.
         let mut messages = Vec::with_capacity(self.alloc, 1)?;
-        let new_entries = past(append.entries.as_slice(), length - append.base);
-        let mut copies = copies_of(self.alloc, new_entries)?;
-        self.log.append(&mut copies)?;
-        messages.push_reserved(Message {
-            from: backup_node(number),
-            to: master_node(),
-            body: Body::Appended(Appended {
-                epoch: append.epoch,
-                round: append.round,
-                answer: AppendAnswer::Stored {
-                    length: self.log.len() as u64,
-                },
-            }),
-        });
+        let entries = append.entries.as_slice();
+        let answer = match self
+            .backup
+            .append(append.epoch, append.base, entries, append.round)
+        {
+            Ok(length) => AppendAnswer::Stored { length },
+            Err(AppendError::Fenced { epoch }) => AppendAnswer::Fenced { epoch },
+            Err(AppendError::NotInstalled) => AppendAnswer::NotInstalled,
+            Err(AppendError::Gap { length }) => AppendAnswer::Gap { length },
+            Err(AppendError::NoMemory) => return Err(AllocError),
+        };
+        let appended = Appended {
+            epoch: append.epoch,
+            round: append.round,
+            answer,
+        };
+        messages.push_reserved(self.answer(from, Body::Appended(appended)));
+        Ok(sends(messages))
+    }
+
+    #[tactic(auto, unfolding(curp_model::specs::Backup::on_backup))]
+    fn on_fence(&mut self, from: NodeId, epoch: u32) -> Result<Done, NoMemory>
+        ensures state { OnOk result (self.new ≡ (reacts self.old (on_backup self.old.number self.old.state from (Body.Fence epoch))).0) }
+        ensures done { IfOk result (λ done. done ≡ (reacts self.old (on_backup self.old.number self.old.state from (Body.Fence epoch))).1) }
+        ensures err { OnErr result (self.new ≡ self.old) }
+    {
+        let mut messages = Vec::with_capacity(self.alloc, 1)?;
+        let answer = match self.backup.fence(epoch) {
+            Ok(log) => FenceReply::Log(Items::new(log)),
+            Err(FenceError::Fenced { epoch }) => FenceReply::Fenced { epoch },
+            Err(FenceError::NoMemory) => return Err(AllocError),
+        };
+        let answered = FenceAnswer { epoch, answer };
+        messages.push_reserved(self.answer(from, Body::FenceAnswer(answered)));
         Ok(sends(messages))
     }
 }
 
-// The entries past so many.
-fn past(entries: &[Entry], count: u64) -> &[Entry]
-    ensures { result.now ≡ drop count entries.now }
-{
-    if count < entries.len() as u64 {
-        &entries[count as usize..]
-    } else {
-        &[]
-    }
-}
+impl Core for BackupNode {
+    ghost use Rattle.curp_inv.specs.Machines.{backup_machine};
+    ghost use Rattle.curp_inv.specs.Refusals.{backup_small, backup_idle, backup_taken};
 
-fn copies_of(alloc: Global, entries: &[Entry]) -> Result<Vec<Entry>, NoMemory>
-    ensures { IfOk result (λ copies. copies.items ≡ entries.now) }
-{
-    let mut copies = Vec::with_capacity(alloc, entries.len())?;
-    for entry in entries {
-        copies.push(entry.try_copy(alloc)?)?;
+    ghost machine = { backup_machine };
+
+    ghost refusals_small = { backup_small };
+
+    ghost refusals_idle = { backup_idle };
+
+    ghost messages_taken = { backup_taken };
+
+    #[tactic(auto, unfolding(crate::specs::Machines::backup_machine))]
+    fn on(&mut self, input: &Input) -> Result<Done, NoMemory> {
+        match input {
+            Input::Local(_) => Ok(quiet(self.alloc)),
+            Input::Message(message) => self.hear(message),
+        }
     }
-    Ok(copies)
 }

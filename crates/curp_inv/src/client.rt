@@ -1,117 +1,102 @@
-ghost use Rattle.std.specs.Prelude.{◌≡◌, [], OnOk, OnErr, IfOk};
-ghost use Rattle.curp_plain.specs.Client.{next_id, on_invoke, on_reply, on_client};
+ghost use Rattle.std.specs.Prelude.{◌≡◌, IfOk};
+ghost use Rattle.curp_model.specs.Client.{fresh_client};
 
-use crate::done::sends;
-use crate::names::sync_of;
-use curp_base::{Items, NoMemory};
-use curp_cmd::{Command, Request, RequestId};
-use curp_msg::{Body, Completed, Done, Reply};
-use std::alloc::Global;
+use crate::done::{quiet, refuses};
+use curp_base::NoMemory;
+use curp_client::{Client, InvokeError, RetryError};
+use curp_cmd::Command;
+use curp_msg::{Config, Core, Done, Input, Local};
+use std::alloc::{AllocError, Global};
 use std::marker::Model;
 
-/// A client. It invokes once in what is built, so at most one request is pending.
+/// A client as a node.
 #[derive(Drop)]
 pub struct ClientNode {
     alloc: Global,
-    last: u32,
-    pending: Option<u32>,
+    client: Client,
 }
 
 impl Model for ClientNode {
-    ghost use Rattle.std.specs.Prelude.{◌≡◌, None};
-    ghost use Rattle.std.specs.Option.{option_to_list};
-    ghost use Rattle.curp_plain.specs.Client.{ClientState};
+    ghost use Rattle.curp_model.specs.Client.{ClientState};
+    ghost use Rattle.curp_model.specs.Moved.{Node};
 
-    ghost Value = { ClientState };
+    ghost Value = { Node ClientState };
 
-    ghost view = { λ c. record { last = c.last; pending = option_to_list c.pending } };
-
-    ghost invariant = { λ c. c.last ≡ 0 → c.pending ≡ None };
+    ghost view = { λ n. n.client };
 }
 
 impl ClientNode {
-    ghost use Rattle.curp_plain.specs.Client.{fresh_client};
-
-    /// A client that has invoked nothing. It takes no memory.
-    pub fn new(alloc: Global) -> ClientNode
-        ensures { result ≡ fresh_client }
+    /// A client of that number which has invoked nothing.
+    pub fn new(alloc: Global, number: u32, fast: bool, config: Config) -> ClientNode
+        ensures number { result.number ≡ number }
+        ensures state { result.state ≡ fresh_client fast config }
     {
         ClientNode {
             alloc,
-            last: 0,
-            pending: None,
+            client: Client::begin(alloc, number, fast, config),
         }
     }
 
-    /// The id of its next request, where the client has that number.
-    pub fn next_id(&self, number: u32) -> RequestId
-        requires { self.now.last ≡ 0 }
-        ensures { result ≡ next_id number self.now }
+    /// The number of its last request, at first 0.
+    pub fn last(&self) -> u32
+        ensures { result ≡ self.now.state.last }
     {
-        RequestId {
-            client: number,
-            seq: self.last + 1,
+        self.client.last()
+    }
+}
+
+impl Core for ClientNode {
+    ghost use Rattle.curp_inv.specs.Machines.{client_machine};
+    ghost use Rattle.curp_inv.specs.Refusals.{client_small, client_idle, client_taken};
+
+    ghost machine = { client_machine };
+
+    ghost refusals_small = { client_small };
+
+    ghost refusals_idle = { client_idle };
+
+    ghost messages_taken = { client_taken };
+
+    #[tactic(auto, unfolding(crate::specs::Machines::client_machine, curp_model::specs::Client::client_ordered))]
+    fn on(&mut self, input: &Input) -> Result<Done, NoMemory> {
+        match input {
+            Input::Local(Local::Invoke(command)) => self.invoke(command),
+            Input::Local(Local::Retry(seq)) => self.retry(*seq),
+            Input::Local(Local::Fetch) => self.client.fetch(),
+            Input::Local(_) => Ok(quiet(self.alloc)),
+            Input::Message(message) => self.client.on(message),
         }
     }
+}
 
-    /// The client, which has that number, invokes a command for the first time.
-    #[tactic(auto, unfolding(curp_plain::specs::Client::on_invoke))]
-    pub fn invoke(&mut self, number: u32, command: &Command) -> Result<Done, NoMemory>
-        requires { self.old.last ≡ 0 }
-        ensures state { OnOk result (self.new ≡ (on_invoke number self.old command.now).state) }
-        ensures sent { IfOk result (λ done. done.sent ≡ (on_invoke number self.old command.now).messages) }
-        ensures completed { IfOk result (λ done. done.completed ≡ (on_invoke number self.old command.now).completed) }
-        ensures refused { IfOk result (λ done. done.refused ≡ 0) }
+impl ClientNode {
+    ghost use Rattle.std.specs.Prelude.{OnOk, OnErr, IfOk};
+    ghost use Rattle.curp_model.specs.Client as model;
+    ghost use Rattle.curp_inv.specs.Machines.{reacts};
+
+    #[tactic(auto, using(crate::specs::Refusals::invoke_undone))]
+    fn invoke(&mut self, command: &Command) -> Result<Done, NoMemory>
+        ensures state { OnOk result (self.new ≡ (reacts self.old (model.invoke self.old.number self.old.state command.now)).0) }
+        ensures done { IfOk result (λ done. done ≡ (reacts self.old (model.invoke self.old.number self.old.state command.now)).1) }
         ensures err { OnErr result (self.new ≡ self.old) }
     {
-        let seq = self.last + 1;
-        let request = Request {
-            id: RequestId {
-                client: number,
-                seq,
-            },
-            first: seq,
-            command: *command,
-        };
-        let messages = vec![in self.alloc; sync_of(request)]?;
-        self.last = seq;
-        self.pending = Some(seq);
-        Ok(sends(messages))
-    }
-
-    /// A message comes to the client. It takes no memory.
-    #[tactic(auto, unfolding(curp_plain::specs::Client::on_client))]
-    pub fn on(&mut self, body: &Body) -> Done
-        ensures state { self.new ≡ (on_client self.old body.now).state }
-        ensures sent { result.sent ≡ (on_client self.old body.now).messages }
-        ensures completed { result.completed ≡ (on_client self.old body.now).completed }
-        ensures refused { result.refused ≡ 0 }
-    {
-        let completed = match body {
-            Body::Reply(reply) => self.on_reply(reply),
-            _ => None,
-        };
-        Done {
-            refused: 0,
-            sent: Items::new(Vec::new(self.alloc)),
-            completed,
+        match self.client.invoke(command) {
+            Ok(done) => Ok(done),
+            Err(InvokeError::NoMemory) => Err(AllocError),
+            Err(error) => Ok(refuses(self.alloc, error.number())),
         }
     }
 
-    #[tactic(auto, unfolding(curp_plain::specs::Client::on_reply))]
-    fn on_reply(&mut self, reply: &Reply) -> Option<Completed>
-        ensures state { self.new ≡ (on_reply self.old reply.now).state }
-        ensures completed { result ≡ (on_reply self.old reply.now).completed }
-        ensures silent { (on_reply self.old reply.now).messages ≡ [] }
+    #[tactic(auto, using(crate::specs::Refusals::retry_undone))]
+    fn retry(&mut self, seq: u32) -> Result<Done, NoMemory>
+        ensures state { OnOk result (self.new ≡ (reacts self.old (model.retry self.old.number self.old.state seq)).0) }
+        ensures done { IfOk result (λ done. done ≡ (reacts self.old (model.retry self.old.number self.old.state seq)).1) }
+        ensures err { OnErr result (self.new ≡ self.old) }
     {
-        if !reply.synced || self.pending != Some(reply.id.seq) {
-            return None;
+        match self.client.retry(seq) {
+            Ok(done) => Ok(done),
+            Err(RetryError::NoMemory) => Err(AllocError),
+            Err(error) => Ok(refuses(self.alloc, error.number())),
         }
-        self.pending = None;
-        Some(Completed {
-            id: reply.id,
-            answer: reply.answer,
-            by: None,
-        })
     }
 }

@@ -1,16 +1,17 @@
-//! The nodes as code: clients, the master and backups, each by the handlers that define it.
+//! The nodes: clients, masters, backups and witnesses, each behind one trait, by the machine that defines it.
 #![tactic(auto)]
 
 mod backup;
 mod client;
 mod done;
-mod log;
+pub mod laws;
 mod master;
-mod names;
 mod places;
+mod witness;
 
 pub use backup::BackupNode;
 pub use client::ClientNode;
 pub use curp_msg::{Outcome, StepResult};
 pub use master::MasterNode;
 pub use places::place_of;
+pub use witness::WitnessNode;
