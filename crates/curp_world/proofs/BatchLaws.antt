@@ -1,5 +1,5 @@
 -- Batches of items that are numbered through: where a number stands, and one more batch.
-use Rattle.std.proofs.Common.{◌≡◌, ◌≢◌, ℕ, zero, suc, ◌+◌, ◌-◌, ◌<◌, ◌≤◌, ◌^◌, min, map, None, Result, Ok, Err, IfErr, MatchResult, List, [], ◌∷◌, ◌++◌, length, get_or, slice_get, refl, ap, sym, ◌∙◌, arith, append-nil, length-append}
+use Rattle.std.proofs.Common.{◌≡◌, ◌≢◌, ℕ, zero, suc, ◌+◌, ◌-◌, ◌<◌, ◌≤◌, ◌^◌, min, map, None, Result, Ok, Err, IfErr, MatchResult, List, [], ◌∷◌, ◌++◌, length, get_or, slice_get, refl, ap, sym, ◌∙◌, arith, append-nil, append_assoc, length-append}
 use Rattle.std.specs.List.{sum, sum_by}
 use Rattle.std.specs.List.Sorted.{IsBinarySearchResult}
 use Rattle.std.proofs.lemmas.List.Sums.{sum-map, sum_by-append}
@@ -10,9 +10,13 @@ use Rattle.curp_base.specs.Words.{Each, numbered}
 use Rattle.curp_base.proofs.Lists.{Each-append}
 use Rattle.curp_msg.specs.declared.message.Message.{Message}
 use Rattle.curp_msg.specs.Weight.{weight_of}
-use Rattle.curp_plain.specs.World.{all_of, sent_at}
-use Rattle.curp_plain.proofs.Laws.{all_of-push}
+use Rattle.curp_model.specs.World.{all_of, sent_at}
 use Rattle.curp_world.specs.Batches.{firsts_from, SentSome, IsKept, weight_of_all, Rise, StandsAt, IsGapAt, IsBatchOf}
+
+-- one more list comes behind all
+pub all_of-push : {A : Type 0} (lists : List (List A)) (xs : List A) → all_of (lists ++ xs ∷ []) ≡ all_of lists ++ xs
+all_of-push [] xs = append-nil xs
+all_of-push (ys ∷ rest) xs = ap (λ l. ys ++ l) (all_of-push rest xs) ∙ sym (append_assoc ys (all_of rest) xs)
 
 -- ---- the search
 

@@ -4,7 +4,7 @@ use Rattle.std.specs.List.{sum}
 use Rattle.curp_base.specs.Words.{Each}
 use Rattle.curp_msg.specs.declared.message.Message.{Message}
 use Rattle.curp_msg.specs.Weight.{weight_of}
-use Rattle.curp_plain.specs.World.{all_of}
+use Rattle.curp_model.specs.World.{all_of}
 
 -- what each step sent, where it sent something, and for how many more steps there is room
 pub record Batched : Type 0 where

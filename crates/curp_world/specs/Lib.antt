@@ -1,2 +1,4 @@
 pub mod Batches
+pub mod Given
+pub mod Nodes
 pub mod Reached

@@ -1,11 +1,13 @@
 -- What a world can be.
-use Rattle.std.specs.Prelude.{◌≡◌, ℕ, List}
+use Rattle.std.specs.Prelude.{◌≡◌, List}
+use Rattle.curp_script.specs.declared.script.Header.{Header}
 use Rattle.curp_script.specs.declared.script.Step.{Step}
-use Rattle.curp_plain.specs.World.{World, opening, run}
+use Rattle.curp_model.specs.Built.{IsScript}
+use Rattle.curp_model.specs.World.{World, world}
 
--- some steps lead to it from the opening with so many clients and backups
+-- some script of what is built leads to it
 pub record Reached (w : World) : Type 0 where
-  pub clients : ℕ
-  pub backups : ℕ
+  pub header : Header
   pub steps : List Step
-  pub is : run (opening clients backups) steps ≡ w
+  pub script : IsScript header steps
+  pub is : world header steps ≡ w

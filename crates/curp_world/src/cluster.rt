@@ -1,61 +1,82 @@
-ghost use Rattle.std.specs.Prelude.{◌≡◌, ◌≤◌, ◌++◌, ◌+◌, length, replicate, nat_lt, OnOk, OnErr, IfOk};
-ghost use Rattle.curp_base.specs.Words.{numbered};
+ghost use Rattle.std.specs.Prelude.{◌≡◌, ◌⊎◌, ◌≤◌, ◌<◌, ◌++◌, ◌+◌, ℕ, [], length, nat_lt, OnOk, OnErr, IfOk, IfSome, IfNone, Some, None};
+ghost use Rattle.std.specs.Option.{option_map};
+ghost use Rattle.curp_base.specs.Words.{At, numbered};
+ghost use Rattle.curp_law_order.specs.Sent.{IsBuilt};
+ghost use Rattle.curp_msg.specs.declared.message.Message.{Message};
 ghost use Rattle.curp_order.specs.Recorded.{invocation};
-ghost use Rattle.curp_plain.specs.Client.{fresh_client};
-ghost use Rattle.curp_plain.specs.Backup.{fresh_backup};
-ghost use Rattle.curp_plain.specs.World as world;
+ghost use Rattle.curp_model.specs.Built.{CanStep};
+ghost use Rattle.curp_model.specs.Moved as nodes;
+ghost use Rattle.curp_model.specs.World as world;
+ghost use Rattle.curp_script.specs.Headers.{bad_field};
+ghost use Rattle.curp_world.specs.Nodes.{IsServing, remarked, serving};
+ghost use Rattle.curp_world.specs.Given.{gives_client, gives_master, gives_backup, gives_witness, invoked_by};
 
+use crate::names::{backup_node, client_node, master_node, witness_node};
+use crate::opening;
 use crate::sent::Sent;
+use crate::stopped::Stopped;
 use curp_base::NoMemory;
 use curp_cmd::{Command, NodeId, NodeKind, RequestId};
-use curp_inv::{BackupNode, ClientNode, MasterNode, place_of};
-use curp_msg::{Body, Done, Message, Outcome, StepResult};
+use curp_inv::{BackupNode, ClientNode, MasterNode, WitnessNode, place_of};
+use curp_msg::{Core, Done, Input, Local, Message, Outcome, StepResult};
 use curp_order::History;
-use curp_script::Step;
+use curp_script::{Header, Step};
 use std::alloc::Global;
 use std::marker::Model;
 
 /// Beyond this weight of all messages no node gets anything more.
 const WEIGHT_LIMIT: u64 = 2_000_000;
 
-/// All nodes, every message that was ever sent, and the history.
+/// All nodes, every message that was ever sent, and the history. The manager doesn't move in what is built, so its header
+/// tells it.
 #[derive(Drop)]
 pub(crate) struct Cluster {
     alloc: Global,
+    header: Header,
     clients: Vec<ClientNode>,
-    master: MasterNode,
+    masters: Vec<MasterNode>,
     backups: Vec<BackupNode>,
+    witnesses: Vec<WitnessNode>,
+    stopped: Stopped,
     sent: Sent,
     history: History,
 }
 
 impl Model for Cluster {
-    ghost use Rattle.curp_plain.specs.World.{World};
+    ghost use Rattle.curp_model.specs.World.{World};
+    ghost use Rattle.curp_world.specs.Nodes.{AreNumbered, seen};
 
     ghost Value = { World };
 
-    ghost view = { λ c. record { clients = c.clients.items; master = c.master; backups = c.backups.items; sent = c.sent.lists; history = c.history.events } };
+    ghost view = { λ c. seen c.header c.clients.items c.masters.items c.backups.items c.witnesses.items c.stopped c.sent.lists c.history.events };
+
+    ghost invariant = { λ c. AreNumbered c.clients.items c.masters.items c.backups.items c.witnesses.items };
 }
 
 impl Cluster {
-    /// So many clients, the master, and so many backups, all fresh.
-    pub(crate) fn new(alloc: Global, clients: u32, backups: u32) -> Result<Cluster, NoMemory>
-        ensures { IfOk result (λ cluster. cluster ≡ world.opening clients backups) }
+    /// The nodes of a header as at opening.
+    pub(crate) fn new(alloc: Global, header: &Header) -> Result<Cluster, NoMemory>
+        requires { header.now.parts ≡ 1 }
+        ensures { IfOk result (λ cluster. cluster ≡ world.opening header.now) }
     {
+        let config = opening::config(alloc, header)?;
         Ok(Cluster {
             alloc,
-            clients: fresh_clients(alloc, clients)?,
-            master: MasterNode::new(alloc, backups)?,
-            backups: fresh_backups(alloc, backups)?,
+            header: *header,
+            clients: opening::clients(alloc, header, &config)?,
+            masters: opening::masters(alloc, header)?,
+            backups: opening::backups(alloc, header)?,
+            witnesses: opening::witnesses(alloc, header)?,
+            stopped: Stopped::new(alloc),
             sent: Sent::new(alloc),
             history: History::new(alloc),
         })
     }
 
-    pub(crate) fn master(&self) -> &MasterNode
-        ensures { result.now ≡ self.now.master }
+    pub(crate) fn masters(&self) -> &[MasterNode]
+        ensures { serving result.now ≡ self.now.masters }
     {
-        &self.master
+        &self.masters
     }
 
     pub(crate) fn sent(&self) -> &Sent
@@ -70,173 +91,229 @@ impl Cluster {
         &self.history
     }
 
-    #[tactic(auto, unfolding(curp_plain::specs::World::weight))]
+    #[tactic(auto, unfolding(curp_model::specs::World::weight))]
     pub(crate) fn weight(&self) -> u64
         ensures { result ≡ world.weight self.now }
     {
         self.sent.weight()
     }
 
-    fn is_full(&self) -> bool
-        ensures { result ≡ nat_lt world.weight_limit (world.weight self.now) }
+    // No master recovers in what is built. (A fact for the proofs; nothing is done.)
+    fn masters_serve(&self)
+        ensures { (n : ℕ) → IsServing (numbered self.now.masters n) }
     {
-        self.weight() > WEIGHT_LIMIT
+        let _masters = self.masters();
     }
 
-    // A step that can't be made changes nothing.
-    fn refused(&self, cause: StepResult) -> Outcome
-        ensures { result ≡ (world.refused self.now cause).outcome }
+    // What a step did that sends nothing, as one that can't be made.
+    fn silent(&self, how: StepResult) -> Outcome
+        ensures { result ≡ (world.refused self.now how).outcome }
     {
         Outcome {
-            result: cause,
+            result: how,
             first: self.sent.next(),
             sent: 0,
             completed: None,
         }
     }
 
-    // No node gets anything where all messages weigh too much.
-    fn full(&self) -> Outcome
-        ensures { result ≡ (world.refused self.now (StepResult.Full (world.weight self.now))).outcome }
+    // Why the node of that name gets nothing, if so: it is stopped, or all messages weigh too much.
+    fn barrier(&self, node: NodeId) -> Option<StepResult>
+        ensures some { IfSome result (λ why. (s : world.Stepped) → world.if_it_runs self.now node s ≡ world.refused self.now why) }
+        ensures none { IfNone result ((s : world.Stepped) → world.if_it_runs self.now node s ≡ s) }
     {
+        if self.stopped.contains(node) {
+            return Some(StepResult::Gone);
+        }
         let weight = self.weight();
-        self.refused(StepResult::Full { weight })
+        if weight > WEIGHT_LIMIT {
+            return Some(StepResult::Full { weight });
+        }
+        None
     }
 
-    /// Makes a step.
-    #[tactic(auto, unfolding(curp_plain::specs::World::step))]
+    /// Makes a step. The marks are told by the log.
+    #[tactic(auto, unfolding(curp_model::specs::World::step))]
     pub(crate) fn step(&mut self, step: &Step) -> Result<Outcome, NoMemory>
-        requires { world.CanStep self.old step.now }
-        ensures state { OnOk result (self.new ≡ (world.step self.old step.now).world) }
+        requires can { CanStep step.now }
+        requires built { (k : ℕ) (m : Message) → At (world.messages self.old) k m → IsBuilt m }
+        ensures state { OnOk result (self.new ≡ remarked (world.step self.old step.now).world) }
         ensures outcome { IfOk result (λ outcome. outcome ≡ (world.step self.old step.now).outcome) }
         ensures err { OnErr result (self.new ≡ self.old) }
     {
         match step {
-            Step::Invoke { client, command } => self.invoke(*client, command),
+            Step::Invoke { client, command } => {
+                self.give_client(*client, &Input::Local(Local::Invoke(*command)))
+            }
             Step::Deliver { message } => self.deliver(*message),
-            _ => Ok(self.refused(StepResult::NoNode)),
+            Step::Sync { master } => {
+                self.masters_serve();
+                self.give_master(*master, &Input::Local(Local::Sync))
+            }
+            Step::Stop { node } => self.stop(*node),
+            _ => Ok(self.silent(StepResult::NoNode)),
         }
-    }
-
-    // A client invokes a command, for the first time.
-    fn invoke(&mut self, number: u32, command: &Command) -> Result<Outcome, NoMemory>
-        requires { world.HasNotInvoked self.old number }
-        ensures state { OnOk result (self.new ≡ (world.invokes self.old number command.now (numbered self.old.clients number)).world) }
-        ensures outcome { IfOk result (λ outcome. outcome ≡ (world.invokes self.old number command.now (numbered self.old.clients number)).outcome) }
-        ensures err { OnErr result (self.new ≡ self.old) }
-    {
-        let Some(index) = place_of(number as u64, self.clients.len()) else {
-            return Ok(self.refused(StepResult::NoNode));
-        };
-        if self.is_full() {
-            return Ok(self.full());
-        }
-        self.sent.reserve()?;
-        self.history.reserve(2)?;
-        let client = &mut self.clients[index];
-        let id = client.next_id(number);
-        let done = client.invoke(number, command)?;
-        Ok(keep(
-            &mut self.sent,
-            &mut self.history,
-            Some((id, *command)),
-            done,
-        ))
     }
 
     // The message of that number comes to its addressee.
     fn deliver(&mut self, number: u64) -> Result<Outcome, NoMemory>
-        ensures state { OnOk result (self.new ≡ (world.delivers self.old (numbered (world.messages self.old) number)).world) }
+        requires { (k : ℕ) (m : Message) → At (world.messages self.old) k m → IsBuilt m }
+        ensures state { OnOk result (self.new ≡ remarked (world.delivers self.old (numbered (world.messages self.old) number)).world) }
         ensures outcome { IfOk result (λ outcome. outcome ≡ (world.delivers self.old (numbered (world.messages self.old) number)).outcome) }
         ensures err { OnErr result (self.new ≡ self.old) }
     {
         let message = match self.sent.get(number) {
-            None => return Ok(self.refused(StepResult::NoMessage)),
+            None => return Ok(self.silent(StepResult::NoMessage)),
             Some(message) => message.copy(self.alloc)?,
         };
-        self.arrive(&message)
+        self.arrive(message)
     }
 
-    fn arrive(&mut self, message: &Message) -> Result<Outcome, NoMemory>
-        ensures state { OnOk result (self.new ≡ (world.arrives self.old message.now.to.kind message.now.to.number message.now.from message.now.body).world) }
-        ensures outcome { IfOk result (λ outcome. outcome ≡ (world.arrives self.old message.now.to.kind message.now.to.number message.now.from message.now.body).outcome) }
+    fn arrive(&mut self, message: Message) -> Result<Outcome, NoMemory>
+        requires { IsBuilt message }
+        ensures state { OnOk result (self.new ≡ remarked (world.arrives self.old message.to.kind message.to.number message.from message.body).world) }
+        ensures outcome { IfOk result (λ outcome. outcome ≡ (world.arrives self.old message.to.kind message.to.number message.from message.body).outcome) }
         ensures err { OnErr result (self.new ≡ self.old) }
     {
-        match message.to.kind {
-            NodeKind::Client => self.to_client(message.to.number, &message.body),
-            NodeKind::Master => self.to_master(message.from, &message.body),
-            NodeKind::Backup => self.to_backup(message.to.number, &message.body),
-            NodeKind::Manager | NodeKind::Witness => Ok(self.refused(StepResult::NoNode)),
+        let NodeId { kind, number } = message.to;
+        let input = Input::Message(message);
+        match kind {
+            NodeKind::Client => self.give_client(number, &input),
+            NodeKind::Master => {
+                self.masters_serve();
+                self.give_master(number, &input)
+            }
+            NodeKind::Backup => self.give_backup(number, &input),
+            NodeKind::Witness => self.give_witness(number, &input),
+            // Nothing is said to the manager in what is built.
+            NodeKind::Manager => Ok(self.silent(StepResult::NoNode)),
         }
     }
 
-    fn to_client(&mut self, number: u32, body: &Body) -> Result<Outcome, NoMemory>
-        ensures state { OnOk result (self.new ≡ (world.to_client self.old number body.now (numbered self.old.clients number)).world) }
-        ensures outcome { IfOk result (λ outcome. outcome ≡ (world.to_client self.old number body.now (numbered self.old.clients number)).outcome) }
+    // The client of that number gets an input.
+    fn give_client(&mut self, number: u32, input: &Input) -> Result<Outcome, NoMemory>
+        ensures state { OnOk result (self.new ≡ remarked (gives_client self.old number input.now (numbered self.old.clients number)).world) }
+        ensures outcome { IfOk result (λ outcome. outcome ≡ (gives_client self.old number input.now (numbered self.old.clients number)).outcome) }
         ensures err { OnErr result (self.new ≡ self.old) }
     {
         let Some(index) = place_of(number as u64, self.clients.len()) else {
-            return Ok(self.refused(StepResult::NoNode));
+            return Ok(self.silent(StepResult::NoNode));
         };
-        if self.is_full() {
-            return Ok(self.full());
+        if let Some(why) = self.barrier(client_node(number)) {
+            return Ok(self.silent(why));
         }
         self.sent.reserve()?;
         self.history.reserve(2)?;
-        let done = self.clients[index].on(body);
-        Ok(keep(&mut self.sent, &mut self.history, None, done))
+        let done = self.clients[index].on(input)?;
+        if done.refused != 0 {
+            let number = done.refused;
+            return Ok(self.silent(StepResult::Refused { number }));
+        }
+        let event = invoked(number, self.clients[index].last(), input);
+        Ok(keep(&mut self.sent, &mut self.history, event, done))
     }
 
-    fn to_master(&mut self, from: NodeId, body: &Body) -> Result<Outcome, NoMemory>
-        ensures state { OnOk result (self.new ≡ (world.to_master self.old from body.now).world) }
-        ensures outcome { IfOk result (λ outcome. outcome ≡ (world.to_master self.old from body.now).outcome) }
+    // The master of that number gets an input.
+    fn give_master(&mut self, number: u32, input: &Input) -> Result<Outcome, NoMemory>
+        ensures state { OnOk result (self.new ≡ remarked (gives_master self.old number input.now (numbered self.old.masters number)).world) }
+        ensures outcome { IfOk result (λ outcome. outcome ≡ (gives_master self.old number input.now (numbered self.old.masters number)).outcome) }
         ensures err { OnErr result (self.new ≡ self.old) }
     {
-        if self.is_full() {
-            return Ok(self.full());
+        let Some(index) = place_of(number as u64, self.masters.len()) else {
+            return Ok(self.silent(StepResult::NoNode));
+        };
+        if let Some(why) = self.barrier(master_node(number)) {
+            return Ok(self.silent(why));
         }
         self.sent.reserve()?;
         self.history.reserve(2)?;
-        let done = self.master.on(from, body)?;
+        let done = self.masters[index].on(input)?;
         Ok(keep(&mut self.sent, &mut self.history, None, done))
     }
 
-    fn to_backup(&mut self, number: u32, body: &Body) -> Result<Outcome, NoMemory>
-        ensures state { OnOk result (self.new ≡ (world.to_backup self.old number body.now (numbered self.old.backups number)).world) }
-        ensures outcome { IfOk result (λ outcome. outcome ≡ (world.to_backup self.old number body.now (numbered self.old.backups number)).outcome) }
+    // The backup of that number gets an input.
+    fn give_backup(&mut self, number: u32, input: &Input) -> Result<Outcome, NoMemory>
+        ensures state { OnOk result (self.new ≡ remarked (gives_backup self.old number input.now (numbered self.old.backups number)).world) }
+        ensures outcome { IfOk result (λ outcome. outcome ≡ (gives_backup self.old number input.now (numbered self.old.backups number)).outcome) }
         ensures err { OnErr result (self.new ≡ self.old) }
     {
         let Some(index) = place_of(number as u64, self.backups.len()) else {
-            return Ok(self.refused(StepResult::NoNode));
+            return Ok(self.silent(StepResult::NoNode));
         };
-        if self.is_full() {
-            return Ok(self.full());
+        if let Some(why) = self.barrier(backup_node(number)) {
+            return Ok(self.silent(why));
         }
         self.sent.reserve()?;
         self.history.reserve(2)?;
-        let done = self.backups[index].on(number, body)?;
+        let done = self.backups[index].on(input)?;
         Ok(keep(&mut self.sent, &mut self.history, None, done))
     }
+
+    // The witness of that number gets an input.
+    fn give_witness(&mut self, number: u32, input: &Input) -> Result<Outcome, NoMemory>
+        ensures state { OnOk result (self.new ≡ remarked (gives_witness self.old number input.now (numbered self.old.witnesses number)).world) }
+        ensures outcome { IfOk result (λ outcome. outcome ≡ (gives_witness self.old number input.now (numbered self.old.witnesses number)).outcome) }
+        ensures err { OnErr result (self.new ≡ self.old) }
+    {
+        let Some(index) = place_of(number as u64, self.witnesses.len()) else {
+            return Ok(self.silent(StepResult::NoNode));
+        };
+        if let Some(why) = self.barrier(witness_node(number)) {
+            return Ok(self.silent(why));
+        }
+        self.sent.reserve()?;
+        self.history.reserve(2)?;
+        let done = self.witnesses[index].on(input)?;
+        Ok(keep(&mut self.sent, &mut self.history, None, done))
+    }
+
+    // The node of that name gets nothing more.
+    fn stop(&mut self, node: NodeId) -> Result<Outcome, NoMemory>
+        ensures state { OnOk result (self.new ≡ remarked (world.stops_kind self.old node.kind node.number).world) }
+        ensures outcome { IfOk result (λ outcome. outcome ≡ (world.stops_kind self.old node.kind node.number).outcome) }
+        ensures err { OnErr result (self.new ≡ self.old) }
+    {
+        let Some(count) = self.count_of(node.kind) else {
+            return Ok(self.silent(StepResult::Manager));
+        };
+        let Some(_place) = place_of(node.number as u64, count) else {
+            return Ok(self.silent(StepResult::NoNode));
+        };
+        if self.stopped.contains(node) {
+            return Ok(self.silent(StepResult::Gone));
+        }
+        self.stopped.add(node)?;
+        Ok(self.silent(StepResult::Done))
+    }
+
+    // How many nodes there are of a kind that may be stopped.
+    fn count_of(&self, kind: NodeKind) -> Option<usize>
+        ensures manager { IfNone result (kind ≡ NodeKind.Manager) }
+        ensures past { IfSome result (λ count. (n : ℕ) → (n ≡ 0) ⊎ (count < n) → world.stops_kind self.now kind n ≡ world.refused self.now StepResult.NoNode) }
+        ensures there { IfSome result (λ count. (n k : ℕ) → n ≡ k + 1 → k < count → world.stops_kind self.now kind n ≡ world.stops self.now (record { kind = kind; number = n })) }
+    {
+        match kind {
+            NodeKind::Manager => None,
+            NodeKind::Client => Some(self.clients.len()),
+            NodeKind::Master => Some(self.masters.len()),
+            NodeKind::Backup => Some(self.backups.len()),
+            NodeKind::Witness => Some(self.witnesses.len()),
+        }
+    }
 }
 
-fn fresh_clients(alloc: Global, count: u32) -> Result<Vec<ClientNode>, NoMemory>
-    ensures { IfOk result (λ clients. clients.items ≡ replicate count fresh_client) }
+// What a client invoked, where the order let it and it was accepted: the request that is its last one now.
+fn invoked(number: u32, last: u32, input: &Input) -> Option<(RequestId, Command)>
+    ensures { result ≡ invoked_by number last input.now }
 {
-    let mut clients = Vec::with_capacity(alloc, count as usize)?;
-    for made in 0..count {
-        clients.push(ClientNode::new(alloc))?;
-    }
-    Ok(clients)
-}
-
-fn fresh_backups(alloc: Global, count: u32) -> Result<Vec<BackupNode>, NoMemory>
-    ensures { IfOk result (λ backups. backups.items ≡ replicate count fresh_backup) }
-{
-    let mut backups = Vec::with_capacity(alloc, count as usize)?;
-    for made in 0..count {
-        backups.push(BackupNode::new(alloc))?;
-    }
-    Ok(backups)
+    let Input::Local(Local::Invoke(command)) = input else {
+        return None;
+    };
+    let id = RequestId {
+        client: number,
+        seq: last,
+    };
+    Some((id, *command))
 }
 
 // What a node did on an input is kept, behind an invocation where it was one.

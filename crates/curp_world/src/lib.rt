@@ -2,7 +2,11 @@
 #![tactic(auto)]
 
 mod cluster;
+mod names;
+mod opening;
+mod ordered;
 mod sent;
+mod stopped;
 #[cfg(test)]
 mod tests;
 mod world;

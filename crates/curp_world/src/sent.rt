@@ -1,7 +1,7 @@
 ghost use Rattle.std.specs.Prelude.{◌≡◌, ◌+◌, ◌≤◌, ◌<◌, ◌^◌, [], length, OnOk, IfOk, IfErr, IfSome, IfNone};
 ghost use Rattle.std.specs.Option.{option_copied};
 ghost use Rattle.curp_base.specs.Words.{numbered};
-ghost use Rattle.curp_plain.specs.World.{all_of, kept, sent_at};
+ghost use Rattle.curp_model.specs.World.{all_of, kept, sent_at};
 ghost use Rattle.curp_world.specs.Batches.{Rise, StandsAt, IsGapAt, IsBatchOf, weight_of_all};
 
 use curp_base::{Items, NoMemory};

@@ -4,12 +4,14 @@ ghost use Rattle.curp_base.specs.Words.{numbered};
 ghost use Rattle.curp_order.specs.Order.{IsHistory, IsOrder};
 ghost use Rattle.curp_script.specs.declared.error.FieldName.{FieldName};
 ghost use Rattle.curp_script.specs.Headers.{bad_field};
-ghost use Rattle.curp_plain.specs.Master.{requests_of};
-ghost use Rattle.curp_plain.specs.World as world;
+ghost use Rattle.curp_model.specs.Built.{CanStep};
+ghost use Rattle.curp_model.specs.World as world;
 
 use crate::cluster::Cluster;
+use crate::ordered;
 use curp_base::NoMemory;
-use curp_cmd::{Answer, Command, Request, RequestId};
+use curp_cmd::{Answer, Command, RequestId};
+use curp_inv::laws;
 use curp_msg::{Message, Outcome};
 use curp_order::History;
 use curp_script::{FieldName, Header, Step};
@@ -33,7 +35,7 @@ pub struct World {
 }
 
 impl Model for World {
-    ghost use Rattle.curp_plain.specs.World as model;
+    ghost use Rattle.curp_model.specs.World as model;
     ghost use Rattle.curp_world.specs.Reached.{Reached};
 
     ghost Value = { model.World };
@@ -44,7 +46,8 @@ impl Model for World {
 }
 
 impl World {
-    /// The world of a header before any step: its clients, the master and its backups, all fresh.
+    /// The world of a header before any step: its clients, the master, its backups and its witnesses. All memory for the
+    /// witnesses' slots is taken here.
     pub fn begin(alloc: Global, header: &Header) -> Result<World, BeginError>
         ensures ok { IfOk result (λ w. w ≡ world.world header.now []) }
         ensures bad_header { (field : FieldName) → (result ≡ Err (BeginError.BadHeader field)) ↔ (bad_field header.now ≡ Some field) }
@@ -52,19 +55,22 @@ impl World {
         if let Some(field) = header.bad_field() {
             return Err(BeginError::BadHeader { field });
         }
-        match Cluster::new(alloc, header.clients, header.f) {
+        match Cluster::new(alloc, header) {
             Ok(cluster) => Ok(World { cluster }),
             Err(_) => Err(BeginError::NoMemory),
         }
     }
 
-    /// Makes a step. Whoever invokes hasn't invoked before.
+    /// Makes a step. It is of a kind that is built.
     pub fn step(&mut self, step: &Step) -> Result<Outcome, NoMemory>
-        requires { world.CanStep self.old step.now }
+        requires { CanStep step.now }
         ensures state { OnOk result (self.new ≡ (world.step self.old step.now).world) }
         ensures outcome { IfOk result (λ outcome. outcome ≡ (world.step self.old step.now).outcome) }
         ensures err { OnErr result (self.new ≡ self.old) }
     {
+        laws::messages_are_built();
+        laws::marks_tell_the_log();
+        laws::shape_stays();
         self.cluster.step(step)
     }
 
@@ -96,7 +102,7 @@ impl World {
         ensures events { result.now.events ≡ self.now.history }
         ensures is_history { IsHistory self.now.history }
     {
-        curp_law_order::history_stands();
+        laws::history_stands();
         self.cluster.history()
     }
 
@@ -105,24 +111,9 @@ impl World {
         ensures list { IfOk result (λ list. list.items ≡ world.answered_order self.now) }
         ensures is_order { IsOrder self.now.history (world.order self.now) }
     {
-        curp_law_order::order_stands();
-        let master = self.cluster.master();
-        with_answers(alloc, master.requests(), master.answers())
+        laws::order_stands();
+        laws::marks_tell_the_log();
+        laws::shape_stays();
+        ordered::answered(alloc, self.cluster.masters())
     }
-}
-
-// Each request with its answer.
-fn with_answers(
-    alloc: Global,
-    requests: &[Request],
-    answers: &[Answer],
-) -> Result<Vec<(RequestId, Command, Answer)>, NoMemory>
-    requires { length requests.now ≡ length answers.now }
-    ensures { IfOk result (λ list. list.items ≡ world.with_answers (requests_of requests.now) answers.now) }
-{
-    let mut list = Vec::with_capacity(alloc, requests.len())?;
-    for index in 0..requests.len() {
-        list.push((requests[index].id, requests[index].command, answers[index]))?;
-    }
-    Ok(list)
 }
