@@ -1,5 +1,5 @@
+pub mod Built
 pub mod Endings
-pub mod Fresh
 pub mod Numbers
 pub mod Scripts
 pub mod SoFar

@@ -45,7 +45,7 @@ steps_in_same n xs ys s (line ∷ lines) =
 
 -- a step that was read leaves the clients that the line leaves
 after_step : (s : Step) (r : Result Step LineError) (old new : List ℕ) → r ≡ Ok s → InvokedBy s old new → SameNumbers (invoked_after old r) new
-after_step (Invoke client command) r old new e i = rw e (record { same = λ q. sym (i.1 q) })
+after_step (Invoke client command) r old new e i = rw e (record { same = λ q. sym (i q) })
 after_step _ r old new e i = rw (e, i) (record { same = λ q. refl })
 
 -- the first line, where it isn't too long

@@ -4,12 +4,13 @@ use Rattle.curp_base.specs.Words.{IsPrefix}
 use Rattle.curp_io.specs.Streams.{HoldsPart}
 use Rattle.curp_script.specs.declared.script.Step.{Step}
 use Rattle.curp_script.specs.Script.{Ending, Whole, Bad, TooLong, Steps, ends}
-use Rattle.curp_plain.specs.World.{World, step, answered_order}
+use Rattle.curp_model.specs.Text.{made_text}
+use Rattle.curp_model.specs.World.{World, step, answered_order}
 use Rattle.curp_report.specs.Text.{order_text}
 use Rattle.curp.specs.declared.play.Turn.TheVariants as turn
 use Rattle.curp.specs.declared.status.Status.{Status}
 use Rattle.curp.specs.declared.status.Status.TheVariants as status
-use Rattle.curp.specs.Play.{made_text, body_text, EndsAs, Wrote}
+use Rattle.curp.specs.Play.{body_text, EndsAs, Wrote}
 use Rattle.curp.specs.Turns.{StopsAs, Turns, IsOfWriting}
 
 -- what stands so far behind what was held before, and what is due

@@ -6,16 +6,13 @@ use Rattle.curp_order.specs.Order.{IsHistory, IsOrder}
 use Rattle.curp_script.specs.declared.script.Header.{Header}
 use Rattle.curp_script.specs.declared.script.Step.{Step}
 use Rattle.curp_script.specs.Script.{Ending, Whole, Bad, TooLong, TooMany, Steps, Script, script_of}
-use Rattle.curp_plain.specs.World.{World, Stepped, step, run, world, order, answered_order, sent_at}
-use Rattle.curp_report.specs.Text.{step_text, order_text}
+use Rattle.curp_model.specs.Text.{made_text}
+use Rattle.curp_model.specs.World.{World, step, run, world, order, answered_order}
+use Rattle.curp_report.specs.Text.{order_text}
 use Rattle.curp.specs.declared.status.Status.{Status}
 use Rattle.curp.specs.declared.status.Status.TheVariants as status
 
 -- ---- the text
-
--- the text of a step: what it did, the messages that it sent, and what it completed
-abbrev pub made_text : ℕ → Stepped → List ℕ
-made_text number s = step_text number s.outcome (sent_at 1 s.world.sent s.outcome.first)
 
 -- the texts of steps in their order, numbered from a number on
 abbrev pub steps_text : ℕ → World → List Step → List ℕ

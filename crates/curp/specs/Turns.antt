@@ -5,7 +5,7 @@ use Rattle.curp_script.specs.declared.script.Step.{Step}
 use Rattle.curp_script.specs.declared.script.Step.TheVariants.{Invoke}
 use Rattle.curp_script.specs.Script.{Whole, Bad, TooLong, TooMany, Steps, Script, ends, at_most_once, step_limit}
 use Rattle.curp_script.specs.Grammar.{header_in, step_in}
-use Rattle.curp_plain.specs.World.{World, HasNotInvoked}
+use Rattle.curp_model.specs.Built.{CanStep}
 use Rattle.curp.specs.declared.play.Turn.{Turn}
 use Rattle.curp.specs.declared.play.Turn.TheVariants as turn
 use Rattle.curp.specs.declared.status.Status.{Status}
@@ -76,10 +76,9 @@ abbrev pub repeats : List ℕ → Step → Bool
 repeats invoked (Invoke client command) = list_any (nat_eq client) invoked
 repeats invoked _ = false
 
--- the clients that were invoked after a step, before which its client wasn't among them
+-- the clients that were invoked after a step
 abbrev pub InvokedBy : Step → List ℕ → List ℕ → Type 0
-InvokedBy (Invoke client command) old new =
-    (list_any (nat_eq client) old ≡ false) × ((other : ℕ) → list_any (nat_eq other) new ≡ (nat_eq other client || list_any (nat_eq other) old))
+InvokedBy (Invoke client command) old new = (other : ℕ) → list_any (nat_eq other) new ≡ (nat_eq other client || list_any (nat_eq other) old)
 InvokedBy _ old new = new ≡ old
 
 abbrev pub Invokes : Turn → List ℕ → List ℕ → Type 0
@@ -87,9 +86,11 @@ Invokes (turn.Step s) old new = InvokedBy s old new
 Invokes turn.End old new = ⊤
 Invokes (turn.Stop stop) old new = ⊤
 
--- whoever isn't among these hasn't invoked
-abbrev pub OthersAreFresh : World → List ℕ → Type 0
-OthersAreFresh w invoked = (n : ℕ) → list_any (nat_eq n) invoked ≡ false → HasNotInvoked w n
+-- a step that was read is of a kind that is built
+abbrev pub TurnCan : Turn → Type 0
+TurnCan (turn.Step s) = CanStep s
+TurnCan turn.End = ⊤
+TurnCan (turn.Stop stop) = ⊤
 
 -- a stop of what writes
 abbrev pub IsOfWriting : Status → Type 0

@@ -1,4 +1,4 @@
-ghost use Rattle.std.specs.Prelude.{◌≡◌, ℕ, ◌||◌, nat_eq, OnOk, OnErr, [], true, false};
+ghost use Rattle.std.specs.Prelude.{◌≡◌, ℕ, ◌||◌, nat_eq, OnOk, OnErr, []};
 ghost use Rattle.std.specs.List.{list_any};
 ghost use Rattle.curp.specs.Turns.{InvokedBy, repeats};
 
@@ -57,7 +57,6 @@ impl Invoked {
 
     /// Adds the client that the step invokes, if it invokes one.
     pub(crate) fn note(&mut self, step: &Step) -> Result<(), NoMemory>
-        requires { repeats self.old step.now ≡ false }
         ensures ok { OnOk result (InvokedBy step.now self.old self.new) }
         ensures err { OnErr result (self.new ≡ self.old) }
     {

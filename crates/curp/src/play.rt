@@ -4,13 +4,16 @@ ghost use Rattle.curp_io.specs.Text.{lines_of, nothing_read};
 ghost use Rattle.curp_script.specs.Grammar.{header_in};
 ghost use Rattle.curp_script.specs.Headers.{bad_field};
 ghost use Rattle.curp_script.specs.Script.{Whole, step_limit, steps_in};
-ghost use Rattle.curp_plain.specs.World as model;
+ghost use Rattle.curp_model.specs.Built.{CanStep};
+ghost use Rattle.curp_model.specs.Text.{made_text};
+ghost use Rattle.curp_model.specs.World as model;
 ghost use Rattle.curp_report.specs.Text.{order_text};
-ghost use Rattle.curp.specs.Play.{script_in, text_of, made_text, body_text, EndsAs, Wrote, PrintsAnOrder};
-ghost use Rattle.curp.specs.Turns.{Turns, LineTurns, Invokes, OthersAreFresh, IsOfReading, IsOfReadingTurn, IsOfWriting, HeaderStops, FirstLineStops};
+ghost use Rattle.curp.specs.Play.{script_in, text_of, body_text, EndsAs, Wrote, PrintsAnOrder};
+ghost use Rattle.curp.specs.Turns.{Turns, LineTurns, Invokes, TurnCan, IsOfReading, IsOfReadingTurn, IsOfWriting, HeaderStops, FirstLineStops};
 
 use crate::invoked::Invoked;
 use crate::status::Status;
+use curp_inv::laws;
 use curp_io::{Flushed, Lines, NextLine, Sink, Source, Written, write_piece};
 use curp_report::{order_text, step_text};
 use curp_script::{Header, LineError, Step, Word, parse_header, parse_line};
@@ -45,8 +48,8 @@ pub fn play_script<S: Source, K: Sink>(alloc: Global, source: &mut S, sink: &mut
     ensures write_fault { result ≡ Status.WriteFault → Rose (K.faults sink.old) (K.faults sink.new) }
     ensures never_usage { result ≢ Status.Usage }
 {
-    curp_law_order::history_stands();
-    curp_law_order::order_stands();
+    laws::history_stands();
+    laws::order_stands();
     let Ok(mut lines) = Lines::new(alloc) else {
         return Status::NoMemory;
     };
@@ -140,6 +143,7 @@ fn read_step<S: Source>(
         (steps_in (line + 1) invoked.new (lines_of (lines.new.ahead ++ S.left source.new))) }
     ensures end { S.tells source.old ≡ true → result ≡ Turn.End → lines.new.ahead ++ S.left source.new ≡ [] }
     ensures invoked { Invokes result invoked.old invoked.new }
+    ensures can { TurnCan result }
     ensures goes_on { (step : _) → result ≡ Turn.Step step → (lines.new.failed ≡ None) × (lines.new.number ≡ line) × (line ≤ step_limit + 1) }
     ensures reading { IsOfReadingTurn result }
     ensures tells { S.tells source.old ≡ true → S.tells source.new ≡ true }
@@ -155,10 +159,11 @@ fn read_step<S: Source>(
 }
 
 // The step that a line is, where its client wasn't invoked before.
-#[tactic(auto, using(crate::proofs::Scripts::once_by_repeats))]
+#[tactic(auto, using(crate::proofs::Scripts::once_by_repeats, crate::proofs::Built::step_can))]
 fn step_of_line(alloc: Global, text: &[u8], invoked: &mut Invoked, line: u64) -> Turn
     ensures due { LineTurns line invoked.old text.now result }
     ensures invoked { Invokes result invoked.old invoked.new }
+    ensures can { TurnCan result }
 {
     let step = match parse_line(alloc, text) {
         Ok(step) => step,
@@ -186,7 +191,7 @@ fn make_step<K: Sink>(
     step: &Step,
     sink: &mut K,
 ) -> Result<(), Status>
-    requires { model.CanStep world.old step.now }
+    requires { CanStep step.now }
     ensures made { OnOk result (world.new ≡ (model.step world.old step.now).world) }
     ensures ok { K.tells sink.old ≡ true → OnOk result (K.held sink.new ≡ K.held sink.old ++ made_text number (model.step world.old step.now)) }
     ensures err { K.tells sink.old ≡ true → OnErr result (HoldsPart (K.held sink.old) (K.held sink.new) (made_text number (model.step world.old step.now))) }
@@ -244,7 +249,7 @@ fn write<K: Sink>(sink: &mut K, bytes: &[u8]) -> Result<(), Status>
     }
 }
 
-// Plays the steps of a script in a world in which nobody has invoked, and writes their texts and the order.
+// Plays the steps of a script, and writes their texts and the order.
 fn play_steps<S: Source, K: Sink>(
     alloc: Global,
     lines: &mut Lines,
@@ -254,7 +259,6 @@ fn play_steps<S: Source, K: Sink>(
 ) -> Status
     requires going_on { lines.old.failed ≡ None }
     requires numbered { lines.old.number ≡ 1 }
-    requires fresh { OthersAreFresh world.old [] }
     ensures ends { S.tells source.old ≡ true → EndsAs (steps_in 2 [] (lines_of (lines.old.ahead ++ S.left source.old))).ending result }
     ensures end { S.tells source.old ≡ true → result ≡ Status.Ok → lines.new.ahead ++ S.left source.new ≡ [] }
     ensures wrote { S.tells source.old ≡ true → K.tells sink.old ≡ true →

@@ -6,4 +6,4 @@ returns-clause-end g c = λ tells ok. nothing_behind _ _ (c.play_steps.ensures.e
 
 pub returns-clause-order : goal.returns-clause-order
 returns-clause-order g c = λ tells ok.
-    prints_an_order _ _ _ (c.in-Ok-read_header.ensures.opened tells) c.history_stands.ensures c.order_stands.ensures
+    prints_an_order (g.S.Source.left c.args.source.now) _ _ (c.in-Ok-read_header.ensures.opened tells) c.in-Ok-read_header.ensures.valid c.history_stands.ensures.history c.order_stands.ensures.order

@@ -1,10 +1,7 @@
 use Rattle.std.proofs.Common.{◌≡◌, refl, ap, sym, subst, ◌∙◌, arith, List, ◌++◌, ◌+◌}
 use Rattle.curp_io.specs.Text.{lines_of}
 use Rattle.curp_script.specs.Script.{Steps, steps_in}
-use Rattle.curp_plain.specs.World.{World}
 use Rattle.curp.specs.Play.{body_text}
-use Rattle.curp.specs.Turns.{OthersAreFresh}
-use Rattle.curp.proofs.Fresh.{fresh_after}
 use Rattle.curp.proofs.SoFar.{SoFar, wrote_piece, part_of_piece, wrote_part, wrote_last, text_of_step, ending_of_step, text_of_end}
 use Rattle.curp.proofs.play.play_steps.Goals as goal
 
@@ -32,7 +29,6 @@ steps-preserved g c =
       counted = (omega arith, on.2);
       going_on = on.0;
       numbered = on.1;
-      fresh = subst (λ (w : World). OthersAreFresh w c.read_step.new.invoked) (sym c.in_default.ensures.made) (fresh_after c.steps.world c.in-Step.step c.steps.invoked c.read_step.new.invoked i.fresh c.in-Step.ensures.invoked);
       source_tells = λ s. c.read_step.ensures.tells (i.source_tells s);
       sink_tells = λ k. c.make_step.ensures.tells (i.sink_tells k);
       source_faults = omega (arith, i.source_faults, c.read_step.ensures.never_falls);

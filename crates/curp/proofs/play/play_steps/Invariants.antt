@@ -2,7 +2,6 @@ use Rattle.std.proofs.Common.{◌≡◌, ◌≤◌, ◌+◌, ◌-◌, ◌++◌, 
 use Rattle.curp_io.specs.Text.{lines_of}
 use Rattle.curp_script.specs.Script.{steps_in, step_limit}
 use Rattle.curp.specs.Play.{body_text}
-use Rattle.curp.specs.Turns.{OthersAreFresh}
 use Rattle.curp.proofs.SoFar.{SoFar}
 use Rattle.curp.proofs.play.play_steps.Given as goal
 
@@ -16,7 +15,6 @@ invariant-steps g l =
       counted : (1 ≤ l.number) × (l.number ≤ step_limit + 1);
       going_on : l.lines.failed ≡ None;
       numbered : l.lines.number ≡ l.number;
-      fresh : OthersAreFresh l.world l.invoked;
       source_tells : g.S.Source.tells l.fn.source ≡ true → g.S.Source.tells l.source ≡ true;
       sink_tells : g.K.Sink.tells l.fn.sink ≡ true → g.K.Sink.tells l.sink ≡ true;
       source_faults : g.S.Source.faults l.fn.source ≤ g.S.Source.faults l.source;
