@@ -26,26 +26,28 @@ install_answer b epoch = if nat_lt epoch b.fence then Err (record { epoch = b.fe
 
 -- ---- append
 
+-- the entries are stored
 abbrev pub is_stored : AppendAnswer → Bool
 is_stored (told.Stored length) = true
 is_stored _ = false
 
 -- the result says what the answer says. Only where the answer is that entries are stored, memory may be wanting
-abbrev pub Answers : Result ℕ AppendError → AppendAnswer → Type 0
-Answers (Ok length) answer = answer ≡ told.Stored length
-Answers (Err (error.Fenced epoch)) answer = answer ≡ told.Fenced epoch
-Answers (Err (error.Gap length)) answer = answer ≡ told.Gap length
-Answers (Err error.NotInstalled) answer = answer ≡ told.NotInstalled
-Answers (Err error.NoMemory) answer = IsTrue (is_stored answer)
+abbrev pub AnswersAppend : Result ℕ AppendError → AppendAnswer → Type 0
+AnswersAppend (Ok length) answer = answer ≡ told.Stored length
+AnswersAppend (Err (error.Fenced epoch)) answer = answer ≡ told.Fenced epoch
+AnswersAppend (Err (error.Gap length)) answer = answer ≡ told.Gap length
+AnswersAppend (Err error.NotInstalled) answer = answer ≡ told.NotInstalled
+AnswersAppend (Err error.NoMemory) answer = IsTrue (is_stored answer)
 
 -- ---- fence
 
-abbrev pub is_log : FenceReply → Bool
-is_log (reply.Log entries) = true
-is_log (reply.Fenced epoch) = false
+-- the log is given
+abbrev pub gives_log : FenceReply → Bool
+gives_log (reply.Log entries) = true
+gives_log (reply.Fenced epoch) = false
 
 -- the result says what the reply says. Only where the reply is the log, memory may be wanting
-abbrev pub Replies : Result (Vec Entry) FenceError → FenceReply → Type 0
-Replies (Ok log) answer = answer ≡ reply.Log log.items
-Replies (Err (refusal.Fenced epoch)) answer = answer ≡ reply.Fenced epoch
-Replies (Err refusal.NoMemory) answer = IsTrue (is_log answer)
+abbrev pub AnswersFence : Result (Vec Entry) FenceError → FenceReply → Type 0
+AnswersFence (Ok log) answer = answer ≡ reply.Log log.items
+AnswersFence (Err (refusal.Fenced epoch)) answer = answer ≡ reply.Fenced epoch
+AnswersFence (Err refusal.NoMemory) answer = IsTrue (gives_log answer)

@@ -1,6 +1,6 @@
 ghost use Rattle.std.specs.Prelude.{◌≡◌, ◌≢◌, ◌<◌, ◌↔◌, drop, IsTrue, OnErr, IfOk, Err};
 ghost use Rattle.curp_model.specs.Backup.{fresh_backup, install, append, fence};
-ghost use Rattle.curp_backup.specs.Answers.{install_answer, Answers, Replies};
+ghost use Rattle.curp_backup.specs.Answers.{AnswersAppend, AnswersFence, install_answer};
 
 use crate::{AppendError, FenceError, Fenced};
 use curp_base::{copies_of, past};
@@ -67,7 +67,7 @@ impl Backup {
         round: u64,
     ) -> Result<u64, AppendError>
         ensures state { result ≢ Err AppendError.NoMemory → self.new ≡ (append self.old epoch base entries.now).state }
-        ensures answer { Answers result (append self.old epoch base entries.now).answer }
+        ensures answer { AnswersAppend result (append self.old epoch base entries.now).answer }
         ensures err { OnErr result (self.new ≡ self.old) }
     {
         if self.is_fenced(epoch) {
@@ -90,7 +90,7 @@ impl Backup {
     #[tactic(auto, unfolding(curp_model::specs::Backup::fence))]
     pub fn fence(&mut self, epoch: u32) -> Result<Vec<Entry>, FenceError>
         ensures state { result ≢ Err FenceError.NoMemory → self.new ≡ (fence self.old epoch).state }
-        ensures answer { Replies result (fence self.old epoch).answer }
+        ensures answer { AnswersFence result (fence self.old epoch).answer }
         ensures err { OnErr result (self.new ≡ self.old) }
     {
         if self.is_fenced(epoch) {
@@ -211,6 +211,18 @@ mod tests {
         assert_eq!(rt; backup.fence_epoch(), 3);
         let kept = clients_of(alloc, backup.log())?;
         assert_eq!(rt; kept.as_slice(), [7, 8, 9, 10, 11].as_slice());
+        Ok(())
+    }
+
+    #[test]
+    fn keeps_many_entries(rt: HostRuntime) -> Result<(), Fail> {
+        let alloc = rt.alloc();
+        let entries = entries_of(alloc, &[7; 5000])?;
+        let mut backup = Backup::new(alloc);
+        assert_eq!(rt; backup.install(1), Ok(()));
+        assert_eq!(rt; backup.append(1, 0, &entries, 1), Ok(5000));
+        assert_eq!(rt; backup.append(1, 2500, &entries, 2), Ok(7500));
+        assert_eq!(rt; backup.fence(2)?.len(), 7500);
         Ok(())
     }
 

@@ -138,6 +138,16 @@ pub Each-weaker : {A : Type 0} (P Q : A → Type 0) → ((x : A) → P x → Q x
 Each-weaker P Q f [] e = tt
 Each-weaker P Q f (x ∷ xs) e = (f x e.0, Each-weaker P Q f xs e.1)
 
+pub Each-take : {A : Type 0} (P : A → Type 0) (n : ℕ) (xs : List A) → Each P xs → Each P (take n xs)
+Each-take P zero xs e = tt
+Each-take P (suc n) [] e = tt
+Each-take P (suc n) (x ∷ xs) e = (e.0, Each-take P n xs e.1)
+
+pub Each-drop : {A : Type 0} (P : A → Type 0) (n : ℕ) (xs : List A) → Each P xs → Each P (drop n xs)
+Each-drop P zero xs e = e
+Each-drop P (suc n) [] e = tt
+Each-drop P (suc n) (x ∷ xs) e = Each-drop P n xs e.1
+
 pub Each-from_at : {A : Type 0} (P : A → Type 0) (xs : List A) → ((k : ℕ) (x : A) → At xs k x → P x) → Each P xs
 Each-from_at P [] f = tt
 Each-from_at P (x ∷ xs) f = (f zero x refl, Each-from_at P xs (λ k y h. f (suc k) y h))

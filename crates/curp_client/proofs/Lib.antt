@@ -1,5 +1,4 @@
-pub mod Firsts
-pub mod Alls
-pub mod Invoking
-pub mod Replacing
-pub mod Evidence
+pub mod Found
+pub mod Kept
+pub mod Numbers
+pub mod Orders

@@ -1,2 +1,3 @@
+pub mod Evidence
 pub mod Refusals
-pub mod Seqs
+pub mod Requests

@@ -28,7 +28,7 @@ pub enum RetryError {
 }
 
 impl InvokeError {
-    /// The number by which a step tells the refusal.
+    /// The number by which a step tells the refusal, and 0 for want of memory, which is none.
     pub fn number(self) -> u8
         ensures { result ≡ invoke_number self }
     {
@@ -36,20 +36,20 @@ impl InvokeError {
             InvokeError::TooMany => 1,
             InvokeError::Numbers => 2,
             InvokeError::Split => 3,
-            InvokeError::NoMemory => 4,
+            InvokeError::NoMemory => 0,
         }
     }
 }
 
 impl RetryError {
-    /// The number by which a step tells the refusal.
+    /// The number by which a step tells the refusal, and 0 for want of memory, which is none.
     pub fn number(self) -> u8
         ensures { result ≡ retry_number self }
     {
         match self {
             RetryError::NotPending => 1,
             RetryError::Split => 2,
-            RetryError::NoMemory => 3,
+            RetryError::NoMemory => 0,
         }
     }
 }

@@ -3,12 +3,12 @@
 
 mod client;
 mod error;
-mod names;
 mod owner;
 mod pending;
+mod requests;
+mod sending;
 #[cfg(test)]
 mod tests;
 
 pub use client::Client;
 pub use error::{InvokeError, RetryError};
-pub use pending::{Accept, Attempt, Early, Pending};

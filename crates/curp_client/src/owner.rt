@@ -1,24 +1,22 @@
-ghost use Rattle.std.specs.Prelude.{◌≡◌, ◌<◌, length, slice_get, Some, IfSome, IfNone};
-ghost use Rattle.std.specs.List.{filter};
-ghost use Rattle.curp_range.specs.Spans.{is_owned};
+ghost use Rattle.std.specs.Prelude.{◌≡◌};
+ghost use Rattle.std.specs.Option.{option_copied};
+ghost use Rattle.curp_cmd.specs.Hash.{hashes};
+ghost use Rattle.curp_model.specs.Client.{owner_of};
 ghost use Rattle.curp_model.specs.Ranges.{owns_all};
-ghost use Rattle.curp_model.specs.Requests.{first_of, hashes};
+ghost use Rattle.curp_range.specs.Spans.{is_owned};
 
-use curp_cmd::Command;
-use curp_msg::PartConfig;
-use curp_tail::Hashes;
+use curp_cmd::{Command, Hashes};
+use curp_msg::{Config, PartConfig};
 
-/// The place of the first partition that owns all keys of the command.
-pub(crate) fn owner_at(parts: &[PartConfig], command: &Command) -> Option<usize>
-    ensures found { IfSome result (λ at. (at < length parts.now) × (first_of (filter (λ p. owns_all p.ranges (hashes command.now)) parts.now) ≡ slice_get parts.now at)) }
-    ensures none { IfNone result (first_of (filter (λ p. owns_all p.ranges (hashes command.now)) parts.now) ≡ None) }
+/// The first partition that owns all keys of the command.
+pub(crate) fn owner_of<'a>(config: &'a Config, command: &Command) -> Option<&'a PartConfig>
+    ensures { option_copied result ≡ owner_of config.now command.now }
 {
-    for at in 0..parts.len() {
-        if owns_all(&parts[at], command) {
-            return Some(at);
-        }
-    }
-    None
+    config
+        .parts
+        .as_slice()
+        .iter()
+        .find(|part| owns_all(part, command))
 }
 
 fn owns_all(part: &PartConfig, command: &Command) -> bool

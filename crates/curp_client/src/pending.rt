@@ -1,24 +1,25 @@
-ghost use Rattle.std.specs.Prelude.{◌≡◌, ◌==◌, ◌<◌, length, slice_get, IfSome, IfNone, OnOk, OnErr, Option, Some, None, true, false, ◌++◌, ◌∷◌, []};
-ghost use Rattle.std.specs.List.{filter, list_any};
-ghost use Rattle.curp_model.specs.Requests.{first_of};
+// A pending request, and what was delivered for it.
+ghost use Rattle.std.specs.Prelude.{◌≡◌, OnOk, OnErr, IfOk, true, false, ◌++◌, ◌∷◌, []};
+ghost use Rattle.std.specs.List.{list_any};
 ghost use Rattle.std.specs.Option.{option_copied, option_map};
+ghost use Rattle.curp_base.specs.Words.{last_of};
 ghost use Rattle.curp_model.specs.Client as model;
-ghost use Rattle.curp_client.specs.Seqs.{sync_at};
-ghost use Rattle.curp_model.specs.Client.{all_accepted, has_accepted, is_told, proved_answer, proves, with_accept, with_early};
+ghost use Rattle.curp_client.specs.Requests.{first_sent, sync_at};
+ghost use Rattle.curp_client.specs.Evidence.{kept};
 
-use crate::names::{client_node, same_node};
-use curp_base::{Items, NoMemory};
+use curp_base::{Boxed, Items, NoMemory};
 use curp_cmd::{Answer, NodeId, Request};
-use curp_msg::{Ask, Body, Message};
+use curp_msg::{Ask, Body, Message, PartConfig};
+use std::alloc::Global;
 use std::marker::Model;
 
 /// One sending of a request: to whom, and what was known of it.
 #[derive(Debug, Drop)]
-pub struct Attempt {
-    pub master: NodeId,
-    pub epoch: u32,
-    pub version: u32,
-    pub witnesses: Items<NodeId>,
+pub(crate) struct Attempt {
+    master: NodeId,
+    epoch: u32,
+    version: u32,
+    witnesses: Items<NodeId>,
 }
 
 impl Model for Attempt {
@@ -30,29 +31,47 @@ impl Model for Attempt {
 }
 
 impl Attempt {
-    /// What asks its master for a synced reply to the request of the client, which has that number.
-    pub(crate) fn sync_of(&self, number: u32, request: &Request) -> Message
-        ensures { result ≡ sync_at number request.now self.now }
+    /// A sending to the nodes of that partition.
+    pub(crate) fn at(alloc: Global, part: &PartConfig) -> Result<Attempt, NoMemory>
+        ensures { IfOk result (λ attempt. attempt ≡ model.attempt_at part.now) }
     {
-        Message {
-            from: client_node(number),
+        Ok(Attempt {
+            master: part.master,
+            epoch: part.epoch,
+            version: part.version,
+            witnesses: part.witnesses.copy(alloc)?,
+        })
+    }
+
+    /// What asks its master for a synced reply to the request of the client, which has that number.
+    pub(crate) fn sync_of(
+        &self,
+        alloc: Global,
+        number: u32,
+        request: &Request,
+    ) -> Result<Message, NoMemory>
+        ensures { IfOk result (λ message. message ≡ sync_at number request.now self.now) }
+    {
+        let ask = Ask {
+            request: *request,
+            epoch: self.epoch,
+            version: self.version,
+        };
+        Ok(Message {
+            from: NodeId::client(number),
             to: self.master,
-            body: Body::Sync(Ask {
-                request: *request,
-                epoch: self.epoch,
-                version: self.version,
-            }),
-        }
+            body: Body::Sync(Boxed::of(alloc, &ask)?),
+        })
     }
 }
 
 /// An unsynced reply that was delivered.
 #[derive(Debug, Drop)]
-pub struct Early {
-    pub master: NodeId,
-    pub epoch: u32,
-    pub version: u32,
-    pub answer: Answer,
+pub(crate) struct Early {
+    pub(crate) master: NodeId,
+    pub(crate) epoch: u32,
+    pub(crate) version: u32,
+    pub(crate) answer: Answer,
 }
 
 impl Model for Early {
@@ -64,7 +83,7 @@ impl Model for Early {
 }
 
 impl Early {
-    pub(crate) fn answer(&self) -> Answer
+    fn answer(&self) -> Answer
         ensures { result ≡ self.now.answer }
     {
         self.answer
@@ -73,9 +92,9 @@ impl Early {
 
 /// An accept that was delivered.
 #[derive(Debug, Drop)]
-pub struct Accept {
-    pub witness: NodeId,
-    pub epoch: u32,
+pub(crate) struct Accept {
+    pub(crate) witness: NodeId,
+    pub(crate) epoch: u32,
 }
 
 impl Model for Accept {
@@ -86,16 +105,23 @@ impl Model for Accept {
     ghost view = { λ a. record { witness = a.witness; epoch = a.epoch } };
 }
 
+/// What is delivered for an update: enough of it completes the update.
+#[derive(Debug, Drop)]
+pub(crate) enum Evidence {
+    Reply(Early),
+    Accept(Accept),
+}
+
 /// A request that isn't completed, and what was delivered for it.
 #[derive(Debug, Drop)]
-pub struct Pending {
-    pub(crate) request: Request,
+pub(crate) struct Pending {
+    request: Request,
     // The newest last.
-    pub(crate) attempts: Vec<Attempt>,
+    attempts: Vec<Attempt>,
     // A synced reply was asked for since the last attempt.
-    pub(crate) asked: bool,
-    pub(crate) early: Vec<Early>,
-    pub(crate) accepts: Vec<Accept>,
+    asked: bool,
+    early: Vec<Early>,
+    accepts: Vec<Accept>,
 }
 
 impl Model for Pending {
@@ -103,27 +129,53 @@ impl Model for Pending {
 
     ghost Value = { model.Pending };
 
-    ghost view = { λ p. record { request = p.request; attempts = p.attempts.items; asked = p.asked; early = p.early.items; accepts = p.accepts.items } };
+    ghost view = { λ p. record {
+      request = p.request;
+      attempts = p.attempts.items;
+      asked = p.asked;
+      early = p.early.items;
+      accepts = p.accepts.items;
+    } };
 }
 
 impl Pending {
+    /// A request that is sent for the first time.
+    pub(crate) fn first_sent(
+        alloc: Global,
+        request: &Request,
+        part: &PartConfig,
+    ) -> Result<Pending, NoMemory>
+        ensures { IfOk result (λ pending. pending ≡ first_sent request.now part.now) }
+    {
+        let mut attempts = Vec::with_capacity(alloc, 1)?;
+        attempts.push(Attempt::at(alloc, part)?)?;
+        Ok(Pending {
+            request: *request,
+            attempts,
+            asked: false,
+            early: Vec::new(alloc),
+            accepts: Vec::new(alloc),
+        })
+    }
+
     pub(crate) fn request(&self) -> &Request
         ensures { result.now ≡ self.now.request }
     {
         &self.request
     }
 
-    /// Whether its request has that number.
-    pub(crate) fn has_number(&self, seq: u32) -> bool
-        ensures { result ≡ (self.now.request.id.seq == seq) }
-    {
-        self.request.id.seq == seq
-    }
-
     pub(crate) fn is_asked(&self) -> bool
         ensures { result ≡ self.now.asked }
     {
         self.asked
+    }
+
+    /// The latest attempt.
+    #[tactic(auto, using(crate::proofs::Found::last_is))]
+    pub(crate) fn latest(&self) -> Option<&Attempt>
+        ensures { option_copied result ≡ last_of self.now.attempts }
+    {
+        self.attempts.last()
     }
 
     /// A synced reply was asked for.
@@ -134,8 +186,9 @@ impl Pending {
     }
 
     /// It was sent once more.
-    pub(crate) fn attempt(&mut self, attempt: Attempt) -> Result<(), NoMemory>
-        ensures ok { OnOk result (self.new ≡ record self.old { attempts = self.old.attempts ++ attempt ∷ []; asked = false }) }
+    pub(crate) fn resend(&mut self, attempt: Attempt) -> Result<(), NoMemory>
+        ensures ok { OnOk result
+            (self.new ≡ record self.old { attempts = self.old.attempts ++ attempt ∷ []; asked = false }) }
         ensures err { OnErr result (self.new ≡ self.old) }
     {
         self.attempts.push(attempt)?;
@@ -143,16 +196,19 @@ impl Pending {
         Ok(())
     }
 
-    /// The latest attempt.
-    pub(crate) fn latest(&self) -> Option<&Attempt>
-        ensures { option_copied result ≡ model.last_of self.now.attempts }
+    /// Keeps evidence, each once.
+    pub(crate) fn keep(&mut self, evidence: Evidence) -> Result<(), NoMemory>
+        ensures ok { OnOk result (self.new ≡ kept self.old evidence) }
+        ensures err { OnErr result (self.new ≡ self.old) }
     {
-        self.attempts.last()
+        match evidence {
+            Evidence::Reply(early) => self.add_early(early),
+            Evidence::Accept(accept) => self.add_accept(accept),
+        }
     }
 
-    /// Keeps an unsynced reply as evidence.
-    pub(crate) fn add_early(&mut self, early: Early) -> Result<(), NoMemory>
-        ensures ok { OnOk result (self.new ≡ record self.old { early = with_early self.old.early early }) }
+    fn add_early(&mut self, early: Early) -> Result<(), NoMemory>
+        ensures ok { OnOk result (self.new ≡ record self.old { early = model.with_early self.old.early early }) }
         ensures err { OnErr result (self.new ≡ self.old) }
     {
         if !is_told(&self.early, &early) {
@@ -161,9 +217,8 @@ impl Pending {
         Ok(())
     }
 
-    /// Keeps an accept as evidence.
-    pub(crate) fn add_accept(&mut self, accept: Accept) -> Result<(), NoMemory>
-        ensures ok { OnOk result (self.new ≡ record self.old { accepts = with_accept self.old.accepts accept }) }
+    fn add_accept(&mut self, accept: Accept) -> Result<(), NoMemory>
+        ensures ok { OnOk result (self.new ≡ record self.old { accepts = model.with_accept self.old.accepts accept }) }
         ensures err { OnErr result (self.new ≡ self.old) }
     {
         if !has_accepted(&self.accepts, accept.epoch, accept.witness) {
@@ -174,16 +229,19 @@ impl Pending {
 
     /// The answer of the first unsynced reply that is enough to complete the request.
     pub(crate) fn proved_answer(&self) -> Option<Answer>
-        ensures { result ≡ option_map (λ (e : model.Early). e.answer) (proved_answer self.now) }
+        ensures { result ≡ option_map (λ (e : model.Early). e.answer) (model.proved_answer self.now) }
     {
-        match first_proved(self, &self.early) {
-            None => None,
-            Some(at) => Some(self.early[at].answer()),
-        }
+        self.proved_reply().map(|early| early.answer())
+    }
+
+    fn proved_reply(&self) -> Option<&Early>
+        ensures { option_copied result ≡ model.proved_answer self.now }
+    {
+        self.early.iter().find(|early| self.is_proved(early))
     }
 
     fn is_proved(&self, early: &Early) -> bool
-        ensures { result ≡ list_any (proves self.now early.now) self.now.attempts }
+        ensures { result ≡ list_any (model.proves self.now early.now) self.now.attempts }
     {
         self.attempts
             .iter()
@@ -191,16 +249,16 @@ impl Pending {
     }
 
     fn proves(&self, early: &Early, attempt: &Attempt) -> bool
-        ensures { result ≡ proves self.now early.now attempt.now }
+        ensures { result ≡ model.proves self.now early.now attempt.now }
     {
-        same_node(early.master, attempt.master)
+        early.master == attempt.master
             && early.epoch == attempt.epoch
             && early.version == attempt.version
             && self.all_accepted(attempt)
     }
 
     fn all_accepted(&self, attempt: &Attempt) -> bool
-        ensures { result ≡ all_accepted self.now attempt.now }
+        ensures { result ≡ model.all_accepted self.now attempt.now }
     {
         attempt.witnesses.as_slice().iter().all(|witness| has_accepted(
             &self.accepts,
@@ -210,29 +268,16 @@ impl Pending {
     }
 }
 
-// The place of the first unsynced reply of these that is enough to complete the request.
-fn first_proved(pending: &Pending, early: &[Early]) -> Option<usize>
-    ensures found { IfSome result (λ at. (at < length early.now) × (first_of (filter (λ e. list_any (proves pending.now e) pending.now.attempts) early.now) ≡ slice_get early.now at)) }
-    ensures none { IfNone result (first_of (filter (λ e. list_any (proves pending.now e) pending.now.attempts) early.now) ≡ None) }
-{
-    for at in 0..early.len() {
-        if pending.is_proved(&early[at]) {
-            return Some(at);
-        }
-    }
-    None
-}
-
 fn is_told(early: &[Early], new: &Early) -> bool
-    ensures { result ≡ list_any (is_told new.now) early.now }
+    ensures { result ≡ list_any (model.is_told new.now) early.now }
 {
     early.iter().any(|told| {
-        same_node(told.master, new.master) && told.epoch == new.epoch && told.version == new.version
+        told.master == new.master && told.epoch == new.epoch && told.version == new.version
     })
 }
 
 fn has_accepted(accepts: &[Accept], epoch: u32, witness: NodeId) -> bool
-    ensures { result ≡ has_accepted accepts.now epoch witness }
+    ensures { result ≡ model.has_accepted accepts.now epoch witness }
 {
-    accepts.iter().any(|accept| accept.epoch == epoch && same_node(accept.witness, witness))
+    accepts.iter().any(|accept| accept.epoch == epoch && accept.witness == witness)
 }

@@ -1,5 +1,8 @@
-pub mod Searched
+pub mod Ascendings
+pub mod Ids
+pub mod Nodes
 mod Puts
-mod Hashes
+mod Hashed
 mod Values
 mod Apart
+mod Maps

@@ -1,14 +1,15 @@
 -- Bytes behind those that an array holds.
-use Rattle.std.proofs.Common.{◌≡◌, ℕ, ◌+◌, ◌-◌, ◌<◌, ◌≤◌, List, ◌++◌, length, take, drop, replicate, Some, None, nat_le, if◌then◌else◌, All, ap, sym, ◌∙◌, arith, append_assoc, length-append}
+use Rattle.std.proofs.Common.{◌≡◌, ℕ, ◌+◌, ◌-◌, ◌<◌, ◌≤◌, List, ◌++◌, length, take, drop, replicate, Some, None, nat_le, if◌then◌else◌, ap, sym, ◌∙◌, arith, append_assoc, length-append}
 use Rattle.std.proofs.lemmas.List.{drop-replicate, length-replicate}
 use Rattle.std.proofs.lemmas.List.Elements.{All-append, All-take, All-drop}
 use Rattle.std.proofs.lemmas.Slice.{take-put_mid}
 use Rattle.std.proofs.Math.Seq.{drop-append_seam}
 use Rattle.std.proofs.lemmas.Bool.Decides.{nat_tests}
-use Rattle.curp_cmd.specs.Held.{padded, IsHeld, length_held}
+use Rattle.curp_base.specs.Words.{AreBytes}
+use Rattle.curp_cmd.specs.InPlace.{padded, IsInPlace, length_held}
 use borrow.Rule.Slice.PartMut.{put_mid}
 
-size_held : {least len : ℕ} {array : List ℕ} → IsHeld 128 least len array → length array ≡ 128
+size_held : {least len : ℕ} {array : List ℕ} → IsInPlace 128 least len array → length array ≡ 128
 size_held {least} {len} {array} h = ap length h.zeros ∙ simp (length-append, length-replicate) (omega (arith, h.fits, length_held h))
 
 fewer : (m n k : ℕ) → m + n ≡ k → 128 - m - n ≡ 128 - k
@@ -21,7 +22,7 @@ zeros_left front ys =
     ∙ ap (λ (m : ℕ). replicate m 0) (fewer (length front) (length ys) (length (front ++ ys)) (sym (length-append front ys)))
 
 -- the array after the bytes are written behind those that it holds
-pub joined_held : (len k n : ℕ) (array ys : List ℕ) → IsHeld 128 0 len array → k ≡ length ys → n ≡ len + k → n ≤ 128 → All (λ b. b < 256) ys → IsHeld 128 0 n (put_mid len k array ys)
+pub joined_held : (len k n : ℕ) (array ys : List ℕ) → IsInPlace 128 0 len array → k ≡ length ys → n ≡ len + k → n ≤ 128 → AreBytes ys → IsInPlace 128 0 n (put_mid len k array ys)
 joined_held len k n array ys h e f g range =
     let front = take len array in
     let is_front : length front ≡ len = length_held h in
@@ -37,7 +38,7 @@ joined_held len k n array ys h e f g range =
       zeros = ap (λ (w : List ℕ). front ++ (ys ++ w)) rest ∙ sym (append_assoc front ys (replicate (128 - length (front ++ ys)) 0)) ∙ ap (padded 128) (sym taken);
     }
 
-pub joined_are : (len k n : ℕ) (array ys : List ℕ) → IsHeld 128 0 len array → k ≡ length ys → n ≡ len + k → take n (put_mid len k array ys) ≡ take len array ++ ys
+pub joined_are : (len k n : ℕ) (array ys : List ℕ) → IsInPlace 128 0 len array → k ≡ length ys → n ≡ len + k → take n (put_mid len k array ys) ≡ take len array ++ ys
 joined_are len k n array ys h e f = take-put_mid len k array ys n (omega arith) (omega (arith, h.fits, size_held h))
 
 pub fits_whole : (xs : List ℕ) → length xs ≤ 128 → Some xs ≡ (if nat_le (length xs) 128 then Some xs else None)

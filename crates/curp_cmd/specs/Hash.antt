@@ -1,6 +1,8 @@
--- The hashes of keys, and which commands have one in common.
-use Rattle.std.specs.Prelude.{ℕ, ◌*◌, ◌%◌, ◌^◌, ◌==◌, Bool, bit_xor, List, [], ◌∷◌, map}
+-- The hashes of keys, and which commands have one in common (CURP's commutativity; by hashes, this project's own).
+use Rattle.std.specs.Prelude.{ℕ, ◌*◌, ◌%◌, ◌^◌, ◌==◌, Bool, bit_xor, List, [], ◌∷◌, map, fold}
+use Rattle.std.specs.BTreeSet.{insert_key}
 use Rattle.std.specs.List.{list_any}
+use Rattle.std.specs.Ordering.{nat_cmp}
 use Rattle.curp_cmd.specs.Store.{keys_of}
 use Rattle.curp_cmd.specs.declared.command.Command.{Command}
 use Rattle.curp_cmd.specs.declared.hash.TheConstants.{OFFSET_BASIS, PRIME}
@@ -25,3 +27,11 @@ touches command h = list_any (λ x. x == h) (hashes_of command)
 -- a hash of the one is a hash of the other
 abbrev pub conflicts : Command → Command → Bool
 conflicts a b = list_any (touches b) (hashes_of a)
+
+-- numbers in ascending order, each once
+abbrev pub ascending : List ℕ → List ℕ
+ascending numbers = fold (insert_key nat_cmp) [] numbers
+
+-- the hashes of the keys that a command names, in ascending order, each once
+abbrev pub hashes : Command → List ℕ
+hashes command = ascending (hashes_of command)

@@ -1,11 +1,8 @@
--- Lists of pairs of a key and its value: those that a multi-put holds, and those in ascending order of their keys.
-use Rattle.std.specs.Prelude.{◌≡◌, ℕ, ◌<◌, ◌≤◌, ◌-◌, Bool, false, ◌&&◌, ◌||◌, List, [], ◌∷◌, ◌++◌, length, take, replicate, slice_index_or}
+-- Lists of pairs of a key and its value, and those that a multi-put holds.
+use Rattle.std.specs.Prelude.{◌≡◌, ℕ, ◌≤◌, ◌-◌, Bool, false, ◌&&◌, ◌||◌, List, [], ◌∷◌, ◌++◌, length, take, replicate, slice_index_or}
 use Rattle.std.specs.List.{list_any}
-use Rattle.std.specs.Ordering.{nat_cmp}
-use Rattle.std.specs.Cmp.Lexicographic.{slice_cmp, pointwise}
+use Rattle.std.specs.Cmp.Lexicographic.{pointwise}
 use Rattle.std.specs.Str.{bytes_eq}
-use Rattle.std.specs.declared.cmp.Ordering.TheVariants.{Less, Greater}
-use Rattle.curp_base.specs.Words.{KeysAscend}
 use Rattle.std.proofs.Common.{sym, subst, arith, length-append, length-take-le}
 use Rattle.std.proofs.lemmas.List.{length-replicate}
 
@@ -45,18 +42,3 @@ pub length_filled : {len : ℕ} {held : List Pair} → IsMulti len held → leng
 length_filled {len} {held} h =
     let room : 4 ≤ length held = subst (λ (ps : List Pair). 4 ≤ length ps) (sym h.copies) (size_filled (take len held)) in
     length-take-le len held (omega (arith, h.most))
-
--- the keys strictly rise
-abbrev pub PairsAscend : List Pair → Type 0
-PairsAscend pairs = KeysAscend (slice_cmp nat_cmp) pairs
-
--- the pair at this place has the key
-pub record IsPlace (pairs : List Pair) (key : List ℕ) (at : ℕ) : Type 0 where
-  pub within : at < length pairs
-  pub has_key : (d : Pair) → (slice_index_or pairs at d).0 ≡ key
-
--- no pair has the key, which would stand at this place
-pub record IsGap (pairs : List Pair) (key : List ℕ) (at : ℕ) : Type 0 where
-  pub within : at ≤ length pairs
-  pub less_before : (k : ℕ) (d : Pair) → k < at → slice_cmp nat_cmp (slice_index_or pairs k d).0 key ≡ Less
-  pub greater_from : (k : ℕ) (d : Pair) → at ≤ k → k < length pairs → slice_cmp nat_cmp (slice_index_or pairs k d).0 key ≡ Greater

@@ -35,7 +35,8 @@ impl Command {
         ensures ok { IfOk result (λ command. command ≡ Command.Multi pairs.now) }
         ensures no_pairs { (result ≡ Err MultiError.NoPairs) ↔ (length pairs.now ≡ 0) }
         ensures too_many_pairs { (result ≡ Err MultiError.TooManyPairs) ↔ (4 < length pairs.now) }
-        ensures key_twice { (result ≡ Err MultiError.KeyTwice) ↔ ((length pairs.now ≤ 4) × (names_twice pairs.now ≡ true)) }
+        ensures key_twice { (result ≡ Err MultiError.KeyTwice)
+            ↔ ((length pairs.now ≤ 4) × (names_twice pairs.now ≡ true)) }
     {
         Ok(Command::Multi(Pairs::new(pairs)?))
     }
@@ -83,10 +84,26 @@ pub enum Answer {
 
 /// The number of a request, as RIFL has it: the client, and which of its requests this is, from 1.
 /// They are ordered by the client, then by the number.
-#[derive(Clone, Copy, Debug, PartialEq, Eq)]
+#[derive(Clone, Copy, Debug)]
 pub struct RequestId {
     pub client: u32,
     pub seq: u32,
+}
+
+impl PartialEq for RequestId {
+    ghost use Rattle.curp_cmd.specs.RequestId.{same_id};
+
+    ghost eq = { same_id };
+
+    ghost laws = { Prim.search (comparing, rules) };
+
+    fn eq(&self, other: &RequestId) -> bool {
+        self.client == other.client && self.seq == other.seq
+    }
+}
+
+impl Eq for RequestId {
+    ghost laws = { Prim.search (comparing, rules) };
 }
 
 impl PartialOrd for RequestId {

@@ -49,8 +49,8 @@ impl TryCopy for Entry {
     }
 }
 
-/// How much room an entry takes: 1, and 1 more for each pair of a multi-put and for all that a package has. It stands still
-/// at 2^64 - 1.
+/// How much room an entry takes: 1, and 1 more for each pair of a multi-put and for all that a package has. It stands
+/// still at 2^64 - 1.
 pub fn room(entry: &Entry) -> u64
     ensures { result ≡ room_of entry.now }
 {
@@ -63,7 +63,7 @@ pub fn room(entry: &Entry) -> u64
 }
 
 /// How many pairs a multi-put puts. Of another command none is counted.
-fn pairs_put(command: &Command) -> u64
+pub fn pairs_put(command: &Command) -> u64
     ensures { result ≡ pairs_put command.now }
 {
     match command {

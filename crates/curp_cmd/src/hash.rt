@@ -1,7 +1,7 @@
 ghost use Rattle.std.specs.Prelude.{◌≡◌};
 ghost use Rattle.curp_cmd.specs.Hash.{hash_of, touches, conflicts};
 
-use crate::{Command, Key};
+use crate::{Command, Hashes, Key};
 
 /// Where FNV-1a with 64 bits begins.
 pub const OFFSET_BASIS: u64 = 0xcbf29ce484222325;
@@ -32,36 +32,18 @@ pub fn key_hash(key: &Key) -> u64
 pub fn touches(command: &Command, hash: u64) -> bool
     ensures { result ≡ touches command.now hash }
 {
-    match command {
-        Command::Get(key)
-        | Command::Put(key, _)
-        | Command::Delete(key)
-        | Command::Incr(key)
-        | Command::Append(key, _)
-        | Command::CondPut(key, _, _) => key_hash(key) == hash,
-        Command::Multi(pairs) => pairs
-            .as_slice()
-            .iter()
-            .any(|pair| key_hash(&pair.0) == hash),
-    }
+    Hashes::of(command).as_slice().contains(&hash)
 }
 
 /// Whether a hash of the one is a hash of the other. Commands that don't conflict may be done in either order.
 pub fn conflict(a: &Command, b: &Command) -> bool
     ensures { result ≡ conflicts a.now b.now }
 {
-    match a {
-        Command::Get(key)
-        | Command::Put(key, _)
-        | Command::Delete(key)
-        | Command::Incr(key)
-        | Command::Append(key, _)
-        | Command::CondPut(key, _, _) => touches(b, key_hash(key)),
-        Command::Multi(pairs) => pairs
-            .as_slice()
-            .iter()
-            .any(|pair| touches(b, key_hash(&pair.0))),
-    }
+    let others = Hashes::of(b);
+    Hashes::of(a)
+        .as_slice()
+        .iter()
+        .any(|hash| others.as_slice().contains(hash))
 }
 
 #[cfg(test)]

@@ -1,13 +1,15 @@
-ghost use Rattle.std.specs.Prelude.{◌≡◌, ◌<◌, ◌≤◌, ◌↔◌, length, All, OnOk, IfOk};
+ghost use Rattle.std.specs.Prelude.{◌≡◌, ◌<◌, ◌≤◌, ◌↔◌, length, OnOk, IfOk};
 ghost use Rattle.std.specs.Str.{bytes_eq};
 ghost use Rattle.std.specs.Ordering.{nat_cmp, as_partial_cmp};
 ghost use Rattle.std.specs.Cmp.{partial_order_from_own_ties};
 ghost use Rattle.std.specs.Cmp.Lexicographic.{slice_cmp};
-ghost use Rattle.std.specs.Cmp.Rules.{comparing};
+ghost use Rattle.std.specs.Cmp.Rules.{comparing, hashing};
 ghost use Rattle.std.proofs.Common.{rules};
+ghost use Rattle.curp_base.specs.Words.{AreBytes};
 
-use crate::held::hold;
+use crate::in_place::hold;
 use std::cmp::Ordering;
+use std::hash::{Hash, Hasher};
 use std::marker::Model;
 
 /// A key: 1 to 32 bytes, held in place and copied without memory. Contracts see the list of its bytes.
@@ -22,11 +24,11 @@ impl Model for Key {
 
     ghost Value = { List ℕ };
 
-    ghost use Rattle.curp_cmd.specs.Held.{IsHeld, padded, held_again, length_held};
+    ghost use Rattle.curp_cmd.specs.InPlace.{IsInPlace, padded, held_again, length_held};
 
     ghost view = { λ k. take k.len k.bytes };
 
-    ghost invariant = { λ k. IsHeld 32 1 k.len k.bytes };
+    ghost invariant = { λ k. IsInPlace 32 1 k.len k.bytes };
 
     ghost inverse = { λ bytes. record { bytes = padded 32 bytes; len = length bytes } };
 
@@ -64,7 +66,7 @@ impl Key {
         ensures value { result.now ≡ self.now }
         ensures least { 1 ≤ length self.now }
         ensures most { length self.now ≤ 32 }
-        ensures range { All (λ b. b < 256) self.now }
+        ensures range { AreBytes self.now }
     {
         &self.bytes[..self.len as usize]
     }
@@ -105,5 +107,17 @@ impl Ord for Key {
 
     fn cmp(&self, other: &Key) -> Ordering {
         self.bytes().cmp(other.bytes())
+    }
+}
+
+impl Hash for Key {
+    ghost use Rattle.std.specs.Hash as fed;
+
+    ghost hash_input = { fed.slice fed.u8 };
+
+    ghost respects_eq = { Prim.search (hashing, rules) };
+
+    fn hash<H: Hasher>(&self, state: &mut H) {
+        self.bytes().hash(state);
     }
 }

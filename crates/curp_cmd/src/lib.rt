@@ -4,7 +4,8 @@
 mod command;
 mod entry;
 mod hash;
-mod held;
+mod hashes;
+mod in_place;
 mod key;
 pub mod laws;
 mod migration;
@@ -14,8 +15,9 @@ mod store;
 mod value;
 
 pub use command::{Answer, Command, Request, RequestId};
-pub use entry::{Entry, room};
+pub use entry::{Entry, pairs_put, room};
 pub use hash::{OFFSET_BASIS, PRIME, bytes_hash, conflict, key_hash, touches};
+pub use hashes::Hashes;
 pub use key::{Key, KeyError};
 pub use migration::{Package, TablePart};
 pub use node::{Keeper, NodeId, NodeKind};

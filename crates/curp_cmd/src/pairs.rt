@@ -49,7 +49,8 @@ impl Pairs {
         ensures ok { IfOk result (λ held. held ≡ pairs.now) }
         ensures no_pairs { (result ≡ Err MultiError.NoPairs) ↔ (length pairs.now ≡ 0) }
         ensures too_many_pairs { (result ≡ Err MultiError.TooManyPairs) ↔ (4 < length pairs.now) }
-        ensures key_twice { (result ≡ Err MultiError.KeyTwice) ↔ ((length pairs.now ≤ 4) × (names_twice pairs.now ≡ true)) }
+        ensures key_twice { (result ≡ Err MultiError.KeyTwice)
+            ↔ ((length pairs.now ≤ 4) × (names_twice pairs.now ≡ true)) }
     {
         match pairs {
             [] => Err(MultiError::NoPairs),

@@ -1,33 +1,30 @@
-ghost use Rattle.std.specs.Prelude.{◌≡◌, ◌+◌, ◌≤◌, length, IfOk, IfErr, OnOk};
+ghost use Rattle.std.specs.Prelude.{◌≡◌, ◌+◌, ◌≤◌, length, IfOk, OnOk};
 ghost use Rattle.std.specs.FinMap as map;
-ghost use Rattle.curp_cmd.specs.Pairs.{PairsAscend, IsPlace, IsGap};
-ghost use Rattle.curp_cmd.specs.Store.{nothing, keys_of, applied, number_of, incremented, appended, swapped, with_pairs};
+ghost use Rattle.curp_cmd.specs.Store.{nothing, keys_of, applied, number_of};
+ghost use Rattle.curp_cmd.specs.Store.{incremented, appended, swapped, with_pairs};
 
 use crate::{Answer, Command, Key, Value};
-use curp_base::NoMemory;
+use curp_base::{AscendingPairs, NoMemory};
 use std::alloc::Global;
+use std::collections::HashMap;
 use std::marker::Model;
 
 /// The one-thread store. Contracts see its contents, and for how many more keys it has room.
 #[derive(Debug, Drop)]
 pub struct Store {
-    // In ascending order of the keys.
-    pairs: Vec<(Key, Value)>,
+    pairs: HashMap<Key, Value>,
 }
 
 impl Model for Store {
-    ghost use Rattle.std.specs.Prelude.{◌-◌, vec_len, vec_capacity};
+    ghost use Rattle.std.specs.HashMap.{spare};
     ghost use Rattle.std.specs.FinMap as map;
-    ghost use Rattle.curp_cmd.specs.Pairs.{PairsAscend};
     ghost use Rattle.curp_cmd.specs.Store.{Storage, storage_code};
 
     ghost Value = { Storage };
 
     ghost coded = { storage_code };
 
-    ghost view = { λ s. record { map = map.from_sorted s.pairs.items; spare = vec_capacity s.pairs - vec_len s.pairs } };
-
-    ghost invariant = { λ s. PairsAscend s.pairs.items };
+    ghost view = { λ s. record { map = map.from_entries s.pairs.entries; spare = spare s.pairs } };
 }
 
 impl Store {
@@ -36,11 +33,11 @@ impl Store {
         ensures { result.map ≡ nothing }
     {
         Store {
-            pairs: Vec::new(alloc),
+            pairs: HashMap::new(alloc),
         }
     }
 
-    /// Makes room for so many more keys.
+    /// Makes room for so many more keys. There is no room for more than 9 * 2^28 keys in all.
     pub fn reserve(&mut self, keys: u64) -> Result<(), NoMemory>
         ensures map { self.new.map ≡ self.old.map }
         ensures room { OnOk result (keys ≤ self.new.spare) }
@@ -78,17 +75,19 @@ impl Store {
     pub fn get(&self, key: &Key) -> Option<Value>
         ensures { result ≡ map.get self.now.map key.now }
     {
-        match place(&self.pairs, key) {
-            Ok(at) => Some(self.pairs[at].1),
-            Err(_) => None,
-        }
+        self.pairs.get(key).copied()
     }
 
     /// Each key with its value, in ascending order of the keys.
-    pub fn pairs(&self) -> &[(Key, Value)]
-        ensures { result.now ≡ map.entries self.now.map }
+    pub fn pairs(&self, alloc: Global) -> Result<AscendingPairs<Key, Value>, NoMemory>
+        ensures { IfOk result (λ pairs. pairs ≡ map.entries self.now.map) }
     {
-        self.pairs.as_slice()
+        let mut pairs = Vec::with_capacity(alloc, self.pairs.len())?;
+        for (key, value) in &self.pairs {
+            pairs.push((*key, *value))?;
+        }
+        pairs.sort_unstable_by_key(|pair| pair.0);
+        Ok(AscendingPairs::new(pairs))
     }
 
     fn put(&mut self, key: &Key, value: &Value)
@@ -96,10 +95,8 @@ impl Store {
         ensures map { self.new.map ≡ map.insert self.old.map key.now value.now }
         ensures spare { self.old.spare ≤ self.new.spare + 1 }
     {
-        match place(&self.pairs, key) {
-            Ok(at) => self.pairs[at] = (*key, *value),
-            Err(at) => self.pairs.insert(at, (*key, *value)).unwrap(),
-        }
+        let put: Result<_, _> = self.pairs.insert(*key, *value);
+        put.unwrap();
     }
 
     fn put_all(&mut self, pairs: &[(Key, Value)])
@@ -118,13 +115,7 @@ impl Store {
         ensures map { self.new.map ≡ map.remove self.old.map key.now }
         ensures spare { self.old.spare ≤ self.new.spare }
     {
-        match place(&self.pairs, key) {
-            Ok(at) => {
-                let _pair = self.pairs.remove(at);
-                true
-            }
-            Err(_) => false,
-        }
+        self.pairs.remove(key).is_some()
     }
 
     fn increment(&mut self, key: &Key) -> Answer
@@ -188,15 +179,6 @@ fn number_of(value: &Option<Value>) -> Option<u64>
     }
 }
 
-/// Where the pair with the key is, or where it would go.
-fn place(pairs: &[(Key, Value)], key: &Key) -> Result<usize, usize>
-    requires { PairsAscend pairs.now }
-    ensures found { IfOk result (IsPlace pairs.now key.now) }
-    ensures absent { IfErr result (IsGap pairs.now key.now) }
-{
-    pairs.binary_search_by_key(key, |pair| pair.0)
-}
-
 #[cfg(test)]
 mod tests {
     use super::*;
@@ -217,30 +199,38 @@ mod tests {
             assert_eq!(rt; store.apply(&command), Answer::Done);
         }
         assert_eq!(rt; store.get(&b), Some(two));
-        assert_eq!(rt; store.pairs(), [(a, one), (b, two)].as_slice());
+        assert_eq!(rt;
+            store.pairs(rt.alloc())?.as_slice(),
+            [(a, one), (b, two)].as_slice()
+        );
         Ok(())
     }
 
-    // In ascending order, and back in descending order, since the pairs behind a key are moved when it comes or goes.
+    // The number's key, in no order of the numbers: the multiplier is odd, so no two numbers have one key.
+    fn scattered(number: u32) -> Result<Key, KeyError> {
+        Key::new(&number.wrapping_mul(0x9e3779b1).to_be_bytes())
+    }
+
     #[test]
     fn holds_a_hundred_thousand_keys(rt: HostRuntime) -> Result<(), Fail> {
         let mut store = Store::new(rt.alloc());
         for number in 0..100_000_u32 {
-            let key = Key::new(&number.to_be_bytes())?;
+            let key = scattered(number)?;
             store.reserve(1)?;
             assert_eq!(rt; store.apply(&Command::Incr(key)), Answer::Number(1));
         }
-        assert_eq!(rt; store.pairs().len(), 100_000);
+        assert_eq!(rt; store.pairs(rt.alloc())?.len(), 100_000);
         for number in 0..100_000_u32 {
-            let key = Key::new(&number.to_be_bytes())?;
+            let key = scattered(number)?;
             assert_eq!(rt; store.get(&key), Some(Value::from_number(1)));
         }
-        for number in (0..100_000_u32).rev() {
-            let key = Key::new(&number.to_be_bytes())?;
+        for number in 0..100_000_u32 {
+            let key = scattered(number)?;
             store.reserve(1)?;
             assert_eq!(rt; store.apply(&Command::Delete(key)), Answer::Removed(true));
         }
-        assert_eq!(rt; store.pairs().len(), 0);
+        assert_eq!(rt; store.pairs(rt.alloc())?.len(), 0);
+        assert!(rt; store.reserve(u64::MAX).is_err());
         Ok(())
     }
 

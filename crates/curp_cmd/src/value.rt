@@ -1,11 +1,12 @@
-ghost use Rattle.std.specs.Prelude.{◌≡◌, ◌<◌, ◌≤◌, ◌↔◌, ◌++◌, length, nat_le, if◌then◌else◌, All, IfOk};
+ghost use Rattle.std.specs.Prelude.{◌≡◌, ◌<◌, ◌≤◌, ◌↔◌, ◌++◌, length, nat_le, if◌then◌else◌, IfOk};
 ghost use Rattle.std.specs.Int.{w64, to_be_bytes};
 ghost use Rattle.std.specs.Str.{bytes_eq};
 ghost use Rattle.std.specs.Cmp.Rules.{comparing};
 ghost use Rattle.std.proofs.Common.{rules};
+ghost use Rattle.curp_base.specs.Words.{AreBytes};
 ghost use Rattle.curp_cmd.specs.Store.{number_in};
 
-use crate::held::hold;
+use crate::in_place::hold;
 use std::marker::Model;
 
 /// A value: 0 to 128 bytes, held in place and copied without memory. Contracts see the list of its bytes.
@@ -20,11 +21,11 @@ impl Model for Value {
 
     ghost Value = { List ℕ };
 
-    ghost use Rattle.curp_cmd.specs.Held.{IsHeld, padded, held_again, length_held};
+    ghost use Rattle.curp_cmd.specs.InPlace.{IsInPlace, padded, held_again, length_held};
 
     ghost view = { λ v. take v.len v.bytes };
 
-    ghost invariant = { λ v. IsHeld 128 0 v.len v.bytes };
+    ghost invariant = { λ v. IsInPlace 128 0 v.len v.bytes };
 
     ghost inverse = { λ bytes. record { bytes = padded 128 bytes; len = length bytes } };
 
@@ -94,7 +95,7 @@ impl Value {
     pub fn bytes(&self) -> &[u8]
         ensures value { result.now ≡ self.now }
         ensures most { length self.now ≤ 128 }
-        ensures range { All (λ b. b < 256) self.now }
+        ensures range { AreBytes self.now }
     {
         &self.bytes[..self.len as usize]
     }

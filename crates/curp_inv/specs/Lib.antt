@@ -1,3 +1,2 @@
 pub mod Machines
-pub mod Serving
 pub mod Refusals

@@ -1,14 +1,13 @@
-ghost use Rattle.std.specs.Prelude.{◌≡◌, OnOk, OnErr, IfOk};
+ghost use Rattle.std.specs.Prelude.{◌≡◌};
+ghost use Rattle.curp_cmd.specs.Node.{backup_node};
 ghost use Rattle.curp_model.specs.Backup.{installed_backup, on_backup};
-ghost use Rattle.curp_model.specs.Moved as nodes;
-ghost use Rattle.curp_inv.specs.Machines.{reacts};
+ghost use Rattle.curp_msg.specs.Moved.{Moves, numbered_move, says};
 
-use crate::done::{quiet, sends};
 use curp_backup::{AppendError, Backup, FenceError};
 use curp_base::{Items, NoMemory};
-use curp_cmd::{NodeId, NodeKind};
+use curp_cmd::NodeId;
 use curp_msg::{
-    Append, AppendAnswer, Appended, Body, Core, Done, FenceAnswer, FenceReply, Input, Message,
+    Append, AppendAnswer, Appended, Body, Core, Done, FenceAnswer, FenceReply, Local, Message,
 };
 use std::alloc::{AllocError, Global};
 use std::marker::Model;
@@ -23,7 +22,7 @@ pub struct BackupNode {
 
 impl Model for BackupNode {
     ghost use Rattle.curp_model.specs.Backup.{BackupState};
-    ghost use Rattle.curp_model.specs.Moved.{Node};
+    ghost use Rattle.curp_msg.specs.Moved.{Node};
 
     ghost Value = { Node BackupState };
 
@@ -46,47 +45,20 @@ impl BackupNode {
         }
     }
 
-    fn name(&self) -> NodeId
-        ensures { result ≡ nodes.backup_node self.now.number }
-    {
-        NodeId {
-            kind: NodeKind::Backup,
-            number: self.number,
-        }
-    }
-
     fn answer(&self, to: NodeId, body: Body) -> Message
-        ensures { result ≡ nodes.says (nodes.backup_node self.now.number) to body }
+        ensures { result ≡ says (backup_node self.now.number) to body }
     {
         Message {
-            from: self.name(),
+            from: NodeId::backup(self.number),
             to,
             body,
         }
     }
 
     #[tactic(auto, unfolding(curp_model::specs::Backup::on_backup))]
-    fn hear(&mut self, message: &Message) -> Result<Done, NoMemory>
-        ensures state { OnOk result (self.new ≡ (reacts self.old (on_backup self.old.number self.old.state message.now.from message.now.body)).0) }
-        ensures done { IfOk result (λ done. done ≡ (reacts self.old (on_backup self.old.number self.old.state message.now.from message.now.body)).1) }
-        ensures err { OnErr result (self.new ≡ self.old) }
-    {
-        match &message.body {
-            Body::Append(append) => self.on_append(message.from, append),
-            Body::Install { epoch } => {
-                let _installed = self.backup.install(*epoch);
-                Ok(quiet(self.alloc))
-            }
-            Body::Fence { epoch } => self.on_fence(message.from, *epoch),
-            _ => Ok(quiet(self.alloc)),
-        }
-    }
-
-    #[tactic(auto, unfolding(curp_model::specs::Backup::on_backup))]
     fn on_append(&mut self, from: NodeId, append: &Append) -> Result<Done, NoMemory>
-        ensures state { OnOk result (self.new ≡ (reacts self.old (on_backup self.old.number self.old.state from (Body.Append append.now))).0) }
-        ensures done { IfOk result (λ done. done ≡ (reacts self.old (on_backup self.old.number self.old.state from (Body.Append append.now))).1) }
-        ensures err { OnErr result (self.new ≡ self.old) }
+        ensures { Moves self.old self.new result
+            (numbered_move self.old.number (on_backup self.old.number self.old.state from (Body.Append append.now))) }
     {
         let mut messages = Vec::with_capacity(self.alloc, 1)?;
         let entries = append.entries.as_slice();
@@ -106,14 +78,13 @@ impl BackupNode {
             answer,
         };
         messages.push_reserved(self.answer(from, Body::Appended(appended)));
-        Ok(sends(messages))
+        Ok(Done::sends(messages))
     }
 
     #[tactic(auto, unfolding(curp_model::specs::Backup::on_backup))]
     fn on_fence(&mut self, from: NodeId, epoch: u32) -> Result<Done, NoMemory>
-        ensures state { OnOk result (self.new ≡ (reacts self.old (on_backup self.old.number self.old.state from (Body.Fence epoch))).0) }
-        ensures done { IfOk result (λ done. done ≡ (reacts self.old (on_backup self.old.number self.old.state from (Body.Fence epoch))).1) }
-        ensures err { OnErr result (self.new ≡ self.old) }
+        ensures { Moves self.old self.new result
+            (numbered_move self.old.number (on_backup self.old.number self.old.state from (Body.Fence epoch))) }
     {
         let mut messages = Vec::with_capacity(self.alloc, 1)?;
         let answer = match self.backup.fence(epoch) {
@@ -123,27 +94,35 @@ impl BackupNode {
         };
         let answered = FenceAnswer { epoch, answer };
         messages.push_reserved(self.answer(from, Body::FenceAnswer(answered)));
-        Ok(sends(messages))
+        Ok(Done::sends(messages))
     }
 }
 
 impl Core for BackupNode {
     ghost use Rattle.curp_inv.specs.Machines.{backup_machine};
-    ghost use Rattle.curp_inv.specs.Refusals.{backup_small, backup_idle, backup_taken};
+    ghost use Rattle.curp_inv.specs.Refusals.{backup_refusals, backup_taken};
 
     ghost machine = { backup_machine };
 
-    ghost refusals_small = { backup_small };
-
-    ghost refusals_idle = { backup_idle };
+    ghost refusals = { backup_refusals };
 
     ghost messages_taken = { backup_taken };
 
-    #[tactic(auto, unfolding(crate::specs::Machines::backup_machine))]
-    fn on(&mut self, input: &Input) -> Result<Done, NoMemory> {
-        match input {
-            Input::Local(_) => Ok(quiet(self.alloc)),
-            Input::Message(message) => self.hear(message),
+    #[tactic(auto, unfolding(crate::specs::Machines::backup_machine, curp_model::specs::Backup::on_backup))]
+    fn on_message(&mut self, message: &Message) -> Result<Done, NoMemory> {
+        match &message.body {
+            Body::Append(append) => self.on_append(message.from, append),
+            Body::Install { epoch } => {
+                let _installed = self.backup.install(*epoch);
+                Ok(Done::quiet(self.alloc))
+            }
+            Body::Fence { epoch } => self.on_fence(message.from, *epoch),
+            _ => Ok(Done::quiet(self.alloc)),
         }
+    }
+
+    #[tactic(auto, unfolding(crate::specs::Machines::backup_machine))]
+    fn on_order(&mut self, _order: &Local) -> Result<Done, NoMemory> {
+        Ok(Done::quiet(self.alloc))
     }
 }

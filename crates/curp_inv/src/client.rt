@@ -1,11 +1,11 @@
 ghost use Rattle.std.specs.Prelude.{◌≡◌, IfOk};
-ghost use Rattle.curp_model.specs.Client.{fresh_client};
+ghost use Rattle.curp_model.specs.Client.{NumbersAreUsed, fresh_client};
+ghost use Rattle.curp_inv.specs.Refusals.{Tells};
 
-use crate::done::{quiet, refuses};
 use curp_base::NoMemory;
-use curp_client::{Client, InvokeError, RetryError};
+use curp_client::Client;
 use curp_cmd::Command;
-use curp_msg::{Config, Core, Done, Input, Local};
+use curp_msg::{Config, Core, Done, Local, Message};
 use std::alloc::{AllocError, Global};
 use std::marker::Model;
 
@@ -18,7 +18,7 @@ pub struct ClientNode {
 
 impl Model for ClientNode {
     ghost use Rattle.curp_model.specs.Client.{ClientState};
-    ghost use Rattle.curp_model.specs.Moved.{Node};
+    ghost use Rattle.curp_msg.specs.Moved.{Node};
 
     ghost Value = { Node ClientState };
 
@@ -43,60 +43,75 @@ impl ClientNode {
     {
         self.client.last()
     }
+
+    /// No number of what is pending is behind its last one, whatever came.
+    pub fn numbers_are_used(&self)
+        ensures { NumbersAreUsed self.now.state }
+    {
+        self.client.numbers_are_used();
+    }
 }
 
 impl Core for ClientNode {
     ghost use Rattle.curp_inv.specs.Machines.{client_machine};
-    ghost use Rattle.curp_inv.specs.Refusals.{client_small, client_idle, client_taken};
+    ghost use Rattle.curp_inv.specs.Refusals.{client_refusals, client_taken};
 
     ghost machine = { client_machine };
 
-    ghost refusals_small = { client_small };
-
-    ghost refusals_idle = { client_idle };
+    ghost refusals = { client_refusals };
 
     ghost messages_taken = { client_taken };
 
+    #[tactic(auto, unfolding(crate::specs::Machines::client_machine))]
+    fn on_message(&mut self, message: &Message) -> Result<Done, NoMemory> {
+        self.client.on_message(message)
+    }
+
     #[tactic(auto, unfolding(crate::specs::Machines::client_machine, curp_model::specs::Client::client_ordered))]
-    fn on(&mut self, input: &Input) -> Result<Done, NoMemory> {
-        match input {
-            Input::Local(Local::Invoke(command)) => self.invoke(command),
-            Input::Local(Local::Retry(seq)) => self.retry(*seq),
-            Input::Local(Local::Fetch) => self.client.fetch(),
-            Input::Local(_) => Ok(quiet(self.alloc)),
-            Input::Message(message) => self.client.on(message),
+    fn on_order(&mut self, order: &Local) -> Result<Done, NoMemory> {
+        match order {
+            Local::Invoke(command) => self.invoke(command),
+            Local::Retry(seq) => self.retry(*seq),
+            Local::Fetch => self.client.fetch(),
+            _ => Ok(Done::quiet(self.alloc)),
         }
     }
 }
 
 impl ClientNode {
-    ghost use Rattle.std.specs.Prelude.{OnOk, OnErr, IfOk};
-    ghost use Rattle.curp_model.specs.Client as model;
-    ghost use Rattle.curp_inv.specs.Machines.{reacts};
+    ghost use Rattle.std.specs.Prelude.{◌≢◌, IsOk};
+    ghost use Rattle.curp_model.specs.Client.{invoke, retry};
+    ghost use Rattle.curp_msg.specs.Moved.{Moves, numbered_move};
 
-    #[tactic(auto, using(crate::specs::Refusals::invoke_undone))]
     fn invoke(&mut self, command: &Command) -> Result<Done, NoMemory>
-        ensures state { OnOk result (self.new ≡ (reacts self.old (model.invoke self.old.number self.old.state command.now)).0) }
-        ensures done { IfOk result (λ done. done ≡ (reacts self.old (model.invoke self.old.number self.old.state command.now)).1) }
-        ensures err { OnErr result (self.new ≡ self.old) }
+        ensures moves { Moves self.old self.new result
+            (numbered_move self.old.number (invoke self.old.number self.old.state command.now)) }
+        ensures refused { (invoke self.old.number self.old.state command.now).refused ≢ 0 → IsOk result }
     {
         match self.client.invoke(command) {
             Ok(done) => Ok(done),
-            Err(InvokeError::NoMemory) => Err(AllocError),
-            Err(error) => Ok(refuses(self.alloc, error.number())),
+            Err(error) => told(self.alloc, error.number()),
         }
     }
 
-    #[tactic(auto, using(crate::specs::Refusals::retry_undone))]
     fn retry(&mut self, seq: u32) -> Result<Done, NoMemory>
-        ensures state { OnOk result (self.new ≡ (reacts self.old (model.retry self.old.number self.old.state seq)).0) }
-        ensures done { IfOk result (λ done. done ≡ (reacts self.old (model.retry self.old.number self.old.state seq)).1) }
-        ensures err { OnErr result (self.new ≡ self.old) }
+        ensures moves { Moves self.old self.new result
+            (numbered_move self.old.number (retry self.old.number self.old.state seq)) }
+        ensures refused { (retry self.old.number self.old.state seq).refused ≢ 0 → IsOk result }
     {
         match self.client.retry(seq) {
             Ok(done) => Ok(done),
-            Err(RetryError::NoMemory) => Err(AllocError),
-            Err(error) => Ok(refuses(self.alloc, error.number())),
+            Err(error) => told(self.alloc, error.number()),
         }
     }
+}
+
+// What a node tells of an order that wasn't made: the number of its refusal, else want of memory.
+fn told(alloc: Global, refusal: u8) -> Result<Done, NoMemory>
+    ensures { Tells refusal result }
+{
+    if refusal == 0 {
+        return Err(AllocError);
+    }
+    Ok(Done::refuses(alloc, refusal))
 }

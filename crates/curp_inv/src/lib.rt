@@ -3,10 +3,11 @@
 
 mod backup;
 mod client;
-mod done;
 pub mod laws;
 mod master;
 mod places;
+#[cfg(test)]
+mod tests;
 mod witness;
 
 pub use backup::BackupNode;

@@ -5,7 +5,7 @@ use curp_base::NoMemory;
 use curp_cmd::NodeId;
 use curp_log::Log;
 use curp_master::Master;
-use curp_msg::{Core, Done, Input};
+use curp_msg::{Core, Done, Local, Message};
 use std::alloc::Global;
 use std::marker::Model;
 
@@ -17,7 +17,7 @@ pub struct MasterNode {
 
 impl Model for MasterNode {
     ghost use Rattle.curp_model.specs.Master.{MasterState};
-    ghost use Rattle.curp_model.specs.Moved.{Node};
+    ghost use Rattle.curp_msg.specs.Moved.{Node};
 
     ghost Value = { Node MasterState };
 
@@ -25,8 +25,8 @@ impl Model for MasterNode {
 }
 
 impl MasterNode {
-    /// The master of a partition, of the same number, as at opening: at epoch 1 and version 1, with these lists, and with
-    /// an empty log.
+    /// The master of a partition, of the same number, as at opening: at epoch 1 and version 1, with these lists, and
+    /// with an empty log.
     pub fn new(
         alloc: Global,
         part: u32,
@@ -56,18 +56,21 @@ impl MasterNode {
 
 impl Core for MasterNode {
     ghost use Rattle.curp_inv.specs.Machines.{master_machine};
-    ghost use Rattle.curp_inv.specs.Refusals.{master_small, master_idle, master_taken};
+    ghost use Rattle.curp_inv.specs.Refusals.{master_refusals, master_taken};
 
     ghost machine = { master_machine };
 
-    ghost refusals_small = { master_small };
-
-    ghost refusals_idle = { master_idle };
+    ghost refusals = { master_refusals };
 
     ghost messages_taken = { master_taken };
 
     #[tactic(auto, unfolding(crate::specs::Machines::master_machine))]
-    fn on(&mut self, input: &Input) -> Result<Done, NoMemory> {
-        self.master.on(input)
+    fn on_message(&mut self, message: &Message) -> Result<Done, NoMemory> {
+        self.master.on_message(message)
+    }
+
+    #[tactic(auto, unfolding(crate::specs::Machines::master_machine))]
+    fn on_order(&mut self, order: &Local) -> Result<Done, NoMemory> {
+        self.master.on_order(order)
     }
 }

@@ -1,6 +1,7 @@
 pub mod Buffer
-pub mod Held
 pub mod Memory
+pub mod ReadAhead
+pub mod Standard
 pub mod Streams
 pub mod Sure
 pub mod Text

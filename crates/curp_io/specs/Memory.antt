@@ -1,7 +1,7 @@
 -- Sources and sinks over memory, whose calls fail where a list says so.
 use Rattle.std.specs.Prelude.{ℕ, ◌==◌, min, Bool, List, length, if◌then◌else◌}
 use Rattle.std.specs.List.{list_any}
-use Rattle.curp_io.specs.Streams.{next_number}
+use Rattle.curp_io.specs.Streams.{one_more}
 use Rattle.curp_io.specs.declared.source.Taken.{Taken}
 use Rattle.curp_io.specs.declared.source.Taken.TheVariants as taken
 
@@ -17,14 +17,14 @@ fresh_calls failing = record { made = 0; failing = failing; faults = 0 }
 
 -- the next call fails
 abbrev pub fails : Calls → Bool
-fails calls = list_any (λ number. number == next_number calls.made) calls.failing
+fails calls = list_any (λ number. number == one_more calls.made) calls.failing
 
 -- one more call was made, and counted as a fault if it failed
 abbrev pub called : Calls → Calls
 called calls = record {
-  made = next_number calls.made;
+  made = one_more calls.made;
   failing = calls.failing;
-  faults = if fails calls then next_number calls.faults else calls.faults;
+  faults = if fails calls then one_more calls.faults else calls.faults;
 }
 
 -- the bytes left, at most how many are given a call, and the calls
@@ -41,7 +41,8 @@ given supply room = min (min supply.piece room) (length supply.left)
 abbrev pub supplied : Supply → ℕ → Taken
 supplied supply room = if fails supply.calls then taken.Failed else taken.Bytes (given supply room)
 
--- the bytes held, and the calls
-pub record Store : Type 0 where
+-- the bytes held, whether all were passed on, and the calls
+pub record Intake : Type 0 where
   pub held : List ℕ
+  pub flushed : Bool
   pub calls : Calls

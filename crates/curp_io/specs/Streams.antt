@@ -1,20 +1,26 @@
 -- What sources and sinks do to the bytes that they mean, and to their counts of faults.
-use Rattle.std.specs.Prelude.{◌≡◌, ℕ, ◌+◌, ◌-◌, ◌^◌, ◌<◌, ◌≤◌, min, List, [], ◌++◌, length, take, ⊤}
+use Rattle.std.specs.Prelude.{◌≡◌, ℕ, ◌+◌, ◌-◌, ◌^◌, ◌<◌, ◌≤◌, ◌==◌, min, Bool, true, ◌&&◌, List, [], ◌++◌, length, take, ⊤}
 use Rattle.curp_base.specs.Words.{IsPrefix}
 use Rattle.curp_io.specs.declared.source.Taken.{Taken}
 use Rattle.curp_io.specs.declared.source.Taken.TheVariants as taken
 use Rattle.curp_io.specs.declared.sink.Put.{Put}
 use Rattle.curp_io.specs.declared.sink.Put.TheVariants as put
+use Rattle.curp_io.specs.declared.sink.Flushed.{Flushed}
+use Rattle.curp_io.specs.declared.sink.Flushed.TheVariants as flush
 use Rattle.curp_io.specs.declared.write.Written.{Written}
 use Rattle.curp_io.specs.declared.write.Written.TheVariants as written
 
 -- the number after n; a `u64` that stands at its type's end stands still
-abbrev pub next_number : ℕ → ℕ
-next_number n = min (n + 1) (2 ^ 64 - 1)
+abbrev pub one_more : ℕ → ℕ
+one_more n = min (n + 1) (2 ^ 64 - 1)
 
 -- a count of faults rose: it is greater than before, or it stands at its type's end
 abbrev pub Rose : ℕ → ℕ → Type 0
-Rose old new = next_number old ≤ new
+Rose old new = one_more old ≤ new
+
+-- a count of faults is what it was before
+abbrev pub SameCount : ℕ → ℕ → Type 0
+SameCount old new = new ≡ old
 
 -- the count of bytes taken is within the buffer
 abbrev pub FitsBuffer : Taken → List ℕ → Type 0
@@ -38,6 +44,17 @@ abbrev pub Puts : List ℕ → List ℕ → Put → List ℕ → Type 0
 Puts old new (put.Took n) piece = new ≡ old ++ take n piece
 Puts old new put.Failed piece = new ≡ old
 Puts old new put.NoMemory piece = new ≡ old
+
+-- whether all bytes were passed on, after a put: a byte that is taken waits for the next flush
+abbrev pub flushed_after_put : Bool → Put → Bool
+flushed_after_put flushed (put.Took n) = flushed && n == 0
+flushed_after_put flushed put.Failed = flushed
+flushed_after_put flushed put.NoMemory = flushed
+
+-- the same after a flush
+abbrev pub flushed_after_flush : Bool → Flushed → Bool
+flushed_after_flush flushed flush.Done = true
+flushed_after_flush flushed flush.Failed = flushed
 
 -- some front of the piece stands after what was held
 pub record HoldsPart (old new piece : List ℕ) : Type 0 where

@@ -1,6 +1,6 @@
 -- Lines of bytes.
 use Rattle.std.specs.Prelude.{◌≡◌, ◌≢◌, ℕ, ◌<◌, ◌≤◌, ◌==◌, List, [], ◌∷◌, length, if◌then◌else◌, Option, Some, None}
-use Rattle.curp_io.specs.Streams.{next_number}
+use Rattle.curp_io.specs.Streams.{one_more}
 use Rattle.curp_io.specs.declared.lines.NextLine.{NextLine}
 use Rattle.curp_io.specs.declared.lines.NextLine.TheVariants as answer
 
@@ -44,21 +44,21 @@ pub record GivesLine (bytes line rest : List ℕ) : Type 0 where
 
 -- the first line has this number and is longer than a line may be; all bytes are left
 pub record RefusesLine (number : ℕ) (bytes rest : List ℕ) (at : ℕ) : Type 0 where
-  pub numbered : at ≡ next_number number
+  pub numbered : at ≡ one_more number
   pub long : 65536 < length (line_of bytes)
   pub left : rest ≡ bytes
 
 -- What an answer says of the bytes that were due, of the line and of the bytes that are now left, where this many
 -- lines were given before. A fault leaves all bytes.
-abbrev pub Answers : ℕ → List ℕ → NextLine → List ℕ → List ℕ → Type 0
-Answers number bytes answer.Line line rest = GivesLine bytes line rest
-Answers number bytes answer.End line rest = (bytes ≡ []) × (rest ≡ [])
-Answers number bytes answer.ReadFault line rest = rest ≡ bytes
-Answers number bytes (answer.TooLong at) line rest = RefusesLine number bytes rest at
+abbrev pub IsNextLine : ℕ → List ℕ → NextLine → List ℕ → List ℕ → Type 0
+IsNextLine number bytes answer.Line line rest = GivesLine bytes line rest
+IsNextLine number bytes answer.End line rest = (bytes ≡ []) × (rest ≡ [])
+IsNextLine number bytes answer.ReadFault line rest = rest ≡ bytes
+IsNextLine number bytes (answer.TooLong at) line rest = RefusesLine number bytes rest at
 
 -- how many lines were given after this answer
 abbrev pub number_after : ℕ → NextLine → ℕ
-number_after number answer.Line = next_number number
+number_after number answer.Line = one_more number
 number_after number answer.End = number
 number_after number answer.ReadFault = number
 number_after number (answer.TooLong at) = number

@@ -1,6 +1,6 @@
 ghost use Rattle.std.specs.Prelude.{◌≡◌, ◌≢◌, ◌≤◌, ◌++◌, [], true, None, Some, IfOk};
-ghost use Rattle.curp_io.specs.Streams.{Rose};
-ghost use Rattle.curp_io.specs.Text.{Answers, nothing_read, number_after, repeated};
+ghost use Rattle.curp_io.specs.Streams.{Rose, SameCount};
+ghost use Rattle.curp_io.specs.Text.{IsNextLine, nothing_read, number_after, repeated};
 
 use crate::source::Source;
 use crate::window::{Found, Window};
@@ -67,14 +67,17 @@ impl Lines {
     /// Gives the next line of the bytes read ahead and those that the source has left. It takes no memory. A read
     /// fault and a line that is too long are answered by every later call again, which then reads nothing.
     pub fn next_line<S: Source>(&mut self, source: &mut S) -> NextLine
-        ensures bytes { S.tells source.old ≡ true → self.old.failed ≡ None → Answers self.old.number
+        ensures bytes { S.tells source.old ≡ true → self.old.failed ≡ None → IsNextLine self.old.number
             (self.old.ahead ++ S.left source.old) result self.new.line (self.new.ahead ++ S.left source.new) }
         ensures number { self.old.failed ≡ None → self.new.number ≡ number_after self.old.number result }
         ensures failed { self.old.failed ≡ None → self.new.failed ≡ repeated result }
-        ensures repeats { (answer : NextLine) → self.old.failed ≡ Some answer → (result ≡ answer) × (self.new ≡ self.old) × (source.new ≡ source.old) }
+        ensures repeats { (answer : NextLine) → self.old.failed ≡ Some answer
+            → (result ≡ answer) × (self.new ≡ self.old) × (source.new ≡ source.old) }
         ensures no_text { self.old.failed ≡ None → result ≢ NextLine.Line → self.new.line ≡ [] }
         ensures tells { S.tells source.old ≡ true → S.tells source.new ≡ true }
-        ensures cause { self.old.failed ≡ None → result ≡ NextLine.ReadFault → Rose (S.faults source.old) (S.faults source.new) }
+        ensures cause { self.old.failed ≡ None → result ≡ NextLine.ReadFault
+            → Rose (S.faults source.old) (S.faults source.new) }
+        ensures told { result ≢ NextLine.ReadFault → SameCount (S.faults source.old) (S.faults source.new) }
         ensures never_falls { S.faults source.old ≤ S.faults source.new }
     {
         if let Some(answer) = self.failed {

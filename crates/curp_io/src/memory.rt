@@ -1,6 +1,7 @@
 ghost use Rattle.std.specs.Prelude.{◌≡◌, ◌≢◌, ◌≤◌, ◌<◌, ◌-◌, ◌^◌, ◌↔◌, [], length, true, if◌then◌else◌, IfOk};
 ghost use Rattle.curp_io.specs.Memory.{called, fails, fresh_calls, supplied};
-ghost use Rattle.curp_io.specs.Streams.{FitsBuffer, MovesOn, Puts, Rose, Takes};
+ghost use Rattle.curp_io.specs.Streams.{FitsBuffer, MovesOn, Puts, Rose, SameCount, Takes};
+ghost use Rattle.curp_io.specs.Streams.{flushed_after_flush, flushed_after_put};
 
 use crate::sink::{Flushed, Put, Sink};
 use crate::source::{Source, Taken};
@@ -120,6 +121,7 @@ impl Source for MemorySource {
         ensures fits { FitsBuffer result buf.new }
         ensures bytes { Takes self.old.left self.new.left result buf.new }
         ensures cause { result ≡ Taken.Failed → Rose self.old.calls.faults self.new.calls.faults }
+        ensures told { result ≢ Taken.Failed → SameCount self.old.calls.faults self.new.calls.faults }
         ensures never_falls { self.old.calls.faults ≤ self.new.calls.faults }
         ensures answer { result ≡ supplied self.old (length buf.old) }
         ensures calls { self.new.calls ≡ called self.old.calls }
@@ -140,25 +142,28 @@ impl Source for MemorySource {
 #[derive(Debug, Drop)]
 pub struct MemorySink {
     bytes: Vec<u8>,
+    flushed: bool,
     schedule: Schedule,
 }
 
 impl Model for MemorySink {
-    ghost use Rattle.curp_io.specs.Memory.{Store};
+    ghost use Rattle.curp_io.specs.Memory.{Intake};
 
-    ghost Value = { Store };
+    ghost Value = { Intake };
 
-    ghost view = { λ s. record { held = s.bytes.items; calls = s.schedule } };
+    ghost view = { λ s. record { held = s.bytes.items; flushed = s.flushed; calls = s.schedule } };
 }
 
 impl MemorySink {
     /// An empty sink. The calls with the numbers in `failing`, from 1, fail.
     pub fn new(alloc: Global, failing: &[u64]) -> Result<MemorySink, NoMemory>
         ensures held { IfOk result (λ sink. sink.held ≡ []) }
+        ensures flushed { IfOk result (λ sink. sink.flushed ≡ true) }
         ensures calls { IfOk result (λ sink. sink.calls ≡ fresh_calls failing.now) }
     {
         Ok(MemorySink {
             bytes: Vec::new(alloc),
+            flushed: true,
             schedule: Schedule::new(alloc, failing)?,
         })
     }
@@ -167,6 +172,13 @@ impl MemorySink {
         ensures { result.now ≡ self.now.held }
     {
         &self.bytes
+    }
+
+    /// Whether a flush was done after the last byte was put.
+    pub fn is_flushed(&self) -> bool
+        ensures { result ≡ self.now.flushed }
+    {
+        self.flushed
     }
 }
 
@@ -177,10 +189,14 @@ impl Sink for MemorySink {
 
     ghost faults = { λ sink. sink.calls.faults };
 
+    ghost flushed = { λ sink. sink.flushed };
+
     fn put(&mut self, bytes: &[u8]) -> Put
         ensures moves_on { MovesOn result bytes.now }
         ensures bytes { Puts self.old.held self.new.held result bytes.now }
+        ensures flushed { self.new.flushed ≡ flushed_after_put self.old.flushed result }
         ensures cause { result ≡ Put.Failed → Rose self.old.calls.faults self.new.calls.faults }
+        ensures told { result ≢ Put.Failed → SameCount self.old.calls.faults self.new.calls.faults }
         ensures never_falls { self.old.calls.faults ≤ self.new.calls.faults }
         ensures fails { (result ≡ Put.Failed) ↔ (fails self.old.calls ≡ true) }
         ensures whole { fails self.old.calls ≢ true → result ≢ Put.NoMemory → result ≡ Put.Took (length bytes.now) }
@@ -188,20 +204,25 @@ impl Sink for MemorySink {
     {
         match self.schedule.turn() {
             Turn::Fails => Put::Failed,
-            Turn::Goes => take_whole(&mut self.bytes, bytes),
+            Turn::Goes => take_whole(&mut self.bytes, &mut self.flushed, bytes),
         }
     }
 
     fn flush(&mut self) -> Flushed
         ensures bytes { self.new.held ≡ self.old.held }
+        ensures flushed { self.new.flushed ≡ flushed_after_flush self.old.flushed result }
         ensures cause { result ≡ Flushed.Failed → Rose self.old.calls.faults self.new.calls.faults }
+        ensures told { result ≢ Flushed.Failed → SameCount self.old.calls.faults self.new.calls.faults }
         ensures never_falls { self.old.calls.faults ≤ self.new.calls.faults }
         ensures answer { result ≡ (if fails self.old.calls then Flushed.Failed else Flushed.Done) }
         ensures calls { self.new.calls ≡ called self.old.calls }
     {
         match self.schedule.turn() {
             Turn::Fails => Flushed::Failed,
-            Turn::Goes => Flushed::Done,
+            Turn::Goes => {
+                self.flushed = true;
+                Flushed::Done
+            }
         }
     }
 }

@@ -1,5 +1,5 @@
-ghost use Rattle.std.specs.Prelude.{◌≡◌, ℕ, ◌≤◌, Bool, true, List};
-ghost use Rattle.curp_io.specs.Streams.{FitsBuffer, Rose, Takes};
+ghost use Rattle.std.specs.Prelude.{◌≡◌, ◌≢◌, ℕ, ◌≤◌, Bool, true, List};
+ghost use Rattle.curp_io.specs.Streams.{FitsBuffer, Rose, SameCount, Takes};
 
 /// What a call of `take` did.
 #[derive(Clone, Copy, Debug, PartialEq, Eq)]
@@ -25,5 +25,6 @@ pub trait Source {
         ensures bytes { tells self.old ≡ true → Takes (left self.old) (left self.new) result buf.new }
         ensures tells { tells self.old ≡ true → tells self.new ≡ true }
         ensures cause { result ≡ Taken.Failed → Rose (faults self.old) (faults self.new) }
+        ensures told { result ≢ Taken.Failed → SameCount (faults self.old) (faults self.new) }
         ensures never_falls { faults self.old ≤ faults self.new };
 }

@@ -1,6 +1,8 @@
-ghost use Rattle.std.specs.Prelude.{◌≡◌, is_some, unwrap_or, []};
+ghost use Rattle.std.specs.Prelude.{◌≡◌, is_some, unwrap_or, [], false};
+ghost use Rattle.std.specs.IoError.{error_kind};
 ghost use Rattle.std.specs.Io.{ReadsAtMost, WritesAtMost};
 ghost use Rattle.std.specs.Io.KnownBytes.{Keeps, ReadConsumes, WriteAppends};
+ghost use Rattle.curp_io.specs.Standard.{put_of, verdict_of};
 
 use crate::sink::{Flushed, Put, Sink};
 use crate::source::{Source, Taken};
@@ -10,6 +12,25 @@ use std::marker::Model;
 
 /// How often a call that a signal interrupts is made before that counts as a fault.
 const TRIES: u32 = 1_000;
+
+/// What an error of a reader or a writer means.
+#[derive(Clone, Copy, Debug, PartialEq, Eq)]
+pub(crate) enum Verdict {
+    /// A signal interrupted the call.
+    Interruption,
+    NoMemory,
+    Fault,
+}
+
+fn verdict_of(error: &io::Error) -> Verdict
+    ensures { result ≡ verdict_of (error_kind error.now) }
+{
+    match error.kind() {
+        ErrorKind::Interrupted => Verdict::Interruption,
+        ErrorKind::OutOfMemory => Verdict::NoMemory,
+        _ => Verdict::Fault,
+    }
+}
 
 /// A source over a reader of std, seen as the reader and the count of faults.
 ///
@@ -58,7 +79,8 @@ impl<R: Read> Source for StdSource<R> {
     }
 }
 
-/// A sink over a writer of std, seen as the writer and the count of faults.
+/// A sink over a writer of std, seen as the writer, the count of faults, and whether the writer was flushed after the last
+/// byte that it took here.
 ///
 /// It tells bytes where the writer does, so none of a file or a pipe. A call that is interrupted is tried again, 1,000
 /// times in all. Want of memory is `NoMemory`. Any other error is a fault, and so is a write that takes no byte of a
@@ -67,59 +89,79 @@ impl<R: Read> Source for StdSource<R> {
 pub struct StdSink<W> {
     writer: W,
     faults: u64,
+    flushed: bool,
 }
 
 impl<W> Model for StdSink<W> {
-    ghost use Rattle.std.specs.Prelude.{ℕ};
-    ghost use Rattle.std.specs.Coded.{coded×, coded_ℕ};
+    ghost use Rattle.curp_io.specs.Standard.{Adapted, adapted_code};
 
-    ghost Value = { W × ℕ };
+    ghost Value = { Adapted W };
 
-    ghost coded = { coded× W.code coded_ℕ };
+    ghost coded = { adapted_code W.code };
 
-    ghost view = { λ sink. (sink.writer, sink.faults) };
+    ghost view = { λ sink. record { writer = sink.writer; faults = sink.faults; flushed = sink.flushed } };
 }
 
 impl<W> StdSink<W> {
+    /// The writer may hold bytes back already, so it counts as not flushed.
     pub fn new(writer: W) -> StdSink<W>
-        ensures { result ≡ (writer, 0) }
+        ensures { result ≡ record { writer = writer; faults = 0; flushed = false } }
     {
-        StdSink { writer, faults: 0 }
+        StdSink {
+            writer,
+            faults: 0,
+            flushed: false,
+        }
     }
 
     pub fn into_inner(self) -> W
-        ensures { result ≡ self.0 }
+        ensures { result ≡ self.writer }
     {
         self.writer
     }
 }
 
 impl<W: Write> Sink for StdSink<W> {
-    ghost tells = { λ sink. is_some (W.contents sink.0) };
+    ghost tells = { λ sink. is_some (W.contents sink.writer) };
 
-    ghost held = { λ sink. unwrap_or (W.contents sink.0) [] };
+    ghost held = { λ sink. unwrap_or (W.contents sink.writer) [] };
 
-    ghost faults = { λ sink. sink.1 };
+    ghost faults = { λ sink. sink.faults };
+
+    ghost flushed = { λ sink. sink.flushed };
 
     fn put(&mut self, bytes: &[u8]) -> Put {
-        match write(&mut self.writer, bytes) {
-            Ok(count) if count > 0 || bytes.is_empty() => Put::Took(count),
-            Err(error) if error.kind() == ErrorKind::OutOfMemory => Put::NoMemory,
-            _ => {
-                self.faults = self.faults.saturating_add(1);
-                Put::Failed
-            }
+        let put = put_of(write(&mut self.writer, bytes), bytes.len());
+        match put {
+            Put::Took(count) => self.flushed = self.flushed && count == 0,
+            Put::Failed => self.faults = self.faults.saturating_add(1),
+            Put::NoMemory => {}
         }
+        put
     }
 
     fn flush(&mut self) -> Flushed {
         match flush(&mut self.writer) {
-            Ok(()) => Flushed::Done,
+            Ok(()) => {
+                self.flushed = true;
+                Flushed::Done
+            }
             Err(_) => {
                 self.faults = self.faults.saturating_add(1);
                 Flushed::Failed
             }
         }
+    }
+}
+
+/// What the outcome of a write of so many bytes is.
+fn put_of(outcome: io::Result<usize>, len: usize) -> Put
+    ensures { result ≡ put_of outcome len }
+{
+    match outcome {
+        Ok(count) if count > 0 || len == 0 => Put::Took(count),
+        Err(error) if verdict_of(&error) == Verdict::NoMemory => Put::NoMemory,
+        _ => Put::Failed,
     }
 }
 
@@ -129,7 +171,7 @@ fn read<R: Read>(reader: &mut R, buf: &mut [u8]) -> io::Result<usize>
 {
     'tries: for _ in 0..TRIES {
         match reader.read(buf) {
-            Err(error) if is_interrupted(&error) => {}
+            Err(error) if verdict_of(&error) == Verdict::Interruption => {}
             outcome => return outcome,
         }
     }
@@ -142,7 +184,7 @@ fn write<W: Write>(writer: &mut W, bytes: &[u8]) -> io::Result<usize>
 {
     'tries: for _ in 0..TRIES {
         match writer.write(bytes) {
-            Err(error) if is_interrupted(&error) => {}
+            Err(error) if verdict_of(&error) == Verdict::Interruption => {}
             outcome => return outcome,
         }
     }
@@ -154,13 +196,9 @@ fn flush<W: Write>(writer: &mut W) -> io::Result<()>
 {
     'tries: for _ in 0..TRIES {
         match writer.flush() {
-            Err(error) if is_interrupted(&error) => {}
+            Err(error) if verdict_of(&error) == Verdict::Interruption => {}
             outcome => return outcome,
         }
     }
     Err(io::Error::from(ErrorKind::Interrupted))
-}
-
-fn is_interrupted(error: &io::Error) -> bool {
-    error.kind() == ErrorKind::Interrupted
 }

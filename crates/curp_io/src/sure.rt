@@ -1,5 +1,6 @@
 ghost use Rattle.std.specs.Prelude.{◌≡◌, min, take, length, [], true, IfOk};
 ghost use Rattle.curp_io.specs.Sure.{PutsAll};
+ghost use Rattle.curp_io.specs.Streams.{flushed_after_put};
 
 use crate::sink::{Flushed, Put, Sink};
 use crate::source::{Source, Taken};
@@ -53,28 +54,30 @@ impl Source for SureSource {
 #[derive(Debug, Drop)]
 pub struct SureSink {
     bytes: Vec<u8>,
+    flushed: bool,
 }
 
 impl Model for SureSink {
-    ghost use Rattle.std.specs.Prelude.{List, ℕ};
+    ghost use Rattle.curp_io.specs.Sure.{SureIntake};
 
-    ghost Value = { List ℕ };
+    ghost Value = { SureIntake };
 
-    ghost view = { λ s. s.bytes.items };
+    ghost view = { λ s. record { held = s.bytes.items; flushed = s.flushed } };
 }
 
 impl SureSink {
     /// An empty sink. It takes no memory until bytes are put.
     pub fn new(alloc: Global) -> SureSink
-        ensures { result ≡ [] }
+        ensures { result ≡ record { held = []; flushed = true } }
     {
         SureSink {
             bytes: Vec::new(alloc),
+            flushed: true,
         }
     }
 
     pub fn bytes(&self) -> &[u8]
-        ensures { result.now ≡ self.now }
+        ensures { result.now ≡ self.now.held }
     {
         &self.bytes
     }
@@ -83,15 +86,18 @@ impl SureSink {
 impl Sink for SureSink {
     ghost tells = { λ _. true };
 
-    ghost held = { λ held. held };
+    ghost held = { λ sink. sink.held };
 
     ghost faults = { λ _. 0 };
 
+    ghost flushed = { λ sink. sink.flushed };
+
     fn put(&mut self, bytes: &[u8]) -> Put {
-        take_whole(&mut self.bytes, bytes)
+        take_whole(&mut self.bytes, &mut self.flushed, bytes)
     }
 
     fn flush(&mut self) -> Flushed {
+        self.flushed = true;
         Flushed::Done
     }
 }
@@ -107,11 +113,15 @@ pub(crate) fn copy_front(from: &[u8], to: &mut [u8], most: usize) -> usize
 }
 
 /// Adds a whole piece to the bytes held, if there is memory.
-pub(crate) fn take_whole(held: &mut Vec<u8>, piece: &[u8]) -> Put
-    ensures { PutsAll held.old.items held.new.items result piece.now }
+pub(crate) fn take_whole(held: &mut Vec<u8>, flushed: &mut bool, piece: &[u8]) -> Put
+    ensures bytes { PutsAll held.old.items held.new.items result piece.now }
+    ensures flushed { flushed.new ≡ flushed_after_put flushed.old result }
 {
     match held.extend_from_slice(piece) {
-        Ok(()) => Put::Took(piece.len()),
+        Ok(()) => {
+            *flushed = *flushed && piece.is_empty();
+            Put::Took(piece.len())
+        }
         Err(_) => Put::NoMemory,
     }
 }

@@ -82,23 +82,38 @@ fn a_read_fault_repeats(rt: HostRuntime) -> Result<(), Fail> {
 fn a_memory_sink_fails_at_the_listed_calls(rt: HostRuntime) -> Result<(), Fail> {
     let alloc = rt.alloc();
     let mut sink = MemorySink::new(alloc, &[2, 4])?;
+    assert!(rt; sink.is_flushed());
     assert_eq!(rt; write_piece(&mut sink, b"one"), Written::Whole);
     assert_eq!(rt; write_piece(&mut sink, b"two"), Written::WriteFault);
     assert_eq!(rt; write_piece(&mut sink, b"two"), Written::Whole);
     assert_eq!(rt; sink.flush(), Flushed::Failed);
+    assert!(rt; !sink.is_flushed());
     assert_eq!(rt; sink.flush(), Flushed::Done);
+    assert!(rt; sink.is_flushed());
     assert_eq!(rt; sink.bytes(), b"onetwo".as_slice());
-    let mut sure = SureSink::new(alloc);
-    assert_eq!(rt; write_piece(&mut sure, b"one"), Written::Whole);
-    assert_eq!(rt; sure.flush(), Flushed::Done);
-    assert_eq!(rt; sure.bytes(), b"one".as_slice());
     Ok(())
 }
 
-/// A reader and writer of which each second call is interrupted, and that is used up after a few bytes.
+#[test]
+fn sinks_in_memory_take_large_pieces(rt: HostRuntime) -> Result<(), Fail> {
+    let alloc = rt.alloc();
+    let piece = vec![in alloc; b'x'; 70_000]?;
+    let mut sure = SureSink::new(alloc);
+    assert_eq!(rt; write_piece(&mut sure, &piece), Written::Whole);
+    assert_eq!(rt; sure.flush(), Flushed::Done);
+    assert_eq!(rt; sure.bytes(), piece.as_slice());
+    let mut counted = MemorySink::new(alloc, &[2])?;
+    assert_eq!(rt; write_piece(&mut counted, &piece), Written::Whole);
+    assert_eq!(rt; counted.bytes(), piece.as_slice());
+    Ok(())
+}
+
+/// A reader and writer that is interrupted so many times, and then fails for a reason, if it has one. Else each call
+/// moves at most 4,096 bytes, until it is used up.
 #[derive(Drop)]
 struct Rough {
-    calls: u64,
+    interruptions: u64,
+    failure: Option<ErrorKind>,
     left: usize,
 }
 
@@ -106,11 +121,14 @@ impl Rough {
     fn turn(&mut self, len: usize) -> io::Result<usize>
         ensures { IfOk result (λ n. n ≤ len) }
     {
-        self.calls = self.calls.saturating_add(1);
-        if self.calls % 2 == 1 {
+        if self.interruptions > 0 {
+            self.interruptions -= 1;
             return Err(io::Error::from(ErrorKind::Interrupted));
         }
-        let count = self.left.min(len).min(2);
+        if let Some(kind) = self.failure {
+            return Err(io::Error::from(kind));
+        }
+        let count = self.left.min(len).min(4_096);
         self.left -= count;
         Ok(count)
     }
@@ -128,7 +146,8 @@ impl Write for Rough {
     }
 
     fn flush(&mut self) -> io::Result<()> {
-        Err(io::Error::from(ErrorKind::BrokenPipe))
+        self.turn(0)?;
+        Ok(())
     }
 }
 
@@ -142,13 +161,52 @@ fn std_readers_and_writers(rt: HostRuntime) -> Result<(), Fail> {
     assert_eq!(rt; write_piece(&mut sink, b"one"), Written::Whole);
     assert_eq!(rt; sink.flush(), Flushed::Done);
     assert_eq!(rt; sink.into_inner().as_slice(), b"one".as_slice());
-    let mut rough = StdSource::new(Rough { calls: 0, left: 3 });
-    assert_eq!(rt; rough.take(&mut [0; 9]), Taken::Bytes(2));
-    assert_eq!(rt; rough.take(&mut [0; 9]), Taken::Bytes(1));
-    assert_eq!(rt; rough.take(&mut [0; 9]), Taken::Bytes(0));
-    let mut rough = StdSink::new(Rough { calls: 0, left: 3 });
-    assert_eq!(rt; write_piece(&mut rough, b"one"), Written::Whole);
-    assert_eq!(rt; write_piece(&mut rough, b"two"), Written::WriteFault);
-    assert_eq!(rt; rough.flush(), Flushed::Failed);
+    Ok(())
+}
+
+#[test]
+fn a_rough_writer(rt: HostRuntime) -> Result<(), Fail> {
+    let piece = [b'x'; 5_000];
+    let (broken, no_memory) = (Some(ErrorKind::BrokenPipe), Some(ErrorKind::OutOfMemory));
+    for (interruptions, failure, left, written, flushed) in [
+        (0, None, 5_000, Written::Whole, Flushed::Done),
+        (999, None, 5_000, Written::Whole, Flushed::Done),
+        (1_000, None, 5_000, Written::WriteFault, Flushed::Done),
+        (0, None, 4_999, Written::WriteFault, Flushed::Done),
+        (0, broken, 5_000, Written::WriteFault, Flushed::Failed),
+        (0, no_memory, 5_000, Written::NoMemory, Flushed::Failed),
+    ] {
+        let mut sink = StdSink::new(Rough {
+            interruptions,
+            failure,
+            left,
+        });
+        assert_eq!(rt; write_piece(&mut sink, &piece), written);
+        assert_eq!(rt; sink.flush(), flushed);
+    }
+    Ok(())
+}
+
+#[test]
+fn a_rough_reader(rt: HostRuntime) -> Result<(), Fail> {
+    for (interruptions, failure, first, second) in [
+        (0, None, Taken::Bytes(3), Taken::Bytes(0)),
+        (999, None, Taken::Bytes(3), Taken::Bytes(0)),
+        (1_000, None, Taken::Failed, Taken::Bytes(3)),
+        (
+            0,
+            Some(ErrorKind::OutOfMemory),
+            Taken::Failed,
+            Taken::Failed,
+        ),
+    ] {
+        let mut source = StdSource::new(Rough {
+            interruptions,
+            failure,
+            left: 3,
+        });
+        assert_eq!(rt; source.take(&mut [0; 9]), first);
+        assert_eq!(rt; source.take(&mut [0; 9]), second);
+    }
     Ok(())
 }

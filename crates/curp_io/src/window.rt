@@ -1,6 +1,7 @@
-ghost use Rattle.std.specs.Prelude.{◌≡◌, ◌≤◌, ◌<◌, ◌+◌, ◌-◌, ◌++◌, ◌==◌, length, take, drop, [], true, vec_len, IfOk, MatchOption};
+ghost use Rattle.std.specs.Prelude.{◌≡◌, ◌≢◌, ◌≤◌, ◌<◌, ◌+◌, ◌-◌, ◌++◌, ◌==◌, true, IfOk, MatchOption};
+ghost use Rattle.std.specs.Prelude.{length, take, drop, [], vec_len};
 ghost use Rattle.std.specs.List.{between, position};
-ghost use Rattle.curp_io.specs.Streams.{Rose, FitsBuffer, Takes};
+ghost use Rattle.curp_io.specs.Streams.{FitsBuffer, Rose, SameCount, Takes};
 ghost use Rattle.curp_io.specs.Text.{line_of};
 ghost use Rattle.curp_io.specs.Buffer.{Adds, Finds, IsFeedPlace, IsWithin};
 
@@ -38,16 +39,17 @@ pub(crate) enum Found {
 impl Model for Window {
     ghost use Rattle.std.specs.Prelude.{◌≡◌, ◌≤◌, vec_len};
     ghost use Rattle.std.specs.List.{between};
-    ghost use Rattle.curp_io.specs.Held.{Held};
+    ghost use Rattle.curp_io.specs.ReadAhead.{ReadAhead};
 
-    ghost Value = { Held };
+    ghost Value = { ReadAhead };
 
     ghost view = { λ w. record {
       ahead = between w.start w.end w.buffer.items;
       line = between w.line_start w.line_end w.buffer.items;
     } };
 
-    ghost invariant = { λ w. (vec_len w.buffer ≡ 65537) × (w.start ≤ w.end) × (w.end ≤ 65537) × (w.line_start ≤ w.line_end) × (w.line_end ≤ 65537) };
+    ghost invariant = { λ w. (vec_len w.buffer ≡ 65537) × (w.start ≤ w.end) × (w.end ≤ 65537)
+        × (w.line_start ≤ w.line_end) × (w.line_end ≤ 65537) };
 }
 
 impl Window {
@@ -112,10 +114,12 @@ impl Window {
         requires { length self.old.ahead < 65537 }
         ensures adds { Adds self.old.ahead self.new.ahead result }
         ensures line { self.new.line ≡ [] }
-        ensures bytes { S.tells source.old ≡ true → self.new.ahead ++ S.left source.new ≡ self.old.ahead ++ S.left source.old }
+        ensures bytes { S.tells source.old ≡ true
+            → self.new.ahead ++ S.left source.new ≡ self.old.ahead ++ S.left source.old }
         ensures end { S.tells source.old ≡ true → result ≡ Taken.Bytes 0 → S.left source.new ≡ [] }
         ensures tells { S.tells source.old ≡ true → S.tells source.new ≡ true }
         ensures cause { result ≡ Taken.Failed → Rose (S.faults source.old) (S.faults source.new) }
+        ensures told { result ≢ Taken.Failed → SameCount (S.faults source.old) (S.faults source.new) }
         ensures never_falls { S.faults source.old ≤ S.faults source.new }
     {
         let len = self.end - self.start;
@@ -134,10 +138,12 @@ impl Window {
     /// Finds the first line, and reads as much as that needs.
     pub(crate) fn find_line<S: Source>(&mut self, source: &mut S) -> Found
         ensures within { IsWithin result self.new.ahead }
-        ensures bytes { S.tells source.old ≡ true → Finds (self.old.ahead ++ S.left source.old) result self.new.ahead (S.left source.new) }
+        ensures bytes { S.tells source.old ≡ true
+            → Finds (self.old.ahead ++ S.left source.old) result self.new.ahead (S.left source.new) }
         ensures line { self.old.line ≡ [] → self.new.line ≡ [] }
         ensures tells { S.tells source.old ≡ true → S.tells source.new ≡ true }
         ensures cause { result ≡ Found.ReadFault → Rose (S.faults source.old) (S.faults source.new) }
+        ensures told { result ≢ Found.ReadFault → SameCount (S.faults source.old) (S.faults source.new) }
         ensures never_falls { S.faults source.old ≤ S.faults source.new }
     {
         let mut searched = 0;
@@ -183,9 +189,11 @@ fn take_behind<S: Source>(source: &mut S, buffer: &mut Vec<u8>, from: usize) -> 
     ensures front { take from buffer.new.items ≡ take from buffer.old.items }
     ensures len { vec_len buffer.new ≡ vec_len buffer.old }
     ensures fits { FitsBuffer result (drop from buffer.new.items) }
-    ensures bytes { S.tells source.old ≡ true → Takes (S.left source.old) (S.left source.new) result (drop from buffer.new.items) }
+    ensures bytes { S.tells source.old ≡ true
+        → Takes (S.left source.old) (S.left source.new) result (drop from buffer.new.items) }
     ensures tells { S.tells source.old ≡ true → S.tells source.new ≡ true }
     ensures cause { result ≡ Taken.Failed → Rose (S.faults source.old) (S.faults source.new) }
+    ensures told { result ≢ Taken.Failed → SameCount (S.faults source.old) (S.faults source.new) }
     ensures never_falls { S.faults source.old ≤ S.faults source.new }
 {
     source.take(&mut buffer[from..])

@@ -1,5 +1,5 @@
-ghost use Rattle.std.specs.Prelude.{◌≡◌, ◌≤◌, true};
-ghost use Rattle.curp_io.specs.Streams.{Rose, Writes};
+ghost use Rattle.std.specs.Prelude.{◌≡◌, ◌≢◌, ◌≤◌, true};
+ghost use Rattle.curp_io.specs.Streams.{Rose, SameCount, Writes};
 
 use crate::sink::{Put, Sink};
 
@@ -18,6 +18,7 @@ pub fn write_piece<K: Sink>(sink: &mut K, bytes: &[u8]) -> Written
     ensures bytes { K.tells sink.old ≡ true → Writes (K.held sink.old) (K.held sink.new) result bytes.now }
     ensures tells { K.tells sink.old ≡ true → K.tells sink.new ≡ true }
     ensures cause { result ≡ Written.WriteFault → Rose (K.faults sink.old) (K.faults sink.new) }
+    ensures told { result ≢ Written.WriteFault → SameCount (K.faults sink.old) (K.faults sink.new) }
     ensures never_falls { K.faults sink.old ≤ K.faults sink.new }
 {
     let mut done = 0;

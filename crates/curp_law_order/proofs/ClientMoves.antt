@@ -1,9 +1,9 @@
 -- What clients do keeps the facts.
-use Rattle.std.proofs.Common.{◌≡◌, inl, inr, ℕ, ◌+◌, ◌-◌, ◌<◌, ◌≤◌, ◌==◌, Bool, true, false, not, eqb, List, [], ◌∷◌, ◌++◌, length, set, None, Some, refl, ap, sym, ◌∙◌, subst, arith}
-use Rattle.std.proofs.lemmas.Bool.{cases_eq, eq-eqb}
-use Rattle.std.proofs.lemmas.List.{length-set}
+use Rattle.std.proofs.Common.{◌≡◌, inl, inr, ℕ, ◌+◌, ◌-◌, ◌<◌, ◌≤◌, Bool, true, false, not, List, [], ◌∷◌, ◌++◌, length, set, None, Some, ap, sym, ◌∙◌, subst, arith}
+use Rattle.std.proofs.lemmas.Bool.{cases_eq}
 use Rattle.curp_base.specs.Words.{At, Each, numbered}
 use Rattle.curp_base.proofs.Lists.{at_within, at_append, at_push_cases, prefix_self, prefix_push}
+use Rattle.curp_cmd.specs.RequestId.{same_id}
 use Rattle.curp_cmd.specs.declared.command.Answer.{Answer}
 use Rattle.curp_cmd.specs.declared.command.Command.{Command}
 use Rattle.curp_cmd.specs.declared.command.RequestId.{RequestId}
@@ -11,14 +11,15 @@ use Rattle.curp_msg.specs.declared.message.Message.{Message}
 use Rattle.curp_order.specs.Order.{IsHistory}
 use Rattle.curp_order.specs.declared.Event.{Event}
 use Rattle.curp_order.specs.declared.Event.TheVariants.{Invoke, Complete}
-use Rattle.curp_script.specs.declared.script.Header.{Header}
-use Rattle.curp_model.specs.Client.{ClientState, Pending, next_id, without_number}
-use Rattle.curp_model.specs.Marks.{flagged}
+use Rattle.curp_msg.specs.declared.script.Header.{Header}
+use Rattle.curp_model.specs.Client.{ClientState, Pending, next_id, without_id}
+use Rattle.curp_model.specs.Marks.{Mark, flagged}
+use Rattle.curp_cmd.proofs.Ids.{same_id-self}
 use Rattle.curp_law_order.proofs.Numbered.{numbered_same, numbered_set_cases, numbered_set_same, numbered_set_other, filter_at}
 use Rattle.curp_law_order.proofs.Facts.{Scene, MessageOk, PendingOk, ClientOk, ClientsKnow, ClientsWait, CompletedOk, InTime, StateOk, Facts}
-use Rattle.curp_law_order.proofs.Growing.{Grows, same_backups, same_witnesses, client_grows, completed_grows, pending_grows, said_grows}
+use Rattle.curp_law_order.proofs.Growing.{Grows, client_grows, completed_grows, pending_grows, said_grows}
 use Rattle.curp_law_order.proofs.Marking.{marks_invoke, marks_complete}
-use Rattle.curp_law_order.proofs.Moves.{move_keeps, log_later}
+use Rattle.curp_law_order.proofs.Moves.{client_moved, client_grows_by, client_keeps}
 
 module _ (h : Header) (s : Scene) (facts : Facts h s) (n : ℕ) (c : ClientState) (here : numbered s.clients n ≡ Some c) where
   state : StateOk h s
@@ -44,16 +45,10 @@ module _ (h : Header) (s : Scene) (facts : Facts h s) (n : ℕ) (c : ClientState
 
   module _ (d : ClientState) (out : List Message) (last : d.last ≡ c.last) (ok : ClientOk h s n d) (waits : Waits d) (says : Each (MessageOk h s) out) where
     abbrev pub noticed : Scene
-    noticed = record s { clients = set s.clients (n - 1) d; sent = s.sent ++ out }
+    noticed = client_moved s n d s.history s.marks out
 
     notice_grows : Grows s noticed
-    notice_grows = record { history = prefix_self s.history; log = prefix_self s.master.log; backups = same_backups s.backups; witnesses = same_witnesses s.witnesses }
-
-    noticed_clients : (k : ℕ) (x : ClientState) → numbered noticed.clients k ≡ Some x → ClientOk h noticed k x
-    noticed_clients k x at = elim (numbered_set_cases s.clients n c d here k x at) [
-      | inl o ↦ client_grows notice_grows h k x (state.clients k x o.1)
-      | inr o ↦ subst (ClientOk h noticed k) o.1 (subst (λ (i : ℕ). ClientOk h noticed i d) (sym o.0) (client_grows notice_grows h n d ok))
-    ]
+    notice_grows = client_grows_by h s n d s.history s.marks out (prefix_self s.history)
 
     noticed_wait : ClientsWait noticed.clients s.history
     noticed_wait k x at = elim (numbered_set_cases s.clients n c d here k x at) [
@@ -62,18 +57,16 @@ module _ (h : Header) (s : Scene) (facts : Facts h s) (n : ℕ) (c : ClientState
     ]
 
     pub notice_keeps : Facts h noticed
-    notice_keeps = move_keeps h s noticed out facts notice_grows refl (said_grows notice_grows h out says) (record {
-      counts = record { parts = state.counts.parts; clients = length-set s.clients (n - 1) d ∙ state.counts.clients; backups = state.counts.backups; witnesses = state.counts.witnesses };
-      serves = state.serves;
-      log = state.log;
-      backups = state.backups;
-      clients = noticed_clients;
+    notice_keeps = client_keeps h s n d s.history s.marks out facts c here (record {
+      grown = prefix_self s.history;
+      its_state = client_grows notice_grows h n d ok;
       know = λ i id x at. known_later d (omega (arith, last)) id (state.know i id x at);
       wait = noticed_wait;
       history = state.history;
       completes = λ i id a at. completed_grows notice_grows h id a (state.completes i id a at);
       in_time = state.in_time;
-      marks = state.marks;
+      marked = state.marks;
+      says = said_grows notice_grows h out says;
     })
 
   -- ---- an invocation
@@ -125,10 +118,10 @@ module _ (h : Header) (s : Scene) (facts : Facts h s) (n : ℕ) (c : ClientState
       asking = record c { last = c.last + 1; pending = c.pending ++ new ∷ [] }
 
       abbrev pub invoking : Scene
-      invoking = record s { clients = set s.clients (n - 1) asking; history = s.history ++ asks ∷ []; sent = s.sent ++ out }
+      invoking = client_moved s n asking (s.history ++ asks ∷ []) s.marks out
 
       invoke_grows : Grows s invoking
-      invoke_grows = record { history = prefix_push s.history (asks ∷ []); log = prefix_self s.master.log; backups = same_backups s.backups; witnesses = same_witnesses s.witnesses }
+      invoke_grows = client_grows_by h s n asking (s.history ++ asks ∷ []) s.marks out (prefix_push s.history (asks ∷ []))
 
       module _ (ok : PendingOk h invoking n new) (says : Each (MessageOk h invoking) out) where
         asking_ok : ClientOk h invoking n asking
@@ -139,12 +132,6 @@ module _ (h : Header) (s : Scene) (facts : Facts h s) (n : ℕ) (c : ClientState
             | inr last ↦ subst (PendingOk h invoking n) last.1 ok
           ];
         }
-
-        invoking_clients : (k : ℕ) (x : ClientState) → numbered invoking.clients k ≡ Some x → ClientOk h invoking k x
-        invoking_clients k x at = elim (numbered_set_cases s.clients n c asking here k x at) [
-          | inl o ↦ client_grows invoke_grows h k x (state.clients k x o.1)
-          | inr o ↦ subst (ClientOk h invoking k) o.1 (subst (λ (i : ℕ). ClientOk h invoking i asking) (sym o.0) asking_ok)
-        ]
 
         invoking_know : ClientsKnow invoking.clients invoking.history
         invoking_know i id d at = elim (at_push_cases s.history asks i _ at) [
@@ -169,18 +156,16 @@ module _ (h : Header) (s : Scene) (facts : Facts h s) (n : ℕ) (c : ClientState
             ]
 
         pub invoke_keeps : Facts h invoking
-        invoke_keeps = move_keeps h s invoking out facts invoke_grows refl says (record {
-          counts = record { parts = state.counts.parts; clients = length-set s.clients (n - 1) asking ∙ state.counts.clients; backups = state.counts.backups; witnesses = state.counts.witnesses };
-          serves = state.serves;
-          log = log_later h s.history invoking.history invoke_grows.history s.master.log state.log;
-          backups = state.backups;
-          clients = invoking_clients;
+        invoke_keeps = client_keeps h s n asking (s.history ++ asks ∷ []) s.marks out facts c here (record {
+          grown = invoke_grows.history;
+          its_state = asking_ok;
           know = invoking_know;
           wait = invoking_wait;
           history = invoke_history;
           completes = λ i x a at. completed_grows invoke_grows h x a (state.completes i x a (old_completion i x a at));
           in_time = invoke_in_time;
-          marks = state.marks ∙ sym (marks_invoke s.history fresh command s.master.log 0);
+          marked = state.marks ∙ sym (marks_invoke s.history fresh command s.master.log 0);
+          says = says;
         })
 
   -- ---- a completion
@@ -190,18 +175,16 @@ module _ (h : Header) (s : Scene) (facts : Facts h s) (n : ℕ) (c : ClientState
     answers = Complete id a
 
     abbrev answered : ClientState
-    answered = record c { pending = without_number id.seq c.pending }
+    answered = record c { pending = without_id id c.pending }
+
+    abbrev flags : List Mark
+    flags = flagged (record { id = id; answer = a; by = None }) s.marks
 
     abbrev pub completing : Scene
-    completing = record s {
-      clients = set s.clients (n - 1) answered;
-      history = s.history ++ answers ∷ [];
-      marks = flagged (record { id = id; answer = a; by = None }) s.marks;
-      sent = s.sent ++ [];
-    }
+    completing = client_moved s n answered (s.history ++ answers ∷ []) flags []
 
     complete_grows : Grows s completing
-    complete_grows = record { history = prefix_push s.history (answers ∷ []); log = prefix_self s.master.log; backups = same_backups s.backups; witnesses = same_witnesses s.witnesses }
+    complete_grows = client_grows_by h s n answered (s.history ++ answers ∷ []) flags [] (prefix_push s.history (answers ∷ []))
 
     old_invocation : (i : ℕ) (x : RequestId) (d : Command) → At (s.history ++ answers ∷ []) i (Invoke x d) → At s.history i (Invoke x d)
     old_invocation i x d ev = elim (at_push_cases s.history answers i _ ev) [ inl old ↦ old | inr last ↦ absurd (cc (last.1)) ]
@@ -239,11 +222,11 @@ module _ (h : Header) (s : Scene) (facts : Facts h s) (n : ℕ) (c : ClientState
       ];
     }
 
-    -- what is left was pending, under another number
-    still : (j : ℕ) (q : Pending) → At answered.pending j q → (i : ℕ) × At c.pending i q × (q.request.id.seq ≡ id.seq → ⊥)
+    -- what is left was pending, under another id
+    still : (j : ℕ) (q : Pending) → At answered.pending j q → (i : ℕ) × At c.pending i q × (q.request.id ≡ id → ⊥)
     still j q ev =
-        let f = filter_at (λ (x : Pending). not (x.request.id.seq == id.seq)) c.pending j q ev in
-        (f.0, f.1, λ e. clash (eqb q.request.id.seq id.seq) f.2 (eq-eqb q.request.id.seq id.seq e))
+        let f = filter_at (λ (x : Pending). not (same_id x.request.id id)) c.pending j q ev in
+        (f.0, f.1, λ e. clash (same_id q.request.id id) f.2 (subst (λ (x : RequestId). same_id q.request.id x ≡ true) e (same_id-self q.request.id)))
       where
         clash : (b : Bool) → not b ≡ true → b ≡ true → ⊥
         clash true e f = cc
@@ -251,12 +234,6 @@ module _ (h : Header) (s : Scene) (facts : Facts h s) (n : ℕ) (c : ClientState
 
     answered_ok : ClientOk h completing n answered
     answered_ok = record { config = was.config; pending = λ j q ev. let o = still j q ev in pending_grows complete_grows h n q (was.pending o.0 q o.1) }
-
-    completing_clients : (j : ℕ) (x : ClientState) → numbered completing.clients j ≡ Some x → ClientOk h completing j x
-    completing_clients j x ev = elim (numbered_set_cases s.clients n c answered here j x ev) [
-      | inl o ↦ client_grows complete_grows h j x (state.clients j x o.1)
-      | inr o ↦ subst (ClientOk h completing j) o.1 (subst (λ (i : ℕ). ClientOk h completing i answered) (sym o.0) answered_ok)
-    ]
 
     completing_wait : ClientsWait completing.clients completing.history
     completing_wait j x ev i q pending l b e = elim (numbered_set_cases s.clients n c answered here j x ev) [
@@ -270,7 +247,7 @@ module _ (h : Header) (s : Scene) (facts : Facts h s) (n : ℕ) (c : ClientState
           let v = still i q (subst (λ (y : ClientState). At y.pending i q) (sym o.1) pending) in
           elim (at_push_cases s.history answers l _ e) [
             | inl old ↦ state.wait n c here v.0 q v.1 l b old
-            | inr last ↦ let is : id ≡ q.request.id = cc (last.1) in v.2 (sym (ap (λ (y : RequestId). y.seq) is))
+            | inr last ↦ let is : id ≡ q.request.id = cc (last.1) in v.2 (sym is)
           ]
     ]
 
@@ -291,16 +268,14 @@ module _ (h : Header) (s : Scene) (facts : Facts h s) (n : ℕ) (c : ClientState
     ]
 
     pub complete_keeps : Facts h completing
-    complete_keeps = move_keeps h s completing [] facts complete_grows refl tt (record {
-      counts = record { parts = state.counts.parts; clients = length-set s.clients (n - 1) answered ∙ state.counts.clients; backups = state.counts.backups; witnesses = state.counts.witnesses };
-      serves = state.serves;
-      log = log_later h s.history completing.history complete_grows.history s.master.log state.log;
-      backups = state.backups;
-      clients = completing_clients;
+    complete_keeps = client_keeps h s n answered (s.history ++ answers ∷ []) flags [] facts c here (record {
+      grown = complete_grows.history;
+      its_state = answered_ok;
       know = λ i x d ev. known_later answered (omega arith) x (state.know i x d (old_invocation i x d ev));
       wait = completing_wait;
       history = complete_history;
       completes = completed;
       in_time = complete_in_time;
-      marks = ap (flagged (record { id = id; answer = a; by = None })) state.marks ∙ marks_complete s.history id a s.master.log 0;
+      marked = ap (flagged (record { id = id; answer = a; by = None })) state.marks ∙ marks_complete s.history id a s.master.log 0;
+      says = tt;
     })

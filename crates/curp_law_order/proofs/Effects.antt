@@ -16,18 +16,20 @@ use Rattle.curp_msg.specs.declared.body.Append.{Append}
 use Rattle.curp_msg.specs.declared.body.Appended.{Appended}
 use Rattle.curp_msg.specs.declared.body.Body.{Body}
 use Rattle.curp_msg.specs.declared.body.Body.TheVariants as body
+use Rattle.curp_msg.specs.declared.body.Refuse.{Refuse}
 use Rattle.curp_msg.specs.declared.body.Reply.{Reply}
 use Rattle.curp_msg.specs.declared.message.Message.{Message}
-use Rattle.curp_script.specs.declared.script.Header.{Header}
+use Rattle.curp_msg.specs.declared.script.Header.{Header}
 use Rattle.curp_model.specs.declared.Check.TheVariants.{New}
 use Rattle.curp_model.specs.Backup.{BackupState}
 use Rattle.curp_model.specs.Log.{meaning}
 use Rattle.curp_model.specs.Master.{Acknowledged, MasterState, from_backup, synced}
-use Rattle.curp_model.specs.Moved.{Moved, backup_node, client_node, master_node, witness_node}
+use Rattle.curp_msg.specs.Moved.{Moved}
+use Rattle.curp_cmd.specs.Node.{backup_node, client_node, master_node, witness_node}
 use Rattle.curp_model.specs.Table.{check}
 use Rattle.curp_model.specs.Witness.{WitnessState, holds}
-use Rattle.curp_law_order.specs.Shape.{ServesAsOpened}
-use Rattle.curp_law_order.proofs.Facts.{Done, first_hash, last_hash}
+use Rattle.curp_model.specs.Shape.{ServesAsOpened}
+use Rattle.curp_law_order.proofs.Facts.{Done, HeldFor, IsNamed, first_hash, last_hash}
 use Rattle.curp_law_order.proofs.Growing.{HoldsOn}
 
 -- ---- the master
@@ -37,22 +39,31 @@ pub record ReplySays (h : Header) (log : List Entry) (limit : ℕ) (to : NodeId)
   pub addressed : to ≡ client_node r.id.client
   pub done : Done h log r.id r.answer
   pub durable : r.synced ≡ true → done.index < limit
+  pub epoch : r.epoch ≡ 1
+  pub version : r.version ≡ 1
+
+-- a refusal is of what was asked for
+pub record RefuseSays (Asked : RequestId → Command → Type 0) (to : NodeId) (r : Refuse) : Type 0 where
+  pub addressed : to ≡ client_node r.id.client
+  pub command : Command
+  pub asked : Asked r.id command
 
 -- an append has what stands in the log from its base on
-pub record AppendSays (log : List Entry) (from to : NodeId) (a : Append) : Type 0 where
-  pub sender : from ≡ master_node 1
+pub record AppendSays (log : List Entry) (to : NodeId) (a : Append) : Type 0 where
   pub addressed : to.kind ≡ kind.Backup
   pub part : IsPrefix a.entries (drop a.base log)
-
-abbrev pub BodySays : Header → List Entry → ℕ → NodeId → NodeId → Body → Type 0
-BodySays h log limit from to (body.Append a) = AppendSays log from to a
-BodySays h log limit from to (body.Reply r) = ReplySays h log limit to r
-BodySays h log limit from to (body.Refuse r) = to ≡ client_node r.id.client
-BodySays h log limit from to _ = ⊥
+  pub epoch : a.epoch ≡ 1
 
 -- by a log of which so much is synced
-abbrev pub Says : Header → List Entry → ℕ → Message → Type 0
-Says h log limit x = BodySays h log limit x.from x.to x.body
+abbrev pub BodySays : (RequestId → Command → Type 0) → Header → List Entry → ℕ → NodeId → Body → Type 0
+BodySays Asked h log limit to (body.Append a) = AppendSays log to a × IsNamed h to
+BodySays Asked h log limit to (body.Reply r) = ReplySays h log limit to r
+BodySays Asked h log limit to (body.Refuse r) = RefuseSays Asked to r
+BodySays Asked h log limit to _ = ⊥
+
+pub record Says (Asked : RequestId → Command → Type 0) (h : Header) (log : List Entry) (limit : ℕ) (x : Message) : Type 0 where
+  pub sender : x.from ≡ master_node 1
+  pub says_so : BodySays Asked h log limit x.to x.body
 
 -- a new request that was asked for
 pub record Pushed (Asked : RequestId → Command → Type 0) (h : Header) (before after : List Entry) : Type 0 where
@@ -71,11 +82,10 @@ AcksMove Told before after = (node : NodeId) (limit : ℕ) → (from_backup befo
 
 pub record MasterEffect (Asked : RequestId → Command → Type 0) (Told : NodeId → ℕ → Type 0) (h : Header) (m : MasterState) (r : Moved MasterState) : Type 0 where
   pub quiet : r.completed ≡ None
-  pub accepted : r.refused ≡ 0
   pub serves : ServesAsOpened h r.state
   pub log : LogMove Asked h m.log r.state.log
   pub acks : AcksMove Told m.acknowledged r.state.acknowledged
-  pub says : Each (Says h r.state.log (synced r.state)) r.messages
+  pub says : Each (Says Asked h r.state.log (synced r.state)) r.messages
 
 -- ---- a backup
 
@@ -84,38 +94,47 @@ abbrev pub AnswerTells : BackupState → AppendAnswer → Type 0
 AnswerTells b (Stored long) = long ≤ length b.log
 AnswerTells b _ = ⊤
 
-pub record AppendedTells (n : ℕ) (b : BackupState) (from to : NodeId) (a : Appended) : Type 0 where
-  pub sender : from ≡ backup_node n
+pub record AppendedTells (b : BackupState) (to : NodeId) (a : Appended) : Type 0 where
   pub addressed : to ≡ master_node 1
   pub tells : AnswerTells b a.answer
+  pub epoch : a.epoch ≡ 1
 
-abbrev pub BackupTells : ℕ → BackupState → NodeId → NodeId → Body → Type 0
-BackupTells n b from to (body.Appended a) = AppendedTells n b from to a
-BackupTells n b from to _ = ⊥
+abbrev pub AnswersAppend : BackupState → NodeId → Body → Type 0
+AnswersAppend b to (body.Appended a) = AppendedTells b to a
+AnswersAppend b to _ = ⊥
+
+pub record BackupTells (n : ℕ) (b : BackupState) (x : Message) : Type 0 where
+  pub sender : x.from ≡ backup_node n
+  pub says_so : AnswersAppend b x.to x.body
 
 -- a backup only adds what stands in the master's log
 pub record BackupEffect (whole : List Entry) (n : ℕ) (b : BackupState) (r : Moved BackupState) : Type 0 where
   pub quiet : r.completed ≡ None
-  pub accepted : r.refused ≡ 0
   pub grown : IsPrefix b.log r.state.log
   pub front : IsPrefix r.state.log whole
-  pub says : Each (λ (x : Message). BackupTells n r.state x.from x.to x.body) r.messages
+  pub says : Each (BackupTells n r.state) r.messages
 
 -- ---- a witness
 
-pub record AcceptedTells (n : ℕ) (w : WitnessState) (from to : NodeId) (a : Accepted) : Type 0 where
-  pub sender : from ≡ witness_node n
+pub record AcceptedTells (w : WitnessState) (to : NodeId) (a : Accepted) : Type 0 where
   pub addressed : to ≡ client_node a.id.client
   pub held : holds w a.id ≡ true
+  pub epoch : a.epoch ≡ 1
 
-abbrev pub WitnessTells : ℕ → WitnessState → NodeId → NodeId → Body → Type 0
-WitnessTells n w from to (body.Accepted a) = AcceptedTells n w from to a
-WitnessTells n w from to (body.Rejected r) = to.kind ≡ kind.Client
-WitnessTells n w from to _ = ⊥
+abbrev pub AnswersRecord : WitnessState → NodeId → Body → Type 0
+AnswersRecord w to (body.Accepted a) = AcceptedTells w to a
+AnswersRecord w to (body.Rejected r) = to ≡ client_node r.id.client
+AnswersRecord w to _ = ⊥
 
--- a witness drops nothing
-pub record WitnessEffect (n : ℕ) (w : WitnessState) (r : Moved WitnessState) : Type 0 where
+-- to the client that asked
+pub record WitnessTells (n : ℕ) (w : WitnessState) (client : NodeId) (x : Message) : Type 0 where
+  pub sender : x.from ≡ witness_node n
+  pub addressee : x.to ≡ client
+  pub says_so : AnswersRecord w x.to x.body
+
+-- a witness drops nothing, and holds what was asked for
+pub record WitnessEffect (Asked : RequestId → Command → Type 0) (n : ℕ) (w : WitnessState) (from : NodeId) (r : Moved WitnessState) : Type 0 where
   pub quiet : r.completed ≡ None
-  pub accepted : r.refused ≡ 0
   pub grown : HoldsOn w r.state
-  pub says : Each (λ (x : Message). WitnessTells n r.state x.from x.to x.body) r.messages
+  pub held : Each (HeldFor Asked) r.state.held
+  pub says : Each (WitnessTells n r.state from) r.messages

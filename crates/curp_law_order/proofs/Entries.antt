@@ -1,5 +1,5 @@
 -- What a log of ops means: the answers of one thread, and a reply table that tells no more than stands in the log.
-use Rattle.std.proofs.Common.{◌≡◌, ◌⊎◌, inl, inr, ℕ, zero, suc, ◌+◌, Bool, true, false, cond, nat_lt, List, [], ◌∷◌, ◌++◌, length, take, Option, Some, None, refl, ap, sym, ◌∙◌, subst, arith}
+use Rattle.std.proofs.Common.{◌≡◌, ◌⊎◌, inl, inr, ℕ, zero, suc, ◌+◌, Bool, true, false, cond, not, nat_lt, List, [], ◌∷◌, ◌++◌, length, take, Option, Some, None, refl, ap, sym, ◌∙◌, subst, arith}
 use Rattle.std.specs.FinMap.Entries.{find, find-put, find-where_key}
 use Rattle.std.specs.Ordering.{eq_by_cmp}
 use Rattle.std.proofs.lemmas.Bool.{cond_both}
@@ -19,10 +19,10 @@ use Rattle.curp_order.specs.Order.{answers, answers_from}
 use Rattle.curp_model.specs.declared.Check.{Check}
 use Rattle.curp_model.specs.declared.Check.TheVariants.{Known}
 use Rattle.curp_model.specs.Log.{LogState, IsDone, log_opening, after_entry, after_entries, after_op, answer_after, meaning}
-use Rattle.curp_model.specs.Table.{Noted, Table, check, known, is_gone, first_number, is_kept, only_kept, note, acknowledge, raise_first}
+use Rattle.curp_model.specs.Table.{Noted, Table, check, known, is_gone, first_number, is_below, note, acknowledge}
 use Rattle.curp_model.proofs.Logs.{meaning_append}
 use Rattle.curp_model.proofs.Tables.{ids_total, ids_same}
-use Rattle.curp_law_order.specs.Marked.{requests_of}
+use Rattle.curp_model.specs.Marked.{requests_of}
 use Rattle.curp_law_order.proofs.Facts.{IsOp, NotedAt, NotedOk}
 use Rattle.curp_law_order.proofs.Growing.{take_grows}
 
@@ -74,9 +74,12 @@ check_known t id a index =
     (λ g. cond_both (nat_lt id.seq (first_number t id.client)) _ _ (λ (c : Check). c ≡ Known a index → find id_cmp id t.records ≡ Some (record { answer = a; index = index })) (λ l e. absurd cc)
     (λ l. known_found a index (find id_cmp id t.records)))
 
-kept_found : (t : Table) (id : RequestId) (n : Noted) → find id_cmp id (only_kept t).records ≡ Some n → find id_cmp id t.records ≡ Some n
-kept_found t id n e = go (is_kept t id) (sym (find-where_key id_cmp (is_kept t) id (λ x same. ap (is_kept t) (sym (ids_same id x same))) t.records) ∙ e)
+kept_found : (t : Table) (client first : ℕ) (id : RequestId) (n : Noted) → find id_cmp id (acknowledge t client first).records ≡ Some n → find id_cmp id t.records ≡ Some n
+kept_found t client first id n e = go (stays id) (sym (find-where_key id_cmp stays id (λ x same. ap stays (sym (ids_same id x same))) t.records) ∙ e)
   where
+    stays : RequestId → Bool
+    stays x = not (is_below client first x)
+
     go : (b : Bool) → cond b (find id_cmp id t.records) None ≡ Some n → find id_cmp id t.records ≡ Some n
     go true e = e
     go false e = absurd cc
@@ -108,7 +111,7 @@ noted_push lo hi log r acknowledged ok id n found =
     let noted = note s.table r.id new.answer new.index in
     let e : find id_cmp id (acknowledge noted r.id.client acknowledged).records ≡ Some n
     = subst (λ (x : LogState). find id_cmp id x.table.records ≡ Some n) (meaning_append lo hi log (Op r acknowledged ∷ [])) found in
-    let f = kept_found (record noted { firsts = raise_first noted.firsts r.id.client acknowledged }) id n e in
+    let f = kept_found noted r.id.client acknowledged id n e in
     elim (noted_found s.table id r.id new n f) [
       | inl own ↦ subst (NotedAt lo hi (log ++ Op r acknowledged ∷ []) id) own.1 (record {
         request = r;

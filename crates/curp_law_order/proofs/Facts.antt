@@ -12,6 +12,7 @@ use Rattle.curp_cmd.specs.declared.command.RequestId.{RequestId}
 use Rattle.curp_cmd.specs.declared.entry.Entry.{Entry}
 use Rattle.curp_cmd.specs.declared.entry.Entry.TheVariants.{Op}
 use Rattle.curp_cmd.specs.declared.node.NodeId.{NodeId}
+use Rattle.curp_cmd.specs.declared.node.NodeKind.{NodeKind}
 use Rattle.curp_cmd.specs.declared.node.NodeKind.TheVariants as kind
 use Rattle.curp_msg.specs.declared.answer.AppendAnswer.{AppendAnswer}
 use Rattle.curp_msg.specs.declared.answer.AppendAnswer.TheVariants.{Stored}
@@ -27,21 +28,21 @@ use Rattle.curp_msg.specs.declared.message.Message.{Message}
 use Rattle.curp_order.specs.Order.{IsHistory}
 use Rattle.curp_order.specs.declared.Event.{Event}
 use Rattle.curp_order.specs.declared.Event.TheVariants.{Invoke, Complete}
-use Rattle.curp_script.specs.declared.script.Header.{Header}
+use Rattle.curp_msg.specs.declared.script.Header.{Header}
 use Rattle.curp_model.specs.Backup.{BackupState}
 use Rattle.curp_model.specs.Client.{Accept, Attempt, ClientState, Early, Pending}
 use Rattle.curp_model.specs.Log.{IsDone, answer_after, meaning}
-use Rattle.curp_model.specs.Manager.{opening_config, opening_manager, opening_part}
+use Rattle.curp_model.specs.Manager.{ManagerState, opening_config, opening_manager, opening_part}
 use Rattle.curp_model.specs.Marks.{Mark}
 use Rattle.curp_model.specs.Master.{MasterState, from_backup}
-use Rattle.curp_model.specs.Moved.{backup_node, client_node, master_node}
+use Rattle.curp_cmd.specs.Node.{backup_node, client_node, master_node}
 use Rattle.curp_model.specs.Ranges.{opening_range}
-use Rattle.curp_model.specs.Recovery.{Serving}
+use Rattle.curp_model.specs.Recovery.{MasterStage, Serving}
 use Rattle.curp_model.specs.Table.{Noted}
-use Rattle.curp_model.specs.Witness.{WitnessState, holds}
+use Rattle.curp_model.specs.Witness.{HeldRequest, WitnessState, holds}
 use Rattle.curp_model.specs.World.{World, messages, shape_of}
-use Rattle.curp_law_order.specs.Marked.{marks_of}
-use Rattle.curp_law_order.specs.Shape.{ServesAsOpened}
+use Rattle.curp_model.specs.Marked.{marks_of}
+use Rattle.curp_model.specs.Shape.{ServesAsOpened}
 
 -- what the facts speak of: a world with one serving master
 pub record Scene : Type 0 where
@@ -82,35 +83,53 @@ IsOnEach backups index = (n : ℕ) (b : BackupState) → numbered backups n ≡ 
 abbrev pub IsHeldBy : List WitnessState → RequestId → NodeId → Type 0
 IsHeldBy witnesses id node = (x : WitnessState) → numbered witnesses node.number ≡ Some x → holds x id ≡ true
 
+-- a node of the opening, by its kind and its number
+abbrev pub IsNumbered : Header → NodeKind → ℕ → Type 0
+IsNumbered h kind.Manager n = n ≡ 0
+IsNumbered h kind.Client n = (1 ≤ n) × (n ≤ h.clients)
+IsNumbered h kind.Master n = n ≡ 1
+IsNumbered h kind.Backup n = (1 ≤ n) × (n ≤ h.f)
+IsNumbered h kind.Witness n = (1 ≤ n) × (n ≤ h.f)
+
+abbrev pub IsNamed : Header → NodeId → Type 0
+IsNamed h node = IsNumbered h node.kind node.number
+
 -- ---- what a message says
 
 -- a request that was invoked, and goes to the master
 pub record AskOk (s : Scene) (to : NodeId) (ask : Ask) : Type 0 where
   pub asked : Asked s.history ask.request.id ask.request.command
   pub addressed : to ≡ master_node 1
+  pub epoch : ask.epoch ≡ 1
+  pub version : ask.version ≡ 1
 
 -- a request that was invoked, from its client to a witness
 pub record RecordOk (s : Scene) (from to : NodeId) (r : Record) : Type 0 where
   pub asked : Asked s.history r.request.id r.request.command
   pub sender : from ≡ client_node r.request.id.client
   pub addressed : to.kind ≡ kind.Witness
+  pub epoch : r.epoch ≡ 1
 
 -- the request stands in the log with that answer, and where the reply is synced, each backup reaches beyond it
 pub record ReplyOk (h : Header) (s : Scene) (to : NodeId) (r : Reply) : Type 0 where
   pub addressed : to ≡ client_node r.id.client
   pub done : Done h s.master.log r.id r.answer
   pub stored : r.synced ≡ true → IsOnEach s.backups done.index
+  pub epoch : r.epoch ≡ 1
+  pub version : r.version ≡ 1
 
 -- the witness that says so holds the request
 pub record AcceptedOk (s : Scene) (from to : NodeId) (a : Accepted) : Type 0 where
   pub addressed : to ≡ client_node a.id.client
   pub held : IsHeldBy s.witnesses a.id from
+  pub epoch : a.epoch ≡ 1
 
 -- the entries stand in the master's log from the base on
 pub record AppendOk (s : Scene) (from to : NodeId) (a : Append) : Type 0 where
   pub sender : from ≡ master_node 1
   pub addressed : to.kind ≡ kind.Backup
   pub part : IsPrefix a.entries (drop a.base s.master.log)
+  pub epoch : a.epoch ≡ 1
 
 -- the backup of that number is that long
 abbrev pub IsLong : List BackupState → ℕ → ℕ → Type 0
@@ -125,6 +144,7 @@ AnswerOk backups n _ = ⊤
 pub record AppendedOk (s : Scene) (from to : NodeId) (a : Appended) : Type 0 where
   pub addressed : to ≡ master_node 1
   pub long : AnswerOk s.backups from.number a.answer
+  pub epoch : a.epoch ≡ 1
 
 -- what each message says. One without a case is never sent
 abbrev pub BodyOk : Header → Scene → NodeId → NodeId → Body → Type 0
@@ -134,13 +154,16 @@ BodyOk h s from to (body.Record r) = RecordOk s from to r
 BodyOk h s from to (body.Reply r) = ReplyOk h s to r
 BodyOk h s from to (body.Refuse r) = to ≡ client_node r.id.client
 BodyOk h s from to (body.Accepted a) = AcceptedOk s from to a
-BodyOk h s from to (body.Rejected r) = to.kind ≡ kind.Client
+BodyOk h s from to (body.Rejected r) = to ≡ client_node r.id.client
 BodyOk h s from to (body.Append a) = AppendOk s from to a
 BodyOk h s from to (body.Appended a) = AppendedOk s from to a
 BodyOk h s from to _ = ⊥
 
-abbrev pub MessageOk : Header → Scene → Message → Type 0
-MessageOk h s m = BodyOk h s m.from m.to m.body
+-- and it goes from one node to another
+pub record MessageOk (h : Header) (s : Scene) (m : Message) : Type 0 where
+  pub sender : IsNamed h m.from
+  pub addressee : IsNamed h m.to
+  pub says_so : BodyOk h s m.from m.to m.body
 
 -- ---- what holds of the log
 
@@ -174,9 +197,18 @@ pub record BackupOk (m : MasterState) (n : ℕ) (b : BackupState) : Type 0 where
   pub front : IsPrefix b.log m.log
   pub known : (from_backup m.acknowledged (backup_node n)).length ≤ length b.log
 
+-- what is held was invoked with its command
+abbrev pub HeldFor : (RequestId → Command → Type 0) → HeldRequest → Type 0
+HeldFor WasAsked x = WasAsked x.request.id x.request.command
+
+abbrev pub WitnessOk : List Event → WitnessState → Type 0
+WitnessOk events x = Each (HeldFor (Asked events)) x.held
+
 -- a sending went to the nodes of the opening
 pub record AttemptOk (h : Header) (a : Attempt) : Type 0 where
   pub its_master : a.master ≡ master_node 1
+  pub its_epoch : a.epoch ≡ 1
+  pub its_version : a.version ≡ 1
   pub its_witnesses : a.witnesses ≡ watchers h
 
 -- a pending request was invoked by its client, and its evidence is right
@@ -227,6 +259,7 @@ pub record StateOk (h : Header) (s : Scene) : Type 0 where
   pub serves : ServesAsOpened h s.master
   pub log : LogOk h s.history s.master.log
   pub backups : (n : ℕ) (b : BackupState) → numbered s.backups n ≡ Some b → BackupOk s.master n b
+  pub witnesses : (n : ℕ) (x : WitnessState) → numbered s.witnesses n ≡ Some x → WitnessOk s.history x
   pub clients : (n : ℕ) (c : ClientState) → numbered s.clients n ≡ Some c → ClientOk h s n c
   pub know : ClientsKnow s.clients s.history
   pub wait : ClientsWait s.clients s.history
@@ -251,10 +284,17 @@ scene_of w m = record {
   marks = w.marks;
 }
 
+-- one master serves, and the rest is as at opening
+pub record Outline (h : Header) (manager : ManagerState) (masters : List MasterStage) (sets ways : ℕ) (master : MasterState) : Type 0 where
+  pub serves : masters ≡ Serving master ∷ []
+  pub manager_is : manager ≡ opening_manager (shape_of h)
+  pub sets_are : sets ≡ h.sets
+  pub ways_are : ways ≡ h.ways
+
+abbrev pub HasOutline : Header → World → MasterState → Type 0
+HasOutline h w master = Outline h w.manager w.masters w.sets w.ways master
+
 pub record Inv (h : Header) (w : World) : Type 0 where
   pub master : MasterState
-  pub serves : w.masters ≡ Serving master ∷ []
-  pub manager : w.manager ≡ opening_manager (shape_of h)
-  pub sets : w.sets ≡ h.sets
-  pub ways : w.ways ≡ h.ways
+  pub outline : HasOutline h w master
   pub facts : Facts h (scene_of w master)

@@ -21,13 +21,13 @@ use Rattle.curp_msg.specs.declared.body.Record.{Record}
 use Rattle.curp_msg.specs.declared.body.Reply.{Reply}
 use Rattle.curp_msg.specs.declared.message.Message.{Message}
 use Rattle.curp_order.specs.declared.Event.{Event}
-use Rattle.curp_script.specs.declared.script.Header.{Header}
+use Rattle.curp_msg.specs.declared.script.Header.{Header}
 use Rattle.curp_model.specs.Backup.{BackupState}
 use Rattle.curp_model.specs.Client.{Accept, ClientState, Early, Pending}
 use Rattle.curp_model.specs.Log.{IsDone, answer_after}
-use Rattle.curp_model.specs.Witness.{WitnessState, holds}
+use Rattle.curp_model.specs.Witness.{HeldRequest, WitnessState, holds}
 use Rattle.curp_law_order.proofs.Numbered.{numbered_set_cases}
-use Rattle.curp_law_order.proofs.Facts.{Scene, Asked, Done, IsOnEach, IsHeldBy, watchers, AskOk, RecordOk, ReplyOk, AcceptedOk, AppendOk, AnswerOk, AppendedOk, BodyOk, MessageOk, PendingOk, ClientOk, CompletedOk}
+use Rattle.curp_law_order.proofs.Facts.{Scene, Asked, Done, IsOnEach, IsHeldBy, watchers, AskOk, RecordOk, ReplyOk, AcceptedOk, AppendOk, AnswerOk, AppendedOk, BodyOk, MessageOk, HeldFor, WitnessOk, PendingOk, ClientOk, CompletedOk}
 
 -- no backup takes anything back
 abbrev pub BackupsGrow : List BackupState → List BackupState → Type 0
@@ -71,6 +71,9 @@ one_witness xs n x z here p k y h = elim (numbered_set_cases xs n x z here k y h
 pub asked_grows : {h k : List Event} → IsPrefix h k → (id : RequestId) (c : Command) → Asked h id c → Asked k id c
 asked_grows p id c a = (a.0, prefix_at p a.0 _ a.1)
 
+pub witness_grows : {h k : List Event} → IsPrefix h k → (x : WitnessState) → WitnessOk h x → WitnessOk k x
+witness_grows {h} {k} p x ok = Each-weaker (HeldFor (Asked h)) (HeldFor (Asked k)) (λ (y : HeldRequest). asked_grows p y.request.id y.request.command) x.held ok
+
 -- a longer log begins the same
 pub take_grows : {xs ys : List Entry} → IsPrefix xs ys → (k : ℕ) → k ≤ length xs → take k xs ≡ take k ys
 take_grows {xs} {ys} p k low = sym (take-append-le k xs p.rest low) ∙ ap (take k) p.is
@@ -97,30 +100,32 @@ module _ {s t : Scene} (g : Grows s t) where
   held_grows id node held y here = let x = g.witnesses node.number y here in x.2 id (held x.0 x.1)
 
   ask_grows : (to : NodeId) (ask : Ask) → AskOk s to ask → AskOk t to ask
-  ask_grows to ask ok = record { asked = asked_grows g.history ask.request.id ask.request.command ok.asked; addressed = ok.addressed }
+  ask_grows to ask ok = record { asked = asked_grows g.history ask.request.id ask.request.command ok.asked; addressed = ok.addressed; epoch = ok.epoch; version = ok.version }
 
   record_grows : (from to : NodeId) (r : Record) → RecordOk s from to r → RecordOk t from to r
-  record_grows from to r ok = record { asked = asked_grows g.history r.request.id r.request.command ok.asked; sender = ok.sender; addressed = ok.addressed }
+  record_grows from to r ok = record { asked = asked_grows g.history r.request.id r.request.command ok.asked; sender = ok.sender; addressed = ok.addressed; epoch = ok.epoch }
 
   reply_grows : (h : Header) (to : NodeId) (r : Reply) → ReplyOk h s to r → ReplyOk h t to r
   reply_grows h to r ok = record {
     addressed = ok.addressed;
     done = done_grows g.log ok.done;
     stored = λ synced. on_each_grows ok.done.index (ok.stored synced);
+    epoch = ok.epoch;
+    version = ok.version;
   }
 
   accepted_grows : (from to : NodeId) (a : Accepted) → AcceptedOk s from to a → AcceptedOk t from to a
-  accepted_grows from to a ok = record { addressed = ok.addressed; held = held_grows a.id from ok.held }
+  accepted_grows from to a ok = record { addressed = ok.addressed; held = held_grows a.id from ok.held; epoch = ok.epoch }
 
   append_grows : (from to : NodeId) (a : Append) → AppendOk s from to a → AppendOk t from to a
-  append_grows from to a ok = record { sender = ok.sender; addressed = ok.addressed; part = prefix_trans ok.part (prefix_drop a.base g.log) }
+  append_grows from to a ok = record { sender = ok.sender; addressed = ok.addressed; part = prefix_trans ok.part (prefix_drop a.base g.log); epoch = ok.epoch }
 
   answer_grows : (n : ℕ) (answer : AppendAnswer) → AnswerOk s.backups n answer → AnswerOk t.backups n answer
   answer_grows n (Stored long) ok = λ c here. let b = g.backups n c here in omega (arith, ok b.0 b.1, prefix_length b.2)
   answer_grows n _ ok = tt
 
   appended_grows : (from to : NodeId) (a : Appended) → AppendedOk s from to a → AppendedOk t from to a
-  appended_grows from to a ok = record { addressed = ok.addressed; long = answer_grows from.number a.answer ok.long }
+  appended_grows from to a ok = record { addressed = ok.addressed; long = answer_grows from.number a.answer ok.long; epoch = ok.epoch }
 
   body_grows : (h : Header) (from to : NodeId) (b : Body) → BodyOk h s from to b → BodyOk h t from to b
   body_grows h from to (body.Update ask) ok = ask_grows to ask ok
@@ -135,7 +140,7 @@ module _ {s t : Scene} (g : Grows s t) where
   body_grows h from to _ ok = absurd ok
 
   pub said_grows : (h : Header) (sent : List Message) → Each (MessageOk h s) sent → Each (MessageOk h t) sent
-  said_grows h sent ok = Each-weaker (MessageOk h s) (MessageOk h t) (λ (m : Message). body_grows h m.from m.to m.body) sent ok
+  said_grows h sent ok = Each-weaker (MessageOk h s) (MessageOk h t) (λ (m : Message) said. record { sender = said.sender; addressee = said.addressee; says_so = body_grows h m.from m.to m.body said.says_so }) sent ok
 
   -- what was said, and what is said now
   pub said_on : (h : Header) (sent out : List Message) → Each (MessageOk h s) sent → Each (MessageOk h t) out → Each (MessageOk h t) (sent ++ out)

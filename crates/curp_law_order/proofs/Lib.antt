@@ -1,4 +1,3 @@
-pub mod Names
 pub mod Numbered
 pub mod Facts
 pub mod Growing

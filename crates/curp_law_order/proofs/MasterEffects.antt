@@ -1,13 +1,14 @@
 -- Each input of the master has its effect.
-use Rattle.std.proofs.Common.{◌≡◌, inl, inr, ℕ, zero, suc, ◌+◌, ◌-◌, ◌<◌, ◌≤◌, ◌==◌, ◌^◌, ◌&&◌, max, Bool, true, false, cond, not, nat_lt, List, [], ◌∷◌, ◌++◌, length, take, drop, map, Option, Some, slice_get, refl, ap, sym, ◌∙◌, subst, arith}
+use Rattle.std.proofs.Common.{◌≡◌, inl, inr, ℕ, zero, suc, ◌+◌, ◌-◌, ◌<◌, ◌≤◌, ◌||◌, max, Bool, true, false, cond, not, nat_lt, List, [], ◌∷◌, ◌++◌, length, take, drop, map, Option, Some, option_map, slice_get, refl, ap, sym, ◌∙◌, subst, arith}
 use Rattle.std.specs.Bool.{⊤}
 use Rattle.std.specs.List.{filter, flat_map}
 use Rattle.std.specs.FinMap.Entries.{find}
 use Rattle.std.proofs.Math.Seq.{take-append_seam}
 use Rattle.std.proofs.lemmas.Bool.{cond_both}
 use Rattle.std.proofs.lemmas.Bool.Decides.{nat_tests}
-use Rattle.curp_base.specs.Words.{At, Each}
-use Rattle.curp_base.proofs.Lists.{at_take, at_drop, at_push, prefix_self, Each-append, Each-at, Each-from_at, Each-map}
+use Rattle.curp_base.specs.Cases.{first_case, only_if}
+use Rattle.curp_base.specs.Words.{At, Each, rises_past}
+use Rattle.curp_base.proofs.Lists.{at_take, at_drop, at_push, prefix_self, Each-append, Each-at, Each-from_at, Each-map, Each-weaker}
 use Rattle.curp_cmd.specs.RequestId.{id_cmp}
 use Rattle.curp_cmd.specs.declared.command.Answer.{Answer}
 use Rattle.curp_cmd.specs.declared.command.Command.{Command}
@@ -20,24 +21,24 @@ use Rattle.curp_cmd.specs.declared.node.NodeKind.TheVariants as kind
 use Rattle.curp_msg.specs.declared.answer.AppendAnswer.{AppendAnswer}
 use Rattle.curp_msg.specs.declared.answer.AppendAnswer.TheVariants.{Stored}
 use Rattle.curp_msg.specs.declared.answer.Refusal.{Refusal}
+use Rattle.curp_msg.specs.declared.answer.Refusal.TheVariants as refusal
 use Rattle.curp_msg.specs.declared.body.Ask.{Ask}
 use Rattle.curp_msg.specs.declared.body.Body.{Body}
 use Rattle.curp_msg.specs.declared.body.Body.TheVariants as body
 use Rattle.curp_msg.specs.declared.machine.Local.TheVariants as local
 use Rattle.curp_msg.specs.declared.message.Message.{Message}
-use Rattle.curp_script.specs.declared.script.Header.{Header}
+use Rattle.curp_msg.specs.declared.script.Header.{Header}
 use Rattle.curp_model.specs.declared.Check.{Check}
 use Rattle.curp_model.specs.declared.Check.TheVariants.{Expired, Stale, Known, New}
 use Rattle.curp_model.specs.Log.{LogState, answer_after, meaning}
-use Rattle.curp_model.specs.Master.{MasterState, Acknowledged, Captured, Queued, Wish, AtOnce, WhenSynced, Phase, again, answers_with, append_to, appends, begins_round, between, checked, fresh_backups, from_backup, goes_on, has, if_it_counts, is_among, is_clean, is_ready, is_serving, known_at, moved_entry, next_round, on_appended, on_serving, on_stored, on_update, pushed_new, raised, reacts, same_node, serving_ordered, settle, state_of, stored_on, sync_in, synced, synced_reply, synced_replies, value_of}
-use Rattle.curp_model.specs.Moved.{Moved, backup_node, quiet, sends}
-use Rattle.curp_model.specs.Ranges.{owns_all}
-use Rattle.curp_model.specs.Requests.{hashes}
+use Rattle.curp_model.specs.Master.{MasterState, Acknowledged, Captured, Queued, Wish, AtOnce, WhenSynced, Verdict, Deny, Tell, TellAgain, HoldBack, Execute, Phase, answers_with, append_to, appends, begins_round, between, by_check, by_message, carries_out, executes, fresh_backups, from_backup, goes_on, has, is_clean, is_idle_op, is_ready, known_again, known_at, last_round, moved_entry, next_round, on_appended, on_serving, on_stored, on_update, raised, reply, serving_ordered, settle, state_of, stored_on, sync_in, synced, synced_reply, synced_replies, unless_it_ends, value_of, verdict}
+use Rattle.curp_cmd.specs.Node.{is_among, same_node, backup_node}
+use Rattle.curp_msg.specs.Moved.{Moved, quiet, sends}
 use Rattle.curp_model.specs.Table.{check}
-use Rattle.curp_law_order.specs.Shape.{ServesAsOpened}
-use Rattle.curp_law_order.proofs.Names.{same_node-true}
-use Rattle.curp_law_order.proofs.Numbered.{filter_at}
-use Rattle.curp_law_order.proofs.Facts.{Done, IsOp, NotedAt, NotedOk, first_hash, last_hash}
+use Rattle.curp_model.specs.Shape.{ServesAsOpened}
+use Rattle.curp_cmd.proofs.Nodes.{same_node-true}
+use Rattle.curp_law_order.proofs.Numbered.{filter_at, named_each}
+use Rattle.curp_law_order.proofs.Facts.{Done, IsNamed, IsOp, NotedAt, NotedOk, first_hash, last_hash}
 use Rattle.curp_law_order.proofs.Entries.{check_known}
 use Rattle.curp_law_order.proofs.Effects.{Says, LogMove, AcksMove, MasterEffect}
 
@@ -77,19 +78,21 @@ serving_with h m s log acknowledged settled round captures captured held free qu
   captures = none;
 }
 
-abbrev IsBackupName : NodeId → Type 0
-IsBackupName node = node.kind ≡ kind.Backup
+record IsBackupName (h : Header) (node : NodeId) : Type 0 where
+  its_kind : node.kind ≡ kind.Backup
+  named : IsNamed h node
 
-stored_on_backups : (h : Header) (m : MasterState) → ServesAsOpened h m → Each IsBackupName (stored_on m)
+stored_on_backups : (h : Header) (m : MasterState) → ServesAsOpened h m → Each (IsBackupName h) (stored_on m)
 stored_on_backups h m s =
-    Each-append IsBackupName m.backups (fresh_backups m.phase m.backups)
-    (subst (Each IsBackupName) (sym s.backups) (Each-map IsBackupName backup_node _ (Each-from_at (λ (n : ℕ). IsBackupName (backup_node n)) _ (λ k x at. refl))))
-    (subst (λ (p : Phase). Each IsBackupName (fresh_backups p m.backups)) (sym s.phase) tt)
+    Each-append (IsBackupName h) m.backups (fresh_backups m.phase m.backups)
+    (subst (Each (IsBackupName h)) (sym s.backups) (named_each (IsBackupName h) backup_node h.f (λ n low high. record { its_kind = refl; named = (low, high) })))
+    (subst (λ (p : Phase). Each (IsBackupName h) (fresh_backups p m.backups)) (sym s.phase) tt)
 
-appends_say : (h : Header) (m : MasterState) (limit : ℕ) → ServesAsOpened h m → Each (Says h m.log limit) (appends 1 m)
-appends_say h m limit s =
-    Each-map (Says h m.log limit) (append_to 1 m) (stored_on m) (Each-from_at (λ (b : NodeId). Says h m.log limit (append_to 1 m b)) (stored_on m)
-    (λ k b at. record { sender = refl; addressed = Each-at IsBackupName (stored_on m) (stored_on_backups h m s) k b at; part = prefix_self _ }))
+appends_say : (Asked : RequestId → Command → Type 0) (h : Header) (m : MasterState) (limit : ℕ) → ServesAsOpened h m → Each (Says Asked h m.log limit) (appends 1 m)
+appends_say Asked h m limit s =
+    Each-map (Says Asked h m.log limit) (append_to 1 m) (stored_on m)
+    (Each-weaker (IsBackupName h) (λ (b : NodeId). Says Asked h m.log limit (append_to 1 m b))
+    (λ b name. record { sender = refl; says_so = (record { addressed = name.its_kind; part = prefix_self _; epoch = s.epoch }, name.named) }) (stored_on m) (stored_on_backups h m s))
 
 none_moved : (P : Message → Type 0) (es : List Entry) → Each IsOp es → Each P (flat_map (moved_entry 1) es)
 none_moved P [] ops = tt
@@ -122,22 +125,25 @@ module _ (h : Header) (Asked : RequestId → Command → Type 0) (Told : NodeId 
   same_acks : AcksMove Told m.acknowledged m.acknowledged
   same_acks node limit low told = low
 
-  moves : (n : MasterState) (messages : List Message) → ServesAsOpened h n → LogMove Asked h m.log n.log → AcksMove Told m.acknowledged n.acknowledged → Each (Says h n.log (synced n)) messages → Effect (sends n messages)
-  moves n messages s log acks says = record { quiet = refl; accepted = refl; serves = s; log = log; acks = acks; says = says }
+  moves : (n : MasterState) (messages : List Message) → ServesAsOpened h n → LogMove Asked h m.log n.log → AcksMove Told m.acknowledged n.acknowledged → Each (Says Asked h n.log (synced n)) messages → Effect (sends n messages)
+  moves n messages s log acks says = record { quiet = refl; serves = s; log = log; acks = acks; says = says }
 
   -- the log and what is acknowledged stay
-  says_only : (messages : List Message) → Each (Says h m.log (synced m)) messages → Effect (sends m messages)
+  says_only : (messages : List Message) → Each (Says Asked h m.log (synced m)) messages → Effect (sends m messages)
   says_only messages says = moves m messages serves (inl refl) same_acks says
 
   rests : Effect (quiet m)
   rests = says_only [] tt
 
-  refuses : (id : RequestId) (why : Refusal) → Effect (answers_with 1 m id why)
-  refuses id why = says_only _ (refl, tt)
+  refuses : (id : RequestId) (c : Command) → Asked id c → (why : Refusal) → Effect (answers_with 1 m id why)
+  refuses id c asked why = says_only _ (record { sender = refl; says_so = record { addressed = refl; command = c; asked = asked } }, tt)
+
+  replies : (is_synced : Bool) (id : RequestId) (a : Answer) → (done : Done h m.log id a) → (is_synced ≡ true → done.index < synced m) → Effect (sends m (reply 1 m is_synced id a ∷ []))
+  replies is_synced id a done durable = says_only _ (record { sender = refl; says_so = record { addressed = refl; done = done; durable = durable; epoch = serves.epoch; version = serves.version } }, tt)
 
   -- a round begins
   begins : (n : MasterState) → ServesAsOpened h (next_round n) → LogMove Asked h m.log n.log → AcksMove Told m.acknowledged n.acknowledged → Effect (begins_round 1 n)
-  begins n s log acks = moves (next_round n) (appends 1 (next_round n)) s log acks (appends_say h (next_round n) (synced (next_round n)) s)
+  begins n s log acks = moves (next_round n) (appends 1 (next_round n)) s log acks (appends_say Asked h (next_round n) (synced (next_round n)) s)
 
   state_is : state_of m ≡ meaning (first_hash h) (last_hash h) m.log
   state_is i = meaning (serves.lo i) (serves.hi i) m.log
@@ -163,21 +169,42 @@ module _ (h : Header) (Asked : RequestId → Command → Type 0) (Told : NodeId 
     its_answer = (known_stands id a index e).its_answer;
   }
 
-  again_effect : (wish : Wish) (id : RequestId) (a : Answer) (index : ℕ) → check (state_of m).table id ≡ Known a index → Effect (again 1 m wish id a index)
-  again_effect AtOnce id a index e =
-      cond_both (has index m.free) _ _ Effect (λ y. says_only _ (record { addressed = refl; done = known_done id a index e; durable = λ t. absurd cc }, tt)) (λ n. holds _)
-  again_effect WhenSynced id a index e = holds _
+  -- ---- what a verdict rests on
 
-  known_at_effect : (wish : Wish) (id : RequestId) (a : Answer) (index : ℕ) → check (state_of m).table id ≡ Known a index → (o : Option Entry) → Effect (known_at 1 m wish id a index o)
-  known_at_effect wish id a index e (Some (Op r acknowledged)) =
-      cond_both (has index m.held) _ _ Effect (λ y. refuses id _) (λ n. again_effect wish id a index e)
-  known_at_effect wish id a index e _ = refuses id _
+  abbrev Rests : RequestId → Verdict → Type 0
+  Rests id (Tell a) = (index : ℕ) × (check (state_of m).table id ≡ Known a index) × (index < synced m)
+  Rests id (TellAgain a) = (index : ℕ) × (check (state_of m).table id ≡ Known a index)
+  Rests id Execute = check (state_of m).table id ≡ New
+  Rests id _ = ⊤
 
-  known_effect : (wish : Wish) (ask : Ask) (a : Answer) (index : ℕ) → check (state_of m).table ask.request.id ≡ Known a index → Effect (checked 1 m wish ask (Known a index))
-  known_effect wish ask a index e =
-      cond_both (nat_lt index (synced m)) _ _ Effect
-      (λ y. says_only _ (record { addressed = refl; done = known_done ask.request.id a index e; durable = λ t. grind (arith, nat_tests) }, tt))
-      (λ n. known_at_effect wish ask.request.id a index e (slice_get m.log index))
+  again_rests : (wish : Wish) (id : RequestId) (a : Answer) (index : ℕ) → check (state_of m).table id ≡ Known a index → Rests id (known_again m wish a index)
+  again_rests AtOnce id a index e = cond_both (has index m.free) _ _ (Rests id) (λ y. (index, e)) (λ n. tt)
+  again_rests WhenSynced id a index e = tt
+
+  known_rests : (wish : Wish) (id : RequestId) (a : Answer) (index : ℕ) → check (state_of m).table id ≡ Known a index → Rests id (known_at m wish a index)
+  known_rests wish id a index e =
+      cond_both (nat_lt index (synced m)) _ _ (Rests id) (λ y. (index, e, grind (arith, nat_tests)))
+      (λ n. cond_both (is_idle_op m index (slice_get m.log index)) _ _ (Rests id) (λ y. again_rests wish id a index e) (λ n. tt))
+
+  verdict_rests : (wish : Wish) (ask : Ask) → Rests ask.request.id (verdict m wish ask)
+  verdict_rests wish ask = go _ _ (check (state_of m).table ask.request.id) refl _ _
+    where
+      go : (by_epoch by_phase : Bool) (c : Check) → check (state_of m).table ask.request.id ≡ c → (by_version by_owner : Bool)
+          → Rests ask.request.id (first_case (
+          option_map Deny (only_if by_epoch (refusal.Epoch m.epoch))
+          ∷ option_map Deny (only_if by_phase refusal.Switching)
+          ∷ by_check m wish c
+          ∷ option_map Deny (only_if by_version (refusal.Version m.version))
+          ∷ option_map Deny (only_if by_owner refusal.NotOwner)
+          ∷ []) Execute)
+      go true _ _ is _ _ = tt
+      go false true _ is _ _ = tt
+      go false false Expired is _ _ = tt
+      go false false (Stale first) is _ _ = tt
+      go false false (Known a index) is _ _ = known_rests wish ask.request.id a index is
+      go false false New is true _ = tt
+      go false false New is false true = tt
+      go false false New is false false = is
 
   -- ---- a new request
 
@@ -206,45 +233,44 @@ module _ (h : Header) (Asked : RequestId → Command → Type 0) (Told : NodeId 
         take-all [] = refl
         take-all (x ∷ xs) = ap (λ (l : List Entry). x ∷ l) (take-all xs)
 
-    pushed_effect : (wish : Wish) (clean : Bool) → Effect (pushed_new 1 m wish r clean)
-    pushed_effect AtOnce true =
+    executed_effect : (wish : Wish) (clean : Bool) → Effect (executes 1 m wish r clean)
+    executed_effect AtOnce true =
         moves _ _ (serves_on _ _ _ _) is_pushed same_acks (
           record {
-            addressed = refl;
-            done = record {
-              index = length m.log;
-              request = r;
-              acknowledged = r.first;
-              stands = at_push m.log (Op r r.first) (length m.log) refl;
-              its_id = refl;
-              its_answer = own_answer;
+            sender = refl;
+            says_so = record {
+              addressed = refl;
+              done = record {
+                index = length m.log;
+                request = r;
+                acknowledged = r.first;
+                stands = at_push m.log (Op r r.first) (length m.log) refl;
+                its_id = refl;
+                its_answer = own_answer;
+              };
+              durable = λ t. absurd cc;
+              epoch = serves.epoch;
+              version = serves.version;
             };
-            durable = λ t. absurd cc;
           },
           tt,
         )
-    pushed_effect AtOnce false = begins _ (serves_on _ _ _ _) is_pushed same_acks
-    pushed_effect WhenSynced true = begins _ (serves_on _ _ _ _) is_pushed same_acks
-    pushed_effect WhenSynced false = begins _ (serves_on _ _ _ _) is_pushed same_acks
+    executed_effect AtOnce false = begins _ (serves_on _ _ _ _) is_pushed same_acks
+    executed_effect WhenSynced true = begins _ (serves_on _ _ _ _) is_pushed same_acks
+    executed_effect WhenSynced false = begins _ (serves_on _ _ _ _) is_pushed same_acks
 
-  new_effect : (wish : Wish) (ask : Ask) → Asked ask.request.id ask.request.command → check (state_of m).table ask.request.id ≡ New → Effect (checked 1 m wish ask New)
-  new_effect wish ask asked new =
-      cond_both (not (ask.version == m.version)) _ _ Effect (λ y. refuses ask.request.id _)
-      (λ n. cond_both (not (owns_all (state_of m).owned (hashes ask.request.command))) _ _ Effect (λ y. refuses ask.request.id _)
-      (λ n. pushed_effect ask.request asked new wish (is_clean m ask.request.command)))
+  -- ---- an update
 
-  checked_effect : (wish : Wish) (ask : Ask) → Asked ask.request.id ask.request.command → (c : Check) → check (state_of m).table ask.request.id ≡ c → Effect (checked 1 m wish ask c)
-  checked_effect wish ask asked Expired e = refuses ask.request.id _
-  checked_effect wish ask asked (Stale first) e = refuses ask.request.id _
-  checked_effect wish ask asked (Known a index) e = known_effect wish ask a index e
-  checked_effect wish ask asked New e = new_effect wish ask asked e
+  carried_out_effect : (wish : Wish) (r : Request) → Asked r.id r.command → (v : Verdict) → Rests r.id v → Effect (carries_out 1 m wish r v)
+  carried_out_effect wish r asked (Deny why) rests = refuses r.id r.command asked why
+  carried_out_effect wish r asked (Tell a) rests = replies true r.id a (known_done r.id a rests.0 rests.1) (λ t. rests.2)
+  carried_out_effect wish r asked (TellAgain a) rests = replies false r.id a (known_done r.id a rests.0 rests.1) (λ t. absurd cc)
+  carried_out_effect wish r asked (HoldBack index) rests = holds _
+  carried_out_effect wish r asked Execute rests = executed_effect r asked rests wish (is_clean m r.command)
 
   update_effect : (wish : Wish) (ask : Ask) → Asked ask.request.id ask.request.command → Effect (on_update 1 m wish ask)
   unfolding on_update
-  update_effect wish ask asked =
-      cond_both (not (ask.epoch == m.epoch)) _ _ Effect (λ y. refuses ask.request.id _)
-      (λ n. cond_both (not (is_serving m.phase)) _ _ Effect (λ y. refuses ask.request.id _)
-      (λ n. checked_effect wish ask asked (check (state_of m).table ask.request.id) refl))
+  update_effect wish ask asked = carried_out_effect wish ask.request asked (verdict m wish ask) (verdict_rests wish ask)
 
   -- ---- an acknowledgement
 
@@ -252,21 +278,26 @@ module _ (h : Header) (Asked : RequestId → Command → Type 0) (Told : NodeId 
     abbrev told : MasterState
     told = record m { acknowledged = acks }
 
-    reply_says : (index : ℕ) → index < synced told → (o : Option Entry) → slice_get m.log index ≡ o → Each (Says h m.log (synced told)) (synced_reply 1 told index o)
+    reply_says : (index : ℕ) → index < synced told → (o : Option Entry) → slice_get m.log index ≡ o → Each (Says Asked h m.log (synced told)) (synced_reply 1 told index o)
     reply_says index low (Some (Op r acknowledged)) e = (
       record {
-        addressed = refl;
-        done = record { index = index; request = r; acknowledged = acknowledged; stands = e; its_id = refl; its_answer = λ i. answer_after (sym serves.lo i) (sym serves.hi i) (take index m.log) r.command };
-        durable = λ t. low;
+        sender = refl;
+        says_so = record {
+          addressed = refl;
+          done = record { index = index; request = r; acknowledged = acknowledged; stands = e; its_id = refl; its_answer = λ i. answer_after (sym serves.lo i) (sym serves.hi i) (take index m.log) r.command };
+          durable = λ t. low;
+          epoch = serves.epoch;
+          version = serves.version;
+        };
       },
       tt,
     )
     reply_says index low _ e = tt
 
-    replies_say : (indexes : List ℕ) → ((k i : ℕ) → At indexes k i → i < synced told) → Each (Says h m.log (synced told)) (synced_replies 1 told indexes)
+    replies_say : (indexes : List ℕ) → ((k i : ℕ) → At indexes k i → i < synced told) → Each (Says Asked h m.log (synced told)) (synced_replies 1 told indexes)
     replies_say [] low = tt
     replies_say (i ∷ indexes) low =
-        Each-append (Says h m.log (synced told)) _ _ (reply_says i (low zero i refl) (slice_get m.log i) refl) (replies_say indexes (λ k j at. low (suc k) j at))
+        Each-append (Says Asked h m.log (synced told)) _ _ (reply_says i (low zero i refl) (slice_get m.log i) refl) (replies_say indexes (λ k j at. low (suc k) j at))
 
     due_low : (k i : ℕ) → At (filter (λ index. nat_lt index (synced told)) m.held) k i → i < synced told
     due_low k i at = let f = filter_at (λ index. nat_lt index (synced told)) m.held k i at in grind (arith, nat_tests, f.2)
@@ -287,9 +318,9 @@ module _ (h : Header) (Asked : RequestId → Command → Type 0) (Told : NodeId 
     unfolding settle
     settle_effect =
         moves _ _ (serving_with h m serves m.log acks (synced told) m.round _ m.captured _ m.free m.queue none_left) (inl refl) rise
-        (Each-append (Says h m.log (synced told)) _ _
-        (Each-append (Says h m.log (synced told)) _ _ (replies_say _ due_low) (subst (λ (cs : List Captured). Each (Says h m.log (synced told)) (map (value_of 1 told) cs)) (sym none_ready) tt))
-        (none_moved (Says h m.log (synced told)) _ between_ops))
+        (Each-append (Says Asked h m.log (synced told)) _ _
+        (Each-append (Says Asked h m.log (synced told)) _ _ (replies_say _ due_low) (subst (λ (cs : List Captured). Each (Says Asked h m.log (synced told)) (map (value_of 1 told) cs)) (sym none_ready) tt))
+        (none_moved (Says Asked h m.log (synced told)) _ between_ops))
 
   stored_effect : (from : NodeId) (long round : ℕ) → Told from long → Effect (on_stored 1 m from long round)
   stored_effect from long round heard =
@@ -306,27 +337,27 @@ module _ (h : Header) (Asked : RequestId → Command → Type 0) (Told : NodeId 
 
   -- ---- inputs
 
-  if_it_counts_effect : (r : Moved MasterState) → Effect r → Effect (if_it_counts m r)
-  if_it_counts_effect r e = cond_both (nat_lt r.state.round (2 ^ 64) && nat_lt r.state.captured (2 ^ 64)) _ _ Effect (λ y. e) (λ n. rests)
+  counted_effect : (r : Moved MasterState) → Effect r → Effect (unless_it_ends m r)
+  counted_effect r e = cond_both (rises_past last_round m.round r.state.round || rises_past last_round m.captured r.state.captured) _ _ Effect (λ y. rests) (λ n. e)
 
-  reacts_effect : (from : NodeId) (b : Body) → Heard Asked Told from b → Effect (reacts 1 m from b)
-  reacts_effect from (body.Update ask) heard = update_effect AtOnce ask heard
-  reacts_effect from (body.Sync ask) heard = update_effect WhenSynced ask heard
-  reacts_effect from (body.Appended a) heard = appended_effect from a.round a.answer heard
-  reacts_effect from (body.Read ask) heard = absurd heard
-  reacts_effect from (body.Collected c) heard = absurd heard
-  reacts_effect from (body.Prepare p) heard = absurd heard
-  reacts_effect from (body.Adopted a) heard = absurd heard
-  reacts_effect from (body.TakeOut t) heard = absurd heard
-  reacts_effect from (body.GiveIn g) heard = absurd heard
-  reacts_effect from (body.ExpireClient client) heard = absurd heard
-  reacts_effect from _ heard = rests
+  message_effect : (from : NodeId) (b : Body) → Heard Asked Told from b → Effect (by_message 1 m from b)
+  message_effect from (body.Update ask) heard = update_effect AtOnce ask heard
+  message_effect from (body.Sync ask) heard = update_effect WhenSynced ask heard
+  message_effect from (body.Appended a) heard = appended_effect from a.round a.answer heard
+  message_effect from (body.Read ask) heard = absurd heard
+  message_effect from (body.Collected c) heard = absurd heard
+  message_effect from (body.Prepare p) heard = absurd heard
+  message_effect from (body.Adopted a) heard = absurd heard
+  message_effect from (body.TakeOut t) heard = absurd heard
+  message_effect from (body.GiveIn g) heard = absurd heard
+  message_effect from (body.ExpireClient client) heard = absurd heard
+  message_effect from _ heard = rests
 
   pub master_effect : (from : NodeId) (b : Body) → Heard Asked Told from b → Effect (on_serving 1 m from b)
   unfolding on_serving
-  master_effect from b heard = if_it_counts_effect (reacts 1 m from b) (reacts_effect from b heard)
+  master_effect from b heard = counted_effect (by_message 1 m from b) (message_effect from b heard)
 
   pub sync_effect : Effect (serving_ordered 1 m local.Sync)
   unfolding serving_ordered
-  sync_effect = if_it_counts_effect (sync_in 1 m m.phase) (subst (λ (p : Phase). Effect (sync_in 1 m p)) (sym serves.phase)
+  sync_effect = counted_effect (sync_in 1 m m.phase) (subst (λ (p : Phase). Effect (sync_in 1 m p)) (sym serves.phase)
       (begins m (serving_with h m serves m.log m.acknowledged m.settled (m.round + 1) m.captures m.captured m.held m.free m.queue serves.captures) (inl refl) same_acks))

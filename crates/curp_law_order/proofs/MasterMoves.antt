@@ -1,39 +1,34 @@
 -- The master's moves keep the facts.
 use Rattle.std.proofs.Common.{◌≡◌, inl, inr, ℕ, zero, suc, ◌+◌, ◌-◌, ◌*◌, ◌<◌, ◌≤◌, false, List, [], ◌∷◌, ◌++◌, length, drop, map, Some, refl, ap, sym, ◌∙◌, subst, arith, append-nil}
-use Rattle.std.specs.List.{flat_map}
 use Rattle.std.proofs.Math.Seq.{drop-append_seam, drop-length}
-use Rattle.curp_base.specs.Words.{At, numbered}
-use Rattle.curp_base.proofs.Lists.{at_map, at_within, prefix_self, prefix_trans, Each-weaker}
+use Rattle.curp_base.specs.Words.{At, IsPrefix, numbered, numbers_from}
+use Rattle.curp_base.proofs.Lists.{at_map, at_within, prefix_trans, Each-weaker}
+use Rattle.curp_cmd.specs.declared.command.Answer.{Answer}
+use Rattle.curp_cmd.specs.declared.command.Command.{Command}
+use Rattle.curp_cmd.specs.declared.command.RequestId.{RequestId}
 use Rattle.curp_cmd.specs.declared.entry.Entry.{Entry}
 use Rattle.curp_cmd.specs.declared.entry.Entry.TheVariants.{Op}
 use Rattle.curp_cmd.specs.declared.node.NodeId.{NodeId}
 use Rattle.curp_msg.specs.declared.body.Body.{Body}
 use Rattle.curp_msg.specs.declared.body.Body.TheVariants as body
 use Rattle.curp_msg.specs.declared.message.Message.{Message}
-use Rattle.curp_script.specs.declared.script.Header.{Header}
+use Rattle.curp_msg.specs.declared.script.Header.{Header}
 use Rattle.curp_model.specs.Backup.{BackupState}
 use Rattle.curp_model.specs.Marks.{Mark, executed}
 use Rattle.curp_model.specs.Master.{MasterState, from_backup, least, synced}
-use Rattle.curp_model.specs.Moved.{Moved, backup_node, master_node}
-use Rattle.curp_model.specs.Witness.{numbers_from}
-use Rattle.curp_model.specs.World.{capture_mark, invoked_command, new_captures, op_marks, pushed_marks}
-use Rattle.curp_law_order.specs.Marked.{is_completed, marks_of}
-use Rattle.curp_law_order.specs.Shape.{ServesAsOpened}
-use Rattle.curp_law_order.proofs.Numbered.{place}
-use Rattle.curp_law_order.proofs.Facts.{Scene, Asked, IsLong, IsOnEach, BodyOk, MessageOk, BackupOk, StateOk, Facts}
-use Rattle.curp_law_order.proofs.Growing.{Grows, same_backups, same_witnesses, client_grows, completed_grows}
+use Rattle.curp_msg.specs.Moved.{Moved}
+use Rattle.curp_cmd.specs.Node.{backup_node, client_node, master_node}
+use Rattle.curp_model.specs.World.{capture_mark, new_captures, op_marks, pushed_marks}
+use Rattle.curp_model.specs.Marked.{is_completed, marks_of}
+use Rattle.curp_model.specs.Shape.{ServesAsOpened}
+use Rattle.curp_law_order.proofs.Numbered.{numbers_at, number_within, place}
+use Rattle.curp_law_order.proofs.Facts.{Scene, Asked, Done, IsLong, IsNamed, IsOnEach, MessageOk, BackupOk, StateOk, Facts}
+use Rattle.curp_law_order.proofs.Growing.{same_backups, same_witnesses}
 use Rattle.curp_law_order.proofs.Marking.{not_completed, marks_push}
 use Rattle.curp_law_order.proofs.Effects.{BodySays, Says, LogMove, MasterEffect}
-use Rattle.curp_law_order.proofs.Moves.{move_keeps, log_grows, not_yet, completed_at, moved_log, moved_in_time}
+use Rattle.curp_law_order.proofs.Moves.{log_grows, not_yet, completed_at, keepers_moved, keepers_keep, moved_log}
 
 -- ---- what is synced, each backup has acknowledged
-
-pub numbers_at : (first count k : ℕ) → k < count → At (numbers_from first count) k (first + k)
-numbers_at first zero k low = absurd (omega arith)
-numbers_at first (suc count) zero low = let e : first ≡ first + 0 = omega arith in ap (λ (n : ℕ). Some n) e
-numbers_at first (suc count) (suc k) low =
-    let e : (first + 1) + k ≡ first + suc k = omega arith in
-    subst (λ (n : ℕ). At (numbers_from (first + 1) count) k n) e (numbers_at (first + 1) count k (omega arith))
 
 least_at : (ns : List ℕ) (k n : ℕ) → At ns k n → least ns ≤ n
 least_at [] k n h = absurd cc
@@ -56,10 +51,10 @@ module _ (h : Header) (s : Scene) (facts : Facts h s) (r : Moved MasterState) (e
 
   -- ---- marks
 
-  pushed_only : pushed_marks (master_node 1) s.history s.master r.state ≡ op_marks (master_node 1) 1 1 (length s.master.log) (drop (length s.master.log) r.state.log)
+  pushed_only : pushed_marks (master_node 1) s.master r.state ≡ op_marks (master_node 1) 1 1 (length s.master.log) (drop (length s.master.log) r.state.log)
   pushed_only =
       (λ i. op_marks (master_node 1) (effect.serves.part i) (effect.serves.epoch i) (length s.master.log) (drop (length s.master.log) r.state.log)
-      ++ flat_map (λ c. capture_mark (master_node 1) r.state.part r.state.epoch c (invoked_command s.history c.id)) (new_captures s.master.captured (effect.serves.captures i)))
+      ++ map (capture_mark (master_node 1) r.state.part r.state.epoch) (new_captures s.master.captured (effect.serves.captures i)))
       ∙ append-nil _
 
   new_marks : LogMove (Asked s.history) h s.master.log r.state.log
@@ -79,46 +74,70 @@ module _ (h : Header) (s : Scene) (facts : Facts h s) (r : Moved MasterState) (e
 
   -- ---- the world after the move
 
-  abbrev pub mastered : Scene
-  mastered = record s { master = r.state; sent = s.sent ++ r.messages; marks = s.marks ++ pushed_marks (master_node 1) s.history s.master r.state }
+  abbrev marks : List Mark
+  marks = s.marks ++ pushed_marks (master_node 1) s.master r.state
 
-  grows : Grows s mastered
-  grows = record {
-    history = prefix_self s.history;
-    log = log_grows (Asked s.history) h s.master.log r.state.log effect.log;
-    backups = same_backups s.backups;
-    witnesses = same_witnesses s.witnesses;
-  }
+  abbrev pub mastered : Scene
+  mastered = keepers_moved s r.state s.backups s.witnesses marks r.messages
+
+  log_longer : IsPrefix s.master.log r.state.log
+  log_longer = log_grows (Asked s.history) h s.master.log r.state.log effect.log
 
   backups_ok : (n : ℕ) (b : BackupState) → numbered s.backups n ≡ Some b → BackupOk r.state n b
   backups_ok n b here =
       let ok = state.backups n b here in
-      record { front = prefix_trans ok.front grows.log; known = effect.acks (backup_node n) (length b.log) ok.known (λ long told. told b here) }
+      record { front = prefix_trans ok.front log_longer; known = effect.acks (backup_node n) (length b.log) ok.known (λ long told. told b here) }
 
   -- what is synced, each backup has
   on_each : (index : ℕ) → index < synced r.state → IsOnEach s.backups index
   on_each index low n b here =
       let p = place s.backups n b here in
-      let within : p.0 < h.f = omega (arith, at_within s.backups p.0 b p.2, state.counts.backups, ap (λ (k : ℕ). k * h.f) state.counts.parts) in
-      omega (arith, low, synced_low h r.state effect.serves n p.0 p.1 within, (backups_ok n b here).known)
+      let low_enough : p.0 < h.f = omega (arith, at_within s.backups p.0 b p.2, state.counts.backups, ap (λ (k : ℕ). k * h.f) state.counts.parts) in
+      omega (arith, low, synced_low h r.state effect.serves n p.0 p.1 low_enough, (backups_ok n b here).known)
 
-  body_ok : (from to : NodeId) (m : Body) → BodySays h r.state.log (synced r.state) from to m → BodyOk h mastered from to m
-  body_ok from to (body.Append a) says = record { sender = says.sender; addressed = says.addressed; part = says.part }
-  body_ok from to (body.Reply q) says = record { addressed = says.addressed; done = says.done; stored = λ t. on_each says.done.index (says.durable t) }
-  body_ok from to (body.Refuse q) says = says
-  body_ok from to _ says = absurd says
+  -- what was asked for, a client of the world asked for
+  client_named : (id : RequestId) (c : Command) → Asked s.history id c → IsNamed h (client_node id.client)
+  client_named id c asked =
+      let k = state.know asked.0 id c asked.1 in
+      let w = number_within s.clients id.client k.0 k.1 in
+      (w.0, omega (arith, w.1, state.counts.clients))
+
+  done_asked : (id : RequestId) (a : Answer) → Done h r.state.log id a → (c : Command) × Asked s.history id c
+  done_asked id a d =
+      let asked = (moved_log h s state r.state.log effect.log).asked d.index d.request d.acknowledged d.stands in
+      (d.request.command, subst (λ (x : RequestId). Asked s.history x d.request.command) d.its_id asked)
+
+  message_ok : (x : Message) → Says (Asked s.history) h r.state.log (synced r.state) x → MessageOk h mastered x
+  message_ok x says = go x.to x.body says.says_so
+    where
+      go : (to : NodeId) (b : Body) → BodySays (Asked s.history) h r.state.log (synced r.state) to b → MessageOk h mastered (record x { to = to; body = b })
+      go to (body.Append a) so = record {
+        sender = subst (IsNamed h) (sym says.sender) refl;
+        addressee = so.1;
+        says_so = record { sender = says.sender; addressed = so.0.addressed; part = so.0.part; epoch = so.0.epoch };
+      }
+      go to (body.Reply q) so = record {
+        sender = subst (IsNamed h) (sym says.sender) refl;
+        addressee = let c = done_asked q.id q.answer so.done in subst (IsNamed h) (sym so.addressed) (client_named q.id c.0 c.1);
+        says_so = record { addressed = so.addressed; done = so.done; stored = λ t. on_each so.done.index (so.durable t); epoch = so.epoch; version = so.version };
+      }
+      go to (body.Refuse q) so = record {
+        sender = subst (IsNamed h) (sym says.sender) refl;
+        addressee = subst (IsNamed h) (sym so.addressed) (client_named q.id so.command so.asked);
+        says_so = so.addressed;
+      }
+      go to _ so = absurd so
 
   pub master_keeps : Facts h mastered
-  master_keeps = move_keeps h s mastered r.messages facts grows refl (Each-weaker (Says h r.state.log (synced r.state)) (MessageOk h mastered) (λ (x : Message). body_ok x.from x.to x.body) r.messages effect.says) (record {
-    counts = record { parts = state.counts.parts; clients = state.counts.clients; backups = state.counts.backups; witnesses = state.counts.witnesses };
+  master_keeps = keepers_keep h s facts r.state s.backups s.witnesses marks r.messages (record {
     serves = effect.serves;
-    log = moved_log h s state r.state.log effect.log;
-    backups = backups_ok;
-    clients = λ n c here. client_grows grows h n c (state.clients n c here);
-    know = state.know;
-    wait = state.wait;
-    history = state.history;
-    completes = λ i id a at. completed_grows grows h id a (state.completes i id a at);
-    in_time = moved_in_time h s state r.state.log effect.log;
-    marks = ap (λ (new : List Mark). s.marks ++ new) pushed_only ∙ new_marks effect.log;
+    log = effect.log;
+    backups_grow = same_backups s.backups;
+    as_many_backups = refl;
+    backups_ok = backups_ok;
+    witnesses_grow = same_witnesses s.witnesses;
+    as_many_witnesses = refl;
+    witnesses_ok = state.witnesses;
+    marked = ap (λ (new : List Mark). s.marks ++ new) pushed_only ∙ new_marks effect.log;
+    says = Each-weaker (Says (Asked s.history) h r.state.log (synced r.state)) (MessageOk h mastered) message_ok r.messages effect.says;
   })

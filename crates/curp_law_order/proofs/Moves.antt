@@ -1,6 +1,7 @@
--- A move keeps the facts, where nothing is taken back and the moved node's own facts hold.
-use Rattle.std.proofs.Common.{◌≡◌, inl, inr, ℕ, ◌<◌, List, [], ◌∷◌, ◌++◌, length, ap, sym, ◌∙◌, subst, arith}
-use Rattle.curp_base.specs.Words.{At, Each, IsPrefix}
+-- A move of any node keeps the facts, where nothing is taken back and the moved node's own facts hold.
+use Rattle.std.proofs.Common.{◌≡◌, inl, inr, ℕ, ◌-◌, ◌<◌, List, [], ◌∷◌, ◌++◌, length, set, Some, ap, sym, ◌∙◌, subst, arith}
+use Rattle.std.proofs.lemmas.List.{length-set}
+use Rattle.curp_base.specs.Words.{At, Each, IsPrefix, numbered}
 use Rattle.curp_base.proofs.Lists.{at_append, at_push_cases, at_within, prefix_self, prefix_push, Each-append}
 use Rattle.curp_cmd.specs.declared.command.Answer.{Answer}
 use Rattle.curp_cmd.specs.declared.command.Command.{Command}
@@ -9,23 +10,26 @@ use Rattle.curp_cmd.specs.declared.command.RequestId.{RequestId}
 use Rattle.curp_cmd.specs.declared.entry.Entry.{Entry}
 use Rattle.curp_cmd.specs.declared.entry.Entry.TheVariants.{Op}
 use Rattle.curp_msg.specs.declared.message.Message.{Message}
+use Rattle.curp_order.specs.Order.{IsHistory}
 use Rattle.curp_order.specs.declared.Event.{Event}
 use Rattle.curp_order.specs.declared.Event.TheVariants.{Complete}
-use Rattle.curp_script.specs.declared.script.Header.{Header}
+use Rattle.curp_msg.specs.declared.script.Header.{Header}
 use Rattle.curp_model.specs.declared.Check.TheVariants.{New}
+use Rattle.curp_model.specs.Backup.{BackupState}
+use Rattle.curp_model.specs.Client.{ClientState}
 use Rattle.curp_model.specs.Log.{meaning}
+use Rattle.curp_model.specs.Marked.{marks_of}
+use Rattle.curp_model.specs.Marks.{Mark}
+use Rattle.curp_model.specs.Master.{MasterState}
+use Rattle.curp_model.specs.Shape.{ServesAsOpened}
+use Rattle.curp_model.specs.Witness.{WitnessState}
 use Rattle.curp_model.specs.Table.{check}
 use Rattle.curp_model.proofs.Logs.{op_not_new}
-use Rattle.curp_law_order.proofs.Facts.{Scene, Asked, IsOp, MessageOk, LogOk, InTime, StateOk, Facts, first_hash, last_hash}
-use Rattle.curp_law_order.proofs.Growing.{Grows, asked_grows, said_on}
+use Rattle.curp_law_order.proofs.Facts.{Scene, Asked, BackupOk, ClientOk, ClientsKnow, ClientsWait, CompletedOk, IsOp, MessageOk, LogOk, WitnessOk, InTime, StateOk, Facts, first_hash, last_hash}
+use Rattle.curp_law_order.proofs.Growing.{BackupsGrow, Grows, WitnessesGrow, asked_grows, client_grows, completed_grows, said_on, same_backups, same_witnesses, witness_grows}
+use Rattle.curp_law_order.proofs.Numbered.{numbered_set_cases}
 use Rattle.curp_law_order.proofs.Entries.{noted_push}
 use Rattle.curp_law_order.proofs.Effects.{LogMove}
-
-pub move_keeps : (h : Header) (s t : Scene) (out : List Message) → Facts h s → Grows s t → t.sent ≡ s.sent ++ out → Each (MessageOk h t) out → StateOk h t → Facts h t
-move_keeps h s t out facts g sent says state = record {
-  said = subst (Each (MessageOk h t)) (sym sent) (said_on g h s.sent out facts.said says);
-  state = state;
-}
 
 -- ---- the log
 
@@ -98,3 +102,106 @@ module _ (h : Header) (s : Scene) (state : StateOk h s) where
   moved_in_time after (inr p) =
       let longer = push_ok h s.history s.master.log p.request p.acknowledged p.is_new state.log p.asked in
       subst (InTime s.history) (sym p.grown) (push_in_time h s.history s.master.log p.request p.acknowledged p.is_new state.log longer completed_at state.in_time)
+
+-- ---- the master, a backup or a witness moves: no client does, and nothing is invoked or completes
+
+-- the scene with what may have moved
+abbrev pub keepers_moved : Scene → MasterState → List BackupState → List WitnessState → List Mark → List Message → Scene
+keepers_moved s master backups witnesses marks out = record s { master = master; backups = backups; witnesses = witnesses; marks = marks; sent = s.sent ++ out }
+
+pub record KeepersMove (h : Header) (s : Scene) (master : MasterState) (backups : List BackupState) (witnesses : List WitnessState) (marks : List Mark) (out : List Message) : Type 0 where
+  pub serves : ServesAsOpened h master
+  pub log : LogMove (Asked s.history) h s.master.log master.log
+  pub backups_grow : BackupsGrow s.backups backups
+  pub as_many_backups : length backups ≡ length s.backups
+  pub backups_ok : (n : ℕ) (b : BackupState) → numbered backups n ≡ Some b → BackupOk master n b
+  pub witnesses_grow : WitnessesGrow s.witnesses witnesses
+  pub as_many_witnesses : length witnesses ≡ length s.witnesses
+  pub witnesses_ok : (n : ℕ) (x : WitnessState) → numbered witnesses n ≡ Some x → WitnessOk s.history x
+  pub marked : marks ≡ marks_of master.log s.history
+  pub says : Each (MessageOk h (keepers_moved s master backups witnesses marks out)) out
+
+module _ (h : Header) (s : Scene) (facts : Facts h s) (master : MasterState) (backups : List BackupState) (witnesses : List WitnessState) (marks : List Mark) (out : List Message) (move : KeepersMove h s master backups witnesses marks out) where
+  abbrev moved : Scene
+  moved = keepers_moved s master backups witnesses marks out
+
+  keepers_grow : Grows s moved
+  keepers_grow = record { history = prefix_self s.history; log = log_grows (Asked s.history) h s.master.log master.log move.log; backups = move.backups_grow; witnesses = move.witnesses_grow }
+
+  pub keepers_keep : Facts h moved
+  keepers_keep =
+      let state = facts.state in
+      record {
+        said = said_on keepers_grow h s.sent out facts.said move.says;
+        state = record {
+          counts = record {
+            parts = state.counts.parts;
+            clients = state.counts.clients;
+            backups = move.as_many_backups ∙ state.counts.backups;
+            witnesses = move.as_many_witnesses ∙ state.counts.witnesses;
+          };
+          serves = move.serves;
+          log = moved_log h s state master.log move.log;
+          backups = move.backups_ok;
+          witnesses = move.witnesses_ok;
+          clients = λ n c here. client_grows keepers_grow h n c (state.clients n c here);
+          know = state.know;
+          wait = state.wait;
+          history = state.history;
+          completes = λ i id a at. completed_grows keepers_grow h id a (state.completes i id a at);
+          in_time = moved_in_time h s state master.log move.log;
+          marks = move.marked;
+        };
+      }
+
+-- ---- a client moves, and may invoke a request or complete one
+
+-- the scene with a client that has moved
+abbrev pub client_moved : Scene → ℕ → ClientState → List Event → List Mark → List Message → Scene
+client_moved s n d past marks out = record s { clients = set s.clients (n - 1) d; history = past; marks = marks; sent = s.sent ++ out }
+
+module _ (h : Header) (s : Scene) (n : ℕ) (d : ClientState) (past : List Event) (marks : List Mark) (out : List Message) where
+  abbrev heard : Scene
+  heard = client_moved s n d past marks out
+
+  pub record ClientMoves : Type 0 where
+    pub grown : IsPrefix s.history past
+    pub its_state : ClientOk h heard n d
+    pub know : ClientsKnow heard.clients past
+    pub wait : ClientsWait heard.clients past
+    pub history : IsHistory past
+    pub completes : (i : ℕ) (id : RequestId) (a : Answer) → At past i (Complete id a) → CompletedOk h heard id a
+    pub in_time : InTime past s.master.log
+    pub marked : marks ≡ marks_of s.master.log past
+    pub says : Each (MessageOk h heard) out
+
+  pub client_grows_by : IsPrefix s.history past → Grows s heard
+  client_grows_by p = record { history = p; log = prefix_self s.master.log; backups = same_backups s.backups; witnesses = same_witnesses s.witnesses }
+
+  module _ (facts : Facts h s) (c : ClientState) (here : numbered s.clients n ≡ Some c) (move : ClientMoves) where
+    clients_ok : (k : ℕ) (x : ClientState) → numbered heard.clients k ≡ Some x → ClientOk h heard k x
+    clients_ok k x at = elim (numbered_set_cases s.clients n c d here k x at) [
+      | inl o ↦ client_grows (client_grows_by move.grown) h k x (facts.state.clients k x o.1)
+      | inr o ↦ subst (ClientOk h heard k) o.1 (subst (λ (i : ℕ). ClientOk h heard i d) (sym o.0) move.its_state)
+    ]
+
+    pub client_keeps : Facts h heard
+    client_keeps =
+        let state = facts.state in
+        record {
+          said = said_on (client_grows_by move.grown) h s.sent out facts.said move.says;
+          state = record {
+            counts = record { parts = state.counts.parts; clients = length-set s.clients (n - 1) d ∙ state.counts.clients; backups = state.counts.backups; witnesses = state.counts.witnesses };
+            serves = state.serves;
+            log = log_later h s.history past move.grown s.master.log state.log;
+            backups = state.backups;
+            witnesses = λ k x at. witness_grows move.grown x (state.witnesses k x at);
+            clients = clients_ok;
+            know = move.know;
+            wait = move.wait;
+            history = move.history;
+            completes = move.completes;
+            in_time = move.in_time;
+            marks = move.marked;
+          };
+        }

@@ -1,11 +1,12 @@
 -- Lists that are numbered from 1, where one item is set, and what a filter and a flattening keep.
-use Rattle.std.proofs.Common.{◌≡◌, ◌≢◌, ◌⊎◌, inl, inr, ℕ, zero, suc, ◌+◌, ◌-◌, Bool, true, List, [], ◌∷◌, ◌++◌, set, replicate, Some, refl, ap, sym, ◌∙◌, subst, arith, append-nil, append_assoc}
+use Rattle.std.proofs.Common.{◌≡◌, ◌≢◌, ◌⊎◌, inl, inr, ℕ, zero, suc, ◌+◌, ◌-◌, ◌*◌, ◌<◌, ◌≤◌, Bool, true, List, [], ◌∷◌, ◌++◌, length, map, set, replicate, Some, refl, ap, sym, ◌∙◌, subst, arith, append-nil, append_assoc}
 use Rattle.std.specs.List.{filter, list_any}
 use Rattle.std.proofs.lemmas.Bool.{cases_Bool}
-use Rattle.curp_base.specs.Words.{At, numbered}
-use Rattle.curp_base.proofs.Lists.{at_set_cases, at_set_same, at_set_other, at_replicate}
+use Rattle.curp_base.specs.Words.{At, Each, numbered, numbers_from, all_of}
+use Rattle.curp_base.proofs.Lists.{at_within, at_set_cases, at_set_same, at_set_other, at_replicate, Each-from_at, Each-map}
+use Rattle.curp_cmd.specs.declared.node.NodeId.{NodeId}
 use Rattle.curp_msg.specs.declared.message.Message.{Message}
-use Rattle.curp_model.specs.World.{all_of, kept}
+use Rattle.curp_model.specs.World.{with_batch}
 
 pub numbered_same : {A : Type 0} (xs : List A) (n : ℕ) (x y : A) → numbered xs n ≡ Some x → numbered xs n ≡ Some y → x ≡ y
 numbered_same xs n x y h g = cc
@@ -74,6 +75,30 @@ all_of-push [] xs = append-nil xs
 all_of-push (ys ∷ rest) xs = ap (λ l. ys ++ l) (all_of-push rest xs) ∙ sym (append_assoc ys (all_of rest) xs)
 
 -- what a step sends comes behind all messages
-pub all_of-kept : (sent : List (List Message)) (out : List Message) → all_of (kept sent out) ≡ all_of sent ++ out
+pub all_of-kept : (sent : List (List Message)) (out : List Message) → all_of (with_batch sent out) ≡ all_of sent ++ out
 all_of-kept sent [] = sym (append-nil (all_of sent))
 all_of-kept sent (m ∷ more) = all_of-push sent (m ∷ more)
+
+-- ---- numbers from one on
+
+pub numbers_at : (first count k : ℕ) → k < count → At (numbers_from first count) k (first + k)
+numbers_at first zero k low = absurd (omega arith)
+numbers_at first (suc count) zero low = let e : first ≡ first + 0 = omega arith in ap (λ (n : ℕ). Some n) e
+numbers_at first (suc count) (suc k) low =
+    let e : (first + 1) + k ≡ first + suc k = omega arith in
+    subst (λ (n : ℕ). At (numbers_from (first + 1) count) k n) e (numbers_at (first + 1) count k (omega arith))
+
+-- what stands among numbers from one on
+pub numbers_back : (first count k n : ℕ) → At (numbers_from first count) k n → (n ≡ first + k) × (k < count)
+numbers_back first zero k n h = absurd cc
+numbers_back first (suc count) zero n h = let e : first ≡ n = cc in (omega (arith, e), omega arith)
+numbers_back first (suc count) (suc k) n h = let r = numbers_back (first + 1) count k n h in (omega (arith, r.0), omega (arith, r.1))
+
+-- what holds of the names with the numbers from 1 to a count holds of each name of a list of the opening
+pub named_each : (P : NodeId → Type 0) (name : ℕ → NodeId) (count : ℕ) → ((n : ℕ) → 1 ≤ n → n ≤ count → P (name n)) → Each P (map name (numbers_from ((1 - 1) * count + 1) count))
+named_each P name count f = Each-map P name _ (Each-from_at (λ (n : ℕ). P (name n)) (numbers_from ((1 - 1) * count + 1) count) (λ k n at.
+    let r = numbers_back ((1 - 1) * count + 1) count k n at in f n (omega (arith, r.0)) (omega (arith, r.0, r.1))))
+
+-- what has a number is one of as many
+pub number_within : {A : Type 0} (xs : List A) (n : ℕ) (x : A) → numbered xs n ≡ Some x → (1 ≤ n) × (n ≤ length xs)
+number_within xs n x h = let p = place xs n x h in let low = at_within xs p.0 x p.2 in (omega (arith, p.1), omega (arith, p.1, low))

@@ -1,15 +1,17 @@
 -- What is pending at a client, and the evidence for it.
 use Rattle.std.proofs.Common.{◌≡◌, ◌⊎◌, inl, inr, ℕ, zero, suc, ◌==◌, ◌&&◌, Bool, true, List, [], ◌∷◌, ◌++◌, map, Some, refl, subst}
 use Rattle.std.specs.List.{list_any, list_all}
-use Rattle.std.proofs.lemmas.Bool.{and_parts, cond_both, eqb-true}
-use Rattle.curp_base.specs.Words.{At, Each}
+use Rattle.std.proofs.lemmas.Bool.{and_parts, cond_both}
+use Rattle.curp_base.specs.Words.{At, Each, last_of, first_of}
 use Rattle.curp_base.proofs.Lists.{Each-append, Each-at}
 use Rattle.curp_cmd.specs.declared.node.NodeId.{NodeId}
-use Rattle.curp_script.specs.declared.script.Header.{Header}
-use Rattle.curp_model.specs.Client.{Accept, Attempt, Early, Pending, all_accepted, has_accepted, is_told, last_of, proved_answer, proves, replaced, with_accept, with_early, with_number}
-use Rattle.curp_model.specs.Master.{same_node}
-use Rattle.curp_model.specs.Requests.{first_of}
-use Rattle.curp_law_order.proofs.Names.{same_node-true}
+use Rattle.curp_msg.specs.declared.script.Header.{Header}
+use Rattle.curp_model.specs.Client.{Accept, Attempt, Early, Pending, all_accepted, has_accepted, is_told, proved_answer, proves, replaced, with_accept, with_early, with_id}
+use Rattle.curp_cmd.specs.Node.{same_node}
+use Rattle.curp_cmd.specs.RequestId.{same_id}
+use Rattle.curp_cmd.specs.declared.command.RequestId.{RequestId}
+use Rattle.curp_cmd.proofs.Ids.{same_id-true}
+use Rattle.curp_cmd.proofs.Nodes.{same_node-true}
 use Rattle.curp_law_order.proofs.Numbered.{any_at, filter_at}
 use Rattle.curp_law_order.proofs.Facts.{Scene, Done, IsHeldBy, watchers, AttemptOk, PendingOk}
 
@@ -35,17 +37,17 @@ Each-by_all P p f (x ∷ xs) e = (f x (and_parts (p x) (list_all p xs) e).0, Eac
 
 -- ---- what is pending
 
--- what has a number is pending
-pub with_number_at : (seq : ℕ) (pending : List Pending) (p : Pending) → with_number seq pending ≡ Some p → (k : ℕ) × At pending k p × (p.request.id.seq ≡ seq)
-with_number_at seq pending p e =
-    let f = filter_at (λ (q : Pending). q.request.id.seq == seq) pending 0 p (first_at _ p e) in
-    (f.0, f.1, eqb-true _ _ f.2)
+-- what has an id is pending
+pub with_id_at : (id : RequestId) (pending : List Pending) (p : Pending) → with_id id pending ≡ Some p → (k : ℕ) × At pending k p × (p.request.id ≡ id)
+with_id_at id pending p e =
+    let f = filter_at (λ (q : Pending). same_id q.request.id id) pending 0 p (first_at _ p e) in
+    (f.0, f.1, same_id-true p.request.id id f.2)
 
 -- what is pending after a change was so before, or is the one that has changed
 pub replaced_at : (new : Pending) (pending : List Pending) (k : ℕ) (q : Pending) → At (replaced new pending) k q → (new ≡ q) ⊎ At pending k q
 replaced_at new pending k q h =
     let m = at_mapped _ pending k q h in
-    cond_both (m.0.request.id.seq == new.request.id.seq) new m.0 (λ (x : Pending). x ≡ q → (new ≡ q) ⊎ At pending k q)
+    cond_both (same_id m.0.request.id new.request.id) new m.0 (λ (x : Pending). x ≡ q → (new ≡ q) ⊎ At pending k q)
     (λ y e. inl e) (λ n e. inr (subst (λ (x : Pending). At pending k x) e m.1)) m.2
 
 -- the latest attempt went to the master

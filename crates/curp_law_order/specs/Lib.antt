@@ -1,4 +1,2 @@
-pub mod Shape
-pub mod Sent
-pub mod Marked
 pub mod Stored
+pub mod Messages

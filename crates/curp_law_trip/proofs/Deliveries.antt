@@ -1,20 +1,24 @@
 -- What is sent at the first sending, and what the master and the witnesses answer to it.
-use Rattle.std.proofs.Common.{◌≡◌, ℕ, ◌+◌, ◌^◌, ◌<◌, Bool, true, false, cond, List, [], ◌∷◌, ◌++◌, length, map, take, take_all, flat_map, Option, Some, None, inr, refl, ap, sym, ◌∙◌, arith}
-use Rattle.std.proofs.lemmas.Bool.{and_from, eq-eqb, lt-ltb}
+use Rattle.std.proofs.Common.{◌≡◌, ℕ, ◌+◌, Bool, true, false, List, [], ◌∷◌, ◌++◌, length, map, take, take_all, flat_map, Option, Some, None, Result, inr, refl, ap, sym, ◌∙◌, arith}
+use Rattle.std.specs.Option.{ok_or}
+use Rattle.std.proofs.lemmas.Bool.{eq-eqb, or_from}
+use Rattle.curp_base.specs.Cases.{◌>>=◌, refuse_if}
 use Rattle.curp_base.specs.Words.{At, Each}
+use Rattle.curp_base.proofs.Ends.{never_rises}
 use Rattle.curp_base.proofs.Lists.{Each-at}
 use Rattle.curp_cmd.specs.declared.command.Answer.{Answer}
 use Rattle.curp_msg.specs.declared.answer.Reason.{Reason}
 use Rattle.curp_msg.specs.declared.body.Body.TheVariants as body
 use Rattle.curp_msg.specs.declared.config.PartConfig.{PartConfig}
 use Rattle.curp_msg.specs.declared.message.Message.{Message}
-use Rattle.curp_model.specs.Client.{Accept, ClientState, Early, Pending, attempt_at, invoke, invokes_at, sends_first, sent_by}
+use Rattle.curp_model.specs.Client.{Accept, ClientState, Early, Pending, attempt_at, invoke, sends_first, sent_by}
 use Rattle.curp_model.specs.Log.{answer_after}
-use Rattle.curp_model.specs.Master.{AtOnce, MasterState, if_it_counts, marked_free, on_serving, on_update, pushed, reply}
-use Rattle.curp_model.specs.Moved.{Moved, Node, master_node, refuses, sends, says, says_each, witness_node}
+use Rattle.curp_model.specs.Master.{AtOnce, MasterState, last_round, marked_free, on_serving, on_update, pushed, reply, unless_it_ends}
+use Rattle.curp_msg.specs.Moved.{Moved, Node, sends, says, unless_refused}
+use Rattle.curp_cmd.specs.Node.{master_node, witness_node}
 use Rattle.curp_model.specs.Witness.{WitnessState, on_witness, verdict_body}
 use Rattle.curp_law_trip.specs.Holding.{IsOpen}
-use Rattle.curp_law_trip.specs.Trip.{MeetsNothing, Trip, WitnessIsFree, accept_of, answers, client_of, from_master, from_witness, invoked, record_of, reply_of, request, update_of}
+use Rattle.curp_law_trip.specs.Trip.{MeetsNothing, Trip, WitnessIsFree, accept_of, answers, client_of, from_master, from_witness, invoked, reply_of, request, sendings, update_of}
 use Rattle.curp_law_trip.proofs.Verdicts.{accepted_so}
 
 module _ (t : Trip) where
@@ -31,10 +35,18 @@ module _ (t : Trip) where
   abbrev first_sending : Moved ClientState
   first_sending = sends_first t.client.number t.client.state (request t) t.part
 
-  invoked_by : (b d : Bool) (o : Option PartConfig) → o ≡ Some t.part
-      → (cond b (refuses t.client.state 1) (cond d (refuses t.client.state 2) (invokes_at t.client.number t.client.state t.command o))).refused ≡ 0
-      → cond b (refuses t.client.state 1) (cond d (refuses t.client.state 2) (invokes_at t.client.number t.client.state t.command o)) ≡ first_sending
-  invoked_by true d o e z = absurd (omega (arith, z))
+  -- where the request goes, by the three rules that refuse it
+  abbrev place_for : Bool → Bool → Option PartConfig → Result PartConfig ℕ
+  place_for many ended owner = do
+    _ ← refuse_if many 1
+    _ ← refuse_if ended 2
+    ok_or owner 3
+
+  abbrev sends_to : Result PartConfig ℕ → Moved ClientState
+  sends_to r = unless_refused t.client.state (sends_first t.client.number t.client.state (request t)) r
+
+  invoked_by : (many ended : Bool) (o : Option PartConfig) → o ≡ Some t.part → (sends_to (place_for many ended o)).refused ≡ 0 → sends_to (place_for many ended o) ≡ first_sending
+  invoked_by true ended o e z = absurd (omega (arith, z))
   invoked_by false true o e z = absurd (omega (arith, z))
   invoked_by false false None e z = absurd cc
   invoked_by false false (Some q) e z =
@@ -48,8 +60,7 @@ module _ (t : Trip) where
   pub state_is : MeetsNothing t → (invoked t).state ≡ waiting [] []
   state_is ok = ap (λ (m : Moved ClientState). m.state) (invoked_is ok)
 
-  pub sent_is : MeetsNothing t
-      → (invoked t).messages ≡ says (client_of t) t.part.master (body.Update (update_of t)) ∷ says_each (client_of t) t.part.witnesses (body.Record (record_of t))
+  pub sent_is : MeetsNothing t → (invoked t).messages ≡ sendings t
   sent_is ok = ap (λ (m : Moved ClientState). m.messages) (invoked_is ok) ∙ (λ i. sent_by t.client.number (ok.fast i) (ok.update i) (request t) t.part)
 
   -- ---- at the master
@@ -67,8 +78,10 @@ module _ (t : Trip) where
   reply_with epoch version a =
       says (master_node t.master.number) (client_of t) (body.Reply (record { id = (request t).id; synced = false; epoch = epoch; version = version; answer = a }))
 
-  counted : (m : Moved MasterState) → m.state.round < 2 ^ 64 → m.state.captured < 2 ^ 64 → if_it_counts master m ≡ m
-  counted m r k = rw (and_from _ _ (lt-ltb m.state.round (2 ^ 64) r) (lt-ltb m.state.captured (2 ^ 64) k)) refl
+  -- no number rises, so no end is near
+  counted : unless_it_ends master told ≡ told
+  counted = rw (or_from _ _ (never_rises last_round master.round master.round refl)
+      (never_rises last_round master.captured master.captured refl)) refl
 
   updated : MeetsNothing t → on_update t.master.number master AtOnce (update_of t) ≡ told
   unfolding on_update
@@ -80,8 +93,8 @@ module _ (t : Trip) where
   pub replied_is : MeetsNothing t → from_master t ≡ reply_of t ∷ []
   unfolding on_serving
   replied_is ok =
-      ap (λ (m : Moved MasterState). (if_it_counts master m).messages) (updated ok)
-      ∙ ap (λ (m : Moved MasterState). m.messages) (counted told ok.master.rounds ok.master.captures)
+      ap (λ (m : Moved MasterState). (unless_it_ends master m).messages) (updated ok)
+      ∙ ap (λ (m : Moved MasterState). m.messages) counted
       ∙ λ i. reply_with (ok.master.epoch i) (ok.master.version i) (answer_after master.lo master.hi (whole i) t.command) ∷ []
     where
       whole : take (length master.log) master.log ≡ master.log

@@ -1,7 +1,9 @@
-pub mod Names
 pub mod Searches
 pub mod Orders
 pub mod Verdicts
+pub mod Inputs
 pub mod Numbers
 pub mod Deliveries
 pub mod Trips
+pub mod Apart
+pub mod Opening

@@ -6,7 +6,7 @@ use Rattle.std.specs.declared.cmp.Ordering.{Ordering}
 use Rattle.std.specs.declared.cmp.Ordering.TheVariants.{Less, Equal, Greater}
 use Rattle.std.proofs.lemmas.Bool.{cond_both}
 use Rattle.curp_base.proofs.Rising.{keyed}
-use Rattle.curp_cmd.specs.RequestId.{id_cmp}
+use Rattle.curp_cmd.specs.RequestId.{id_cmp, has_id}
 use Rattle.curp_cmd.specs.declared.command.Request.{Request}
 use Rattle.curp_cmd.specs.declared.command.RequestId.{RequestId}
 use Rattle.curp_cmd.specs.declared.node.NodeId.{NodeId}
@@ -15,23 +15,21 @@ use Rattle.curp_msg.specs.declared.body.Body.{Body}
 use Rattle.curp_msg.specs.declared.body.Body.TheVariants.{Record, Gc, Start, Freeze}
 use Rattle.curp_model.specs.declared.Mode.{Mode}
 use Rattle.curp_model.specs.declared.Mode.TheVariants.{Idle, Normal, Frozen}
-use Rattle.curp_model.specs.Requests.{has_id}
-use Rattle.curp_model.specs.Witness.{Held, Verdict, Collection, WitnessState, by_room, collect, collected_at, collected_in, conflict, full_set, gc, hold, holds, newly_held, on_witness, placed, started, stranger_to, survives, suspect, turned_away, unless_turned_away}
+use Rattle.curp_model.specs.Witness.{WitnessState, by_room, collect, collected_at, collected_in, conflict, full_set, gc, hold, holds, newly_held, on_witness, placed, started, stranger_to, survives, suspect, turned_away, unless_turned_away, HeldRequest, AfterRecord, AfterCollection, HoldsInOrder}
 use Rattle.curp_model.proofs.Tables.{ids_same, ids_total}
-use Rattle.curp_law_trip.specs.Holding.{HoldsInOrder}
 
-abbrev id_of : Held → RequestId
+abbrev id_of : HeldRequest → RequestId
 id_of x = x.request.id
 
-abbrev pairs : List Held → List (RequestId × Unit {0})
+abbrev pairs : List HeldRequest → List (RequestId × Unit {0})
 pairs held = keyed (map id_of held)
 
-abbrev InOrder : List Held → Type 0
+abbrev InOrder : List HeldRequest → Type 0
 InOrder held = T (is_sorted id_cmp (pairs held))
 
 -- ---- one more in its place
 
-placed_pairs : (x : Held) (held : List Held) → pairs (placed x held) ≡ put id_cmp x.request.id tt (pairs held)
+placed_pairs : (x : HeldRequest) (held : List HeldRequest) → pairs (placed x held) ≡ put id_cmp x.request.id tt (pairs held)
 placed_pairs x [] = refl
 placed_pairs x (y ∷ held) = go (id_cmp x.request.id y.request.id) refl (placed_pairs x held)
   where
@@ -41,29 +39,29 @@ placed_pairs x (y ∷ held) = go (id_cmp x.request.id y.request.id) refl (placed
     go Equal e rest = ap (λ (id : RequestId). (id, tt) ∷ pairs held) (ids_same x.request.id y.request.id e)
     go Greater e rest = ap (λ (es : List (RequestId × Unit {0})). (y.request.id, tt) ∷ es) rest
 
-placed_in_order : (x : Held) (held : List Held) → InOrder held → InOrder (placed x held)
+placed_in_order : (x : HeldRequest) (held : List HeldRequest) → InOrder held → InOrder (placed x held)
 placed_in_order x held s =
     subst (λ (es : List (RequestId × Unit {0})). T (is_sorted id_cmp es)) (sym (placed_pairs x held)) (is_sorted-put id_cmp ids_total x.request.id tt (pairs held) s)
 
 -- ---- the ids stay
 
-suspected_id : (r : Request) (x : Held) → id_of (suspect r x) ≡ id_of x
-suspected_id r x = cond_both _ _ x (λ (y : Held). id_of y ≡ id_of x) (λ y. refl) (λ n. refl)
+suspected_id : (r : Request) (x : HeldRequest) → id_of (suspect r x) ≡ id_of x
+suspected_id r x = cond_both _ _ x (λ (y : HeldRequest). id_of y ≡ id_of x) (λ y. refl) (λ n. refl)
 
-suspected_ids : (r : Request) (held : List Held) → map id_of (map (suspect r) held) ≡ map id_of held
+suspected_ids : (r : Request) (held : List HeldRequest) → map id_of (map (suspect r) held) ≡ map id_of held
 suspected_ids r [] = refl
 suspected_ids r (x ∷ held) = λ i. suspected_id r x i ∷ suspected_ids r held i
 
-survived_ids : (held : List Held) → map id_of (map survives held) ≡ map id_of held
+survived_ids : (held : List HeldRequest) → map id_of (map survives held) ≡ map id_of held
 survived_ids [] = refl
 survived_ids (x ∷ held) = ap (λ (ids : List RequestId). id_of x ∷ ids) (survived_ids held)
 
-same_ids : (old new : List Held) → map id_of new ≡ map id_of old → InOrder old → InOrder new
+same_ids : (old new : List HeldRequest) → map id_of new ≡ map id_of old → InOrder old → InOrder new
 same_ids old new e s = subst (λ (ids : List RequestId). T (is_sorted id_cmp (keyed ids))) (sym e) s
 
 -- ---- some are dropped
 
-filtered_pairs : (p : RequestId → Bool) (held : List Held) → pairs (filter (λ x. p (id_of x)) held) ≡ where_key id_cmp p (pairs held)
+filtered_pairs : (p : RequestId → Bool) (held : List HeldRequest) → pairs (filter (λ x. p (id_of x)) held) ≡ where_key id_cmp p (pairs held)
 filtered_pairs p [] = refl
 filtered_pairs p (x ∷ held) = go (p (id_of x)) (filtered_pairs p held)
   where
@@ -72,7 +70,7 @@ filtered_pairs p (x ∷ held) = go (p (id_of x)) (filtered_pairs p held)
     go true rest = ap (λ (es : List (RequestId × Unit {0})). (id_of x, tt) ∷ es) rest
     go false rest = rest
 
-filtered_in_order : (p : RequestId → Bool) (held : List Held) → InOrder held → InOrder (filter (λ x. p (id_of x)) held)
+filtered_in_order : (p : RequestId → Bool) (held : List HeldRequest) → InOrder held → InOrder (filter (λ x. p (id_of x)) held)
 filtered_in_order p held s =
     subst (λ (es : List (RequestId × Unit {0})). T (is_sorted id_cmp es)) (sym (filtered_pairs p held)) (is_sorted-where_key id_cmp p (pairs held) s)
 
@@ -86,11 +84,11 @@ by_room_in_order w r None None s = placed_in_order (newly_held r) w.held s
 verdict_in_order : (w : WitnessState) (r : Request) (o : Option Reason) → HoldsInOrder w → HoldsInOrder (unless_turned_away w r o).state
 verdict_in_order w r (Some why) s = s
 verdict_in_order w r None s =
-    cond_both (holds w r.id) _ _ (λ (v : Verdict). HoldsInOrder v.state) (λ y. s) (λ n. by_room_in_order w r (conflict w r) (full_set w r) s)
+    cond_both (holds w r.id) _ _ (λ (v : AfterRecord). HoldsInOrder v.state) (λ y. s) (λ n. by_room_in_order w r (conflict w r) (full_set w r) s)
 
 collect_in_order : (w : WitnessState) (ids : List RequestId) → HoldsInOrder w → HoldsInOrder (collect w ids)
 collect_in_order w ids s =
-    let left : List Held = filter (λ x. not (has_id (id_of x) ids)) w.held in
+    let left : List HeldRequest = filter (λ x. not (has_id (id_of x) ids)) w.held in
     same_ids left (map survives left) (survived_ids left) (filtered_in_order (λ id. not (has_id id ids)) w.held s)
 
 collected_mode : (mode : Mode) (w : WitnessState) (ids : List RequestId) → HoldsInOrder w → HoldsInOrder (collected_in mode w ids).state
@@ -101,7 +99,7 @@ collected_mode Frozen w ids s = s
 collected_epoch : (own : Option ℕ) (w : WitnessState) (epoch : ℕ) (ids : List RequestId) → HoldsInOrder w → HoldsInOrder (collected_at own w epoch ids).state
 collected_epoch None w epoch ids s = s
 collected_epoch (Some own) w epoch ids s =
-    cond_both (own == epoch) _ _ (λ (c : Collection). HoldsInOrder c.state) (λ y. collected_mode w.mode w ids s) (λ n. s)
+    cond_both (own == epoch) _ _ (λ (c : AfterCollection). HoldsInOrder c.state) (λ y. collected_mode w.mode w ids s) (λ n. s)
 
 start_in_order : (mode : Mode) (w : WitnessState) (epoch : ℕ) → HoldsInOrder w → HoldsInOrder (started mode w epoch)
 start_in_order Idle w epoch s = s

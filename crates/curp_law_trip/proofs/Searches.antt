@@ -7,10 +7,8 @@ use Rattle.std.specs.Ordering.{is_lt, ordering_reverse}
 use Rattle.std.specs.declared.cmp.Ordering.{Ordering}
 use Rattle.std.specs.declared.cmp.Ordering.TheVariants.{Less, Equal, Greater}
 use Rattle.std.proofs.lemmas.Bool.{cases_Bool, cases_lt, or_left, or_right}
-use Rattle.curp_base.specs.Words.{At, Ascend}
+use Rattle.curp_base.specs.Words.{At, Ascend, first_of, numbers_from}
 use Rattle.curp_base.proofs.Rising.{keyed}
-use Rattle.curp_model.specs.Requests.{first_of}
-use Rattle.curp_model.specs.Witness.{numbers_from}
 
 -- ---- some item passes
 

@@ -1,5 +1,5 @@
 -- The answers come to the client in any order.
-use Rattle.std.proofs.Common.{◌≡◌, ◌⊎◌, inl, inr, ℕ, zero, suc, ◌+◌, ◌==◌, ◌&&◌, ◌||◌, Bool, true, false, cond, not, List, [], ◌∷◌, ◌++◌, map, Some, None, refl, ap, sym, ◌∙◌, subst}
+use Rattle.std.proofs.Common.{◌≡◌, ◌⊎◌, inl, inr, ℕ, zero, suc, ◌==◌, ◌&&◌, ◌||◌, Bool, true, false, cond, not, List, [], ◌∷◌, ◌++◌, map, Some, None, refl, ap, sym, ◌∙◌, subst}
 use Rattle.std.specs.List.{AllByRecursion, IsDistinct, list_all}
 use Rattle.std.specs.List.Sorted.{IsPermutation}
 use Rattle.std.proofs.lemmas.Bool.{cases_Bool, or_left, or_right, or_from, and_left, and_right, eq-eqb}
@@ -7,23 +7,22 @@ use Rattle.std.proofs.lemmas.List.Sorted.{Contains-permutation, IsPermutation-sy
 use Rattle.std.proofs.lemmas.List.Folds.{list_any-append}
 use Rattle.std.proofs.lemmas.Map.Keys.{IsDistinct-IsPermutation, IsDistinct-head, IsDistinct-tail, IsDistinct-cons}
 use Rattle.std.proofs.lemmas.Option.{slice_get-get_or, get_or_from_slice_get}
-use Rattle.curp_base.specs.Words.{At}
+use Rattle.curp_base.specs.Words.{At, first_of}
 use Rattle.curp_base.proofs.Lists.{at_within, at_map}
 use Rattle.curp_cmd.specs.declared.node.NodeId.{NodeId}
 use Rattle.curp_cmd.specs.declared.node.NodeKind.TheVariants.{Master, Witness}
 use Rattle.curp_msg.specs.declared.body.Accepted.{Accepted}
 use Rattle.curp_msg.specs.declared.body.Reply.{Reply}
 use Rattle.curp_msg.specs.declared.message.Message.{Message}
-use Rattle.curp_model.specs.Client.{Accept, ClientState, Early, Pending, accepted, attempt_at, has_accepted, if_proved, on_client, proved_answer, proves, replied, with_accept, with_early, with_evidence, with_number}
-use Rattle.curp_model.specs.Master.{same_node}
-use Rattle.curp_model.specs.Moved.{Moved, Node, quiet, master_node, witness_node}
-use Rattle.curp_model.specs.Requests.{first_of}
+use Rattle.curp_model.specs.Client.{Accept, ClientState, Early, Pending, accepted, attempt_at, has_accepted, if_proved, on_client, proved_answer, proves, replied, with_accept, with_early, with_evidence, with_id}
+use Rattle.curp_cmd.specs.Node.{same_node, master_node, witness_node}
+use Rattle.curp_msg.specs.Moved.{Moved, Node, quiet}
 use Rattle.curp_model.specs.Witness.{WitnessState}
 use Rattle.curp_model.proofs.Clashes.{all_at}
 use Rattle.curp_law_trip.specs.Trip.{CompletesAtLast, CompletesNothing, MeetsNothing, Trip, accept_of, answer_of, answers, completion_of, invoked, reply_of, request}
 use Rattle.curp_law_trip.proofs.Deliveries.{answers_are, state_is, waiting, waits_with}
-use Rattle.curp_law_trip.proofs.Names.{same_node_flips, same_node-self, same_node-true}
-use Rattle.curp_law_trip.proofs.Numbers.{below_next, number_last, replaced_last}
+use Rattle.curp_cmd.proofs.Nodes.{same_node_flips, same_node-self, same_node-true}
+use Rattle.curp_law_trip.proofs.Numbers.{below_next, id_last, replaced_last}
 
 -- ---- senders
 
@@ -206,8 +205,8 @@ module _ (t : Trip) where
   abbrev Hears : ClientState → Message → List Early → List Accept → Type 0
   Hears c m early accepts = on_client t.client.number c m.from m.body ≡ with_evidence c (waits_with t early accepts)
 
-  here : (ok : MeetsNothing t) (early : List Early) (accepts : List Accept) → with_number (t.client.state.last + 1) (waiting t early accepts).pending ≡ Some (waits_with t early accepts)
-  here ok early accepts = number_last (t.client.state.last + 1) t.client.state.pending (waits_with t early accepts) (below_next t.client.state.last t.client.state.pending ok.numbers) refl
+  here : (ok : MeetsNothing t) (early : List Early) (accepts : List Accept) → with_id (request t).id (waiting t early accepts).pending ≡ Some (waits_with t early accepts)
+  here ok early accepts = id_last t.client.state.pending (waits_with t early accepts) (below_next t.client.state.last t.client.state.pending ok.numbers)
 
   hears_reply : (ok : MeetsNothing t) (early : List Early) (accepts : List Accept) → Hears (waiting t early accepts) (reply_of t) (with_early early kept_reply) accepts
   unfolding on_client

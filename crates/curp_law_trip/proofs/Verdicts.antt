@@ -3,18 +3,17 @@ use Rattle.std.proofs.Common.{◌≡◌, ◌≢◌, ◌⊎◌, inl, inr, ℕ, �
 use Rattle.std.specs.Bool.{⊤}
 use Rattle.std.proofs.lemmas.Bool.{cond_both, cases_Bool, cases_lt, eqb-true, eq-eqb, ltb-true, ltb-false}
 use Rattle.curp_cmd.specs.Hash.{conflicts}
-use Rattle.curp_cmd.specs.RequestId.{id_cmp}
+use Rattle.curp_cmd.specs.RequestId.{id_cmp, same_id}
 use Rattle.curp_cmd.specs.declared.command.Request.{Request}
 use Rattle.curp_cmd.specs.declared.command.RequestId.{RequestId}
 use Rattle.curp_msg.specs.declared.answer.Reason.{Reason}
 use Rattle.curp_msg.specs.declared.answer.Reason.TheVariants as reason
 use Rattle.curp_model.specs.declared.Mode.{Mode}
 use Rattle.curp_model.specs.declared.Mode.TheVariants.{Idle, Normal, Frozen}
-use Rattle.curp_model.specs.Requests.{same_id}
-use Rattle.curp_model.specs.Witness.{Held, Verdict, WitnessState, by_room, by_request, conflict, full_set, hold, holds, is_full, stranger_to, suspect, turned_away, unless_turned_away}
+use Rattle.curp_model.specs.Witness.{WitnessState, by_room, by_request, conflict, full_set, hold, holds, is_full, stranger_to, suspect, turned_away, unless_turned_away, HeldRequest, AfterRecord, HoldsInOrder}
 use Rattle.curp_model.proofs.Tables.{ids_same, ids_total}
-use Rattle.curp_law_trip.specs.Holding.{Fits, HasNoConflict, HasRoom, HoldsInOrder, IsAlikeButMarks, IsConflict, IsHeld, IsLeastConflict, IsLeastFull, IsOfEpoch, IsOpen, IsStranger, unmarked}
-use Rattle.curp_law_trip.proofs.Names.{same_id-true, same_id-self}
+use Rattle.curp_law_trip.specs.Holding.{Fits, HasNoConflict, HasRoomFor, IsAlikeButMarks, IsConflict, IsNewTo, HoldsId, RejectsWith, IsLeastConflict, IsLeastFull, IsOfEpoch, IsOpen, IsStranger, unmarked}
+use Rattle.curp_cmd.proofs.Ids.{same_id-self, same_id-true}
 use Rattle.curp_law_trip.proofs.Searches.{Found, any_found, any_of, first_found, first_least, first_number, no_number, none_passes, one_least}
 
 -- ---- the epoch
@@ -53,24 +52,24 @@ at_most a b above = elim (cases_lt b a) [ inl l ↦ absurd (above l) | inr l ↦
 -- ---- what is held
 
 module _ (w : WitnessState) (r : Request) where
-  abbrev clashing : Held → Bool
+  abbrev clashing : HeldRequest → Bool
   clashing x = conflicts x.request.command r.command
 
-  abbrev id_of : Held → RequestId
+  abbrev id_of : HeldRequest → RequestId
   id_of x = x.request.id
 
-  is_held : holds w r.id ≡ true → IsHeld w r.id
+  is_held : holds w r.id ≡ true → HoldsId w r.id
   is_held e =
-      let f = any_found (λ (x : Held). same_id r.id x.request.id) w.held e in
+      let f = any_found (λ (x : HeldRequest). same_id r.id x.request.id) w.held e in
       record { place = f.0; held = f.1; stands = f.2; its_id = sym (same_id-true r.id f.1.request.id f.3) }
 
-  pub held_is : IsHeld w r.id → holds w r.id ≡ true
-  held_is h = any_of (λ (x : Held). same_id r.id x.request.id) w.held h.place h.held h.stands (same_id-self r.id h.held.request.id (sym h.its_id))
+  pub held_is : HoldsId w r.id → holds w r.id ≡ true
+  held_is h = any_of (λ (x : HeldRequest). same_id r.id x.request.id) w.held h.place h.held h.stands (subst (λ (x : RequestId). same_id r.id x ≡ true) (sym h.its_id) (same_id-self r.id))
 
-  isnt_held : holds w r.id ≡ false → ¬ (IsHeld w r.id)
+  isnt_held : holds w r.id ≡ false → ¬ (HoldsId w r.id)
   isnt_held e h = absurd (let no : false ≡ true = sym e ∙ held_is h in cc)
 
-  held_isnt : ¬ (IsHeld w r.id) → holds w r.id ≡ false
+  held_isnt : ¬ (HoldsId w r.id) → holds w r.id ≡ false
   held_isnt absent = elim (cases_Bool (holds w r.id)) [ inl y ↦ absurd (absent (is_held y)) | inr n ↦ n ]
 
   as_found : (id : RequestId) → IsConflict w r id → Found id_of clashing w.held id
@@ -114,10 +113,10 @@ module _ (w : WitnessState) (r : Request) where
       let f = first_number (is_full w r) w.sets 0 s e in
       record { set = omega (arith, f.below); full = fits_not s f.passes; least = λ t l. fits t (f.before t (omega arith) l) }
 
-  full_none : full_set w r ≡ None → HasRoom w r
+  full_none : full_set w r ≡ None → HasRoomFor w r
   full_none e s l = fits s (no_number (is_full w r) w.sets 0 e s (omega arith) (omega (arith, l)))
 
-  room_is : HasRoom w r → full_set w r ≡ None
+  room_is : HasRoomFor w r → full_set w r ≡ None
   room_is room = go (full_set w r) refl
     where
       go : (o : Option ℕ) → full_set w r ≡ o → o ≡ None
@@ -143,17 +142,17 @@ module _ (w : WitnessState) (r : Request) where
   Why epoch (Some reason.Idle) = w.mode ≡ Idle
   Why epoch (Some (reason.Stranger own)) = IsStranger w epoch own
   Why epoch (Some reason.Frozen) = (w.mode ≡ Frozen) × IsOfEpoch w epoch
-  Why epoch (Some (reason.Conflict id)) = IsOpen w epoch × (¬ (IsHeld w r.id)) × (conflict w r ≡ Some id)
-  Why epoch (Some (reason.SetFull set)) = IsOpen w epoch × (¬ (IsHeld w r.id)) × HasNoConflict w r × IsLeastFull w r set
-  Why epoch None = IsOpen w epoch × (IsHeld w r.id ⊎ (HasNoConflict w r × HasRoom w r))
+  Why epoch (Some (reason.Conflict id)) = IsNewTo w epoch r × (conflict w r ≡ Some id)
+  Why epoch (Some (reason.SetFull set)) = IsNewTo w epoch r × HasNoConflict w r × IsLeastFull w r set
+  Why epoch None = IsOpen w epoch × (HoldsId w r.id ⊎ (HasNoConflict w r × HasRoomFor w r))
 
-  by_room_why : (epoch : ℕ) → IsOpen w epoch → ¬ (IsHeld w r.id) → (c : Option RequestId) (full : Option ℕ) → conflict w r ≡ c → full_set w r ≡ full → Why epoch (by_room w r c full).reason
-  by_room_why epoch looks not_held (Some id) full e f = (looks, not_held, e)
-  by_room_why epoch looks not_held None (Some set) e f = (looks, not_held, conflict_none e, full_some set f)
+  by_room_why : (epoch : ℕ) → IsOpen w epoch → ¬ (HoldsId w r.id) → (c : Option RequestId) (full : Option ℕ) → conflict w r ≡ c → full_set w r ≡ full → Why epoch (by_room w r c full).reason
+  by_room_why epoch looks not_held (Some id) full e f = (record { looks = looks; not_held = not_held }, e)
+  by_room_why epoch looks not_held None (Some set) e f = (record { looks = looks; not_held = not_held }, conflict_none e, full_some set f)
   by_room_why epoch looks not_held None None e f = (looks, inr (conflict_none e, full_none f))
 
   by_request_why : (epoch : ℕ) → IsOpen w epoch → Why epoch (by_request w r).reason
-  by_request_why epoch looks = cond_both (holds w r.id) _ _ (λ (v : Verdict). Why epoch v.reason)
+  by_request_why epoch looks = cond_both (holds w r.id) _ _ (λ (v : AfterRecord). Why epoch v.reason)
       (λ y. (looks, inl (is_held y)))
       (λ n. by_room_why epoch looks (isnt_held n) (conflict w r) (full_set w r) refl refl)
 
@@ -175,7 +174,7 @@ module _ (w : WitnessState) (r : Request) where
   turned_by epoch mode other m e = λ i. unless_turned_away w r (turned_away (m i) (e i))
 
   pub idle_so : (epoch : ℕ) → w.mode ≡ Idle → (hold w epoch r).reason ≡ Some reason.Idle
-  idle_so epoch m = ap (λ (v : Verdict). v.reason) (turned_by epoch Idle (stranger_to epoch w.epoch) m refl)
+  idle_so epoch m = ap (λ (v : AfterRecord). v.reason) (turned_by epoch Idle (stranger_to epoch w.epoch) m refl)
 
   stranger_mode : (mode : Mode) (own : ℕ) → mode ≢ Idle → turned_away mode (Some own) ≡ Some (reason.Stranger own)
   stranger_mode Idle own ne = absurd (ne refl)
@@ -184,11 +183,11 @@ module _ (w : WitnessState) (r : Request) where
 
   pub stranger_so : (epoch own : ℕ) → IsStranger w epoch own → (hold w epoch r).reason ≡ Some (reason.Stranger own)
   stranger_so epoch own s =
-      ap (λ (v : Verdict). v.reason) (turned_by epoch w.mode (Some own) refl (to_stranger epoch own w.epoch s.its_epoch s.another))
+      ap (λ (v : AfterRecord). v.reason) (turned_by epoch w.mode (Some own) refl (to_stranger epoch own w.epoch s.its_epoch s.another))
       ∙ ap (λ (o : Option Reason). (unless_turned_away w r o).reason) (stranger_mode w.mode own s.started)
 
   pub frozen_so : (epoch : ℕ) → (w.mode ≡ Frozen) × IsOfEpoch w epoch → (hold w epoch r).reason ≡ Some reason.Frozen
-  frozen_so epoch f = ap (λ (v : Verdict). v.reason) (turned_by epoch Frozen None f.0 (to_own epoch w.epoch f.1))
+  frozen_so epoch f = ap (λ (v : AfterRecord). v.reason) (turned_by epoch Frozen None f.0 (to_own epoch w.epoch f.1))
 
   looked : (epoch : ℕ) → IsOpen w epoch → hold w epoch r ≡ by_request w r
   looked epoch o = turned_by epoch Normal None o.mode (to_own epoch w.epoch o.of_epoch)
@@ -200,25 +199,25 @@ module _ (w : WitnessState) (r : Request) where
   not_held_so epoch o h c full e f =
       looked epoch o ∙ ap (λ (b : Bool). cond b (record { state = w; reason = None }) (by_room w r (conflict w r) (full_set w r))) h ∙ (λ i. by_room w r (e i) (f i))
 
-  pub conflict_so : (epoch : ℕ) (id : RequestId) → HoldsInOrder w → IsOpen w epoch × (¬ (IsHeld w r.id)) × IsLeastConflict w r id → (hold w epoch r).reason ≡ Some (reason.Conflict id)
-  conflict_so epoch id s p = ap (λ (v : Verdict). v.reason) (not_held_so epoch p.0 (held_isnt p.1) (Some id) (full_set w r) (least_conflict_is id s p.2) refl)
+  pub conflict_so : (epoch : ℕ) (id : RequestId) → HoldsInOrder w → IsNewTo w epoch r × IsLeastConflict w r id → RejectsWith w epoch r (reason.Conflict id)
+  conflict_so epoch id s p = ap (λ (v : AfterRecord). v.reason) (not_held_so epoch p.0.looks (held_isnt p.0.not_held) (Some id) (full_set w r) (least_conflict_is id s p.1) refl)
 
-  pub set_full_so : (epoch set : ℕ) → IsOpen w epoch × (¬ (IsHeld w r.id)) × HasNoConflict w r × IsLeastFull w r set → (hold w epoch r).reason ≡ Some (reason.SetFull set)
-  set_full_so epoch set p = ap (λ (v : Verdict). v.reason) (not_held_so epoch p.0 (held_isnt p.1) None (Some set) (no_conflict_is p.2) (least_full_is set p.3))
+  pub set_full_so : (epoch set : ℕ) → IsNewTo w epoch r × HasNoConflict w r × IsLeastFull w r set → RejectsWith w epoch r (reason.SetFull set)
+  set_full_so epoch set p = ap (λ (v : AfterRecord). v.reason) (not_held_so epoch p.0.looks (held_isnt p.0.not_held) None (Some set) (no_conflict_is p.1) (least_full_is set p.2))
 
-  pub accepted_so : (epoch : ℕ) → IsOpen w epoch × (IsHeld w r.id ⊎ (HasNoConflict w r × HasRoom w r)) → (hold w epoch r).reason ≡ None
+  pub accepted_so : (epoch : ℕ) → IsOpen w epoch × (HoldsId w r.id ⊎ (HasNoConflict w r × HasRoomFor w r)) → (hold w epoch r).reason ≡ None
   accepted_so epoch p = elim (cases_Bool (holds w r.id)) [
-    | inl y ↦ ap (λ (v : Verdict). v.reason) (held_so epoch p.0 y)
+    | inl y ↦ ap (λ (v : AfterRecord). v.reason) (held_so epoch p.0 y)
     | inr n ↦ elim (p.1) [
       | inl h ↦ absurd (isnt_held n h)
-      | inr q ↦ ap (λ (v : Verdict). v.reason) (not_held_so epoch p.0 n None None (no_conflict_is q.0) (room_is q.1))
+      | inr q ↦ ap (λ (v : AfterRecord). v.reason) (not_held_so epoch p.0 n None None (no_conflict_is q.0) (room_is q.1))
     ]
   ]
 
   -- ---- the state behind it
 
-  pub held_again : (epoch : ℕ) → (hold w epoch r).reason ≡ None → IsHeld w r.id → (hold w epoch r).state ≡ w
-  held_again epoch e h = ap (λ (v : Verdict). v.state) (held_so epoch (why epoch None e).0 (held_is h))
+  pub held_again : (epoch : ℕ) → (hold w epoch r).reason ≡ None → HoldsId w r.id → (hold w epoch r).state ≡ w
+  held_again epoch e h = ap (λ (v : AfterRecord). v.state) (held_so epoch (why epoch None e).0 (held_is h))
 
   -- a rejection leaves the state, but for the marks where something conflicts
   abbrev Leaves : Option Reason → WitnessState → Type 0
@@ -226,15 +225,15 @@ module _ (w : WitnessState) (r : Request) where
   Leaves (Some (reason.Conflict id)) after = IsAlikeButMarks w after
   Leaves (Some _) after = after ≡ w
 
-  unmarked_same : (x : Held) → unmarked (suspect r x) ≡ unmarked x
-  unmarked_same x = cond_both _ _ x (λ (y : Held). unmarked y ≡ unmarked x) (λ y. refl) (λ n. refl)
+  unmarked_same : (x : HeldRequest) → unmarked (suspect r x) ≡ unmarked x
+  unmarked_same x = cond_both _ _ x (λ (y : HeldRequest). unmarked y ≡ unmarked x) (λ y. refl) (λ n. refl)
 
-  unmarked_alike : (held : List Held) → map unmarked (map (suspect r) held) ≡ map unmarked held
+  unmarked_alike : (held : List HeldRequest) → map unmarked (map (suspect r) held) ≡ map unmarked held
   unmarked_alike [] = refl
   unmarked_alike (x ∷ held) = λ i. unmarked_same x i ∷ unmarked_alike held i
 
   by_room_leaves : (c : Option RequestId) (full : Option ℕ) → Leaves (by_room w r c full).reason (by_room w r c full).state
-  by_room_leaves (Some id) full = ap (λ (held : List Held). record w { held = held }) (unmarked_alike w.held)
+  by_room_leaves (Some id) full = ap (λ (held : List HeldRequest). record w { held = held }) (unmarked_alike w.held)
   by_room_leaves None (Some set) = refl
   by_room_leaves None None = tt
 
@@ -243,7 +242,7 @@ module _ (w : WitnessState) (r : Request) where
   turned_leaves Normal (Some own) = refl
   turned_leaves Frozen (Some own) = refl
   turned_leaves Frozen None = refl
-  turned_leaves Normal None = cond_both (holds w r.id) _ _ (λ (v : Verdict). Leaves v.reason v.state) (λ y. tt) (λ n. by_room_leaves (conflict w r) (full_set w r))
+  turned_leaves Normal None = cond_both (holds w r.id) _ _ (λ (v : AfterRecord). Leaves v.reason v.state) (λ y. tt) (λ n. by_room_leaves (conflict w r) (full_set w r))
 
   leaves : (epoch : ℕ) (o : Option Reason) → (hold w epoch r).reason ≡ o → Leaves o (hold w epoch r).state
   unfolding hold
@@ -259,5 +258,5 @@ module _ (w : WitnessState) (r : Request) where
   pub conflict_marks : (epoch : ℕ) (id : RequestId) → (hold w epoch r).reason ≡ Some (reason.Conflict id) → IsAlikeButMarks w (hold w epoch r).state
   conflict_marks epoch id e = leaves epoch (Some (reason.Conflict id)) e
 
-  pub conflict_why : (epoch : ℕ) (id : RequestId) → HoldsInOrder w → (hold w epoch r).reason ≡ Some (reason.Conflict id) → IsOpen w epoch × (¬ (IsHeld w r.id)) × IsLeastConflict w r id
-  conflict_why epoch id s e = let y = why epoch (Some (reason.Conflict id)) e in (y.0, y.1, conflict_least id s y.2)
+  pub conflict_why : (epoch : ℕ) (id : RequestId) → HoldsInOrder w → RejectsWith w epoch r (reason.Conflict id) → IsNewTo w epoch r × IsLeastConflict w r id
+  conflict_why epoch id s e = let y = why epoch (Some (reason.Conflict id)) e in (y.0, conflict_least id s y.1)

@@ -1,14 +1,14 @@
 -- What a witness holds, and what it has room for, as its answers speak of it.
-use Rattle.std.specs.Prelude.{◌≡◌, ◌≢◌, ◌≤◌, ◌<◌, ℕ, ◌+◌, true, false, map, Some}
+use Rattle.std.specs.Prelude.{◌≡◌, ◌≢◌, ◌≤◌, ◌<◌, ℕ, ◌+◌, true, false, map, Some, None}
 use Rattle.std.specs.declared.cmp.Ordering.TheVariants.{Greater}
-use Rattle.curp_base.specs.Words.{At, Ascend}
-use Rattle.curp_cmd.specs.Hash.{conflicts}
+use Rattle.curp_base.specs.Words.{At}
+use Rattle.curp_cmd.specs.Hash.{conflicts, hashes}
 use Rattle.curp_cmd.specs.RequestId.{id_cmp}
 use Rattle.curp_cmd.specs.declared.command.Request.{Request}
 use Rattle.curp_cmd.specs.declared.command.RequestId.{RequestId}
+use Rattle.curp_msg.specs.declared.answer.Reason.{Reason}
 use Rattle.curp_model.specs.declared.Mode.TheVariants.{Idle, Normal}
-use Rattle.curp_model.specs.Requests.{hashes}
-use Rattle.curp_model.specs.Witness.{Held, WitnessState, in_set, used}
+use Rattle.curp_model.specs.Witness.{WitnessState, hold, in_set, used, HeldRequest}
 
 -- ---- its epoch
 
@@ -27,19 +27,38 @@ pub record IsOpen (w : WitnessState) (epoch : ℕ) : Type 0 where
   pub mode : w.mode ≡ Normal
   pub of_epoch : IsOfEpoch w epoch
 
+-- ---- its answer
+
+-- the witness rejects a record of that epoch, for that reason
+abbrev pub RejectsWith : WitnessState → ℕ → Request → Reason → Type 0
+RejectsWith w epoch r why = (hold w epoch r).reason ≡ Some why
+
+-- it accepts the record
+abbrev pub AcceptsRecord : WitnessState → ℕ → Request → Type 0
+AcceptsRecord w epoch r = (hold w epoch r).reason ≡ None
+
+-- the record leaves the witness as it was
+abbrev pub ChangesNothing : WitnessState → ℕ → Request → Type 0
+ChangesNothing w epoch r = (hold w epoch r).state ≡ w
+
 -- ---- what is held
 
 -- a request with that id is held
-pub record IsHeld (w : WitnessState) (id : RequestId) : Type 0 where
+pub record HoldsId (w : WitnessState) (id : RequestId) : Type 0 where
   pub place : ℕ
-  pub held : Held
+  pub held : HeldRequest
   pub stands : At w.held place held
   pub its_id : held.request.id ≡ id
+
+-- it looks at the request, and doesn't hold its id
+pub record IsNewTo (w : WitnessState) (epoch : ℕ) (r : Request) : Type 0 where
+  pub looks : IsOpen w epoch
+  pub not_held : ¬ (HoldsId w r.id)
 
 -- a request with that id is held, and conflicts with this one
 pub record IsConflict (w : WitnessState) (r : Request) (id : RequestId) : Type 0 where
   pub place : ℕ
-  pub held : Held
+  pub held : HeldRequest
   pub stands : At w.held place held
   pub its_id : held.request.id ≡ id
   pub conflicting : conflicts held.request.command r.command ≡ true
@@ -53,10 +72,6 @@ pub record IsLeastConflict (w : WitnessState) (r : Request) (id : RequestId) : T
   pub one : IsConflict w r id
   pub least : (other : RequestId) → IsConflict w r other → id_cmp id other ≢ Greater
 
--- what is held stands in ascending order of the ids, each once
-abbrev pub HoldsInOrder : WitnessState → Type 0
-HoldsInOrder w = Ascend id_cmp (map (λ (x : Held). x.request.id) w.held)
-
 -- ---- room
 
 -- the slots of set s that are taken, with those that the request needs there, are no more than there are
@@ -64,8 +79,8 @@ abbrev pub Fits : WitnessState → Request → ℕ → Type 0
 Fits w r s = used w s + in_set w.sets s (hashes r.command) ≤ w.ways
 
 -- every set has room for the request
-abbrev pub HasRoom : WitnessState → Request → Type 0
-HasRoom w r = (s : ℕ) → s < w.sets → Fits w r s
+abbrev pub HasRoomFor : WitnessState → Request → Type 0
+HasRoomFor w r = (s : ℕ) → s < w.sets → Fits w r s
 
 -- the least set that has no room for the request
 pub record IsLeastFull (w : WitnessState) (r : Request) (s : ℕ) : Type 0 where
@@ -76,9 +91,10 @@ pub record IsLeastFull (w : WitnessState) (r : Request) (s : ℕ) : Type 0 where
 -- ---- what a conflict changes
 
 -- without its mark
-abbrev pub unmarked : Held → Held
+abbrev pub unmarked : HeldRequest → HeldRequest
 unmarked x = record x { suspected = false }
 
 -- the one is the other but for the marks of what is held
 abbrev pub IsAlikeButMarks : WitnessState → WitnessState → Type 0
-IsAlikeButMarks before after = record after { held = map unmarked after.held } ≡ record before { held = map unmarked before.held }
+IsAlikeButMarks before after =
+    record after { held = map unmarked after.held } ≡ record before { held = map unmarked before.held }

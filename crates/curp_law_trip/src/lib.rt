@@ -1,61 +1,95 @@
-//! One round trip: what a witness answers to a record, and that the master's reply and the accepts of all witnesses complete
-//! an update. There is no code here: a law is the contract of a function with nothing in it, and a caller has the law by the
-//! call.
+//! One round trip: what a witness answers to a record, and that the master's reply and the accepts of all witnesses
+//! complete an update. There is no code here: a law is the contract of a function with nothing in it, and a caller has
+//! the law by the call.
 #![tactic(auto)]
 
-ghost use Rattle.std.specs.Prelude.{◌≡◌, ◌≢◌, ◌↔◌, ◌⊎◌, ℕ, Bool, List, [], ◌∷◌, Some, None};
+ghost use Rattle.std.specs.Prelude.{◌≡◌, ◌≢◌, ◌↔◌, ◌⊎◌, ℕ, Bool, List, [], ◌∷◌, Some};
+ghost use Rattle.std.specs.List.{IsDistinct};
 ghost use Rattle.std.specs.List.Sorted.{IsPermutation};
 ghost use Rattle.curp_base.specs.Words.{At};
+ghost use Rattle.curp_cmd.specs.Node.{same_node};
+ghost use Rattle.curp_cmd.specs.declared.command.Command.{Command};
 ghost use Rattle.curp_cmd.specs.declared.command.Request.{Request};
 ghost use Rattle.curp_cmd.specs.declared.command.RequestId.{RequestId};
 ghost use Rattle.curp_cmd.specs.declared.node.NodeId.{NodeId};
+ghost use Rattle.curp_msg.specs.Moved.{Node};
 ghost use Rattle.curp_msg.specs.declared.answer.Reason.{Reason};
 ghost use Rattle.curp_msg.specs.declared.answer.Reason.TheVariants as reason;
 ghost use Rattle.curp_msg.specs.declared.body.Body.{Body};
-ghost use Rattle.curp_msg.specs.declared.body.Body.TheVariants as body;
 ghost use Rattle.curp_msg.specs.declared.config.Config.{Config};
-ghost use Rattle.curp_msg.specs.declared.machine.Local.{Local};
+ghost use Rattle.curp_msg.specs.declared.config.PartConfig.{PartConfig};
+ghost use Rattle.curp_msg.specs.declared.machine.Input.{Input};
 ghost use Rattle.curp_msg.specs.declared.message.Message.{Message};
+ghost use Rattle.curp_msg.specs.declared.script.Header.{Header};
 ghost use Rattle.curp_model.specs.declared.Mode.TheVariants.{Idle, Frozen};
-ghost use Rattle.curp_model.specs.Client.{ClientState, client_ordered, fresh_client, on_client};
-ghost use Rattle.curp_model.specs.Moved.{Node, says, says_each};
-ghost use Rattle.curp_model.specs.Witness.{WitnessState, hold, fresh_witness, on_witness};
-ghost use Rattle.curp_law_trip.specs.Holding.{IsStranger, IsOfEpoch, IsOpen, IsHeld, HasNoConflict, IsLeastConflict, HoldsInOrder, HasRoom, IsLeastFull, IsAlikeButMarks};
-ghost use Rattle.curp_law_trip.specs.Trip.{CompletesAtLast, CompletesNothing, MeetsNothing, NumbersAreUsed, Trip, accept_of, answers, client_of, completion_of, from_master, from_witness, invoked, record_of, reply_of, update_of};
+ghost use Rattle.curp_model.specs.Client.{ClientState, NumbersAreUsed, client_input, fresh_client, owner_of};
+ghost use Rattle.curp_model.specs.Manager.{Shape, opening_config};
+ghost use Rattle.curp_model.specs.Witness.{HoldsInOrder, WitnessState, fresh_witness, hold, on_witness};
+ghost use Rattle.curp_model.specs.World.{opening};
+ghost use Rattle.curp_law_trip.specs.Holding.{AcceptsRecord, ChangesNothing, HasNoConflict, HasRoomFor, HoldsId};
+ghost use Rattle.curp_law_trip.specs.Holding.{IsAlikeButMarks, IsLeastConflict, IsLeastFull, IsNewTo, IsOfEpoch};
+ghost use Rattle.curp_law_trip.specs.Holding.{IsOpen, IsStranger, RejectsWith};
+ghost use Rattle.curp_law_trip.specs.Meeting.{CanBeFast, MeetsNothingIn};
+ghost use Rattle.curp_law_trip.specs.Trip.{CompletesAtLast, CompletesNothing, GivesApart, MeetsNothing, Trip};
+ghost use Rattle.curp_law_trip.specs.Trip.{WitnessesAreApart, accept_of, answers, completion_of, from_master};
+ghost use Rattle.curp_law_trip.specs.Trip.{from_witness, invoked, reply_of, sendings};
 
-/// When a witness rejects a record, and for which reason. The first that holds counts, in the order of these clauses; where
-/// none does, it accepts. That what is held stands in order is so of a fresh witness, and stays so.
+/// When a witness rejects a record, and for which reason. The first that holds counts, in the order of these clauses;
+/// where none does, it accepts. That what is held stands in order is so of a fresh witness, and stays so.
 pub fn rejected_exactly()
-    ensures idle { (w : WitnessState) (epoch : ℕ) (r : Request) → ((hold w epoch r).reason ≡ Some reason.Idle) ↔ (w.mode ≡ Idle) }
-    ensures stranger { (w : WitnessState) (epoch : ℕ) (r : Request) (own : ℕ) → ((hold w epoch r).reason ≡ Some (reason.Stranger own)) ↔ IsStranger w epoch own }
-    ensures frozen { (w : WitnessState) (epoch : ℕ) (r : Request) → ((hold w epoch r).reason ≡ Some reason.Frozen) ↔ ((w.mode ≡ Frozen) × IsOfEpoch w epoch) }
+    ensures idle { (w : WitnessState) (epoch : ℕ) (r : Request) → RejectsWith w epoch r reason.Idle ↔ (w.mode ≡ Idle) }
+    ensures stranger { (w : WitnessState) (epoch : ℕ) (r : Request) (own : ℕ)
+        → RejectsWith w epoch r (reason.Stranger own) ↔ IsStranger w epoch own }
+    ensures frozen { (w : WitnessState) (epoch : ℕ) (r : Request)
+        → RejectsWith w epoch r reason.Frozen ↔ ((w.mode ≡ Frozen) × IsOfEpoch w epoch) }
     ensures conflict { (w : WitnessState) (epoch : ℕ) (r : Request) (id : RequestId) → HoldsInOrder w
-        → ((hold w epoch r).reason ≡ Some (reason.Conflict id)) ↔ (IsOpen w epoch × (¬ (IsHeld w r.id)) × IsLeastConflict w r id) }
+        → RejectsWith w epoch r (reason.Conflict id) ↔ (IsNewTo w epoch r × IsLeastConflict w r id) }
     ensures set_full { (w : WitnessState) (epoch : ℕ) (r : Request) (set : ℕ)
-        → ((hold w epoch r).reason ≡ Some (reason.SetFull set)) ↔ (IsOpen w epoch × (¬ (IsHeld w r.id)) × HasNoConflict w r × IsLeastFull w r set) }
+        → RejectsWith w epoch r (reason.SetFull set) ↔ (IsNewTo w epoch r × HasNoConflict w r × IsLeastFull w r set) }
     ensures accepted { (w : WitnessState) (epoch : ℕ) (r : Request)
-        → ((hold w epoch r).reason ≡ None) ↔ (IsOpen w epoch × (IsHeld w r.id ⊎ (HasNoConflict w r × HasRoom w r))) }
-    ensures rejection_stands { (w : WitnessState) (epoch : ℕ) (r : Request) (why : Reason) → (hold w epoch r).reason ≡ Some why → ((id : RequestId) → why ≢ reason.Conflict id) → (hold w epoch r).state ≡ w }
-    ensures conflict_marks { (w : WitnessState) (epoch : ℕ) (r : Request) (id : RequestId) → (hold w epoch r).reason ≡ Some (reason.Conflict id) → IsAlikeButMarks w (hold w epoch r).state }
-    ensures held_again { (w : WitnessState) (epoch : ℕ) (r : Request) → (hold w epoch r).reason ≡ None → IsHeld w r.id → (hold w epoch r).state ≡ w }
+        → AcceptsRecord w epoch r ↔ (IsOpen w epoch × (HoldsId w r.id ⊎ (HasNoConflict w r × HasRoomFor w r))) }
+    ensures rejection_stands { (w : WitnessState) (epoch : ℕ) (r : Request) (why : Reason) → RejectsWith w epoch r why
+        → ((id : RequestId) → why ≢ reason.Conflict id) → ChangesNothing w epoch r }
+    ensures conflict_marks { (w : WitnessState) (epoch : ℕ) (r : Request) (id : RequestId)
+        → RejectsWith w epoch r (reason.Conflict id) → IsAlikeButMarks w (hold w epoch r).state }
+    ensures held_again { (w : WitnessState) (epoch : ℕ) (r : Request)
+        → AcceptsRecord w epoch r → HoldsId w r.id → ChangesNothing w epoch r }
     ensures fresh_in_order { (sets ways : ℕ) → HoldsInOrder (fresh_witness sets ways) }
-    ensures stays_in_order { (n : ℕ) (w : WitnessState) (from : NodeId) (message : Body) → HoldsInOrder w → HoldsInOrder (on_witness n w from message).state }
+    ensures stays_in_order { (n : ℕ) (w : WitnessState) (from : NodeId) (message : Body)
+        → HoldsInOrder w → HoldsInOrder (on_witness n w from message).state }
 {}
 
-/// An update that meets nothing in its way takes one round trip. The client sends the Update to the master and a Record to
-/// each witness; each of them answers with one message, the unsynced reply and the accepts; and these, in any order, complete
-/// the update at the last one and not before. With any one of them left out nothing completes. That a client's numbers are
-/// used is so of a fresh client, and stays so.
+/// An update that meets nothing in its way takes one round trip. The client sends the Update to the master and a Record
+/// to each witness; each of them answers with one message, the unsynced reply and the accepts; and these, in any order,
+/// complete the update at the last one and not before. With any one of them left out nothing completes.
 pub fn one_round_trip()
-    ensures sent { (t : Trip) → MeetsNothing t
-        → (invoked t).messages ≡ says (client_of t) t.part.master (body.Update (update_of t)) ∷ says_each (client_of t) t.part.witnesses (body.Record (record_of t)) }
+    ensures sent { (t : Trip) → MeetsNothing t → (invoked t).messages ≡ sendings t }
     ensures replied { (t : Trip) → MeetsNothing t → from_master t ≡ reply_of t ∷ [] }
-    ensures accepted { (t : Trip) → MeetsNothing t → (k : ℕ) (w : Node WitnessState) → At t.witnesses k w → from_witness t w ≡ accept_of t w ∷ [] }
+    ensures accepted { (t : Trip) → MeetsNothing t → (k : ℕ) (w : Node WitnessState) → At t.witnesses k w
+        → from_witness t w ≡ accept_of t w ∷ [] }
     ensures completes { (t : Trip) → MeetsNothing t → (order : List Message) → IsPermutation (answers t) order
         → CompletesAtLast t.client.number (invoked t).state order (completion_of t) }
-    ensures all_count { (t : Trip) → MeetsNothing t → (missing : Message) (others : List Message) → IsPermutation (answers t) (missing ∷ others)
-        → CompletesNothing t.client.number (invoked t).state others }
-    ensures fresh_numbers { (fast : Bool) (config : Config) → NumbersAreUsed (fresh_client fast config) }
-    ensures ordered_numbers { (n : ℕ) (c : ClientState) (order : Local) → NumbersAreUsed c → NumbersAreUsed (client_ordered n c order).state }
-    ensures heard_numbers { (n : ℕ) (c : ClientState) (from : NodeId) (message : Body) → NumbersAreUsed c → NumbersAreUsed (on_client n c from message).state }
+    ensures all_count { (t : Trip) → MeetsNothing t → (missing : Message) (others : List Message)
+        → IsPermutation (answers t) (missing ∷ others) → CompletesNothing t.client.number (invoked t).state others }
+{}
+
+/// Two of the premises of a trip are always so: no number of what is pending is behind the client's last one, and the
+/// witnesses of each partition that the client knows are different nodes. They are so at first, and every input of a
+/// client keeps them; a configuration that a message brings has to have different witnesses itself.
+pub fn premises_stay()
+    ensures numbers_at_first { (fast : Bool) (config : Config) → NumbersAreUsed (fresh_client fast config) }
+    ensures numbers_stay { (n : ℕ) (c : ClientState) (given : Input)
+        → NumbersAreUsed c → NumbersAreUsed (client_input n c given).state }
+    ensures apart_at_first { (s : Shape) → WitnessesAreApart (opening_config s) }
+    ensures apart_stay { (n : ℕ) (c : ClientState) (given : Input)
+        → WitnessesAreApart c.config → GivesApart given → WitnessesAreApart (client_input n c given).state.config }
+    ensures owner_apart { (config : Config) (command : Command) (part : PartConfig) → WitnessesAreApart config
+        → owner_of config command ≡ Some part → IsDistinct same_node part.witnesses }
+{}
+
+/// The premises of a trip can be met: the first update of each client of an opening with one partition meets nothing,
+/// where clients use the witnesses and each set has as many ways as the command has hashes.
+pub fn trip_can_be_met()
+    ensures at_opening { (h : Header) (n : ℕ) (command : Command) → CanBeFast h n command
+        → MeetsNothingIn (opening h) n command }
 {}

@@ -1,16 +1,16 @@
 -- The fold of a log of Ops: its parts, and so its check, are read from the log.
-use Rattle.std.proofs.Common.{◌≡◌, ℕ, zero, suc, ◌+◌, ◌==◌, max, not, nat_le, nat_lt, Bool, true, false, cond, if◌then◌else◌, List, [], ◌∷◌, Option, Some, None, unwrap_or, refl, ap, sym, ◌∙◌, subst, arith}
+use Rattle.std.proofs.Common.{◌≡◌, ℕ, zero, suc, ◌+◌, ◌==◌, max, not, nat_lt, Bool, true, false, cond, if◌then◌else◌, List, [], ◌∷◌, Option, Some, None, unwrap_or, refl, ap, sym, ◌∙◌, subst, arith}
 use Rattle.std.specs.Cmp.{nat_cmp_total}
 use Rattle.std.specs.FinMap.{nat_cmp-IsAntisymmetric}
 use Rattle.std.specs.List.{list_any}
 use Rattle.std.specs.FinMap.Entries.{find, find-put, find-where_key}
 use Rattle.std.specs.Ordering.{nat_cmp, eq_by_cmp, is_eq}
-use Rattle.std.proofs.lemmas.Bool.{and_parts, and_from, not_from_false, cond_both}
+use Rattle.std.proofs.lemmas.Bool.{and_parts}
 use Rattle.std.proofs.lemmas.Bool.Decides.{nat_tests}
 use Rattle.std.proofs.lemmas.Cmp.{tied_itself}
 use Rattle.std.proofs.lemmas.Map.Views.{tells_apart}
 use Rattle.curp_base.specs.Words.{Each}
-use Rattle.curp_cmd.specs.RequestId.{id_cmp}
+use Rattle.curp_cmd.specs.RequestId.{id_cmp, same_id}
 use Rattle.curp_cmd.specs.Store.{applied, nothing}
 use Rattle.curp_cmd.specs.declared.command.Answer.{Answer}
 use Rattle.curp_cmd.specs.declared.command.Request.{Request}
@@ -20,9 +20,10 @@ use Rattle.curp_cmd.specs.declared.entry.Entry.TheVariants.{Op, Take, Give, Expi
 use Rattle.curp_model.specs.declared.Check.{Check}
 use Rattle.curp_model.specs.declared.Check.TheVariants.{Expired, Stale, Known, New}
 use Rattle.curp_model.specs.Log.{LogState, after_entries, after_entry, all_fit, fits_at, is_new, IsLog, log_opening, meaning}
-use Rattle.curp_model.specs.Requests.{same_id}
-use Rattle.curp_model.specs.Table.{Noted, Table, check, first_number, is_gone, is_kept, known, note, raise_first}
-use Rattle.curp_model.proofs.Tables.{ids_same, ids_total}
+use Rattle.curp_model.specs.Table.{Noted, Table, check, first_number, is_below, is_gone, is_of_use, known, note, raise_first}
+use Rattle.curp_cmd.proofs.Ids.{same_id-self, same_id-true}
+use Rattle.curp_model.proofs.Logs.{new_by_test}
+use Rattle.curp_model.proofs.Tables.{by_check, found_noted, ids_same, ids_total, kept_before, kept_from, not_below}
 use Rattle.curp_log.specs.Ops.{IsOp, acknowledged_by, answers_from, check_in, first_in, found}
 
 -- ---- what Ops leave as it is
@@ -94,28 +95,12 @@ first_of_ops (Expire client ∷ es) s k _ ops = absurd (ops.0)
 -- ---- the records
 
 -- what is of use in the end is of use before
-kept_before : (es : List Entry) (s : LogState) (k : ℕ) (id : RequestId) → Each IsOp es → is_kept (after_entries s k es).table id ≡ true → is_kept s.table id ≡ true
-kept_before es s k id ops kept =
+use_before : (es : List Entry) (s : LogState) (k : ℕ) (id : RequestId) → Each IsOp es → is_of_use (after_entries s k es).table id ≡ true → is_of_use s.table id ≡ true
+use_before es s k id ops =
+    let t = (after_entries s k es).table in
     let first = first_of_ops es s k id.client ops in
-    let parts = and_parts (not (is_gone (after_entries s k es).table id.client)) (nat_le (first_number (after_entries s k es).table id.client) id.seq) kept in
-    let low : nat_le (first_number (after_entries s k es).table id.client) id.seq ≡ true = parts.1 in
-    and_from _ _ (subst (λ (gone : List ℕ). not (list_any (λ c. c == id.client) gone) ≡ true) (left_by_ops es s k ops).gone parts.0) (lower _ _ _ id.seq first low)
-  where
-    lower : (a b c q : ℕ) → a ≡ max b c → nat_le a q ≡ true → nat_le b q ≡ true
-    lower a b c q e low = grind (arith, nat_tests)
-
-pub same_from_true : (a b : RequestId) → same_id a b ≡ true → a ≡ b
-same_from_true a b e =
-    let parts = and_parts (a.client == b.client) (a.seq == b.seq) e in
-    let client : a.client ≡ b.client = grind (arith, nat_tests) in
-    let seq : a.seq ≡ b.seq = grind (arith, nat_tests) in
-    λ i. record { client = client i; seq = seq i }
-
-same_itself : (a : RequestId) → same_id a a ≡ true
-same_itself a = and_from _ _ (one a.client) (one a.seq)
-  where
-    one : (n : ℕ) → (n == n) ≡ true
-    one n = grind (arith, nat_tests)
+    let same : t.gone ≡ s.table.gone = (left_by_ops es s k ops).gone in
+    kept_before s.table t id (λ e. subst (λ (gone : List ℕ). list_any (λ c. c == id.client) gone ≡ true) (sym same) e) (omega (arith, first))
 
 -- the two ways to tell that ids are the same
 same_by_order : (a b : RequestId) → eq_by_cmp id_cmp b a ≡ same_id a b
@@ -125,9 +110,9 @@ same_by_order a b = go (eq_by_cmp id_cmp b a) refl (same_id a b) refl
     go true e true f = refl
     go true e false f =
         let same : b ≡ a = tells_apart ids_same b a e in
-        absurd (cc (same, f, same_itself a))
+        absurd (cc (same, f, same_id-self a))
     go false e true f =
-        let same : a ≡ b = same_from_true a b f in
+        let same : a ≡ b = same_id-true a b f in
         absurd (cc (same, e, ap is_eq (tied_itself ids_total a)))
     go false e false f = refl
 
@@ -135,35 +120,23 @@ none_if_new : (o : Option Noted) → known o ≡ New → o ≡ None
 none_if_new None e = refl
 none_if_new (Some n) e = absurd cc
 
-kept_from : (t : Table) (id : RequestId) → is_gone t id.client ≡ false → nat_lt id.seq (first_number t id.client) ≡ false → is_kept t id ≡ true
-kept_from t id g l = and_from _ _ (not_from_false _ g) (grind (arith, nat_tests))
-
 -- an id that is new has no record
 no_record : (t : Table) (id : RequestId) → check t id ≡ New → find id_cmp id t.records ≡ None
-unfolding check
 no_record t id =
-    cond_both (is_gone t id.client) _ _ (λ (c : Check). c ≡ New → find id_cmp id t.records ≡ None) (λ g e. absurd cc)
-    (λ g. cond_both (nat_lt id.seq (first_number t id.client)) _ _ (λ (c : Check). c ≡ New → find id_cmp id t.records ≡ None) (λ l e. absurd cc) (λ l. none_if_new (find id_cmp id t.records)))
-
-new_by_test : (c : Check) → is_new c ≡ true → c ≡ New
-new_by_test New e = refl
-new_by_test (Known a index) e = absurd cc
-new_by_test (Stale first) e = absurd cc
-new_by_test Expired e = absurd cc
+    by_check t id (λ (c : Check). c ≡ New → find id_cmp id t.records ≡ None) (λ e. absurd cc) (λ first e. absurd cc) (λ kept. none_if_new (find id_cmp id t.records))
 
 -- what a look-up finds once an Op is done
-found_more : (s : LogState) (k : ℕ) (r : Request) (acknowledged : ℕ) (id : RequestId) → is_kept (after_entry s k (Op r acknowledged)).table id ≡ true
+found_more : (s : LogState) (k : ℕ) (r : Request) (acknowledged : ℕ) (id : RequestId) → is_of_use (after_entry s k (Op r acknowledged)).table id ≡ true
     → find id_cmp id (after_entry s k (Op r acknowledged)).table.records
     ≡ cond (same_id r.id id) (Some (record { answer = (applied s.store r.command).answer; index = k })) (find id_cmp id s.table.records)
 unfolding after_entry
 found_more s k r acknowledged id kept =
-    let n : Noted = record { answer = (applied s.store r.command).answer; index = k } in
-    let t = (after_entry s k (Op r acknowledged)).table in
-    let u = note s.table r.id n.answer k in
-    find-where_key id_cmp (is_kept t) id (λ x e. ap (is_kept t) (sym (ids_same id x e))) u.records
-    ∙ ap (λ (b : Bool). cond b (find id_cmp id u.records) None) kept
-    ∙ find-put id_cmp ids_total id r.id n s.table.records
-    ∙ ap (λ (b : Bool). cond b (Some n) (find id_cmp id s.table.records)) (same_by_order r.id id)
+    let a = (applied s.store r.command).answer in
+    let noted = note s.table r.id a k in
+    find-where_key id_cmp (λ x. not (is_below r.id.client acknowledged x)) id (λ x e. ap (λ (y : RequestId). not (is_below r.id.client acknowledged y)) (sym (ids_same id x e))) noted.records
+    ∙ ap (λ (b : Bool). cond b (find id_cmp id noted.records) None) (not_below noted id r.id.client acknowledged kept)
+    ∙ found_noted s.table id r.id a k
+    ∙ ap (λ (b : Bool). cond b (Some (record { answer = a; index = k })) (find id_cmp id s.table.records)) (same_by_order r.id id)
 
 -- a record that was there before counts first
 abbrev over : Option Noted → Check → Check
@@ -178,7 +151,7 @@ over_more : (b : Bool) (o : Option Noted) (a : Answer) (index : ℕ) (c : Check)
 over_more true o a index c none = let e : o ≡ None = none refl in rw e refl
 over_more false o a index c none = refl
 
-pub found_of_ops : (es : List Entry) (s : LogState) (k : ℕ) (id : RequestId) → Each IsOp es → all_fit s k es ≡ true → is_kept (after_entries s k es).table id ≡ true
+pub found_of_ops : (es : List Entry) (s : LogState) (k : ℕ) (id : RequestId) → Each IsOp es → all_fit s k es ≡ true → is_of_use (after_entries s k es).table id ≡ true
     → known (find id_cmp id (after_entries s k es).table.records) ≡ over (find id_cmp id s.table.records) (found k es (answers_from s.store es) id)
 unfolding after_entry
 found_of_ops [] s k id ops fits kept = over_new (find id_cmp id s.table.records)
@@ -189,9 +162,9 @@ found_of_ops (Op r acknowledged ∷ es) s k id ops fits kept =
     let new : check s.table r.id ≡ New = new_by_test _ (and_parts (is_new (check s.table r.id)) _ parts.0).0 in
     let none = no_record s.table r.id new in
     found_of_ops es t (k + 1) id ops.1 parts.1 kept
-    ∙ ap (λ (o : Option Noted). over o (found (k + 1) es (answers_from t.store es) id)) (found_more s k r acknowledged id (kept_before es t (k + 1) id ops.1 kept))
+    ∙ ap (λ (o : Option Noted). over o (found (k + 1) es (answers_from t.store es) id)) (found_more s k r acknowledged id (use_before es t (k + 1) id ops.1 kept))
     ∙ over_more (same_id r.id id) (find id_cmp id s.table.records) a k (found (k + 1) es (answers_from t.store es) id)
-    (λ e. let same : r.id ≡ id = same_from_true r.id id e in subst (λ (x : RequestId). find id_cmp x s.table.records ≡ None) same none)
+    (λ e. let same : r.id ≡ id = same_id-true r.id id e in subst (λ (x : RequestId). find id_cmp x s.table.records ≡ None) same none)
 found_of_ops (Take migration taken ∷ es) s k id ops fits kept = absurd (ops.0)
 found_of_ops (Give migration given ∷ es) s k id ops fits kept = absurd (ops.0)
 found_of_ops (Expire client ∷ es) s k id ops fits kept = absurd (ops.0)

@@ -20,7 +20,7 @@ use Rattle.curp_model.specs.Log.{LogState, after_entries, after_entry, all_fit, 
 use Rattle.curp_model.specs.Table.{Noted, Table, check, first_number, is_gone, known}
 use Rattle.curp_model.proofs.Tables.{Has, not_new}
 use Rattle.curp_model.proofs.Logs.{meaning_append, seen_entries}
-use Rattle.curp_log.specs.Ops.{IsKept, IsOp}
+use Rattle.curp_log.specs.Ops.{IsAnsweredLog, IsOp}
 use Rattle.curp_log.proofs.Stands.{answers_more}
 
 -- ---- it is a log where the entry fits
@@ -49,9 +49,9 @@ fit_fails (x ∷ es) s k (suc j) e h fails = let f = fit_fails es (after_entry s
 pub no_log : (lo hi : ℕ) (log : List Entry) (j : ℕ) (e : Entry) → At log j e → fits_at (meaning lo hi (take j log)) e ≡ false → is_log lo hi log ≡ false
 no_log lo hi log = fit_fails log (log_opening lo hi) 0
 
-pub kept_more : (lo hi : ℕ) (log : List Entry) (answered : List Answer) (contents : Contents) (r : Request) (acknowledged : ℕ) → IsKept lo hi log answered contents
+pub kept_more : (lo hi : ℕ) (log : List Entry) (answered : List Answer) (contents : Contents) (r : Request) (acknowledged : ℕ) → IsAnsweredLog lo hi log answered contents
     → fits_at (meaning lo hi log) (Op r acknowledged) ≡ true
-    → IsKept lo hi (log ++ Op r acknowledged ∷ []) (answered ++ (applied contents r.command).answer ∷ []) (applied contents r.command).after
+    → IsAnsweredLog lo hi (log ++ Op r acknowledged ∷ []) (answered ++ (applied contents r.command).answer ∷ []) (applied contents r.command).after
 unfolding after_entry
 kept_more lo hi log answered contents r acknowledged is fits = record {
   ordered = is.ordered;

@@ -4,7 +4,8 @@ use Rattle.std.specs.List.{list_any}
 use Rattle.std.specs.FinMap.Entries.{find}
 use Rattle.std.proofs.lemmas.Bool.{cond_both}
 use Rattle.curp_base.specs.Words.{At, Each}
-use Rattle.curp_cmd.specs.RequestId.{id_cmp}
+use Rattle.curp_cmd.proofs.Ids.{same_id-true}
+use Rattle.curp_cmd.specs.RequestId.{id_cmp, same_id}
 use Rattle.curp_cmd.specs.Store.{Contents, applied}
 use Rattle.curp_cmd.specs.declared.command.Answer.{Answer}
 use Rattle.curp_cmd.specs.declared.command.Request.{Request}
@@ -14,10 +15,9 @@ use Rattle.curp_cmd.specs.declared.entry.Entry.TheVariants.{Op, Take, Give, Expi
 use Rattle.curp_model.specs.declared.Check.{Check}
 use Rattle.curp_model.specs.declared.Check.TheVariants.{Expired, Stale, Known}
 use Rattle.curp_model.specs.Log.{LogState, after_entries, after_entry, IsLog, answer_after, log_opening, meaning}
-use Rattle.curp_model.specs.Requests.{same_id}
 use Rattle.curp_model.specs.Table.{Noted, check, first_number, is_gone, known}
 use Rattle.curp_log.specs.Ops.{IsOp, IsOpAt, answer_of, answers_from, first_in, found}
-use Rattle.curp_log.proofs.Fold.{check_of_log, left_by_ops, same_from_true}
+use Rattle.curp_log.proofs.Fold.{check_of_log, left_by_ops}
 
 -- ---- what is found
 
@@ -56,7 +56,7 @@ found_stands (Op r acknowledged ∷ es) s k id a index ops e =
       request = r;
       acknowledged = acknowledged;
       stands = refl;
-      its_id = same_from_true r.id id is;
+      its_id = same_id-true r.id id is;
       its_answer = cc;
     }
     go false is e later = later e

@@ -1,6 +1,7 @@
 -- Logs of Ops, read without the fold.
 use Rattle.std.specs.Prelude.{◌≡◌, ℕ, ◌+◌, ◌≤◌, ◌==◌, Bool, false, max, nat_lt, if◌then◌else◌, List, [], ◌∷◌, Option, Some, None, slice_get, take, ⊤}
 use Rattle.curp_base.specs.Words.{At, Each}
+use Rattle.curp_cmd.specs.RequestId.{same_id}
 use Rattle.curp_cmd.specs.Store.{Contents, applied, nothing}
 use Rattle.curp_cmd.specs.declared.command.Answer.{Answer}
 use Rattle.curp_cmd.specs.declared.command.Request.{Request}
@@ -10,7 +11,6 @@ use Rattle.curp_cmd.specs.declared.entry.Entry.TheVariants.{Op}
 use Rattle.curp_model.specs.declared.Check.{Check}
 use Rattle.curp_model.specs.declared.Check.TheVariants.{Stale, Known, New}
 use Rattle.curp_model.specs.Log.{answer_after, IsLog, meaning}
-use Rattle.curp_model.specs.Requests.{same_id}
 
 -- the entry is an Op
 abbrev pub IsOp : Entry → Type 0
@@ -72,8 +72,8 @@ abbrev pub check_in : List Entry → List Answer → RequestId → Check
 check_in entries answered id =
     if nat_lt id.seq (first_in entries id.client) then Stale (first_in entries id.client) else found 0 entries answered id
 
--- the answers and the store beside a log of Ops are those of its meaning
-pub record IsKept (lo hi : ℕ) (entries : List Entry) (answered : List Answer) (contents : Contents) : Type 0 where
+-- Ops that a master of that range could have pushed, with the answers and the store of their meaning
+pub record IsAnsweredLog (lo hi : ℕ) (entries : List Entry) (answered : List Answer) (contents : Contents) : Type 0 where
   pub ordered : lo ≤ hi
   pub ops : Each IsOp entries
   pub is_log : IsLog lo hi entries

@@ -2,16 +2,15 @@ ghost use Rattle.std.specs.Prelude.{◌≡◌, ◌+◌, ◌<◌, ◌≤◌, ◌^
 ghost use Rattle.std.specs.List.{list_all};
 ghost use Rattle.curp_base.specs.Words.{Each};
 ghost use Rattle.curp_cmd.specs.Entry.{room_of};
-ghost use Rattle.curp_cmd.specs.Hash.{hash_of, hashes_of};
+ghost use Rattle.curp_cmd.specs.Hash.{hashes_of, hashes};
 ghost use Rattle.curp_range.specs.Spans.{is_in};
 ghost use Rattle.curp_model.specs.Log.{IsLog, fits_at, is_log, meaning};
 ghost use Rattle.curp_model.specs.Ranges.{owns_all};
-ghost use Rattle.curp_model.specs.Requests.{hashes};
 ghost use Rattle.curp_model.specs.Table.{check};
-ghost use Rattle.curp_log.specs.Ops.{IsOp, acknowledged_by, answer_at, first_in, found, is_op_of, request_of};
+ghost use Rattle.curp_log.specs.Ops.{IsOp, acknowledged_by, answer_at, check_in, is_op_of, request_of};
 
 use curp_base::{NoMemory, copies_of, past};
-use curp_cmd::{Answer, Command, Entry, Key, Request, RequestId, Store, key_hash, room};
+use curp_cmd::{Answer, Command, Entry, Hashes, Request, RequestId, Store, room};
 use curp_model::Check;
 use std::alloc::Global;
 use std::marker::Model;
@@ -32,13 +31,19 @@ pub struct Log {
 impl Model for Log {
     ghost use Rattle.std.specs.Prelude.{◌-◌, min, vec_len, vec_capacity};
     ghost use Rattle.curp_log.specs.Content.{Content};
-    ghost use Rattle.curp_log.specs.Ops.{IsKept};
+    ghost use Rattle.curp_log.specs.Ops.{IsAnsweredLog};
 
     ghost Value = { Content };
 
-    ghost view = { λ l. record { lo = l.lo; hi = l.hi; entries = l.entries.items; spare = min (vec_capacity l.entries - vec_len l.entries) (min (vec_capacity l.answers - vec_len l.answers) l.store.spare) } };
+    ghost view = { λ l. record {
+      lo = l.lo;
+      hi = l.hi;
+      entries = l.entries.items;
+      spare = min (vec_capacity l.entries - vec_len l.entries)
+          (min (vec_capacity l.answers - vec_len l.answers) l.store.spare);
+    } };
 
-    ghost invariant = { λ l. IsKept l.lo l.hi l.entries.items l.answers.items l.store.map };
+    ghost invariant = { λ l. IsAnsweredLog l.lo l.hi l.entries.items l.answers.items l.store.map };
 }
 
 impl Log {
@@ -136,15 +141,11 @@ impl Log {
         copies_of(self.alloc, past(&self.entries, start))
     }
 
-    /// The duplicate check (RIFL). It goes through the log.
+    /// The duplicate check (RIFL). It goes through the log once.
     pub fn check(&self, id: &RequestId) -> Check
         ensures { result ≡ check (meaning self.now.lo self.now.hi self.now.entries).table id.now }
     {
-        let first = first_in(&self.entries, id.client);
-        if id.seq < first {
-            return Check::Stale { first };
-        }
-        find(&self.entries, &self.answers, id)
+        check_in(&self.entries, &self.answers, id)
     }
 
     /// Whether the master owns the hash of each key that the command names.
@@ -195,17 +196,6 @@ fn acknowledged_by(entry: &Entry, client: u32) -> u32
     }
 }
 
-/// The greatest number that the entries acknowledge for the client.
-fn first_in(entries: &[Entry], client: u32) -> u32
-    ensures { result ≡ first_in entries.now client }
-{
-    let mut first = 0;
-    for entry in entries {
-        first = first.max(acknowledged_by(entry, client));
-    }
-    first
-}
-
 /// Whether the entry is an Op of that request.
 fn is_op_of(entry: &Entry, id: &RequestId) -> bool
     ensures { result ≡ is_op_of entry.now id.now }
@@ -216,43 +206,38 @@ fn is_op_of(entry: &Entry, id: &RequestId) -> bool
     }
 }
 
-/// The first Op of that request, with its answer.
-fn find(entries: &[Entry], answers: &[Answer], id: &RequestId) -> Check
+/// The check of an id among Ops, with the answer to each.
+fn check_in(entries: &[Entry], answers: &[Answer], id: &RequestId) -> Check
     requires { length entries.now ≡ length answers.now }
-    ensures { result ≡ found 0 entries.now answers.now id.now }
+    ensures { result ≡ check_in entries.now answers.now id.now }
 {
-    for index in 0..entries.len() {
-        if is_op_of(&entries[index], id) {
-            return Check::Known {
+    let mut first = 0;
+    let mut found = Check::New;
+    for index in (0..entries.len()).rev() {
+        let entry = &entries[index];
+        first = acknowledged_by(entry, id.client).max(first);
+        if is_op_of(entry, id) {
+            found = Check::Known {
                 answer: answers[index],
                 index: index as u64,
             };
         }
     }
-    Check::New
+    if id.seq < first {
+        Check::Stale { first }
+    } else {
+        found
+    }
 }
 
 /// Whether the hash of each key that the command names lies in the range.
 fn lies_in(lo: u64, hi: u64, command: &Command) -> bool
     ensures { result ≡ list_all (is_in lo hi) (hashes_of command.now) }
 {
-    match command {
-        Command::Get(key)
-        | Command::Put(key, _)
-        | Command::Delete(key)
-        | Command::Incr(key)
-        | Command::Append(key, _)
-        | Command::CondPut(key, _, _) => is_in(lo, hi, key),
-        Command::Multi(pairs) => pairs.as_slice().iter().all(|pair| is_in(lo, hi, &pair.0)),
-    }
-}
-
-/// Whether the hash of the key lies in the range.
-fn is_in(lo: u64, hi: u64, key: &Key) -> bool
-    ensures { result ≡ is_in lo hi (hash_of key.now) }
-{
-    let hash = key_hash(key);
-    lo <= hash && hash <= hi
+    Hashes::of(command)
+        .as_slice()
+        .iter()
+        .all(|hash| lo <= *hash && *hash <= hi)
 }
 
 /// Whether a master that began with the hashes from `lo` to `hi` could have pushed these entries.
@@ -275,7 +260,7 @@ pub fn is_log(alloc: Global, lo: u64, hi: u64, entries: &[Entry]) -> Result<bool
 #[cfg(test)]
 mod tests {
     use super::*;
-    use curp_cmd::Value;
+    use curp_cmd::{Key, Value};
     use std::process::Abort;
     use std::test::Fail;
 
@@ -359,6 +344,19 @@ mod tests {
         }
         assert_eq!(rt; log.len(), 3);
         assert_eq!(rt; log.entries().len(), 3);
+        Ok(())
+    }
+
+    #[test]
+    fn holds_many_ops(rt: HostRuntime) -> Result<(), Fail> {
+        let (key, value) = (Key::new(&[b'k'; 32])?, Value::new(&[7; 128])?);
+        let mut log = Log::begin(rt.alloc(), 0, u64::MAX)?;
+        for seq in 1..=500 {
+            push(&rt, &mut log, op(1, seq, 0, Command::Put(key, value)))?;
+        }
+        assert_eq!(rt; log.len(), 500);
+        assert_eq!(rt; log.suffix(0)?.len(), 500);
+        assert_eq!(rt; log.store().get(&key), Some(value));
         Ok(())
     }
 

@@ -5,7 +5,7 @@ use Rattle.std.proofs.Math.Seq.{take-length}
 use Rattle.curp_cmd.specs.declared.node.NodeId.{NodeId}
 use Rattle.curp_model.specs.Master.{Acknowledged, from_backup, least, nothing_from, raised}
 use Rattle.curp_master.specs.Backups.{lengths, NoneBelow, IsFirst}
-use Rattle.curp_master.proofs.Names.{node_is}
+use Rattle.curp_cmd.proofs.Nodes.{same_node-true}
 
 first_tail : (a : Acknowledged) (all : List Acknowledged) (b : NodeId) (at : ℕ) → IsFirst (a ∷ all) b (suc at) → IsFirst all b at
 first_tail a all b at f = record {
@@ -26,7 +26,7 @@ from_none (a ∷ all) b none = rw (none 0 a (omega arith)) (from_none all b (λ 
 raised_first : (all : List Acknowledged) (b : NodeId) (at long round : ℕ) (d : Acknowledged) → IsFirst all b at
     → set all at (record { backup = (get_or all at d).backup; length = max (get_or all at d).length long; round = max (get_or all at d).round round }) ≡ raised all b long round
 raised_first [] b at long round d f = absurd (omega (arith, f.within))
-raised_first (a ∷ all) b zero long round d f = rw (f.its d) (ap (λ (x : NodeId). record { backup = x; length = max a.length long; round = max a.round round } ∷ all) (node_is a.backup b (f.its d)))
+raised_first (a ∷ all) b zero long round d f = rw (f.its d) (ap (λ (x : NodeId). record { backup = x; length = max a.length long; round = max a.round round } ∷ all) (same_node-true a.backup b (f.its d)))
 raised_first (a ∷ all) b (suc at) long round d f = rw (f.before 0 d (omega arith)) (ap (λ rest. a ∷ rest) (raised_first all b at long round d (first_tail a all b at f)))
 
 pub raised_there : (all : List Acknowledged) (b : NodeId) (at long round : ℕ) (d : Acknowledged) → d ≡ get_or all at d → IsFirst all b at

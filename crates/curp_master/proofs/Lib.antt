@@ -1,7 +1,6 @@
 pub mod Acks
-pub mod Ascents
 pub mod Beside
-pub mod Counting
-pub mod Names
+pub mod Ends
+pub mod Places
 pub mod Rounds
 pub mod Settling

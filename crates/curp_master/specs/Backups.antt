@@ -1,11 +1,16 @@
 -- What a master knows of its backups.
 use Rattle.std.specs.Prelude.{◌≡◌, ℕ, ◌<◌, true, false, List, map, length, slice_index_or}
 use Rattle.curp_cmd.specs.declared.node.NodeId.{NodeId}
-use Rattle.curp_model.specs.Master.{Acknowledged, from_backup, same_node}
+use Rattle.curp_model.specs.Master.{Acknowledged, from_backup, least}
+use Rattle.curp_cmd.specs.Node.{same_node}
 
 -- the lengths that the backups of a list have acknowledged
 abbrev pub lengths : List Acknowledged → List NodeId → List ℕ
 lengths all backups = map (λ b. (from_backup all b).length) backups
+
+-- so much of the log has each of them acknowledged
+abbrev pub stored_by_all : List Acknowledged → List NodeId → ℕ
+stored_by_all all backups = least (lengths all backups)
 
 -- below a place none is of the backup
 abbrev pub NoneBelow : List Acknowledged → NodeId → ℕ → Type 0

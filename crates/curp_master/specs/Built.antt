@@ -1,6 +1,6 @@
 -- Which messages and orders a master acts on until the others are built: the updates, what backups acknowledge, and the order
 -- to begin a round.
-use Rattle.std.specs.Prelude.{ℕ, List}
+use Rattle.std.specs.Prelude.{ℕ}
 use Rattle.curp_cmd.specs.declared.node.NodeId.{NodeId}
 use Rattle.curp_msg.specs.declared.body.Body.{Body}
 use Rattle.curp_msg.specs.declared.body.Body.TheVariants.{Update, Sync, Appended}
@@ -8,9 +8,8 @@ use Rattle.curp_msg.specs.declared.machine.Input.{Input}
 use Rattle.curp_msg.specs.declared.machine.Input.TheVariants as input
 use Rattle.curp_msg.specs.declared.machine.Local.{Local}
 use Rattle.curp_msg.specs.declared.machine.Local.TheVariants as local
-use Rattle.curp_msg.specs.declared.message.Message.{Message}
-use Rattle.curp_model.specs.Master.{MasterState, on_serving, serving_ordered, if_it_counts}
-use Rattle.curp_model.specs.Moved.{Moved, Node, quiet}
+use Rattle.curp_model.specs.Master.{MasterState, on_serving, serving_ordered, unless_it_ends}
+use Rattle.curp_msg.specs.Moved.{Moved, Node, numbered_move, quiet}
 
 -- a message comes to the serving master n
 unfoldable pub on_built : ℕ → MasterState → NodeId → Body → Moved MasterState
@@ -29,12 +28,6 @@ abbrev pub on_input : ℕ → MasterState → Input → Moved MasterState
 on_input n m (input.Message message) = on_built n m message.from message.body
 on_input n m (input.Local order) = built_ordered n m order
 
--- ---- parts of a move
-
--- the node behind a move whose numbers count
-abbrev pub after : Node MasterState → Moved MasterState → Node MasterState
-after node moved = record node { state = (if_it_counts node.state moved).state }
-
--- and what it sends
-abbrev pub told : Node MasterState → Moved MasterState → List Message
-told node moved = (if_it_counts node.state moved).messages
+-- a move of the numbered master, unless a number of its own ends by it
+abbrev pub move_of : Node MasterState → Moved MasterState → Moved (Node MasterState)
+move_of m r = numbered_move m.number (unless_it_ends m.state r)

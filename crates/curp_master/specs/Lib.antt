@@ -2,5 +2,5 @@ pub mod Backups
 pub mod Built
 pub mod Indexes
 pub mod Journal
-pub mod Whole
-pub mod Wishes
+pub mod Rounds
+pub mod Updates

@@ -1,6 +1,7 @@
 ghost use Rattle.std.specs.Prelude.{◌≡◌, map, length, fold, min, max, OnOk, IfOk, IfSome, IfNone};
-ghost use Rattle.curp_model.specs.Master.{from_backup, is_among, least, raised, same_node};
-ghost use Rattle.curp_master.specs.Backups.{lengths, IsFirst, NoneBelow};
+ghost use Rattle.curp_model.specs.Master.{from_backup, raised};
+ghost use Rattle.curp_cmd.specs.Node.{same_node};
+ghost use Rattle.curp_master.specs.Backups.{IsFirst, NoneBelow, stored_by_all};
 
 use curp_base::{NoMemory, TryCopy, copies_of};
 use curp_cmd::NodeId;
@@ -48,7 +49,10 @@ impl Acknowledged {
 
     // What is acknowledged never falls.
     fn raise(&mut self, long: u64, round: u64)
-        ensures { self.new ≡ record { backup = self.old.backup; length = max self.old.length long; round = max self.old.round round } }
+        ensures { self.new ≡ record self.old {
+          length = max self.old.length long;
+          round = max self.old.round round;
+        } }
     {
         self.long = self.long.max(long);
         self.round = self.round.max(round);
@@ -72,7 +76,8 @@ pub(crate) fn all_at(
     long: u64,
     round: u64,
 ) -> Result<Vec<Acknowledged>, NoMemory>
-    ensures { IfOk result (λ all. all.items ≡ map (λ b. record { backup = b; length = long; round = round }) backups.now) }
+    ensures { IfOk result (λ all. all.items
+        ≡ map (λ b. record { backup = b; length = long; round = round }) backups.now) }
 {
     let mut all = Vec::with_capacity(alloc, backups.len())?;
     for backup in backups {
@@ -128,7 +133,7 @@ pub(crate) fn length_from(acknowledged: &[Acknowledged], backup: &NodeId) -> u64
 
 /// The least length that a backup of the list has acknowledged.
 pub(crate) fn least_length(acknowledged: &[Acknowledged], backups: &[NodeId]) -> u64
-    ensures { result ≡ least (lengths acknowledged.now backups.now) }
+    ensures { result ≡ stored_by_all acknowledged.now backups.now }
 {
     match backups {
         [] => 0,
@@ -143,13 +148,6 @@ fn least_of(acknowledged: &[Acknowledged], length: u64, backups: &[NodeId]) -> u
     backups.iter().fold(length, |least, backup| {
         least.min(length_from(acknowledged, backup))
     })
-}
-
-/// Whether a node is one of these.
-pub(crate) fn is_among(node: &NodeId, nodes: &[NodeId]) -> bool
-    ensures { result ≡ is_among node.now nodes.now }
-{
-    nodes.contains(node)
 }
 
 /// Where the first acknowledgement of a backup stands.

@@ -1,9 +1,11 @@
-ghost use Rattle.std.specs.Prelude.{◌≡◌, ◌+◌, ◌<◌, ◌≤◌, nat_lt, not, [], ◌∷◌, ◌++◌, length, slice_index, All, filter, IfOk, IfErr, OnOk};
+ghost use Rattle.std.specs.Prelude.{◌≡◌, ◌<◌, ◌≤◌, nat_lt, not, [], ◌∷◌, ◌++◌, length, slice_index, filter};
+ghost use Rattle.std.specs.Prelude.{IfOk, IfErr, OnOk};
 ghost use Rattle.std.specs.BTreeSet.{insert_key};
+ghost use Rattle.std.specs.List.Sorted.{IsNonDecreasing};
 ghost use Rattle.std.specs.Ordering.{nat_cmp};
 ghost use Rattle.curp_base.specs.Words.{Each};
 ghost use Rattle.curp_model.specs.Master.{has};
-ghost use Rattle.curp_master.specs.Indexes.{Rises, IsGap};
+ghost use Rattle.curp_master.specs.Indexes.{IsBetween};
 
 use curp_base::NoMemory;
 use std::alloc::Global;
@@ -17,13 +19,14 @@ pub(crate) struct Indexes {
 
 impl Model for Indexes {
     ghost use Rattle.std.specs.Prelude.{◌-◌, vec_len, vec_capacity};
-    ghost use Rattle.curp_master.specs.Indexes.{IndexList, Rises};
+    ghost use Rattle.std.specs.List.Sorted.{IsNonDecreasing};
+    ghost use Rattle.curp_master.specs.Indexes.{IndexList};
 
     ghost Value = { IndexList };
 
     ghost view = { λ i. record { numbers = i.numbers.items; spare = vec_capacity i.numbers - vec_len i.numbers } };
 
-    ghost invariant = { λ i. Rises i.numbers.items };
+    ghost invariant = { λ i. IsNonDecreasing i.numbers.items };
 }
 
 impl Indexes {
@@ -87,9 +90,9 @@ impl Indexes {
 
 /// Where a number stands, or else would stand, among ascending ones.
 fn place(numbers: &[u64], number: u64) -> Result<usize, usize>
-    requires { Rises numbers.now }
+    requires { IsNonDecreasing numbers.now }
     ensures found { IfOk result (λ at. (at < length numbers.now) × (slice_index numbers.now at ≡ number)) }
-    ensures absent { IfErr result (IsGap numbers.now number) }
+    ensures absent { IfErr result (IsBetween numbers.now number) }
 {
     numbers.binary_search(&number)
 }

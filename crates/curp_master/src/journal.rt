@@ -1,16 +1,12 @@
-ghost use Rattle.std.specs.Prelude.{◌≡◌, ◌≢◌, ◌≤◌, ◌<◌, ◌+◌, ◌^◌, true, not, [], ◌∷◌, ◌++◌, drop, length, OnOk, OnErr, IfOk};
+ghost use Rattle.std.specs.Prelude.{◌≡◌, ◌≤◌, ◌<◌, ◌+◌, not, [], ◌∷◌, ◌++◌, drop, length, OnOk, OnErr, IfOk};
 ghost use Rattle.curp_base.specs.Words.{Each};
 ghost use Rattle.curp_cmd.specs.Entry.{room_of};
 ghost use Rattle.curp_cmd.specs.declared.entry.Entry.TheVariants.{Op};
-ghost use Rattle.curp_model.specs.declared.Check.TheVariants.{New};
 ghost use Rattle.curp_model.specs.Log.{answer_after, is_touched, meaning};
 ghost use Rattle.curp_model.specs.Master.{has};
-ghost use Rattle.curp_model.specs.Ranges.{owns_all};
-ghost use Rattle.curp_model.specs.Requests.{hashes};
-ghost use Rattle.curp_model.specs.Table.{check};
 ghost use Rattle.curp_log.specs.Ops.{IsOp};
 ghost use Rattle.curp_tail.specs.Tail.{tail_of};
-ghost use Rattle.curp_master.specs.Journal.{free_with, with_op};
+ghost use Rattle.curp_master.specs.Journal.{CanPush, free_with, journal_of, with_op};
 
 use crate::indexes::Indexes;
 use crate::queue::Queued;
@@ -34,19 +30,19 @@ pub(crate) struct Journal {
 }
 
 impl Model for Journal {
-    ghost use Rattle.curp_master.specs.Journal.{JournalState, IsBeside};
+    ghost use Rattle.curp_master.specs.Journal.{JournalState, IsBeside, journal_of};
 
     ghost Value = { JournalState };
 
-    ghost view = { λ j. record { lo = j.log.lo; hi = j.log.hi; entries = j.log.entries; synced = j.synced; free = j.free.numbers; queue = j.queue.items } };
+    ghost view = { λ j. journal_of j.log j.synced j.free.numbers j.queue.items };
 
-    ghost invariant = { λ j. IsBeside j.log.lo j.log.hi j.log.entries j.synced j.tail j.free.numbers j.queue.items };
+    ghost invariant = { λ j. IsBeside (journal_of j.log j.synced j.free.numbers j.queue.items) j.tail };
 }
 
 impl Journal {
     /// A log of which so many entries are synced.
     pub(crate) fn new(alloc: Global, log: Log, synced: u64) -> Result<Journal, NoMemory>
-        ensures { IfOk result (λ journal. journal ≡ record { lo = log.lo; hi = log.hi; entries = log.entries; synced = synced; free = []; queue = [] }) }
+        ensures { IfOk result (λ journal. journal ≡ journal_of log synced [] []) }
     {
         let mut tail = Tail::new(alloc);
         tail.add(past(log.entries(), synced), synced)?;
@@ -89,23 +85,21 @@ impl Journal {
 
     /// Pushes a request as an Op, lets its id wait for collection, and tells its answer.
     pub(crate) fn push(&mut self, request: &Request, is_free: bool) -> Result<Answer, NoMemory>
-        requires new { check (meaning self.old.lo self.old.hi self.old.entries).table request.now.id ≡ New }
-        requires owned { owns_all (meaning self.old.lo self.old.hi self.old.entries).owned (hashes request.now.command) ≡ true }
+        requires { CanPush (meaning self.old.lo self.old.hi self.old.entries) request.now }
         ensures pushed { OnOk result (self.new ≡ with_op self.old request.now is_free) }
-        ensures answer { IfOk result (λ a. a ≡ answer_after self.old.lo self.old.hi self.old.entries request.now.command) }
+        ensures answer { IfOk result (λ answer. answer
+            ≡ answer_after self.old.lo self.old.hi self.old.entries request.now.command) }
         ensures err { OnErr result (self.new ≡ self.old) }
     {
         seen_stays_seen();
-        let length = self.log.len();
+        let index = self.log.len();
         self.log.reserve(room_for(request))?;
         self.free.reserve()?;
         self.queue.reserve(1)?;
         follow(&mut self.tail, &self.log, request, self.synced)?;
-        let index = self.log.push(op_of(request));
         mark(&mut self.free, index, is_free);
-        self.queue
-            .push_reserved(Queued::new(request.id, length + 1));
-        Ok(self.log.answer(index).unwrap())
+        self.queue.push_reserved(Queued::new(request.id, index + 1));
+        Ok(push_op(&mut self.log, request))
     }
 
     /// More of the log, in which Ops alone stand, is synced.
@@ -138,10 +132,24 @@ fn room_for(request: &Request) -> u64
     room(&op_of(request))
 }
 
+// The log has a request more as an Op, for which there is room. Tells its answer.
+fn push_op(log: &mut Log, request: &Request) -> Answer
+    requires room { room_of (Op request.now request.now.first) ≤ log.old.spare }
+    requires can_push { CanPush (meaning log.old.lo log.old.hi log.old.entries) request.now }
+    ensures lo { log.new.lo ≡ log.old.lo }
+    ensures hi { log.new.hi ≡ log.old.hi }
+    ensures entries { log.new.entries ≡ log.old.entries ++ Op request.now request.now.first ∷ [] }
+    ensures answer { result ≡ answer_after log.old.lo log.old.hi log.old.entries request.now.command }
+{
+    let index = log.push(op_of(request));
+    log.answer(index).unwrap()
+}
+
 // The tail follows the log, into which the request comes next.
 fn follow(tail: &mut Tail, log: &Log, request: &Request, synced: u64) -> Result<(), NoMemory>
     requires { tail.old ≡ tail_of log.now.entries synced }
-    ensures follows { OnOk result (tail.new ≡ tail_of (log.now.entries ++ Op request.now request.now.first ∷ []) synced) }
+    ensures follows { OnOk result (tail.new
+        ≡ tail_of (log.now.entries ++ Op request.now request.now.first ∷ []) synced) }
     ensures err { OnErr result (tail.new ≡ tail.old) }
 {
     tail_follows_log();

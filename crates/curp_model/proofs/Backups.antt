@@ -1,6 +1,6 @@
 -- A backup only grows.
-use Rattle.std.proofs.Common.{◌≡◌, ◌≢◌, ℕ, ◌<◌, ◌≤◌, true, List, length, Option, Some, None, nat_le, nat_lt, refl, ap, arith}
-use Rattle.std.proofs.lemmas.Bool.{cond_both}
+use Rattle.std.proofs.Common.{◌≡◌, ◌≢◌, ℕ, ◌<◌, ◌≤◌, ◌-◌, not, true, List, length, drop, Option, Some, None, nat_lt, refl, ap, arith}
+use Rattle.std.proofs.lemmas.Bool.{cond_both, not-false}
 use Rattle.std.proofs.lemmas.Bool.Decides.{nat_tests}
 use Rattle.curp_base.specs.Words.{IsPrefix}
 use Rattle.curp_base.proofs.Lists.{prefix_self, prefix_push}
@@ -9,7 +9,7 @@ use Rattle.curp_cmd.specs.declared.node.NodeId.{NodeId}
 use Rattle.curp_msg.specs.declared.body.Append.{Append as Appending}
 use Rattle.curp_msg.specs.declared.body.Body.{Body}
 use Rattle.curp_msg.specs.declared.body.Body.TheVariants.{Append, Install, Fence}
-use Rattle.curp_model.specs.Backup.{BackupState, Kept, Asked, append, fence, install, installed_once, is_installed_at, on_backup}
+use Rattle.curp_model.specs.Backup.{BackupState, append, fence, install, installed_once, is_installed_at, on_backup, AfterAppend, AfterFence}
 use Rattle.curp_model.specs.Laws.{IsTaken}
 
 -- what every message leaves of a backup
@@ -45,28 +45,26 @@ installed_at (Some own) epoch e = let same : own ≡ epoch = grind (arith, nat_t
 append_takes : (b : BackupState) (epoch base : ℕ) (entries : List Entry) → Takes b (append b epoch base entries).state epoch base
 unfolding append
 append_takes b epoch base entries =
-    cond_both (nat_lt epoch b.fence) _ _ (λ (k : Kept). Takes b k.state epoch base) (λ below. takes_nothing b epoch base)
-    (λ above. cond_both (is_installed_at b.installed epoch) _ _ (λ (k : Kept). Takes b k.state epoch base)
-    (λ own. cond_both (nat_le base (length b.log)) _ _ (λ (k : Kept). Takes b k.state epoch base)
+    cond_both (nat_lt epoch b.fence) _ _ (λ (k : AfterAppend). Takes b k.state epoch base) (λ below. takes_nothing b epoch base)
+    (λ above. cond_both (not (is_installed_at b.installed epoch)) _ _ (λ (k : AfterAppend). Takes b k.state epoch base) (λ other. takes_nothing b epoch base)
+    (λ own. cond_both (nat_lt (length b.log) base) _ _ (λ (k : AfterAppend). Takes b k.state epoch base) (λ gap. takes_nothing b epoch base)
     (λ reaches. record {
-      grown = record { log = prefix_push b.log _; fence = omega arith; installed = λ e is. is };
+      grown = record { log = prefix_push b.log (drop (length b.log - base) entries); fence = omega arith; installed = λ e is. is };
       fenced = λ l. absurd (grind (arith, nat_tests));
-      own_epoch = λ ne. installed_at b.installed epoch own;
+      own_epoch = λ ne. installed_at b.installed epoch (not-false (is_installed_at b.installed epoch) own);
       not_fenced = λ ne. grind (arith, nat_tests);
       no_gap = λ ne. grind (arith, nat_tests);
-    })
-    (λ gap. takes_nothing b epoch base))
-    (λ other. takes_nothing b epoch base))
+    })))
 
 fence_grows : (b : BackupState) (epoch : ℕ) → Grown b (fence b epoch).state
 unfolding fence
 fence_grows b epoch =
-    cond_both (nat_lt epoch b.fence) _ _ (λ (a : Asked). Grown b a.state) (λ below. stays b)
+    cond_both (nat_lt epoch b.fence) _ _ (λ (a : AfterFence). Grown b a.state) (λ below. stays b)
     (λ above. record { log = prefix_self b.log; fence = grind (arith, nat_tests); installed = λ e is. is })
 
 fence_keeps_log : (b : BackupState) (epoch : ℕ) → (fence b epoch).state.log ≡ b.log
 unfolding fence
-fence_keeps_log b epoch = cond_both (nat_lt epoch b.fence) _ _ (λ (a : Asked). a.state.log ≡ b.log) (λ below. refl) (λ above. refl)
+fence_keeps_log b epoch = cond_both (nat_lt epoch b.fence) _ _ (λ (a : AfterFence). a.state.log ≡ b.log) (λ below. refl) (λ above. refl)
 
 once_grows : (b : BackupState) (epoch : ℕ) (own : Option ℕ) → b.installed ≡ own → Grown b (installed_once b epoch own)
 once_grows b epoch None e = record { log = prefix_self b.log; fence = omega arith; installed = λ x is. absurd (cc) }

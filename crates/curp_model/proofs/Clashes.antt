@@ -8,16 +8,15 @@ use Rattle.std.proofs.lemmas.Map.Keys.{IsDistinct-head, IsDistinct-tail}
 use Rattle.std.proofs.lemmas.Map.Views.{tells_apart}
 use Rattle.curp_base.specs.Words.{At}
 use Rattle.curp_cmd.specs.Hash.{conflicts, hashes_of}
-use Rattle.curp_cmd.specs.RequestId.{id_cmp}
+use Rattle.curp_cmd.specs.RequestId.{id_cmp, same_id}
 use Rattle.curp_cmd.specs.declared.command.Request.{Request}
 use Rattle.curp_cmd.specs.declared.command.RequestId.{RequestId}
 use Rattle.curp_model.specs.Laws.{clash}
-use Rattle.curp_model.specs.Requests.{same_id}
 use Rattle.curp_model.proofs.Tables.{ids_same}
 
 -- ---- it is the same the other way round
 
-any_or : {A : Type 0} (p q : A → Bool) (xs : List A) → list_any (λ x. p x || q x) xs ≡ (list_any p xs || list_any q xs)
+pub any_or : {A : Type 0} (p q : A → Bool) (xs : List A) → list_any (λ x. p x || q x) xs ≡ (list_any p xs || list_any q xs)
 any_or p q [] = refl
 any_or p q (x ∷ xs) = ap (λ (b : Bool). (p x || q x) || b) (any_or p q xs) ∙ go (p x) (q x) (list_any p xs) (list_any q xs)
   where
@@ -31,14 +30,14 @@ any_alike : {A : Type 0} (p q : A → Bool) → ((x : A) → p x ≡ q x) → (x
 any_alike p q same [] = refl
 any_alike p q same (x ∷ xs) = λ i. same x i || any_alike p q same xs i
 
-any_none : {A : Type 0} (xs : List A) → list_any (λ x. false) xs ≡ false
+pub any_none : {A : Type 0} (xs : List A) → list_any (λ x. false) xs ≡ false
 any_none [] = refl
 any_none (x ∷ xs) = any_none xs
 
 equal_flips : (a b : ℕ) → (a == b) ≡ (b == a)
 equal_flips a b = grind (arith, nat_tests)
 
-common_flips : (xs ys : List ℕ) → list_any (λ h. list_any (λ x. x == h) ys) xs ≡ list_any (λ h. list_any (λ x. x == h) xs) ys
+pub common_flips : (xs ys : List ℕ) → list_any (λ h. list_any (λ x. x == h) ys) xs ≡ list_any (λ h. list_any (λ x. x == h) xs) ys
 common_flips [] ys = sym (any_none ys)
 common_flips (z ∷ xs) ys =
     (λ i. any_alike (λ (y : ℕ). y == z) (λ (y : ℕ). z == y) (λ y. equal_flips y z) ys i || common_flips xs ys i)

@@ -5,3 +5,4 @@ pub mod Logs
 pub mod Filters
 pub mod Clashes
 pub mod Replays
+pub mod Packages

@@ -32,7 +32,7 @@ meaning_append lo hi xs ys = after_append xs ys (log_opening lo hi) 0 (length xs
 
 -- ---- what is known in a log
 
-new_by_test : (c : Check) → is_new c ≡ true → c ≡ New
+pub new_by_test : (c : Check) → is_new c ≡ true → c ≡ New
 new_by_test New e = refl
 new_by_test (Known a index) e = absurd cc
 new_by_test (Stale first) e = absurd cc

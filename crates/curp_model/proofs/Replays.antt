@@ -10,7 +10,7 @@ use Rattle.std.proofs.lemmas.Map.Keys.{IsDistinct-IsPermutation}
 use Rattle.std.proofs.lemmas.Option.{slice_get-get_or, get_or_from_slice_get}
 use Rattle.curp_base.specs.Words.{At}
 use Rattle.curp_base.proofs.Lists.{at_within, at_append, at_append_cases, at_append_right, at_map}
-use Rattle.curp_cmd.specs.Hash.{conflicts}
+use Rattle.curp_cmd.specs.Hash.{conflicts, hashes}
 use Rattle.curp_cmd.specs.Store.{Contents, applied}
 use Rattle.curp_cmd.specs.declared.command.Answer.{Answer}
 use Rattle.curp_cmd.specs.declared.command.Command.{Command}
@@ -24,7 +24,6 @@ use Rattle.curp_model.specs.Laws.{clash, IsAlike}
 use Rattle.curp_model.specs.Log.{LogState, IsDone, after_entry, after_entries, meaning, answer_after, is_new}
 use Rattle.curp_model.specs.Ranges.{owns_all}
 use Rattle.curp_model.specs.Recovery.{replays, replay}
-use Rattle.curp_model.specs.Requests.{hashes}
 use Rattle.curp_model.specs.Table.{check}
 use Rattle.curp_model.proofs.Tables.{check_other}
 use Rattle.curp_model.proofs.Logs.{meaning_append, op_not_new}

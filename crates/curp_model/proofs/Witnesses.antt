@@ -8,7 +8,7 @@ use Rattle.curp_msg.specs.declared.body.Body.{Body}
 use Rattle.curp_msg.specs.declared.body.Body.TheVariants.{Record, Gc, Start, Freeze}
 use Rattle.curp_model.specs.declared.Mode.{Mode}
 use Rattle.curp_model.specs.declared.Mode.TheVariants.{Idle, Normal, Frozen}
-use Rattle.curp_model.specs.Witness.{WitnessState, Collection, started, turned_away, unless_turned_away, stranger_to, collected_in, collected_at, hold, gc, on_witness}
+use Rattle.curp_model.specs.Witness.{WitnessState, started, turned_away, unless_turned_away, stranger_to, collected_in, collected_at, hold, gc, on_witness, AfterCollection}
 
 turns_away : (w : WitnessState) (r : Request) (mode : Mode) (other : Option ℕ) → mode ≡ Frozen → (unless_turned_away w r (turned_away mode other)).state ≡ w
 turns_away w r Idle other e = absurd cc
@@ -24,7 +24,7 @@ collects_nothing w ids Frozen e = refl
 collection_stands : (w : WitnessState) (epoch : ℕ) (ids : List RequestId) (own : Option ℕ) → w.mode ≡ Frozen → (collected_at own w epoch ids).state ≡ w
 collection_stands w epoch ids None e = refl
 collection_stands w epoch ids (Some own) e =
-    cond_both (own == epoch) _ _ (λ (c : Collection). c.state ≡ w) (λ y. collects_nothing w ids w.mode e) (λ n. refl)
+    cond_both (own == epoch) _ _ (λ (c : AfterCollection). c.state ≡ w) (λ y. collects_nothing w ids w.mode e) (λ n. refl)
 
 start_stands : (w : WitnessState) (epoch : ℕ) (mode : Mode) → mode ≡ Frozen → started mode w epoch ≡ w
 start_stands w epoch Idle e = absurd cc

@@ -1,15 +1,18 @@
 -- The backup: it keeps the entries of a master of its epoch, and takes nothing of an epoch below its fence (the fence is
 -- this project's form of what keeps superseded masters out).
-use Rattle.std.specs.Prelude.{ℕ, ◌-◌, ◌==◌, nat_le, nat_lt, if◌then◌else◌, Bool, false, List, [], ◌∷◌, ◌++◌, length, drop, Option, Some, None}
+use Rattle.std.specs.Prelude.{ℕ, ◌-◌, ◌==◌, nat_lt, if◌then◌else◌, Bool, false, not, List, [], ◌∷◌, ◌++◌, length, drop, Option, Some, None}
+use Rattle.curp_cmd.specs.Node.{backup_node}
 use Rattle.curp_cmd.specs.declared.entry.Entry.{Entry}
 use Rattle.curp_cmd.specs.declared.node.NodeId.{NodeId}
+use Rattle.curp_msg.specs.Moved.{Moved, quiet, sends, says}
 use Rattle.curp_msg.specs.declared.answer.AppendAnswer.{AppendAnswer}
 use Rattle.curp_msg.specs.declared.answer.AppendAnswer.TheVariants.{Stored, Fenced, Gap, NotInstalled}
 use Rattle.curp_msg.specs.declared.answer.FenceReply.{FenceReply}
 use Rattle.curp_msg.specs.declared.answer.FenceReply.TheVariants as reply
 use Rattle.curp_msg.specs.declared.body.Body.{Body}
 use Rattle.curp_msg.specs.declared.body.Body.TheVariants.{Append, Appended, Install, Fence, FenceAnswer}
-use Rattle.curp_model.specs.Moved.{Moved, quiet, sends, says, backup_node}
+use Rattle.curp_msg.specs.declared.machine.Input.{Input}
+use Rattle.curp_msg.specs.declared.machine.Input.TheVariants as input
 
 -- the epoch at which it is installed, if it is
 pub record BackupState : Type 0 where
@@ -47,34 +50,36 @@ is_installed_at (Some own) epoch = own == epoch
 abbrev pub longer : List Entry → ℕ → List Entry → List Entry
 longer log base entries = log ++ drop (length log - base) entries
 
--- what an append gives: the state after it, and the answer
-pub record Kept : Type 0 where
+-- what a backup does on an append, and answers to it
+pub record AfterAppend : Type 0 where
   pub state : BackupState
   pub answer : AppendAnswer
 
--- an answer that changes nothing more
-abbrev pub keeps : BackupState → AppendAnswer → Kept
-keeps b answer = record { state = b; answer = answer }
+-- nothing changes
+abbrev pub refuses_entries : BackupState → AppendAnswer → AfterAppend
+refuses_entries b why = record { state = b; answer = why }
 
--- first Fenced, then NotInstalled, then Gap
-unfoldable pub append : BackupState → ℕ → ℕ → List Entry → Kept
+-- the entries past its length are added
+abbrev pub stores : BackupState → List Entry → AfterAppend
+stores b log = record { state = record b { log = log }; answer = Stored (length log) }
+
+-- first Fenced, then NotInstalled, then Gap, and Stored where none of them holds
+unfoldable pub append : BackupState → ℕ → ℕ → List Entry → AfterAppend
 append b epoch base entries =
-    if nat_lt epoch b.fence then keeps b (Fenced b.fence)
-    else if is_installed_at b.installed epoch
-    then if nat_le base (length b.log)
-    then keeps (record b { log = longer b.log base entries }) (Stored (length (longer b.log base entries)))
-    else keeps b (Gap (length b.log))
-    else keeps b NotInstalled
+    if nat_lt epoch b.fence then refuses_entries b (Fenced b.fence)
+    else if not (is_installed_at b.installed epoch) then refuses_entries b NotInstalled
+    else if nat_lt (length b.log) base then refuses_entries b (Gap (length b.log))
+    else stores b (longer b.log base entries)
 
 -- ---- fence
 
--- what a fence gives: the state after it, and the answer
-pub record Asked : Type 0 where
+-- what a backup does on a fence, and answers to it
+pub record AfterFence : Type 0 where
   pub state : BackupState
   pub answer : FenceReply
 
 -- the whole log, unless its fence is above
-unfoldable pub fence : BackupState → ℕ → Asked
+unfoldable pub fence : BackupState → ℕ → AfterFence
 fence b epoch =
     if nat_lt epoch b.fence then record { state = b; answer = reply.Fenced b.fence }
     else record { state = record b { fence = epoch }; answer = reply.Log b.log }
@@ -91,3 +96,8 @@ on_backup n b from (Fence epoch) =
     let f = fence b epoch in
     sends f.state (says (backup_node n) from (FenceAnswer (record { epoch = epoch; answer = f.answer })) ∷ [])
 on_backup n b from _ = quiet b
+
+-- an input comes to backup n, which ignores all orders
+abbrev pub backup_input : ℕ → BackupState → Input → Moved BackupState
+backup_input n b (input.Local order) = quiet b
+backup_input n b (input.Message m) = on_backup n b m.from m.body

@@ -2,9 +2,9 @@
 use Rattle.std.specs.Prelude.{◌≡◌, List, true, ⊤}
 use Rattle.curp_base.specs.Words.{Each}
 use Rattle.curp_cmd.specs.Store.{is_update}
-use Rattle.curp_script.specs.declared.script.Header.{Header}
-use Rattle.curp_script.specs.declared.script.Step.{Step}
-use Rattle.curp_script.specs.declared.script.Step.TheVariants.{Invoke, Deliver, Sync, Stop}
+use Rattle.curp_msg.specs.declared.script.Header.{Header}
+use Rattle.curp_msg.specs.declared.script.Step.{Step}
+use Rattle.curp_msg.specs.declared.script.Step.TheVariants.{Invoke, Deliver, Sync, Stop}
 
 -- the kinds of step that are built; no client reads yet
 abbrev pub CanStep : Step → Type 0

@@ -1,13 +1,20 @@
 -- The client (after CURP's client and RIFL's numbers): it sends an update to the master and to all witnesses, and completes
 -- it by one synced reply, or by an unsynced one with the accepts of all witnesses.
-use Rattle.std.specs.Prelude.{ℕ, ◌+◌, ◌-◌, ◌^◌, ◌==◌, ◌&&◌, nat_le, nat_lt, min, if◌then◌else◌, Bool, true, false, not, List, [], ◌∷◌, ◌++◌, length, map, fold, Option, Some, None}
+use Rattle.std.specs.Prelude.{◌≤◌, ℕ, ◌+◌, ◌-◌, ◌^◌, ◌==◌, ◌&&◌, nat_le, nat_lt, min, if◌then◌else◌, Bool, true, false, not, List, [], ◌∷◌, ◌++◌, length, map, fold, Option, Some, None, Result, Ok, Err}
 use Rattle.std.specs.List.{filter, list_any, list_all}
+use Rattle.std.specs.Option.{ok_or}
+use Rattle.curp_base.specs.Cases.{◌>>=◌, refuse_if}
+use Rattle.curp_base.specs.Words.{Each, first_of, last_of}
+use Rattle.curp_cmd.specs.Hash.{hashes}
+use Rattle.curp_cmd.specs.Node.{client_node, manager_node, same_node}
+use Rattle.curp_cmd.specs.RequestId.{same_id}
 use Rattle.curp_cmd.specs.Store.{is_update}
 use Rattle.curp_cmd.specs.declared.command.Answer.{Answer}
 use Rattle.curp_cmd.specs.declared.command.Command.{Command}
 use Rattle.curp_cmd.specs.declared.command.Request.{Request}
 use Rattle.curp_cmd.specs.declared.command.RequestId.{RequestId}
 use Rattle.curp_cmd.specs.declared.node.NodeId.{NodeId}
+use Rattle.curp_msg.specs.Moved.{Moved, quiet, sends, completes, unless_refused, says, says_each}
 use Rattle.curp_msg.specs.declared.body.Accepted.{Accepted}
 use Rattle.curp_msg.specs.declared.body.Body.{Body}
 use Rattle.curp_msg.specs.declared.body.Body.TheVariants as body
@@ -16,13 +23,12 @@ use Rattle.curp_msg.specs.declared.body.Worth.{Worth}
 use Rattle.curp_msg.specs.declared.config.Config.{Config}
 use Rattle.curp_msg.specs.declared.config.PartConfig.{PartConfig}
 use Rattle.curp_msg.specs.declared.machine.Capture.{Capture}
+use Rattle.curp_msg.specs.declared.machine.Input.{Input}
+use Rattle.curp_msg.specs.declared.machine.Input.TheVariants as input
 use Rattle.curp_msg.specs.declared.machine.Local.{Local}
 use Rattle.curp_msg.specs.declared.machine.Local.TheVariants as local
 use Rattle.curp_msg.specs.declared.message.Message.{Message}
-use Rattle.curp_model.specs.Master.{same_node}
-use Rattle.curp_model.specs.Moved.{Moved, quiet, sends, completes, refuses, says, says_each, client_node, manager_node}
 use Rattle.curp_model.specs.Ranges.{owns_all}
-use Rattle.curp_model.specs.Requests.{first_of, hashes}
 
 -- ---- the state
 
@@ -60,6 +66,10 @@ pub record ClientState : Type 0 where
   pub config : Config
   pub last : ℕ
   pub pending : List Pending
+
+-- no request that is pending has a number behind the client's last one
+abbrev pub NumbersAreUsed : ClientState → Type 0
+NumbersAreUsed c = Each (λ (p : Pending). p.request.id.seq ≤ c.last) c.pending
 
 -- before it invokes anything
 abbrev pub fresh_client : Bool → Config → ClientState
@@ -107,47 +117,53 @@ sends_first n c r p = sends
     (record c { last = r.id.seq; pending = c.pending ++ record { request = r; attempts = attempt_at p ∷ []; asked = false; early = []; accepts = [] } ∷ [] })
     (sent_by n c.fast (is_update r.command) r p)
 
--- refused as 3 (Split) where no one partition owns all its hashes
-abbrev pub invokes_at : ℕ → ClientState → Command → Option PartConfig → Moved ClientState
-invokes_at n c command None = refuses c 3
-invokes_at n c command (Some p) = sends_first n c (next_request n c command) p
+-- where a new request goes, or the number of the refusal: 1 (TooMany) where 8 are pending, 2 (Numbers) where the numbers are at
+-- their end, and 3 (Split) where no one partition owns all its hashes
+abbrev pub invocation_for : ClientState → Command → Result PartConfig ℕ
+invocation_for c command = do
+  _ ← refuse_if (nat_le most_pending (length c.pending)) 1
+  _ ← refuse_if (nat_le (2 ^ 32 - 1) c.last) 2
+  ok_or (owner_of c.config command) 3
 
--- refused as 1 (TooMany) where 8 are pending, then as 2 (Numbers) where the numbers are at their end
+-- a command is invoked
 unfoldable pub invoke : ℕ → ClientState → Command → Moved ClientState
-invoke n c command =
-    if nat_le most_pending (length c.pending) then refuses c 1
-    else if nat_le (2 ^ 32 - 1) c.last then refuses c 2
-    else invokes_at n c command (owner_of c.config command)
+invoke n c command = unless_refused c (sends_first n c (next_request n c command)) (invocation_for c command)
 
 -- ---- retrying
 
--- the pending request of a number
-abbrev pub with_number : ℕ → List Pending → Option Pending
-with_number seq pending = first_of (filter (λ p. p.request.id.seq == seq) pending)
+-- the pending request of that id
+abbrev pub with_id : RequestId → List Pending → Option Pending
+with_id id pending = first_of (filter (λ p. same_id p.request.id id) pending)
 
 -- one pending request is replaced
 abbrev pub replaced : Pending → List Pending → List Pending
-replaced new pending = map (λ p. if p.request.id.seq == new.request.id.seq then new else p) pending
+replaced new pending = map (λ p. if same_id p.request.id new.request.id then new else p) pending
 
 -- one pending request has changed
 abbrev pub with_pending : ClientState → Pending → ClientState
 with_pending c p = record c { pending = replaced p c.pending }
 
--- refused as 2 (Split) where no one partition owns all its hashes
-abbrev pub retries_at : ℕ → ClientState → Pending → Option PartConfig → Moved ClientState
-retries_at n c p None = refuses c 2
-retries_at n c p (Some part) = sends
-    (with_pending c (record p { attempts = p.attempts ++ attempt_at part ∷ []; asked = false }))
-    (sent_by n c.fast (is_update p.request.command) p.request part)
+-- a pending request, with where it goes
+abbrev pub Resent : Type 0
+Resent = Pending × PartConfig
 
--- refused as 1 (NotPending) where it isn't pending
-abbrev pub retries : ℕ → ClientState → Option Pending → Moved ClientState
-retries n c None = refuses c 1
-retries n c (Some p) = retries_at n c p (owner_of c.config p.request.command)
+-- which request is sent again and where it goes, or the number of the refusal: 1 (NotPending) where it isn't pending, and
+-- 2 (Split) where no one partition owns all its hashes
+abbrev pub retry_for : ℕ → ClientState → ℕ → Result Resent ℕ
+retry_for n c seq = do
+  p ← ok_or (with_id (record { client = n; seq = seq }) c.pending) 1
+  part ← ok_or (owner_of c.config p.request.command) 2
+  Ok (p, part)
+
+-- a pending request is sent once more
+abbrev pub sends_again : ℕ → ClientState → Resent → Moved ClientState
+sends_again n c r = sends
+    (with_pending c (record r.0 { attempts = r.0.attempts ++ attempt_at r.1 ∷ []; asked = false }))
+    (sent_by n c.fast (is_update r.0.request.command) r.0.request r.1)
 
 -- a pending request is sent again, by its number
 unfoldable pub retry : ℕ → ClientState → ℕ → Moved ClientState
-retry n c seq = retries n c (with_number seq c.pending)
+retry n c seq = unless_refused c (sends_again n c) (retry_for n c seq)
 
 -- it asks the manager for the configuration
 abbrev pub fetch : ℕ → ClientState → Moved ClientState
@@ -172,13 +188,13 @@ abbrev pub proved_answer : Pending → Option Early
 proved_answer p = first_of (filter (λ e. list_any (proves p e) p.attempts) p.early)
 
 -- a request is pending no longer
-abbrev pub without_number : ℕ → List Pending → List Pending
-without_number seq pending = filter (λ p. not (p.request.id.seq == seq)) pending
+abbrev pub without_id : RequestId → List Pending → List Pending
+without_id id pending = filter (λ p. not (same_id p.request.id id)) pending
 
 -- a request completes with an answer
 abbrev pub completes_with : ClientState → RequestId → Answer → Option Capture → Moved ClientState
 completes_with c id a by =
-    completes (record c { pending = without_number id.seq c.pending }) (record { id = id; answer = a; by = by })
+    completes (record c { pending = without_id id c.pending }) (record { id = id; answer = a; by = by })
 
 -- it completes where an unsynced reply is proved
 abbrev pub if_proved : ClientState → Pending → Option Early → Moved ClientState
@@ -230,12 +246,6 @@ valued c from v (Some p) =
     if is_update p.request.command then quiet c
     else completes_with c v.id v.answer (Some (record { master = from; epoch = v.epoch; number = v.capture }))
 
--- the newest of a list
-abbrev pub last_of : {A : Type 0} → List A → Option A
-last_of [] = None
-last_of (x ∷ []) = Some x
-last_of (x ∷ y ∷ rest) = last_of (y ∷ rest)
-
 -- it asks the master of the latest attempt, with what it knew then
 abbrev pub asks : ℕ → ClientState → Pending → Option Attempt → Moved ClientState
 asks n c p None = quiet c
@@ -255,10 +265,10 @@ configured c config = if nat_lt c.config.serial config.serial then record c { co
 
 -- a message comes to client n
 unfoldable pub on_client : ℕ → ClientState → NodeId → Body → Moved ClientState
-on_client n c from (body.Reply r) = replied c from r (with_number r.id.seq c.pending)
-on_client n c from (body.Accepted a) = accepted c from a (with_number a.id.seq c.pending)
-on_client n c from (body.Worth v) = valued c from v (with_number v.id.seq c.pending)
-on_client n c from (body.Rejected r) = rejected n c (with_number r.id.seq c.pending)
+on_client n c from (body.Reply r) = replied c from r (with_id r.id c.pending)
+on_client n c from (body.Accepted a) = accepted c from a (with_id a.id c.pending)
+on_client n c from (body.Worth v) = valued c from v (with_id v.id c.pending)
+on_client n c from (body.Rejected r) = rejected n c (with_id r.id c.pending)
 on_client n c from (body.Configuration config) = quiet (configured c config)
 on_client n c from _ = quiet c
 
@@ -268,3 +278,8 @@ client_ordered n c (local.Invoke command) = invoke n c command
 client_ordered n c (local.Retry seq) = retry n c seq
 client_ordered n c local.Fetch = fetch n c
 client_ordered n c _ = quiet c
+
+-- an input comes to client n
+abbrev pub client_input : ℕ → ClientState → Input → Moved ClientState
+client_input n c (input.Local order) = client_ordered n c order
+client_input n c (input.Message m) = on_client n c m.from m.body

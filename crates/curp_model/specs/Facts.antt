@@ -34,9 +34,10 @@ use Rattle.curp_model.specs.Log.{IsDone, Stands}
 use Rattle.curp_model.specs.Manager as manager
 use Rattle.curp_model.specs.Manager.{ManagerState, Doing, opening_config}
 use Rattle.curp_model.specs.Master.{MasterState}
-use Rattle.curp_model.specs.Moved.{says, manager_node, client_node}
+use Rattle.curp_msg.specs.Moved.{says}
+use Rattle.curp_cmd.specs.Node.{manager_node, client_node}
 use Rattle.curp_model.specs.Ranges.{opening_range}
-use Rattle.curp_model.specs.Recovery.{MasterNode, Fresh, Recovering, Serving, RecoveryState, RecoveryPhase, Asking, Storing, Waiting, Replayed, replay}
+use Rattle.curp_model.specs.Recovery.{Fresh, Recovering, Serving, RecoveryState, RecoveryPhase, Asking, Storing, Waiting, Replayed, replay, MasterStage}
 use Rattle.curp_model.specs.Witness.{WitnessState, frozen_requests}
 use Rattle.curp_model.specs.World.{World, messages}
 
@@ -83,7 +84,7 @@ pub record IsWitness (w : World) (node : NodeId) (x : WitnessState) : Type 0 whe
   pub its_state : numbered w.witnesses node.number ≡ Some x
 
 -- the state of a master by its name
-pub record IsMaster (w : World) (node : NodeId) (m : MasterNode) : Type 0 where
+pub record IsMaster (w : World) (node : NodeId) (m : MasterStage) : Type 0 where
   pub its_kind : node.kind ≡ kind.Master
   pub its_state : numbered w.masters node.number ≡ Some m
 
@@ -99,14 +100,14 @@ phase_log (Storing r) = Some (record { log = r.log; round = r.round })
 phase_log (Waiting r) = Some (record { log = r.log; round = r.round })
 
 -- a master's log, once it has one
-abbrev pub node_log : MasterNode → Option Logged
+abbrev pub node_log : MasterStage → Option Logged
 node_log Fresh = None
 node_log (Recovering s) = phase_log s.phase
 node_log (Serving m) = Some (record { log = m.log; round = m.round })
 
 -- a master, by its name, with its log
 pub record HasLog (w : World) (node : NodeId) (l : Logged) : Type 0 where
-  pub m : MasterNode
+  pub m : MasterStage
   pub is : IsMaster w node m
   pub its_log : node_log m ≡ Some l
 
@@ -311,8 +312,25 @@ abbrev pub IsOnlyExpire : Entry → Type 0
 IsOnlyExpire (Expire client) = ⊤
 IsOnlyExpire _ = ⊥
 
--- Every backup of the prepared list has the log as it was when Prepared of that version was first sent, which is as far as
--- any append before it reaches; and its master has pushed no Op, Take or Give since without having taken that list
+-- Prepared of a version was first sent at that place among the messages
+pub record FirstPrepared (w : World) (from : NodeId) (version place : ℕ) : Type 0 where
+  pub prepared : At (messages w) place (says from manager_node (body.Prepared version))
+  pub first : (k : ℕ) → At (messages w) k (says from manager_node (body.Prepared version)) → place ≤ k
+
+-- the append that stands at that place goes as far as that into its master's log
+pub record ReachesTo (w : World) (from : NodeId) (place reach : ℕ) : Type 0 where
+  pub to : NodeId
+  pub append : Append
+  pub sent : At (messages w) place (says from to (body.Append append))
+  pub reach_is : append.base + length append.entries ≡ reach
+
+-- how long a master's log was as it sent the message at that place: as far as any of its appends before it reaches
+pub record LengthAt (w : World) (from : NodeId) (place long : ℕ) : Type 0 where
+  pub most : (k reach : ℕ) → k < place → ReachesTo w from k reach → reach ≤ long
+  pub reached : (k : ℕ) × (k < place) × ReachesTo w from k long
+
+-- Every backup of the prepared list has the log as it was when Prepared of that version was first sent, and its master has
+-- pushed no Op, Take or Give since without having taken that list
 pub record PreparedOk (w : World) (from : NodeId) (version : ℕ) : Type 0 where
   pub lists : Lists
   pub given : IsGiven w lists
@@ -321,13 +339,11 @@ pub record PreparedOk (w : World) (from : NodeId) (version : ℕ) : Type 0 where
   pub l : Logged
   pub its_log : HasLog w from l
   pub place : ℕ
-  pub prepared : At (messages w) place (says from manager_node (body.Prepared version))
-  pub first : (k : ℕ) → At (messages w) k (says from manager_node (body.Prepared version)) → place ≤ k
-  pub cut : ℕ
-  pub reaches : (k : ℕ) (to : NodeId) (a : Append) → k < place → At (messages w) k (says from to (body.Append a)) → a.base + length a.entries ≤ cut
-  pub reached : (k : ℕ) × (to : NodeId) × (a : Append) × (k < place) × At (messages w) k (says from to (body.Append a)) × (a.base + length a.entries ≡ cut)
-  pub on_all : Each (λ node. (b : BackupState) → IsBackup w node b → IsPrefix (take cut l.log) b.log) lists.backups
-  pub since : (m : MasterState) → IsMaster w from (Serving m) → m.version < version → Each IsOnlyExpire (drop cut m.log)
+  pub first : FirstPrepared w from version place
+  pub long : ℕ
+  pub then_long : LengthAt w from place long
+  pub on_all : Each (λ node. (b : BackupState) → IsBackup w node b → IsPrefix (take long l.log) b.log) lists.backups
+  pub since : (m : MasterState) → IsMaster w from (Serving m) → m.version < version → Each IsOnlyExpire (drop long m.log)
 
 -- each entry of a configuration is one that was adopted
 abbrev pub ConfigOk : World → Config → Type 0

@@ -5,7 +5,7 @@ use Rattle.std.specs.FinMap as store
 use Rattle.std.specs.FinMap.Entries.{find}
 use Rattle.std.specs.Ordering.{nat_cmp}
 use Rattle.curp_base.specs.Words.{At, Each, IsPrefix}
-use Rattle.curp_cmd.specs.Hash.{hash_of}
+use Rattle.curp_cmd.specs.Hash.{hash_of, hashes}
 use Rattle.curp_cmd.specs.Store.{Contents, nothing, applied}
 use Rattle.curp_cmd.specs.declared.command.Answer.{Answer}
 use Rattle.curp_cmd.specs.declared.command.Request.{Request}
@@ -42,10 +42,10 @@ use Rattle.curp_model.specs.Log.{IsLog, IsDone, LogState, entry_touches, meaning
 use Rattle.curp_model.specs.Manager.{Migration}
 use Rattle.curp_model.specs.Marks.{Mark, Looked, shown}
 use Rattle.curp_model.specs.Master as master
-use Rattle.curp_model.specs.Master.{MasterState, Captured, Acknowledged, from_backup, has, is_among}
-use Rattle.curp_model.specs.Moved.{says, client_node, manager_node}
+use Rattle.curp_model.specs.Master.{MasterState, Captured, Acknowledged, from_backup, has}
+use Rattle.curp_cmd.specs.Node.{is_among, client_node, manager_node}
+use Rattle.curp_msg.specs.Moved.{says}
 use Rattle.curp_model.specs.Recovery.{Recovering, RecoveryState, Replayed, Serving, Storing, Waiting, replay}
-use Rattle.curp_model.specs.Requests.{hashes}
 use Rattle.curp_model.specs.Table.{check}
 use Rattle.curp_model.specs.Witness.{WitnessState, frozen_requests}
 use Rattle.curp_model.specs.World.{World, messages, order}
@@ -86,7 +86,7 @@ pub record ServesLast (w : World) (node : NodeId) (m : MasterState) : Type 0 whe
 
 -- each serving master serves by the last lists
 abbrev pub MastersFollow : World → Type 0
-MastersFollow w = (node : NodeId) (m : MasterState) → IsMaster w node (Serving m) → m.phase ≡ master.Serving → ServesLast w node m
+MastersFollow w = (node : NodeId) (m : MasterState) → IsMaster w node (Serving m) → m.phase ≡ master.Open → ServesLast w node m
 
 -- ---- early replies
 

@@ -12,7 +12,7 @@ use Rattle.curp_model.specs.declared.Check.{Check}
 use Rattle.curp_model.specs.declared.Check.TheVariants.{Expired, Stale, Known, New}
 use Rattle.curp_model.specs.Backup.{BackupState}
 use Rattle.curp_model.specs.Log.{IsDone, meaning}
-use Rattle.curp_model.specs.Requests.{same_id}
+use Rattle.curp_cmd.specs.RequestId.{same_id}
 
 -- the message is an append that the backup takes: of its own epoch, not below its fence, and with no gap behind its log
 pub record IsTaken (b : BackupState) (message : Body) : Type 0 where

@@ -1,9 +1,6 @@
-pub mod Moved
-pub mod Requests
 pub mod Ranges
 pub mod Witness
 pub mod Backup
-pub mod Built
 pub mod Table
 pub mod Log
 pub mod Master
@@ -12,7 +9,11 @@ pub mod Client
 pub mod Manager
 pub mod Marks
 pub mod World
-pub mod Text
+pub mod Causes
 pub mod Facts
 pub mod Kept
 pub mod Laws
+pub mod Built
+pub mod Sent
+pub mod Marked
+pub mod Shape

@@ -5,8 +5,9 @@ use Rattle.std.specs.List.{filter, list_any}
 use Rattle.std.specs.Option.{option_eq}
 use Rattle.std.specs.Str.{bytes_eq}
 use Rattle.curp_base.specs.Words.{At}
-use Rattle.curp_cmd.specs.Hash.{hash_of, touches}
+use Rattle.curp_cmd.specs.Hash.{hash_of, hashes, touches}
 use Rattle.curp_cmd.specs.Pairs.{Pair}
+use Rattle.curp_cmd.specs.RequestId.{same_id}
 use Rattle.curp_cmd.specs.Store.{Contents, nothing, applied, with_pairs}
 use Rattle.curp_cmd.specs.declared.command.Answer.{Answer}
 use Rattle.curp_cmd.specs.declared.command.Answer.TheVariants as answer
@@ -16,22 +17,21 @@ use Rattle.curp_cmd.specs.declared.command.RequestId.{RequestId}
 use Rattle.curp_cmd.specs.declared.entry.Entry.{Entry}
 use Rattle.curp_cmd.specs.declared.entry.Entry.TheVariants.{Op, Take, Give, Expire}
 use Rattle.curp_cmd.specs.declared.migration.Package.{Package}
-use Rattle.curp_range.specs.Spans.{Span, is_in, is_covered}
+use Rattle.curp_range.specs.Spans.{Span, is_in, is_covered, without, with_range}
 use Rattle.curp_model.specs.declared.Check.{Check}
 use Rattle.curp_model.specs.declared.Check.TheVariants.{New}
-use Rattle.curp_model.specs.Ranges.{without, with_range, owns_all}
-use Rattle.curp_model.specs.Requests.{hashes, same_id}
+use Rattle.curp_model.specs.Ranges.{owns_all}
 use Rattle.curp_model.specs.Table as table
 use Rattle.curp_model.specs.Table.{Table, no_records}
 
--- a package that was taken, with its migration and the index of its entry
-pub record Taken : Type 0 where
+-- the last package that was taken, with its migration and the index of its entry
+pub record LastTake : Type 0 where
   pub migration : ℕ
   pub taken : Package
   pub index : ℕ
 
--- a migration that was given, with the index of its entry
-pub record Given : Type 0 where
+-- the last migration that was given, with the index of its entry
+pub record LastGive : Type 0 where
   pub migration : ℕ
   pub index : ℕ
 
@@ -40,8 +40,8 @@ pub record LogState : Type 0 where
   pub store : Contents
   pub table : Table
   pub owned : List Span
-  pub taken : Option Taken
-  pub given : Option Given
+  pub taken : Option LastTake
+  pub given : Option LastGive
 
 -- before any entry, with that range
 abbrev pub log_opening : ℕ → ℕ → LogState

@@ -1,28 +1,31 @@
 -- The manager: one reliable node that names the nodes of each partition (this project's own; CURP's configuration manager).
-use Rattle.std.specs.Prelude.{ℕ, ◌+◌, ◌-◌, ◌*◌, ◌^◌, ◌==◌, ◌&&◌, nat_le, nat_lt, if◌then◌else◌, Bool, true, false, List, [], ◌∷◌, ◌++◌, map, flat_map, slice_set, Option, Some, None}
+use Rattle.std.specs.Prelude.{ℕ, ◌+◌, ◌-◌, ◌*◌, ◌^◌, ◌==◌, ◌&&◌, ◌||◌, nat_le, nat_lt, if◌then◌else◌, Bool, true, false, not, List, [], ◌∷◌, ◌++◌, map, flat_map, slice_set, Option, Some, None, is_some, option_and_then, Result, Ok, Err}
 use Rattle.std.specs.BTreeSet.{insert_key}
 use Rattle.std.specs.List.{filter}
+use Rattle.std.specs.Option.{ok_or}
 use Rattle.std.specs.Ordering.{nat_cmp}
-use Rattle.curp_base.specs.Words.{numbered}
+use Rattle.curp_base.specs.Cases.{◌>>=◌, first_there, only_if, refuse_if}
+use Rattle.curp_base.specs.Words.{first_of, numbered, numbers_from, rises_past}
+use Rattle.curp_cmd.specs.Node.{manager_node, master_node, backup_node, witness_node}
 use Rattle.curp_cmd.specs.declared.migration.Package.{Package}
 use Rattle.curp_cmd.specs.declared.node.Keeper.{Keeper}
 use Rattle.curp_cmd.specs.declared.node.Keeper.TheVariants as keeper
 use Rattle.curp_cmd.specs.declared.node.NodeId.{NodeId}
+use Rattle.curp_msg.specs.Moved.{Moved, quiet, sends, unless_refused, says, says_each}
 use Rattle.curp_msg.specs.declared.body.Body.{Body}
 use Rattle.curp_msg.specs.declared.body.Body.TheVariants as body
 use Rattle.curp_msg.specs.declared.body.Parcel.{Parcel}
 use Rattle.curp_msg.specs.declared.body.Recover.{Recover}
+use Rattle.curp_msg.specs.declared.body.Recovered.{Recovered}
 use Rattle.curp_msg.specs.declared.config.Config.{Config}
 use Rattle.curp_msg.specs.declared.config.PartConfig.{PartConfig}
+use Rattle.curp_msg.specs.declared.machine.Input.{Input}
+use Rattle.curp_msg.specs.declared.machine.Input.TheVariants as input
 use Rattle.curp_msg.specs.declared.machine.Local.{Local}
 use Rattle.curp_msg.specs.declared.machine.Local.TheVariants as local
 use Rattle.curp_msg.specs.declared.message.Message.{Message}
-use Rattle.curp_range.specs.Spans.{is_covered}
-use Rattle.curp_model.specs.Master.{same_node}
-use Rattle.curp_model.specs.Moved.{Moved, quiet, sends, refuses, says, says_each, manager_node, master_node, backup_node, witness_node}
-use Rattle.curp_model.specs.Ranges.{Range, range_of, opening_range, without, with_range}
-use Rattle.curp_model.specs.Requests.{first_of}
-use Rattle.curp_model.specs.Witness.{numbers_from}
+use Rattle.curp_range.specs.Spans.{is_covered, without, with_range}
+use Rattle.curp_model.specs.Ranges.{Range, range_of, opening_range}
 
 -- ---- the state
 
@@ -115,28 +118,23 @@ with_doing g p d = record g { doing = slice_set g.doing (p - 1) d }
 abbrev pub with_part : ManagerState → ℕ → PartConfig → ManagerState
 with_part g p c = record g { config = record { serial = g.config.serial + 1; parts = slice_set g.config.parts (p - 1) c } }
 
--- no number passes 2^32 - 1: where one would, the call does nothing
+-- ---- numbers
+
+-- the greatest epoch, version, migration, serial and number of a node
 abbrev pub last_number : ℕ
 last_number = 2 ^ 32 - 1
 
--- a recovery gives only numbers in range
-abbrev pub can_recover : Next → ℕ → Bool
-can_recover n f =
-    nat_le n.epoch last_number && nat_le n.version last_number && nat_le n.master last_number
-    && nat_le (n.backup + f) (last_number + 1) && nat_le (n.witness + f) (last_number + 1)
+-- one of the counters rises past its end
+abbrev pub counter_ends : Next → Next → Bool
+counter_ends n after =
+    rises_past last_number n.epoch after.epoch || rises_past last_number n.version after.version
+    || rises_past last_number n.master after.master || rises_past last_number n.backup after.backup
+    || rises_past last_number n.witness after.witness || rises_past last_number n.migration after.migration
 
--- a replacement gives only numbers in range
-abbrev pub can_replace : Next → Keeper → Bool
-can_replace n keeper.Backup = nat_le n.version last_number && nat_le n.backup last_number
-can_replace n keeper.Witness = nat_le n.version last_number && nat_le n.witness last_number
-
--- a migration gives only a number in range
-abbrev pub can_migrate : Next → Bool
-can_migrate n = nat_le n.migration last_number
-
--- the serial can rise
-abbrev pub can_adopt : ManagerState → Bool
-can_adopt g = nat_lt g.config.serial last_number
+-- an input by which a counter or the serial would rise past its end changes nothing and sends nothing
+abbrev pub unless_numbers_end : ManagerState → Moved ManagerState → Moved ManagerState
+unless_numbers_end g r =
+    if counter_ends g.next r.state.next || rises_past last_number g.config.serial r.state.config.serial then quiet g else r
 
 -- ---- what it says
 
@@ -200,20 +198,18 @@ recovers g p o = sends
     (record (with_doing g p (Recovering (master_node g.next.master) o)) { next = after_recover_numbers g })
     (recover_messages (master_node g.next.master) o)
 
--- 2 (NoBackup), and then 3 (NoWitness), where there is no such place in the adopted lists
-abbrev pub recover_from : ManagerState → ℕ → PartConfig → Option NodeId → Option NodeId → Moved ManagerState
-recover_from g p c None witness = refuses g 2
-recover_from g p c (Some backup) None = refuses g 3
-recover_from g p c (Some backup) (Some witness) = if can_recover g.next g.shape.f then recovers g p (recover_order g c backup witness) else quiet g
-
--- 1 (NoPart) where there is no such partition
-abbrev pub recover_part : ManagerState → ℕ → ℕ → ℕ → Option PartConfig → Moved ManagerState
-recover_part g p backup witness None = refuses g 1
-recover_part g p backup witness (Some c) = recover_from g p c (numbered c.backups backup) (numbered c.witnesses witness)
+-- what is ordered, or the number of the refusal: 1 (NoPart), 2 (NoBackup) and 3 (NoWitness) where there is no such partition,
+-- or no such place in its adopted lists
+abbrev pub recovery_for : ManagerState → ℕ → ℕ → ℕ → Result Recover ℕ
+recovery_for g p backup witness = do
+  c ← ok_or (part_at g p) 1
+  from ← ok_or (numbered c.backups backup) 2
+  other ← ok_or (numbered c.witnesses witness) 3
+  Ok (recover_order g c from other)
 
 -- a partition is to be recovered from a backup and a witness at these places
 unfoldable pub recover : ManagerState → ℕ → ℕ → ℕ → Moved ManagerState
-recover g p backup witness = recover_part g p backup witness (part_at g p)
+recover g p backup witness = unless_refused g (recovers g p) (recovery_for g p backup witness)
 
 -- ---- replace
 
@@ -243,81 +239,120 @@ after_replace_numbers n keeper.Backup = record n { version = n.version + 1; back
 after_replace_numbers n keeper.Witness = record n { version = n.version + 1; witness = n.witness + 1 }
 
 -- a replacement is in work, under a new version
-abbrev pub replaces : ManagerState → ℕ → PartConfig → Keeper → NodeId → List NodeId → List NodeId → Moved ManagerState
-replaces g p c kind fresh backups witnesses = sends
+abbrev pub replaces : ManagerState → ℕ → Keeper → ℕ → PartConfig → Moved ManagerState
+replaces g p kind place c =
+    let fresh = fresh_node g kind in
+    let backups = new_backups c kind place fresh in
+    let witnesses = new_witnesses c kind place fresh in
+    sends
     (record (with_doing g p (Replacing kind fresh g.next.version backups witnesses)) { next = after_replace_numbers g.next kind })
     (replace_messages c kind fresh g.next.version backups witnesses)
 
--- 3 (Recovering) and 4 (Replacing) where an attempt or a replacement isn't finished
-abbrev pub replace_in : ManagerState → ℕ → PartConfig → Keeper → ℕ → Option Doing → Moved ManagerState
-replace_in g p c kind place (Some (Recovering master order)) = refuses g 3
-replace_in g p c kind place (Some (Replacing k fresh version backups witnesses)) = refuses g 4
-replace_in g p c kind place _ =
-    let fresh = fresh_node g kind in
-    if can_replace g.next kind then replaces g p c kind fresh (new_backups c kind place fresh) (new_witnesses c kind place fresh) else quiet g
+-- an attempt to recover isn't finished
+abbrev pub is_recovering : Option Doing → Bool
+is_recovering (Some (Recovering master order)) = true
+is_recovering _ = false
 
--- 2 (NoPlace) where there is no such place
-abbrev pub replace_at : ManagerState → ℕ → PartConfig → Keeper → ℕ → Option NodeId → Moved ManagerState
-replace_at g p c kind place None = refuses g 2
-replace_at g p c kind place (Some old) = replace_in g p c kind place (numbered g.doing p)
+-- a replacement isn't finished
+abbrev pub is_replacing : Option Doing → Bool
+is_replacing (Some (Replacing kind fresh version backups witnesses)) = true
+is_replacing _ = false
 
--- 1 (NoPart) where there is no such partition
-abbrev pub replace_part : ManagerState → ℕ → Keeper → ℕ → Option PartConfig → Moved ManagerState
-replace_part g p kind place None = refuses g 1
-replace_part g p kind place (Some c) = replace_at g p c kind place (numbered (keepers_of c kind) place)
+-- the partition's adopted entry, or the number of the refusal: 1 (NoPart) and 2 (NoPlace) where there is no such partition or
+-- place, 3 (Recovering) and 4 (Replacing) where an attempt or a replacement isn't finished
+abbrev pub replacement_for : ManagerState → Keeper → ℕ → ℕ → Result PartConfig ℕ
+replacement_for g kind p place = do
+  c ← ok_or (part_at g p) 1
+  _ ← ok_or (numbered (keepers_of c kind) place) 2
+  _ ← refuse_if (is_recovering (numbered g.doing p)) 3
+  _ ← refuse_if (is_replacing (numbered g.doing p)) 4
+  Ok c
 
 -- the backup or the witness at a place is to be replaced
 unfoldable pub replace : ManagerState → Keeper → ℕ → ℕ → Moved ManagerState
-replace g kind p place = replace_part g p kind place (part_at g p)
+replace g kind p place = unless_refused g (replaces g p kind place) (replacement_for g kind p place)
 
 -- ---- adoption
 
--- the entry of a recovered partition
-abbrev pub recovered_part : PartConfig → NodeId → Recover → PartConfig
-recovered_part c master o = record c { epoch = o.epoch; version = o.version; master = master; backups = o.backups; witnesses = o.witnesses }
-
 -- the new entry is adopted, and the master is told
 abbrev pub adopts : ManagerState → ℕ → PartConfig → Moved ManagerState
-adopts g p c = if can_adopt g then sends (with_doing (with_part g p c) p Steady) (adopted_message c ∷ []) else quiet g
+adopts g p c = sends (with_doing (with_part g p c) p Steady) (adopted_message c ∷ [])
 
--- for the adopted epoch and version it is told again, in whatever is being done
-abbrev pub adopted_again : ManagerState → PartConfig → Bool → Moved ManagerState
-adopted_again g c true = sends g (adopted_message c ∷ [])
-adopted_again g c false = quiet g
+-- what is adopted already is told again, in whatever is being done
+abbrev pub tells_again : ManagerState → Option PartConfig → Moved ManagerState
+tells_again g None = quiet g
+tells_again g (Some c) = sends g (adopted_message c ∷ [])
 
--- the newest attempt is recovered; an older one counts for nothing
-abbrev pub recovered_in : ManagerState → ℕ → PartConfig → ℕ → Option Doing → Moved ManagerState
-recovered_in g p c epoch (Some (Recovering master o)) =
-    if o.epoch == epoch then adopts g p (recovered_part c master o) else adopted_again g c (c.epoch == epoch)
-recovered_in g p c epoch _ = adopted_again g c (c.epoch == epoch)
+-- an attempt to recover a partition that isn't finished: the master that makes it, and its order
+pub record Attempted : Type 0 where
+  pub master : NodeId
+  pub order : Recover
 
--- a recovery is told of a partition
-abbrev pub recovered_at : ManagerState → ℕ → ℕ → Option PartConfig → Moved ManagerState
-recovered_at g p epoch None = quiet g
-recovered_at g p epoch (Some c) = recovered_in g p c epoch (numbered g.doing p)
+-- the attempt that is being made, if it has that epoch. It is the newest of its partition
+abbrev pub attempt_at : ℕ → Option Doing → Option Attempted
+attempt_at epoch (Some (Recovering master o)) = only_if (o.epoch == epoch) (record { master = master; order = o })
+attempt_at epoch _ = None
+
+-- the attempt that a master says is finished
+abbrev pub finished : ManagerState → Recovered → Option Attempted
+finished g r = option_and_then (λ (c : PartConfig). attempt_at r.epoch (numbered g.doing r.part)) (part_at g r.part)
+
+-- the entry of a recovered partition
+abbrev pub recovered_part : PartConfig → Attempted → PartConfig
+recovered_part c a = record c { epoch = a.order.epoch; version = a.order.version; master = a.master; backups = a.order.backups; witnesses = a.order.witnesses }
+
+-- the adopted entry of a partition at that epoch
+abbrev pub adopted_at : ManagerState → Recovered → Option PartConfig
+adopted_at g r = option_and_then (λ (c : PartConfig). only_if (c.epoch == r.epoch) c) (part_at g r.part)
+
+-- the newest attempt is adopted; an older one counts for nothing
+abbrev pub recovered_in : ManagerState → Recovered → Option Attempted → Option PartConfig → Moved ManagerState
+recovered_in g r (Some a) (Some c) = adopts g r.part (recovered_part c a)
+recovered_in g r _ _ = tells_again g (adopted_at g r)
 
 -- a master has recovered a partition at an epoch
-unfoldable pub on_recovered : ManagerState → ℕ → ℕ → Moved ManagerState
-on_recovered g p epoch = recovered_at g p epoch (part_at g p)
+unfoldable pub on_recovered : ManagerState → Recovered → Moved ManagerState
+on_recovered g r = recovered_in g r (finished g r) (part_at g r.part)
 
--- the version in work is prepared
-abbrev pub prepared_in : ManagerState → ℕ → PartConfig → ℕ → Option Doing → Moved ManagerState
-prepared_in g p c version (Some (Replacing kind fresh own backups witnesses)) =
-    if own == version then adopts g p (record c { version = own; backups = backups; witnesses = witnesses }) else adopted_again g c (c.version == version)
-prepared_in g p c version _ = adopted_again g c (c.version == version)
+-- the recovery that a message lets the manager adopt, if it does
+abbrev pub adopted_by : ManagerState → Body → Option Attempted
+adopted_by g (body.Recovered r) = if rises_past last_number g.config.serial (g.config.serial + 1) then None else finished g r
+adopted_by g _ = None
 
--- a version is told of the sender's partition
-abbrev pub prepared_at : ManagerState → ℕ → Option PartConfig → Moved ManagerState
-prepared_at g version None = quiet g
-prepared_at g version (Some c) = prepared_in g c.part c version (numbered g.doing c.part)
+-- the recovery that an input lets the manager adopt
+abbrev pub adoption : ManagerState → Input → Option Attempted
+adoption g (input.Local order) = None
+adoption g (input.Message m) = adopted_by g m.body
 
--- it comes from the adopted master of a partition
-abbrev pub part_of_master : ManagerState → NodeId → Option PartConfig
-part_of_master g master = first_of (filter (λ c. same_node c.master master) g.config.parts)
+-- the lists of the version in work
+pub record NewLists : Type 0 where
+  pub part : PartConfig
+  pub version : ℕ
+  pub backups : List NodeId
+  pub witnesses : List NodeId
 
--- a master has its log on the backups of a new list
-unfoldable pub on_prepared : ManagerState → NodeId → ℕ → Moved ManagerState
-on_prepared g from version = prepared_at g version (part_of_master g from)
+-- the new lists of a partition, if it is being given lists of that version
+abbrev pub lists_in_work : ℕ → PartConfig → Option Doing → Option NewLists
+lists_in_work version c (Some (Replacing kind fresh own backups witnesses)) =
+    only_if (own == version) (record { part = c; version = own; backups = backups; witnesses = witnesses })
+lists_in_work version c _ = None
+
+-- the first partition that is being given lists of that version. No two have one version
+abbrev pub version_in_work : ManagerState → ℕ → Option NewLists
+version_in_work g version = first_there (map (λ (c : PartConfig). lists_in_work version c (numbered g.doing c.part)) g.config.parts)
+
+-- the first partition whose adopted lists have that version
+abbrev pub version_adopted : ManagerState → ℕ → Option PartConfig
+version_adopted g version = first_of (filter (λ (c : PartConfig). c.version == version) g.config.parts)
+
+-- the version in work is adopted
+abbrev pub prepared_in : ManagerState → ℕ → Option NewLists → Moved ManagerState
+prepared_in g version (Some p) = adopts g p.part.part (record p.part { version = p.version; backups = p.backups; witnesses = p.witnesses })
+prepared_in g version None = tells_again g (version_adopted g version)
+
+-- a master has its log on the backups of a new list, whichever master says so
+unfoldable pub on_prepared : ManagerState → ℕ → Moved ManagerState
+on_prepared g version = prepared_in g version (version_in_work g version)
 
 -- ---- migrations
 
@@ -338,35 +373,34 @@ take_message owner number r =
 abbrev pub give_message : PartConfig → ℕ → Package → Message
 give_message target number carried = says manager_node target.master (body.GiveIn (record { migration = number; «package» = carried }))
 
+-- a range that is to move, from the partition that owns it to another one
+pub record Move : Type 0 where
+  pub range : Range
+  pub owner : PartConfig
+  pub target : PartConfig
+
 -- a migration is in work
-abbrev pub migrates : ManagerState → Range → PartConfig → ℕ → Moved ManagerState
-migrates g r owner to =
-    let m : Migration = record { number = g.next.migration; range = r; source = owner.part; target = to; moved = None } in
-    sends (record g { moving = Some m; next = record g.next { migration = g.next.migration + 1 } }) (take_message owner g.next.migration r ∷ [])
+abbrev pub migrates : ManagerState → Move → Moved ManagerState
+migrates g v =
+    let m : Migration = record { number = g.next.migration; range = v.range; source = v.owner.part; target = v.target.part; moved = None } in
+    sends
+    (record g { moving = Some m; next = record g.next { migration = g.next.migration + 1 } })
+    (take_message v.owner g.next.migration v.range ∷ [])
 
--- 5 (Moving) where another migration is in work
-abbrev pub migrate_unless : ManagerState → Range → PartConfig → ℕ → Option Migration → Moved ManagerState
-migrate_unless g r owner to (Some m) = refuses g 5
-migrate_unless g r owner to None = if can_migrate g.next then migrates g r owner to else quiet g
-
--- 4 (SplitOwner) where no one partition owns all of it
-abbrev pub migrate_from : ManagerState → Range → ℕ → Option PartConfig → Moved ManagerState
-migrate_from g r to None = refuses g 4
-migrate_from g r to (Some owner) = migrate_unless g r owner to g.moving
-
--- 3 (SameOwner) where the target owns all of it
-abbrev pub migrate_to : ManagerState → Range → ℕ → Option PartConfig → Moved ManagerState
-migrate_to g r to None = refuses g 2
-migrate_to g r to (Some target) = if owns_range r.lo r.hi target then refuses g 3 else migrate_from g r to (owner_of_range g r.lo r.hi)
-
--- 1 (BadRange) where lo exceeds hi, 2 (NoPart) where there is no such target
-abbrev pub migrate_range : ManagerState → ℕ → Option Range → Moved ManagerState
-migrate_range g to None = refuses g 1
-migrate_range g to (Some r) = migrate_to g r to (part_at g to)
+-- what moves, or the number of the refusal: 1 (BadRange) where lo exceeds hi, 2 (NoPart) where there is no such target,
+-- 3 (SameOwner) where it owns all of it, 4 (SplitOwner) where no one partition does, 5 (Moving) where another migration is in work
+abbrev pub move_for : ManagerState → ℕ → ℕ → ℕ → Result Move ℕ
+move_for g lo hi to = do
+  r ← ok_or (range_of lo hi) 1
+  target ← ok_or (part_at g to) 2
+  _ ← refuse_if (owns_range r.lo r.hi target) 3
+  owner ← ok_or (owner_of_range g r.lo r.hi) 4
+  _ ← refuse_if (is_some g.moving) 5
+  Ok (record { range = r; owner = owner; target = target })
 
 -- the hashes from lo to hi are to move to a partition
 unfoldable pub migrate : ManagerState → ℕ → ℕ → ℕ → Moved ManagerState
-migrate g lo hi to = migrate_range g to (range_of lo hi)
+migrate g lo hi to = unless_refused g (migrates g) (move_for g lo hi to)
 
 -- the package goes to the target's master
 abbrev pub gives : ManagerState → Migration → Package → Option PartConfig → Moved ManagerState
@@ -393,7 +427,7 @@ moved_part m c =
 abbrev pub given_in : ManagerState → ℕ → Option Migration → Moved ManagerState
 given_in g number None = quiet g
 given_in g number (Some m) =
-    if (m.number == number) && can_adopt g
+    if m.number == number
     then quiet (record g { config = record { serial = g.config.serial + 1; parts = map (moved_part m) g.config.parts }; moving = None })
     else quiet g
 
@@ -407,12 +441,19 @@ on_given g number = given_in g number g.moving
 abbrev pub expire_messages : ManagerState → ℕ → List Message
 expire_messages g client = says_each manager_node (map (λ c. c.master) g.config.parts) (body.ExpireClient client)
 
--- 1 (NoClient) where the header has no such client
+-- a client is gone for good, and each master is told
+abbrev pub expires : ManagerState → ℕ → Moved ManagerState
+expires g client = sends (record g { gone = insert_key nat_cmp g.gone client }) (expire_messages g client)
+
+-- the client, or the number of the refusal: 1 (NoClient) where the header has no such client
+abbrev pub client_for : ManagerState → ℕ → Result ℕ ℕ
+client_for g client = do
+  _ ← refuse_if (not (nat_lt 0 client && nat_le client g.shape.clients)) 1
+  Ok client
+
+-- a client is declared gone
 unfoldable pub expire : ManagerState → ℕ → Moved ManagerState
-expire g client =
-    if nat_lt 0 client && nat_le client g.shape.clients
-    then sends (record g { gone = insert_key nat_cmp g.gone client }) (expire_messages g client)
-    else refuses g 1
+expire g client = unless_refused g (expires g) (client_for g client)
 
 -- ---- nudge
 
@@ -439,20 +480,33 @@ nudge g = sends g
 
 -- ---- inputs
 
+-- what a message does, by its kind
+abbrev pub heard : ManagerState → NodeId → Body → Moved ManagerState
+heard g from body.Fetch = sends g (says manager_node from (body.Configuration g.config) ∷ [])
+heard g from (body.Recovered r) = on_recovered g r
+heard g from (body.Prepared version) = on_prepared g version
+heard g from (body.Taken t) = on_taken g t
+heard g from (body.Given number) = on_given g number
+heard g from _ = quiet g
+
+-- what an order does, by its kind
+abbrev pub told : ManagerState → Local → Moved ManagerState
+told g (local.Recover part backup witness) = recover g part backup witness
+told g (local.Replace kind part place) = replace g kind part place
+told g (local.Migrate lo hi to) = migrate g lo hi to
+told g local.Nudge = nudge g
+told g (local.Expire client) = expire g client
+told g _ = quiet g
+
 -- a message comes to the manager
 unfoldable pub on_manager : ManagerState → NodeId → Body → Moved ManagerState
-on_manager g from body.Fetch = sends g (says manager_node from (body.Configuration g.config) ∷ [])
-on_manager g from (body.Recovered r) = on_recovered g r.part r.epoch
-on_manager g from (body.Prepared version) = on_prepared g from version
-on_manager g from (body.Taken t) = on_taken g t
-on_manager g from (body.Given number) = on_given g number
-on_manager g from _ = quiet g
+on_manager g from b = unless_numbers_end g (heard g from b)
 
 -- the manager gets an order
 unfoldable pub manager_ordered : ManagerState → Local → Moved ManagerState
-manager_ordered g (local.Recover part backup witness) = recover g part backup witness
-manager_ordered g (local.Replace kind part place) = replace g kind part place
-manager_ordered g (local.Migrate lo hi to) = migrate g lo hi to
-manager_ordered g local.Nudge = nudge g
-manager_ordered g (local.Expire client) = expire g client
-manager_ordered g _ = quiet g
+manager_ordered g order = unless_numbers_end g (told g order)
+
+-- an input comes to the manager
+abbrev pub manager_input : ManagerState → Input → Moved ManagerState
+manager_input g (input.Local order) = manager_ordered g order
+manager_input g (input.Message m) = on_manager g m.from m.body

@@ -1,14 +1,14 @@
 -- The marks, and the order that the world shows (this project's own). No log gives this order: a replay may turn it round.
 use Rattle.std.specs.Prelude.{ℕ, ◌+◌, ◌==◌, ◌&&◌, ◌||◌, nat_le, nat_lt, if◌then◌else◌, Bool, true, false, not, List, [], ◌∷◌, ◌++◌, map, Option, Some, None}
 use Rattle.std.specs.List.{filter, list_any}
+use Rattle.curp_cmd.specs.Node.{same_node}
+use Rattle.curp_cmd.specs.RequestId.{same_id}
 use Rattle.curp_cmd.specs.declared.command.Command.{Command}
 use Rattle.curp_cmd.specs.declared.command.Request.{Request}
 use Rattle.curp_cmd.specs.declared.command.RequestId.{RequestId}
 use Rattle.curp_msg.specs.declared.machine.Completed.{Completed}
 use Rattle.curp_msg.specs.declared.machine.Capture.{Capture}
 use Rattle.curp_cmd.specs.declared.node.NodeId.{NodeId}
-use Rattle.curp_model.specs.Master.{same_node}
-use Rattle.curp_model.specs.Requests.{same_id}
 
 -- an update at its index in a log, or a read at its capture with the log's length
 pub data Place : Type 0 where

@@ -1,11 +1,16 @@
 -- The serving master (after CURP's master). It keeps the log, answers an update at once where no entry that isn't synced
 -- touches its hashes, and everything else when all backups have it. Where a line names neither CURP nor RIFL, the form is this
 -- project's own.
-use Rattle.std.specs.Prelude.{ℕ, ◌+◌, ◌-◌, ◌^◌, ◌==◌, ◌&&◌, nat_le, nat_lt, min, max, if◌then◌else◌, Bool, true, false, not, List, [], ◌∷◌, ◌++◌, length, map, take, drop, slice_get, flat_map, Option, Some, None}
+use Rattle.std.specs.Prelude.{ℕ, ◌+◌, ◌-◌, ◌^◌, ◌==◌, ◌&&◌, ◌||◌, nat_le, nat_lt, min, max, if◌then◌else◌, Bool, true, false, not, List, [], ◌∷◌, ◌++◌, length, map, take, drop, slice_get, flat_map, Option, Some, None, option_map}
 use Rattle.std.specs.BTreeSet.{insert_key}
 use Rattle.std.specs.FinMap as store
 use Rattle.std.specs.List.{filter, list_any, list_all}
 use Rattle.std.specs.Ordering.{nat_cmp}
+use Rattle.curp_base.specs.Cases.{first_case, first_there, only_if}
+use Rattle.curp_base.specs.Words.{rises_past}
+use Rattle.curp_cmd.specs.Hash.{hashes}
+use Rattle.curp_cmd.specs.Node.{manager_node, client_node, master_node, is_among, same_node}
+use Rattle.curp_cmd.specs.RequestId.{same_id}
 use Rattle.curp_cmd.specs.declared.command.Answer.{Answer}
 use Rattle.curp_cmd.specs.declared.command.Answer.TheVariants.{Found}
 use Rattle.curp_cmd.specs.declared.command.Command.{Command}
@@ -15,8 +20,7 @@ use Rattle.curp_cmd.specs.declared.command.RequestId.{RequestId}
 use Rattle.curp_cmd.specs.declared.entry.Entry.{Entry}
 use Rattle.curp_cmd.specs.declared.entry.Entry.TheVariants.{Op, Take, Give, Expire}
 use Rattle.curp_cmd.specs.declared.node.NodeId.{NodeId}
-use Rattle.curp_cmd.specs.declared.node.NodeKind.{NodeKind}
-use Rattle.curp_cmd.specs.declared.node.NodeKind.TheVariants as kind
+use Rattle.curp_msg.specs.Moved.{Moved, quiet, sends, says, says_each}
 use Rattle.curp_msg.specs.declared.answer.AppendAnswer.{AppendAnswer}
 use Rattle.curp_msg.specs.declared.answer.AppendAnswer.TheVariants.{Stored}
 use Rattle.curp_msg.specs.declared.answer.GcAnswer.{GcAnswer}
@@ -35,10 +39,8 @@ use Rattle.curp_msg.specs.declared.message.Message.{Message}
 use Rattle.curp_range.specs.Spans.{is_covered}
 use Rattle.curp_model.specs.declared.Check.{Check}
 use Rattle.curp_model.specs.declared.Check.TheVariants.{Expired, Stale, Known, New}
-use Rattle.curp_model.specs.Log.{LogState, Taken, Given, meaning, answer_after, is_touched, package_of}
-use Rattle.curp_model.specs.Moved.{Moved, quiet, sends, says, says_each, manager_node, client_node, master_node}
+use Rattle.curp_model.specs.Log.{LogState, LastTake, LastGive, meaning, answer_after, is_touched, package_of}
 use Rattle.curp_model.specs.Ranges.{owns_all}
-use Rattle.curp_model.specs.Requests.{same_id, hashes}
 use Rattle.curp_model.specs.Table.{check, is_gone}
 
 -- ---- the state
@@ -53,6 +55,7 @@ pub record Acknowledged : Type 0 where
 pub record Captured : Type 0 where
   pub number : ℕ
   pub id : RequestId
+  pub command : Command
   pub answer : Answer
   pub length : ℕ
   pub round : ℕ
@@ -70,9 +73,9 @@ pub record Switch : Type 0 where
   pub round : ℕ
   pub prepared : Bool
 
--- it serves, or switches to new lists
+-- it is open to requests, or switches to new lists
 pub data Phase : Type 0 where
-  Serving : Phase
+  Open : Phase
   Switching : Switch → Phase
 
 -- Indexes of entries count from 0, and ascend. `held` are those whose requests wait for a synced reply, `free` those that no
@@ -115,13 +118,13 @@ beginning part epoch version backups witnesses lo hi entries round = record {
   held = [];
   free = [];
   queue = [];
-  phase = Serving;
+  phase = Open;
 }
 
--- it serves
-abbrev pub is_serving : Phase → Bool
-is_serving Serving = true
-is_serving (Switching s) = false
+-- it is open to requests
+abbrev pub is_open : Phase → Bool
+is_open Open = true
+is_open (Switching s) = false
 
 -- what the log means
 abbrev pub state_of : MasterState → LogState
@@ -134,25 +137,6 @@ answer_at m index r = answer_after m.lo m.hi (take index m.log) r.command
 -- a number is among others
 abbrev pub has : ℕ → List ℕ → Bool
 has n numbers = list_any (λ k. k == n) numbers
-
--- ---- names
-
--- nodes of one kind
-abbrev pub same_kind : NodeKind → NodeKind → Bool
-same_kind kind.Manager kind.Manager = true
-same_kind kind.Client kind.Client = true
-same_kind kind.Master kind.Master = true
-same_kind kind.Backup kind.Backup = true
-same_kind kind.Witness kind.Witness = true
-same_kind _ _ = false
-
--- the same node
-abbrev pub same_node : NodeId → NodeId → Bool
-same_node a b = same_kind a.kind b.kind && (a.number == b.number)
-
--- a node is among others
-abbrev pub is_among : NodeId → List NodeId → Bool
-is_among node nodes = list_any (same_node node) nodes
 
 -- ---- what is synced
 
@@ -188,7 +172,7 @@ is_clean m command = not (is_touched (drop (synced m) m.log) command)
 
 -- the fresh backups that a switching master stores on too
 abbrev pub fresh_backups : Phase → List NodeId → List NodeId
-fresh_backups Serving backups = []
+fresh_backups Open backups = []
 fresh_backups (Switching s) backups = filter (λ b. not (is_among b backups)) s.backups
 
 -- the backups to which a round goes
@@ -247,22 +231,74 @@ pub data Wish : Type 0 where
   AtOnce : Wish
   WhenSynced : Wish
 
+-- ---- what becomes of a request, by the first of six rules that holds
+
+-- rule 1: the client knows another epoch
+abbrev pub by_epoch : MasterState → Ask → Option Refusal
+by_epoch m ask = only_if (not (ask.epoch == m.epoch)) (refusal.Epoch m.epoch)
+
+-- rule 2: the master isn't open to requests
+abbrev pub by_phase : MasterState → Option Refusal
+by_phase m = only_if (not (is_open m.phase)) refusal.Switching
+
+-- rule 4: the client knows another version of the lists
+abbrev pub by_version : MasterState → Ask → Option Refusal
+by_version m ask = only_if (not (ask.version == m.version)) (refusal.Version m.version)
+
+-- rule 5: a hash of the command isn't owned
+abbrev pub by_owner : MasterState → Ask → Option Refusal
+by_owner m ask = only_if (not (owns_all (state_of m).owned (hashes ask.request.command))) refusal.NotOwner
+
+-- what becomes of an update: it is refused, told that it is stored, told its free answer again, held back from then on until
+-- all backups have it, or executed
+pub data Verdict : Type 0 where
+  Deny : (why : Refusal) → Verdict
+  Tell : (answer : Answer) → Verdict
+  TellAgain : (answer : Answer) → Verdict
+  HoldBack : (index : ℕ) → Verdict
+  Execute : Verdict
+
+-- the entry at an index is an Op, and waits for no synced reply yet
+abbrev pub is_idle_op : MasterState → ℕ → Option Entry → Bool
+is_idle_op m index (Some (Op r acknowledged)) = not (has index m.held)
+is_idle_op m index _ = false
+
+-- a client that wants its answer at once gets it again where the op is free (CURP)
+abbrev pub known_again : MasterState → Wish → Answer → ℕ → Verdict
+known_again m AtOnce a index = if has index m.free then TellAgain a else HoldBack index
+known_again m WhenSynced a index = HoldBack index
+
+-- of a known request: stored on all backups, or still on its way there
+abbrev pub known_at : MasterState → Wish → Answer → ℕ → Verdict
+known_at m wish a index =
+    if nat_lt index (synced m) then Tell a
+    else if is_idle_op m index (slice_get m.log index) then known_again m wish a index
+    else Deny refusal.InProgress
+
+-- rule 3: the duplicate check knows the request (RIFL)
+abbrev pub by_check : MasterState → Wish → Check → Option Verdict
+by_check m wish Expired = Some (Deny refusal.Expired)
+by_check m wish (Stale first) = Some (Deny (refusal.Stale first))
+by_check m wish (Known a index) = Some (known_at m wish a index)
+by_check m wish New = None
+
+-- the first of the rules that holds; rule 6: by none of them, so it is new
+abbrev pub verdict : MasterState → Wish → Ask → Verdict
+verdict m wish ask = first_case (
+    option_map Deny (by_epoch m ask)
+    ∷ option_map Deny (by_phase m)
+    ∷ by_check m wish (check (state_of m).table ask.request.id)
+    ∷ option_map Deny (by_version m ask)
+    ∷ option_map Deny (by_owner m ask)
+    ∷ []) Execute
+
+-- ---- what each verdict does
+
 -- a request waits for its synced reply, and a round begins
 abbrev pub holds_back : ℕ → MasterState → ℕ → Moved MasterState
 holds_back n m index = begins_round n (record m { held = insert_key nat_cmp m.held index })
 
--- a known op that waits for no reply: told again where it is free and its client wants that (CURP)
-abbrev pub again : ℕ → MasterState → Wish → RequestId → Answer → ℕ → Moved MasterState
-again n m AtOnce id a index = if has index m.free then sends m (reply n m false id a ∷ []) else holds_back n m index
-again n m WhenSynced id a index = holds_back n m index
-
--- an entry that isn't synced, where the request is known
-abbrev pub known_at : ℕ → MasterState → Wish → RequestId → Answer → ℕ → Option Entry → Moved MasterState
-known_at n m wish id a index (Some (Op r acknowledged)) =
-    if has index m.held then answers_with n m id refusal.InProgress else again n m wish id a index
-known_at n m wish id a index _ = answers_with n m id refusal.InProgress
-
--- a request is pushed as an Op, and queued for collection
+-- the request stands at the end of the log, and is queued for collection
 abbrev pub pushed : MasterState → Request → ℕ → MasterState
 pushed m r acknowledged = queue_id (record m { log = m.log ++ Op r acknowledged ∷ [] }) r.id (length m.log + 1)
 
@@ -271,70 +307,65 @@ abbrev pub marked_free : MasterState → ℕ → Bool → MasterState
 marked_free m index true = record m { free = m.free ++ index ∷ [] }
 marked_free m index false = m
 
--- a free update gets its reply at once; any other request is held
-abbrev pub pushed_new : ℕ → MasterState → Wish → Request → Bool → Moved MasterState
-pushed_new n m AtOnce r true =
+-- a new request is pushed. A free update gets its reply at once; any other is held back
+abbrev pub executes : ℕ → MasterState → Wish → Request → Bool → Moved MasterState
+executes n m AtOnce r true =
     let after = marked_free (pushed m r r.first) (length m.log) true in
     sends after (reply n after false r.id (answer_at m (length m.log) r) ∷ [])
-pushed_new n m AtOnce r false = holds_back n (pushed m r r.first) (length m.log)
-pushed_new n m WhenSynced r clean = holds_back n (marked_free (pushed m r r.first) (length m.log) clean) (length m.log)
+executes n m AtOnce r false = holds_back n (pushed m r r.first) (length m.log)
+executes n m WhenSynced r clean = holds_back n (marked_free (pushed m r r.first) (length m.log) clean) (length m.log)
 
--- rules 1 and 2: the epoch, and whether it serves
-abbrev pub if_serving : ℕ → MasterState → Ask → Moved MasterState → Moved MasterState
-if_serving n m ask more =
-    if not (ask.epoch == m.epoch) then answers_with n m ask.request.id (refusal.Epoch m.epoch)
-    else if not (is_serving m.phase) then answers_with n m ask.request.id refusal.Switching
-    else more
+-- by the verdict
+abbrev pub carries_out : ℕ → MasterState → Wish → Request → Verdict → Moved MasterState
+carries_out n m wish r (Deny why) = answers_with n m r.id why
+carries_out n m wish r (Tell a) = sends m (reply n m true r.id a ∷ [])
+carries_out n m wish r (TellAgain a) = sends m (reply n m false r.id a ∷ [])
+carries_out n m wish r (HoldBack index) = holds_back n m index
+carries_out n m wish r Execute = executes n m wish r (is_clean m r.command)
 
--- rules 4 and 5: the version, and the hashes
-abbrev pub if_owner : ℕ → MasterState → Ask → Moved MasterState → Moved MasterState
-if_owner n m ask more =
-    if not (ask.version == m.version) then answers_with n m ask.request.id (refusal.Version m.version)
-    else if not (owns_all (state_of m).owned (hashes ask.request.command)) then answers_with n m ask.request.id refusal.NotOwner
-    else more
-
--- rule 6: a new request
-abbrev pub new_request : ℕ → MasterState → Wish → Ask → Moved MasterState
-new_request n m wish ask = if_owner n m ask (pushed_new n m wish ask.request (is_clean m ask.request.command))
-
--- rule 3: the duplicate check
-abbrev pub checked : ℕ → MasterState → Wish → Ask → Check → Moved MasterState
-checked n m wish ask Expired = answers_with n m ask.request.id refusal.Expired
-checked n m wish ask (Stale first) = answers_with n m ask.request.id (refusal.Stale first)
-checked n m wish ask (Known a index) =
-    if nat_lt index (synced m) then sends m (reply n m true ask.request.id a ∷ [])
-    else known_at n m wish ask.request.id a index (slice_get m.log index)
-checked n m wish ask New = new_request n m wish ask
-
--- the first rule that holds decides
+-- an update or a sync comes
 unfoldable pub on_update : ℕ → MasterState → Wish → Ask → Moved MasterState
-on_update n m wish ask = if_serving n m ask (checked n m wish ask (check (state_of m).table ask.request.id))
+on_update n m wish ask = carries_out n m wish ask.request (verdict m wish ask)
 
 -- ---- reads
 
+-- rule 3 of a read: one that is expired or stale is refused
+abbrev pub by_read_check : Check → Option Refusal
+by_read_check Expired = Some refusal.Expired
+by_read_check (Stale first) = Some (refusal.Stale first)
+by_read_check _ = None
+
+-- why a read isn't captured: the first of the rules that holds
+abbrev pub read_refusal : MasterState → Ask → Option Refusal
+read_refusal m ask = first_there (
+    by_epoch m ask
+    ∷ by_phase m
+    ∷ by_read_check (check (state_of m).table ask.request.id)
+    ∷ by_version m ask
+    ∷ by_owner m ask
+    ∷ [])
+
 -- a read is captured with its value and the log's length, and a round begins
-abbrev pub captures_read : ℕ → MasterState → RequestId → List ℕ → Moved MasterState
-captures_read n m id key =
-    let capture : Captured = record { number = m.captured + 1; id = id; answer = Found (store.get (state_of m).store key); length = length m.log; round = m.round + 1 } in
+abbrev pub captures_read : ℕ → MasterState → Request → List ℕ → Moved MasterState
+captures_read n m r key =
+    let capture : Captured = record {
+      number = m.captured + 1;
+      id = r.id;
+      command = r.command;
+      answer = Found (store.get (state_of m).store key);
+      length = length m.log;
+      round = m.round + 1;
+    } in
     begins_round n (record m { captures = m.captures ++ capture ∷ []; captured = m.captured + 1 })
 
--- rules 4 and 5, and then the capture
-abbrev pub new_read : ℕ → MasterState → Ask → List ℕ → Moved MasterState
-new_read n m ask key = if_owner n m ask (captures_read n m ask.request.id key)
-
--- rule 3, of which expired and stale refuse a read
-abbrev pub checked_read : ℕ → MasterState → Ask → List ℕ → Check → Moved MasterState
-checked_read n m ask key Expired = answers_with n m ask.request.id refusal.Expired
-checked_read n m ask key (Stale first) = answers_with n m ask.request.id (refusal.Stale first)
-checked_read n m ask key _ = new_read n m ask key
-
--- rules 1 and 2 of a read
-abbrev pub read_of : ℕ → MasterState → Ask → List ℕ → Moved MasterState
-read_of n m ask key = if_serving n m ask (checked_read n m ask key (check (state_of m).table ask.request.id))
+-- it is refused, or captured
+abbrev pub read_of : ℕ → MasterState → Request → List ℕ → Option Refusal → Moved MasterState
+read_of n m r key (Some why) = answers_with n m r.id why
+read_of n m r key None = captures_read n m r key
 
 -- only a Get is read
 abbrev pub read_command : ℕ → MasterState → Ask → Command → Moved MasterState
-read_command n m ask (Get key) = read_of n m ask key
+read_command n m ask (Get key) = read_of n m ask.request key (read_refusal m ask)
 read_command n m ask _ = quiet m
 
 -- a client asks to read
@@ -361,7 +392,7 @@ abbrev pub value_of : ℕ → MasterState → Captured → Message
 value_of n m c = says (master_node n) (client_node c.id.client)
     (body.Worth (record { id = c.id; epoch = m.epoch; capture = c.number; answer = c.answer }))
 
--- Taken and Given of the entries that have come below `synced`
+-- LastTake and LastGive of the entries that have come below `synced`
 abbrev pub moved_entry : ℕ → Entry → List Message
 moved_entry n (Take migration taken) = says (master_node n) manager_node (body.Taken (record { migration = migration; «package» = taken })) ∷ []
 moved_entry n (Give migration given) = says (master_node n) manager_node (body.Given migration) ∷ []
@@ -406,7 +437,7 @@ prepares n m s =
 
 -- after an acknowledgement it settles, or looks whether the new list is prepared
 abbrev pub goes_on : ℕ → MasterState → Phase → Moved MasterState
-goes_on n m Serving = settle n m
+goes_on n m Open = settle n m
 goes_on n m (Switching s) = prepares n m s
 
 -- a backup of the list, or a fresh one, has a length as of a round
@@ -453,7 +484,7 @@ treats n m rs =
 
 -- a witness answers a collection
 unfoldable pub on_collected : ℕ → MasterState → GcAnswer → Moved MasterState
-on_collected n m (Suspects rs) = if is_serving m.phase then treats n m rs else quiet m
+on_collected n m (Suspects rs) = if is_open m.phase then treats n m rs else quiet m
 on_collected n m _ = quiet m
 
 -- ---- new lists
@@ -464,15 +495,15 @@ switch_to m p = record { version = p.version; backups = p.backups; witnesses = p
 
 -- a version above its own, while it serves; the same version again begins a round
 abbrev pub prepare_in : ℕ → MasterState → Prepare → Phase → Moved MasterState
-prepare_in n m p Serving = if nat_lt m.version p.version then begins_round n (record m { phase = Switching (switch_to m p) }) else quiet m
+prepare_in n m p Open = if nat_lt m.version p.version then begins_round n (record m { phase = Switching (switch_to m p) }) else quiet m
 prepare_in n m p (Switching s) = if s.version == p.version then begins_round n m else quiet m
 
 -- the lists and the version change, and it serves and settles
 abbrev pub adopted_in : ℕ → MasterState → ℕ → Phase → Moved MasterState
-adopted_in n m version Serving = quiet m
+adopted_in n m version Open = quiet m
 adopted_in n m version (Switching s) =
     if s.version == version
-    then settle n (record m { version = s.version; backups = s.backups; witnesses = s.witnesses; phase = Serving })
+    then settle n (record m { version = s.version; backups = s.backups; witnesses = s.witnesses; phase = Open })
     else quiet m
 
 -- ---- migrations
@@ -489,7 +520,7 @@ push_take n m t =
     else quiet m
 
 -- a take behind the last one; the last one is told again
-abbrev pub take_after : ℕ → MasterState → TakeOut → Option Taken → Moved MasterState
+abbrev pub take_after : ℕ → MasterState → TakeOut → Option LastTake → Moved MasterState
 take_after n m t None = push_take n m t
 take_after n m t (Some last) =
     if t.migration == last.migration
@@ -502,7 +533,7 @@ abbrev pub push_give : ℕ → MasterState → Parcel → Moved MasterState
 push_give n m g = begins_round n (record m { log = m.log ++ Give g.migration g.package ∷ [] })
 
 -- a give behind the last one; an earlier one is told again
-abbrev pub give_after : ℕ → MasterState → Parcel → Option Given → Moved MasterState
+abbrev pub give_after : ℕ → MasterState → Parcel → Option LastGive → Moved MasterState
 give_after n m g None = push_give n m g
 give_after n m g (Some last) =
     if nat_le g.migration last.migration
@@ -511,11 +542,11 @@ give_after n m g (Some last) =
 
 -- the manager lets it give a range away
 abbrev pub on_take : ℕ → MasterState → TakeOut → Moved MasterState
-on_take n m t = if is_serving m.phase then take_after n m t (state_of m).taken else quiet m
+on_take n m t = if is_open m.phase then take_after n m t (state_of m).taken else quiet m
 
 -- the manager gives it a range
 abbrev pub on_give : ℕ → MasterState → Parcel → Moved MasterState
-on_give n m g = if is_serving m.phase then give_after n m g (state_of m).given else quiet m
+on_give n m g = if is_open m.phase then give_after n m g (state_of m).given else quiet m
 
 -- a client is gone, in both phases
 abbrev pub on_expire : ℕ → MasterState → ℕ → Moved MasterState
@@ -527,42 +558,46 @@ on_expire n m client =
 
 -- a round begins; while it switches, Prepared is sent first where it was sent before
 abbrev pub sync_in : ℕ → MasterState → Phase → Moved MasterState
-sync_in n m Serving = begins_round n m
+sync_in n m Open = begins_round n m
 sync_in n m (Switching s) =
     let round = begins_round n m in
     if s.prepared then record round { messages = prepared_message n s.version ∷ round.messages } else round
 
 -- only a serving master collects
 abbrev pub collect_in : ℕ → MasterState → Phase → Moved MasterState
-collect_in n m Serving = collects n m
+collect_in n m Open = collects n m
 collect_in n m (Switching s) = quiet m
 
 -- ---- inputs
 
--- an input whose round or capture number would pass 2^64 - 1 changes nothing and sends nothing
-abbrev pub if_it_counts : MasterState → Moved MasterState → Moved MasterState
-if_it_counts m r = if nat_lt r.state.round (2 ^ 64) && nat_lt r.state.captured (2 ^ 64) then r else quiet m
+-- the greatest round and capture number
+abbrev pub last_round : ℕ
+last_round = 2 ^ 64 - 1
+
+-- an input by which the round or the capture number would rise past its end changes nothing and sends nothing
+abbrev pub unless_it_ends : MasterState → Moved MasterState → Moved MasterState
+unless_it_ends m r = if rises_past last_round m.round r.state.round || rises_past last_round m.captured r.state.captured then quiet m else r
 
 -- what a message does, by its kind
-abbrev pub reacts : ℕ → MasterState → NodeId → Body → Moved MasterState
-reacts n m from (body.Update ask) = on_update n m AtOnce ask
-reacts n m from (body.Sync ask) = on_update n m WhenSynced ask
-reacts n m from (body.Read ask) = on_read n m ask
-reacts n m from (body.Appended a) = on_appended n m from a.round a.answer
-reacts n m from (body.Collected c) = on_collected n m c.answer
-reacts n m from (body.Prepare p) = prepare_in n m p m.phase
-reacts n m from (body.Adopted a) = adopted_in n m a.version m.phase
-reacts n m from (body.TakeOut t) = on_take n m t
-reacts n m from (body.GiveIn g) = on_give n m g
-reacts n m from (body.ExpireClient client) = on_expire n m client
-reacts n m from _ = quiet m
+abbrev pub by_message : ℕ → MasterState → NodeId → Body → Moved MasterState
+by_message n m from (body.Update ask) = on_update n m AtOnce ask
+by_message n m from (body.Sync ask) = on_update n m WhenSynced ask
+by_message n m from (body.Read ask) = on_read n m ask
+by_message n m from (body.Appended a) = on_appended n m from a.round a.answer
+by_message n m from (body.Collected c) = on_collected n m c.answer
+by_message n m from (body.Prepare p) = prepare_in n m p m.phase
+by_message n m from (body.Adopted a) = adopted_in n m a.version m.phase
+by_message n m from (body.TakeOut t) = on_take n m t
+by_message n m from (body.GiveIn g) = on_give n m g
+by_message n m from (body.ExpireClient client) = on_expire n m client
+by_message n m from _ = quiet m
 
 -- a message comes to the serving master n
 unfoldable pub on_serving : ℕ → MasterState → NodeId → Body → Moved MasterState
-on_serving n m from b = if_it_counts m (reacts n m from b)
+on_serving n m from b = unless_it_ends m (by_message n m from b)
 
 -- an order comes to the serving master n
 unfoldable pub serving_ordered : ℕ → MasterState → Local → Moved MasterState
-serving_ordered n m local.Sync = if_it_counts m (sync_in n m m.phase)
+serving_ordered n m local.Sync = unless_it_ends m (sync_in n m m.phase)
 serving_ordered n m local.Collect = collect_in n m m.phase
 serving_ordered n m _ = quiet m

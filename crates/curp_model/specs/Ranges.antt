@@ -1,29 +1,9 @@
 -- The hashes that a partition owns, as ascending spans that neither overlap nor touch (this project's own).
-use Rattle.std.specs.Prelude.{◌≡◌, ◌≤◌, ℕ, ◌+◌, ◌-◌, ◌*◌, ◌/◌, ◌^◌, nat_le, nat_lt, min, max, if◌then◌else◌, Bool, true, false, List, [], ◌∷◌, ◌++◌, flat_map, Option, Some, None}
+use Rattle.std.specs.Prelude.{◌≡◌, ◌≤◌, ℕ, ◌-◌, ◌*◌, ◌/◌, ◌^◌, nat_le, Bool, true, false, List, Option, Some, None}
 use Rattle.std.proofs.Common.{arith, refl}
 use Rattle.std.proofs.lemmas.Bool.{leb-true}
 use Rattle.std.specs.List.{list_all}
 use Rattle.curp_range.specs.Spans.{Span, is_owned}
-
--- what is left of a span below a range, and above it
-abbrev pub below : Span → ℕ → List Span
-below s lo = if nat_lt s.0 lo then (s.0, min s.1 (lo - 1)) ∷ [] else []
-
--- and above it
-abbrev pub above : Span → ℕ → List Span
-above s hi = if nat_lt hi s.1 then (max s.0 (hi + 1), s.1) ∷ [] else []
-
--- the spans without a range
-abbrev pub without : List Span → ℕ → ℕ → List Span
-without spans lo hi = flat_map (λ (s : Span). below s lo ++ above s hi) spans
-
--- the spans with a range: those that meet or touch it become one with it
-abbrev pub with_range : List Span → ℕ → ℕ → List Span
-with_range [] lo hi = (lo, hi) ∷ []
-with_range (s ∷ spans) lo hi =
-    if nat_lt (s.1 + 1) lo then s ∷ with_range spans lo hi
-    else if nat_lt (hi + 1) s.0 then (lo, hi) ∷ s ∷ spans
-    else with_range spans (min s.0 lo) (max s.1 hi)
 
 -- all hashes of a list are owned
 abbrev pub owns_all : List Span → List ℕ → Bool

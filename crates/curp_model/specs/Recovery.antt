@@ -1,12 +1,17 @@
 -- The recovering master (after CURP's recovery): it takes the log of one backup and the requests of one witness, which from
 -- then on serve no superseded master, replays the requests behind the log, and stores the whole on fresh backups.
-use Rattle.std.specs.Prelude.{ℕ, ◌+◌, ◌^◌, ◌&&◌, nat_le, nat_lt, if◌then◌else◌, Bool, not, List, [], ◌∷◌, ◌++◌, length, Option, Some, None}
+use Rattle.std.specs.Prelude.{ℕ, ◌+◌, ◌&&◌, nat_le, if◌then◌else◌, Bool, not, List, [], ◌∷◌, ◌++◌, length, Option, Some, None}
 use Rattle.std.specs.List.{filter, list_all}
+use Rattle.curp_base.specs.Words.{rises_past}
+use Rattle.curp_cmd.specs.Hash.{hashes}
+use Rattle.curp_cmd.specs.Node.{manager_node, master_node, is_among, same_node}
+use Rattle.curp_cmd.specs.Store.{is_update}
 use Rattle.curp_cmd.specs.declared.command.Request.{Request}
 use Rattle.curp_cmd.specs.declared.command.RequestId.{RequestId}
 use Rattle.curp_cmd.specs.declared.entry.Entry.{Entry}
 use Rattle.curp_cmd.specs.declared.entry.Entry.TheVariants.{Op}
 use Rattle.curp_cmd.specs.declared.node.NodeId.{NodeId}
+use Rattle.curp_msg.specs.Moved.{Moved, quiet, sends, says, says_each, within}
 use Rattle.curp_msg.specs.declared.answer.AppendAnswer.{AppendAnswer}
 use Rattle.curp_msg.specs.declared.answer.AppendAnswer.TheVariants.{Stored}
 use Rattle.curp_msg.specs.declared.answer.FenceReply.{FenceReply}
@@ -15,14 +20,14 @@ use Rattle.curp_msg.specs.declared.answer.Refusal.TheVariants as refusal
 use Rattle.curp_msg.specs.declared.body.Body.{Body}
 use Rattle.curp_msg.specs.declared.body.Body.TheVariants as body
 use Rattle.curp_msg.specs.declared.body.Recover.{Recover}
+use Rattle.curp_msg.specs.declared.machine.Input.{Input}
+use Rattle.curp_msg.specs.declared.machine.Input.TheVariants as input
 use Rattle.curp_msg.specs.declared.machine.Local.{Local}
 use Rattle.curp_msg.specs.declared.machine.Local.TheVariants as local
 use Rattle.curp_msg.specs.declared.message.Message.{Message}
 use Rattle.curp_model.specs.Log.{LogState, meaning, is_log, is_new}
-use Rattle.curp_model.specs.Master.{MasterState, beginning, is_among, on_serving, refuse, same_node, serving_ordered}
-use Rattle.curp_model.specs.Moved.{Moved, quiet, sends, says, says_each, within, manager_node, master_node}
+use Rattle.curp_model.specs.Master.{MasterState, beginning, last_round, on_serving, refuse, serving_ordered}
 use Rattle.curp_model.specs.Ranges.{owns_all}
-use Rattle.curp_model.specs.Requests.{hashes}
 use Rattle.curp_model.specs.Table.{check}
 
 -- ---- the replay
@@ -57,11 +62,11 @@ pub record RecoveryState : Type 0 where
   pub order : Recover
   pub phase : RecoveryPhase
 
--- a master is fresh until it gets its order, recovers then, and serves once it is adopted
-pub data MasterNode : Type 0 where
-  Fresh : MasterNode
-  Recovering : RecoveryState → MasterNode
-  Serving : MasterState → MasterNode
+-- how far a master is: fresh until it gets its order, recovering then, and serving once it is adopted
+pub data MasterStage : Type 0 where
+  Fresh : MasterStage
+  Recovering : RecoveryState → MasterStage
+  Serving : MasterState → MasterStage
 
 -- ---- asking
 
@@ -147,24 +152,28 @@ next_storing r = record r { round = r.round + 1 }
 abbrev pub again_in : ℕ → RecoveryState → RecoveryPhase → Moved RecoveryState
 again_in n s (Asking log requests) = sends s (unanswered_log n s.order log ++ unanswered_requests n s.order requests)
 again_in n s (Storing r) =
-    if nat_lt (r.round + 1) (2 ^ 64)
-    then sends (record s { phase = Storing (next_storing r) })
+    if rises_past last_round r.round (r.round + 1)
+    then quiet s
+    else sends (record s { phase = Storing (next_storing r) })
     (appends_whole n s.order (next_storing r) (filter (λ b. not (is_among b r.complete)) s.order.backups))
-    else quiet s
 again_in n s (Waiting r) = sends s (recovered_message n s.order)
 
 -- ---- the master as a node
 
 -- a request is refused as switching
-abbrev pub turns_away : ℕ → MasterNode → RequestId → Moved MasterNode
+abbrev pub turns_away : ℕ → MasterStage → RequestId → Moved MasterStage
 turns_away n m id = sends m (refuse n id refusal.Switching ∷ [])
 
+-- and so is a read, where its command is a Get; else it isn't heard
+abbrev pub turns_read_away : ℕ → MasterStage → Request → Moved MasterStage
+turns_read_away n m r = if is_update r.command then quiet m else turns_away n m r.id
+
 -- a fresh master takes its order, and refuses requests
-abbrev pub on_fresh : ℕ → Body → Moved MasterNode
+abbrev pub on_fresh : ℕ → Body → Moved MasterStage
 on_fresh n (body.Recover o) = within Recovering (on_recover n o)
 on_fresh n (body.Update ask) = turns_away n Fresh ask.request.id
 on_fresh n (body.Sync ask) = turns_away n Fresh ask.request.id
-on_fresh n (body.Read ask) = turns_away n Fresh ask.request.id
+on_fresh n (body.Read ask) = turns_read_away n Fresh ask.request
 on_fresh n _ = quiet Fresh
 
 -- the backup answers the fence
@@ -178,24 +187,24 @@ append_answered n s from (Stored long) = stored_comes n s from long s.phase
 append_answered n s from _ = quiet s
 
 -- it begins to serve with the replayed log
-abbrev pub serves : RecoveryState → RecoveryPhase → MasterNode
+abbrev pub serves : RecoveryState → RecoveryPhase → MasterStage
 serves s (Waiting r) =
     Serving (beginning s.order.part s.order.epoch s.order.version s.order.backups s.order.witnesses s.order.lo s.order.hi r.log r.round)
 serves s _ = Recovering s
 
 -- a message comes to a recovering master
-abbrev pub on_recovering : ℕ → RecoveryState → NodeId → Body → Moved MasterNode
+abbrev pub on_recovering : ℕ → RecoveryState → NodeId → Body → Moved MasterStage
 on_recovering n s from (body.FenceAnswer a) = within Recovering (fence_answered n s from a.answer)
 on_recovering n s from (body.FrozenAnswer requests) = within Recovering (requests_come n s from requests s.phase)
 on_recovering n s from (body.Appended a) = within Recovering (append_answered n s from a.answer)
 on_recovering n s from (body.Adopted a) = quiet (serves s s.phase)
 on_recovering n s from (body.Update ask) = turns_away n (Recovering s) ask.request.id
 on_recovering n s from (body.Sync ask) = turns_away n (Recovering s) ask.request.id
-on_recovering n s from (body.Read ask) = turns_away n (Recovering s) ask.request.id
+on_recovering n s from (body.Read ask) = turns_read_away n (Recovering s) ask.request
 on_recovering n s from _ = quiet (Recovering s)
 
 -- a message comes to master n
-unfoldable pub on_master : ℕ → MasterNode → NodeId → Body → Moved MasterNode
+unfoldable pub on_master : ℕ → MasterStage → NodeId → Body → Moved MasterStage
 on_master n Fresh from b = on_fresh n b
 on_master n (Recovering s) from b = on_recovering n s from b
 on_master n (Serving m) from b = within Serving (on_serving n m from b)
@@ -206,7 +215,12 @@ recovery_ordered n s local.Sync = again_in n s s.phase
 recovery_ordered n s _ = quiet s
 
 -- master n gets an order. A fresh one ignores all
-unfoldable pub master_ordered : ℕ → MasterNode → Local → Moved MasterNode
+unfoldable pub master_ordered : ℕ → MasterStage → Local → Moved MasterStage
 master_ordered n Fresh order = quiet Fresh
 master_ordered n (Recovering s) order = within Recovering (recovery_ordered n s order)
 master_ordered n (Serving m) order = within Serving (serving_ordered n m order)
+
+-- an input comes to master n
+abbrev pub master_input : ℕ → MasterStage → Input → Moved MasterStage
+master_input n m (input.Local order) = master_ordered n m order
+master_input n m (input.Message message) = on_master n m message.from message.body

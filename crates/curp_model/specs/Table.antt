@@ -51,14 +51,6 @@ check t id =
 
 -- ---- what is done
 
--- a record is of no use where its client is expired or has acknowledged it
-abbrev pub is_kept : Table → RequestId → Bool
-is_kept t id = not (is_gone t id.client) && nat_le (first_number t id.client) id.seq
-
--- records of no use are dropped
-abbrev pub only_kept : Table → Table
-only_kept t = record t { records = filter (λ (e : RequestId × Noted). is_kept t e.0) t.records }
-
 -- a request is done
 abbrev pub note : Table → RequestId → Answer → ℕ → Table
 note t id answer index = record t { records = put id_cmp id (record { answer = answer; index = index }) t.records }
@@ -68,13 +60,23 @@ abbrev pub raise_first : List (ℕ × ℕ) → ℕ → ℕ → List (ℕ × ℕ)
 raise_first firsts client zero = firsts
 raise_first firsts client (suc n) = put nat_cmp client (max (suc n) (unwrap_or (find nat_cmp client firsts) 0)) firsts
 
--- a client acknowledges all its requests below a number
-abbrev pub acknowledge : Table → ℕ → ℕ → Table
-acknowledge t client first = only_kept (record t { firsts = raise_first t.firsts client first })
+-- the request is that client's, and below the number
+abbrev pub is_below : ℕ → ℕ → RequestId → Bool
+is_below client first id = (id.client == client) && nat_lt id.seq first
 
--- a client is gone for good
+-- a client acknowledges all its requests below a number: their records are dropped (RIFL)
+abbrev pub acknowledge : Table → ℕ → ℕ → Table
+acknowledge t client first = record t {
+  records = filter (λ (e : RequestId × Noted). not (is_below client first e.0)) t.records;
+  firsts = raise_first t.firsts client first;
+}
+
+-- a client is gone for good, and its records with it
 abbrev pub expire : Table → ℕ → Table
-expire t client = only_kept (record t { gone = insert_key nat_cmp t.gone client })
+expire t client = record t {
+  records = filter (λ (e : RequestId × Noted). not (e.0.client == client)) t.records;
+  gone = insert_key nat_cmp t.gone client;
+}
 
 -- ---- migrations
 
@@ -87,10 +89,19 @@ abbrev pub note_once : ℕ → Option Noted → Table → RequestId → Answer �
 note_once index (Some noted) t id answer = t
 note_once index None t id answer = note t id answer index
 
--- what a migration brings, in the entry of that index
+-- a record is of no use where its client is expired or has acknowledged it
+abbrev pub is_of_use : Table → RequestId → Bool
+is_of_use t id = not (is_gone t id.client) && nat_le (first_number t id.client) id.seq
+
+-- the table without records of no use
+abbrev pub of_use : Table → Table
+of_use t = record t { records = filter (λ (e : RequestId × Noted). is_of_use t e.0) t.records }
+
+-- what a migration brings, in the entry of that index: records that weren't there, the larger first numbers, and the clients
+-- that are expired; what is of no use then is dropped
 unfoldable pub merge : Table → TablePart → ℕ → Table
 merge t part index =
     let noted = fold (λ (u : Table) (e : RequestId × Answer). note_once index (find id_cmp e.0 u.records) u e.0 e.1) t part.records in
     let raised = fold (λ (firsts : List (ℕ × ℕ)) (e : ℕ × ℕ). raise_first firsts e.0 e.1) noted.firsts part.firsts in
     let gone = fold (insert_key nat_cmp) noted.gone part.gone in
-    only_kept (record { records = noted.records; firsts = raised; gone = gone })
+    of_use (record { records = noted.records; firsts = raised; gone = gone })

@@ -1,14 +1,16 @@
 -- The witness (after CURP): it holds requests that don't conflict, until they are stored. The order of its refusals, its
 -- slots, its collections and its suspects are this project's own choice.
-use Rattle.std.specs.Prelude.{ℕ, zero, suc, ◌&&◌, ◌+◌, ◌%◌, ◌==◌, nat_le, nat_lt, if◌then◌else◌, Bool, true, false, not, List, [], ◌∷◌, length, map, fold, Option, Some, None, unwrap_or}
+use Rattle.std.specs.Prelude.{ℕ, ◌&&◌, ◌+◌, ◌-◌, ◌%◌, ◌^◌, ◌==◌, min, nat_le, nat_lt, if◌then◌else◌, Bool, true, false, not, List, [], ◌∷◌, length, map, fold, Option, Some, None, unwrap_or}
 use Rattle.std.specs.List.{filter, sum, list_any}
-use Rattle.std.specs.FinMap.Entries.{by_order, put}
-use Rattle.std.specs.Ordering.{nat_cmp}
-use Rattle.curp_cmd.specs.Hash.{conflicts}
-use Rattle.curp_cmd.specs.RequestId.{id_cmp}
+use Rattle.std.specs.FinMap.Entries.{by_order}
+use Rattle.curp_base.specs.Words.{Ascend, first_of, numbers_from}
+use Rattle.curp_cmd.specs.Hash.{conflicts, hashes}
+use Rattle.curp_cmd.specs.Node.{witness_node}
+use Rattle.curp_cmd.specs.RequestId.{id_cmp, same_id, has_id}
 use Rattle.curp_cmd.specs.declared.command.Request.{Request}
 use Rattle.curp_cmd.specs.declared.command.RequestId.{RequestId}
 use Rattle.curp_cmd.specs.declared.node.NodeId.{NodeId}
+use Rattle.curp_msg.specs.Moved.{Moved, quiet, sends, says}
 use Rattle.curp_msg.specs.declared.answer.GcAnswer.{GcAnswer}
 use Rattle.curp_msg.specs.declared.answer.GcAnswer.TheVariants.{Suspects}
 use Rattle.curp_msg.specs.declared.answer.GcAnswer.TheVariants as collected
@@ -16,13 +18,13 @@ use Rattle.curp_msg.specs.declared.answer.Reason.{Reason}
 use Rattle.curp_msg.specs.declared.answer.Reason.TheVariants as reason
 use Rattle.curp_msg.specs.declared.body.Body.{Body}
 use Rattle.curp_msg.specs.declared.body.Body.TheVariants.{Record, Accepted, Rejected, Gc, Collected, Start, Freeze, FrozenAnswer}
+use Rattle.curp_msg.specs.declared.machine.Input.{Input}
+use Rattle.curp_msg.specs.declared.machine.Input.TheVariants as input
 use Rattle.curp_model.specs.declared.Mode.{Mode}
 use Rattle.curp_model.specs.declared.Mode.TheVariants.{Idle, Normal, Frozen}
-use Rattle.curp_model.specs.Moved.{Moved, quiet, sends, says, witness_node}
-use Rattle.curp_model.specs.Requests.{same_id, has_id, first_of, hashes}
 
 -- a request that is held, how many collections it has survived, and whether it is suspected
-pub record Held : Type 0 where
+pub record HeldRequest : Type 0 where
   pub request : Request
   pub survived : ℕ
   pub suspected : Bool
@@ -33,7 +35,11 @@ pub record WitnessState : Type 0 where
   pub epoch : Option ℕ
   pub sets : ℕ
   pub ways : ℕ
-  pub held : List Held
+  pub held : List HeldRequest
+
+-- what is held stands in ascending order of the ids, each once
+abbrev pub HoldsInOrder : WitnessState → Type 0
+HoldsInOrder w = Ascend id_cmp (map (λ (x : HeldRequest). x.request.id) w.held)
 
 -- before it is started
 abbrev pub fresh_witness : ℕ → ℕ → WitnessState
@@ -69,11 +75,6 @@ used w s = sum (map (λ x. in_set w.sets s (hashes x.request.command)) w.held)
 abbrev pub is_full : WitnessState → Request → ℕ → Bool
 is_full w r s = nat_lt w.ways (used w s + in_set w.sets s (hashes r.command))
 
--- the numbers from n on, so many
-abbrev pub numbers_from : ℕ → ℕ → List ℕ
-numbers_from n zero = []
-numbers_from n (suc count) = n ∷ numbers_from (n + 1) count
-
 -- the least set that has no room
 abbrev pub full_set : WitnessState → Request → Option ℕ
 full_set w r = first_of (filter (is_full w r) (numbers_from 0 w.sets))
@@ -89,20 +90,20 @@ abbrev pub conflict : WitnessState → Request → Option RequestId
 conflict w r = first_of (map (λ x. x.request.id) (filter (λ x. conflicts x.request.command r.command) w.held))
 
 -- what conflicts and has survived at least three collections is suspected from then on
-abbrev pub suspect : Request → Held → Held
+abbrev pub suspect : Request → HeldRequest → HeldRequest
 suspect r x = if conflicts x.request.command r.command && nat_le 3 x.survived then record x { suspected = true } else x
 
 -- what a witness answers to a record, with the state after it: none of the reasons is an acceptance
-pub record Verdict : Type 0 where
+pub record AfterRecord : Type 0 where
   pub state : WitnessState
   pub reason : Option Reason
 
 -- it accepts
-abbrev pub accepts : WitnessState → Verdict
+abbrev pub accepts : WitnessState → AfterRecord
 accepts w = record { state = w; reason = None }
 
 -- it rejects, for a reason
-abbrev pub rejects : WitnessState → Reason → Verdict
+abbrev pub rejects : WitnessState → Reason → AfterRecord
 rejects w why = record { state = w; reason = Some why }
 
 -- it was started with another epoch
@@ -118,38 +119,38 @@ turned_away Frozen None = Some reason.Frozen
 turned_away Normal None = None
 
 -- one more request in its place
-abbrev pub placed : Held → List Held → List Held
+abbrev pub placed : HeldRequest → List HeldRequest → List HeldRequest
 placed x [] = x ∷ []
 placed x (y ∷ ys) = by_order (id_cmp x.request.id y.request.id) (x ∷ y ∷ ys) (x ∷ ys) (y ∷ placed x ys)
 
 -- a request that has survived nothing yet
-abbrev pub newly_held : Request → Held
+abbrev pub newly_held : Request → HeldRequest
 newly_held r = record { request = r; survived = 0; suspected = false }
 
 -- then Conflict, and then SetFull
-abbrev pub by_room : WitnessState → Request → Option RequestId → Option ℕ → Verdict
+abbrev pub by_room : WitnessState → Request → Option RequestId → Option ℕ → AfterRecord
 by_room w r (Some held) full = rejects (record w { held = map (suspect r) w.held }) (reason.Conflict held)
 by_room w r None (Some set) = rejects w (reason.SetFull set)
 by_room w r None None = accepts (record w { held = placed (newly_held r) w.held })
 
 -- a request that is held already is accepted without a change
-abbrev pub by_request : WitnessState → Request → Verdict
+abbrev pub by_request : WitnessState → Request → AfterRecord
 by_request w r = if holds w r.id then accepts w else by_room w r (conflict w r) (full_set w r)
 
 -- the reasons that do not look at the request come first
-abbrev pub unless_turned_away : WitnessState → Request → Option Reason → Verdict
+abbrev pub unless_turned_away : WitnessState → Request → Option Reason → AfterRecord
 unless_turned_away w r (Some why) = rejects w why
 unless_turned_away w r None = by_request w r
 
 -- a request comes to be held (CURP's record)
-unfoldable pub hold : WitnessState → ℕ → Request → Verdict
+unfoldable pub hold : WitnessState → ℕ → Request → AfterRecord
 hold w epoch r = unless_turned_away w r (turned_away w.mode (stranger_to epoch w.epoch))
 
 -- ---- collections
 
--- it has survived one more collection
-abbrev pub survives : Held → Held
-survives x = record x { survived = x.survived + 1 }
+-- it has survived one more collection; the count stands still at 2^64 - 1
+abbrev pub survives : HeldRequest → HeldRequest
+survives x = record x { survived = min (x.survived + 1) (2 ^ 64 - 1) }
 
 -- the listed ids are dropped, and what remains has survived one more
 abbrev pub collect : WitnessState → List RequestId → WitnessState
@@ -159,31 +160,40 @@ collect w ids = record w { held = map survives (filter (λ x. not (has_id x.requ
 abbrev pub suspects : WitnessState → List Request
 suspects w = map (λ x. x.request) (filter (λ x. x.suspected) w.held)
 
--- what a collection gives: the state after it, and the answer
-pub record Collection : Type 0 where
+-- what a witness does on a collection, and answers to it
+pub record AfterCollection : Type 0 where
   pub state : WitnessState
   pub answer : GcAnswer
 
 -- a collection of its epoch, by its mode
-abbrev pub collected_in : Mode → WitnessState → List RequestId → Collection
+abbrev pub collected_in : Mode → WitnessState → List RequestId → AfterCollection
 collected_in Normal w ids = record { state = collect w ids; answer = Suspects (suspects (collect w ids)) }
 collected_in Frozen w ids = record { state = w; answer = Suspects [] }
 collected_in Idle w ids = record { state = w; answer = collected.Stranger w.epoch }
 
 -- a collection, by its own epoch
-abbrev pub collected_at : Option ℕ → WitnessState → ℕ → List RequestId → Collection
+abbrev pub collected_at : Option ℕ → WitnessState → ℕ → List RequestId → AfterCollection
 collected_at None w epoch ids = record { state = w; answer = collected.Stranger None }
 collected_at (Some own) w epoch ids = if own == epoch then collected_in w.mode w ids else record { state = w; answer = collected.Stranger (Some own) }
 
 -- a collection of an epoch
-unfoldable pub gc : WitnessState → ℕ → List RequestId → Collection
+unfoldable pub gc : WitnessState → ℕ → List RequestId → AfterCollection
 gc w epoch ids = collected_at w.epoch w epoch ids
 
 -- ---- the end
 
--- requests in ascending order of their least hash
-abbrev pub requests_by_hash : List Request → List Request
-requests_by_hash requests = map (λ e. e.1) (fold (λ done r. put nat_cmp (unwrap_or (first_of (hashes r.command)) 0) r done) [] requests)
+-- the least hash of the keys that a request names
+abbrev pub least_hash : Request → ℕ
+least_hash r = unwrap_or (first_of (hashes r.command)) 0
+
+-- one more request in its place, behind those whose least hash isn't larger
+abbrev pub sorted_in : List Request → Request → List Request
+sorted_in [] r = r ∷ []
+sorted_in (s ∷ rest) r = if nat_lt (least_hash r) (least_hash s) then r ∷ s ∷ rest else s ∷ sorted_in rest r
+
+-- requests in ascending order of their least hashes
+abbrev pub by_least_hash : List Request → List Request
+by_least_hash requests = fold sorted_in [] requests
 
 -- it takes nothing more, for good (CURP)
 abbrev pub freeze : WitnessState → WitnessState
@@ -191,7 +201,7 @@ freeze w = record w { mode = Frozen }
 
 -- all that it holds
 abbrev pub frozen_requests : WitnessState → List Request
-frozen_requests w = requests_by_hash (map (λ x. x.request) w.held)
+frozen_requests w = by_least_hash (map (λ x. x.request) w.held)
 
 -- ---- messages
 
@@ -211,3 +221,8 @@ on_witness n w from (Gc g) =
 on_witness n w from (Start s) = quiet (start w s.epoch)
 on_witness n w from (Freeze epoch) = sends (freeze w) (says (witness_node n) from (FrozenAnswer (frozen_requests w)) ∷ [])
 on_witness n w from _ = quiet w
+
+-- an input comes to witness n, which ignores all orders
+abbrev pub witness_input : ℕ → WitnessState → Input → Moved WitnessState
+witness_input n w (input.Local order) = quiet w
+witness_input n w (input.Message m) = on_witness n w m.from m.body

@@ -1,7 +1,7 @@
 ghost use Rattle.std.specs.Prelude.{◌≡◌, ◌≤◌, IfOk};
 
 use crate::{AppendAnswer, Config, FenceReply, GcAnswer, Reason, Refusal};
-use curp_base::{Items, NoMemory, TryCopy};
+use curp_base::{Boxed, Items, NoMemory, TryCopy};
 use curp_cmd::{Answer, Entry, NodeId, Package, Request, RequestId};
 use std::alloc::Global;
 
@@ -9,21 +9,21 @@ use std::alloc::Global;
 #[derive(Debug, Drop)]
 pub enum Body {
     /// A client asks a master to execute an update, and to answer before the backups have it where that is safe.
-    Update(Ask),
+    Update(Boxed<Ask>),
     /// A client asks a master to execute an update, and to answer once it is stored on all backups.
-    Sync(Ask),
+    Sync(Boxed<Ask>),
     /// A client asks a master to read.
-    Read(Ask),
+    Read(Boxed<Ask>),
     /// A client asks a witness to hold a request.
-    Record(Record),
+    Record(Boxed<Record>),
     /// A client asks the manager for the configuration.
     Fetch,
     /// The manager tells a client the configuration.
     Configuration { config: Config },
     /// A master answers an update.
-    Reply(Reply),
+    Reply(Boxed<Reply>),
     /// A master answers a read.
-    Worth(Worth),
+    Worth(Boxed<Worth>),
     /// A master doesn't answer a request.
     Refuse(Refuse),
     /// A witness holds a request.
@@ -43,12 +43,13 @@ pub enum Body {
     /// The manager starts a fresh witness.
     Start(Start),
     /// The manager lets a fresh master recover a partition.
-    Recover(Recover),
+    Recover(Boxed<Recover>),
     /// A recovering master asks a backup for its log. From then on it takes nothing of a lower epoch.
     Fence { epoch: u32 },
     /// A backup answers a fence.
     FenceAnswer(FenceAnswer),
-    /// A recovering master asks a witness for what it holds. From then on it takes nothing more, and keeps what it holds.
+    /// A recovering master asks a witness for what it holds. From then on it takes nothing more, and keeps what it
+    /// holds.
     Freeze { epoch: u32 },
     /// A witness says which requests it holds.
     FrozenAnswer { requests: Items<Request> },
@@ -63,9 +64,9 @@ pub enum Body {
     /// The manager lets a master give a range away.
     TakeOut(TakeOut),
     /// A master has given a range away: the package has what there was.
-    Taken(Parcel),
+    Taken(Boxed<Parcel>),
     /// The manager gives a master a range, with the package.
-    GiveIn(Parcel),
+    GiveIn(Boxed<Parcel>),
     /// A master has taken a range over.
     Given { migration: u32 },
     /// The manager tells a master that a client is gone.
@@ -159,8 +160,8 @@ pub struct Start {
     pub epoch: u32,
 }
 
-/// The named backup and witness are asked, the lists are the fresh ones, and `lo` to `hi` is the range that the partition
-/// had at opening.
+/// The named backup and witness are asked, the lists are the fresh ones, and `lo` to `hi` is the range that the
+/// partition had at opening.
 #[derive(Debug, Drop)]
 pub struct Recover {
     pub part: u32,
@@ -223,16 +224,16 @@ impl Body {
         ensures { IfOk result (λ copy. copy ≡ self.now) }
     {
         Ok(match self {
-            Body::Update(ask) => Body::Update(*ask),
-            Body::Sync(ask) => Body::Sync(*ask),
-            Body::Read(ask) => Body::Read(*ask),
-            Body::Record(record) => Body::Record(*record),
+            Body::Update(ask) => Body::Update(ask.copy(alloc)?),
+            Body::Sync(ask) => Body::Sync(ask.copy(alloc)?),
+            Body::Read(ask) => Body::Read(ask.copy(alloc)?),
+            Body::Record(record) => Body::Record(record.copy(alloc)?),
             Body::Fetch => Body::Fetch,
             Body::Configuration { config } => Body::Configuration {
                 config: config.copy(alloc)?,
             },
-            Body::Reply(reply) => Body::Reply(*reply),
-            Body::Worth(worth) => Body::Worth(*worth),
+            Body::Reply(reply) => Body::Reply(reply.copy(alloc)?),
+            Body::Worth(worth) => Body::Worth(worth.copy(alloc)?),
             Body::Refuse(refuse) => Body::Refuse(*refuse),
             Body::Accepted(accepted) => Body::Accepted(*accepted),
             Body::Rejected(rejected) => Body::Rejected(*rejected),
@@ -242,7 +243,7 @@ impl Body {
             Body::Collected(collected) => Body::Collected(collected.copy(alloc)?),
             Body::Install { epoch } => Body::Install { epoch: *epoch },
             Body::Start(start) => Body::Start(*start),
-            Body::Recover(recover) => Body::Recover(recover.copy(alloc)?),
+            Body::Recover(recover) => Body::Recover(recover.try_copy(alloc)?),
             Body::Fence { epoch } => Body::Fence { epoch: *epoch },
             Body::FenceAnswer(answer) => Body::FenceAnswer(answer.copy(alloc)?),
             Body::Freeze { epoch } => Body::Freeze { epoch: *epoch },
@@ -254,8 +255,8 @@ impl Body {
             Body::Prepare(prepare) => Body::Prepare(prepare.copy(alloc)?),
             Body::Prepared { version } => Body::Prepared { version: *version },
             Body::TakeOut(take) => Body::TakeOut(*take),
-            Body::Taken(parcel) => Body::Taken(parcel.copy(alloc)?),
-            Body::GiveIn(parcel) => Body::GiveIn(parcel.copy(alloc)?),
+            Body::Taken(parcel) => Body::Taken(parcel.try_copy(alloc)?),
+            Body::GiveIn(parcel) => Body::GiveIn(parcel.try_copy(alloc)?),
             Body::Given { migration } => Body::Given {
                 migration: *migration,
             },
@@ -299,10 +300,8 @@ impl Collected {
     }
 }
 
-impl Recover {
-    pub fn copy(&self, alloc: Global) -> Result<Recover, NoMemory>
-        ensures { IfOk result (λ copy. copy ≡ self.now) }
-    {
+impl TryCopy for Recover {
+    fn try_copy(&self, alloc: Global) -> Result<Recover, NoMemory> {
         Ok(Recover {
             part: self.part,
             epoch: self.epoch,
@@ -340,10 +339,8 @@ impl Prepare {
     }
 }
 
-impl Parcel {
-    pub fn copy(&self, alloc: Global) -> Result<Parcel, NoMemory>
-        ensures { IfOk result (λ copy. copy ≡ self.now) }
-    {
+impl TryCopy for Parcel {
+    fn try_copy(&self, alloc: Global) -> Result<Parcel, NoMemory> {
         Ok(Parcel {
             migration: self.migration,
             package: self.package.copy(alloc)?,

@@ -1,6 +1,8 @@
 // A node, and calls over any node.
-ghost use Rattle.std.specs.Prelude.{◌≡◌, ◌≢◌, [], None, OnOk, IfOk};
-ghost use Rattle.curp_msg.specs.Example.{after, asks};
+ghost use Rattle.std.specs.Prelude.{◌≡◌, ◌≢◌, ◌<◌, [], None, OnOk, IfOk, length};
+ghost use Rattle.curp_msg.specs.Example.{state_after, fetch_message};
+ghost use Rattle.curp_msg.specs.Moved.{MovesAt};
+ghost use Rattle.curp_msg.specs.declared.machine.Input.TheVariants as input;
 
 use crate::{Body, Core, Done, Input, Local, Message};
 use curp_base::{Items, NoMemory};
@@ -38,48 +40,47 @@ impl Asker {
 }
 
 impl Core for Asker {
-    ghost use Rattle.std.proofs.Common.{rules};
-    ghost use Rattle.curp_msg.specs.Example.{asker, asker_small, asker_idle, asker_takes};
+    ghost use Rattle.curp_msg.specs.Example.{asker, asker_refuses, asker_takes};
 
     ghost machine = { asker };
 
-    ghost refusals_small = { asker_small };
-
-    ghost refusals_idle = { asker_idle };
+    ghost refusals = { asker_refuses };
 
     ghost messages_taken = { asker_takes };
 
     #[tactic(auto, unfolding(crate::specs::Example::asker))]
-    fn on(&mut self, input: &Input) -> Result<Done, NoMemory> {
-        let mut sent = Vec::new(self.alloc);
-        let mut refused = 0;
-        match input {
-            Input::Local(Local::Fetch) => sent.push(asks())?,
-            Input::Local(_) => refused = 1,
-            Input::Message(message) => self.hear(&message.body),
-        }
-        Ok(Done {
-            refused,
-            sent: Items::new(sent),
-            completed: None,
-        })
-    }
-}
-
-impl Asker {
-    ghost use Rattle.curp_msg.specs.Example.{told};
-
-    fn hear(&mut self, body: &Body)
-        ensures { self.new ≡ (told self.old body.now).0 }
-    {
-        if let Body::Configuration { config } = body {
+    fn on_message(&mut self, message: &Message) -> Result<Done, NoMemory> {
+        if let Body::Configuration { config } = &message.body {
             self.serial = self.serial.max(config.serial);
         }
+        Ok(done(0, Vec::new(self.alloc)))
+    }
+
+    #[tactic(auto, unfolding(crate::specs::Example::asker))]
+    fn on_order(&mut self, order: &Local) -> Result<Done, NoMemory> {
+        let mut sent = Vec::new(self.alloc);
+        match order {
+            Local::Fetch => {
+                sent.push(fetch_message())?;
+                Ok(done(0, sent))
+            }
+            _ => Ok(done(1, sent)),
+        }
     }
 }
 
-fn asks() -> Message
-    ensures { result ≡ asks }
+fn done(refused: u8, sent: Vec<Message>) -> Done
+    ensures { result ≡ record { refused = refused; sent = sent.items; completed = None } }
+{
+    Done {
+        refused,
+        sent: Items::new(sent),
+        completed: None,
+    }
+}
+
+fn fetch_message() -> Message
+    ensures { result ≡ fetch_message }
 {
     Message {
         from: NodeId {
@@ -96,7 +97,7 @@ fn asks() -> Message
 
 // Gives any node inputs, one after the other.
 pub(crate) fn give_all<N: Core>(node: &mut N, inputs: &[Input]) -> Result<(), NoMemory>
-    ensures { OnOk result (node.new ≡ after N.machine node.old inputs.now) }
+    ensures { OnOk result (node.new ≡ state_after N.machine node.old inputs.now) }
 {
     for input in inputs {
         node.on(input)?;
@@ -104,10 +105,22 @@ pub(crate) fn give_all<N: Core>(node: &mut N, inputs: &[Input]) -> Result<(), No
     Ok(())
 }
 
-// Gives any node an order. Where it refuses, by the node's laws nothing has changed and nothing is sent.
-pub(crate) fn order<N: Core>(node: &mut N, order: Local) -> Result<Done, NoMemory>
+// Gives any node an order. Where it refuses, nothing has changed and nothing is sent.
+pub(crate) fn order<N: Core>(node: &mut N, order: &Local) -> Result<Done, NoMemory>
     ensures state { IfOk result (λ done. done.refused ≢ 0 → node.new ≡ node.old) }
     ensures sent { IfOk result (λ done. done.refused ≢ 0 → done.sent ≡ []) }
 {
-    node.on(&Input::Local(order))
+    node.on_order(order)
+}
+
+// Gives the node at a place a message, and leaves the others alone.
+pub(crate) fn give<N: Core>(
+    nodes: &mut [N],
+    place: usize,
+    message: &Message,
+) -> Result<Done, NoMemory>
+    requires { place < length nodes.old }
+    ensures { MovesAt place nodes.old nodes.new result (λ node. N.machine node (input.Message message.now)) }
+{
+    nodes[place].on_message(message)
 }

@@ -9,6 +9,7 @@ mod example;
 mod machine;
 mod message;
 mod outcome;
+mod script;
 #[cfg(test)]
 mod tests;
 mod weighing;
@@ -22,4 +23,5 @@ pub use config::{Config, PartConfig};
 pub use machine::{Capture, Completed, Core, Done, Input, Local};
 pub use message::Message;
 pub use outcome::{Outcome, StepResult};
+pub use script::{Header, Protocol, Step};
 pub use weighing::weight;

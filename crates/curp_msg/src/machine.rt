@@ -1,8 +1,9 @@
-ghost use Rattle.std.specs.Prelude.{◌≡◌, ◌≢◌, ◌<◌, [], None, OnOk, OnErr, IfOk};
+ghost use Rattle.std.specs.Prelude.{◌≡◌, ◌≢◌, [], Some, None, IsOk};
 
 use crate::Message;
 use curp_base::{Items, NoMemory};
 use curp_cmd::{Answer, Command, Keeper, NodeId, RequestId};
+use std::alloc::Global;
 
 /// An order that a node gets from whoever runs it, and not by a message. A node ignores those that aren't its own.
 #[derive(Clone, Copy, Debug, PartialEq, Eq)]
@@ -59,6 +60,48 @@ pub struct Done {
     pub completed: Option<Completed>,
 }
 
+impl Done {
+    /// The node does nothing that others see. It takes no memory.
+    pub fn quiet(alloc: Global) -> Done
+        ensures { result ≡ record { refused = 0; sent = []; completed = None } }
+    {
+        Done::sends(Vec::new(alloc))
+    }
+
+    /// It sends these messages. It takes no memory.
+    pub fn sends(messages: Vec<Message>) -> Done
+        ensures { result ≡ record { refused = 0; sent = messages.items; completed = None } }
+    {
+        Done {
+            refused: 0,
+            sent: Items::new(messages),
+            completed: None,
+        }
+    }
+
+    /// A request completes. It takes no memory.
+    pub fn completes(alloc: Global, completed: Completed) -> Done
+        ensures { result ≡ record { refused = 0; sent = []; completed = Some completed } }
+    {
+        Done {
+            refused: 0,
+            sent: Items::new(Vec::new(alloc)),
+            completed: Some(completed),
+        }
+    }
+
+    /// It refuses an order, by a number. It takes no memory.
+    pub fn refuses(alloc: Global, number: u8) -> Done
+        ensures { result ≡ record { refused = number; sent = []; completed = None } }
+    {
+        Done {
+            refused: number,
+            sent: Items::new(Vec::new(alloc)),
+            completed: None,
+        }
+    }
+}
+
 /// A request that completed, with its answer.
 #[derive(Clone, Copy, Debug, PartialEq, Eq)]
 pub struct Completed {
@@ -79,28 +122,38 @@ pub struct Capture {
 
 /// A node: it reacts to one input at a time, and holds no handle and no lock. One input completes at most one request.
 pub trait Core {
+    ghost use Rattle.curp_msg.specs.Moved.{Moved, Moves, Refuses};
     ghost use Rattle.curp_msg.specs.declared.machine.Input.{Input};
     ghost use Rattle.curp_msg.specs.declared.machine.Input.TheVariants as input;
-    ghost use Rattle.curp_msg.specs.declared.machine.Done.{Done};
     ghost use Rattle.curp_msg.specs.declared.machine.Local.{Local};
     ghost use Rattle.curp_msg.specs.declared.message.Message.{Message};
 
-    /// Which machine the node is: from a state and an input to the next state and what is done.
-    ghost machine: { Self → Input → Self × Done };
+    /// Which machine the node is: what an input does to a state.
+    ghost machine: { Self → Input → Moved Self };
+
+    /// A message comes to the node.
+    fn on_message(&mut self, message: &Message) -> Result<Done, NoMemory>
+        ensures moves { Moves self.old self.new result (machine self.old (input.Message message.now)) };
+
+    /// The node gets an order. One that it refuses never fails for want of memory.
+    fn on_order(&mut self, order: &Local) -> Result<Done, NoMemory>
+        ensures moves { Moves self.old self.new result (machine self.old (input.Local order.now)) }
+        ensures refused { (machine self.old (input.Local order.now)).refused ≢ 0 → IsOk result };
 
     /// Gives the node an input.
     fn on(&mut self, input: &Input) -> Result<Done, NoMemory>
-        ensures state { OnOk result (self.new ≡ (machine self.old input.now).0) }
-        ensures done { IfOk result (λ done. done ≡ (machine self.old input.now).1) }
-        ensures err { OnErr result (self.new ≡ self.old) };
+        ensures moves { Moves self.old self.new result (machine self.old input.now) }
+        ensures refused { (machine self.old input.now).refused ≢ 0 → IsOk result }
+    {
+        match input {
+            Input::Local(order) => self.on_order(order),
+            Input::Message(message) => self.on_message(message),
+        }
+    }
 
-    /// A refusal's number is below 255.
-    ghost refusals_small: { (s : Self) (given : Input) → (machine s given).1.refused < 255 };
-
-    /// A refused order changes nothing, sends nothing and completes nothing.
-    ghost refusals_idle: { (s : Self) (order : Local) → (machine s (input.Local order)).1.refused ≢ 0
-        → ((machine s (input.Local order)).0 ≡ s) × ((machine s (input.Local order)).1.sent ≡ []) × ((machine s (input.Local order)).1.completed ≡ None) };
+    /// How it refuses an order.
+    ghost refusals: { (s : Self) (order : Local) → Refuses s (machine s (input.Local order)) };
 
     /// A message is never refused.
-    ghost messages_taken: { (s : Self) (message : Message) → (machine s (input.Message message)).1.refused ≡ 0 };
+    ghost messages_taken: { (s : Self) (message : Message) → (machine s (input.Message message)).refused ≡ 0 };
 }

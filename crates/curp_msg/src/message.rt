@@ -4,6 +4,7 @@ use crate::Body;
 use curp_base::NoMemory;
 use curp_cmd::NodeId;
 use std::alloc::Global;
+use std::mem::size_of;
 
 /// A message: who sent it, whom it goes to, and what it says.
 #[derive(Debug, Drop)]
@@ -12,6 +13,9 @@ pub struct Message {
     pub to: NodeId,
     pub body: Body,
 }
+
+// A run keeps each message that was sent.
+const _: () = prove!(size_of::<Message>() <= 80);
 
 impl Message {
     pub fn copy(&self, alloc: Global) -> Result<Message, NoMemory>

@@ -1,9 +1,9 @@
-use crate::example::{Asker, give_all, order};
+use crate::example::{Asker, give, give_all, order};
 use crate::{
     Append, Ask, Body, Collected, Config, FenceAnswer, FenceReply, Gc, GcAnswer, Input, Local,
     Message, Parcel, PartConfig, Prepare, Recover, weight,
 };
-use curp_base::{AscendingKeys, AscendingPairs, Items, keys_ascend, pairs_ascend};
+use curp_base::{AscendingKeys, AscendingPairs, Boxed, Items, keys_ascend, pairs_ascend};
 use curp_cmd::{
     Answer, Command, Entry, Key, NodeId, NodeKind, Package, Request, RequestId, TablePart, Value,
 };
@@ -16,6 +16,8 @@ const NODE: NodeId = NodeId {
     number: 0,
 };
 
+const ID: RequestId = RequestId { client: 1, seq: 1 };
+
 fn says(body: Body) -> Message {
     Message {
         from: NODE,
@@ -24,18 +26,24 @@ fn says(body: Body) -> Message {
     }
 }
 
-fn configuration(alloc: Global, serial: u32) -> Result<Body, Fail> {
-    let part = PartConfig {
-        part: 1,
-        epoch: 1,
-        version: 1,
-        master: NODE,
-        backups: Items::new(Vec::from_slice(alloc, &[NODE, NODE])?),
-        witnesses: Items::new(Vec::from_slice(alloc, &[NODE])?),
-        ranges: Spans::new(Ranges::new(alloc, 0, 9)?),
-    };
+// As many nodes as a list of a partition has at most.
+fn nodes(alloc: Global) -> Result<Items<NodeId>, Fail> {
+    Ok(Items::new(Vec::from_slice(alloc, &[NODE; 5])?))
+}
+
+fn configuration(alloc: Global, serial: u32, count: u32) -> Result<Body, Fail> {
     let mut parts = Vec::new(alloc);
-    parts.push(part)?;
+    for part in 0..count {
+        parts.push(PartConfig {
+            part,
+            epoch: 1,
+            version: 1,
+            master: NODE,
+            backups: nodes(alloc)?,
+            witnesses: nodes(alloc)?,
+            ranges: Spans::new(Ranges::new(alloc, 0, 9)?),
+        })?;
+    }
     let parts = Items::new(parts);
     Ok(Body::Configuration {
         config: Config { serial, parts },
@@ -44,24 +52,27 @@ fn configuration(alloc: Global, serial: u32) -> Result<Body, Fail> {
 
 #[test]
 fn any_node_takes_inputs(rt: HostRuntime) -> Result<(), Fail> {
-    let mut asker = Asker::new(rt.alloc());
-    let mut inputs = Vec::new(rt.alloc());
+    let alloc = rt.alloc();
+    let mut asker = Asker::new(alloc);
+    let mut inputs = Vec::new(alloc);
     for serial in [1, 3, 2] {
-        inputs.push(Input::Message(says(configuration(rt.alloc(), serial)?)))?;
+        inputs.push(Input::Message(says(configuration(alloc, serial, 1)?)))?;
     }
     give_all(&mut asker, &inputs)?;
     assert_eq!(rt; asker.serial(), 3);
-    let fetched = order(&mut asker, Local::Fetch)?;
+    let fetched = order(&mut asker, &Local::Fetch)?;
     assert_eq!(rt; (fetched.refused, fetched.sent.len()), (0, 1));
-    let refused = order(&mut asker, Local::Sync)?;
+    let refused = order(&mut asker, &Local::Sync)?;
     assert_eq!(rt; (refused.refused, refused.sent.len()), (1, 0));
     Ok(())
 }
 
-const ID: RequestId = RequestId { client: 1, seq: 1 };
-
-fn nodes(alloc: Global) -> Result<Items<NodeId>, Fail> {
-    Ok(Items::new(Vec::from_slice(alloc, &[NODE, NODE])?))
+#[test]
+fn one_of_several_nodes_gets_a_message(rt: HostRuntime) -> Result<(), Fail> {
+    let mut askers = [Asker::new(rt.alloc()), Asker::new(rt.alloc())];
+    give(&mut askers, 1, &says(configuration(rt.alloc(), 7, 1)?))?;
+    assert_eq!(rt; askers.map(|asker| asker.serial()), [0, 7]);
+    Ok(())
 }
 
 // A multi-put of two pairs.
@@ -75,7 +86,7 @@ fn request() -> Result<Request, Fail> {
 }
 
 // Two pairs, three records, a first number and two expired clients.
-fn parcel(alloc: Global) -> Result<Parcel, Fail> {
+fn package(alloc: Global) -> Result<Package, Fail> {
     let one = Value::new(b"1")?;
     let pairs = Vec::from_slice(alloc, &[(Key::new(b"a")?, one), (Key::new(b"b")?, one)])?;
     let ids = [(1, 1), (1, 2), (2, 1)].map(|(client, seq)| RequestId { client, seq });
@@ -94,61 +105,71 @@ fn parcel(alloc: Global) -> Result<Parcel, Fail> {
         gone: AscendingKeys::new(gone),
     };
     let pairs = AscendingPairs::new(pairs);
-    Ok(Parcel {
-        migration: 1,
-        package: Package {
-            lo: 0,
-            hi: 9,
-            pairs,
-            table,
-        },
+    Ok(Package {
+        lo: 0,
+        hi: 9,
+        pairs,
+        table,
     })
 }
 
+fn parcel(alloc: Global) -> Result<Boxed<Parcel>, Fail> {
+    let parcel = Parcel {
+        migration: 1,
+        package: package(alloc)?,
+    };
+    Ok(Boxed::new(alloc, parcel)?)
+}
+
 fn entries(alloc: Global) -> Result<Items<Entry>, Fail> {
-    let Parcel { migration, package } = parcel(alloc)?;
     let mut entries = Vec::new(alloc);
     entries.push(Entry::Op {
         request: request()?,
         acknowledge: 1,
     })?;
-    entries.push(Entry::Take { migration, package })?;
+    entries.push(Entry::Take {
+        migration: 1,
+        package: package(alloc)?,
+    })?;
     entries.push(Entry::Expire { client: 1 })?;
     Ok(Items::new(entries))
 }
 
-#[test]
-fn copies_weigh_what_they_carry(rt: HostRuntime) -> Result<(), Fail> {
-    let alloc = rt.alloc();
+fn update(alloc: Global, request: Request) -> Result<Body, Fail> {
     let ask = Ask {
-        request: request()?,
+        request,
         epoch: 1,
         version: 1,
     };
-    let append = Append {
+    Ok(Body::Update(Boxed::new(alloc, ask)?))
+}
+
+fn append(entries: Items<Entry>) -> Body {
+    Body::Append(Append {
         epoch: 1,
         base: 0,
         round: 1,
-        entries: entries(alloc)?,
-    };
-    let log = FenceAnswer {
+        entries,
+    })
+}
+
+fn collected(alloc: Global) -> Result<Body, Fail> {
+    let suspects = Items::new(Vec::from_slice(alloc, &[request()?])?);
+    Ok(Body::Collected(Collected {
         epoch: 1,
-        answer: FenceReply::Log(entries(alloc)?),
-    };
-    let gc = Gc {
-        epoch: 1,
-        ids: Items::new(Vec::from_slice(alloc, &[ID, ID])?),
-    };
-    let suspects = Collected {
-        epoch: 1,
-        answer: GcAnswer::Suspects(Items::new(Vec::from_slice(alloc, &[request()?])?)),
-    };
-    let requests = Items::new(Vec::from_slice(alloc, &[request()?, request()?])?);
-    let prepare = Prepare {
+        answer: GcAnswer::Suspects(suspects),
+    }))
+}
+
+fn prepare(alloc: Global) -> Result<Body, Fail> {
+    Ok(Body::Prepare(Prepare {
         version: 2,
         backups: nodes(alloc)?,
         witnesses: nodes(alloc)?,
-    };
+    }))
+}
+
+fn recover(alloc: Global) -> Result<Body, Fail> {
     let recover = Recover {
         part: 1,
         epoch: 2,
@@ -160,23 +181,82 @@ fn copies_weigh_what_they_carry(rt: HostRuntime) -> Result<(), Fail> {
         lo: 0,
         hi: 9,
     };
+    Ok(Body::Recover(Boxed::new(alloc, recover)?))
+}
+
+#[test]
+fn copies_weigh_what_they_carry(rt: HostRuntime) -> Result<(), Fail> {
+    let alloc = rt.alloc();
+    let log = FenceReply::Log(entries(alloc)?);
+    let ids = Items::new(Vec::from_slice(alloc, &[ID, ID])?);
+    let requests = Items::new(Vec::from_slice(alloc, &[request()?, request()?])?);
     for (body, want) in [
         (Body::Fetch, 1),
-        (Body::Update(ask), 1),
-        (configuration(alloc, 1)?, 3),
-        (Body::Append(append), 11),
-        (Body::FenceAnswer(log), 11),
-        (Body::Gc(gc), 3),
-        (Body::Collected(suspects), 2),
+        (update(alloc, request()?)?, 1),
+        (configuration(alloc, 1, 1)?, 3),
+        (append(entries(alloc)?), 11),
+        (
+            Body::FenceAnswer(FenceAnswer {
+                epoch: 1,
+                answer: log,
+            }),
+            11,
+        ),
+        (Body::Gc(Gc { epoch: 1, ids }), 3),
+        (collected(alloc)?, 2),
         (Body::FrozenAnswer { requests }, 3),
         (Body::Taken(parcel(alloc)?), 6),
         (Body::GiveIn(parcel(alloc)?), 6),
-        (Body::Prepare(prepare), 1),
-        (Body::Recover(recover), 1),
+        (prepare(alloc)?, 1),
+        (recover(alloc)?, 1),
     ] {
         let message = says(body);
         let copy = message.copy(alloc)?;
         assert_eq!(rt; (weight(&message), weight(&copy)), (want, want), "{copy:?}");
+    }
+    Ok(())
+}
+
+// Four pairs of the longest keys and values.
+fn largest_request() -> Result<Request, Fail> {
+    let value = Value::new(&[255; 128])?;
+    let mut pairs = [(Key::new(&[0; 32])?, value); 4];
+    for (byte, pair) in (1..).zip(&mut pairs) {
+        pair.0 = Key::new(&[byte; 32])?;
+    }
+    Ok(Request {
+        id: ID,
+        first: 1,
+        command: Command::multi(&pairs)?,
+    })
+}
+
+// All slots of a witness are full, a log has a thousand updates, and there are as many partitions as may be.
+#[test]
+fn the_largest_messages_are_copied(rt: HostRuntime) -> Result<(), Fail> {
+    let alloc = rt.alloc();
+    let largest = largest_request()?;
+    let slots = 1024 * 16;
+    let mut requests = Vec::with_capacity(alloc, slots)?;
+    for _ in 0..slots {
+        requests.push(largest)?;
+    }
+    let requests = Items::new(requests);
+    let mut log = Vec::new(alloc);
+    for acknowledge in 1..=1000 {
+        log.push(Entry::Op {
+            request: largest,
+            acknowledge,
+        })?;
+    }
+    for (body, want) in [
+        (update(alloc, largest)?, 1),
+        (configuration(alloc, u32::MAX, 16)?, 33),
+        (append(Items::new(log)), 5001),
+        (Body::FrozenAnswer { requests }, 16385),
+    ] {
+        let copy = says(body).copy(alloc)?;
+        assert_eq!(rt; weight(&copy), want);
     }
     Ok(())
 }

@@ -1,14 +1,14 @@
 ghost use Rattle.std.specs.Prelude.{◌≡◌, ◌-◌, ◌^◌, min, map};
 ghost use Rattle.std.specs.List.{sum};
-ghost use Rattle.curp_cmd.specs.Entry.{pairs_put};
-ghost use Rattle.curp_msg.specs.Weight.{weight_of, carried, entries_weight, entry_weight, package_weight, part_weight, collection_weight, fence_weight};
+ghost use Rattle.curp_msg.specs.Weight.{weight_of, carried, entries_weight, entry_weight};
+ghost use Rattle.curp_msg.specs.Weight.{package_weight, part_weight, collection_weight, fence_weight};
 
 use crate::{Body, FenceReply, GcAnswer, Message, PartConfig};
-use curp_cmd::{Command, Entry, Package};
+use curp_cmd::{Entry, Package, pairs_put};
 
-/// How much a message weighs: 1, and 1 more for each entry, each pair of a multi-put in an entry, each pair and record of a
-/// package, each id of a collection, each request that a witness tells, each partition and each range of a configuration.
-/// It stands still at 2^64 - 1. (This project's own measure.)
+/// How much a message weighs: 1, and 1 more for each entry, each pair of a multi-put in an entry, each pair and record
+/// of a package, each id of a collection, each request that a witness tells, each partition and each range of a
+/// configuration. It stands still at 2^64 - 1. (This project's own measure.)
 #[tactic(auto, unfolding(crate::specs::Weight::weight_of))]
 pub fn weight(message: &Message) -> u64
     ensures { result ≡ weight_of message.now }
@@ -26,7 +26,7 @@ fn carried(body: &Body) -> u64
         Body::Collected(collected) => collection_weight(&collected.answer),
         Body::FenceAnswer(answer) => fence_weight(&answer.answer),
         Body::FrozenAnswer { requests } => requests.len() as u64,
-        Body::Taken(parcel) | Body::GiveIn(parcel) => package_weight(&parcel.package),
+        Body::Taken(parcel) | Body::GiveIn(parcel) => package_weight(&parcel.get().package),
         _ => 0,
     }
 }
@@ -64,16 +64,6 @@ fn entry_weight(entry: &Entry) -> u64
         Entry::Expire { .. } => 0,
     };
     more.saturating_add(1)
-}
-
-// How many pairs a multi-put puts. Of another command none is counted.
-fn pairs_put(command: &Command) -> u64
-    ensures { result ≡ min (pairs_put command.now) (2 ^ 64 - 1) }
-{
-    match command {
-        Command::Multi(pairs) => pairs.as_slice().len() as u64,
-        _ => 0,
-    }
 }
 
 fn entries_weight(entries: &[Entry]) -> u64

@@ -7,7 +7,7 @@ use std::alloc::Global;
 
 /// The answers of one thread that does the requests in their order, begun with the empty store.
 pub fn run_order(alloc: Global, requests: &[(RequestId, Command)]) -> Result<Vec<Answer>, NoMemory>
-    ensures { IfOk result (λ xs. xs.items ≡ answers requests.now) }
+    ensures { IfOk result (λ given. given.items ≡ answers requests.now) }
 {
     let mut store = Store::new(alloc);
     let mut given = Vec::new(alloc);

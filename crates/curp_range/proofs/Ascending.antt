@@ -1,5 +1,5 @@
 -- Spans in ascending order: what they own, and what an edit at one place leaves.
-use Rattle.std.proofs.Common.{◌≡◌, ℕ, zero, suc, ◌+◌, ◌<◌, ◌≤◌, Bool, true, false, ◌||◌, List, [], ◌∷◌, ◌++◌, length, get_or, insert, remove, refl, sym, arith}
+use Rattle.std.proofs.Common.{◌≡◌, ℕ, zero, suc, ◌+◌, ◌<◌, ◌≤◌, Bool, true, false, ◌||◌, List, [], ◌∷◌, ◌++◌, length, get_or, insert, remove, refl, sym, subst, arith}
 use Rattle.std.proofs.Math.Bool.{or_assoc, or_comm}
 use Rattle.std.proofs.lemmas.Bool.Decides.{nat_tests}
 use Rattle.curp_range.specs.Spans.{Span, is_in, is_owned, AscendWithin}
@@ -56,7 +56,7 @@ pub or_swap : (a b c : Bool) → (a || (b || c)) ≡ ((a || c) || b)
 or_swap true b c = refl
 or_swap false b c = or_comm b c
 
-or_under : (x a b c : Bool) → a ≡ (b || c) → (x || a) ≡ ((x || b) || c)
+pub or_under : (x a b c : Bool) → a ≡ (b || c) → (x || a) ≡ ((x || b) || c)
 or_under true a b c e = refl
 or_under false a b c e = e
 
@@ -71,3 +71,7 @@ pub owned-remove : (xs : List Span) (at : ℕ) (d : Span) (h : ℕ) → at < len
 owned-remove [] at d h l = absurd (omega arith)
 owned-remove (x ∷ xs) zero d h l = or_comm (is_in x.0 x.1 h) (is_owned xs h)
 owned-remove (x ∷ xs) (suc at) d h l = or_under (is_in x.0 x.1 h) _ _ _ (owned-remove xs at d h (omega arith))
+
+-- the same, with the span as it was read there
+pub owned_read : (xs : List Span) (at : ℕ) (s : Span) → s ≡ get_or xs at s → (h : ℕ) → at < length xs → is_owned xs h ≡ (is_owned (remove xs at) h || is_in s.0 s.1 h)
+owned_read xs at s is h l = subst (λ (r : Span). is_owned xs h ≡ (is_owned (remove xs at) h || is_in r.0 r.1 h)) (sym is) (owned-remove xs at s h l)

@@ -1,15 +1,15 @@
 -- What a cut out of one span leaves.
-use Rattle.std.proofs.Common.{◌≡◌, ℕ, zero, suc, ◌+◌, ◌-◌, ◌^◌, ◌<◌, ◌≤◌, Bool, true, false, ◌&&◌, ◌||◌, not, List, [], ◌∷◌, ◌++◌, length, get_or, take, drop, set, insert, remove, refl, ap, sym, subst, add-one, arith}
+use Rattle.std.proofs.Common.{◌≡◌, ℕ, zero, suc, ◌+◌, ◌-◌, ◌^◌, ◌<◌, ◌≤◌, Bool, true, false, ◌&&◌, ◌||◌, not, List, [], ◌∷◌, ◌++◌, length, get_or, take, drop, set, insert, remove, refl, ap, subst, add-one, arith}
 use Rattle.std.proofs.lemmas.Bool.Decides.{nat_tests}
-use Rattle.curp_range.specs.Spans.{Span, is_in, is_owned, AscendWithin, Ascend}
+use Rattle.curp_range.specs.Spans.{Span, is_in, is_owned, AscendWithin, SpansAscend, AreSpansOf}
 use Rattle.curp_range.specs.Places.{IsSpanOf}
-use Rattle.curp_range.proofs.Ascending.{above_range, range_bounds, from_lower, starts, none_below, or_swap, owned-append, owned-remove}
+use Rattle.curp_range.proofs.Ascending.{above_range, range_bounds, from_lower, starts, none_below, or_swap, owned-append, owned_read}
 
 -- other spans in the place of one
 abbrev pub replaced : List Span → ℕ → List Span → List Span
 replaced xs at ys = take at xs ++ (ys ++ drop (suc at) xs)
 
-ascend-front : (f t c b : ℕ) (ys xs : List Span) → AscendWithin c (b + 1) ys → AscendWithin (b + 2) t xs → f ≤ c → c ≤ b → b < t → AscendWithin f t (ys ++ xs)
+pub ascend-front : (f t c b : ℕ) (ys xs : List Span) → AscendWithin c (b + 1) ys → AscendWithin (b + 2) t xs → f ≤ c → c ≤ b → b < t → AscendWithin f t (ys ++ xs)
 ascend-front f t c b [] xs a r l m u = from_lower (b + 2) f t xs (omega arith) r
 ascend-front f t c b (y ∷ []) xs a r l m u = (omega (arith, a.0), a.1, omega (arith, a.2), from_lower (b + 2) (y.1 + 2) t xs (omega (arith, a.2)) r)
 ascend-front f t c b (y ∷ z ∷ ys) xs a r l m u = (omega (arith, a.0), a.1, omega (arith, a.2), ascend-front (y.1 + 2) t (y.1 + 2) b (z ∷ ys) xs a.3 r (omega arith) (omega (arith, a.3.0, a.3.1, a.3.2)) u)
@@ -37,13 +37,12 @@ apart f t (s ∷ xs) zero h d a l first last = none_below (s.1 + 2) t xs h a.3 (
 apart f t (s ∷ xs) (suc at) h d a l first last =
     rw (above_range s.0 s.1 h (omega (arith, starts (s.1 + 2) t xs at d a.3 (omega arith)))) (apart (s.1 + 2) t xs at h d a.3 (omega arith) first last)
 
--- the new spans ascend, and own what the old ones do but for the range
-pub record IsCut (old : List Span) (lo hi : ℕ) (new : List Span) : Type 0 where
-  pub ascend : Ascend new
-  pub owned : (h : ℕ) → is_owned new h ≡ (is_owned old h && not (is_in lo hi h))
+-- the new spans are those of what the old ones own but for the range
+abbrev pub IsCut : List Span → ℕ → ℕ → List Span → Type 0
+IsCut old lo hi new = AreSpansOf (λ h. is_owned old h && not (is_in lo hi h)) new
 
 -- the spans in the place of s, which has the range, are what is left of s
-cut_of : (xs : List Span) (lo hi at : ℕ) (s : Span) (ys : List Span) → Ascend xs → IsSpanOf xs lo hi at → s ≡ get_or xs at s
+cut_of : (xs : List Span) (lo hi at : ℕ) (s : Span) (ys : List Span) → SpansAscend xs → IsSpanOf xs lo hi at → s ≡ get_or xs at s
     → AscendWithin s.0 (s.1 + 1) ys → ((h : ℕ) → is_owned ys h ≡ (is_in s.0 s.1 h && not (is_in lo hi h))) → IsCut xs lo hi (replaced xs at ys)
 cut_of xs lo hi at s ys a place is ascend left = record {
   ascend = ascend-replaced 0 (2 ^ 64) xs at s ys a place.within (subst (λ (r : Span). AscendWithin r.0 (r.1 + 1) ys) is ascend);
@@ -53,11 +52,8 @@ cut_of xs lo hi at s ys a place is ascend left = record {
     others : (h : ℕ) → is_in lo hi h ≡ true → is_owned (remove xs at) h ≡ false
     others h e = let bounds = range_bounds lo hi h e in apart 0 (2 ^ 64) xs at h s a place.within (omega (arith, place.first s, bounds.0)) (omega (arith, place.last s, bounds.1))
 
-    whole : (h : ℕ) → is_owned xs h ≡ (is_owned (remove xs at) h || is_in s.0 s.1 h)
-    whole h = subst (λ (r : Span). is_owned xs h ≡ (is_owned (remove xs at) h || is_in r.0 r.1 h)) (sym is) (owned-remove xs at s h place.within)
-
     owned : (h : ℕ) → is_owned (replaced xs at ys) h ≡ (is_owned xs h && not (is_in lo hi h))
-    owned h = rw (owned-replaced xs at ys h, left h, whole h) (and_or (is_owned (remove xs at) h) (is_in s.0 s.1 h) (is_in lo hi h) (others h))
+    owned h = rw (owned-replaced xs at ys h, left h, owned_read xs at s is h place.within) (and_or (is_owned (remove xs at) h) (is_in s.0 s.1 h) (is_in lo hi h) (others h))
 
 -- the edits, as lists put together
 set_parts : (xs : List Span) (at : ℕ) (y : Span) → at < length xs → set xs at y ≡ replaced xs at (y ∷ [])
@@ -71,14 +67,14 @@ insert_parts (x ∷ xs) zero y z l = refl
 insert_parts (x ∷ xs) (suc at) y z l = ap (λ (zs : List Span). x ∷ zs) (insert_parts xs at y z (omega arith))
 
 -- the whole span
-pub cut_whole : (xs : List Span) (lo hi at : ℕ) (s : Span) → Ascend xs → lo ≤ hi → IsSpanOf xs lo hi at → s ≡ get_or xs at s → lo ≤ s.0 → s.1 ≤ hi → IsCut xs lo hi (remove xs at)
+pub cut_whole : (xs : List Span) (lo hi at : ℕ) (s : Span) → SpansAscend xs → lo ≤ hi → IsSpanOf xs lo hi at → s ≡ get_or xs at s → lo ≤ s.0 → s.1 ≤ hi → IsCut xs lo hi (remove xs at)
 cut_whole xs lo hi at s a o place is front back = cut_of xs lo hi at s [] a place is tt left
   where
     left : (h : ℕ) → false ≡ (is_in s.0 s.1 h && not (is_in lo hi h))
     left h = grind (arith, nat_tests)
 
 -- its end
-pub cut_back : (xs : List Span) (lo hi at : ℕ) (s : Span) → Ascend xs → lo ≤ hi → IsSpanOf xs lo hi at → s ≡ get_or xs at s → s.0 < lo → s.1 ≤ hi → IsCut xs lo hi (set xs at (s.0, lo - 1))
+pub cut_back : (xs : List Span) (lo hi at : ℕ) (s : Span) → SpansAscend xs → lo ≤ hi → IsSpanOf xs lo hi at → s ≡ get_or xs at s → s.0 < lo → s.1 ≤ hi → IsCut xs lo hi (set xs at (s.0, lo - 1))
 cut_back xs lo hi at s a o place is front back =
     rw (set_parts xs at (s.0, lo - 1) place.within) (cut_of xs lo hi at s ((s.0, lo - 1) ∷ []) a place is (omega arith, omega arith, last, tt) left)
   where
@@ -89,7 +85,7 @@ cut_back xs lo hi at s a o place is front back =
     left h = let within = last in grind (arith, nat_tests)
 
 -- its front
-pub cut_front : (xs : List Span) (lo hi at : ℕ) (s : Span) → Ascend xs → lo ≤ hi → IsSpanOf xs lo hi at → s ≡ get_or xs at s → lo ≤ s.0 → hi < s.1 → IsCut xs lo hi (set xs at (hi + 1, s.1))
+pub cut_front : (xs : List Span) (lo hi at : ℕ) (s : Span) → SpansAscend xs → lo ≤ hi → IsSpanOf xs lo hi at → s ≡ get_or xs at s → lo ≤ s.0 → hi < s.1 → IsCut xs lo hi (set xs at (hi + 1, s.1))
 cut_front xs lo hi at s a o place is front back =
     rw (set_parts xs at (hi + 1, s.1) place.within) (cut_of xs lo hi at s ((hi + 1, s.1) ∷ []) a place is (first, omega arith, omega arith, tt) left)
   where
@@ -100,7 +96,7 @@ cut_front xs lo hi at s a o place is front back =
     left h = let within = first in grind (arith, nat_tests)
 
 -- its middle
-pub cut_middle : (xs : List Span) (lo hi at : ℕ) (s : Span) → Ascend xs → lo ≤ hi → IsSpanOf xs lo hi at → s ≡ get_or xs at s → s.0 < lo → hi < s.1 → IsCut xs lo hi (insert (set xs at (s.0, lo - 1)) (at + 1) (hi + 1, s.1))
+pub cut_middle : (xs : List Span) (lo hi at : ℕ) (s : Span) → SpansAscend xs → lo ≤ hi → IsSpanOf xs lo hi at → s ≡ get_or xs at s → s.0 < lo → hi < s.1 → IsCut xs lo hi (insert (set xs at (s.0, lo - 1)) (at + 1) (hi + 1, s.1))
 cut_middle xs lo hi at s a o place is front back =
     rw (add-one at, insert_parts xs at (s.0, lo - 1) (hi + 1, s.1) place.within)
     (cut_of xs lo hi at s ((s.0, lo - 1) ∷ (hi + 1, s.1) ∷ []) a place is (omega arith, omega arith, omega arith, (omega arith, omega arith, omega arith, tt)) left)

@@ -4,28 +4,28 @@ use Rattle.std.proofs.Math.Bool.{or-true}
 use Rattle.std.specs.List.Sorted.{IsPartitionedBy, IsPartitionPoint}
 use Rattle.std.proofs.lemmas.Bool.{cases_lt}
 use Rattle.std.proofs.lemmas.Bool.Decides.{nat_tests}
-use Rattle.curp_range.specs.Spans.{Span, is_in, is_owned, Covers, Lacks, Meets, AscendWithin, Ascend}
-use Rattle.curp_range.specs.Places.{IsPlace, IsSpanOf}
+use Rattle.curp_range.specs.Spans.{Span, is_in, is_owned, Covers, Lacks, Meets, AscendWithin, SpansAscend}
+use Rattle.curp_range.specs.Places.{IsSpanPlace, IsSpanOf}
 use Rattle.curp_range.proofs.Ascending.{in_range, above_range, range_bounds, from_first, starts, ends, rise, none_below}
 
 abbrev pub ends_before : ℕ → Span → Bool
 ends_before hash span = nat_lt span.1 hash
 
 -- the spans that end before the hash stand in front
-pub parted : (xs : List Span) (hash : ℕ) → Ascend xs → IsPartitionedBy (ends_before hash) xs
+pub parted : (xs : List Span) (hash : ℕ) → SpansAscend xs → IsPartitionedBy (ends_before hash) xs
 parted xs hash a i j d le within ended = elim (cases_lt i j) [
   | inl l ↦ let apart = rise 0 (2 ^ 64) xs i j d d a l within in let order = ends 0 (2 ^ 64) xs j d a within in grind (arith, nat_tests)
   | inr l ↦ let same : i ≡ j = omega arith in rw same ended
 ]
 
-pub place_from_point : (xs : List Span) (hash at : ℕ) → at ≤ length xs → IsPartitionPoint (λ (s : Span). ends_before hash s ≡ true) (λ (s : Span). ends_before hash s ≡ false) xs at → IsPlace xs hash at
+pub place_from_point : (xs : List Span) (hash at : ℕ) → at ≤ length xs → IsPartitionPoint (λ (s : Span). ends_before hash s ≡ true) (λ (s : Span). ends_before hash s ≡ false) xs at → IsSpanPlace xs hash at
 place_from_point xs hash at within point = record {
   within = within;
   before = λ k d l. let test = point.0 k d (omega arith) l in grind (arith, nat_tests);
   from = λ k d l m. let test = point.1 k d l m in grind (arith, nat_tests);
 }
 
-place_tail : (s : Span) (xs : List Span) (hash at : ℕ) → IsPlace (s ∷ xs) hash (suc at) → IsPlace xs hash at
+place_tail : (s : Span) (xs : List Span) (hash at : ℕ) → IsSpanPlace (s ∷ xs) hash (suc at) → IsSpanPlace xs hash at
 place_tail s xs hash at p = record {
   within = omega (arith, p.within);
   before = λ k d l. p.before (suc k) d (omega arith);
@@ -33,7 +33,7 @@ place_tail s xs hash at p = record {
 }
 
 -- no span has a hash from there to the next span's first one
-pub gap : (f t : ℕ) (xs : List Span) (lo at h : ℕ) (d : Span) → AscendWithin f t xs → IsPlace xs lo at → lo ≤ h → (at < length xs → h < (get_or xs at d).0) → is_owned xs h ≡ false
+pub gap : (f t : ℕ) (xs : List Span) (lo at h : ℕ) (d : Span) → AscendWithin f t xs → IsSpanPlace xs lo at → lo ≤ h → (at < length xs → h < (get_or xs at d).0) → is_owned xs h ≡ false
 gap f t [] lo at h d a p l next = refl
 gap f t (s ∷ xs) lo zero h d a p l next = none_below s.0 t (s ∷ xs) h (from_first f t s xs a) (next (omega arith))
 gap f t (s ∷ xs) lo (suc at) h d a p l next =
@@ -57,16 +57,16 @@ covered xs lo hi at d l first last h e =
     owned_at xs at d h l (in_range _ _ h (omega (arith, bounds.0)) (omega (arith, bounds.1)))
 
 -- the first hash of the range lacks
-pub lacks_first : (xs : List Span) (lo hi at : ℕ) (d : Span) → Ascend xs → lo ≤ hi → IsPlace xs lo at → (at < length xs → lo < (get_or xs at d).0) → Lacks xs lo hi
+pub lacks_first : (xs : List Span) (lo hi at : ℕ) (d : Span) → SpansAscend xs → lo ≤ hi → IsSpanPlace xs lo at → (at < length xs → lo < (get_or xs at d).0) → Lacks xs lo hi
 lacks_first xs lo hi at d a o p next = (lo, in_range lo hi lo (omega arith) o, gap 0 (2 ^ 64) xs lo at lo d a p (omega arith) next)
 
 -- the range goes on behind the span that has its first hash
-pub lacks_later : (xs : List Span) (lo hi at : ℕ) (d : Span) → Ascend xs → IsPlace xs lo at → at < length xs → (get_or xs at d).1 < hi → Lacks xs lo hi
+pub lacks_later : (xs : List Span) (lo hi at : ℕ) (d : Span) → SpansAscend xs → IsSpanPlace xs lo at → at < length xs → (get_or xs at d).1 < hi → Lacks xs lo hi
 lacks_later xs lo hi at d a p l last =
     let reached : lo ≤ (get_or xs at d).1 = p.from at d (omega arith) l in
     ((get_or xs at d).1 + 1, in_range lo hi _ (omega arith) (omega arith), none_next 0 (2 ^ 64) xs at d a l)
 
-pub met : (xs : List Span) (lo hi at : ℕ) (d : Span) → Ascend xs → lo ≤ hi → IsPlace xs lo at → at < length xs → (get_or xs at d).0 ≤ hi → Meets xs lo hi
+pub met : (xs : List Span) (lo hi at : ℕ) (d : Span) → SpansAscend xs → lo ≤ hi → IsSpanPlace xs lo at → at < length xs → (get_or xs at d).0 ≤ hi → Meets xs lo hi
 met xs lo hi at d a o p l first =
     let reached : lo ≤ (get_or xs at d).1 = p.from at d (omega arith) l in
     let order = ends 0 (2 ^ 64) xs at d a l in
@@ -75,7 +75,7 @@ met xs lo hi at d a o p l first =
       | inr above ↦ (lo, in_range lo hi lo (omega arith) o, owned_at xs at d lo l (in_range _ _ lo above reached))
     ]
 
-pub not_met : (xs : List Span) (lo hi at : ℕ) (d : Span) → Ascend xs → IsPlace xs lo at → (at < length xs → hi < (get_or xs at d).0) → Meets xs lo hi → ⊥
+pub not_met : (xs : List Span) (lo hi at : ℕ) (d : Span) → SpansAscend xs → IsSpanPlace xs lo at → (at < length xs → hi < (get_or xs at d).0) → Meets xs lo hi → ⊥
 not_met xs lo hi at d a p next m =
     let bounds = range_bounds lo hi m.0 m.1 in
     cc (m.2, gap 0 (2 ^ 64) xs lo at m.0 d a p bounds.0 (λ l. omega (arith, next l, bounds.1)))
@@ -88,17 +88,17 @@ not_lacking xs lo hi c l = cc (c l.0 l.1, l.2)
 same_ends : (s r : Span) → s ≡ r → (s.0 ≡ r.0) × (s.1 ≡ r.1)
 same_ends s r e = (ap (λ (x : Span). x.0) e, ap (λ (x : Span). x.1) e)
 
-pub tested_last : (xs : List Span) (lo hi at : ℕ) (s : Span) → Ascend xs → IsPlace xs lo at → at < length xs → s ≡ get_or xs at s → s.0 ≤ lo → MatchBool (nat_le hi s.1) (Covers xs lo hi) (Lacks xs lo hi)
+pub tested_last : (xs : List Span) (lo hi at : ℕ) (s : Span) → SpansAscend xs → IsSpanPlace xs lo at → at < length xs → s ≡ get_or xs at s → s.0 ≤ lo → MatchBool (nat_le hi s.1) (Covers xs lo hi) (Lacks xs lo hi)
 tested_last xs lo hi at s a p l is first = go (nat_le hi s.1) refl
   where
     go : (b : Bool) → nat_le hi s.1 ≡ b → MatchBool b (Covers xs lo hi) (Lacks xs lo hi)
     go true e = let reads = same_ends s _ is in let last : hi ≤ s.1 = grind (arith, nat_tests) in covered xs lo hi at s l (omega arith) (omega arith)
     go false e = let reads = same_ends s _ is in let last : s.1 < hi = grind (arith, nat_tests) in lacks_later xs lo hi at s a p l (omega arith)
 
-pub tested_first : (xs : List Span) (lo hi at : ℕ) (s : Span) → Ascend xs → lo ≤ hi → IsPlace xs lo at → s ≡ get_or xs at s → lo < s.0 → MatchBool (nat_le s.0 lo) (Covers xs lo hi) (Lacks xs lo hi)
+pub tested_first : (xs : List Span) (lo hi at : ℕ) (s : Span) → SpansAscend xs → lo ≤ hi → IsSpanPlace xs lo at → s ≡ get_or xs at s → lo < s.0 → MatchBool (nat_le s.0 lo) (Covers xs lo hi) (Lacks xs lo hi)
 tested_first xs lo hi at s a o p is first = let reads = same_ends s _ is in let test : nat_le s.0 lo ≡ false = grind (arith, nat_tests) in rw test (lacks_first xs lo hi at s a o p (λ _. omega arith))
 
-pub tested_met : (xs : List Span) (lo hi at : ℕ) (s : Span) → Ascend xs → lo ≤ hi → IsPlace xs lo at → at < length xs → s ≡ get_or xs at s → IsTrue (nat_le s.0 hi) ↔ Meets xs lo hi
+pub tested_met : (xs : List Span) (lo hi at : ℕ) (s : Span) → SpansAscend xs → lo ≤ hi → IsSpanPlace xs lo at → at < length xs → s ≡ get_or xs at s → IsTrue (nat_le s.0 hi) ↔ Meets xs lo hi
 tested_met xs lo hi at s a o p l is = go (nat_le s.0 hi) refl
   where
     go : (b : Bool) → nat_le s.0 hi ≡ b → IsTrue b ↔ Meets xs lo hi
@@ -106,7 +106,7 @@ tested_met xs lo hi at s a o p l is = go (nat_le s.0 hi) refl
     go false e = let reads = same_ends s _ is in let first : hi < s.0 = grind (arith, nat_tests) in (λ t. absurd cc, λ m. absurd (not_met xs lo hi at s a p (λ _. omega arith) m))
 
 -- a range of which each hash is owned lies in the span at its first hash's place
-pub span_of_covered : (xs : List Span) (lo hi at : ℕ) → Ascend xs → lo ≤ hi → IsPlace xs lo at → Covers xs lo hi → IsSpanOf xs lo hi at
+pub span_of_covered : (xs : List Span) (lo hi at : ℕ) → SpansAscend xs → lo ≤ hi → IsSpanPlace xs lo at → Covers xs lo hi → IsSpanOf xs lo hi at
 span_of_covered xs lo hi at a o p c = record { within = within; first = first; last = last }
   where
     lacks : Lacks xs lo hi → ⊥

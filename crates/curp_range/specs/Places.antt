@@ -3,7 +3,7 @@ use Rattle.std.specs.Prelude.{ℕ, ◌<◌, ◌≤◌, List, length, slice_index
 use Rattle.curp_range.specs.Spans.{Span}
 
 -- so many spans end before the hash, which stand in front
-pub record IsPlace (spans : List Span) (hash at : ℕ) : Type 0 where
+pub record IsSpanPlace (spans : List Span) (hash at : ℕ) : Type 0 where
   pub within : at ≤ length spans
   pub before : (k : ℕ) (d : Span) → k < at → (slice_index_or spans k d).1 < hash
   pub from : (k : ℕ) (d : Span) → at ≤ k → k < length spans → hash ≤ (slice_index_or spans k d).1

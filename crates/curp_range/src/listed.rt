@@ -1,13 +1,13 @@
 ghost use Rattle.std.specs.Prelude.{◌≡◌, length, IfOk};
-ghost use Rattle.curp_range.specs.Spans.{Ascend};
+ghost use Rattle.curp_range.specs.Spans.{SpansAscend};
 
 use crate::Ranges;
 use curp_base::NoMemory;
 use std::alloc::Global;
 use std::marker::Model;
 
-/// The spans of a set of hashes, as plain data: each has a first and a last hash, and the next begins at least two above
-/// the last. Contracts see the list.
+/// The spans of a set of hashes, as plain data: each has a first and a last hash, and the next begins at least two
+/// above the last. Contracts see the list.
 #[derive(Debug, Drop)]
 pub struct Spans {
     spans: Vec<(u64, u64)>,
@@ -15,13 +15,13 @@ pub struct Spans {
 
 impl Model for Spans {
     ghost use Rattle.std.specs.Prelude.{ℕ, List};
-    ghost use Rattle.curp_range.specs.Spans.{Ascend};
+    ghost use Rattle.curp_range.specs.Spans.{SpansAscend};
 
     ghost Value = { List (ℕ × ℕ) };
 
     ghost view = { λ s. s.spans.items };
 
-    ghost invariant = { λ s. Ascend s.spans.items };
+    ghost invariant = { λ s. SpansAscend s.spans.items };
 }
 
 impl Spans {
@@ -36,7 +36,7 @@ impl Spans {
 
     pub fn as_slice(&self) -> &[(u64, u64)]
         ensures value { result.now ≡ self.now }
-        ensures ascend { Ascend self.now }
+        ensures ascend { SpansAscend self.now }
     {
         &self.spans
     }

@@ -1,5 +1,6 @@
-ghost use Rattle.std.specs.Prelude.{◌≡◌, ℕ, ◌+◌, ◌≤◌, ◌&&◌, ◌||◌, not, IsTrue, IsFalse, ◌↔◌, [], ◌∷◌, IfOk, OnOk, OnErr};
-ghost use Rattle.curp_range.specs.Spans.{is_in, is_owned, Ascend, Covers, Lacks, Meets};
+ghost use Rattle.std.specs.Prelude.{◌≡◌, ℕ, ◌+◌, ◌≤◌, ◌&&◌, ◌||◌, not, IsTrue, IsFalse, ◌↔◌};
+ghost use Rattle.std.specs.Prelude.{[], ◌∷◌, IfOk, OnOk, OnErr};
+ghost use Rattle.curp_range.specs.Spans.{is_in, is_owned, without, with_range, SpansAscend, Covers, Lacks, Meets};
 
 use crate::spans;
 use curp_base::NoMemory;
@@ -15,13 +16,13 @@ pub struct Ranges {
 
 impl Model for Ranges {
     ghost use Rattle.std.specs.Prelude.{◌-◌, vec_len, vec_capacity};
-    ghost use Rattle.curp_range.specs.Spans.{RangeSet, Ascend};
+    ghost use Rattle.curp_range.specs.Spans.{RangeSet, SpansAscend};
 
     ghost Value = { RangeSet };
 
     ghost view = { λ r. record { spans = r.spans.items; spare = vec_capacity r.spans - vec_len r.spans } };
 
-    ghost invariant = { λ r. Ascend r.spans.items };
+    ghost invariant = { λ r. SpansAscend r.spans.items };
 }
 
 /// Why a range is not taken out.
@@ -64,10 +65,11 @@ impl Ranges {
         spans::covers(&self.spans, lo, hi)
     }
 
-    /// The spans of the owned hashes: each has a first and a last hash, and the next begins at least two above the last.
+    /// The spans of the owned hashes: each has a first and a last hash, and the next begins at least two above the
+    /// last.
     pub fn spans(&self) -> &[(u64, u64)]
         ensures value { result.now ≡ self.now.spans }
-        ensures ascend { Ascend self.now.spans }
+        ensures ascend { SpansAscend self.now.spans }
     {
         &self.spans
     }
@@ -75,7 +77,7 @@ impl Ranges {
     // The spans, given back. It takes no memory.
     pub(crate) fn into_vec(self) -> Vec<(u64, u64)>
         ensures spans { result.items ≡ self.spans }
-        ensures ascend { Ascend self.spans }
+        ensures ascend { SpansAscend self.spans }
     {
         self.spans
     }
@@ -102,7 +104,9 @@ impl Ranges {
     pub fn take_out(&mut self, lo: u64, hi: u64) -> Result<(), TakeError>
         requires ordered { lo ≤ hi }
         requires room { 1 ≤ self.old.spare }
-        ensures ok { OnOk result ((h : ℕ) → is_owned self.new.spans h ≡ (is_owned self.old.spans h && not (is_in lo hi h))) }
+        ensures ok { OnOk result
+            ((h : ℕ) → is_owned self.new.spans h ≡ (is_owned self.old.spans h && not (is_in lo hi h))) }
+        ensures spans { OnOk result (self.new.spans ≡ without self.old.spans lo hi) }
         ensures not_owned { (result ≡ Err TakeError.NotOwned) ↔ Lacks self.old.spans lo hi }
         ensures err { OnErr result (self.new ≡ self.old) }
         ensures spare { self.old.spare ≤ self.new.spare + 1 }
@@ -118,7 +122,9 @@ impl Ranges {
     pub fn put_in(&mut self, lo: u64, hi: u64) -> Result<(), PutError>
         requires ordered { lo ≤ hi }
         requires room { 1 ≤ self.old.spare }
-        ensures ok { OnOk result ((h : ℕ) → is_owned self.new.spans h ≡ (is_owned self.old.spans h || is_in lo hi h)) }
+        ensures ok { OnOk result
+            ((h : ℕ) → is_owned self.new.spans h ≡ (is_owned self.old.spans h || is_in lo hi h)) }
+        ensures spans { OnOk result (self.new.spans ≡ with_range self.old.spans lo hi) }
         ensures overlap { (result ≡ Err PutError.Overlap) ↔ Meets self.old.spans lo hi }
         ensures err { OnErr result (self.new ≡ self.old) }
         ensures spare { self.old.spare ≤ self.new.spare + 1 }
@@ -135,6 +141,7 @@ impl Ranges {
         requires ordered { lo ≤ hi }
         requires room { 1 ≤ self.old.spare }
         ensures owned { (h : ℕ) → is_owned self.new.spans h ≡ (is_owned self.old.spans h || is_in lo hi h) }
+        ensures spans { self.new.spans ≡ with_range self.old.spans lo hi }
         ensures spare { self.old.spare ≤ self.new.spare + 1 }
     {
         spans::join(&mut self.spans, lo, hi);

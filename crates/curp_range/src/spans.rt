@@ -1,19 +1,20 @@
 //! The spans of `Ranges`: pairs of a first and a last hash, in ascending order, of which no two touch.
-ghost use Rattle.std.specs.Prelude.{◌≡◌, ℕ, ◌+◌, ◌<◌, ◌≤◌, ◌&&◌, ◌||◌, not, IsTrue, ◌↔◌, MatchBool, vec_len, vec_capacity};
-ghost use Rattle.curp_range.specs.Spans.{is_in, is_owned, Ascend, Covers, Lacks, Meets};
-ghost use Rattle.curp_range.specs.Places.{IsPlace, IsSpanOf};
+ghost use Rattle.std.specs.Prelude.{◌≡◌, ℕ, ◌+◌, ◌<◌, ◌≤◌, ◌&&◌, ◌||◌, not, IsTrue, ◌↔◌};
+ghost use Rattle.std.specs.Prelude.{MatchBool, vec_len, vec_capacity};
+ghost use Rattle.curp_range.specs.Spans.{is_in, is_owned, SpansAscend, Covers, Lacks, Meets};
+ghost use Rattle.curp_range.specs.Places.{IsSpanPlace, IsSpanOf};
 
 /// How many spans end before the hash.
 fn ended_before(spans: &[(u64, u64)], hash: u64) -> usize
-    requires { Ascend spans.now }
-    ensures { IsPlace spans.now hash result }
+    requires { SpansAscend spans.now }
+    ensures { IsSpanPlace spans.now hash result }
 {
     spans.partition_point(|span| span.1 < hash)
 }
 
 /// Whether each hash of the range is owned.
 pub(crate) fn covers(spans: &[(u64, u64)], lo: u64, hi: u64) -> bool
-    requires ascend { Ascend spans.now }
+    requires ascend { SpansAscend spans.now }
     requires ordered { lo ≤ hi }
     ensures { MatchBool result (Covers spans.now lo hi) (Lacks spans.now lo hi) }
 {
@@ -25,7 +26,7 @@ pub(crate) fn covers(spans: &[(u64, u64)], lo: u64, hi: u64) -> bool
 
 /// Whether some hash of the range is owned.
 pub(crate) fn meets(spans: &[(u64, u64)], lo: u64, hi: u64) -> bool
-    requires ascend { Ascend spans.now }
+    requires ascend { SpansAscend spans.now }
     requires ordered { lo ≤ hi }
     ensures { IsTrue result ↔ Meets spans.now lo hi }
 {
@@ -37,7 +38,7 @@ pub(crate) fn meets(spans: &[(u64, u64)], lo: u64, hi: u64) -> bool
 
 /// The place of the span that has the whole range.
 fn span_of(spans: &[(u64, u64)], lo: u64, hi: u64) -> usize
-    requires ascend { Ascend spans.now }
+    requires ascend { SpansAscend spans.now }
     requires ordered { lo ≤ hi }
     requires owned { Covers spans.now lo hi }
     ensures { IsSpanOf spans.now lo hi result }
@@ -47,11 +48,11 @@ fn span_of(spans: &[(u64, u64)], lo: u64, hi: u64) -> usize
 
 /// Cuts the range out of the span that has it.
 pub(crate) fn cut(spans: &mut Vec<(u64, u64)>, lo: u64, hi: u64)
-    requires ascend { Ascend spans.old.items }
+    requires ascend { SpansAscend spans.old.items }
     requires ordered { lo ≤ hi }
     requires owned { Covers spans.old.items lo hi }
     requires room { vec_len spans.old < vec_capacity spans.old }
-    ensures ascend { Ascend spans.new.items }
+    ensures ascend { SpansAscend spans.new.items }
     ensures owned { (h : ℕ) → is_owned spans.new.items h ≡ (is_owned spans.old.items h && not (is_in lo hi h)) }
     ensures len { vec_len spans.new ≤ vec_len spans.old + 1 }
     ensures capacity { vec_capacity spans.new ≡ vec_capacity spans.old }
@@ -73,10 +74,10 @@ pub(crate) fn cut(spans: &mut Vec<(u64, u64)>, lo: u64, hi: u64)
 
 /// Adds the range, as one span with those that it meets or touches.
 pub(crate) fn join(spans: &mut Vec<(u64, u64)>, lo: u64, hi: u64)
-    requires ascend { Ascend spans.old.items }
+    requires ascend { SpansAscend spans.old.items }
     requires ordered { lo ≤ hi }
     requires room { vec_len spans.old < vec_capacity spans.old }
-    ensures ascend { Ascend spans.new.items }
+    ensures ascend { SpansAscend spans.new.items }
     ensures owned { (h : ℕ) → is_owned spans.new.items h ≡ (is_owned spans.old.items h || is_in lo hi h) }
     ensures len { vec_len spans.new ≤ vec_len spans.old + 1 }
     ensures capacity { vec_capacity spans.new ≡ vec_capacity spans.old }

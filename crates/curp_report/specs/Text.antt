@@ -68,12 +68,12 @@ numbered_kind Backup n = labelled (codes "B") n
 numbered_kind Witness n = labelled (codes "W") n
 
 -- a node, as `C1`
-abbrev pub node_text : NodeId → List ℕ
-node_text node = numbered_kind node.kind node.number
+abbrev pub node_label : NodeId → List ℕ
+node_label node = numbered_kind node.kind node.number
 
 -- nodes with a plus between
 abbrev pub nodes_text : List NodeId → List ℕ
-nodes_text nodes = join_by node_text (codes "+") nodes
+nodes_text nodes = join_by node_label (codes "+") nodes
 
 -- the number of a request, with a space before
 abbrev pub spaced_id : RequestId → List ℕ
@@ -100,13 +100,13 @@ spans_text spans = join_by span_text (codes "+") spans
 -- ---- bytes, commands and answers
 
 -- a byte, as two lower-case hexadecimal digits
-abbrev pub byte_text : ℕ → List ℕ
-byte_text b = digit_glyph false (b / 16) ∷ digit_glyph false (b % 16) ∷ []
+abbrev pub byte_digits : ℕ → List ℕ
+byte_digits b = digit_glyph false (b / 16) ∷ digit_glyph false (b % 16) ∷ []
 
 -- the digits of each byte, or a point where there is none, so that a word is never empty
 abbrev pub bytes_text : List ℕ → List ℕ
 bytes_text [] = codes "."
-bytes_text (b ∷ bs) = flat_map byte_text (b ∷ bs)
+bytes_text (b ∷ bs) = flat_map byte_digits (b ∷ bs)
 
 -- the value that a conditional put expects; `-` where it expects none
 abbrev pub expected_text : Option (List ℕ) → List ℕ
@@ -190,12 +190,12 @@ refusal_text Expired = codes "expired"
 refusal_text Switching = codes "switching"
 
 -- why a witness doesn't hold a request
-abbrev pub reason_text : Reason → List ℕ
-reason_text (Conflict held) = words (codes "conflict" ∷ id_text held ∷ [])
-reason_text (SetFull set) = words (codes "full" ∷ decimal set ∷ [])
-reason_text Frozen = codes "frozen"
-reason_text (Stranger epoch) = words (codes "stranger" ∷ epoch_text epoch ∷ [])
-reason_text Idle = codes "idle"
+abbrev pub rejection_text : Reason → List ℕ
+rejection_text (Conflict held) = words (codes "conflict" ∷ id_text held ∷ [])
+rejection_text (SetFull set) = words (codes "full" ∷ decimal set ∷ [])
+rejection_text Frozen = codes "frozen"
+rejection_text (Stranger epoch) = words (codes "stranger" ∷ epoch_text epoch ∷ [])
+rejection_text Idle = codes "idle"
 
 -- a request, with the epoch and the version that its client knows
 abbrev pub ask_text : Ask → List ℕ
@@ -206,7 +206,7 @@ ask_text a =
 abbrev pub part_config_text : PartConfig → List ℕ
 part_config_text p =
     decimal p.part ++ codes "="
-    ++ separated (codes ",") (epoch_text p.epoch ∷ version_text p.version ∷ node_text p.master ∷ nodes_text p.backups ∷ nodes_text p.witnesses ∷ spans_text p.ranges ∷ [])
+    ++ separated (codes ",") (epoch_text p.epoch ∷ version_text p.version ∷ node_label p.master ∷ nodes_text p.backups ∷ nodes_text p.witnesses ∷ spans_text p.ranges ∷ [])
 
 -- a partition of a configuration, with a space before
 abbrev pub spaced_part : PartConfig → List ℕ
@@ -256,7 +256,7 @@ body_text (body.Worth b) =
     words (codes "value" ∷ id_text b.id ∷ epoch_text b.epoch ∷ round_text b.capture ∷ answer_text b.answer ∷ [])
 body_text (body.Refuse b) = words (codes "refuse" ∷ id_text b.id ∷ refusal_text b.refusal ∷ [])
 body_text (body.Accepted b) = words (codes "accepted" ∷ id_text b.id ∷ epoch_text b.epoch ∷ [])
-body_text (body.Rejected b) = words (codes "rejected" ∷ id_text b.id ∷ reason_text b.reason ∷ [])
+body_text (body.Rejected b) = words (codes "rejected" ∷ id_text b.id ∷ rejection_text b.reason ∷ [])
 body_text (body.Append b) =
     words (codes "append" ∷ epoch_text b.epoch ∷ labelled (codes "b") b.base ∷ count_text (length b.entries) ∷ round_text b.round ∷ [])
 body_text (body.Appended b) = appended_text b.epoch b.round b.answer
@@ -265,7 +265,7 @@ body_text (body.Collected b) = collected_text b.epoch b.answer
 body_text (body.Install epoch) = words (codes "install" ∷ epoch_text epoch ∷ [])
 body_text (body.Start b) = words (codes "start" ∷ part_text b.part ∷ epoch_text b.epoch ∷ [])
 body_text (body.Recover b) =
-    words (codes "recover" ∷ part_text b.part ∷ epoch_text b.epoch ∷ version_text b.version ∷ node_text b.backup ∷ node_text b.witness ∷ nodes_text b.backups ∷ nodes_text b.witnesses ∷ [])
+    words (codes "recover" ∷ part_text b.part ∷ epoch_text b.epoch ∷ version_text b.version ∷ node_label b.backup ∷ node_label b.witness ∷ nodes_text b.backups ∷ nodes_text b.witnesses ∷ [])
 body_text (body.Fence epoch) = words (codes "fence" ∷ epoch_text epoch ∷ [])
 body_text (body.FenceAnswer b) = fenced_text b.epoch b.answer
 body_text (body.Freeze epoch) = words (codes "freeze" ∷ epoch_text epoch ∷ [])
@@ -282,7 +282,7 @@ body_text (body.ExpireClient client) = words (codes "expire" ∷ labelled (codes
 
 -- a message: its number in the run, who sent it, whom it goes to, and what it says
 abbrev pub message_line : ℕ → Message → List ℕ
-message_line number m = line (labelled (codes "m") number ∷ node_text m.from ∷ node_text m.to ∷ body_text m.body ∷ [])
+message_line number m = line (labelled (codes "m") number ∷ node_label m.from ∷ node_label m.to ∷ body_text m.body ∷ [])
 
 -- messages, where the first one has that number
 abbrev pub message_lines : ℕ → List Message → List ℕ

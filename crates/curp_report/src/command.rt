@@ -1,6 +1,6 @@
 ghost use Rattle.std.specs.Prelude.{Some, flat_map};
 ghost use Rattle.std.specs.Fmt.{WritesOnOk};
-ghost use Rattle.curp_report.specs.Text.{answer_text, byte_text, bytes_text, command_text, expected_text, pair_text};
+ghost use Rattle.curp_report.specs.Text.{answer_text, byte_digits, bytes_text, command_text, expected_text, pair_text};
 
 use crate::Shown;
 use curp_cmd::{Answer, Command, Pairs, Value};
@@ -22,7 +22,7 @@ impl fmt::Display for Shown<&[u8]> {
 
 /// Two lower-case hexadecimal digits.
 fn write_byte<W: fmt::Write>(f: &mut fmt::Formatter<W>, byte: u8) -> fmt::Result
-    ensures { WritesOnOk W.write_str_gives f.old result (byte_text byte) f.new }
+    ensures { WritesOnOk W.write_str_gives f.old result (byte_digits byte) f.new }
 {
     write!(f, "{byte:02x}")
 }

@@ -1,5 +1,5 @@
-//! The text of a run: a line for each step, with the messages that it sent and what it completed behind it, and at the end
-//! the order. Every line ends with a line feed.
+//! The text of a run: a line for each step, with the messages that it sent and what it completed behind it, and at the
+//! end the order. Every line ends with a line feed.
 //!
 //! ```text
 //! s1 done
@@ -25,7 +25,7 @@ mod tests;
 mod witness;
 
 pub use order::order_text;
-pub use step::step_text;
+pub use step::{push_step_text, step_text};
 
 /// A value of another crate, as the text of a run shows it.
 #[derive(Drop)]

@@ -1,5 +1,5 @@
 ghost use Rattle.std.specs.Prelude.{Some, flat_map};
-ghost use Rattle.curp_report.specs.Text.{id_text, node_text, nodes_text, spaced_id, spaced_request};
+ghost use Rattle.curp_report.specs.Text.{id_text, node_label, nodes_text, spaced_id, spaced_request};
 
 use crate::Shown;
 use curp_cmd::{NodeId, NodeKind, Request, RequestId};
@@ -36,7 +36,7 @@ impl fmt::Display for Shown<&[Request]> {
 }
 
 impl fmt::Display for Shown<NodeId> {
-    ghost output = { λ shown. Some (node_text shown.0) };
+    ghost output = { λ shown. Some (node_label shown.0) };
 
     fn fmt<W: fmt::Write>(&self, f: &mut fmt::Formatter<W>) -> fmt::Result {
         let number = self.0.number;

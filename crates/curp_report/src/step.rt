@@ -1,4 +1,5 @@
-ghost use Rattle.std.specs.Prelude.{◌≡◌, ◌+◌, ◌<◌, ◌^◌, ◌++◌, Some, length, string_bytes, IfOk, OnOk};
+ghost use Rattle.std.specs.Prelude.{◌≡◌, ◌+◌, ◌<◌, ◌^◌, ◌++◌, Some, length, string_bytes};
+ghost use Rattle.std.specs.Prelude.{IfOk, OnOk};
 ghost use Rattle.curp_report.specs.Text.{message_lines, result_text, step_text};
 
 use crate::Shown;
@@ -23,8 +24,32 @@ impl fmt::Display for Shown<StepResult> {
     }
 }
 
-/// The lines of a step: how it went, each message that it sent, and the request that it completed. Steps are numbered from 1.
+/// Adds the lines of a step: how it went, each message that it sent, and the request that it completed. Steps are
+/// numbered from 1. After want of memory a part of the lines may stand there.
 #[tactic(auto, unfolding(crate::specs::Text::step_text))]
+pub fn push_step_text(
+    text: &mut String,
+    number: u64,
+    outcome: &Outcome,
+    sent: &[Message],
+) -> Result<(), NoMemory>
+    requires { outcome.now.first + length sent.now < 2 ^ 64 }
+    ensures { OnOk result (string_bytes text.new ≡ string_bytes text.old ++ step_text number outcome.now sent.now) }
+{
+    writeln!(text, "s{number} {}", Shown(outcome.result))?;
+    push_messages(text, outcome.first, sent)?;
+    if let Some(completed) = outcome.completed {
+        writeln!(
+            text,
+            "c {} {}",
+            Shown(completed.id),
+            Shown(completed.answer)
+        )?;
+    }
+    Ok(())
+}
+
+/// The lines of a step.
 pub fn step_text(
     alloc: Global,
     number: u64,
@@ -35,16 +60,7 @@ pub fn step_text(
     ensures { IfOk result (λ text. text.items ≡ step_text number outcome.now sent.now) }
 {
     let mut text = String::new(alloc);
-    writeln!(text, "s{number} {}", Shown(outcome.result))?;
-    push_messages(&mut text, outcome.first, sent)?;
-    if let Some(completed) = outcome.completed {
-        writeln!(
-            text,
-            "c {} {}",
-            Shown(completed.id),
-            Shown(completed.answer)
-        )?;
-    }
+    push_step_text(&mut text, number, outcome, sent)?;
     Ok(text.into_bytes())
 }
 

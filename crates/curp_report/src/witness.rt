@@ -1,6 +1,6 @@
 ghost use Rattle.std.specs.Prelude.{Some};
 ghost use Rattle.curp_msg.specs.declared.body.Body.TheVariants as body;
-ghost use Rattle.curp_report.specs.Text.{body_text, reason_text};
+ghost use Rattle.curp_report.specs.Text.{body_text, rejection_text};
 
 use crate::Shown;
 use curp_msg::{Accepted, Collected, GcAnswer, Reason, Rejected};
@@ -23,7 +23,7 @@ impl fmt::Display for Shown<&Rejected> {
 }
 
 impl fmt::Display for Shown<Reason> {
-    ghost output = { λ shown. Some (reason_text shown.0) };
+    ghost output = { λ shown. Some (rejection_text shown.0) };
 
     fn fmt<W: fmt::Write>(&self, f: &mut fmt::Formatter<W>) -> fmt::Result {
         match self.0 {

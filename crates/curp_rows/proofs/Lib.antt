@@ -2,11 +2,4 @@ pub mod ListedStore
 pub mod ListedLog
 pub mod ListedMaster
 pub mod ListedWorld
-pub mod UpdateRuns
-pub mod ConflictRuns
-pub mod ReadRuns
-pub mod RecoveryRuns
-pub mod ReplacementRuns
-pub mod MigrationRuns
-pub mod RefusalRuns
-pub mod FirstStepRuns
+pub mod Computed

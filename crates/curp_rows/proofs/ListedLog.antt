@@ -1,6 +1,8 @@
 -- What a log means computes with the pairs of its store as a list.
 use Rattle.std.proofs.Common.{◌≡◌, ◌≤◌, ℕ, ◌+◌, ◌&&◌, Bool, true, List, [], ◌∷◌, fold, filter, Option, Some, None, refl, ap, ◌∙◌}
 use Rattle.std.specs.FinMap as map
+use Rattle.curp_range.specs.Spans.{Span, is_covered, without, with_range}
+use Rattle.curp_cmd.specs.Hash.{hashes}
 use Rattle.curp_cmd.specs.Pairs.{Pair}
 use Rattle.curp_cmd.specs.Store.{Contents, applied}
 use Rattle.curp_cmd.specs.declared.command.Answer.{Answer}
@@ -11,10 +13,8 @@ use Rattle.curp_cmd.specs.declared.entry.Entry.{Entry}
 use Rattle.curp_cmd.specs.declared.entry.Entry.TheVariants.{Op, Take, Give, Expire}
 use Rattle.curp_cmd.specs.declared.migration.Package.{Package}
 use Rattle.curp_order.specs.Order.{answers_from, answers}
-use Rattle.curp_range.specs.Spans.{Span, is_covered}
-use Rattle.curp_model.specs.Log.{LogState, Taken, Given, log_opening, is_pair_in, after_entry, after_entries, meaning, answer_after, package_eq, is_new, fits_at, all_fit, is_log}
-use Rattle.curp_model.specs.Ranges.{without, with_range, owns_all}
-use Rattle.curp_model.specs.Requests.{hashes}
+use Rattle.curp_model.specs.Log.{LogState, log_opening, is_pair_in, after_entry, after_entries, meaning, answer_after, package_eq, is_new, fits_at, all_fit, is_log, LastTake, LastGive}
+use Rattle.curp_model.specs.Ranges.{owns_all}
 use Rattle.curp_model.specs.Table as table
 use Rattle.curp_model.specs.Table.{Table, no_records}
 use Rattle.curp_rows.proofs.ListedStore.{Listed, listed, taken_from, all_put_in, entries_nothing, entries_remove, entries_put_all, same_applied}
@@ -26,8 +26,8 @@ pub record ListedState : Type 0 where
   pub pairs : List Pair
   pub table : Table
   pub owned : List Span
-  pub taken : Option Taken
-  pub given : Option Given
+  pub taken : Option LastTake
+  pub given : Option LastGive
 
 abbrev pub listed_opening : ℕ → ℕ → ListedState
 listed_opening lo hi = record { pairs = []; table = no_records; owned = (lo, hi) ∷ []; taken = None; given = None }

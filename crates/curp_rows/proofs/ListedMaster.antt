@@ -1,39 +1,40 @@
 -- A master computes with the pairs of its store as a list.
 use Rattle.std.proofs.Common.{◌≡◌, ℕ, ◌+◌, ◌==◌, ◌&&◌, nat_lt, Bool, true, false, not, if◌then◌else◌, List, [], ◌∷◌, ◌++◌, map, length, take, filter, flat_map, slice_get, Option, Some, None, refl, ap, ◌∙◌}
 use Rattle.std.specs.FinMap as store
+use Rattle.std.specs.Prelude.{option_map}
+use Rattle.curp_base.specs.Cases.{first_case, first_there, only_if}
+use Rattle.curp_range.specs.Spans.{is_covered}
+use Rattle.curp_cmd.specs.Hash.{hashes}
+use Rattle.curp_cmd.specs.Node.{is_among, same_node, manager_node, master_node}
 use Rattle.curp_cmd.specs.declared.command.Answer.{Answer}
 use Rattle.curp_cmd.specs.declared.command.Answer.TheVariants.{Found}
 use Rattle.curp_cmd.specs.declared.command.Command.{Command}
 use Rattle.curp_cmd.specs.declared.command.Command.TheVariants.{Get}
 use Rattle.curp_cmd.specs.declared.command.Request.{Request}
-use Rattle.curp_cmd.specs.declared.command.RequestId.{RequestId}
 use Rattle.curp_cmd.specs.declared.entry.Entry.{Entry}
 use Rattle.curp_cmd.specs.declared.entry.Entry.TheVariants.{Op, Take}
 use Rattle.curp_cmd.specs.declared.migration.Package.{Package}
 use Rattle.curp_cmd.specs.declared.node.NodeId.{NodeId}
+use Rattle.curp_msg.specs.Moved.{Moved, quiet, sends, says, within}
 use Rattle.curp_msg.specs.declared.answer.AppendAnswer.{AppendAnswer}
 use Rattle.curp_msg.specs.declared.answer.AppendAnswer.TheVariants.{Stored}
 use Rattle.curp_msg.specs.declared.answer.FenceReply.{FenceReply}
 use Rattle.curp_msg.specs.declared.answer.FenceReply.TheVariants.{Log}
+use Rattle.curp_msg.specs.declared.answer.Refusal.{Refusal}
 use Rattle.curp_msg.specs.declared.answer.Refusal.TheVariants as refusal
 use Rattle.curp_msg.specs.declared.body.Ask.{Ask}
 use Rattle.curp_msg.specs.declared.body.Body.{Body}
 use Rattle.curp_msg.specs.declared.body.Body.TheVariants as body
 use Rattle.curp_msg.specs.declared.body.TakeOut.{TakeOut}
 use Rattle.curp_msg.specs.declared.message.Message.{Message}
-use Rattle.curp_range.specs.Spans.{is_covered}
-use Rattle.curp_model.specs.declared.Check.{Check}
-use Rattle.curp_model.specs.declared.Check.TheVariants.{Expired, Stale, Known, New}
-use Rattle.curp_model.specs.Log.{Taken}
-use Rattle.curp_model.specs.Master.{MasterState, Captured, Phase, Serving, Switching, Wish, AtOnce, WhenSynced, state_of, is_serving, synced, is_clean, is_among, stored_on, begins_round, reply, answers_with, pushed, marked_free, pushed_new, checked, on_update, new_read, checked_read, read_command, on_read, synced_reply, is_ready, value_of, moved_entry, between, settle, raised, prepares, goes_on, on_appended, adopted_in, told_again, push_take, take_after, on_take, if_it_counts, reacts, on_serving, same_node}
-use Rattle.curp_model.specs.Moved.{Moved, quiet, sends, says, within, manager_node, master_node}
+use Rattle.curp_model.specs.Log.{LastTake}
+use Rattle.curp_model.specs.Master.{MasterState, Captured, Phase, Open, Switching, Wish, AtOnce, WhenSynced, Verdict, Deny, Execute, is_open, state_of, synced, is_clean, stored_on, begins_round, reply, answers_with, by_epoch, by_phase, by_version, by_check, verdict, pushed, marked_free, executes, carries_out, on_update, by_read_check, read_refusal, read_of, read_command, on_read, synced_reply, is_ready, value_of, moved_entry, between, settle, raised, prepares, goes_on, on_appended, adopted_in, told_again, push_take, take_after, on_take, unless_it_ends, by_message, on_serving}
 use Rattle.curp_model.specs.Ranges.{owns_all}
-use Rattle.curp_model.specs.Requests.{hashes}
 use Rattle.curp_model.specs.Recovery as recovery
-use Rattle.curp_model.specs.Recovery.{RecoveryState, RecoveryPhase, Asking, Storing, Waiting, MasterNode, both_there, log_comes, fence_answered, on_recovering, on_master}
+use Rattle.curp_model.specs.Recovery.{RecoveryState, RecoveryPhase, Asking, Storing, Waiting, both_there, log_comes, fence_answered, on_recovering, on_master, MasterStage}
 use Rattle.curp_model.specs.Table.{check}
-use Rattle.curp_rows.proofs.ListedStore.{value_in}
 use Rattle.curp_rows.proofs.ListedLog.{ListedState, seen_state, listed_meaning, listed_answer, listed_package, is_listed_log, same_meaning, same_answer, same_log}
+use Rattle.curp_rows.proofs.ListedStore.{value_in}
 
 abbrev pub listed_state : MasterState → ListedState
 listed_state m = listed_meaning m.lo m.hi m.log
@@ -43,87 +44,86 @@ same_state m = same_meaning m.lo m.hi m.log
 
 -- ---- updates
 
+-- what becomes of an update, by what the log means
+abbrev pub verdict_by : ListedState → MasterState → Wish → Ask → Verdict
+verdict_by s m wish ask = first_case (
+    option_map Deny (by_epoch m ask)
+    ∷ option_map Deny (by_phase m)
+    ∷ by_check m wish (check s.table ask.request.id)
+    ∷ option_map Deny (by_version m ask)
+    ∷ option_map Deny (only_if (not (owns_all s.owned (hashes ask.request.command))) refusal.NotOwner)
+    ∷ []) Execute
+
 abbrev pub free_reply : ℕ → MasterState → Request → Answer → Moved MasterState
 free_reply n m r a =
     let after = marked_free (pushed m r r.first) (length m.log) true in
     sends after (reply n after false r.id a ∷ [])
 
-abbrev pub listed_push : ℕ → MasterState → Wish → Request → Bool → Moved MasterState
-listed_push n m AtOnce r true = free_reply n m r (listed_answer m.lo m.hi (take (length m.log) m.log) r.command)
-listed_push n m AtOnce r false = pushed_new n m AtOnce r false
-listed_push n m WhenSynced r clean = pushed_new n m WhenSynced r clean
+abbrev pub listed_executes : ℕ → MasterState → Wish → Request → Bool → Moved MasterState
+listed_executes n m AtOnce r true = free_reply n m r (listed_answer m.lo m.hi (take (length m.log) m.log) r.command)
+listed_executes n m wish r clean = executes n m wish r clean
 
-same_push : (n : ℕ) (m : MasterState) (wish : Wish) (r : Request) (clean : Bool) → pushed_new n m wish r clean ≡ listed_push n m wish r clean
-same_push n m AtOnce r true = ap (free_reply n m r) (same_answer m.lo m.hi (take (length m.log) m.log) r.command)
-same_push n m AtOnce r false = refl
-same_push n m WhenSynced r clean = refl
+same_executes : (n : ℕ) (m : MasterState) (wish : Wish) (r : Request) (clean : Bool) → executes n m wish r clean ≡ listed_executes n m wish r clean
+same_executes n m AtOnce r true = ap (free_reply n m r) (same_answer m.lo m.hi (take (length m.log) m.log) r.command)
+same_executes n m wish r clean = refl
 
--- what is refused for its version or its hashes
-abbrev pub if_owned : ℕ → MasterState → Ask → Moved MasterState → Moved MasterState
-if_owned n m ask moved =
-    if not (ask.version == m.version) then answers_with n m ask.request.id (refusal.Version m.version)
-    else if not (owns_all (state_of m).owned (hashes ask.request.command)) then answers_with n m ask.request.id refusal.NotOwner
-    else moved
+abbrev pub listed_carries_out : ℕ → MasterState → Wish → Request → Verdict → Moved MasterState
+listed_carries_out n m wish r Execute = listed_executes n m wish r (is_clean m r.command)
+listed_carries_out n m wish r v = carries_out n m wish r v
 
-abbrev pub listed_request : ℕ → MasterState → Wish → Ask → Moved MasterState
-listed_request n m wish ask = if_owned n m ask (listed_push n m wish ask.request (is_clean m ask.request.command))
-
-abbrev pub listed_checked : ℕ → MasterState → Wish → Ask → Check → Moved MasterState
-listed_checked n m wish ask New = listed_request n m wish ask
-listed_checked n m wish ask c = checked n m wish ask c
-
-same_checked : (n : ℕ) (m : MasterState) (wish : Wish) (ask : Ask) (c : Check) → checked n m wish ask c ≡ listed_checked n m wish ask c
-same_checked n m wish ask New = ap (if_owned n m ask) (same_push n m wish ask.request (is_clean m ask.request.command))
-same_checked n m wish ask c = refl
-
--- what is refused for its epoch, or while the master switches
-abbrev pub if_served : ℕ → MasterState → Ask → Moved MasterState → Moved MasterState
-if_served n m ask moved =
-    if not (ask.epoch == m.epoch) then answers_with n m ask.request.id (refusal.Epoch m.epoch)
-    else if not (is_serving m.phase) then answers_with n m ask.request.id refusal.Switching
-    else moved
+same_carries_out : (n : ℕ) (m : MasterState) (wish : Wish) (r : Request) (v : Verdict) → carries_out n m wish r v ≡ listed_carries_out n m wish r v
+same_carries_out n m wish r Execute = same_executes n m wish r (is_clean m r.command)
+same_carries_out n m wish r v = refl
 
 abbrev pub listed_update : ℕ → MasterState → Wish → Ask → Moved MasterState
-listed_update n m wish ask = if_served n m ask (listed_checked n m wish ask (check (listed_state m).table ask.request.id))
+listed_update n m wish ask = listed_carries_out n m wish ask.request (verdict_by (listed_state m) m wish ask)
 
 same_update : (n : ℕ) (m : MasterState) (wish : Wish) (ask : Ask) → on_update n m wish ask ≡ listed_update n m wish ask
 unfolding on_update
 same_update n m wish ask =
-    ap (if_served n m ask) (same_checked n m wish ask (check (state_of m).table ask.request.id))
-    ∙ ap (λ (s : ListedState). if_served n m ask (listed_checked n m wish ask (check s.table ask.request.id))) (same_state m)
+    same_carries_out n m wish ask.request (verdict m wish ask)
+    ∙ ap (λ (s : ListedState). listed_carries_out n m wish ask.request (verdict_by s m wish ask)) (same_state m)
 
 -- ---- reads
 
-abbrev pub captures_value : ℕ → MasterState → RequestId → Option (List ℕ) → Moved MasterState
-captures_value n m id value =
-    let capture : Captured = record { number = m.captured + 1; id = id; answer = Found value; length = length m.log; round = m.round + 1 } in
+-- why a read isn't captured, by what the log means
+abbrev pub read_refusal_by : ListedState → MasterState → Ask → Option Refusal
+read_refusal_by s m ask = first_there (
+    by_epoch m ask
+    ∷ by_phase m
+    ∷ by_read_check (check s.table ask.request.id)
+    ∷ by_version m ask
+    ∷ only_if (not (owns_all s.owned (hashes ask.request.command))) refusal.NotOwner
+    ∷ [])
+
+abbrev pub captures_value : ℕ → MasterState → Request → Option (List ℕ) → Moved MasterState
+captures_value n m r value =
+    let capture : Captured = record {
+      number = m.captured + 1;
+      id = r.id;
+      command = r.command;
+      answer = Found value;
+      length = length m.log;
+      round = m.round + 1;
+    } in
     begins_round n (record m { captures = m.captures ++ capture ∷ []; captured = m.captured + 1 })
 
-abbrev pub listed_new_read : ℕ → MasterState → Ask → List ℕ → Moved MasterState
-listed_new_read n m ask key = if_owned n m ask (captures_value n m ask.request.id (value_in (listed_state m).pairs key))
+abbrev pub listed_read_of : ListedState → ℕ → MasterState → Request → List ℕ → Option Refusal → Moved MasterState
+listed_read_of s n m r key (Some why) = answers_with n m r.id why
+listed_read_of s n m r key None = captures_value n m r (value_in s.pairs key)
 
-same_new_read : (n : ℕ) (m : MasterState) (ask : Ask) (key : List ℕ) → new_read n m ask key ≡ listed_new_read n m ask key
-same_new_read n m ask key =
-    ap (λ value. if_owned n m ask (captures_value n m ask.request.id value)) (store.get-entries (state_of m).store key)
-    ∙ ap (λ (s : ListedState). if_owned n m ask (captures_value n m ask.request.id (value_in s.pairs key))) (same_state m)
-
-abbrev pub listed_checked_read : ℕ → MasterState → Ask → List ℕ → Check → Moved MasterState
-listed_checked_read n m ask key Expired = checked_read n m ask key Expired
-listed_checked_read n m ask key (Stale first) = checked_read n m ask key (Stale first)
-listed_checked_read n m ask key _ = listed_new_read n m ask key
-
-same_checked_read : (n : ℕ) (m : MasterState) (ask : Ask) (key : List ℕ) (c : Check) → checked_read n m ask key c ≡ listed_checked_read n m ask key c
-same_checked_read n m ask key Expired = refl
-same_checked_read n m ask key (Stale first) = refl
-same_checked_read n m ask key (Known a index) = same_new_read n m ask key
-same_checked_read n m ask key New = same_new_read n m ask key
+same_read_of : (n : ℕ) (m : MasterState) (r : Request) (key : List ℕ) (why : Option Refusal) → read_of n m r key why ≡ listed_read_of (seen_state (state_of m)) n m r key why
+same_read_of n m r key (Some why) = refl
+same_read_of n m r key None = ap (captures_value n m r) (store.get-entries (state_of m).store key)
 
 abbrev pub listed_read : ℕ → MasterState → Ask → Command → Moved MasterState
-listed_read n m ask (Get key) = if_served n m ask (listed_checked_read n m ask key (check (state_of m).table ask.request.id))
+listed_read n m ask (Get key) = listed_read_of (listed_state m) n m ask.request key (read_refusal_by (listed_state m) m ask)
 listed_read n m ask command = quiet m
 
 same_read_command : (n : ℕ) (m : MasterState) (ask : Ask) (command : Command) → read_command n m ask command ≡ listed_read n m ask command
-same_read_command n m ask (Get key) = ap (if_served n m ask) (same_checked_read n m ask key (check (state_of m).table ask.request.id))
+same_read_command n m ask (Get key) =
+    same_read_of n m ask.request key (read_refusal m ask)
+    ∙ ap (λ (s : ListedState). listed_read_of s n m ask.request key (read_refusal_by s m ask)) (same_state m)
 same_read_command n m ask command = refl
 
 same_read : (n : ℕ) (m : MasterState) (ask : Ask) → on_read n m ask ≡ listed_read n m ask ask.request.command
@@ -160,11 +160,11 @@ unfolding settle
 same_settle n m = λ i. settled_with n m (flat_map (λ index. same_reply n m index (slice_get m.log index) i) (due_below m))
 
 abbrev pub listed_goes_on : ℕ → MasterState → Phase → Moved MasterState
-listed_goes_on n m Serving = listed_settle n m
+listed_goes_on n m Open = listed_settle n m
 listed_goes_on n m (Switching s) = prepares n m s
 
 same_goes_on : (n : ℕ) (m : MasterState) (p : Phase) → goes_on n m p ≡ listed_goes_on n m p
-same_goes_on n m Serving = same_settle n m
+same_goes_on n m Open = same_settle n m
 same_goes_on n m (Switching s) = refl
 
 abbrev pub listed_appended : ℕ → MasterState → NodeId → ℕ → AppendAnswer → Moved MasterState
@@ -181,16 +181,16 @@ same_appended n m from round (Stored long) =
 same_appended n m from round a = refl
 
 abbrev pub listed_adopted : ℕ → MasterState → ℕ → Phase → Moved MasterState
-listed_adopted n m version Serving = quiet m
+listed_adopted n m version Open = quiet m
 listed_adopted n m version (Switching s) =
     if s.version == version
-    then listed_settle n (record m { version = s.version; backups = s.backups; witnesses = s.witnesses; phase = Serving })
+    then listed_settle n (record m { version = s.version; backups = s.backups; witnesses = s.witnesses; phase = Open })
     else quiet m
 
 same_adopted : (n : ℕ) (m : MasterState) (version : ℕ) (p : Phase) → adopted_in n m version p ≡ listed_adopted n m version p
-same_adopted n m version Serving = refl
+same_adopted n m version Open = refl
 same_adopted n m version (Switching s) =
-    ap (λ moved. if s.version == version then moved else quiet m) (same_settle n (record m { version = s.version; backups = s.backups; witnesses = s.witnesses; phase = Serving }))
+    ap (λ moved. if s.version == version then moved else quiet m) (same_settle n (record m { version = s.version; backups = s.backups; witnesses = s.witnesses; phase = Open }))
 
 -- ---- migrations
 
@@ -206,53 +206,53 @@ listed_push_take n m t = take_with n m t (listed_package (listed_state m) t.lo t
 same_push_take : (n : ℕ) (m : MasterState) (t : TakeOut) → push_take n m t ≡ listed_push_take n m t
 same_push_take n m t = ap (λ s. take_with n m t (listed_package s t.lo t.hi t.ordered)) (same_state m)
 
-abbrev pub take_after_last : ℕ → MasterState → TakeOut → Taken → Moved MasterState → Moved MasterState
+abbrev pub take_after_last : ℕ → MasterState → TakeOut → LastTake → Moved MasterState → Moved MasterState
 take_after_last n m t last moved =
     if t.migration == last.migration
     then told_again n m last.index (says (master_node n) manager_node (body.Taken (record { migration = last.migration; «package» = last.taken })))
     else if nat_lt last.migration t.migration then moved
     else quiet m
 
-abbrev pub listed_take_after : ℕ → MasterState → TakeOut → Option Taken → Moved MasterState
+abbrev pub listed_take_after : ℕ → MasterState → TakeOut → Option LastTake → Moved MasterState
 listed_take_after n m t None = listed_push_take n m t
 listed_take_after n m t (Some last) = take_after_last n m t last (listed_push_take n m t)
 
-same_take_after : (n : ℕ) (m : MasterState) (t : TakeOut) (last : Option Taken) → take_after n m t last ≡ listed_take_after n m t last
+same_take_after : (n : ℕ) (m : MasterState) (t : TakeOut) (last : Option LastTake) → take_after n m t last ≡ listed_take_after n m t last
 same_take_after n m t None = same_push_take n m t
 same_take_after n m t (Some last) = ap (take_after_last n m t last) (same_push_take n m t)
 
 abbrev pub listed_take_out : ℕ → MasterState → TakeOut → Moved MasterState
-listed_take_out n m t = if is_serving m.phase then listed_take_after n m t (state_of m).taken else quiet m
+listed_take_out n m t = if is_open m.phase then listed_take_after n m t (state_of m).taken else quiet m
 
 same_take_out : (n : ℕ) (m : MasterState) (t : TakeOut) → on_take n m t ≡ listed_take_out n m t
-same_take_out n m t = ap (λ moved. if is_serving m.phase then moved else quiet m) (same_take_after n m t (state_of m).taken)
+same_take_out n m t = ap (λ moved. if is_open m.phase then moved else quiet m) (same_take_after n m t (state_of m).taken)
 
 -- ---- a serving master
 
-abbrev pub listed_reacts : ℕ → MasterState → NodeId → Body → Moved MasterState
-listed_reacts n m from (body.Update ask) = listed_update n m AtOnce ask
-listed_reacts n m from (body.Sync ask) = listed_update n m WhenSynced ask
-listed_reacts n m from (body.Read ask) = listed_read n m ask ask.request.command
-listed_reacts n m from (body.Appended a) = listed_appended n m from a.round a.answer
-listed_reacts n m from (body.Adopted a) = listed_adopted n m a.version m.phase
-listed_reacts n m from (body.TakeOut t) = listed_take_out n m t
-listed_reacts n m from b = reacts n m from b
+abbrev pub listed_by_message : ℕ → MasterState → NodeId → Body → Moved MasterState
+listed_by_message n m from (body.Update ask) = listed_update n m AtOnce ask
+listed_by_message n m from (body.Sync ask) = listed_update n m WhenSynced ask
+listed_by_message n m from (body.Read ask) = listed_read n m ask ask.request.command
+listed_by_message n m from (body.Appended a) = listed_appended n m from a.round a.answer
+listed_by_message n m from (body.Adopted a) = listed_adopted n m a.version m.phase
+listed_by_message n m from (body.TakeOut t) = listed_take_out n m t
+listed_by_message n m from b = by_message n m from b
 
-same_reacts : (n : ℕ) (m : MasterState) (from : NodeId) (b : Body) → reacts n m from b ≡ listed_reacts n m from b
-same_reacts n m from (body.Update ask) = same_update n m AtOnce ask
-same_reacts n m from (body.Sync ask) = same_update n m WhenSynced ask
-same_reacts n m from (body.Read ask) = same_read n m ask
-same_reacts n m from (body.Appended a) = same_appended n m from a.round a.answer
-same_reacts n m from (body.Adopted a) = same_adopted n m a.version m.phase
-same_reacts n m from (body.TakeOut t) = same_take_out n m t
-same_reacts n m from b = refl
+same_by_message : (n : ℕ) (m : MasterState) (from : NodeId) (b : Body) → by_message n m from b ≡ listed_by_message n m from b
+same_by_message n m from (body.Update ask) = same_update n m AtOnce ask
+same_by_message n m from (body.Sync ask) = same_update n m WhenSynced ask
+same_by_message n m from (body.Read ask) = same_read n m ask
+same_by_message n m from (body.Appended a) = same_appended n m from a.round a.answer
+same_by_message n m from (body.Adopted a) = same_adopted n m a.version m.phase
+same_by_message n m from (body.TakeOut t) = same_take_out n m t
+same_by_message n m from b = refl
 
 abbrev pub listed_serving : ℕ → MasterState → NodeId → Body → Moved MasterState
-listed_serving n m from b = if_it_counts m (listed_reacts n m from b)
+listed_serving n m from b = unless_it_ends m (listed_by_message n m from b)
 
 same_serving : (n : ℕ) (m : MasterState) (from : NodeId) (b : Body) → on_serving n m from b ≡ listed_serving n m from b
 unfolding on_serving
-same_serving n m from b = ap (if_it_counts m) (same_reacts n m from b)
+same_serving n m from b = ap (unless_it_ends m) (same_by_message n m from b)
 
 -- ---- a recovering master
 
@@ -275,7 +275,7 @@ same_fence : (n : ℕ) (s : RecoveryState) (from : NodeId) (a : FenceReply) → 
 same_fence n s from (Log entries) = same_log_comes n s from entries s.phase
 same_fence n s from a = refl
 
-abbrev pub listed_recovering : ℕ → RecoveryState → NodeId → Body → Moved MasterNode
+abbrev pub listed_recovering : ℕ → RecoveryState → NodeId → Body → Moved MasterStage
 listed_recovering n s from (body.FenceAnswer a) = within recovery.Recovering (listed_fence n s from a.answer)
 listed_recovering n s from b = on_recovering n s from b
 
@@ -285,12 +285,12 @@ same_recovering n s from b = refl
 
 -- ---- a master
 
-abbrev pub listed_master : ℕ → MasterNode → NodeId → Body → Moved MasterNode
+abbrev pub listed_master : ℕ → MasterStage → NodeId → Body → Moved MasterStage
 listed_master n (recovery.Recovering s) from b = listed_recovering n s from b
 listed_master n (recovery.Serving m) from b = within recovery.Serving (listed_serving n m from b)
 listed_master n recovery.Fresh from b = on_master n recovery.Fresh from b
 
-pub same_master : (n : ℕ) (m : MasterNode) (from : NodeId) (b : Body) → on_master n m from b ≡ listed_master n m from b
+pub same_master : (n : ℕ) (m : MasterStage) (from : NodeId) (b : Body) → on_master n m from b ≡ listed_master n m from b
 unfolding on_master
 same_master n (recovery.Recovering s) from b = same_recovering n s from b
 same_master n (recovery.Serving m) from b = ap (within recovery.Serving) (same_serving n m from b)

@@ -1,80 +1,101 @@
 -- The text of a run computes with the pairs of each store as a list.
-use Rattle.std.proofs.Common.{◌≡◌, ℕ, ◌+◌, List, [], ◌∷◌, ◌++◌, Option, Some, None, refl, ap, ◌∙◌}
+use Rattle.std.proofs.Common.{◌≡◌, ℕ, ◌+◌, ◌==◌, not, List, [], ◌∷◌, ◌++◌, refl, ap, ◌∙◌}
+use Rattle.curp_base.specs.Cases.{first_case, only_if}
 use Rattle.curp_base.specs.Words.{numbered}
 use Rattle.curp_cmd.specs.declared.command.Answer.{Answer}
-use Rattle.curp_cmd.specs.declared.node.NodeId.{NodeId}
 use Rattle.curp_cmd.specs.declared.node.NodeKind.{NodeKind}
 use Rattle.curp_cmd.specs.declared.node.NodeKind.TheVariants as kind
-use Rattle.curp_msg.specs.declared.body.Body.{Body}
-use Rattle.curp_msg.specs.declared.message.Message.{Message}
-use Rattle.curp_msg.specs.declared.outcome.StepResult.TheVariants.{NoMessage, NoNode}
+use Rattle.curp_msg.specs.Moved.{Moved, within}
+use Rattle.curp_msg.specs.declared.machine.Input.{Input}
+use Rattle.curp_msg.specs.declared.machine.Input.TheVariants as input
+use Rattle.curp_msg.specs.declared.outcome.StepResult.{StepResult}
+use Rattle.curp_msg.specs.declared.outcome.StepResult.TheVariants as result
+use Rattle.curp_msg.specs.declared.script.Header.{Header}
+use Rattle.curp_msg.specs.declared.script.Step.{Step}
 use Rattle.curp_report.specs.Text.{order_text}
-use Rattle.curp_script.specs.declared.script.Header.{Header}
-use Rattle.curp_script.specs.declared.script.Step.{Step}
-use Rattle.curp_script.specs.declared.script.Step.TheVariants as steps
-use Rattle.curp_model.specs.Moved.{Moved, master_node}
-use Rattle.curp_model.specs.Recovery.{MasterNode}
-use Rattle.curp_model.specs.World.{World, Stepped, opening, messages, refused, made, if_it_runs, with_master, to_master, arrives, delivers, step, order, with_answers}
-use Rattle.curp_model.specs.Text.{made_text, text_from, text_of}
+use Rattle.curp_model.specs.Recovery.{MasterStage, master_input, master_ordered}
+use Rattle.curp_model.specs.World.{World, Deed, Gives, Stepped, opening, weight, with_master, moves_one, moves_kind, deed_of, effect, events_of, is_lost, names_nobody, stops_manager, names_stopped, is_too_much, result_of, refused, kept, steps_by, step, order, with_answers}
+use Rattle.curp_text.specs.Text.{made_text, closing_order, steps_text, run_text}
 use Rattle.curp_rows.proofs.ListedLog.{listed_answers, same_answers}
 use Rattle.curp_rows.proofs.ListedMaster.{listed_master, same_master}
 
--- ---- a step
+-- ---- what an input does
 
-abbrev pub master_moves : World → ℕ → MasterNode → Moved MasterNode → Stepped
-master_moves w n m moved = if_it_runs w (master_node n) (made w (with_master w n m) [] moved)
+abbrev pub listed_input : ℕ → MasterStage → Input → Moved MasterStage
+listed_input n m (input.Message message) = listed_master n m message.from message.body
+listed_input n m (input.Local order) = master_ordered n m order
 
-abbrev pub listed_to_master : World → ℕ → NodeId → Body → Option MasterNode → Stepped
-listed_to_master w n from b None = refused w NoNode
-listed_to_master w n from b (Some m) = master_moves w n m (listed_master n m from b)
+same_input : (n : ℕ) (m : MasterStage) (given : Input) → master_input n m given ≡ listed_input n m given
+same_input n m (input.Message message) = same_master n m message.from message.body
+same_input n m (input.Local order) = refl
 
-same_to_master : (w : World) (n : ℕ) (from : NodeId) (b : Body) (m : Option MasterNode) → to_master w n from b m ≡ listed_to_master w n from b m
-same_to_master w n from b None = refl
-same_to_master w n from b (Some m) = ap (master_moves w n m) (same_master n m from b)
+abbrev pub listed_moves : World → NodeKind → ℕ → Input → Moved World
+listed_moves w kind.Master n given = moves_one w (λ m. within (with_master w n m) (listed_input n m given)) (numbered w.masters n)
+listed_moves w k n given = moves_kind w k n given
 
-abbrev pub listed_arrives : World → NodeKind → ℕ → NodeId → Body → Stepped
-listed_arrives w kind.Master n from b = listed_to_master w n from b (numbered w.masters n)
-listed_arrives w k n from b = arrives w k n from b
+same_moves : (w : World) (k : NodeKind) (n : ℕ) (given : Input) → moves_kind w k n given ≡ listed_moves w k n given
+same_moves w kind.Master n given = λ i. moves_one w (λ m. within (with_master w n m) (same_input n m given i)) (numbered w.masters n)
+same_moves w k n given = refl
 
-same_arrives : (w : World) (k : NodeKind) (n : ℕ) (from : NodeId) (b : Body) → arrives w k n from b ≡ listed_arrives w k n from b
-same_arrives w kind.Master n from b = same_to_master w n from b (numbered w.masters n)
-same_arrives w k n from b = refl
+abbrev pub listed_effect : World → Deed → Moved World
+listed_effect w (Gives to given) = listed_moves w to.kind to.number given
+listed_effect w deed = effect w deed
 
-abbrev pub listed_delivers : World → Option Message → Stepped
-listed_delivers w None = refused w NoMessage
-listed_delivers w (Some m) = listed_arrives w m.to.kind m.to.number m.from m.body
+same_effect : (w : World) (deed : Deed) → effect w deed ≡ listed_effect w deed
+same_effect w (Gives to given) = same_moves w to.kind to.number given
+same_effect w deed = refl
 
-same_delivers : (w : World) (m : Option Message) → delivers w m ≡ listed_delivers w m
-same_delivers w None = refl
-same_delivers w (Some m) = same_arrives w m.to.kind m.to.number m.from m.body
+-- ---- a step, whose effect is found once
+
+abbrev pub result_by : World → Step → Moved World → StepResult
+result_by w s does = first_case (
+    only_if (is_lost w s) result.NoMessage
+    ∷ only_if (names_nobody w s) result.NoNode
+    ∷ only_if (stops_manager s) result.Manager
+    ∷ only_if (names_stopped w s) result.Gone
+    ∷ only_if (is_too_much w (deed_of w s)) (result.Full (weight w))
+    ∷ only_if (not (does.refused == 0)) (result.Refused does.refused)
+    ∷ []) result.Done
+
+abbrev pub listed_by : World → Deed → Moved World → StepResult → Stepped
+listed_by w deed does result.Done = kept w (events_of w deed) does
+listed_by w deed does why = refused w why
+
+same_by : (w : World) (deed : Deed) (r : StepResult) → steps_by w deed r ≡ listed_by w deed (effect w deed) r
+same_by w deed result.Done = refl
+same_by w deed why = refl
+
+abbrev pub steps_with : World → Step → Moved World → Stepped
+steps_with w s does = listed_by w (deed_of w s) does (result_by w s does)
 
 abbrev pub listed_step : World → Step → Stepped
-listed_step w (steps.Deliver number) = listed_delivers w (numbered (messages w) number)
-listed_step w s = step w s
+listed_step w s = steps_with w s (listed_effect w (deed_of w s))
 
 same_step : (w : World) (s : Step) → step w s ≡ listed_step w s
 unfolding step
-same_step w (steps.Deliver number) = same_delivers w (numbered (messages w) number)
-same_step w s = refl
+same_step w s = same_by w (deed_of w s) (result_of w s) ∙ ap (steps_with w s) (same_effect w (deed_of w s))
 
 -- ---- the text
 
 abbrev pub order_with : World → List Answer → List ℕ
 order_with w answered = order_text (with_answers (order w) answered)
 
-abbrev pub listed_text_from : ℕ → World → List Step → List ℕ
-listed_text_from number w [] = order_with w (listed_answers [] (order w))
-listed_text_from number w (s ∷ ss) = made_text number (listed_step w s) ++ listed_text_from (number + 1) (listed_step w s).world ss
+abbrev pub listed_closing : World → List ℕ
+listed_closing w = order_with w (listed_answers [] (order w))
+
+abbrev pub listed_steps : ℕ → World → List Step → List ℕ
+listed_steps number w [] = listed_closing w
+listed_steps number w (s ∷ ss) = made_text number (listed_step w s) ++ listed_steps (number + 1) (listed_step w s).world ss
 
 abbrev pub listed_text : Header → List Step → List ℕ
-listed_text h ss = listed_text_from 1 (opening h) ss
+listed_text h ss = listed_steps 1 (opening h) ss
 
-same_text_from : (number : ℕ) (w : World) (ss : List Step) → text_from number w ss ≡ listed_text_from number w ss
-same_text_from number w [] = ap (order_with w) (same_answers (order w))
-same_text_from number w (s ∷ ss) =
-    ap (λ rest. made_text number (step w s) ++ rest) (same_text_from (number + 1) (step w s).world ss)
-    ∙ ap (λ (after : Stepped). made_text number after ++ listed_text_from (number + 1) after.world ss) (same_step w s)
+same_steps : (number : ℕ) (w : World) (ss : List Step) → steps_text closing_order number w ss ≡ listed_steps number w ss
+same_steps number w [] = ap (order_with w) (same_answers (order w))
+same_steps number w (s ∷ ss) =
+    ap (λ rest. made_text number (step w s) ++ rest) (same_steps (number + 1) (step w s).world ss)
+    ∙ ap (λ (after : Stepped). made_text number after ++ listed_steps (number + 1) after.world ss) (same_step w s)
 
 -- the text of a run is the one that computes
-pub same_text : (h : Header) (ss : List Step) → text_of h ss ≡ listed_text h ss
-same_text h ss = same_text_from 1 (opening h) ss
+pub same_text : (h : Header) (ss : List Step) → run_text h ss ≡ listed_text h ss
+same_text h ss = same_steps 1 (opening h) ss

@@ -1,39 +1,36 @@
--- A worked example: full set and sync.
-use Rattle.std.specs.Prelude.{ℕ, true, List, [], ◌∷◌, codes}
+-- Made by examples/to_specs.py from examples/full-set-and-sync.script and full-set-and-sync.out: edit these, and make it again.
+use Rattle.std.specs.Prelude.{true, [], ◌∷◌, codes}
 use Rattle.curp_cmd.specs.declared.command.Command.TheVariants as command
-use Rattle.curp_script.specs.declared.script.Header.{Header}
-use Rattle.curp_script.specs.declared.script.Protocol.TheVariants.{One}
-use Rattle.curp_script.specs.declared.script.Step.{Step}
-use Rattle.curp_script.specs.declared.script.Step.TheVariants as steps
-use Rattle.curp_rows.specs.Lines.{lines}
+use Rattle.curp_msg.specs.declared.script.Protocol.TheVariants.{One}
+use Rattle.curp_msg.specs.declared.script.Step.TheVariants as step
+use Rattle.curp_rows.specs.Example.{Example, lines}
 
-abbrev pub script_header : Header
-script_header = record { clients = 2; f = 1; fast = true; parts = 1; protocol = One; sets = 1; ways = 1 }
-
-abbrev pub script_steps : List Step
-script_steps =
-    steps.Invoke 1 (command.Put (97 ∷ []) (49 ∷ []))
-    ∷ steps.Invoke 2 (command.Put (98 ∷ []) (50 ∷ []))
-    ∷ steps.Deliver 2
-    ∷ steps.Deliver 4
-    ∷ steps.Deliver 6
-    ∷ steps.Deliver 6
-    ∷ []
-
-abbrev pub script_text : List ℕ
-script_text = lines (
-    codes "s1 done"
-    ∷ codes "m1 C1 M1 update 1.1 f1 e1 v1 put 61 31"
-    ∷ codes "m2 C1 W1 record 1.1 f1 e1 put 61 31"
-    ∷ codes "s2 done"
-    ∷ codes "m3 C2 M1 update 2.1 f1 e1 v1 put 62 32"
-    ∷ codes "m4 C2 W1 record 2.1 f1 e1 put 62 32"
-    ∷ codes "s3 done"
-    ∷ codes "m5 W1 C1 accepted 1.1 e1"
-    ∷ codes "s4 done"
-    ∷ codes "m6 W1 C2 rejected 2.1 full 0"
-    ∷ codes "s5 done"
-    ∷ codes "m7 C2 M1 sync 2.1 f1 e1 v1 put 62 32"
-    ∷ codes "s6 done"
-    ∷ codes "order 0"
-    ∷ [])
+-- full set and sync
+abbrev pub full_set_and_sync : Example
+full_set_and_sync = record {
+  header = record { clients = 2; f = 1; fast = true; parts = 1; protocol = One; sets = 1; ways = 1 };
+  steps =
+      step.Invoke 1 (command.Put (codes "a") (codes "1"))
+      ∷ step.Invoke 2 (command.Put (codes "b") (codes "2"))
+      ∷ step.Deliver 2
+      ∷ step.Deliver 4
+      ∷ step.Deliver 6
+      ∷ step.Deliver 6
+      ∷ [];
+  text = lines (
+      "s1 done"
+      ∷ "m1 C1 M1 update 1.1 f1 e1 v1 put 61 31"
+      ∷ "m2 C1 W1 record 1.1 f1 e1 put 61 31"
+      ∷ "s2 done"
+      ∷ "m3 C2 M1 update 2.1 f1 e1 v1 put 62 32"
+      ∷ "m4 C2 W1 record 2.1 f1 e1 put 62 32"
+      ∷ "s3 done"
+      ∷ "m5 W1 C1 accepted 1.1 e1"
+      ∷ "s4 done"
+      ∷ "m6 W1 C2 rejected 2.1 full 0"
+      ∷ "s5 done"
+      ∷ "m7 C2 M1 sync 2.1 f1 e1 v1 put 62 32"
+      ∷ "s6 done"
+      ∷ "order 0"
+      ∷ []);
+}

@@ -1,17 +1,14 @@
--- A worked example: header alone.
-use Rattle.std.specs.Prelude.{ℕ, true, List, [], ◌∷◌, codes}
-use Rattle.curp_script.specs.declared.script.Header.{Header}
-use Rattle.curp_script.specs.declared.script.Protocol.TheVariants.{One}
-use Rattle.curp_script.specs.declared.script.Step.{Step}
-use Rattle.curp_rows.specs.Lines.{lines}
+-- Made by examples/to_specs.py from examples/header-alone.script and header-alone.out: edit these, and make it again.
+use Rattle.std.specs.Prelude.{true, [], ◌∷◌}
+use Rattle.curp_msg.specs.declared.script.Protocol.TheVariants.{One}
+use Rattle.curp_rows.specs.Example.{Example, lines}
 
-abbrev pub script_header : Header
-script_header = record { clients = 2; f = 1; fast = true; parts = 1; protocol = One; sets = 16; ways = 4 }
-
-abbrev pub script_steps : List Step
-script_steps = []
-
-abbrev pub script_text : List ℕ
-script_text = lines (
-    codes "order 0"
-    ∷ [])
+-- header alone
+abbrev pub header_alone : Example
+header_alone = record {
+  header = record { clients = 2; f = 1; fast = true; parts = 1; protocol = One; sets = 16; ways = 4 };
+  steps = [];
+  text = lines (
+      "order 0"
+      ∷ []);
+}

@@ -1,24 +1,21 @@
--- A worked example: longest key.
-use Rattle.std.specs.Prelude.{ℕ, true, List, [], ◌∷◌, codes}
+-- Made by examples/to_specs.py from examples/longest-key.script and longest-key.out: edit these, and make it again.
+use Rattle.std.specs.Prelude.{true, [], ◌∷◌, codes}
 use Rattle.curp_cmd.specs.declared.command.Command.TheVariants as command
-use Rattle.curp_script.specs.declared.script.Header.{Header}
-use Rattle.curp_script.specs.declared.script.Protocol.TheVariants.{One}
-use Rattle.curp_script.specs.declared.script.Step.{Step}
-use Rattle.curp_script.specs.declared.script.Step.TheVariants as steps
-use Rattle.curp_rows.specs.Lines.{lines}
+use Rattle.curp_msg.specs.declared.script.Protocol.TheVariants.{One}
+use Rattle.curp_msg.specs.declared.script.Step.TheVariants as step
+use Rattle.curp_rows.specs.Example.{Example, lines}
 
-abbrev pub script_header : Header
-script_header = record { clients = 2; f = 1; fast = true; parts = 1; protocol = One; sets = 16; ways = 4 }
-
-abbrev pub script_steps : List Step
-script_steps =
-    steps.Invoke 1 (command.Put (97 ∷ 97 ∷ 97 ∷ 97 ∷ 97 ∷ 97 ∷ 97 ∷ 97 ∷ 97 ∷ 97 ∷ 97 ∷ 97 ∷ 97 ∷ 97 ∷ 97 ∷ 97 ∷ 97 ∷ 97 ∷ 97 ∷ 97 ∷ 97 ∷ 97 ∷ 97 ∷ 97 ∷ 97 ∷ 97 ∷ 97 ∷ 97 ∷ 97 ∷ 97 ∷ 97 ∷ 97 ∷ []) (49 ∷ []))
-    ∷ []
-
-abbrev pub script_text : List ℕ
-script_text = lines (
-    codes "s1 done"
-    ∷ codes "m1 C1 M1 update 1.1 f1 e1 v1 put 6161616161616161616161616161616161616161616161616161616161616161 31"
-    ∷ codes "m2 C1 W1 record 1.1 f1 e1 put 6161616161616161616161616161616161616161616161616161616161616161 31"
-    ∷ codes "order 0"
-    ∷ [])
+-- longest key
+abbrev pub longest_key : Example
+longest_key = record {
+  header = record { clients = 2; f = 1; fast = true; parts = 1; protocol = One; sets = 16; ways = 4 };
+  steps =
+      step.Invoke 1 (command.Put (codes "aaaaaaaaaaaaaaaaaaaaaaaaaaaaaaaa") (codes "1"))
+      ∷ [];
+  text = lines (
+      "s1 done"
+      ∷ "m1 C1 M1 update 1.1 f1 e1 v1 put 6161616161616161616161616161616161616161616161616161616161616161 31"
+      ∷ "m2 C1 W1 record 1.1 f1 e1 put 6161616161616161616161616161616161616161616161616161616161616161 31"
+      ∷ "order 0"
+      ∷ []);
+}

@@ -1,21 +1,18 @@
--- A worked example: no message.
-use Rattle.std.specs.Prelude.{ℕ, true, List, [], ◌∷◌, codes}
-use Rattle.curp_script.specs.declared.script.Header.{Header}
-use Rattle.curp_script.specs.declared.script.Protocol.TheVariants.{One}
-use Rattle.curp_script.specs.declared.script.Step.{Step}
-use Rattle.curp_script.specs.declared.script.Step.TheVariants as steps
-use Rattle.curp_rows.specs.Lines.{lines}
+-- Made by examples/to_specs.py from examples/no-message.script and no-message.out: edit these, and make it again.
+use Rattle.std.specs.Prelude.{true, [], ◌∷◌}
+use Rattle.curp_msg.specs.declared.script.Protocol.TheVariants.{One}
+use Rattle.curp_msg.specs.declared.script.Step.TheVariants as step
+use Rattle.curp_rows.specs.Example.{Example, lines}
 
-abbrev pub script_header : Header
-script_header = record { clients = 2; f = 1; fast = true; parts = 1; protocol = One; sets = 16; ways = 4 }
-
-abbrev pub script_steps : List Step
-script_steps =
-    steps.Deliver 9
-    ∷ []
-
-abbrev pub script_text : List ℕ
-script_text = lines (
-    codes "s1 refused no-message"
-    ∷ codes "order 0"
-    ∷ [])
+-- no message
+abbrev pub no_message : Example
+no_message = record {
+  header = record { clients = 2; f = 1; fast = true; parts = 1; protocol = One; sets = 16; ways = 4 };
+  steps =
+      step.Deliver 9
+      ∷ [];
+  text = lines (
+      "s1 refused no-message"
+      ∷ "order 0"
+      ∷ []);
+}

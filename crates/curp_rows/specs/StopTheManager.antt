@@ -1,22 +1,19 @@
--- A worked example: stop the manager.
-use Rattle.std.specs.Prelude.{ℕ, true, List, [], ◌∷◌, codes}
-use Rattle.curp_cmd.specs.declared.node.NodeKind.TheVariants as kind
-use Rattle.curp_script.specs.declared.script.Header.{Header}
-use Rattle.curp_script.specs.declared.script.Protocol.TheVariants.{One}
-use Rattle.curp_script.specs.declared.script.Step.{Step}
-use Rattle.curp_script.specs.declared.script.Step.TheVariants as steps
-use Rattle.curp_rows.specs.Lines.{lines}
+-- Made by examples/to_specs.py from examples/stop-the-manager.script and stop-the-manager.out: edit these, and make it again.
+use Rattle.std.specs.Prelude.{true, [], ◌∷◌}
+use Rattle.curp_cmd.specs.Node.{manager_node}
+use Rattle.curp_msg.specs.declared.script.Protocol.TheVariants.{One}
+use Rattle.curp_msg.specs.declared.script.Step.TheVariants as step
+use Rattle.curp_rows.specs.Example.{Example, lines}
 
-abbrev pub script_header : Header
-script_header = record { clients = 2; f = 1; fast = true; parts = 1; protocol = One; sets = 16; ways = 4 }
-
-abbrev pub script_steps : List Step
-script_steps =
-    steps.Stop (record { kind = kind.Manager; number = 0 })
-    ∷ []
-
-abbrev pub script_text : List ℕ
-script_text = lines (
-    codes "s1 refused manager"
-    ∷ codes "order 0"
-    ∷ [])
+-- stop the manager
+abbrev pub stop_the_manager : Example
+stop_the_manager = record {
+  header = record { clients = 2; f = 1; fast = true; parts = 1; protocol = One; sets = 16; ways = 4 };
+  steps =
+      step.Stop manager_node
+      ∷ [];
+  text = lines (
+      "s1 refused manager"
+      ∷ "order 0"
+      ∷ []);
+}

@@ -1,36 +1,33 @@
--- A worked example: synced put.
-use Rattle.std.specs.Prelude.{ℕ, false, List, [], ◌∷◌, codes}
+-- Made by examples/to_specs.py from examples/synced-put.script and synced-put.out: edit these, and make it again.
+use Rattle.std.specs.Prelude.{false, [], ◌∷◌, codes}
 use Rattle.curp_cmd.specs.declared.command.Command.TheVariants as command
-use Rattle.curp_script.specs.declared.script.Header.{Header}
-use Rattle.curp_script.specs.declared.script.Protocol.TheVariants.{One}
-use Rattle.curp_script.specs.declared.script.Step.{Step}
-use Rattle.curp_script.specs.declared.script.Step.TheVariants as steps
-use Rattle.curp_rows.specs.Lines.{lines}
+use Rattle.curp_msg.specs.declared.script.Protocol.TheVariants.{One}
+use Rattle.curp_msg.specs.declared.script.Step.TheVariants as step
+use Rattle.curp_rows.specs.Example.{Example, lines}
 
-abbrev pub script_header : Header
-script_header = record { clients = 2; f = 1; fast = false; parts = 1; protocol = One; sets = 16; ways = 4 }
-
-abbrev pub script_steps : List Step
-script_steps =
-    steps.Invoke 1 (command.Put (97 ∷ []) (49 ∷ []))
-    ∷ steps.Deliver 1
-    ∷ steps.Deliver 2
-    ∷ steps.Deliver 3
-    ∷ steps.Deliver 4
-    ∷ []
-
-abbrev pub script_text : List ℕ
-script_text = lines (
-    codes "s1 done"
-    ∷ codes "m1 C1 M1 sync 1.1 f1 e1 v1 put 61 31"
-    ∷ codes "s2 done"
-    ∷ codes "m2 M1 B1 append e1 b0 n1 r1"
-    ∷ codes "s3 done"
-    ∷ codes "m3 B1 M1 stored e1 l1 r1"
-    ∷ codes "s4 done"
-    ∷ codes "m4 M1 C1 reply 1.1 synced e1 v1 done"
-    ∷ codes "s5 done"
-    ∷ codes "c 1.1 done"
-    ∷ codes "order 1"
-    ∷ codes "1.1 put 61 31 -> done"
-    ∷ [])
+-- synced put
+abbrev pub synced_put : Example
+synced_put = record {
+  header = record { clients = 2; f = 1; fast = false; parts = 1; protocol = One; sets = 16; ways = 4 };
+  steps =
+      step.Invoke 1 (command.Put (codes "a") (codes "1"))
+      ∷ step.Deliver 1
+      ∷ step.Deliver 2
+      ∷ step.Deliver 3
+      ∷ step.Deliver 4
+      ∷ [];
+  text = lines (
+      "s1 done"
+      ∷ "m1 C1 M1 sync 1.1 f1 e1 v1 put 61 31"
+      ∷ "s2 done"
+      ∷ "m2 M1 B1 append e1 b0 n1 r1"
+      ∷ "s3 done"
+      ∷ "m3 B1 M1 stored e1 l1 r1"
+      ∷ "s4 done"
+      ∷ "m4 M1 C1 reply 1.1 synced e1 v1 done"
+      ∷ "s5 done"
+      ∷ "c 1.1 done"
+      ∷ "order 1"
+      ∷ "1.1 put 61 31 -> done"
+      ∷ []);
+}

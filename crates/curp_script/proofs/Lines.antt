@@ -8,10 +8,10 @@ use Rattle.serde_json.specs.View.{items_of}
 use Rattle.serde_json.specs.Written.{has_float, items_have_float}
 use Rattle.curp_cmd.specs.Pairs.{Pair}
 use Rattle.curp_cmd.specs.declared.command.Command.{Command}
-use Rattle.curp_cmd.specs.declared.command.Command.TheVariants.{Get, Put, Delete, Incr, Append, CondPut, Multi}
+use Rattle.curp_cmd.specs.declared.command.Command.TheVariants.{CondPut, Multi}
 use Rattle.curp_script.specs.declared.error.LineError.{LineError}
-use Rattle.curp_script.specs.declared.script.Step.{Step}
-use Rattle.curp_script.specs.declared.script.Step.TheVariants.{Invoke, Deliver, Retry, Fetch, Sync, Collect, Recover, Replace, Migrate, Nudge, Expire, Stop}
+use Rattle.curp_msg.specs.declared.script.Step.{Step}
+use Rattle.curp_msg.specs.declared.script.Step.TheVariants.{Invoke, Nudge}
 use Rattle.curp_script.specs.Grammar.{object_in, read_as}
 use Rattle.curp_script.specs.Printed.{pair_data, command_data, step_data}
 
@@ -41,63 +41,25 @@ pairs_flat [] = refl
 pairs_flat (p ∷ pairs) = rw (pairs_flat pairs) refl
 
 command_no_float : (command : Command) → has_float (command_data command) ≡ false
-command_no_float (Get key) = refl
-command_no_float (Put key value) = refl
-command_no_float (Delete key) = refl
-command_no_float (Incr key) = refl
-command_no_float (Append key more) = refl
 command_no_float (CondPut key None value) = refl
 command_no_float (CondPut key (Some expected) value) = refl
 command_no_float (Multi pairs) = pairs_no_float pairs
+command_no_float _ = refl
 
 command_depth : (command : Command) → depth (command_data command) ≡ 1
-command_depth (Get key) = refl
-command_depth (Put key value) = refl
-command_depth (Delete key) = refl
-command_depth (Incr key) = refl
-command_depth (Append key more) = refl
 command_depth (CondPut key None value) = refl
 command_depth (CondPut key (Some expected) value) = refl
 command_depth (Multi pairs) = rw (pairs_flat pairs) refl
+command_depth _ = refl
 
 pub step_is_object : (step : Step) → is_some (as_object (step_data step)) ≡ true
-step_is_object (Invoke client command) = refl
-step_is_object (Deliver message) = refl
-step_is_object (Retry client seq) = refl
-step_is_object (Fetch client) = refl
-step_is_object (Sync master) = refl
-step_is_object (Collect master) = refl
-step_is_object (Recover part backup witness) = refl
-step_is_object (Replace keeper part place) = refl
-step_is_object (Migrate lo hi to) = refl
 step_is_object Nudge = refl
-step_is_object (Expire client) = refl
-step_is_object (Stop node) = refl
+step_is_object _ = refl
 
 pub step_no_float : (step : Step) → has_float (step_data step) ≡ false
 step_no_float (Invoke client command) = rw (command_no_float command) refl
-step_no_float (Deliver message) = refl
-step_no_float (Retry client seq) = refl
-step_no_float (Fetch client) = refl
-step_no_float (Sync master) = refl
-step_no_float (Collect master) = refl
-step_no_float (Recover part backup witness) = refl
-step_no_float (Replace keeper part place) = refl
-step_no_float (Migrate lo hi to) = refl
-step_no_float Nudge = refl
-step_no_float (Expire client) = refl
-step_no_float (Stop node) = refl
+step_no_float _ = refl
 
 pub step_depth : (step : Step) → depth (step_data step) ≤ max_depth
 step_depth (Invoke client command) = rw (command_depth command) (omega arith)
-step_depth (Deliver message) = omega arith
-step_depth (Retry client seq) = omega arith
-step_depth (Fetch client) = omega arith
-step_depth (Sync master) = omega arith
-step_depth (Collect master) = omega arith
-step_depth (Recover part backup witness) = omega arith
-step_depth (Replace keeper part place) = omega arith
-step_depth (Migrate lo hi to) = omega arith
-step_depth Nudge = omega arith
-step_depth (Expire client) = omega arith
-step_depth (Stop node) = omega arith
+step_depth _ = omega arith

@@ -1,34 +1,34 @@
 -- What is printed reads as what it was printed for.
-use Rattle.std.proofs.Common.{◌≡◌, ◌≤◌, ◌<◌, ◌+◌, ◌-◌, ◌*◌, ◌==◌, ◌≢◌, ◌/◌, ◌%◌, ◌^◌, ◌↔◌, ◌++◌, ◌∙◌, ℕ, List, [], ◌∷◌, length, map, flat_map, Bool, true, false, Some, None, Result, Ok, Err, option_and_then, if◌then◌else◌, All, get_or, decimal, refl, sym, ap, arith, append_assoc}
+use Rattle.std.proofs.Common.{◌≡◌, ◌≤◌, ◌<◌, ◌+◌, ◌-◌, ◌*◌, ◌==◌, ◌≢◌, ◌/◌, ◌%◌, ◌^◌, ◌↔◌, ◌++◌, ◌∙◌, ℕ, List, [], ◌∷◌, length, map, flat_map, Bool, true, false, Some, None, Result, Ok, Err, option_and_then, if◌then◌else◌, All, decimal, refl, ap, arith, append_assoc}
 use Rattle.std.proofs.lemmas.Bool.Decides.{nat_tests}
-use Rattle.std.proofs.lemmas.Fmt.{first_decimal, decimal_is_IsNumeral}
 use Rattle.std.proofs.lemmas.List.{map-append, flat_map_more}
 use Rattle.std.proofs.lemmas.List.Elements.{All-head, All-tail, All-from_recursion}
 use Rattle.std.proofs.lemmas.Nat.{from_be_bytes-to_be_bytes_8}
-use Rattle.std.proofs.lemmas.Str.Parse.{digit_at}
 use Rattle.std.specs.Prelude.{⊤}
 use Rattle.std.specs.Fmt.{digit_glyph}
 use Rattle.std.specs.Int.{w64, to_be_bytes, from_be_bytes}
 use Rattle.serde_json.specs.Data.{Data}
 use Rattle.serde_json.specs.View.{view, items_of}
 use Rattle.serde_json.specs.declared.value.Value.{Value}
+use Rattle.curp_base.specs.Words.{AreBytes}
 use Rattle.curp_cmd.specs.Pairs.{Pair, names_twice}
+use Rattle.curp_cmd.specs.declared.command.Command.{Command}
 use Rattle.curp_cmd.specs.declared.command.Command.TheVariants.{Multi}
 use Rattle.curp_cmd.specs.declared.node.NodeId.{NodeId}
 use Rattle.curp_cmd.specs.declared.node.NodeKind.{NodeKind}
 use Rattle.curp_cmd.specs.declared.node.NodeKind.TheVariants.{Manager, Client, Master, Backup, Witness}
-use Rattle.curp_script.specs.Digits.{digit_of, byte_of, bytes_of, at_least, at_most, hash_of, counted, hex}
-use Rattle.curp_script.specs.Grammar.{◌>>=◌, built, number_within, key_in, value_in, pairs_in, multi_put}
+use Rattle.curp_script.specs.Digits.{digit_of, by_twos, byte_of, bytes_of, at_least, at_most, hash_of, counted, hex}
+use Rattle.curp_script.specs.Grammar.{◌>>=◌, built, number_within, key_in, value_in, pair_in, multi_put, listed}
 use Rattle.curp_script.specs.Built.{is_built}
 use Rattle.curp_script.specs.Headers.{is_within}
-use Rattle.curp_script.specs.Printed.{bytes_data, pair_data, numbered_text, count, node_text, if_built, CommandReadsBack, ReadsBack}
+use Rattle.curp_script.specs.Printed.{command_parts, command_words, bytes_data, pair_data, count, if_built, CommandReadsBack, ReadsBack}
 use Rattle.curp_script.specs.declared.error.Word.{Word}
 use Rattle.curp_script.specs.declared.error.Word.TheVariants as word
-use Rattle.curp_script.specs.declared.script.Step.TheVariants.{Migrate, Stop}
+use Rattle.curp_msg.specs.declared.script.Step.TheVariants.{Invoke, Migrate, Stop}
 use Rattle.curp_script.specs.declared.error.LineError.{LineError}
 use Rattle.curp_script.specs.declared.error.LineError.TheVariants.{Later}
-use Rattle.curp_script.specs.Words.{node_of}
-use Rattle.curp_script.proofs.Counting.{counted-digits}
+use Rattle.curp_script.specs.Nodes.{node_of, node_text, numbered_text}
+use Rattle.curp_script.proofs.Counting.{whole_of-decimal}
 
 -- ---- bytes
 
@@ -39,7 +39,7 @@ byte_of-text : (byte : ℕ) → byte < 256 → byte_of (digit_glyph false (byte 
 byte_of-text byte small =
     rw (digit_of-glyph (byte / 16) (omega arith), digit_of-glyph (byte % 16) (omega arith)) (let same : 16 * (byte / 16) + byte % 16 ≡ byte = omega arith in ap (λ n. Some n) same)
 
-pub bytes_of-hex : (bytes : List ℕ) → All (λ b. b < 256) bytes → bytes_of (hex bytes) ≡ Some bytes
+pub bytes_of-hex : (bytes : List ℕ) → AreBytes bytes → bytes_of (hex bytes) ≡ Some bytes
 bytes_of-hex [] small = refl
 bytes_of-hex (byte ∷ bytes) small =
     rw (byte_of-text byte (All-head (λ b. b < 256) byte bytes small), bytes_of-hex bytes (All-tail (λ b. b < 256) byte bytes small)) refl
@@ -50,16 +50,16 @@ within : (least most : ℕ) (bytes : List ℕ) → least ≤ length bytes → le
     → option_and_then (at_least least) (option_and_then (at_most most) (Some bytes)) ≡ Some bytes
 within least most bytes long short = grind (arith, nat_tests)
 
-pub key_in-bytes : (key : List ℕ) → 1 ≤ length key → length key ≤ 32 → All (λ b. b < 256) key → key_in (bytes_data key) ≡ Some key
+pub key_in-bytes : (key : List ℕ) → 1 ≤ length key → length key ≤ 32 → AreBytes key → key_in (bytes_data key) ≡ Some key
 key_in-bytes key long short small = rw (bytes_of-hex key small) (within 1 32 key long short)
 
-pub value_in-bytes : (value : List ℕ) → length value ≤ 128 → All (λ b. b < 256) value → value_in (bytes_data value) ≡ Some value
+pub value_in-bytes : (value : List ℕ) → length value ≤ 128 → AreBytes value → value_in (bytes_data value) ≡ Some value
 value_in-bytes value short small = rw (bytes_of-hex value small) (within 0 128 value (omega arith) short)
 
 byte_small : (n : ℕ) → n % 256 < 256
 byte_small n = omega arith
 
-bytes_small : (hash : ℕ) → All (λ b. b < 256) (to_be_bytes w64 hash)
+bytes_small : (hash : ℕ) → AreBytes (to_be_bytes w64 hash)
 bytes_small hash =
     All-from_recursion (λ b. b < 256) (to_be_bytes w64 hash)
     (byte_small _, (byte_small _, (byte_small _, (byte_small _, (byte_small _, (byte_small _, (byte_small _, (byte_small _, tt))))))))
@@ -73,10 +73,8 @@ hash_of-bytes hash small =
 
 pub counted-decimal : (n : ℕ) → 0 < n → n < 2 ^ 32 → counted (decimal n) ≡ Some n
 counted-decimal n some small =
-    let numeral = decimal_is_IsNumeral n (omega arith) in
-    let first : 48 < get_or (decimal n) 0 0 = first_decimal n some (omega arith) in
-    let digit = digit_at (decimal n) 0 numeral.0.1 numeral.0.0 in
-    sym (counted-digits (decimal n) n (omega arith) digit.1 numeral.0.1 (sym numeral.1) small)
+    let fits : is_within 1 (2 ^ 32 - 1) n ≡ true = grind (arith, nat_tests) in
+    rw (whole_of-decimal n some (omega arith), fits) refl
 
 positive : (n : ℕ) → n ≢ 0 → 0 < n
 positive n some = omega arith
@@ -98,7 +96,7 @@ abbrev pub PairReads : Pair → Type 0
 PairReads p = (key_in (bytes_data p.0) ≡ Some p.0) × (value_in (bytes_data p.1) ≡ Some p.1)
 
 -- pairs that read as themselves, one by one, do so all together
-pub pairs_in-data : (pairs : List Pair) → All PairReads pairs → pairs_in (items_of (flat_map pair_data pairs)) ≡ Some pairs
+pub pairs_in-data : (pairs : List Pair) → All PairReads pairs → by_twos pair_in (flat_map pair_data pairs) ≡ Some pairs
 pairs_in-data [] all = refl
 pairs_in-data (p ∷ pairs) all =
     let first = All-head PairReads p pairs all in
@@ -123,27 +121,45 @@ parts_more parts key value before pairs p is key_is value_is =
 
 -- ---- steps
 
-abbrev done : Result ⊤ LineError
+abbrev pub done : Result ⊤ LineError
 done = Ok tt
 
--- a form that a line needs comes before what else is read
-needs : {A : Type 0} (w : Word) (after : Result A LineError) (value : A) → after ≡ Ok value
-    → (built w >>= λ _. after) ≡ if_built (w ∷ []) value
-needs {A} w after value is = chosen (is_built w) w after value is
+-- a form that a line needs comes before what else it needs
+pub needs : {A : Type 0} (w : Word) (ws : List Word) (after : Result A LineError) (value : A) → after ≡ if_built ws value
+    → (built w >>= λ _. after) ≡ if_built (w ∷ ws) value
+needs {A} w ws after value is = chosen (is_built w)
   where
-    chosen : (b : Bool) (w : Word) (after : Result A LineError) (value : A) → after ≡ Ok value
-        → ((if b then done else Err (Later w)) >>= λ _. after) ≡ (if b then Ok value else Err (Later w))
-    chosen true w after value is = is
-    chosen false w after value is = refl
+    chosen : (b : Bool) → ((if b then done else Err (Later w)) >>= λ _. after) ≡ (if b then if_built ws value else Err (Later w))
+    chosen true = is
+    chosen false = refl
+
+-- what is made of a value needs what the value does
+needs_too : {A B : Type 0} (ws : List Word) (value : A) (f : A → B) → ((if_built ws value >>= λ x. Ok (f x)) >>= λ y. Ok y) ≡ if_built ws (f value)
+needs_too [] value f = refl
+needs_too {A} {B} (w ∷ ws) value f = chosen (is_built w) (needs_too ws value f)
+  where
+    chosen : (b : Bool) → ((if_built ws value >>= λ x. Ok (f x)) >>= λ y. Ok y) ≡ if_built ws (f value)
+        → (((if b then if_built ws value else Err (Later w)) >>= λ x. Ok (f x)) >>= λ y. Ok y) ≡ (if b then if_built ws (f value) else Err (Later w))
+    chosen true is = is
+    chosen false is = refl
 
 index_within : (n : ℕ) → n < 2 ^ 32 → number_within 0 (2 ^ 32 - 1) (count n) ≡ Some n
 index_within n small =
     let fits : is_within 0 (2 ^ 32 - 1) n ≡ true = grind (arith, nat_tests) in
     rw fits refl
 
+listed-items_of : (ds : List Data) → listed (items_of ds) ≡ ds
+listed-items_of [] = refl
+listed-items_of (d ∷ ds) = ap (λ (more : List Data). d ∷ more) (listed-items_of ds)
+
+pub invoke_reads : (client : ℕ) (command : Command) → client < 2 ^ 32 → CommandReadsBack command → ReadsBack (Invoke client command)
+invoke_reads client command small reads =
+    needs word.Invoke (command_words command) _ (Invoke client command)
+    (rw (index_within client small, listed-items_of (command_parts command), reads) (needs_too (command_words command) command (λ c. Invoke client c)))
+
 pub stop_reads : (node : NodeId) → node.number < 2 ^ 32 → (node.number ≡ 0) ↔ (node.kind ≡ Manager) → ReadsBack (Stop node)
-stop_reads node small names = needs word.Stop _ (Stop node) (rw (node_of-text node small names) refl)
+stop_reads node small names = needs word.Stop [] _ (Stop node) (rw (node_of-text node small names) refl)
 
 pub migrate_reads : (lo hi to : ℕ) → lo < 2 ^ 64 → hi < 2 ^ 64 → to < 2 ^ 32 → ReadsBack (Migrate lo hi to)
 migrate_reads lo hi to lo_small hi_small to_small =
-    needs word.Migrate _ (Migrate lo hi to) (rw (hash_of-bytes lo lo_small, hash_of-bytes hi hi_small, index_within to to_small) refl)
+    needs word.Migrate [] _ (Migrate lo hi to) (rw (hash_of-bytes lo lo_small, hash_of-bytes hi hi_small, index_within to to_small) refl)

@@ -1,19 +1,19 @@
 -- The lines of a script, as JSON.
-use Rattle.std.specs.Prelude.{ℕ, ◌-◌, ◌^◌, ◌==◌, ◌&&◌, nat_lt, if◌then◌else◌, Bool, not, List, [], ◌∷◌, length, Option, Some, None, is_some, option_and_then, option_map, unwrap_or, Result, Ok, Err, ⊤}
+use Rattle.std.specs.Prelude.{ℕ, ◌-◌, ◌^◌, ◌==◌, ◌&&◌, nat_lt, if◌then◌else◌, Bool, true, not, List, [], ◌∷◌, length, Option, Some, None, is_some, option_and_then, option_map, unwrap_or, Result, Ok, Err, ⊤}
+use Rattle.std.specs.List.{list_any}
 use Rattle.std.specs.Option.{ok_or}
-use Rattle.std.specs.Str.{is_utf8}
-use Rattle.serde_json.specs.Data.{Data, Items, no_items, item}
-use Rattle.serde_json.specs.Events.{members_len}
+use Rattle.std.specs.Str.{bytes_eq, is_utf8}
+use Rattle.serde_json.specs.Data.{Data, Items, no_items, item, Members, no_members, member}
 use Rattle.serde_json.specs.Read.{read}
 use Rattle.serde_json.specs.Find.{get, as_null, as_object, as_array, as_str, as_number, as_u64, as_bool}
 use Rattle.curp_cmd.specs.Pairs.{Pair, names_twice}
 use Rattle.curp_cmd.specs.declared.command.Command.{Command}
 use Rattle.curp_cmd.specs.declared.command.Command.TheVariants.{Get, Put, Delete, Incr, Append, CondPut, Multi}
-use Rattle.curp_script.specs.declared.script.Header.{Header}
-use Rattle.curp_script.specs.declared.script.Protocol.{Protocol}
-use Rattle.curp_script.specs.declared.script.Protocol.TheVariants.{One}
-use Rattle.curp_script.specs.declared.script.Step.{Step}
-use Rattle.curp_script.specs.declared.script.Step.TheVariants.{Invoke, Deliver, Retry, Fetch, Sync, Collect, Recover, Replace, Migrate, Nudge, Expire, Stop}
+use Rattle.curp_msg.specs.declared.script.Header.{Header}
+use Rattle.curp_msg.specs.declared.script.Protocol.{Protocol}
+use Rattle.curp_msg.specs.declared.script.Protocol.TheVariants.{One}
+use Rattle.curp_msg.specs.declared.script.Step.{Step}
+use Rattle.curp_msg.specs.declared.script.Step.TheVariants.{Invoke, Deliver, Retry, Fetch, Sync, Collect, Recover, Replace, Migrate, Nudge, Expire, Stop}
 use Rattle.curp_script.specs.declared.kind.Kind.{Kind}
 use Rattle.curp_script.specs.declared.kind.Kind.TheVariants as kind
 use Rattle.curp_script.specs.declared.kind.Verb.{Verb}
@@ -25,10 +25,11 @@ use Rattle.curp_script.specs.declared.error.FieldName.TheVariants as field
 use Rattle.curp_script.specs.declared.error.LineError.{LineError}
 use Rattle.curp_script.specs.declared.error.LineError.TheVariants.{BadJson, BadField, Later}
 use Rattle.curp_script.specs.Built.{is_built}
-use Rattle.curp_script.specs.Digits.{bytes_of, at_most, at_least, hash_of}
+use Rattle.curp_script.specs.Digits.{by_twos, bytes_of, at_most, at_least, hash_of}
 use Rattle.curp_script.specs.Headers.{is_within}
 use Rattle.curp_script.specs.Text.{field_text}
-use Rattle.curp_script.specs.Words.{kind_of, verb_of, is_get, keeper_of, node_of}
+use Rattle.curp_script.specs.Kinds.{header_names, kind_of, word_of, names_of, verb_of, is_get}
+use Rattle.curp_script.specs.Nodes.{keeper_of, node_of}
 
 -- the ? of the logic: the second step, if the first gave a value
 infixl 10 ◌>>=◌
@@ -50,9 +51,14 @@ only_object d = if is_some (as_object d) then Some d else None
 abbrev pub object_in : List ℕ → Option Data
 object_in line = option_and_then only_object (json_of line)
 
--- how many names an object has
-abbrev pub name_count : Data → ℕ
-name_count d = unwrap_or (option_map members_len (as_object d)) 0
+-- a name is one of these
+abbrev pub is_one_of : List FieldName → List ℕ → Bool
+is_one_of names name = list_any (λ n. bytes_eq (field_text n) name) names
+
+-- each name of an object is one of these
+abbrev pub has_only : List FieldName → Members → Bool
+has_only names no_members = true
+has_only names (member name d more) = is_one_of names name && has_only names more
 
 -- ---- the values of names
 
@@ -64,9 +70,9 @@ field_as form name d = ok_or (option_and_then form (get (field_text name) d)) (B
 abbrev pub text_as : {A : Type 0} → (List ℕ → Option A) → FieldName → Data → Result A LineError
 text_as form name d = ok_or (option_and_then form (option_and_then as_str (get (field_text name) d))) (BadField name)
 
--- behind all the names of its table, so many of them, a line has no other
-abbrev pub no_other : ℕ → Data → Result ⊤ LineError
-no_other names d = if name_count d == names then Ok tt else Err (BadField field.Other)
+-- no name of the object is another than these
+abbrev pub no_other : List FieldName → Data → Result ⊤ LineError
+no_other names d = if has_only names (unwrap_or (as_object d) no_members) then Ok tt else Err (BadField field.Other)
 
 -- a form of the grammar that is needed must be built
 abbrev pub built_where : Bool → Word → Result ⊤ LineError
@@ -125,7 +131,7 @@ header_of d = do
   protocol ← protocol_at d
   sets ← number_at field.Sets 1 1024 d
   ways ← number_at field.Ways 1 16 d
-  _ ← no_other 7 d
+  _ ← no_other header_names d
   Ok (record { clients = clients; f = f; fast = fast; parts = parts; protocol = protocol; sets = sets; ways = ways })
 
 -- ---- a command
@@ -147,173 +153,108 @@ abbrev pub pair_in : Data → Data → Option Pair
 pair_in key value = option_and_then (λ k. option_map (λ v. (k, v)) (value_in value)) (key_in key)
 
 -- a key alone
-abbrev pub key_alone : Items → Option (List ℕ)
-key_alone (item key no_items) = key_in key
+abbrev pub key_alone : List Data → Option (List ℕ)
+key_alone (key ∷ []) = key_in key
 key_alone _ = None
 
 -- one pair
-abbrev pub one_pair : Items → Option Pair
-one_pair (item key (item value no_items)) = pair_in key value
+abbrev pub one_pair : List Data → Option Pair
+one_pair (key ∷ value ∷ []) = pair_in key value
 one_pair _ = None
 
 -- a key, what it is expected to have, and a value
-abbrev pub cond_put_of : Items → Option Command
-cond_put_of (item key (item expected (item value no_items))) =
+abbrev pub cond_put_of : List Data → Option Command
+cond_put_of (key ∷ expected ∷ value ∷ []) =
     option_and_then (λ k. option_and_then (λ e. option_map (λ v. CondPut k e v) (value_in value)) (expected_in expected)) (key_in key)
 cond_put_of _ = None
-
--- pairs, one behind another
-abbrev pub pairs_in : Items → Option (List Pair)
-pairs_in no_items = Some []
-pairs_in (item key no_items) = None
-pairs_in (item key (item value rest)) = option_and_then (λ p. option_map (λ pairs. p ∷ pairs) (pairs_in rest)) (pair_in key value)
 
 -- 1 to 4 pairs, no key twice
 abbrev pub multi_put : List Pair → Option Command
 multi_put pairs = if is_within 1 4 (length pairs) && not (names_twice pairs) then Some (Multi pairs) else None
 
 -- what a command is by its word and what stands behind it
-abbrev pub command_by : Verb → Items → Option Command
+abbrev pub command_by : Verb → List Data → Option Command
 command_by verb.Get parts = option_map (λ key. Get key) (key_alone parts)
 command_by verb.Put parts = option_map (λ p. Put p.0 p.1) (one_pair parts)
 command_by verb.Delete parts = option_map (λ key. Delete key) (key_alone parts)
 command_by verb.Incr parts = option_map (λ key. Incr key) (key_alone parts)
 command_by verb.Append parts = option_map (λ p. Append p.0 p.1) (one_pair parts)
 command_by verb.CondPut parts = cond_put_of parts
-command_by verb.Multi parts = option_and_then multi_put (pairs_in parts)
+command_by verb.Multi parts = option_and_then multi_put (by_twos pair_in parts)
 
 -- a word, then byte strings, with the faults of an invocation's cmd
-abbrev pub command_of : Items → Result Command LineError
-command_of no_items = Err (BadField field.Cmd)
-command_of (item first parts) = do
+abbrev pub command_of : List Data → Result Command LineError
+command_of [] = Err (BadField field.Cmd)
+command_of (first ∷ parts) = do
   verb ← ok_or (option_and_then verb_of (as_str first)) (BadField field.Cmd)
   _ ← built_where (is_get verb) word.Get
   ok_or (command_by verb parts) (BadField field.Cmd)
+
+-- the items of an array
+abbrev pub listed : Items → List Data
+listed no_items = []
+listed (item d more) = d ∷ listed more
 
 -- the command of an invocation. A fault anywhere in it is one of cmd
 abbrev pub command_at : Data → Result Command LineError
 command_at d = do
   items ← field_as as_array field.Cmd d
-  command_of items
+  command_of (listed items)
 
 -- ---- a step
 
--- {"client": .., "cmd": .., "do": "invoke"}
-abbrev pub invoke_of : Data → Result Step LineError
-invoke_of d = do
-  _ ← built word.Invoke
+-- the step of a kind, by the values of its names, in byte order
+abbrev pub values_of : Kind → Data → Result Step LineError
+values_of kind.Invoke d = do
   client ← index_at field.Client d
   command ← command_at d
-  _ ← no_other 3 d
   Ok (Invoke client command)
-
--- {"do": "deliver", "msg": ..}
-abbrev pub deliver_of : Data → Result Step LineError
-deliver_of d = do
+values_of kind.Deliver d = do
   message ← number_at field.Msg 0 (2 ^ 64 - 1) d
-  _ ← no_other 2 d
   Ok (Deliver message)
-
--- {"client": .., "do": "retry", "seq": ..}
-abbrev pub retry_of : Data → Result Step LineError
-retry_of d = do
-  _ ← built word.Retry
+values_of kind.Retry d = do
   client ← index_at field.Client d
   seq ← index_at field.Seq d
-  _ ← no_other 3 d
   Ok (Retry client seq)
-
--- {"client": .., "do": "fetch"}
-abbrev pub fetch_of : Data → Result Step LineError
-fetch_of d = do
-  _ ← built word.Fetch
+values_of kind.Fetch d = do
   client ← index_at field.Client d
-  _ ← no_other 2 d
   Ok (Fetch client)
-
--- {"do": "sync", "master": ..}
-abbrev pub sync_of : Data → Result Step LineError
-sync_of d = do
-  _ ← built word.Sync
+values_of kind.Sync d = do
   master ← index_at field.Master d
-  _ ← no_other 2 d
   Ok (Sync master)
-
--- {"do": "collect", "master": ..}
-abbrev pub collect_of : Data → Result Step LineError
-collect_of d = do
-  _ ← built word.Collect
+values_of kind.Collect d = do
   master ← index_at field.Master d
-  _ ← no_other 2 d
   Ok (Collect master)
-
--- {"backup": .., "do": "recover", "part": .., "witness": ..}
-abbrev pub recover_of : Data → Result Step LineError
-recover_of d = do
-  _ ← built word.Recover
+values_of kind.Recover d = do
   backup ← index_at field.Backup d
   part ← index_at field.Part d
   witness ← index_at field.Witness d
-  _ ← no_other 4 d
   Ok (Recover part backup witness)
-
--- {"do": "replace", "kind": .., "part": .., "place": ..}
-abbrev pub replace_of : Data → Result Step LineError
-replace_of d = do
-  _ ← built word.Replace
+values_of kind.Replace d = do
   keeper ← text_as keeper_of field.Kind d
   part ← index_at field.Part d
   place ← index_at field.Place d
-  _ ← no_other 4 d
   Ok (Replace keeper part place)
-
--- {"do": "migrate", "hi": .., "lo": .., "to": ..}
-abbrev pub migrate_of : Data → Result Step LineError
-migrate_of d = do
-  _ ← built word.Migrate
+values_of kind.Migrate d = do
   hi ← text_as hash_of field.Hi d
   lo ← text_as hash_of field.Lo d
   to ← index_at field.To d
-  _ ← no_other 4 d
   Ok (Migrate lo hi to)
-
--- {"do": "nudge"}
-abbrev pub nudge_of : Data → Result Step LineError
-nudge_of d = do
-  _ ← built word.Nudge
-  _ ← no_other 1 d
-  Ok Nudge
-
--- {"client": .., "do": "expire"}
-abbrev pub expire_of : Data → Result Step LineError
-expire_of d = do
-  _ ← built word.Expire
+values_of kind.Nudge d = Ok Nudge
+values_of kind.Expire d = do
   client ← index_at field.Client d
-  _ ← no_other 2 d
   Ok (Expire client)
-
--- {"do": "stop", "node": ..}
-abbrev pub stop_of : Data → Result Step LineError
-stop_of d = do
-  _ ← built word.Stop
+values_of kind.Stop d = do
   node ← text_as node_of field.Node d
-  _ ← no_other 2 d
   Ok (Stop node)
 
--- what an object is by the kind that it names
+-- the step that an object is: its kind must be built, and no name stands there but those of the kind
 abbrev pub step_by : Kind → Data → Result Step LineError
-step_by kind.Invoke d = invoke_of d
-step_by kind.Deliver d = deliver_of d
-step_by kind.Retry d = retry_of d
-step_by kind.Fetch d = fetch_of d
-step_by kind.Sync d = sync_of d
-step_by kind.Collect d = collect_of d
-step_by kind.Recover d = recover_of d
-step_by kind.Replace d = replace_of d
-step_by kind.Migrate d = migrate_of d
-step_by kind.Nudge d = nudge_of d
-step_by kind.Expire d = expire_of d
-step_by kind.Stop d = stop_of d
+step_by kind d = do
+  _ ← built (word_of kind)
+  step ← values_of kind d
+  _ ← no_other (names_of kind) d
+  Ok step
 
 -- the step that an object is
 abbrev pub step_of : Data → Result Step LineError

@@ -1,6 +1,6 @@
 -- The ranges of a header's values.
 use Rattle.std.specs.Prelude.{ℕ, ◌≤◌, ◌&&◌, nat_le, if◌then◌else◌, Bool, not, Option, Some, None}
-use Rattle.curp_script.specs.declared.script.Header.{Header}
+use Rattle.curp_msg.specs.declared.script.Header.{Header}
 use Rattle.curp_script.specs.declared.error.Word.TheVariants as word
 use Rattle.curp_script.specs.declared.error.FieldName.{FieldName}
 use Rattle.curp_script.specs.declared.error.FieldName.TheVariants.{Clients, F, Fast, Parts, Sets, Ways}

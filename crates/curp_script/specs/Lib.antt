@@ -2,7 +2,9 @@ pub mod Built
 pub mod Digits
 pub mod Grammar
 pub mod Headers
+pub mod Kinds
+pub mod Nodes
 pub mod Printed
 pub mod Script
 pub mod Text
-pub mod Words
+pub mod Values

@@ -1,9 +1,9 @@
 -- A whole script: the header, the steps, and how it ends.
 use Rattle.std.specs.Prelude.{ℕ, ◌+◌, ◌-◌, nat_lt, nat_eq, if◌then◌else◌, List, [], ◌∷◌, length, Option, Some, None, Result, Ok, Err}
 use Rattle.std.specs.List.{list_any}
-use Rattle.curp_script.specs.declared.script.Header.{Header}
-use Rattle.curp_script.specs.declared.script.Step.{Step}
-use Rattle.curp_script.specs.declared.script.Step.TheVariants.{Invoke}
+use Rattle.curp_msg.specs.declared.script.Header.{Header}
+use Rattle.curp_msg.specs.declared.script.Step.{Step}
+use Rattle.curp_msg.specs.declared.script.Step.TheVariants.{Invoke}
 use Rattle.curp_script.specs.declared.error.Word.TheVariants as word
 use Rattle.curp_script.specs.declared.error.LineError.{LineError}
 use Rattle.curp_script.specs.declared.error.LineError.TheVariants.{BadJson, Later}
@@ -29,6 +29,7 @@ pub record Steps : Type 0 where
   pub steps : List Step
   pub ending : Ending
 
+-- no step, and this end
 abbrev pub ends : Ending → Steps
 ends ending = record { steps = []; ending = ending }
 
@@ -43,21 +44,23 @@ invoked_after invoked (Ok (Invoke client command)) = client ∷ invoked
 invoked_after invoked line = invoked
 
 -- line number n is that step, which is step number n - 1 and may be one too many, or is refused
-abbrev pub first_of : ℕ → Result Step LineError → Steps → Steps
-first_of n (Err reason) more = ends (Bad n reason)
-first_of n (Ok step) more = if nat_lt step_limit (n - 1) then ends TooMany else record { steps = step ∷ more.steps; ending = more.ending }
+abbrev pub with_step : ℕ → Result Step LineError → Steps → Steps
+with_step n (Err reason) more = ends (Bad n reason)
+with_step n (Ok step) more = if nat_lt step_limit (n - 1) then ends TooMany else record { steps = step ∷ more.steps; ending = more.ending }
 
 -- the steps that lines are, from line number n on, where these client numbers were invoked before
 abbrev pub steps_in : ℕ → List ℕ → List (List ℕ) → Steps
 steps_in n invoked [] = ends Whole
 steps_in n invoked (line ∷ lines) =
     if nat_lt line_limit (length line) then ends (TooLong n)
-    else first_of n (at_most_once invoked (step_in line)) (steps_in (n + 1) (invoked_after invoked (step_in line)) lines)
+    else with_step n (at_most_once invoked (step_in line)) (steps_in (n + 1) (invoked_after invoked (step_in line)) lines)
 
+-- the header, where there is one, and what stands behind it
 pub record Script : Type 0 where
   pub header : Option Header
   pub body : Steps
 
+-- the script that begins with a line that was read so
 abbrev pub begun_with : Result Header LineError → Steps → Script
 begun_with (Err reason) more = record { header = None; body = ends (Bad 1 reason) }
 begun_with (Ok header) more = record { header = Some header; body = more }

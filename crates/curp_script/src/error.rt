@@ -57,6 +57,7 @@ pub enum Word {
     /// The command `get`.
     Get,
     Invoke,
+    Deliver,
     Retry,
     Fetch,
     Sync,
@@ -103,25 +104,16 @@ impl FieldName {
 }
 
 impl Word {
-    /// Whether scripts may have this form. A line that has another one is refused with `Later`.
+    /// Whether scripts may have this form: the one list of what is built. A line that has another form is refused with
+    /// `Later`.
     #[tactic(auto, unfolding(crate::specs::Built::is_built))]
     pub fn is_built(self) -> bool
         ensures { result ≡ is_built self }
     {
-        match self {
-            Word::Fast | Word::Invoke | Word::Sync | Word::Stop => true,
-            Word::Parts
-            | Word::Protocol
-            | Word::Get
-            | Word::Retry
-            | Word::Fetch
-            | Word::Collect
-            | Word::Recover
-            | Word::Replace
-            | Word::Migrate
-            | Word::Nudge
-            | Word::Expire => false,
-        }
+        matches!(
+            self,
+            Word::Fast | Word::Invoke | Word::Deliver | Word::Sync | Word::Stop
+        )
     }
 
     /// The word as lines have it.
@@ -134,6 +126,7 @@ impl Word {
             Word::Protocol => "protocol",
             Word::Get => "get",
             Word::Invoke => "invoke",
+            Word::Deliver => "deliver",
             Word::Retry => "retry",
             Word::Fetch => "fetch",
             Word::Sync => "sync",

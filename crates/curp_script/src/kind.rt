@@ -1,5 +1,19 @@
+// The kinds of step with the names in a line of each, and the kinds of command: what reading and printing share.
 ghost use Rattle.std.specs.Prelude.{◌≡◌};
-ghost use Rattle.curp_script.specs.Words.{kind_of, verb_of, is_get};
+ghost use Rattle.curp_script.specs.Kinds.{kind_of, word_of, names_of, verb_of, is_get};
+
+use crate::{FieldName, Word};
+
+// The names of a header, in byte order.
+pub(crate) const HEADER_NAMES: [FieldName; 7] = [
+    FieldName::Clients,
+    FieldName::F,
+    FieldName::Fast,
+    FieldName::Parts,
+    FieldName::Protocol,
+    FieldName::Sets,
+    FieldName::Ways,
+];
 
 // The kinds of step.
 #[derive(Clone, Copy)]
@@ -16,18 +30,6 @@ pub(crate) enum Kind {
     Nudge,
     Expire,
     Stop,
-}
-
-// The words that commands begin with.
-#[derive(Clone, Copy)]
-pub(crate) enum Verb {
-    Get,
-    Put,
-    Delete,
-    Incr,
-    Append,
-    CondPut,
-    Multi,
 }
 
 impl Kind {
@@ -50,6 +52,65 @@ impl Kind {
             _ => None,
         }
     }
+
+    pub(crate) fn word(self) -> Word
+        ensures { result ≡ word_of self }
+    {
+        match self {
+            Kind::Invoke => Word::Invoke,
+            Kind::Deliver => Word::Deliver,
+            Kind::Retry => Word::Retry,
+            Kind::Fetch => Word::Fetch,
+            Kind::Sync => Word::Sync,
+            Kind::Collect => Word::Collect,
+            Kind::Recover => Word::Recover,
+            Kind::Replace => Word::Replace,
+            Kind::Migrate => Word::Migrate,
+            Kind::Nudge => Word::Nudge,
+            Kind::Expire => Word::Expire,
+            Kind::Stop => Word::Stop,
+        }
+    }
+
+    // The names in a line of this kind: do, and the others in byte order.
+    pub(crate) fn names(self) -> &'static [FieldName]
+        ensures { result.now ≡ names_of self }
+    {
+        match self {
+            Kind::Invoke => &[FieldName::Do, FieldName::Client, FieldName::Cmd],
+            Kind::Deliver => &[FieldName::Do, FieldName::Msg],
+            Kind::Retry => &[FieldName::Do, FieldName::Client, FieldName::Seq],
+            Kind::Fetch | Kind::Expire => &[FieldName::Do, FieldName::Client],
+            Kind::Sync | Kind::Collect => &[FieldName::Do, FieldName::Master],
+            Kind::Recover => &[
+                FieldName::Do,
+                FieldName::Backup,
+                FieldName::Part,
+                FieldName::Witness,
+            ],
+            Kind::Replace => &[
+                FieldName::Do,
+                FieldName::Kind,
+                FieldName::Part,
+                FieldName::Place,
+            ],
+            Kind::Migrate => &[FieldName::Do, FieldName::Hi, FieldName::Lo, FieldName::To],
+            Kind::Nudge => &[FieldName::Do],
+            Kind::Stop => &[FieldName::Do, FieldName::Node],
+        }
+    }
+}
+
+// The words that commands begin with.
+#[derive(Clone, Copy)]
+pub(crate) enum Verb {
+    Get,
+    Put,
+    Delete,
+    Incr,
+    Append,
+    CondPut,
+    Multi,
 }
 
 impl Verb {

@@ -1,22 +1,16 @@
 //! The lines of a script, read and printed: the header, and the steps.
 #![tactic(auto)]
 
-mod command;
-mod digits;
 mod error;
-mod fields;
+mod header;
 mod kind;
-mod parse;
 mod print;
-mod print_command;
-mod script;
-mod shown;
-mod steps;
+mod read;
 #[cfg(test)]
 mod tests;
-mod words;
 
+pub use curp_msg::{Header, Protocol, Step};
 pub use error::{FieldName, LineError, Word};
-pub use parse::{parse_header, parse_line};
+pub use header::bad_field;
 pub use print::{print_header, print_line};
-pub use script::{Header, Protocol, Step};
+pub use read::LineReader;

@@ -1,16 +1,24 @@
-ghost use Rattle.std.specs.Prelude.{◌≡◌, IfOk, OnOk};
+ghost use Rattle.std.specs.Prelude.{◌≡◌, ◌≤◌, ◌+◌, length, map, vec_len, IfOk, OnOk};
+ghost use Rattle.serde_json.specs.Data.{object, string};
 ghost use Rattle.serde_json.specs.View.{view};
 ghost use Rattle.serde_json.specs.Written.{compact_text};
 ghost use Rattle.curp_script.specs.Grammar.{header_in, header_of, step_in};
 ghost use Rattle.curp_script.specs.Headers.{InRange};
-ghost use Rattle.curp_script.specs.Printed.{header_data, step_data, NamesNode, ReadsBack, checked_header, checked, keeper_text, protocol_number};
+ghost use Rattle.curp_script.specs.Kinds.{names_of};
+ghost use Rattle.curp_script.specs.Nodes.{keeper_text};
+ghost use Rattle.curp_script.specs.Printed.{count, protocol_number, header_data, step_data, kind_line, with_values};
+ghost use Rattle.curp_script.specs.Printed.{NamesNode, ReadsBack, checked_header, checked};
 
-use crate::print_command::command_json;
-use crate::shown::{hex_text, node_text};
-use crate::{Header, Protocol, Step};
+mod command;
+mod shown;
+
+use crate::kind::{HEADER_NAMES, Kind};
+use crate::{FieldName, Header, Protocol, Step};
+use command::command_json;
 use curp_base::NoMemory;
-use curp_cmd::{Command, Keeper, NodeId};
-use serde_json::{Value as Json, json};
+use curp_cmd::Keeper;
+use serde_json::{Map, Value as Json};
+use shown::{hash_text, node_text};
 use std::alloc::Global;
 
 /// The line of a header, without a line feed.
@@ -36,15 +44,16 @@ fn header_json(alloc: Global, header: &Header) -> Result<Json, NoMemory>
     ensures data { IfOk result (λ json. view json ≡ header_data header.now) }
     ensures reads { header_of (header_data header.now) ≡ checked_header header.now }
 {
-    json!(in alloc; {
-        "clients": header.clients,
-        "f": header.f,
-        "fast": header.fast,
-        "parts": header.parts,
-        "protocol": protocol_number(header.protocol),
-        "sets": header.sets,
-        "ways": header.ways,
-    })
+    let values = vec![in alloc;
+        Json::from(header.clients),
+        Json::from(header.f),
+        Json::from(header.fast),
+        Json::from(header.parts),
+        Json::from(protocol_number(header.protocol)),
+        Json::from(header.sets),
+        Json::from(header.ways),
+    ]?;
+    object(alloc, &HEADER_NAMES, values)
 }
 
 fn protocol_number(protocol: Protocol) -> u32
@@ -61,86 +70,90 @@ fn step_json(alloc: Global, step: &Step) -> Result<Json, NoMemory>
     ensures reads { OnOk result (ReadsBack step.now) }
 {
     match step {
-        Step::Invoke { client, command } => invoke_json(alloc, *client, command),
-        Step::Deliver { message } => deliver_json(alloc, *message),
-        Step::Retry { client, seq } => retry_json(alloc, *client, *seq),
-        Step::Fetch { client } => fetch_json(alloc, *client),
-        Step::Sync { master } => sync_json(alloc, *master),
-        Step::Collect { master } => collect_json(alloc, *master),
+        Step::Invoke { client, command } => {
+            let command = command_json(alloc, command)?;
+            let values = vec![in alloc; Json::from(*client), command]?;
+            kind_line(alloc, Kind::Invoke, values)
+        }
+        Step::Deliver { message } => numbers(alloc, Kind::Deliver, &[*message]),
+        Step::Retry { client, seq } => {
+            numbers(alloc, Kind::Retry, &[*client as u64, *seq as u64])
+        }
+        Step::Fetch { client } => numbers(alloc, Kind::Fetch, &[*client as u64]),
+        Step::Sync { master } => numbers(alloc, Kind::Sync, &[*master as u64]),
+        Step::Collect { master } => numbers(alloc, Kind::Collect, &[*master as u64]),
         Step::Recover {
             part,
             backup,
             witness,
-        } => recover_json(alloc, *part, *backup, *witness),
+        } => {
+            let values = [*backup as u64, *part as u64, *witness as u64];
+            numbers(alloc, Kind::Recover, &values)
+        }
         Step::Replace {
             keeper,
             part,
             place,
-        } => replace_json(alloc, *keeper, *part, *place),
-        Step::Migrate { lo, hi, to } => migrate_json(alloc, *lo, *hi, *to),
-        Step::Nudge => nudge_json(alloc),
-        Step::Expire { client } => expire_json(alloc, *client),
-        Step::Stop { node } => stop_json(alloc, *node),
+        } => {
+            let kind = text(alloc, keeper_text(*keeper))?;
+            let values = vec![in alloc; kind, Json::from(*part), Json::from(*place)]?;
+            kind_line(alloc, Kind::Replace, values)
+        }
+        Step::Migrate { lo, hi, to } => {
+            let (hi, lo) = (hash_text(alloc, *hi)?, hash_text(alloc, *lo)?);
+            let values = vec![in alloc; Json::String(hi), Json::String(lo), Json::from(*to)]?;
+            kind_line(alloc, Kind::Migrate, values)
+        }
+        Step::Nudge => numbers(alloc, Kind::Nudge, &[]),
+        Step::Expire { client } => numbers(alloc, Kind::Expire, &[*client as u64]),
+        Step::Stop { node } => {
+            let name = node_text(alloc, node.kind, node.number)?;
+            kind_line(alloc, Kind::Stop, vec![in alloc; Json::String(name)]?)
+        }
     }
 }
 
-fn invoke_json(alloc: Global, client: u32, command: &Command) -> Result<Json, NoMemory>
-    ensures data { IfOk result (λ json. view json ≡ step_data (Step.Invoke client command.now)) }
-    ensures reads { OnOk result (ReadsBack (Step.Invoke client command.now)) }
+// A line of a kind with these numbers.
+fn numbers(alloc: Global, kind: Kind, numbers: &[u64]) -> Result<Json, NoMemory>
+    requires { length numbers.now + 1 ≤ length (names_of kind) }
+    ensures { IfOk result (λ json. view json ≡ kind_line kind (map count numbers.now)) }
 {
-    let command = command_json(alloc, command)?;
-    let json = json!(in alloc; {"client": client, "cmd": command, "do": "invoke"})?;
-    Ok(json)
+    let mut values = Vec::new(alloc);
+    for number in numbers {
+        values.push(Json::from(*number))?;
+    }
+    kind_line(alloc, kind, values)
 }
 
-fn deliver_json(alloc: Global, message: u64) -> Result<Json, NoMemory>
-    ensures data { IfOk result (λ json. view json ≡ step_data (Step.Deliver message)) }
-    ensures reads { ReadsBack (Step.Deliver message) }
+// A line of a kind: its text under do, and these values under the other names.
+fn kind_line(alloc: Global, kind: Kind, values: Vec<Json>) -> Result<Json, NoMemory>
+    requires { vec_len values + 1 ≤ length (names_of kind) }
+    ensures { IfOk result (λ json. view json ≡ kind_line kind (map view values.items)) }
 {
-    json!(in alloc; {"do": "deliver", "msg": message})
+    let mut values = values;
+    values.insert(0, text(alloc, kind.word().as_str())?)?;
+    object(alloc, kind.names(), values)
 }
 
-fn retry_json(alloc: Global, client: u32, seq: u32) -> Result<Json, NoMemory>
-    ensures data { IfOk result (λ json. view json ≡ step_data (Step.Retry client seq)) }
-    ensures reads { ReadsBack (Step.Retry client seq) }
+// An object with these values under these names.
+fn object(alloc: Global, names: &[FieldName], values: Vec<Json>) -> Result<Json, NoMemory>
+    requires { vec_len values ≤ length names.now }
+    ensures { IfOk result (λ json. view json ≡ object (with_values names.now (map view values.items))) }
 {
-    json!(in alloc; {"client": client, "do": "retry", "seq": seq})
+    let mut values = values;
+    let mut members = Map::new(alloc);
+    'values: while let Some(value) = values.pop() {
+        let name = names[values.len()];
+        let key = String::from_str(alloc, name.as_str())?;
+        drop(members.insert(key, value)?);
+    }
+    Ok(Json::Object(members))
 }
 
-fn fetch_json(alloc: Global, client: u32) -> Result<Json, NoMemory>
-    ensures data { IfOk result (λ json. view json ≡ step_data (Step.Fetch client)) }
-    ensures reads { ReadsBack (Step.Fetch client) }
+fn text(alloc: Global, text: &str) -> Result<Json, NoMemory>
+    ensures { IfOk result (λ json. view json ≡ string text.now) }
 {
-    json!(in alloc; {"client": client, "do": "fetch"})
-}
-
-fn sync_json(alloc: Global, master: u32) -> Result<Json, NoMemory>
-    ensures data { IfOk result (λ json. view json ≡ step_data (Step.Sync master)) }
-    ensures reads { ReadsBack (Step.Sync master) }
-{
-    json!(in alloc; {"do": "sync", "master": master})
-}
-
-fn collect_json(alloc: Global, master: u32) -> Result<Json, NoMemory>
-    ensures data { IfOk result (λ json. view json ≡ step_data (Step.Collect master)) }
-    ensures reads { ReadsBack (Step.Collect master) }
-{
-    json!(in alloc; {"do": "collect", "master": master})
-}
-
-fn recover_json(alloc: Global, part: u32, backup: u32, witness: u32) -> Result<Json, NoMemory>
-    ensures data { IfOk result (λ json. view json ≡ step_data (Step.Recover part backup witness)) }
-    ensures reads { ReadsBack (Step.Recover part backup witness) }
-{
-    json!(in alloc; {"backup": backup, "do": "recover", "part": part, "witness": witness})
-}
-
-fn replace_json(alloc: Global, keeper: Keeper, part: u32, place: u32) -> Result<Json, NoMemory>
-    ensures data { IfOk result (λ json. view json ≡ step_data (Step.Replace keeper part place)) }
-    ensures reads { ReadsBack (Step.Replace keeper part place) }
-{
-    let kind = keeper_text(keeper);
-    json!(in alloc; {"do": "replace", "kind": kind, "part": part, "place": place})
+    Ok(Json::String(String::from_str(alloc, text)?))
 }
 
 fn keeper_text(keeper: Keeper) -> &'static str
@@ -150,36 +163,4 @@ fn keeper_text(keeper: Keeper) -> &'static str
         Keeper::Backup => "backup",
         Keeper::Witness => "witness",
     }
-}
-
-fn migrate_json(alloc: Global, lo: u64, hi: u64, to: u32) -> Result<Json, NoMemory>
-    ensures data { IfOk result (λ json. view json ≡ step_data (Step.Migrate lo hi to)) }
-    ensures reads { ReadsBack (Step.Migrate lo hi to) }
-{
-    let hi = hex_text(alloc, &hi.to_be_bytes())?;
-    let lo = hex_text(alloc, &lo.to_be_bytes())?;
-    json!(in alloc; {"do": "migrate", "hi": &hi, "lo": &lo, "to": to})
-}
-
-fn nudge_json(alloc: Global) -> Result<Json, NoMemory>
-    ensures data { IfOk result (λ json. view json ≡ step_data Step.Nudge) }
-    ensures reads { ReadsBack Step.Nudge }
-{
-    json!(in alloc; {"do": "nudge"})
-}
-
-fn expire_json(alloc: Global, client: u32) -> Result<Json, NoMemory>
-    ensures data { IfOk result (λ json. view json ≡ step_data (Step.Expire client)) }
-    ensures reads { ReadsBack (Step.Expire client) }
-{
-    json!(in alloc; {"client": client, "do": "expire"})
-}
-
-fn stop_json(alloc: Global, node: NodeId) -> Result<Json, NoMemory>
-    requires { NamesNode (Step.Stop node) }
-    ensures data { IfOk result (λ json. view json ≡ step_data (Step.Stop node)) }
-    ensures reads { ReadsBack (Step.Stop node) }
-{
-    let name = node_text(alloc, node.kind, node.number)?;
-    json!(in alloc; {"do": "stop", "node": &name})
 }

@@ -1,12 +1,11 @@
 // The lines of the format, written by hand: what is read, what is refused first, and what is printed. A form that isn't
 // built yet is refused as such; the tables say what it is read as once it is.
-ghost use Rattle.std.specs.Prelude.{◌≡◌};
+ghost use Rattle.std.specs.Prelude.{◌≡◌, IsTrue};
 ghost use Rattle.curp_script.specs.Printed.{NamesNode};
 
-use crate::words::{hash_of, node_of};
 use crate::{
-    FieldName, Header, LineError, Protocol, Step, Word, parse_header, parse_line, print_header,
-    print_line,
+    FieldName as F, Header, LineError, LineReader, Protocol, Step, Word as W, bad_field,
+    print_header, print_line,
 };
 use curp_base::NoMemory;
 use curp_cmd::{Command, Keeper, Key, NodeId, NodeKind, Value};
@@ -23,125 +22,303 @@ const HEADER: Header = Header {
     ways: 4,
 };
 
-fn bad(name: FieldName) -> LineError {
-    LineError::BadField { name }
-}
+// Lines, one to a row, and behind each why it is refused or what it is. A third word names the form of the grammar that
+// the line needs: until that is built, the line is refused for it.
+const LINES: &str = r#"
+ | bad json
+7 | bad json
+[{"do":"deliver","msg":1}] | bad json
+{"do":"deliver","msg":1 | bad json
+{"do":"deliver","msg":1}} | bad json
+{"do":"deliver","msg":1,} | bad json
+{"do":"deliver","msg":} | bad json
+{"do":"deliver","msg":01} | bad json
+{"do":"deliver","msg":+1} | bad json
+{"do":"deliver","msg":1e400} | bad json
+{"do":"deliver","msg":1,"x":[{"y":-1e400}]} | bad json
+{} | bad field do
+{"do":"deliver ","msg":"x"} | bad field do
+{"do":["deliver"],"msg":1} | bad field do
+{"do":"deliver"} | bad field msg
+{"a":1,"do":"deliver","msg":"x"} | bad field msg
+{"a":1,"do":"deliver","msg":1} | bad field other
+{"do":"deliver","msg":18446744073709551615} | Deliver { message: 18446744073709551615 }
+{"do": "deliver", "msg": 10} | Deliver { message: 10 }
+{"msg":7,"do":"deliver"} | Deliver { message: 7 }
+{ "msg" : 7 , "\u0064o":"deliv\u0065r" } | Deliver { message: 7 }
+{"do":7,"msg":1,"do":"deliver","msg":2} | Deliver { message: 2 }
+{"do":"deliver","msg":1.0} | bad field msg
+{"do":"deliver","msg":1e0} | bad field msg
+{"do":"deliver","msg":-0} | bad field msg
+{"do":"deliver","msg":-1} | bad field msg
+{"do":"deliver","msg":18446744073709551616} | bad field msg
+{"do":"deliver","msg":"1"} | bad field msg
+{"do":"deliver","msg":[1]} | bad field msg
+{"do":"deliver","msg":1,"msg":null} | bad field msg
+{"do":"deliver","Msg":1} | bad field msg
+{"cmd":7,"do":"invoke"} | bad field client
+{"client":4294967296,"cmd":["put"],"do":"invoke"} | bad field client
+{"a":1,"client":1,"do":"invoke"} | bad field cmd
+{"client":1,"cmd":["incr","61"],"do":"invoke","msg":1} | bad field other
+{"do":"retry","seq":-1} | bad field client | retry
+{"client":1,"do":"retry","seq":-1,"z":1} | bad field seq | retry
+{"client":[],"do":"fetch"} | bad field client | fetch
+{"do":"sync","master":4294967296} | bad field master | sync
+{"client":1,"do":"collect","master":1} | bad field other | collect
+{"do":"recover","part":"1"} | bad field backup | recover
+{"backup":1,"do":"recover","part":"1"} | bad field part | recover
+{"backup":1,"do":"recover","part":1} | bad field witness | recover
+{"do":"replace","kind":"master","part":-1} | bad field kind | replace
+{"do":"replace","kind":"backup","part":1} | bad field place | replace
+{"do":"migrate","hi":"0","lo":0,"to":1} | bad field hi | migrate
+{"do":"migrate","hi":"0000000000000000","lo":"000000000000000F"} | bad field lo | migrate
+{"do":"migrate","hi":"0000000000000000","lo":"00000000000000000"} | bad field lo | migrate
+{"do":"migrate","hi":"0000000000000000","lo":"ffffffffffffffff"} | bad field to | migrate
+{"do":"nudge","client":1} | bad field other | nudge
+{"do":"expire"} | bad field client | expire
+{"do":"stop","node":""} | bad field node | stop
+{"do":"stop","node":"G0"} | bad field node | stop
+{"do":"stop","node":"M0"} | bad field node | stop
+{"do":"stop","node":"M01"} | bad field node | stop
+{"do":"stop","node":"B4294967296"} | bad field node | stop
+{"do":"stop","node":"W99999999999999999999"} | bad field node | stop
+{"do":"stop","node":"X1"} | bad field node | stop
+"#;
 
-fn later(word: Word) -> LineError {
-    LineError::Later { word }
-}
+const COMMANDS: &str = r#"
+7 | bad field cmd
+"put" | bad field cmd
+{"put":["61","31"]} | bad field cmd
+[] | bad field cmd
+[["put"],"61","31"] | bad field cmd
+["Put","61","31"] | bad field cmd
+["put"] | bad field cmd
+["put","61"] | bad field cmd
+["put","61","31",""] | bad field cmd
+["put",61,"31"] | bad field cmd
+["put",["61"],"31"] | bad field cmd
+["put","","31"] | bad field cmd
+["put","6","31"] | bad field cmd
+["put","6A","31"] | bad field cmd
+["put","6g","31"] | bad field cmd
+["put","61","3"] | bad field cmd
+["put","61","31 "] | bad field cmd
+["put","61",null] | bad field cmd
+["delete","61","31"] | bad field cmd
+["condput","61","31"] | bad field cmd
+["condput","61",0,"31"] | bad field cmd
+["condput","61",null,null] | bad field cmd
+["multi"] | bad field cmd
+["multi","61"] | bad field cmd
+["multi","61","31","62"] | bad field cmd
+["multi","61","31","62","","61","32"] | bad field cmd
+["multi","61","","62","","63","","64","","65",""] | bad field cmd
+["multi","61","","62","","63","","64","","65"] | bad field cmd
+["get"] | bad field cmd | get
+["get",61,"31"] | bad field cmd | get
+"#;
 
-// What is wrong behind a form of the grammar, where that is built.
-fn behind(word: Word, reason: LineError) -> LineError {
-    if word.is_built() { reason } else { later(word) }
-}
+const HEADERS: &str = r#"
+ | bad json
+[] | bad json
+{"do":"deliver","msg":1} | bad field clients
+{"clients":0,"f":0} | bad field clients
+{"clients":65,"f":0} | bad field clients
+{"clients":1,"f":6,"fast":0} | bad field f
+{"clients":1,"f":1,"fast":0} | bad field fast
+{"clients":1,"f":1,"fast":true,"parts":0} | bad field parts | fast
+{"clients":1,"f":1,"fast":false,"parts":17} | bad field parts
+{"clients":1,"f":1,"fast":false,"parts":2} | bad field protocol | parts
+{"clients":1,"f":1,"fast":false,"parts":1,"protocol":2,"sets":0} | not built yet: protocol
+{"clients":1,"f":1,"fast":false,"parts":1,"protocol":3} | bad field protocol
+{"clients":1,"f":1,"fast":false,"parts":1,"protocol":1,"sets":1025} | bad field sets
+{"clients":1,"f":1,"fast":false,"parts":1,"protocol":1,"sets":1,"ways":17,"x":1} | bad field ways
+{"clients":1,"do":"","f":1,"fast":false,"parts":1,"protocol":1,"sets":1,"ways":1} | bad field other
+"#;
 
-fn read_where_built(word: Word, step: Step) -> Result<Step, LineError> {
-    if word.is_built() {
-        Ok(step)
-    } else {
-        Err(later(word))
-    }
-}
-
-fn node(kind: NodeKind, number: u32) -> NodeId
-    ensures { result ≡ record { kind = kind; number = number } }
-{
-    NodeId { kind, number }
+// Whether a row tells what was read of its line.
+fn is_told(alloc: Global, row: &str, got: &str) -> Result<bool, NoMemory> {
+    let mut columns = row.split(" | ").skip(1);
+    let is_told = columns.next() == Some(got);
+    let Some(word) = columns.next() else {
+        return Ok(is_told);
+    };
+    Ok(is_told || got == format!(in alloc; "not built yet: {word}")?.as_str())
 }
 
 #[test]
-fn commands_are_read(rt: HostRuntime) -> Result<(), Fail> {
-    let (a, b, c, d) = (
-        Key::new(b"a")?,
-        Key::new(b"b")?,
-        Key::new(b"\xaf\x09")?,
-        Key::new(b"\x00")?,
-    );
+fn lines_are_read_or_refused(rt: HostRuntime) -> Result<(), Fail> {
+    let alloc = rt.alloc();
+    let mut reader = LineReader::new(alloc);
+    for (rows, front, back) in [
+        (LINES, "", ""),
+        (COMMANDS, r#"{"client":7,"cmd":"#, r#","do":"invoke"}"#),
+    ] {
+        for row in rows.trim_matches('\n').lines() {
+            let line = row.split(" | ").next().unwrap_or("");
+            let line = format!(in alloc; "{front}{line}{back}")?;
+            let got = match reader.parse_line(line.as_bytes()) {
+                Ok(step) => format!(in alloc; "{step:?}")?,
+                Err(reason) => format!(in alloc; "{reason}")?,
+            };
+            assert!(rt; is_told(alloc, row, &got)?, "{row}: {got}");
+        }
+    }
+    Ok(())
+}
+
+#[test]
+fn headers_are_refused(rt: HostRuntime) -> Result<(), Fail> {
+    let alloc = rt.alloc();
+    let mut reader = LineReader::new(alloc);
+    for row in HEADERS.trim_matches('\n').lines() {
+        let line = row.split(" | ").next().unwrap_or("");
+        let got = match reader.parse_header(line.as_bytes()) {
+            Ok(header) => format!(in alloc; "{header:?}")?,
+            Err(reason) => format!(in alloc; "{reason}")?,
+        };
+        assert!(rt; is_told(alloc, row, &got)?, "{row}: {got}");
+    }
+    let line = b"{\"clients\":1,\"f\":1,\"fast\":\"\xff\"}";
+    assert_eq!(rt; reader.parse_header(line), Err(LineError::BadJson));
+    Ok(())
+}
+
+fn bad(name: F) -> LineError {
+    LineError::BadField { name }
+}
+
+// The step is read, or a form of the grammar that it needs isn't built.
+fn is_read(got: Result<Step, LineError>, step: Step) -> bool {
+    match got {
+        Ok(read) => read == step,
+        Err(LineError::Later { word }) => !word.is_built(),
+        Err(_) => false,
+    }
+}
+
+fn names_node(step: &Step) -> bool
+    ensures { IsTrue result → NamesNode step.now }
+{
+    match step {
+        Step::Stop { node } => match node.kind {
+            NodeKind::Manager => node.number == 0,
+            _ => node.number != 0,
+        },
+        _ => true,
+    }
+}
+
+fn prints(alloc: Global, step: &Step, want: &str) -> Result<bool, NoMemory> {
+    Ok(names_node(step) && print_line(alloc, step)?.as_slice() == want.as_bytes())
+}
+
+// A line is read as the step, and printed for it.
+fn goes_both_ways(
+    alloc: Global,
+    reader: &mut LineReader,
+    line: &str,
+    step: Step,
+) -> Result<bool, NoMemory> {
+    Ok(is_read(reader.parse_line(line.as_bytes()), step) && prints(alloc, &step, line)?)
+}
+
+#[test]
+fn steps_are_read_and_printed(rt: HostRuntime) -> Result<(), Fail> {
+    let mut reader = LineReader::new(rt.alloc());
+    let stop = |kind, number| Step::Stop {
+        node: NodeId { kind, number },
+    };
+    let steps = [
+        Step::Deliver { message: 0 },
+        Step::Retry { client: 1, seq: 2 },
+        Step::Fetch { client: u32::MAX },
+        Step::Sync { master: 0 },
+        Step::Collect { master: 3 },
+        Step::Recover {
+            part: 2,
+            backup: 1,
+            witness: 3,
+        },
+        Step::Replace {
+            keeper: Keeper::Backup,
+            part: 1,
+            place: 2,
+        },
+        Step::Replace {
+            keeper: Keeper::Witness,
+            part: 1,
+            place: 2,
+        },
+        Step::Migrate {
+            lo: 0,
+            hi: 0x0fff_ffff_ffff_ffff,
+            to: 2,
+        },
+        Step::Nudge,
+        Step::Expire { client: 1 },
+        stop(NodeKind::Manager, 0),
+        stop(NodeKind::Client, 1),
+        stop(NodeKind::Master, 20),
+        stop(NodeKind::Backup, u32::MAX),
+        stop(NodeKind::Witness, 9),
+    ];
+    let lines = r#"{"do":"deliver","msg":0}
+{"client":1,"do":"retry","seq":2}
+{"client":4294967295,"do":"fetch"}
+{"do":"sync","master":0}
+{"do":"collect","master":3}
+{"backup":1,"do":"recover","part":2,"witness":3}
+{"do":"replace","kind":"backup","part":1,"place":2}
+{"do":"replace","kind":"witness","part":1,"place":2}
+{"do":"migrate","hi":"0fffffffffffffff","lo":"0000000000000000","to":2}
+{"do":"nudge"}
+{"client":1,"do":"expire"}
+{"do":"stop","node":"G"}
+{"do":"stop","node":"C1"}
+{"do":"stop","node":"M20"}
+{"do":"stop","node":"B4294967295"}
+{"do":"stop","node":"W9"}"#;
+    assert_eq!(rt; lines.lines().count(), steps.len());
+    for (line, step) in lines.lines().zip(steps) {
+        assert!(rt;
+            goes_both_ways(rt.alloc(), &mut reader, line, step)?,
+            "{line}"
+        );
+    }
+    Ok(())
+}
+
+#[test]
+fn commands_are_read_and_printed(rt: HostRuntime) -> Result<(), Fail> {
+    let (a, b) = (Key::new(b"a")?, Key::new(b"\xaf\x09")?);
     let (one, empty) = (Value::new(b"1")?, Value::new(b"")?);
-    let put_all = Command::multi(&[(a, one), (b, empty), (c, one), (d, one)])?;
-    for (command, word, want) in [
-        (r#"["get","61"]"#, Word::Get, Command::Get(a)),
-        (r#"["put","61","31"]"#, Word::Invoke, Command::Put(a, one)),
-        (r#"["put","af09",""]"#, Word::Invoke, Command::Put(c, empty)),
-        (r#"["delete","62"]"#, Word::Invoke, Command::Delete(b)),
-        (r#"["incr","00"]"#, Word::Invoke, Command::Incr(d)),
-        (
-            r#"["append","61","31"]"#,
-            Word::Invoke,
-            Command::Append(a, one),
-        ),
+    let mut reader = LineReader::new(rt.alloc());
+    for (text, command) in [
+        (r#"["get","61"]"#, Command::Get(a)),
+        (r#"["put","61","31"]"#, Command::Put(a, one)),
+        (r#"["put","af09",""]"#, Command::Put(b, empty)),
+        (r#"["delete","61"]"#, Command::Delete(a)),
+        (r#"["incr","61"]"#, Command::Incr(a)),
+        (r#"["append","61","31"]"#, Command::Append(a, one)),
         (
             r#"["condput","61",null,"31"]"#,
-            Word::Invoke,
             Command::CondPut(a, None, one),
         ),
         (
             r#"["condput","61","","31"]"#,
-            Word::Invoke,
             Command::CondPut(a, Some(empty), one),
         ),
+        (r#"["multi","61","31"]"#, Command::multi(&[(a, one)])?),
         (
-            r#"["multi","61","31"]"#,
-            Word::Invoke,
-            Command::multi(&[(a, one)])?,
-        ),
-        (
-            r#"["multi","61","31","62","","af09","31","00","31"]"#,
-            Word::Invoke,
-            put_all,
+            r#"["multi","af09","","61","31"]"#,
+            Command::multi(&[(b, empty), (a, one)])?,
         ),
     ] {
-        let line = format!(in rt.alloc(); "{{\"client\":7,\"cmd\":{command},\"do\":\"invoke\"}}")?;
-        let step = Step::Invoke {
-            client: 7,
-            command: want,
-        };
-        let got = parse_line(rt.alloc(), line.as_bytes());
-        assert_eq!(rt; got, read_where_built(word, step), "{line}");
-    }
-    Ok(())
-}
-
-#[test]
-fn bad_commands_are_refused(rt: HostRuntime) -> Result<(), Fail> {
-    let cmd = bad(FieldName::Cmd);
-    for (command, want) in [
-        ("7", cmd),
-        (r#""put""#, cmd),
-        (r#"{"put":["61","31"]}"#, cmd),
-        ("[]", cmd),
-        (r#"[["put"],"61","31"]"#, cmd),
-        (r#"["Put","61","31"]"#, cmd),
-        (r#"["put"]"#, cmd),
-        (r#"["put","61"]"#, cmd),
-        (r#"["put","61","31",""]"#, cmd),
-        (r#"["put",61,"31"]"#, cmd),
-        (r#"["put",["61"],"31"]"#, cmd),
-        (r#"["put","","31"]"#, cmd),
-        (r#"["put","6","31"]"#, cmd),
-        (r#"["put","6A","31"]"#, cmd),
-        (r#"["put","6g","31"]"#, cmd),
-        (r#"["put","61","3"]"#, cmd),
-        (r#"["put","61","31 "]"#, cmd),
-        (r#"["put","61",null]"#, cmd),
-        (r#"["delete","61","31"]"#, cmd),
-        (r#"["condput","61","31"]"#, cmd),
-        (r#"["condput","61",0,"31"]"#, cmd),
-        (r#"["condput","61",null,null]"#, cmd),
-        (r#"["multi"]"#, cmd),
-        (r#"["multi","61"]"#, cmd),
-        (r#"["multi","61","31","62"]"#, cmd),
-        (r#"["multi","61","31","62","","61","32"]"#, cmd),
-        (r#"["multi","61","","62","","63","","64","","65",""]"#, cmd),
-        (r#"["get"]"#, behind(Word::Get, cmd)),
-        (r#"["get",61,"31"]"#, behind(Word::Get, cmd)),
-        (r#"["Get","61"]"#, cmd),
-    ] {
-        let line = format!(in rt.alloc(); "{{\"client\":7,\"cmd\":{command},\"do\":\"invoke\"}}")?;
-        assert_eq!(rt;
-            parse_line(rt.alloc(), line.as_bytes()),
-            Err(want),
+        let line = format!(in rt.alloc(); "{{\"client\":7,\"cmd\":{text},\"do\":\"invoke\"}}")?;
+        let step = Step::Invoke { client: 7, command };
+        assert!(rt;
+            goes_both_ways(rt.alloc(), &mut reader, &line, step)?,
             "{line}"
         );
     }
@@ -149,392 +326,13 @@ fn bad_commands_are_refused(rt: HostRuntime) -> Result<(), Fail> {
 }
 
 #[test]
-fn keys_and_values_have_their_lengths(rt: HostRuntime) -> Result<(), Fail> {
-    for (key_len, value_len, is_read) in [
-        (1, 0, true),
-        (32, 128, true),
-        (0, 1, false),
-        (33, 1, false),
-        (1, 129, false),
-        (200, 1, false),
-    ] {
-        let key = "ab".repeat(rt.alloc(), key_len)?;
-        let value = "0f".repeat(rt.alloc(), value_len)?;
-        let line = format!(in rt.alloc();
-            "{{\"do\":\"invoke\",\"client\":1,\"cmd\":[\"put\",\"{key}\",\"{value}\"]}}"
-        )?;
-        let step = parse_line(rt.alloc(), line.as_bytes());
-        assert_eq!(rt; step.is_ok(), is_read, "{line}");
-        assert!(rt; is_read || step == Err(bad(FieldName::Cmd)), "{line}");
-    }
-    Ok(())
-}
-
-#[test]
-fn steps_are_read(rt: HostRuntime) {
-    for (line, word, want) in [
-        (
-            r#"{"client":1,"do":"retry","seq":2}"#,
-            Word::Retry,
-            Step::Retry { client: 1, seq: 2 },
-        ),
-        (
-            r#"{"do":"fetch","client":4294967295}"#,
-            Word::Fetch,
-            Step::Fetch { client: u32::MAX },
-        ),
-        (
-            r#"{"do":"sync","master":0}"#,
-            Word::Sync,
-            Step::Sync { master: 0 },
-        ),
-        (
-            r#"{"do":"collect","master":3}"#,
-            Word::Collect,
-            Step::Collect { master: 3 },
-        ),
-        (
-            r#"{"backup":1,"do":"recover","part":2,"witness":3}"#,
-            Word::Recover,
-            Step::Recover {
-                part: 2,
-                backup: 1,
-                witness: 3,
-            },
-        ),
-        (
-            r#"{"do":"replace","kind":"backup","part":1,"place":2}"#,
-            Word::Replace,
-            Step::Replace {
-                keeper: Keeper::Backup,
-                part: 1,
-                place: 2,
-            },
-        ),
-        (
-            r#"{"do":"replace","kind":"witness","part":1,"place":2}"#,
-            Word::Replace,
-            Step::Replace {
-                keeper: Keeper::Witness,
-                part: 1,
-                place: 2,
-            },
-        ),
-        (
-            r#"{"do":"migrate","hi":"0fffffffffffffff","lo":"0000000000000000","to":2}"#,
-            Word::Migrate,
-            Step::Migrate {
-                lo: 0,
-                hi: 0x0fff_ffff_ffff_ffff,
-                to: 2,
-            },
-        ),
-        (r#"{"do":"nudge"}"#, Word::Nudge, Step::Nudge),
-        (
-            r#"{"client":1,"do":"expire"}"#,
-            Word::Expire,
-            Step::Expire { client: 1 },
-        ),
-        (
-            r#"{"do":"stop","node":"M1"}"#,
-            Word::Stop,
-            Step::Stop {
-                node: node(NodeKind::Master, 1),
-            },
-        ),
-    ] {
-        let got = parse_line(rt.alloc(), line.as_bytes());
-        assert_eq!(rt; got, read_where_built(word, want), "{line}");
-    }
-}
-
-#[test]
-fn messages_are_whole_numbers(rt: HostRuntime) {
-    let msg = Err(bad(FieldName::Msg));
-    for (line, want) in [
-        (r#"{"do":"deliver","msg":0}"#, Ok(0)),
-        (
-            r#"{"do":"deliver","msg":18446744073709551615}"#,
-            Ok(u64::MAX),
-        ),
-        (
-            " {\t\"msg\" : 7 ,\r \"\\u0064o\":\"deliv\\u0065r\" } ",
-            Ok(7),
-        ),
-        (r#"{"do":7,"msg":1,"do":"deliver","msg":2}"#, Ok(2)),
-        (r#"{"do":"deliver","msg":1.0}"#, msg),
-        (r#"{"do":"deliver","msg":1e0}"#, msg),
-        (r#"{"do":"deliver","msg":-0}"#, msg),
-        (r#"{"do":"deliver","msg":-1}"#, msg),
-        (r#"{"do":"deliver","msg":18446744073709551616}"#, msg),
-        (r#"{"do":"deliver","msg":"1"}"#, msg),
-        (r#"{"do":"deliver","msg":true}"#, msg),
-        (r#"{"do":"deliver","msg":[1]}"#, msg),
-        (r#"{"do":"deliver","msg":{"msg":1}}"#, msg),
-        (r#"{"do":"deliver","msg":1,"msg":null}"#, msg),
-        (r#"{"do":"deliver","Msg":1}"#, msg),
-        (r#"{"do":"deliver","msg":01}"#, Err(LineError::BadJson)),
-        (r#"{"do":"deliver","msg":+1}"#, Err(LineError::BadJson)),
-        (r#"{"do":"deliver","msg":1e400}"#, Err(LineError::BadJson)),
-    ] {
-        let want = want.map(|message| Step::Deliver { message });
-        assert_eq!(rt; parse_line(rt.alloc(), line.as_bytes()), want, "{line}");
-    }
-}
-
-#[test]
-fn the_first_fault_is_told(rt: HostRuntime) {
-    for (line, want) in [
-        ("", LineError::BadJson),
-        (" ", LineError::BadJson),
-        ("7", LineError::BadJson),
-        (r#"[{"do":"deliver","msg":1}]"#, LineError::BadJson),
-        (r#"{"do":"deliver","msg":1"#, LineError::BadJson),
-        (r#"{"do":"deliver","msg":1}}"#, LineError::BadJson),
-        (r#"{"do":"deliver","msg":1,}"#, LineError::BadJson),
-        (r#"{'do':"deliver","msg":1}"#, LineError::BadJson),
-        ("{}", bad(FieldName::Do)),
-        (r#"{"msg":"x"}"#, bad(FieldName::Do)),
-        (r#"{"do":"deliver ","msg":"x"}"#, bad(FieldName::Do)),
-        (r#"{"do":null,"msg":1}"#, bad(FieldName::Do)),
-        (r#"{"do":["deliver"],"msg":1}"#, bad(FieldName::Do)),
-        (r#"{"do":"deliver"}"#, bad(FieldName::Msg)),
-        (r#"{"a":1,"do":"deliver","msg":"x"}"#, bad(FieldName::Msg)),
-        (r#"{"a":1,"do":"deliver","msg":1}"#, bad(FieldName::Other)),
-        (r#"{"cmd":7,"do":"invoke"}"#, bad(FieldName::Client)),
-        (
-            r#"{"client":4294967296,"cmd":["get","61"],"do":"invoke"}"#,
-            bad(FieldName::Client),
-        ),
-        (r#"{"a":1,"client":1,"do":"invoke"}"#, bad(FieldName::Cmd)),
-        (
-            r#"{"client":1,"cmd":["get","61"],"do":"invoke","msg":1}"#,
-            behind(Word::Get, bad(FieldName::Other)),
-        ),
-        (
-            r#"{"client":1,"cmd":["incr","61"],"do":"invoke","msg":1}"#,
-            bad(FieldName::Other),
-        ),
-        (
-            r#"{"do":"retry","seq":-1}"#,
-            behind(Word::Retry, bad(FieldName::Client)),
-        ),
-        (
-            r#"{"client":1,"do":"retry","seq":-1,"z":1}"#,
-            behind(Word::Retry, bad(FieldName::Seq)),
-        ),
-        (
-            r#"{"client":[],"do":"fetch"}"#,
-            behind(Word::Fetch, bad(FieldName::Client)),
-        ),
-        (
-            r#"{"do":"sync","master":4294967296}"#,
-            behind(Word::Sync, bad(FieldName::Master)),
-        ),
-        (
-            r#"{"client":1,"do":"collect","master":1}"#,
-            behind(Word::Collect, bad(FieldName::Other)),
-        ),
-        (
-            r#"{"do":"recover","part":"1"}"#,
-            behind(Word::Recover, bad(FieldName::Backup)),
-        ),
-        (
-            r#"{"backup":1,"do":"recover","part":"1"}"#,
-            behind(Word::Recover, bad(FieldName::Part)),
-        ),
-        (
-            r#"{"backup":1,"do":"recover","part":1,"witnes":1}"#,
-            behind(Word::Recover, bad(FieldName::Witness)),
-        ),
-        (
-            r#"{"do":"replace","kind":"master","part":-1,"place":1}"#,
-            behind(Word::Replace, bad(FieldName::Kind)),
-        ),
-        (
-            r#"{"do":"replace","kind":"backup","part":1}"#,
-            behind(Word::Replace, bad(FieldName::Place)),
-        ),
-        (
-            r#"{"do":"migrate","hi":"0","lo":0,"to":1}"#,
-            behind(Word::Migrate, bad(FieldName::Hi)),
-        ),
-        (
-            r#"{"do":"migrate","hi":"0000000000000000","lo":0}"#,
-            behind(Word::Migrate, bad(FieldName::Lo)),
-        ),
-        (
-            r#"{"do":"migrate","hi":"0000000000000000","lo":"000000000000000F"}"#,
-            behind(Word::Migrate, bad(FieldName::Lo)),
-        ),
-        (
-            r#"{"do":"migrate","hi":"0000000000000000","lo":"ffffffffffffffff"}"#,
-            behind(Word::Migrate, bad(FieldName::To)),
-        ),
-        (
-            r#"{"do":"nudge","client":1}"#,
-            behind(Word::Nudge, bad(FieldName::Other)),
-        ),
-        (
-            r#"{"do":"expire"}"#,
-            behind(Word::Expire, bad(FieldName::Client)),
-        ),
-        (
-            r#"{"do":"stop","node":"M0"}"#,
-            behind(Word::Stop, bad(FieldName::Node)),
-        ),
-    ] {
-        assert_eq!(rt;
-            parse_line(rt.alloc(), line.as_bytes()),
-            Err(want),
-            "{line}"
-        );
-    }
-}
-
-#[test]
-fn long_and_deep_lines(rt: HostRuntime) -> Result<(), Fail> {
-    let alloc = rt.alloc();
-    let line = format!(in alloc;
-        "{}{{\"do\":\"deliver\",\"msg\":1}}",
-        " ".repeat(alloc, 65_512)?
-    )?;
-    assert_eq!(rt; line.len(), 65_536);
-    let want = Ok(Step::Deliver { message: 1 });
-    assert_eq!(rt; parse_line(alloc, line.as_bytes()), want);
-    // JSON is read up to 127 levels.
-    for (depth, want) in [(126, bad(FieldName::Other)), (127, LineError::BadJson)] {
-        let (open, close) = ("[".repeat(alloc, depth)?, "]".repeat(alloc, depth)?);
-        let line = format!(in alloc; "{{\"do\":\"deliver\",\"msg\":1,\"x\":{open}{close}}}")?;
-        assert_eq!(rt; parse_line(alloc, line.as_bytes()), Err(want), "{line}");
-    }
-    let not_utf8 = b"{\"do\":\"deliver\",\"msg\":1,\"x\":\"\xff\"}";
-    assert_eq!(rt; parse_line(alloc, not_utf8), Err(LineError::BadJson));
-    Ok(())
-}
-
-#[test]
-fn nodes_and_hashes_are_read(rt: HostRuntime) {
-    for (text, want) in [
-        ("G", Some(node(NodeKind::Manager, 0))),
-        ("C1", Some(node(NodeKind::Client, 1))),
-        ("M20", Some(node(NodeKind::Master, 20))),
-        ("B4294967295", Some(node(NodeKind::Backup, u32::MAX))),
-        ("W9", Some(node(NodeKind::Witness, 9))),
-        ("", None),
-        ("G0", None),
-        ("g", None),
-        ("C", None),
-        ("M0", None),
-        ("M01", None),
-        ("B4294967296", None),
-        ("W99999999999999999999", None),
-        ("X1", None),
-        ("C+1", None),
-        ("C1 ", None),
-        ("C\u{661}", None),
-    ] {
-        assert_eq!(rt; node_of(text), want, "{text}");
-    }
-    for (text, want) in [
-        ("0000000000000000", Some(0)),
-        ("0123456789abcdef", Some(0x0123_4567_89ab_cdef)),
-        ("ffffffffffffffff", Some(u64::MAX)),
-        ("", None),
-        ("000000000000000", None),
-        ("00000000000000", None),
-        ("00000000000000000", None),
-        ("000000000000000000", None),
-        ("000000000000000A", None),
-        ("+000000000000000", None),
-    ] {
-        assert_eq!(rt; hash_of(text), want, "{text}");
-    }
-}
-
-#[test]
-fn headers_are_read(rt: HostRuntime) {
-    let least = Header {
-        clients: 1,
-        f: 1,
-        sets: 1,
-        ways: 1,
-        ..HEADER
-    };
-    let most = Header {
-        clients: 64,
-        f: 5,
-        sets: 1024,
-        ways: 16,
-        ..HEADER
-    };
-    for (line, want) in [
-        (
-            r#"{"clients":1,"f":1,"fast":false,"parts":1,"protocol":1,"sets":1,"ways":1}"#,
-            Ok(least),
-        ),
-        (
-            r#"{"ways":16,"sets":1024,"protocol":1,"parts":1,"fast":false,"f":5,"clients":64}"#,
-            Ok(most),
-        ),
-        ("", Err(LineError::BadJson)),
-        ("[]", Err(LineError::BadJson)),
-        ("\u{feff}{}", Err(LineError::BadJson)),
-        (r#"{"do":"deliver","msg":1}"#, Err(bad(FieldName::Clients))),
-        (r#"{"clients":0,"f":0}"#, Err(bad(FieldName::Clients))),
-        (r#"{"clients":65,"f":0}"#, Err(bad(FieldName::Clients))),
-        (r#"{"clients":1.0,"f":0}"#, Err(bad(FieldName::Clients))),
-        (r#"{"clients":1,"f":0}"#, Err(bad(FieldName::F))),
-        (r#"{"clients":1,"f":6,"fast":0}"#, Err(bad(FieldName::F))),
-        (r#"{"clients":1,"f":1,"fast":0}"#, Err(bad(FieldName::Fast))),
-        (
-            r#"{"clients":1,"f":1,"fast":true,"parts":0}"#,
-            Err(behind(Word::Fast, bad(FieldName::Parts))),
-        ),
-        (
-            r#"{"clients":1,"f":1,"fast":false,"parts":0}"#,
-            Err(bad(FieldName::Parts)),
-        ),
-        (
-            r#"{"clients":1,"f":1,"fast":false,"parts":17}"#,
-            Err(bad(FieldName::Parts)),
-        ),
-        (
-            r#"{"clients":1,"f":1,"fast":false,"parts":2}"#,
-            Err(behind(Word::Parts, bad(FieldName::Protocol))),
-        ),
-        (
-            r#"{"clients":1,"f":1,"fast":false,"parts":16,"protocol":0}"#,
-            Err(behind(Word::Parts, bad(FieldName::Protocol))),
-        ),
-        (
-            r#"{"clients":1,"f":1,"fast":false,"parts":1,"protocol":2,"sets":0}"#,
-            Err(later(Word::Protocol)),
-        ),
-        (
-            r#"{"clients":1,"f":1,"fast":false,"parts":1,"protocol":3}"#,
-            Err(bad(FieldName::Protocol)),
-        ),
-        (
-            r#"{"clients":1,"f":1,"fast":false,"parts":1,"protocol":1,"sets":1025}"#,
-            Err(bad(FieldName::Sets)),
-        ),
-        (
-            r#"{"clients":1,"f":1,"fast":false,"parts":1,"protocol":1,"sets":1,"ways":17,"x":1}"#,
-            Err(bad(FieldName::Ways)),
-        ),
-        (
-            r#"{"clients":1,"do":"","f":1,"fast":false,"parts":1,"protocol":1,"sets":1,"ways":1}"#,
-            Err(bad(FieldName::Other)),
-        ),
-    ] {
-        assert_eq!(rt; parse_header(rt.alloc(), line.as_bytes()), want, "{line}");
-    }
-    assert_eq!(rt; parse_header(rt.alloc(), b"\x80"), Err(LineError::BadJson));
-}
-
-#[test]
-fn headers_are_tested_and_printed(rt: HostRuntime) -> Result<(), Fail> {
+fn headers_are_read_and_printed(rt: HostRuntime) -> Result<(), Fail> {
+    let mut reader = LineReader::new(rt.alloc());
+    let line = r#"{"ways":4,"sets":16,"protocol":1,"parts":1,"fast":false,"f":1,"clients":2}"#;
+    assert_eq!(rt; reader.parse_header(line.as_bytes()), Ok(HEADER));
+    let line = r#"{"clients":2,"f":1,"fast":false,"parts":1,"protocol":1,"sets":16,"ways":4}"#;
+    assert!(rt; print_header(rt.alloc(), &HEADER)?.as_slice() == line.as_bytes());
+    assert_eq!(rt; reader.parse_header(line.as_bytes()), Ok(HEADER));
     for (header, want) in [
         (HEADER, None),
         (
@@ -542,140 +340,68 @@ fn headers_are_tested_and_printed(rt: HostRuntime) -> Result<(), Fail> {
                 clients: 65,
                 ..HEADER
             },
-            Some(FieldName::Clients),
+            Some(F::Clients),
         ),
-        (
-            Header {
-                f: 0,
-                ways: 0,
-                ..HEADER
-            },
-            Some(FieldName::F),
-        ),
+        (Header { f: 0, ..HEADER }, Some(F::F)),
         (
             Header {
                 parts: 17,
                 ..HEADER
             },
-            Some(FieldName::Parts),
+            Some(F::Parts),
         ),
         (
             Header {
                 sets: 1025,
                 ..HEADER
             },
-            Some(FieldName::Sets),
+            Some(F::Sets),
         ),
-        (Header { ways: 17, ..HEADER }, Some(FieldName::Ways)),
+        (Header { ways: 17, ..HEADER }, Some(F::Ways)),
     ] {
-        assert_eq!(rt; header.bad_field(), want);
+        assert_eq!(rt; bad_field(&header), want);
     }
-    let header = Header {
-        fast: true,
-        ..HEADER
-    };
-    let line = print_header(rt.alloc(), &header)?;
-    let want = r#"{"clients":2,"f":1,"fast":true,"parts":1,"protocol":1,"sets":16,"ways":4}"#;
-    assert!(rt; line.as_slice() == want.as_bytes());
     Ok(())
 }
 
-fn prints(alloc: Global, step: &Step, want: &str) -> Result<bool, NoMemory>
-    requires { NamesNode step.now }
-{
-    let line = print_line(alloc, step)?;
-    Ok(line.as_slice() == want.as_bytes())
-}
-
 #[test]
-fn steps_are_printed(rt: HostRuntime) -> Result<(), Fail> {
+fn the_largest_lines_are_read(rt: HostRuntime) -> Result<(), Fail> {
     let alloc = rt.alloc();
-    let step = Step::Deliver { message: 1 };
-    assert!(rt; prints(alloc, &step, r#"{"do":"deliver","msg":1}"#)?);
-    let step = Step::Retry { client: 1, seq: 2 };
-    assert!(rt; prints(alloc, &step, r#"{"client":1,"do":"retry","seq":2}"#)?);
-    let step = Step::Fetch { client: 3 };
-    assert!(rt; prints(alloc, &step, r#"{"client":3,"do":"fetch"}"#)?);
-    let step = Step::Sync { master: 1 };
-    assert!(rt; prints(alloc, &step, r#"{"do":"sync","master":1}"#)?);
-    let step = Step::Collect { master: 2 };
-    assert!(rt; prints(alloc, &step, r#"{"do":"collect","master":2}"#)?);
-    let step = Step::Recover {
-        part: 1,
-        backup: 1,
-        witness: 1,
-    };
-    let want = r#"{"backup":1,"do":"recover","part":1,"witness":1}"#;
-    assert!(rt; prints(alloc, &step, want)?);
-    let step = Step::Replace {
-        keeper: Keeper::Witness,
-        part: 1,
-        place: 2,
-    };
-    let want = r#"{"do":"replace","kind":"witness","part":1,"place":2}"#;
-    assert!(rt; prints(alloc, &step, want)?);
-    let step = Step::Migrate {
-        lo: 0,
-        hi: 0x0fff_ffff_ffff_ffff,
-        to: 2,
-    };
-    let want = r#"{"do":"migrate","hi":"0fffffffffffffff","lo":"0000000000000000","to":2}"#;
-    assert!(rt; prints(alloc, &step, want)?);
-    assert!(rt; prints(alloc, &Step::Nudge, r#"{"do":"nudge"}"#)?);
-    let step = Step::Expire { client: 1 };
-    assert!(rt; prints(alloc, &step, r#"{"client":1,"do":"expire"}"#)?);
-    let master = Step::Stop {
-        node: node(NodeKind::Master, 1),
-    };
-    assert!(rt; prints(alloc, &master, r#"{"do":"stop","node":"M1"}"#)?);
-    let manager = Step::Stop {
-        node: node(NodeKind::Manager, 0),
-    };
-    assert!(rt; prints(alloc, &manager, r#"{"do":"stop","node":"G"}"#)?);
-    Ok(())
-}
-
-#[test]
-fn commands_are_printed(rt: HostRuntime) -> Result<(), Fail> {
-    let (a, b) = (Key::new(b"a")?, Key::new(b"\x0b\xff")?);
-    let (one, empty) = (Value::new(b"1")?, Value::new(b"")?);
-    for (command, want) in [
-        (Command::Get(b), r#"["get","0bff"]"#),
-        (Command::Put(a, one), r#"["put","61","31"]"#),
-        (Command::Delete(a), r#"["delete","61"]"#),
-        (Command::Incr(a), r#"["incr","61"]"#),
-        (Command::Append(a, empty), r#"["append","61",""]"#),
-        (
-            Command::CondPut(a, None, one),
-            r#"["condput","61",null,"31"]"#,
-        ),
-        (
-            Command::CondPut(a, Some(empty), one),
-            r#"["condput","61","","31"]"#,
-        ),
-        (
-            Command::multi(&[(b, one), (a, empty)])?,
-            r#"["multi","0bff","31","61",""]"#,
-        ),
-    ] {
-        let step = Step::Invoke { client: 1, command };
-        let want = format!(in rt.alloc(); "{{\"client\":1,\"cmd\":{want},\"do\":\"invoke\"}}")?;
-        assert!(rt; prints(rt.alloc(), &step, &want)?, "{want}");
+    let mut reader = LineReader::new(alloc);
+    let spaces = " ".repeat(alloc, 65_512)?;
+    let line = format!(in alloc; "{spaces}{{\"do\":\"deliver\",\"msg\":1}}")?;
+    assert_eq!(rt; line.len(), 65_536);
+    assert_eq!(rt;
+        reader.parse_line(line.as_bytes()),
+        Ok(Step::Deliver { message: 1 })
+    );
+    // JSON is read up to 127 levels.
+    for (depth, want) in [(126, bad(F::Other)), (127, LineError::BadJson)] {
+        let (open, close) = ("[".repeat(alloc, depth)?, "]".repeat(alloc, depth)?);
+        let line = format!(in alloc; "{{\"do\":\"deliver\",\"msg\":1,\"x\":{open}{close}}}")?;
+        assert_eq!(rt; reader.parse_line(line.as_bytes()), Err(want), "{line}");
     }
-    Ok(())
-}
-
-#[test]
-fn refusals_are_told(rt: HostRuntime) -> Result<(), Fail> {
-    for (reason, want) in [
-        (LineError::BadJson, "bad json"),
-        (bad(FieldName::Cmd), "bad field cmd"),
-        (bad(FieldName::Other), "bad field other"),
-        (later(Word::Protocol), "not built yet: protocol"),
-        (LineError::NoMemory, "out of memory"),
-    ] {
-        let text = format!(in rt.alloc(); "{reason}")?;
-        assert!(rt; text.as_str() == want, "{want}");
+    let (key, value) = ("0".repeat(alloc, 62)?, "0f".repeat(alloc, 128)?);
+    let line = format!(in alloc;
+        "{{\"client\":1,\"cmd\":[\"multi\",\"{key}01\",\"{value}\",\"{key}02\",\"{value}\",\
+        \"{key}03\",\"{value}\",\"{key}04\",\"{value}\"],\"do\":\"invoke\"}}"
+    )?;
+    let step = reader.parse_line(line.as_bytes());
+    let Ok(step) = step else {
+        assert!(rt; false, "{line}");
+        return Ok(());
+    };
+    assert!(rt; prints(alloc, &step, &line)?, "{line}");
+    for (key_len, value_len) in [(33, 1), (1, 129), (200, 1)] {
+        let (key, value) = ("ab".repeat(alloc, key_len)?, "0f".repeat(alloc, value_len)?);
+        let line = format!(in alloc;
+            "{{\"client\":1,\"cmd\":[\"put\",\"{key}\",\"{value}\"],\"do\":\"invoke\"}}"
+        )?;
+        assert_eq!(rt;
+            reader.parse_line(line.as_bytes()),
+            Err(bad(F::Cmd)),
+            "{line}"
+        );
     }
     Ok(())
 }

@@ -10,20 +10,19 @@ use Rattle.std.proofs.lemmas.List.{map-append}
 use Rattle.std.proofs.lemmas.List.Elements.{filter-append}
 use Rattle.std.proofs.lemmas.List.Sums.{sum_by-cons}
 use Rattle.curp_base.specs.Words.{Each}
-use Rattle.curp_cmd.specs.Hash.{touches}
-use Rattle.curp_cmd.specs.RequestId.{id_cmp}
+use Rattle.curp_cmd.specs.Hash.{touches, hashes}
+use Rattle.curp_cmd.proofs.Ids.{same_id-self}
+use Rattle.curp_cmd.specs.RequestId.{id_cmp, same_id}
 use Rattle.curp_cmd.specs.declared.command.Request.{Request}
 use Rattle.curp_cmd.specs.declared.command.RequestId.{RequestId}
-use Rattle.curp_model.specs.Requests.{hashes, same_id}
-use Rattle.curp_model.specs.Witness.{Held, in_set, placed}
+use Rattle.curp_model.specs.Witness.{in_set, placed, HeldRequest}
 use Rattle.curp_model.proofs.Tables.{ids_same}
 use Rattle.curp_slots.specs.Hashed.{requests_of}
 use Rattle.curp_slots.specs.Holding.{ids_with, used_by}
 use Rattle.curp_slots.specs.Register.{is_held}
-use Rattle.curp_slots.specs.Slots.{owner, owner_in, set_of, with_slot, with_slots}
+use Rattle.curp_slots.specs.Slots.{owner, owner_in, set_of, with_slot, with_slot_in, with_slots}
 use Rattle.curp_slots.specs.declared.set.Slot.{Slot}
-use Rattle.curp_slots.proofs.Ids.{same_self}
-use Rattle.curp_slots.proofs.Taken.{in_set_cases, slots_in_set, with_slot_in}
+use Rattle.curp_slots.proofs.Taken.{in_set_cases, slots_in_set}
 
 -- ---- one slot
 
@@ -143,16 +142,16 @@ total_most (ss ∷ sets) ways most =
 
 -- ---- a request in its place among others
 
-pub record IsPut (x : Held) (held : List Held) : Type 0 where
-  pub front : List Held
-  pub back : List Held
+pub record IsPut (x : HeldRequest) (held : List HeldRequest) : Type 0 where
+  pub front : List HeldRequest
+  pub back : List HeldRequest
   pub before : front ++ back ≡ held
   pub after : front ++ x ∷ back ≡ placed x held
 
-abbrev pub Absent : Held → List Held → Type 0
-Absent x held = Each (λ (y : Held). id_cmp x.request.id y.request.id ≢ Equal) held
+abbrev pub Absent : HeldRequest → List HeldRequest → Type 0
+Absent x held = Each (λ (y : HeldRequest). id_cmp x.request.id y.request.id ≢ Equal) held
 
-pub absent_each : (x : Held) (held : List Held) → is_held x.request.id held ≡ false → Absent x held
+pub absent_each : (x : HeldRequest) (held : List HeldRequest) → is_held x.request.id held ≡ false → Absent x held
 absent_each x [] none = tt
 absent_each x (y ∷ held) none = go (same_id x.request.id y.request.id) refl none (absent_each x held)
   where
@@ -161,23 +160,23 @@ absent_each x (y ∷ held) none = go (same_id x.request.id y.request.id) refl no
     go false e none rest = (
       (λ tied.
           let same : x.request.id ≡ y.request.id = ids_same x.request.id y.request.id tied in
-          let own : same_id x.request.id y.request.id ≡ true = subst (λ (z : RequestId). same_id x.request.id z ≡ true) same (same_self x.request.id) in
+          let own : same_id x.request.id y.request.id ≡ true = subst (λ (z : RequestId). same_id x.request.id z ≡ true) same (same_id-self x.request.id) in
           let wrong : false ≡ true = sym e ∙ own in
           absurd cc),
       rest none,
     )
 
-pub put_among : (x : Held) (held : List Held) → Absent x held → IsPut x held
+pub put_among : (x : HeldRequest) (held : List HeldRequest) → Absent x held → IsPut x held
 put_among x [] a = record { front = []; back = []; before = refl; after = refl }
 put_among x (y ∷ held) a =
     let p = go (id_cmp x.request.id y.request.id) a.0 (put_among x held a.1) in
     record { front = p.0; back = p.1; before = p.2; after = p.3 }
   where
     go : (r : Ordering) → r ≢ Equal → IsPut x held
-        → (front : List Held) × (back : List Held) × (front ++ back ≡ y ∷ held) × (front ++ x ∷ back ≡ by_order r (x ∷ y ∷ held) (x ∷ held) (y ∷ placed x held))
+        → (front : List HeldRequest) × (back : List HeldRequest) × (front ++ back ≡ y ∷ held) × (front ++ x ∷ back ≡ by_order r (x ∷ y ∷ held) (x ∷ held) (y ∷ placed x held))
     go Less other rest = ([], y ∷ held, refl, refl)
     go Equal other rest = absurd (other refl)
-    go Greater other rest = (y ∷ rest.front, rest.back, ap (λ (ys : List Held). y ∷ ys) rest.before, ap (λ (ys : List Held). y ∷ ys) rest.after)
+    go Greater other rest = (y ∷ rest.front, rest.back, ap (λ (ys : List HeldRequest). y ∷ ys) rest.before, ap (λ (ys : List HeldRequest). y ∷ ys) rest.after)
 
 -- ---- what is told of the requests then
 
@@ -198,18 +197,18 @@ ids_among h (q ∷ rs) ss r = go (touches q.command h) (ids_among h rs ss r)
 ids_appended : (h : ℕ) (rs ss : List Request) → ids_with h (rs ++ ss) ≡ ids_with h rs ++ ids_with h ss
 ids_appended h rs ss = ap (map (λ (r : Request). r.id)) (filter-append (λ (r : Request). touches r.command h) rs ss) ∙ map-append (λ (r : Request). r.id) (filter (λ (r : Request). touches r.command h) rs) (filter (λ (r : Request). touches r.command h) ss)
 
-requests_put : (x : Held) (held : List Held) (p : IsPut x held) → requests_of (placed x held) ≡ requests_of p.front ++ x.request ∷ requests_of p.back
-requests_put x held p = sym (ap requests_of p.after) ∙ map-append (λ (y : Held). y.request) p.front (x ∷ p.back)
+requests_put : (x : HeldRequest) (held : List HeldRequest) (p : IsPut x held) → requests_of (placed x held) ≡ requests_of p.front ++ x.request ∷ requests_of p.back
+requests_put x held p = sym (ap requests_of p.after) ∙ map-append (λ (y : HeldRequest). y.request) p.front (x ∷ p.back)
 
-requests_before : (x : Held) (held : List Held) (p : IsPut x held) → requests_of held ≡ requests_of p.front ++ requests_of p.back
-requests_before x held p = sym (ap requests_of p.before) ∙ map-append (λ (y : Held). y.request) p.front p.back
+requests_before : (x : HeldRequest) (held : List HeldRequest) (p : IsPut x held) → requests_of held ≡ requests_of p.front ++ requests_of p.back
+requests_before x held p = sym (ap requests_of p.before) ∙ map-append (λ (y : HeldRequest). y.request) p.front p.back
 
 both_empty : {A : Type 0} (xs ys : List A) (x : A) → xs ++ ys ≡ [] → xs ++ x ∷ ys ≡ x ∷ []
 both_empty [] ys x e = ap (λ (zs : List _). x ∷ zs) e
 both_empty (y ∷ xs) ys x e = absurd cc
 
 -- it has the hash, which nothing had; or it hasn't, and those are the same that had it
-pub ids_put : (h : ℕ) (x : Held) (held : List Held) → IsPut x held → (b : Bool) → touches x.request.command h ≡ b → (b ≡ true → ids_with h (requests_of held) ≡ [])
+pub ids_put : (h : ℕ) (x : HeldRequest) (held : List HeldRequest) → IsPut x held → (b : Bool) → touches x.request.command h ≡ b → (b ≡ true → ids_with h (requests_of held) ≡ [])
     → ids_with h (requests_of (placed x held)) ≡ cond b (x.request.id ∷ []) (ids_with h (requests_of held))
 ids_put h x held p true e none =
     let empty : ids_with h (requests_of p.front) ++ ids_with h (requests_of p.back) ≡ [] = sym (ids_appended h (requests_of p.front) (requests_of p.back)) ∙ sym (ap (ids_with h) (requests_before x held p)) ∙ none refl in
@@ -235,13 +234,13 @@ used_among n s (q ∷ rs) ss r =
     let after = used_cons n s q (rs ++ r ∷ ss) in
     omega (arith, rest, before, after)
 
-pub used_put : (n s : ℕ) (x : Held) (held : List Held) → IsPut x held → used_by n (requests_of (placed x held)) s ≡ used_by n (requests_of held) s + in_set n s (hashes x.request.command)
+pub used_put : (n s : ℕ) (x : HeldRequest) (held : List HeldRequest) → IsPut x held → used_by n (requests_of (placed x held)) s ≡ used_by n (requests_of held) s + in_set n s (hashes x.request.command)
 used_put n s x held p =
     ap (λ (rs : List Request). used_by n rs s) (requests_put x held p) ∙ used_among n s (requests_of p.front) (requests_of p.back) x.request
     ∙ ap (λ (rs : List Request). used_by n rs s + in_set n s (hashes x.request.command)) (sym (requests_before x held p))
 
-pub length_put : (x : Held) (held : List Held) → IsPut x held → length (placed x held) ≡ length held + 1
+pub length_put : (x : HeldRequest) (held : List HeldRequest) → IsPut x held → length (placed x held) ≡ length held + 1
 length_put x held p =
-    let all = sym (ap (λ (ys : List Held). length ys) p.after) ∙ length-append p.front (x ∷ p.back) in
-    let before = sym (ap (λ (ys : List Held). length ys) p.before) ∙ length-append p.front p.back in
+    let all = sym (ap (λ (ys : List HeldRequest). length ys) p.after) ∙ length-append p.front (x ∷ p.back) in
+    let before = sym (ap (λ (ys : List HeldRequest). length ys) p.before) ∙ length-append p.front p.back in
     omega (arith, all, before)

@@ -8,10 +8,9 @@ use Rattle.std.specs.declared.cmp.Ordering.TheVariants.{Less, Equal, Greater}
 use Rattle.std.proofs.Math.Nat.{mod-lt}
 use Rattle.std.proofs.lemmas.Bool.{cases_lt}
 use Rattle.std.proofs.lemmas.Bool.Decides.{nat_tests}
-use Rattle.curp_base.specs.Words.{Each}
-use Rattle.curp_model.specs.Requests.{first_of}
-use Rattle.curp_model.specs.Witness.{in_set, numbers_from}
-use Rattle.curp_slots.specs.Slots.{HasRoom, Table, has_no_room, least_full, lesser}
+use Rattle.curp_base.specs.Words.{Each, first_of, numbers_from}
+use Rattle.curp_model.specs.Witness.{in_set}
+use Rattle.curp_slots.specs.Slots.{HasSlotsFor, SlotTable, has_no_room, least_full, lesser}
 use Rattle.curp_slots.proofs.Taken.{in_set_cases}
 
 -- ---- the first number that passes a test
@@ -41,11 +40,11 @@ none_in_set n s (h ∷ hs) apart = elim (in_set_cases n s h hs) [
 ]
 
 -- what is told by the least full set among those of some hashes
-abbrev Tells : Table → List ℕ → List ℕ → Option ℕ → Type 0
+abbrev Tells : SlotTable → List ℕ → List ℕ → Option ℕ → Type 0
 Tells t all hs None = Each (λ (h : ℕ). has_no_room t all (h % length t.sets) ≡ false) hs
 Tells t all hs (Some x) = (has_no_room t all x ≡ true) × ((x < length t.sets) × Each (λ (h : ℕ). has_no_room t all (h % length t.sets) ≡ true → x ≤ h % length t.sets) hs)
 
-module _ (t : Table) (all : List ℕ) where
+module _ (t : SlotTable) (all : List ℕ) where
   later : (x y : ℕ) (hs : List ℕ) → y ≤ x → Each (λ (h : ℕ). has_no_room t all (h % length t.sets) ≡ true → x ≤ h % length t.sets) hs
       → Each (λ (h : ℕ). has_no_room t all (h % length t.sets) ≡ true → y ≤ h % length t.sets) hs
   later x y [] l each = tt
@@ -91,7 +90,7 @@ module _ (t : Table) (all : List ℕ) where
       let wrong : true ≡ false = sym passes ∙ has_room_still s within none in
       absurd cc)
 
-module _ (t : Table) (all : List ℕ) (within : (s : ℕ) → s < length t.sets → length (get_or t.sets s []) ≤ t.ways) where
+module _ (t : SlotTable) (all : List ℕ) (within : (s : ℕ) → s < length t.sets → length (get_or t.sets s []) ≤ t.ways) where
   -- none of the sets is full
   pub none_is_full : Tells t all all None → (s : ℕ) → s < length t.sets → has_no_room t all s ≡ false
   none_is_full told s below =
@@ -110,7 +109,7 @@ module _ (t : Table) (all : List ℕ) (within : (s : ℕ) → s < length t.sets 
   pub first_full : Each (λ (h : ℕ). h % length t.sets < length t.sets) all → first_of (filter (has_no_room t all) (numbers_from 0 (length t.sets))) ≡ least_full t all all
   first_full in_range = first_is (least_full t all all) (least_tells t all all in_range)
 
-  pub room_for_all : Each (λ (h : ℕ). h % length t.sets < length t.sets) all → least_full t all all ≡ None → HasRoom t all
+  pub room_for_all : Each (λ (h : ℕ). h % length t.sets < length t.sets) all → least_full t all all ≡ None → HasSlotsFor t all
   room_for_all in_range none s below =
       let test : has_no_room t all s ≡ false = none_is_full (subst (Tells t all all) none (least_tells t all all in_range)) s below in
       grind (arith, nat_tests)

@@ -1,5 +1,8 @@
 -- A hash that is put in its place among others.
-use Rattle.std.proofs.Common.{◌≡◌, ℕ, zero, suc, ◌+◌, List, [], ◌∷◌, Option, Some, None, refl, ap, arith}
+use Rattle.std.proofs.Common.{◌≡◌, ℕ, zero, suc, ◌+◌, ◌-◌, ◌<◌, ◌≤◌, List, [], ◌∷◌, ◌++◌, length, set, get_or, take, drop, Option, Some, None, refl, ap, sym, ◌∙◌, append_assoc, length-take-le, arith}
+use Rattle.std.proofs.Math.Seq.{paste, set-append_seam, take-set-lt}
+use Rattle.std.proofs.lemmas.List.{drop-take, length-drop, take-take, take_more}
+use Rattle.std.proofs.lemmas.List.Edits.{take-paste}
 use Rattle.std.specs.BTreeSet.{insert_key}
 use Rattle.std.specs.List.{insert}
 use Rattle.std.specs.Option.{option_map}
@@ -41,3 +44,25 @@ no_gap (x ∷ xs) k e = go (nat_cmp k x) e (no_gap xs k)
     go Less e rest = absurd cc
     go Equal e rest = refl
     go Greater e rest = behind (gap xs k) refl e rest
+
+-- ---- in the first places of an array
+
+-- those from a place on move up by one, and another comes to that place
+pub shifted : (held : List ℕ) (len at n : ℕ) → at ≤ len → len < length held → take (len + 1) (set (paste held (at + 1) (drop at held) (len - at)) at n) ≡ insert (take len held) at n
+shifted held len at n within fits =
+    let behind : List ℕ = take (len - at) (drop at held) in
+    let left : length (drop at held) ≡ length held - at = length-drop at held in
+    let end : len + 1 ≡ (at + 1) + (len - at) = omega arith in
+    let whole : at + (len - at) ≡ len = omega arith in
+    let moved : take (len + 1) (paste held (at + 1) (drop at held) (len - at)) ≡ take at held ++ get_or held at 0 ∷ behind =
+    ap (λ k. take k (paste held (at + 1) (drop at held) (len - at))) end
+    ∙ take-paste held (at + 1) (drop at held) (len - at) (omega arith) (omega arith)
+    ∙ ap (λ xs. xs ++ behind) (take_more held at 0 (omega arith))
+    ∙ append_assoc (take at held) (get_or held at 0 ∷ []) behind in
+    let front : length (take at held) ≡ at = length-take-le at held (omega arith) in
+    let put : set (take at held ++ get_or held at 0 ∷ behind) at n ≡ take at held ++ n ∷ behind =
+    ap (λ k. set (take at held ++ get_or held at 0 ∷ behind) k n) (sym front) ∙ set-append_seam (take at held) (get_or held at 0) behind n in
+    take-set-lt (len + 1) (paste held (at + 1) (drop at held) (len - at)) at n (omega arith)
+    ∙ ap (λ xs. set xs at n) moved
+    ∙ put
+    ∙ λ i. sym (take-take at len held within) i ++ n ∷ (sym (drop-take at (len - at) held) ∙ ap (λ k. drop at (take k held)) whole) i

@@ -8,33 +8,34 @@ use Rattle.std.specs.declared.cmp.Ordering.TheVariants.{Less, Equal, Greater}
 use Rattle.std.proofs.lemmas.Bool.Decides.{nat_tests}
 use Rattle.std.proofs.lemmas.List.{length-map}
 use Rattle.std.proofs.lemmas.Simd.{map-map}
-use Rattle.curp_cmd.specs.Hash.{touches}
+use Rattle.curp_cmd.specs.Hash.{touches, hashes}
 use Rattle.curp_cmd.specs.RequestId.{id_cmp}
 use Rattle.curp_cmd.specs.declared.command.Request.{Request}
 use Rattle.curp_cmd.specs.declared.command.RequestId.{RequestId}
-use Rattle.curp_model.specs.Requests.{first_of, hashes}
-use Rattle.curp_model.specs.Witness.{Held, WitnessState, conflict, full_set, in_set, is_full, newly_held, placed, suspect}
+use Rattle.curp_base.specs.Words.{Each, first_of}
+use Rattle.curp_model.specs.Witness.{WitnessState, conflict, full_set, in_set, is_full, newly_held, placed, suspect, HeldRequest}
 use Rattle.curp_model.specs.declared.Mode.{Mode}
 use Rattle.curp_slots.specs.Hashed.{requests_of}
-use Rattle.curp_slots.specs.Holding.{IsWitness, ids_with, used_by, with_owners_marked}
+use Rattle.curp_slots.specs.Holding.{SlotsTell, ids_with, used_by, with_owners_marked}
 use Rattle.curp_slots.specs.Register.{IdsAscend, Registered, is_held}
-use Rattle.curp_slots.specs.Slots.{HasRoom, Table, has_no_room, least_full, least_owner, lesser, owner, with_slots}
+use Rattle.curp_slots.specs.Slots.{HasSlotsFor, SlotTable, has_no_room, least_full, least_owner, lesser, owner, with_slots}
 use Rattle.curp_slots.specs.declared.set.Slot.{Slot}
+use Rattle.curp_slots.proofs.Apart.{IsHashed}
 use Rattle.curp_slots.proofs.Accepting.{IsPut, absent_each, either, ids_put, if_some, length_put, owner_of_all, put_among, sizes_kept, taken_in_set, total, total_most, total_taken, used_put}
 use Rattle.curp_slots.proofs.Filling.{filter_below, first_full, in_range, room_for_all}
 use Rattle.curp_slots.proofs.Touching.{ascend_kept, conflict_least, requests_kept, suspect_keeps, suspects_marked, touches_among}
 
 -- the witness with those slots and that register
-abbrev pub witness_of : Mode → Option ℕ → Table → Registered → WitnessState
+abbrev pub witness_of : Mode → Option ℕ → SlotTable → Registered → WitnessState
 witness_of mode epoch t register = record { mode = mode; epoch = epoch; sets = length t.sets; ways = t.ways; held = register.held }
 
-module _ (mode : Mode) (epoch : Option ℕ) (t : Table) (register : Registered) (w : IsWitness t register) (r : Request) (hs : List ℕ) (is : hs ≡ hashes r.command) where
+module _ (mode : Mode) (epoch : Option ℕ) (t : SlotTable) (register : Registered) (w : SlotsTell t register) (r : Request) (hs : List ℕ) (is : hs ≡ hashes r.command) where
   pub conflict_is : conflict (witness_of mode epoch t register) r ≡ least_owner t.sets hs
   conflict_is = conflict_least t.sets (witness_of mode epoch t register) r w.ascend w.owners ∙ ap (least_owner t.sets) (sym is)
 
   full_alike : (s : ℕ) → 0 ≤ s → s < 0 + length t.sets → is_full (witness_of mode epoch t register) r s ≡ has_no_room t hs s
   full_alike s l below =
-      let used = ap (λ (ns : List ℕ). sum ns) (sym (map-map (λ (q : Request). in_set (length t.sets) s (hashes q.command)) (λ (x : Held). x.request) register.held)) ∙ sym (w.sizes s (omega arith)) in
+      let used = ap (λ (ns : List ℕ). sum ns) (sym (map-map (λ (q : Request). in_set (length t.sets) s (hashes q.command)) (λ (x : HeldRequest). x.request) register.held)) ∙ sym (w.sizes s (omega arith)) in
       λ i. nat_lt t.ways (used i + in_set (length t.sets) s (sym is i))
 
   pub full_is : full_set (witness_of mode epoch t register) r ≡ least_full t hs hs
@@ -42,7 +43,7 @@ module _ (mode : Mode) (epoch : Option ℕ) (t : Table) (register : Registered) 
       ap (λ (ns : List ℕ). first_of ns) (filter_below (is_full (witness_of mode epoch t register) r) (has_no_room t hs) 0 (length t.sets) full_alike)
       ∙ first_full t hs w.within (in_range (length t.sets) hs w.some_sets)
 
-  pub room_is : least_full t hs hs ≡ None → HasRoom t hs
+  pub room_is : least_full t hs hs ≡ None → HasSlotsFor t hs
   room_is none = room_for_all t hs w.within (in_range (length t.sets) hs w.some_sets) none
 
   pub marked_is : with_owners_marked t.sets hs register.held ≡ map (suspect r) register.held
@@ -51,7 +52,7 @@ module _ (mode : Mode) (epoch : Option ℕ) (t : Table) (register : Registered) 
   same_requests : requests_of (map (suspect r) register.held) ≡ requests_of register.held
   same_requests = requests_kept (suspect r) (suspect_keeps r) register.held
 
-  suspected_witness : IsWitness t (record register { held = map (suspect r) register.held })
+  suspected_witness : SlotsTell t (record register { held = map (suspect r) register.held })
   suspected_witness = record {
     some_sets = w.some_sets;
     within = w.within;
@@ -60,12 +61,22 @@ module _ (mode : Mode) (epoch : Option ℕ) (t : Table) (register : Registered) 
     owners = λ h. ap (ids_with h) same_requests ∙ w.owners h;
     sizes = λ s l. w.sizes s l ∙ ap (λ (rs : List Request). used_by (length t.sets) rs s) (sym same_requests);
     filled = rw (length-map register.held (suspect r)) w.filled;
+    hashed = rw same_requests w.hashed;
   }
 
-  pub marked_witness : IsWitness t (record register { held = with_owners_marked t.sets hs register.held })
+  pub marked_witness : SlotsTell t (record register { held = with_owners_marked t.sets hs register.held })
   marked_witness = rw marked_is suspected_witness
 
 -- ---- one more request
+
+each_placed : (P : Request → Type 0) (x : HeldRequest) (held : List HeldRequest) → P x.request → Each P (requests_of held) → Each P (requests_of (placed x held))
+each_placed P x [] p all = (p, tt)
+each_placed P x (y ∷ held) p all = go (id_cmp x.request.id y.request.id) (each_placed P x held p all.1)
+  where
+    go : (r : Ordering) → Each P (requests_of (placed x held)) → Each P (requests_of (by_order r (x ∷ y ∷ held) (x ∷ held) (y ∷ placed x held)))
+    go Less rest = (p, all)
+    go Equal rest = (p, all.1)
+    go Greater rest = (all.0, rest)
 
 lesser_none : (a b : Option RequestId) → lesser id_cmp a b ≡ None → (a ≡ None) × (b ≡ None)
 lesser_none None b e = (refl, e)
@@ -87,8 +98,8 @@ none_owned sets (k ∷ hs) none h among =
     go true e first among rest = let same : k ≡ h = grind (arith, nat_tests) in subst (λ (n : ℕ). owner sets n ≡ None) same first
     go false e first among rest = rest among
 
-module _ (t : Table) (register : Registered) (w : IsWitness t register) (r : Request) (hs : List ℕ) (is : hs ≡ hashes r.command)
-    (absent : is_held r.id register.held ≡ false) (none : least_owner t.sets hs ≡ None) (room : HasRoom t hs) (some : 1 ≤ length hs) where
+module _ (t : SlotTable) (register : Registered) (w : SlotsTell t register) (r : Request) (hs : List ℕ) (is : hs ≡ hashes r.command)
+    (absent : is_held r.id register.held ≡ false) (none : least_owner t.sets hs ≡ None) (room : HasSlotsFor t hs) (some : 1 ≤ length hs) where
   put : IsPut (newly_held r) register.held
   put = put_among (newly_held r) register.held (absent_each (newly_held r) register.held absent)
 
@@ -122,7 +133,7 @@ module _ (t : Table) (register : Registered) (w : IsWitness t register) (r : Req
       let most = total_room in
       omega (arith, all, most, w.filled, w.room)
 
-  pub accepted : IdsAscend (placed (newly_held r) register.held) → IsWitness (record t { sets = with_slots t.sets hs r.id }) (record register { held = placed (newly_held r) register.held })
+  pub accepted : IdsAscend (placed (newly_held r) register.held) → SlotsTell (record t { sets = with_slots t.sets hs r.id }) (record register { held = placed (newly_held r) register.held })
   accepted ascend =
       let size = sizes_kept t.sets hs r.id in
       record {
@@ -140,4 +151,5 @@ module _ (t : Table) (register : Registered) (w : IsWitness t register) (r : Req
             let all = total_taken t.sets hs r.id w.some_sets in
             let count = length_put (newly_held r) register.held put in
             omega (arith, all, count, w.filled);
+        hashed = each_placed IsHashed (newly_held r) register.held (subst (λ (ks : List ℕ). 1 ≤ length ks) is some) w.hashed;
       }

@@ -1,42 +1,21 @@
 -- The order of ids, and lists in which they rise.
-use Rattle.std.proofs.Common.{◌≡◌, inl, inr, ℕ, zero, suc, ◌==◌, ◌&&◌, ◌||◌, ◌<◌, Bool, true, false, List, [], ◌∷◌, length, get_or, Result, Ok, Err, IfOk, IfErr, refl, ap, sym, ◌∙◌, subst, arith, add-one}
+use Rattle.std.proofs.Common.{◌≡◌, inl, inr, ℕ, zero, suc, ◌||◌, ◌<◌, Bool, true, false, List, [], ◌∷◌, length, get_or, Result, Ok, Err, IfOk, IfErr, refl, ap, sym, ◌∙◌, subst, arith, add-one}
 use Rattle.std.specs.List.{insert, list_any}
 use Rattle.std.specs.List.Sorted.{IsSearchInRange, IsBinarySearchResult, IsSortedBy}
 use Rattle.std.specs.Ordering.{is_lt, ordering_reverse}
 use Rattle.std.specs.declared.cmp.Ordering.TheVariants.{Less, Equal, Greater}
-use Rattle.std.proofs.lemmas.Bool.{and_from, cases_lt}
-use Rattle.std.proofs.lemmas.Bool.Decides.{nat_tests}
+use Rattle.std.proofs.lemmas.Bool.{cases_lt}
 use Rattle.std.proofs.lemmas.Cmp.{tied_itself}
 use Rattle.std.proofs.lemmas.List.Sorted.{searchable_from_sorted}
 use Rattle.curp_base.specs.Words.{Each}
-use Rattle.curp_cmd.specs.RequestId.{id_cmp}
+use Rattle.curp_cmd.proofs.Ids.{same_id-self, same_id-true}
+use Rattle.curp_cmd.specs.RequestId.{id_cmp, same_id}
 use Rattle.curp_cmd.specs.declared.command.RequestId.{RequestId}
-use Rattle.curp_model.specs.Requests.{same_id}
 use Rattle.curp_model.proofs.Tables.{ids_total, ids_same}
-use Rattle.curp_slots.specs.Register.{PlacesAscend, IsPlace, IsGap}
+use Rattle.curp_slots.specs.Register.{PlacesAscend, IsIdAt, IsIdGap}
 use Rattle.curp_slots.specs.declared.register.Place.{Place}
 
 -- ---- two ids
-
-equal_self : (n : ℕ) → (n == n) ≡ true
-equal_self n = grind (arith, nat_tests)
-
-pub same_self : (id : RequestId) → same_id id id ≡ true
-same_self id = and_from _ _ (equal_self id.client) (equal_self id.seq)
-
-equal_is : (m n : ℕ) → (m == n) ≡ true → m ≡ n
-equal_is m n e = grind (arith, nat_tests)
-
-pub same_is : (a b : RequestId) → same_id a b ≡ true → a ≡ b
-same_is a b e = parts (a.client == b.client) (a.seq == b.seq) refl refl e
-  where
-    parts : (p q : Bool) → (a.client == b.client) ≡ p → (a.seq == b.seq) ≡ q → (p && q) ≡ true → a ≡ b
-    parts true true p q e =
-        let c : a.client ≡ b.client = equal_is a.client b.client p in
-        let s : a.seq ≡ b.seq = equal_is a.seq b.seq q in
-        λ i. record { client = c i; seq = s i }
-    parts true false p q e = absurd cc
-    parts false q p s e = absurd cc
 
 pub greater_back : (a b : RequestId) → id_cmp a b ≡ Less → id_cmp b a ≡ Greater
 greater_back a b e = ids_total.antisymm b a ∙ ap ordering_reverse e
@@ -54,7 +33,7 @@ pub apart_not_same : (a b : RequestId) → (a ≡ b → ⊥) → same_id a b ≡
 apart_not_same a b apart = go (same_id a b) refl
   where
     go : (t : Bool) → same_id a b ≡ t → t ≡ false
-    go true e = absurd (apart (same_is a b e))
+    go true e = absurd (apart (same_id-true a b e))
     go false e = refl
 
 pub less_not_same : (a b : RequestId) → id_cmp a b ≡ Less → same_id a b ≡ false
@@ -105,13 +84,13 @@ ascend_sorted es s i d l h = rw add-one (ap is_lt (greater_back (get_or es i d).
 
 -- a binary search by id ends at its place, or in its gap
 pub searched : (es : List Place) → PlacesAscend es → (id : RequestId) (r : Result ℕ ℕ) → IsSearchInRange r (length es) → IsBinarySearchResult (λ (e : Place). id_cmp e.id id) es r
-    → IfOk r (IsPlace es id) × IfErr r (IsGap es id)
+    → IfOk r (IsIdAt es id) × IfErr r (IsIdGap es id)
 searched es s id (Ok at) within equal = (record { within = within; has_id = λ d. ids_same _ _ (equal d) }, tt)
 searched es s id (Err at) within parted =
     let sides = parted (searchable_from_sorted ids_total (λ (e : Place). e.id) es id (ascend_sorted es s)) in
     (tt, record { within = within; less_before = λ i d l. sides.0 i d (omega arith) l; greater_from = λ i d l h. sides.1 i d l h })
 
-gap_tail : (e : Place) (es : List Place) (id : RequestId) (at : ℕ) → IsGap (e ∷ es) id (suc at) → IsGap es id at
+gap_tail : (e : Place) (es : List Place) (id : RequestId) (at : ℕ) → IsIdGap (e ∷ es) id (suc at) → IsIdGap es id at
 gap_tail e es id at g = record {
   within = omega (arith, g.within);
   less_before = λ i d l. g.less_before (suc i) d (omega arith);
@@ -119,7 +98,7 @@ gap_tail e es id at g = record {
 }
 
 -- with a place in the gap of its id they rise
-pub ascend_insert : (es : List Place) (at : ℕ) (p : Place) → PlacesAscend es → IsGap es p.id at → PlacesAscend (insert es at p)
+pub ascend_insert : (es : List Place) (at : ℕ) (p : Place) → PlacesAscend es → IsIdGap es p.id at → PlacesAscend (insert es at p)
 ascend_insert [] zero p s g = (tt, tt)
 ascend_insert [] (suc at) p s g = (tt, tt)
 ascend_insert (e ∷ es) zero p s g = (each_from_get (λ (f : Place). id_cmp p.id f.id ≡ Less) (e ∷ es) (λ k d l. less_back (get_or (e ∷ es) k d).id p.id (g.greater_from k d (omega arith) l)), s)
@@ -128,10 +107,10 @@ ascend_insert (e ∷ es) (suc at) p s g =
 
 -- ---- whether an id is in an index
 
-pub any_at_place : (es : List Place) (id : RequestId) (at : ℕ) → IsPlace es id at → list_any (λ (e : Place). same_id id e.id) es ≡ true
+pub any_at_place : (es : List Place) (id : RequestId) (at : ℕ) → IsIdAt es id at → list_any (λ (e : Place). same_id id e.id) es ≡ true
 any_at_place [] id at p = absurd (omega (arith, p.within))
 any_at_place (e ∷ es) id zero p =
-    let own : same_id id e.id ≡ true = subst (λ (x : RequestId). same_id id x ≡ true) (sym (p.has_id e)) (same_self id) in
+    let own : same_id id e.id ≡ true = subst (λ (x : RequestId). same_id id x ≡ true) (sym (p.has_id e)) (same_id-self id) in
     rw own refl
 any_at_place (e ∷ es) id (suc at) p = later (same_id id e.id) (any_at_place es id at (record { within = omega (arith, p.within); has_id = λ d. p.has_id d }))
   where
@@ -139,18 +118,18 @@ any_at_place (e ∷ es) id (suc at) p = later (same_id id e.id) (any_at_place es
     later true e = refl
     later false e = e
 
-gap_not : (e : Place) (es : List Place) (id : RequestId) (at : ℕ) → IsGap (e ∷ es) id at → same_id id e.id ≡ false
+gap_not : (e : Place) (es : List Place) (id : RequestId) (at : ℕ) → IsIdGap (e ∷ es) id at → same_id id e.id ≡ false
 gap_not e es id zero g = less_not_same id e.id (less_back e.id id (g.greater_from 0 e (omega arith) (omega arith)))
 gap_not e es id (suc at) g = less_not_same_back e.id id (g.less_before 0 e (omega arith))
 
-gap_front : (e : Place) (es : List Place) (id : RequestId) → IsGap (e ∷ es) id zero → IsGap es id zero
+gap_front : (e : Place) (es : List Place) (id : RequestId) → IsIdGap (e ∷ es) id zero → IsIdGap es id zero
 gap_front e es id g = record {
   within = omega arith;
   less_before = λ i d l. absurd (omega arith);
   greater_from = λ i d l h. g.greater_from (suc i) d (omega arith) (omega arith);
 }
 
-pub none_in_gap : (es : List Place) (id : RequestId) (at : ℕ) → IsGap es id at → list_any (λ (e : Place). same_id id e.id) es ≡ false
+pub none_in_gap : (es : List Place) (id : RequestId) (at : ℕ) → IsIdGap es id at → list_any (λ (e : Place). same_id id e.id) es ≡ false
 none_in_gap [] id at g = refl
 none_in_gap (e ∷ es) id zero g = rw (gap_not e es id zero g) (none_in_gap es id zero (gap_front e es id g))
 none_in_gap (e ∷ es) id (suc at) g = rw (gap_not e es id (suc at) g) (none_in_gap es id at (gap_tail e es id at g))

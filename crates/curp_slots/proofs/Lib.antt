@@ -7,3 +7,5 @@ pub mod Registers
 pub mod Sortings
 pub mod Taken
 pub mod Touching
+pub mod Apart
+pub mod Orders

@@ -1,14 +1,14 @@
 -- Slots that are taken, and the room for more.
-use Rattle.std.proofs.Common.{◌≡◌, ◌≢◌, ◌⊎◌, inl, inr, ℕ, ◌+◌, ◌%◌, ◌==◌, ◌<◌, ◌≤◌, Bool, true, false, cond, List, [], ◌∷◌, ◌++◌, length, get_or, set, replicate, refl, arith}
+use Rattle.std.proofs.Common.{◌≡◌, ◌≢◌, ◌⊎◌, inl, inr, ℕ, ◌+◌, ◌%◌, ◌==◌, ◌<◌, ◌≤◌, Bool, true, false, cond, List, [], ◌∷◌, ◌++◌, length, get_or, replicate, refl, arith}
 use Rattle.std.specs.List.{filter}
 use Rattle.std.proofs.lemmas.Bool.Decides.{nat_tests}
 use Rattle.std.proofs.lemmas.Bool.{cases_eq}
 use Rattle.std.proofs.lemmas.List.{length-replicate, get_or-replicate, get_or-set_same, get_or-set_other}
 use Rattle.curp_model.specs.Witness.{in_set}
 use Rattle.curp_slots.specs.declared.set.Slot.{Slot}
-use Rattle.curp_slots.specs.Slots.{IsTable}
+use Rattle.curp_slots.specs.Slots.{IsSlotTable, with_slot_in}
 
-pub fresh_table : (ways sets : ℕ) → 1 ≤ sets → sets ≤ 1024 → 1 ≤ ways → ways ≤ 16 → IsTable ways (replicate sets [])
+pub fresh_table : (ways sets : ℕ) → 1 ≤ sets → sets ≤ 1024 → 1 ≤ ways → ways ≤ 16 → IsSlotTable ways (replicate sets [])
 fresh_table ways sets some_sets sets_fit some_ways ways_fit =
     let fresh : List (List Slot) = replicate sets [] in
     let size : length fresh ≡ sets = length-replicate sets [] in
@@ -29,10 +29,6 @@ in_set_cases n s h hs = go (h % n == s) refl
         ⊎ ((h % n ≢ s) × (length (cond b (h ∷ filter (λ x. x % n == s) hs) (filter (λ x. x % n == s) hs)) ≡ in_set n s hs))
     go true e = inl (grind (arith, nat_tests), omega arith)
     go false e = inr (grind (arith, nat_tests), refl)
-
--- a slot more in the set with that number
-abbrev pub with_slot_in : List (List Slot) → ℕ → Slot → List (List Slot)
-with_slot_in sets k slot = set sets k (get_or sets k [] ++ slot ∷ [])
 
 pub slots_in_set : (sets : List (List Slot)) (k s : ℕ) (slot : Slot) → k < length sets
     → ((k ≡ s) × (get_or (with_slot_in sets k slot) s [] ≡ get_or sets s [] ++ slot ∷ [])) ⊎ ((k ≢ s) × (get_or (with_slot_in sets k slot) s [] ≡ get_or sets s []))

@@ -5,11 +5,11 @@ use Rattle.curp_model.specs.declared.Mode.{Mode}
 use Rattle.curp_model.specs.declared.Mode.TheVariants.{Idle, Normal, Frozen}
 use Rattle.curp_msg.specs.declared.answer.Reason.{Reason}
 use Rattle.curp_slots.specs.declared.error.NotIdle.{NotIdle}
-use Rattle.curp_slots.specs.declared.witness.Held.{Held}
-use Rattle.curp_slots.specs.declared.witness.Held.TheVariants.{Accepted, Rejected}
+use Rattle.curp_slots.specs.declared.witness.RecordAnswer.{RecordAnswer}
+use Rattle.curp_slots.specs.declared.witness.RecordAnswer.TheVariants.{Accepted, Rejected}
 
 -- why it doesn't hold a request: for none of the reasons where it does
-abbrev pub refusal : Held → Option Reason
+abbrev pub refusal : RecordAnswer → Option Reason
 refusal Accepted = None
 refusal (Rejected why) = Some why
 

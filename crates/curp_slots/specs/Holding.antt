@@ -1,15 +1,15 @@
 -- What a witness holds, and which of its slots that takes.
-use Rattle.std.specs.Prelude.{◌≡◌, ℕ, ◌*◌, ◌<◌, ◌≤◌, List, [], ◌∷◌, length, map, Option, Some, None, slice_index_or}
+use Rattle.std.specs.Prelude.{◌≡◌, ℕ, ◌*◌, ◌<◌, ◌≤◌, List, [], ◌∷◌, length, map, Option, Some, None}
 use Rattle.std.specs.List.{filter, sum}
 use Rattle.std.specs.Option.{option_to_list}
-use Rattle.curp_cmd.specs.Hash.{touches}
+use Rattle.curp_base.specs.Words.{Each}
+use Rattle.curp_cmd.specs.Hash.{touches, hashes}
 use Rattle.curp_cmd.specs.declared.command.Request.{Request}
 use Rattle.curp_cmd.specs.declared.command.RequestId.{RequestId}
-use Rattle.curp_model.specs.Requests.{hashes}
-use Rattle.curp_model.specs.Witness.{Held, in_set}
+use Rattle.curp_model.specs.Witness.{in_set, HeldRequest}
 use Rattle.curp_slots.specs.Hashed.{requests_of}
 use Rattle.curp_slots.specs.Register.{IdsAscend, Registered, marked_at}
-use Rattle.curp_slots.specs.Slots.{Table, owner}
+use Rattle.curp_slots.specs.Slots.{SlotTable, owner, taken_in}
 use Rattle.curp_slots.specs.declared.set.Slot.{Slot}
 
 -- the ids of the requests that have the hash
@@ -20,23 +20,24 @@ ids_with hash requests = map (λ r. r.id) (filter (λ r. touches r.command hash)
 abbrev pub used_by : ℕ → List Request → ℕ → ℕ
 used_by sets requests s = sum (map (λ r. in_set sets s (hashes r.command)) requests)
 
--- what is held takes the slots of its hashes and no others, a hash has one slot at most, and there is room in the register
--- for all that the slots let in
-pub record IsWitness (table : Table) (register : Registered) : Type 0 where
+-- what is held takes the slots of its hashes, of which each request has some, and no others; a hash has one slot at most; and
+-- there is room in the register for all that the slots let in
+pub record SlotsTell (table : SlotTable) (register : Registered) : Type 0 where
   pub some_sets : 1 ≤ length table.sets
-  pub within : (s : ℕ) → s < length table.sets → length (slice_index_or table.sets s []) ≤ table.ways
+  pub within : (s : ℕ) → s < length table.sets → taken_in table.sets s ≤ table.ways
   pub room : length table.sets * table.ways ≤ register.room
   pub ascend : IdsAscend register.held
   pub owners : (hash : ℕ) → ids_with hash (requests_of register.held) ≡ option_to_list (owner table.sets hash)
-  pub sizes : (s : ℕ) → s < length table.sets → length (slice_index_or table.sets s []) ≡ used_by (length table.sets) (requests_of register.held) s
+  pub sizes : (s : ℕ) → s < length table.sets → taken_in table.sets s ≡ used_by (length table.sets) (requests_of register.held) s
   pub filled : length register.held ≤ sum (map (λ set. length set) table.sets)
+  pub hashed : Each (λ (r : Request). 1 ≤ length (hashes r.command)) (requests_of register.held)
 
 -- the request that has the slot is marked, if one has it
-abbrev pub with_owner_marked : Option RequestId → List Held → List Held
+abbrev pub with_owner_marked : Option RequestId → List HeldRequest → List HeldRequest
 with_owner_marked None held = held
 with_owner_marked (Some id) held = map (marked_at id) held
 
 -- those that have a slot of one of the hashes are marked
-abbrev pub with_owners_marked : List (List Slot) → List ℕ → List Held → List Held
+abbrev pub with_owners_marked : List (List Slot) → List ℕ → List HeldRequest → List HeldRequest
 with_owners_marked sets [] held = held
 with_owners_marked sets (h ∷ hs) held = with_owners_marked sets hs (with_owner_marked (owner sets h) held)

@@ -3,36 +3,35 @@ use Rattle.std.specs.Prelude.{◌≡◌, ℕ, ◌<◌, ◌≤◌, nat_le, if◌t
 use Rattle.std.specs.List.{list_any}
 use Rattle.std.specs.declared.cmp.Ordering.TheVariants.{Less, Greater}
 use Rattle.curp_base.specs.Words.{Each}
-use Rattle.curp_cmd.specs.RequestId.{id_cmp}
+use Rattle.curp_cmd.specs.RequestId.{id_cmp, same_id}
 use Rattle.curp_cmd.specs.declared.command.Command.TheVariants.{Get}
 use Rattle.curp_cmd.specs.declared.command.RequestId.{RequestId}
-use Rattle.curp_model.specs.Requests.{same_id}
-use Rattle.curp_model.specs.Witness.{Held}
+use Rattle.curp_model.specs.Witness.{HeldRequest}
 use Rattle.curp_slots.specs.declared.register.Place.{Place}
 
 -- ---- held requests
 
 -- it is suspected, if it has survived at least three collections
-abbrev pub marked : Held → Held
+abbrev pub marked : HeldRequest → HeldRequest
 marked x = if nat_le 3 x.survived then record x { suspected = true } else x
 
 -- the one with that id is marked
-abbrev pub marked_at : RequestId → Held → Held
+abbrev pub marked_at : RequestId → HeldRequest → HeldRequest
 marked_at id x = if same_id id x.request.id then marked x else x
 
 -- a request with the id is held
-abbrev pub is_held : RequestId → List Held → Bool
+abbrev pub is_held : RequestId → List HeldRequest → Bool
 is_held id held = list_any (λ x. same_id id x.request.id) held
 
 -- the ids strictly rise
-abbrev pub IdsAscend : List Held → Type 0
+abbrev pub IdsAscend : List HeldRequest → Type 0
 IdsAscend [] = ⊤
-IdsAscend (x ∷ xs) = Each (λ (y : Held). id_cmp x.request.id y.request.id ≡ Less) xs × IdsAscend xs
+IdsAscend (x ∷ xs) = Each (λ (y : HeldRequest). id_cmp x.request.id y.request.id ≡ Less) xs × IdsAscend xs
 
 -- what a witness holds, in ascending order of the ids, and for how many there is room
 pub record Registered : Type 0 where
   pub room : ℕ
-  pub held : List Held
+  pub held : List HeldRequest
 
 -- ---- an index
 
@@ -42,24 +41,24 @@ PlacesAscend [] = ⊤
 PlacesAscend (e ∷ es) = Each (λ (f : Place). id_cmp e.id f.id ≡ Less) es × PlacesAscend es
 
 -- what stands at no place
-abbrev pub nobody : Held
+abbrev pub nobody : HeldRequest
 nobody = record { request = record { id = record { client = 0; seq = 0 }; first = 0; command = Get [] }; survived = 0; suspected = false }
 
 -- what stands at the place
-abbrev pub held_at : List Held → Place → Held
+abbrev pub held_at : List HeldRequest → Place → HeldRequest
 held_at kept e = slice_index_or kept e.at nobody
 
 -- what is held, in the order of the index
-abbrev pub held_by : List Held → List Place → List Held
+abbrev pub held_by : List HeldRequest → List Place → List HeldRequest
 held_by kept index = map (held_at kept) index
 
 -- the place is that of the request with its id
-pub record IsFilled (kept : List Held) (e : Place) : Type 0 where
+pub record IsFilled (kept : List HeldRequest) (e : Place) : Type 0 where
   pub within : e.at < length kept
   pub its_id : (held_at kept e).request.id ≡ e.id
 
 -- an index of what is held, and room for so many in both lists
-pub record IsRegister (room : ℕ) (kept : List Held) (kept_room : ℕ) (index : List Place) (index_room : ℕ) : Type 0 where
+pub record IsRegister (room : ℕ) (kept : List HeldRequest) (kept_room : ℕ) (index : List Place) (index_room : ℕ) : Type 0 where
   pub ascend : PlacesAscend index
   pub places : Each (IsFilled kept) index
   pub as_many : length kept ≡ length index
@@ -67,12 +66,12 @@ pub record IsRegister (room : ℕ) (kept : List Held) (kept_room : ℕ) (index :
   pub index_fits : room ≤ index_room
 
 -- the place at that position is the one of the id
-pub record IsPlace (index : List Place) (id : RequestId) (at : ℕ) : Type 0 where
+pub record IsIdAt (index : List Place) (id : RequestId) (at : ℕ) : Type 0 where
   pub within : at < length index
   pub has_id : (d : Place) → (slice_index_or index at d).id ≡ id
 
 -- no place has the id, which would stand at that position
-pub record IsGap (index : List Place) (id : RequestId) (at : ℕ) : Type 0 where
+pub record IsIdGap (index : List Place) (id : RequestId) (at : ℕ) : Type 0 where
   pub within : at ≤ length index
   pub less_before : (k : ℕ) (d : Place) → k < at → id_cmp (slice_index_or index k d).id id ≡ Less
   pub greater_from : (k : ℕ) (d : Place) → at ≤ k → k < length index → id_cmp (slice_index_or index k d).id id ≡ Greater

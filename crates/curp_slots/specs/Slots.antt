@@ -23,6 +23,10 @@ abbrev pub owner_in : List Slot → ℕ → Option RequestId
 owner_in [] hash = None
 owner_in (s ∷ ss) hash = if s.hash == hash then Some s.id else owner_in ss hash
 
+-- how many slots of set s are taken
+abbrev pub taken_in : List (List Slot) → ℕ → ℕ
+taken_in sets s = length (slice_index_or sets s [])
+
 -- the set of the hash
 abbrev pub set_of : List (List Slot) → ℕ → List Slot
 set_of sets hash = slice_index_or sets (hash % length sets) []
@@ -42,9 +46,13 @@ abbrev pub least_owner : List (List Slot) → List ℕ → Option RequestId
 least_owner sets [] = None
 least_owner sets (h ∷ hs) = lesser id_cmp (owner sets h) (least_owner sets hs)
 
+-- a slot more is taken, in set s
+abbrev pub with_slot_in : List (List Slot) → ℕ → Slot → List (List Slot)
+with_slot_in sets s slot = slice_set sets s (slice_index_or sets s [] ++ slot ∷ [])
+
 -- a slot more is taken, in the set of its hash
 abbrev pub with_slot : List (List Slot) → ℕ → RequestId → List (List Slot)
-with_slot sets hash id = slice_set sets (hash % length sets) (set_of sets hash ++ record { hash = hash; id = id } ∷ [])
+with_slot sets hash id = with_slot_in sets (hash % length sets) (record { hash = hash; id = id })
 
 -- a request takes a slot for each of the hashes
 abbrev pub with_slots : List (List Slot) → List ℕ → RequestId → List (List Slot)
@@ -52,31 +60,31 @@ with_slots sets [] id = sets
 with_slots sets (h ∷ hs) id = with_slots (with_slot sets h id) hs id
 
 -- the slots of each set that are taken, and how many a set has at most
-pub record Table : Type 0 where
+pub record SlotTable : Type 0 where
   pub ways : ℕ
   pub sets : List (List Slot)
 
 -- the set has no room for those of the hashes that go to it
-abbrev pub has_no_room : Table → List ℕ → ℕ → Bool
-has_no_room t hashes s = nat_lt t.ways (length (slice_index_or t.sets s []) + in_set (length t.sets) s hashes)
+abbrev pub has_no_room : SlotTable → List ℕ → ℕ → Bool
+has_no_room t hashes s = nat_lt t.ways (taken_in t.sets s + in_set (length t.sets) s hashes)
 
 -- the set, if it has no room
-abbrev pub if_full : Table → List ℕ → ℕ → Option ℕ
+abbrev pub if_full : SlotTable → List ℕ → ℕ → Option ℕ
 if_full t hashes s = if has_no_room t hashes s then Some s else None
 
 -- the least of the sets of some hashes that has no room for all the hashes
-abbrev pub least_full : Table → List ℕ → List ℕ → Option ℕ
+abbrev pub least_full : SlotTable → List ℕ → List ℕ → Option ℕ
 least_full t hashes [] = None
 least_full t hashes (h ∷ hs) = lesser nat_cmp (if_full t hashes (h % length t.sets)) (least_full t hashes hs)
 
 -- no set has more slots than it may have, and their numbers are as those of witnesses
-pub record IsTable (ways : ℕ) (sets : List (List Slot)) : Type 0 where
+pub record IsSlotTable (ways : ℕ) (sets : List (List Slot)) : Type 0 where
   pub some_sets : 1 ≤ length sets
   pub sets_fit : length sets ≤ 1024
   pub some_ways : 1 ≤ ways
   pub ways_fit : ways ≤ 16
-  pub within : (s : ℕ) → s < length sets → length (slice_index_or sets s []) ≤ ways
+  pub within : (s : ℕ) → s < length sets → taken_in sets s ≤ ways
 
 -- each set has room for those of the hashes that go to it
-abbrev pub HasRoom : Table → List ℕ → Type 0
-HasRoom t hashes = (s : ℕ) → s < length t.sets → length (slice_index_or t.sets s []) + in_set (length t.sets) s hashes ≤ t.ways
+abbrev pub HasSlotsFor : SlotTable → List ℕ → Type 0
+HasSlotsFor t hashes = (s : ℕ) → s < length t.sets → taken_in t.sets s + in_set (length t.sets) s hashes ≤ t.ways

@@ -1,70 +1,77 @@
-ghost use Rattle.std.specs.Prelude.{◌≡◌, ◌+◌, ◌<◌, ◌≤◌, length, IfSome, unwrap_or};
+ghost use Rattle.std.specs.Prelude.{◌≡◌, ◌+◌, ◌<◌, ◌≤◌, length, IfSome};
 ghost use Rattle.std.specs.BTreeSet.{insert_key};
 ghost use Rattle.std.specs.Ordering.{nat_cmp};
-ghost use Rattle.curp_cmd.specs.declared.command.Command.TheVariants.{Multi};
-ghost use Rattle.curp_model.specs.Requests.{first_of, hashes as each_once};
+ghost use Rattle.curp_cmd.specs.Hash.{hashes};
+ghost use Rattle.curp_model.specs.Witness.{least_hash};
 ghost use Rattle.curp_slots.specs.Slots.{gap};
 
-use arrayvec::ArrayVec;
-use curp_cmd::{Command, Key, Value, key_hash};
+use curp_cmd::{Command, Hashes, Request};
 use std::cmp::Ordering;
+use std::marker::Model;
 
-/// The hashes of a command's keys, in ascending order, each once, held in place.
-pub type Hashes = ArrayVec<u64, 4>;
+/// The hashes of a command's keys in ascending order, each once, held in place. Contracts see the list.
+#[derive(Drop)]
+pub struct AscendingHashes {
+    held: [u64; 4],
+    len: u8,
+}
 
-/// The hashes of that command. It takes no memory.
-pub fn hashes_of(command: &Command) -> Hashes
-    ensures items { result.items ≡ each_once command.now }
-    ensures least { 1 ≤ length result.items }
-    ensures most { length result.items ≤ 4 }
-{
-    match command {
-        Command::Get(key)
-        | Command::Put(key, _)
-        | Command::Delete(key)
-        | Command::Incr(key)
-        | Command::Append(key, _)
-        | Command::CondPut(key, _, _) => {
-            let mut hashes = ArrayVec::new();
-            hashes.push(key_hash(key));
-            hashes
+impl Model for AscendingHashes {
+    ghost use Rattle.std.specs.Prelude.{ℕ, List, ◌≤◌, take};
+
+    ghost Value = { List ℕ };
+
+    ghost view = { λ h. take h.len h.held };
+
+    ghost invariant = { λ h. h.len ≤ 4 };
+}
+
+impl AscendingHashes {
+    /// The hashes of that command. It takes no memory.
+    pub fn of(command: &Command) -> AscendingHashes
+        ensures items { result ≡ hashes command.now }
+        ensures least { 1 ≤ length result }
+        ensures most { length result ≤ 4 }
+    {
+        let found = Hashes::of(command);
+        let mut ascending = AscendingHashes {
+            held: [0; 4],
+            len: 0,
+        };
+        for at in 0..found.count() {
+            ascending.add(found.as_slice()[at]);
         }
-        Command::Multi(pairs) => hashes_of_pairs(pairs.as_slice()),
+        ascending
+    }
+
+    pub fn as_slice(&self) -> &[u64]
+        ensures { result.now ≡ self.now }
+    {
+        &self.held[..self.len as usize]
+    }
+
+    // One more hash in its place, where it isn't there yet.
+    fn add(&mut self, hash: u64)
+        requires { length self.old < 4 }
+        ensures items { self.new ≡ insert_key nat_cmp self.old hash }
+        ensures most { length self.new ≤ length self.old + 1 }
+        ensures least { 1 ≤ length self.new }
+    {
+        if let Some(at) = gap(self.as_slice(), hash) {
+            self.held.copy_within(at..self.len as usize, at + 1);
+            self.held[at] = hash;
+            self.len += 1;
+        }
     }
 }
 
-/// The least hash of that command. It takes no memory.
-pub fn least_hash(command: &Command) -> u64
-    ensures { result ≡ unwrap_or (first_of (each_once command.now)) 0 }
+/// The least hash of the keys that the request names. It takes no memory.
+pub fn least_hash(request: &Request) -> u64
+    ensures { result ≡ least_hash request.now }
 {
-    match hashes_of(command).as_slice() {
+    match AscendingHashes::of(&request.command).as_slice() {
         [] => 0,
         [least, ..] => *least,
-    }
-}
-
-fn hashes_of_pairs(pairs: &[(Key, Value)]) -> Hashes
-    requires least { 1 ≤ length pairs.now }
-    requires most { length pairs.now ≤ 4 }
-    ensures items { result.items ≡ each_once (Multi pairs.now) }
-    ensures least { 1 ≤ length result.items }
-{
-    let mut hashes = ArrayVec::new();
-    for at in 0..pairs.len() {
-        add(&mut hashes, key_hash(&pairs[at].0));
-    }
-    hashes
-}
-
-/// One more hash in its place, where it isn't there yet.
-fn add(hashes: &mut Hashes, hash: u64)
-    requires { length hashes.old.items < 4 }
-    ensures items { hashes.new.items ≡ insert_key nat_cmp hashes.old.items hash }
-    ensures most { length hashes.new.items ≤ length hashes.old.items + 1 }
-    ensures least { 1 ≤ length hashes.new.items }
-{
-    if let Some(at) = gap(hashes.as_slice(), hash) {
-        hashes.insert(at, hash);
     }
 }
 

@@ -7,25 +7,25 @@ use std::marker::Model;
 
 /// A request that is held, how many collections it has survived, and whether it is suspected.
 #[derive(Drop)]
-pub struct Kept {
+pub struct KeptRequest {
     request: Request,
     survived: u64,
     suspected: bool,
 }
 
-impl Model for Kept {
-    ghost use Rattle.curp_model.specs.Witness.{Held};
+impl Model for KeptRequest {
+    ghost use Rattle.curp_model.specs.Witness.{HeldRequest};
 
-    ghost Value = { Held };
+    ghost Value = { HeldRequest };
 
     ghost view = { λ k. record { request = k.request; survived = k.survived; suspected = k.suspected } };
 }
 
-impl Kept {
-    pub fn new(request: &Request) -> Kept
+impl KeptRequest {
+    pub fn new(request: &Request) -> KeptRequest
         ensures { result ≡ newly_held request.now }
     {
-        Kept {
+        KeptRequest {
             request: *request,
             survived: 0,
             suspected: false,

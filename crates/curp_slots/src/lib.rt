@@ -1,5 +1,5 @@
-//! A witness as a data structure: it holds requests that don't conflict, each in a slot for every hash of its keys, until
-//! they are stored.
+//! A witness as a data structure: it holds requests that don't conflict, each in a slot for every hash of its keys,
+//! until they are stored.
 #![tactic(auto)]
 
 mod error;
@@ -11,4 +11,4 @@ mod slots;
 mod witness;
 
 pub use error::{NotIdle, ShapeError};
-pub use witness::{Held, Witness};
+pub use witness::{RecordAnswer, Witness};

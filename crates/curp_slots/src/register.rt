@@ -1,12 +1,12 @@
 ghost use Rattle.std.specs.Prelude.{◌≡◌, ◌<◌, [], length, false, map, IfOk, IfErr};
 ghost use Rattle.std.specs.BTreeMap.{values};
 ghost use Rattle.curp_base.specs.Words.{Each};
-ghost use Rattle.curp_model.specs.Witness.{newly_held, placed, requests_by_hash};
-ghost use Rattle.curp_slots.specs.Hashed.{least_places, request_at, requests_of};
-ghost use Rattle.curp_slots.specs.Register.{IdsAscend, IsFilled, IsGap, IsPlace, PlacesAscend, marked_at, is_held};
+ghost use Rattle.curp_model.specs.Witness.{by_least_hash, newly_held, placed};
+ghost use Rattle.curp_slots.specs.Hashed.{LeastHashesApart, least_places, request_at, requests_of};
+ghost use Rattle.curp_slots.specs.Register.{IdsAscend, IsFilled, IsIdGap, IsIdAt, PlacesAscend, marked_at, is_held};
 
 use crate::hashes::least_hash;
-use crate::kept::Kept;
+use crate::kept::KeptRequest;
 use curp_base::NoMemory;
 use curp_cmd::{Request, RequestId};
 use std::alloc::Global;
@@ -20,12 +20,13 @@ pub struct Place {
     pub at: u32,
 }
 
-/// The requests that a witness holds. Contracts see them in ascending order of their ids, and for how many there is room.
+/// The requests that a witness holds. Contracts see them in ascending order of their ids, and for how many there is
+/// room.
 #[derive(Drop)]
 pub struct Register {
     room: u32,
     // In the order of arrival.
-    kept: Vec<Kept>,
+    kept: Vec<KeptRequest>,
     // In ascending order of the ids.
     index: Vec<Place>,
 }
@@ -38,7 +39,8 @@ impl Model for Register {
 
     ghost view = { λ r. record { room = r.room; held = held_by r.kept.items r.index.items } };
 
-    ghost invariant = { λ r. IsRegister r.room r.kept.items (vec_capacity r.kept) r.index.items (vec_capacity r.index) };
+    ghost invariant = { λ r. IsRegister r.room r.kept.items (vec_capacity r.kept)
+        r.index.items (vec_capacity r.index) };
 }
 
 impl Register {
@@ -67,7 +69,7 @@ impl Register {
     {
         if let Err(gap) = find(&self.index, &request.id) {
             let at = self.kept.len() as u32;
-            self.kept.push_reserved(Kept::new(request));
+            self.kept.push_reserved(KeptRequest::new(request));
             let place = Place { id: request.id, at };
             self.index.insert(gap, place).unwrap();
         }
@@ -86,7 +88,8 @@ impl Register {
 
     /// The requests, in ascending order of their least hashes.
     pub fn by_least_hash(&self, alloc: Global) -> Result<Vec<Request>, NoMemory>
-        ensures { IfOk result (λ requests. requests.items ≡ requests_by_hash (requests_of self.now.held)) }
+        requires { LeastHashesApart (requests_of self.now.held) }
+        ensures { IfOk result (λ requests. requests.items ≡ by_least_hash (requests_of self.now.held)) }
     {
         let sorted = places_by_hash(alloc, &self.kept, &self.index)?;
         requests_at(alloc, &self.kept, &sorted)
@@ -96,7 +99,7 @@ impl Register {
 /// The places, in ascending order of the least hashes of what stands there.
 fn places_by_hash(
     alloc: Global,
-    kept: &[Kept],
+    kept: &[KeptRequest],
     index: &[Place],
 ) -> Result<BTreeMap<u64, u32>, NoMemory>
     requires { Each (IsFilled kept.now) index.now }
@@ -106,7 +109,7 @@ fn places_by_hash(
     let mut sorted = BTreeMap::new(alloc);
     for place in index {
         let request = kept[place.at as usize].request();
-        sorted.insert(least_hash(&request.command), place.at)?;
+        sorted.insert(least_hash(request), place.at)?;
     }
     Ok(sorted)
 }
@@ -114,7 +117,7 @@ fn places_by_hash(
 /// The requests at those places.
 fn requests_at(
     alloc: Global,
-    kept: &[Kept],
+    kept: &[KeptRequest],
     places: &BTreeMap<u64, u32>,
 ) -> Result<Vec<Request>, NoMemory>
     requires { Each (λ at. at < length kept.now) (values places.now) }
@@ -130,8 +133,8 @@ fn requests_at(
 /// Where the place of the request with the id stands in the index, or where it would go.
 fn find(index: &[Place], id: &RequestId) -> Result<usize, usize>
     requires { PlacesAscend index.now }
-    ensures found { IfOk result (IsPlace index.now id.now) }
-    ensures absent { IfErr result (IsGap index.now id.now) }
+    ensures found { IfOk result (IsIdAt index.now id.now) }
+    ensures absent { IfErr result (IsIdGap index.now id.now) }
 {
     index.binary_search_by_key(id, |place| place.id)
 }

@@ -1,7 +1,6 @@
 ghost use Rattle.std.specs.Prelude.{◌≡◌, ◌<◌, ◌≤◌, [], ◌∷◌, ◌++◌, length};
 ghost use Rattle.curp_slots.specs.Slots.{owner_in};
 
-use arrayvec::ArrayVec;
 use curp_cmd::RequestId;
 use std::marker::Model;
 
@@ -12,28 +11,28 @@ pub struct Slot {
     pub id: RequestId,
 }
 
-impl Default for Slot {
-    fn default() -> Slot {
-        Slot {
-            hash: 0,
-            id: RequestId { client: 0, seq: 0 },
-        }
-    }
-}
+// What a slot has that isn't taken.
+const FREE: Slot = Slot {
+    hash: 0,
+    id: RequestId { client: 0, seq: 0 },
+};
 
-/// The slots of a set that are taken, at most 16.
+/// The slots of a set that are taken, at most 16, held in place. Contracts see the list.
 #[derive(Drop)]
 pub struct Set {
-    taken: ArrayVec<Slot, 16>,
+    slots: [Slot; 16],
+    len: u8,
 }
 
 impl Model for Set {
-    ghost use Rattle.std.specs.Prelude.{List};
+    ghost use Rattle.std.specs.Prelude.{List, ◌≤◌, take};
     ghost use Rattle.curp_slots.specs.declared.set.Slot.{Slot};
 
     ghost Value = { List Slot };
 
-    ghost view = { λ s. s.taken.items };
+    ghost view = { λ s. take s.len s.slots };
+
+    ghost invariant = { λ s. s.len ≤ 16 };
 }
 
 impl Set {
@@ -41,7 +40,8 @@ impl Set {
         ensures { result ≡ [] }
     {
         Set {
-            taken: ArrayVec::new(),
+            slots: [FREE; 16],
+            len: 0,
         }
     }
 
@@ -49,21 +49,29 @@ impl Set {
         ensures value { result ≡ length self.now }
         ensures most { length self.now ≤ 16 }
     {
-        self.taken.len()
+        self.taken().len()
     }
 
     /// Which request has a slot for the hash.
     pub fn owner(&self, hash: u64) -> Option<RequestId>
         ensures { result ≡ owner_in self.now hash }
     {
-        owner_in(self.taken.as_slice(), hash)
+        owner_in(self.taken(), hash)
+    }
+
+    fn taken(&self) -> &[Slot]
+        ensures value { result.now ≡ self.now }
+        ensures most { length self.now ≤ 16 }
+    {
+        &self.slots[..self.len as usize]
     }
 
     pub fn take(&mut self, slot: &Slot)
         requires { length self.old < 16 }
         ensures { self.new ≡ self.old ++ slot.now ∷ [] }
     {
-        self.taken.push(*slot);
+        self.slots[self.len as usize] = *slot;
+        self.len += 1;
     }
 }
 

@@ -1,6 +1,6 @@
-ghost use Rattle.std.specs.Prelude.{◌≡◌, ◌%◌, ◌<◌, ◌≤◌, [], ◌∷◌, ◌++◌, length, replicate, IfOk, slice_index_or, slice_set};
+ghost use Rattle.std.specs.Prelude.{◌≡◌, ◌%◌, ◌<◌, ◌≤◌, [], length, replicate, IfOk};
 ghost use Rattle.curp_model.specs.Witness.{in_set};
-ghost use Rattle.curp_slots.specs.Slots.{HasRoom, lesser, least_full, least_owner, if_full, owner, with_slots};
+ghost use Rattle.curp_slots.specs.Slots.{HasSlotsFor, lesser, least_full, least_owner, if_full, owner, taken_in, with_slot_in, with_slots};
 
 use crate::set::{Set, Slot};
 use curp_base::NoMemory;
@@ -16,13 +16,13 @@ pub struct Slots {
 }
 
 impl Model for Slots {
-    ghost use Rattle.curp_slots.specs.Slots.{Table, IsTable};
+    ghost use Rattle.curp_slots.specs.Slots.{SlotTable, IsSlotTable};
 
-    ghost Value = { Table };
+    ghost Value = { SlotTable };
 
     ghost view = { λ s. record { ways = s.ways; sets = s.sets.items } };
 
-    ghost invariant = { λ s. IsTable s.ways s.sets.items };
+    ghost invariant = { λ s. IsSlotTable s.ways s.sets.items };
 }
 
 impl Slots {
@@ -131,7 +131,7 @@ impl Slots {
 
     /// Takes a slot for each of the hashes.
     pub fn take(&mut self, hashes: &[u64], id: &RequestId)
-        requires { HasRoom self.old hashes.now }
+        requires { HasSlotsFor self.old hashes.now }
         ensures { self.new ≡ record self.old { sets = with_slots self.old.sets hashes.now id.now } }
     {
         if let [hash, rest @ ..] = hashes {
@@ -146,8 +146,8 @@ impl Slots {
 
     fn take_one(&mut self, set: u32, slot: &Slot)
         requires within { set < length self.old.sets }
-        requires room { length (slice_index_or self.old.sets set []) < self.old.ways }
-        ensures { self.new ≡ record self.old { sets = slice_set self.old.sets set (slice_index_or self.old.sets set [] ++ slot.now ∷ []) } }
+        requires room { taken_in self.old.sets set < self.old.ways }
+        ensures { self.new ≡ record self.old { sets = with_slot_in self.old.sets set slot.now } }
     {
         self.sets[set as usize].take(slot);
     }

@@ -1,11 +1,12 @@
 ghost use Rattle.std.specs.Prelude.{◌≡◌, ◌<◌, ◌≤◌, ◌↔◌, ◌⊎◌, false, length, IfOk, OnOk, OnErr, Err};
-ghost use Rattle.curp_model.specs.Requests.{hashes as each_once};
-ghost use Rattle.curp_model.specs.Witness.{by_room, conflict, freeze, fresh_witness, frozen_requests, full_set, hold, holds, start, stranger_to, turned_away};
+ghost use Rattle.curp_cmd.specs.Hash.{hashes as each_once};
+ghost use Rattle.curp_model.specs.Witness.{HoldsInOrder, by_room, conflict, freeze, fresh_witness, frozen_requests, full_set};
+ghost use Rattle.curp_model.specs.Witness.{hold, holds, start, stranger_to, turned_away};
 ghost use Rattle.curp_slots.specs.Answers.{refusal, start_answer};
 ghost use Rattle.curp_slots.specs.Holding.{with_owner_marked, with_owners_marked};
 ghost use Rattle.curp_slots.specs.Slots.{owner};
 
-use crate::hashes::hashes_of;
+use crate::hashes::AscendingHashes;
 use crate::register::Register;
 use crate::slots::Slots;
 use crate::{NotIdle, ShapeError};
@@ -16,9 +17,9 @@ use curp_msg::Reason;
 use std::alloc::Global;
 use std::marker::Model;
 
-/// What a witness does with a request.
+/// What a witness answers to a request.
 #[derive(Clone, Copy, Debug, PartialEq, Eq)]
-pub enum Held {
+pub enum RecordAnswer {
     /// It holds the request, or held one with that id already.
     Accepted,
     /// It doesn't hold the request, for that reason.
@@ -38,21 +39,28 @@ pub struct Witness {
 impl Model for Witness {
     ghost use Rattle.std.specs.Prelude.{length};
     ghost use Rattle.curp_model.specs.Witness.{WitnessState};
-    ghost use Rattle.curp_slots.specs.Holding.{IsWitness};
+    ghost use Rattle.curp_slots.specs.Holding.{SlotsTell};
 
     ghost Value = { WitnessState };
 
-    ghost view = { λ w. record { mode = w.mode; epoch = w.epoch; sets = length w.slots.sets; ways = w.slots.ways; held = w.register.held } };
+    ghost view = { λ w. record {
+      mode = w.mode;
+      epoch = w.epoch;
+      sets = length w.slots.sets;
+      ways = w.slots.ways;
+      held = w.register.held;
+    } };
 
-    ghost invariant = { λ w. IsWitness w.slots w.register };
+    ghost invariant = { λ w. SlotsTell w.slots w.register };
 }
 
 impl Witness {
-    /// A witness that wasn't started, with so many sets of so many slots. All the memory that it needs to hold requests is
-    /// taken here.
+    /// A witness that wasn't started, with so many sets of so many slots. All the memory that it needs to hold requests
+    /// is taken here.
     pub fn new(alloc: Global, sets: u32, ways: u32) -> Result<Witness, ShapeError>
         ensures ok { IfOk result (λ witness. witness ≡ fresh_witness sets ways) }
-        ensures bad_shape { (result ≡ Err ShapeError.BadShape) ↔ ((sets < 1) ⊎ ((1024 < sets) ⊎ ((ways < 1) ⊎ (16 < ways)))) }
+        ensures bad_shape { (result ≡ Err ShapeError.BadShape)
+            ↔ ((sets < 1) ⊎ ((1024 < sets) ⊎ ((ways < 1) ⊎ (16 < ways)))) }
     {
         if !(1..=1024).contains(&sets) || !(1..=16).contains(&ways) {
             return Err(ShapeError::BadShape);
@@ -83,26 +91,27 @@ impl Witness {
         }
     }
 
-    /// Holds the request, if it was started at that epoch, isn't frozen, holds none that conflicts, and has a slot for each
-    /// of the request's hashes (CURP's record). One with an id that is held is accepted as it is, whatever its command. What
-    /// conflicts and has survived three collections is suspected. It takes no memory, and looks only at the slots of the
-    /// request's hashes and at what has them, but for making room for its id among those that are held.
+    /// Holds the request, if it was started at that epoch, isn't frozen, holds none that conflicts, and has a slot for
+    /// each of the request's hashes (CURP's record). One with an id that is held is accepted as it is, whatever its
+    /// command. What conflicts and has survived three collections is suspected. It takes no memory, and looks only at
+    /// the slots of the request's hashes and at what has them, but for making room for its id among those that are
+    /// held.
     #[tactic(auto, unfolding(curp_model::specs::Witness::hold))]
-    pub fn hold(&mut self, epoch: u32, request: &Request) -> Held
+    pub fn hold(&mut self, epoch: u32, request: &Request) -> RecordAnswer
         ensures state { self.new ≡ (hold self.old epoch request.now).state }
         ensures answer { refusal result ≡ (hold self.old epoch request.now).reason }
     {
         if let Some(why) = self.turned_away(epoch) {
-            return Held::Rejected(why);
+            return RecordAnswer::Rejected(why);
         }
         if self.holds(&request.id) {
-            return Held::Accepted;
+            return RecordAnswer::Accepted;
         }
-        self.hold_new(request, hashes_of(&request.command).as_slice())
+        self.hold_new(request, AscendingHashes::of(&request.command).as_slice())
     }
 
-    /// Holds nothing more from then on, for good, and gives a copy of all that it holds, in ascending order of the least
-    /// hashes.
+    /// Holds nothing more from then on, for good, and gives a copy of all that it holds, in ascending order of the
+    /// least hashes.
     pub fn freeze(&mut self) -> Result<Vec<Request>, NoMemory>
         ensures state { OnOk result (self.new ≡ freeze self.old) }
         ensures answer { IfOk result (λ requests. requests.items ≡ frozen_requests self.old) }
@@ -125,6 +134,13 @@ impl Witness {
         ensures { result ≡ self.now.epoch }
     {
         self.epoch
+    }
+
+    /// What it holds stands in ascending order of the ids, whatever came.
+    pub fn holds_in_order(&self)
+        ensures { HoldsInOrder self.now }
+    {
+        let _register = &self.register;
     }
 
     /// Whether it holds the request with that id.
@@ -161,30 +177,33 @@ impl Witness {
     }
 
     // Holds a request with those hashes and an id that isn't held, if there is room for it.
-    fn hold_new(&mut self, request: &Request, hashes: &[u64]) -> Held
+    fn hold_new(&mut self, request: &Request, hashes: &[u64]) -> RecordAnswer
         requires new { holds self.old request.now.id ≡ false }
         requires hashes { hashes.now ≡ each_once request.now.command }
         requires some { 1 ≤ length hashes.now }
         requires few { length hashes.now ≤ 4 }
-        ensures state { self.new ≡ (by_room self.old request.now (conflict self.old request.now) (full_set self.old request.now)).state }
-        ensures answer { refusal result ≡ (by_room self.old request.now (conflict self.old request.now) (full_set self.old request.now)).reason }
+        ensures state { let held = conflict self.old request.now in
+            self.new ≡ (by_room self.old request.now held (full_set self.old request.now)).state }
+        ensures answer { let held = conflict self.old request.now in
+            refusal result ≡ (by_room self.old request.now held (full_set self.old request.now)).reason }
     {
         if let Some(held) = self.slots.least_owner(hashes) {
             mark_owners(&self.slots, &mut self.register, hashes);
-            return Held::Rejected(Reason::Conflict { held });
+            return RecordAnswer::Rejected(Reason::Conflict { held });
         }
         if let Some(set) = self.slots.full_set(hashes) {
-            return Held::Rejected(Reason::SetFull { set });
+            return RecordAnswer::Rejected(Reason::SetFull { set });
         }
         self.slots.take(hashes, &request.id);
         self.register.add(request);
-        Held::Accepted
+        RecordAnswer::Accepted
     }
 }
 
 /// Marks the requests that have a slot for one of the hashes.
 fn mark_owners(slots: &Slots, register: &mut Register, hashes: &[u64])
-    ensures { register.new ≡ record register.old { held = with_owners_marked slots.now.sets hashes.now register.old.held } }
+    ensures { register.new
+        ≡ record register.old { held = with_owners_marked slots.now.sets hashes.now register.old.held } }
 {
     if let [hash, rest @ ..] = hashes {
         mark_owner(slots, register, *hash);
@@ -194,7 +213,8 @@ fn mark_owners(slots: &Slots, register: &mut Register, hashes: &[u64])
 
 /// Marks the request that has a slot for the hash, if one has it.
 fn mark_owner(slots: &Slots, register: &mut Register, hash: u64)
-    ensures { register.new ≡ record register.old { held = with_owner_marked (owner slots.now.sets hash) register.old.held } }
+    ensures { register.new
+        ≡ record register.old { held = with_owner_marked (owner slots.now.sets hash) register.old.held } }
 {
     if let Some(id) = slots.owner(hash) {
         register.mark(&id);
@@ -204,6 +224,7 @@ fn mark_owner(slots: &Slots, register: &mut Register, hash: u64)
 #[cfg(test)]
 mod tests {
     use super::*;
+    use crate::hashes::least_hash;
     use curp_cmd::{Command, Key, Value};
     use std::test::Fail;
 
@@ -233,21 +254,28 @@ mod tests {
     fn answers_each_call(rt: HostRuntime) -> Result<(), Fail> {
         let mut witness = Witness::new(rt.alloc(), 1, 1)?;
         let held = put(1, 1, b"a", b"1")?;
-        assert_eq!(rt; witness.hold(2, &held), Held::Rejected(Reason::Idle));
+        assert_eq!(rt;
+            witness.hold(2, &held),
+            RecordAnswer::Rejected(Reason::Idle)
+        );
         assert_eq!(rt; witness.start(1, 2), Ok(()));
         assert_eq!(rt; witness.start(1, 2), Err(NotIdle { mode: Mode::Normal }));
         let conflict = Reason::Conflict { held: held.id };
         for (epoch, request, answer) in [
-            (1, held, Held::Rejected(Reason::Stranger { epoch: 2 })),
-            (2, held, Held::Accepted),
-            (2, held, Held::Accepted),
-            (2, put(2, 1, b"a", b"2")?, Held::Rejected(conflict)),
+            (
+                1,
+                held,
+                RecordAnswer::Rejected(Reason::Stranger { epoch: 2 }),
+            ),
+            (2, held, RecordAnswer::Accepted),
+            (2, held, RecordAnswer::Accepted),
+            (2, put(2, 1, b"a", b"2")?, RecordAnswer::Rejected(conflict)),
             (
                 2,
                 put(2, 1, b"b", b"2")?,
-                Held::Rejected(Reason::SetFull { set: 0 }),
+                RecordAnswer::Rejected(Reason::SetFull { set: 0 }),
             ),
-            (2, put(1, 1, b"b", b"2")?, Held::Accepted),
+            (2, put(1, 1, b"b", b"2")?, RecordAnswer::Accepted),
         ] {
             assert_eq!(rt; witness.hold(epoch, &request), answer);
         }
@@ -256,7 +284,10 @@ mod tests {
             let frozen = witness.freeze()?;
             assert_eq!(rt; frozen.as_slice(), [held].as_slice());
         }
-        assert_eq!(rt; witness.hold(2, &held), Held::Rejected(Reason::Frozen));
+        assert_eq!(rt;
+            witness.hold(2, &held),
+            RecordAnswer::Rejected(Reason::Frozen)
+        );
         assert_eq!(rt; witness.mode(), Mode::Frozen);
         assert!(rt; witness.holds(&held.id));
         Ok(())
@@ -278,9 +309,33 @@ mod tests {
             first: 1,
             command: Command::multi(&[(a, one), (b, one), (c, one), (d, one)])?,
         };
-        assert_eq!(rt; witness.hold(1, &all), Held::Accepted);
-        let full = Held::Rejected(Reason::SetFull { set: 0 });
+        assert_eq!(rt; witness.hold(1, &all), RecordAnswer::Accepted);
+        let full = RecordAnswer::Rejected(Reason::SetFull { set: 0 });
         assert_eq!(rt; witness.hold(1, &put(1, 2, b"e", b"1")?), full);
+        Ok(())
+    }
+
+    fn in_hash_order(requests: &[Request]) -> bool {
+        for at in 1..requests.len() {
+            if least_hash(&requests[at - 1]) >= least_hash(&requests[at]) {
+                return false;
+            }
+        }
+        true
+    }
+
+    // The hashes of so many keys fill each of the largest number of sets.
+    #[test]
+    fn holds_as_many_requests_as_it_has_slots(rt: HostRuntime) -> Result<(), Fail> {
+        let mut witness = Witness::new(rt.alloc(), 1024, 16)?;
+        assert_eq!(rt; witness.start(1, 1), Ok(()));
+        for number in 1..=20000_u32 {
+            let request = put(number, 1, &number.to_be_bytes(), b"1")?;
+            let _answer = witness.hold(1, &request);
+        }
+        let frozen = witness.freeze()?;
+        assert_eq!(rt; frozen.len(), 1024 * 16);
+        assert!(rt; in_hash_order(&frozen));
         Ok(())
     }
 
@@ -292,7 +347,7 @@ mod tests {
         let (b, c) = (put(1, 1, b"b", b"1")?, put(1, 2, b"c", b"1")?);
         let a = put(1, 3, b"a", b"1")?;
         for request in [b, c, a] {
-            assert_eq!(rt; witness.hold(1, &request), Held::Accepted);
+            assert_eq!(rt; witness.hold(1, &request), RecordAnswer::Accepted);
         }
         let frozen = witness.freeze()?;
         assert_eq!(rt; frozen.as_slice(), [a, c, b].as_slice());

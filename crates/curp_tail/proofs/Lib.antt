@@ -1,2 +1,1 @@
-pub mod Ascendings
 pub mod Tails

@@ -5,7 +5,7 @@ use Rattle.curp_cmd.specs.Hash.{hashes_of}
 use Rattle.curp_cmd.specs.declared.entry.Entry.{Entry}
 use Rattle.curp_cmd.specs.declared.entry.Entry.TheVariants.{Op, Take, Give, Expire}
 use Rattle.curp_range.specs.Spans.{is_in}
-use Rattle.curp_tail.specs.declared.tail.Kept.{Kept}
+use Rattle.curp_tail.specs.declared.tail.TailEntry.{TailEntry}
 use Rattle.curp_tail.specs.declared.touched.Touched.{Touched}
 use Rattle.curp_tail.specs.declared.touched.Touched.TheVariants.{Hashes, Range, Nothing}
 
@@ -23,18 +23,18 @@ touches (Range lo hi) hash = is_in lo hi hash
 touches Nothing hash = false
 
 -- what is kept of entries that stand from an index on
-abbrev pub kept_from : ℕ → List Entry → List Kept
-kept_from index [] = []
-kept_from index (e ∷ es) = record { index = index; touched = touched_of e } ∷ kept_from (index + 1) es
+abbrev pub tail_from : ℕ → List Entry → List TailEntry
+tail_from index [] = []
+tail_from index (e ∷ es) = record { index = index; touched = touched_of e } ∷ tail_from (index + 1) es
 
 -- what is kept of a log of which so many entries are synced
-abbrev pub tail_of : List Entry → ℕ → List Kept
-tail_of log synced = kept_from synced (drop synced log)
+abbrev pub tail_of : List Entry → ℕ → List TailEntry
+tail_of log synced = tail_from synced (drop synced log)
 
 -- some entry that is kept touches the hash
-abbrev pub is_dirty : List Kept → ℕ → Bool
-is_dirty kept hash = list_any (λ (k : Kept). touches k.touched hash) kept
+abbrev pub is_dirty : List TailEntry → ℕ → Bool
+is_dirty tail hash = list_any (λ (e : TailEntry). touches e.touched hash) tail
 
 -- each entry stands below the next ones
-abbrev pub IndexesRise : List Kept → Type 0
-IndexesRise kept = AllPairs (λ (j : Kept) (k : Kept). j.index < k.index) kept
+abbrev pub IndexesRise : List TailEntry → Type 0
+IndexesRise tail = AllPairs (λ (d : TailEntry) (e : TailEntry). d.index < e.index) tail

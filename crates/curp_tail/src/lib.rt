@@ -5,5 +5,5 @@ pub mod laws;
 mod tail;
 mod touched;
 
-pub use tail::{Kept, Tail};
-pub use touched::{Hashes, Touched};
+pub use tail::{Tail, TailEntry};
+pub use touched::Touched;

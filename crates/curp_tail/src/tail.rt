@@ -1,38 +1,39 @@
-ghost use Rattle.std.specs.Prelude.{◌≡◌, ℕ, ◌+◌, ◌<◌, ◌^◌, nat_le, [], ◌++◌, length, filter, All, OnOk, OnErr};
+ghost use Rattle.std.specs.Prelude.{◌≡◌, ℕ, ◌+◌, ◌<◌, ◌^◌, nat_le, [], ◌++◌, length, filter, OnOk, OnErr};
 ghost use Rattle.std.specs.List.{list_any};
-ghost use Rattle.curp_model.specs.Requests.{hashes};
-ghost use Rattle.curp_tail.specs.Tail.{is_dirty, kept_from};
+ghost use Rattle.curp_base.specs.Words.{Each};
+ghost use Rattle.curp_cmd.specs.Hash.{hashes};
+ghost use Rattle.curp_tail.specs.Tail.{is_dirty, tail_from};
 
-use crate::{Hashes, Touched};
+use crate::Touched;
 use curp_base::NoMemory;
-use curp_cmd::{Command, Entry};
+use curp_cmd::{Command, Entry, Hashes};
 use std::alloc::Global;
 use std::marker::Model;
 
 /// What is kept of an entry: its place in the log, counted from 0, and what it touches.
 #[derive(Debug, Drop)]
-pub struct Kept {
+pub struct TailEntry {
     pub index: u64,
     pub touched: Touched,
 }
 
-/// The entries of a log that aren't synced, by what they touch: those that were added and not forgotten, in the order of
-/// their places.
+/// The entries of a log that aren't synced, by what they touch: those that were added and not forgotten, in the order
+/// of their places.
 #[derive(Debug, Drop)]
 pub struct Tail {
-    kept: Vec<Kept>,
+    entries: Vec<TailEntry>,
 }
 
 impl Model for Tail {
     ghost use Rattle.std.specs.Prelude.{List};
-    ghost use Rattle.curp_tail.specs.declared.tail.Kept.{Kept};
+    ghost use Rattle.curp_tail.specs.declared.tail.TailEntry.{TailEntry};
     ghost use Rattle.curp_tail.specs.Tail.{IndexesRise};
 
-    ghost Value = { List Kept };
+    ghost Value = { List TailEntry };
 
-    ghost view = { λ t. t.kept.items };
+    ghost view = { λ t. t.entries.items };
 
-    ghost invariant = { λ t. IndexesRise t.kept.items };
+    ghost invariant = { λ t. IndexesRise t.entries.items };
 }
 
 impl Tail {
@@ -41,7 +42,7 @@ impl Tail {
         ensures { result ≡ [] }
     {
         Tail {
-            kept: Vec::new(alloc),
+            entries: Vec::new(alloc),
         }
     }
 
@@ -49,7 +50,7 @@ impl Tail {
     pub fn is_dirty(&self, hash: u64) -> bool
         ensures { result ≡ is_dirty self.now hash }
     {
-        self.kept.iter().any(|kept| kept.touched.touches(hash))
+        self.entries.iter().any(|entry| entry.touched.touches(hash))
     }
 
     /// Whether some entry touches a hash of the command. It takes no memory.
@@ -64,14 +65,14 @@ impl Tail {
 
     /// Adds entries that stand from that index on, all or none.
     pub fn add(&mut self, entries: &[Entry], index: u64) -> Result<(), NoMemory>
-        requires below { All (λ kept. kept.index < index) self.old }
+        requires below { Each (λ entry. entry.index < index) self.old }
         requires fits { index + length entries.now < 2 ^ 64 }
-        ensures added { OnOk result (self.new ≡ self.old ++ kept_from index entries.now) }
+        ensures added { OnOk result (self.new ≡ self.old ++ tail_from index entries.now) }
         ensures err { OnErr result (self.new ≡ self.old) }
     {
-        self.kept.reserve(entries.len())?;
+        self.entries.reserve(entries.len())?;
         for (at, entry) in entries.iter().enumerate() {
-            self.kept.push_reserved(Kept {
+            self.entries.push_reserved(TailEntry {
                 index: index + at as u64,
                 touched: Touched::of(entry),
             });
@@ -81,10 +82,10 @@ impl Tail {
 
     /// Forgets the entries below that length of the log, which is synced. It takes no memory.
     pub fn synced(&mut self, length: u64)
-        ensures { self.new ≡ filter (λ kept. nat_le length kept.index) self.old }
+        ensures { self.new ≡ filter (λ entry. nat_le length entry.index) self.old }
     {
-        let forgotten = self.kept.partition_point(|kept| kept.index < length);
-        self.kept.drain(..forgotten);
+        let forgotten = self.entries.partition_point(|entry| entry.index < length);
+        self.entries.drain(..forgotten);
     }
 }
 

@@ -1,67 +1,7 @@
-ghost use Rattle.std.specs.Prelude.{◌≡◌, ◌≤◌, length};
-ghost use Rattle.curp_cmd.specs.Hash.{hashes_of};
-ghost use Rattle.curp_cmd.specs.declared.command.Command.TheVariants.{Multi};
+ghost use Rattle.std.specs.Prelude.{◌≡◌};
 ghost use Rattle.curp_tail.specs.Tail.{touched_of, touches};
 
-use curp_cmd::{Command, Entry, Key, Value, key_hash};
-use std::marker::Model;
-
-/// The hashes of a command's keys, in the order of the keys, held in place. Contracts see the list.
-#[derive(Debug, Drop)]
-pub struct Hashes {
-    held: [u64; 4],
-    len: u8,
-}
-
-impl Model for Hashes {
-    ghost use Rattle.std.specs.Prelude.{ℕ, List, ◌≤◌, take};
-
-    ghost Value = { List ℕ };
-
-    ghost view = { λ h. take h.len h.held };
-
-    ghost invariant = { λ h. h.len ≤ 4 };
-}
-
-impl Hashes {
-    /// The hashes of that command. It takes no memory.
-    pub fn of(command: &Command) -> Hashes
-        ensures { result ≡ hashes_of command.now }
-    {
-        match command {
-            Command::Get(key)
-            | Command::Put(key, _)
-            | Command::Delete(key)
-            | Command::Incr(key)
-            | Command::Append(key, _)
-            | Command::CondPut(key, _, _) => Hashes {
-                held: [key_hash(key), 0, 0, 0],
-                len: 1,
-            },
-            Command::Multi(pairs) => Hashes::of_pairs(pairs.as_slice()),
-        }
-    }
-
-    fn of_pairs(pairs: &[(Key, Value)]) -> Hashes
-        requires { length pairs.now ≤ 4 }
-        ensures { result ≡ hashes_of (Multi pairs.now) }
-    {
-        let mut held = [0; 4];
-        for at in 0..pairs.len() {
-            held[at] = key_hash(&pairs[at].0);
-        }
-        Hashes {
-            held,
-            len: pairs.len() as u8,
-        }
-    }
-
-    pub fn as_slice(&self) -> &[u64]
-        ensures { result.now ≡ self.now }
-    {
-        &self.held[..self.len as usize]
-    }
-}
+use curp_cmd::{Entry, Hashes};
 
 /// What an entry of a log has to do with hashes.
 #[derive(Debug, Drop)]

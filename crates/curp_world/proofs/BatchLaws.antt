@@ -6,12 +6,12 @@ use Rattle.std.proofs.lemmas.List.Sums.{sum-map, sum_by-append}
 use Rattle.std.specs.Ordering.{nat_cmp}
 use Rattle.std.proofs.lemmas.List.Sorted.{searched}
 use Rattle.std.proofs.lemmas.Bool.Decides.{nat_tests}
-use Rattle.curp_base.specs.Words.{Each, numbered}
+use Rattle.curp_base.specs.Words.{Each, numbered, all_of}
 use Rattle.curp_base.proofs.Lists.{Each-append}
 use Rattle.curp_msg.specs.declared.message.Message.{Message}
 use Rattle.curp_msg.specs.Weight.{weight_of}
-use Rattle.curp_model.specs.World.{all_of, sent_at}
-use Rattle.curp_world.specs.Batches.{firsts_from, SentSome, IsKept, weight_of_all, Rise, StandsAt, IsGapAt, IsBatchOf}
+use Rattle.curp_model.specs.World.{sent_at}
+use Rattle.curp_world.specs.Batches.{firsts_from, SentSome, IsIndexOf, weight_of_all, Rise, StandsAt, IsGapAt, IsBatchOf}
 
 -- one more list comes behind all
 pub all_of-push : {A : Type 0} (lists : List (List A)) (xs : List A) → all_of (lists ++ xs ∷ []) ≡ all_of lists ++ xs
@@ -73,7 +73,7 @@ weight_push lists xs =
 
 -- one more batch has the numbers from the next one on
 pub kept_push : (firsts : List ℕ) (lists : List (List Message)) (next weight : ℕ) (xs : List Message) (count added : ℕ) → count ≡ length xs → added ≡ weight_of_all xs → 1 ≤ count → next + count < 2 ^ 64
-    → IsKept firsts lists next weight → IsKept (firsts ++ next ∷ []) (lists ++ xs ∷ []) (next + count) (min (weight + added) (2 ^ 64 - 1))
+    → IsIndexOf firsts lists next weight → IsIndexOf (firsts ++ next ∷ []) (lists ++ xs ∷ []) (next + count) (min (weight + added) (2 ^ 64 - 1))
 kept_push firsts lists next weight xs count added counted weighed some fits is = record {
   firsts_are =
       let e : next ≡ 1 + length (all_of lists) = omega (arith, is.next_is) in

@@ -1,6 +1,8 @@
 pub mod BatchLaws
-pub mod Given
-pub mod Heard
-pub mod Nodes
+pub mod ByKind
+pub mod Giving
+pub mod Numbered
 pub mod Runs
 pub mod Seen
+pub mod Stepping
+pub mod Keeping

@@ -1,21 +1,24 @@
 -- Runs of one step more.
-use Rattle.std.proofs.Common.{◌≡◌, ◌&&◌, if◌then◌else◌, Bool, true, false, not, Some, None, arith, ℕ, List, [], ◌∷◌, ◌++◌, Result, Ok, Err, OnOk, OnErr, refl, ap, sym, ◌∙◌, subst}
+use Rattle.std.proofs.Common.{◌≡◌, ◌≢◌, ◌↔◌, IfOk, ◌&&◌, if◌then◌else◌, Bool, true, false, not, Some, None, arith, ℕ, List, [], ◌∷◌, ◌++◌, Result, Ok, Err, OnOk, OnErr, refl, ap, sym, ◌∙◌, subst}
 use Rattle.std.proofs.lemmas.Bool.Decides.{nat_tests}
 use Rattle.curp_base.proofs.Lists.{Each-append}
 use Rattle.curp_cmd.specs.declared.entry.Entry.{Entry}
-use Rattle.curp_law_order.specs.Marked.{marks_of}
-use Rattle.curp_law_order.specs.Shape.{HasShape}
+use Rattle.curp_model.specs.Marked.{marks_of}
+use Rattle.curp_model.specs.Shape.{HasShape}
 use Rattle.curp_script.specs.Built.{is_built}
 use Rattle.curp_script.specs.Headers.{bad_field, is_within, most_parts}
 use Rattle.curp_script.specs.declared.error.FieldName.TheVariants.{Clients, F, Fast, Parts, Sets, Ways}
 use Rattle.curp_script.specs.declared.error.Word.TheVariants as word
-use Rattle.curp_script.specs.declared.script.Header.{Header}
-use Rattle.curp_script.specs.declared.script.Step.{Step}
+use Rattle.curp_msg.specs.declared.script.Header.{Header}
+use Rattle.curp_msg.specs.declared.script.Step.{Step}
 use Rattle.curp_model.specs.Built.{CanStep, IsScript}
 use Rattle.curp_model.specs.Marks.{Mark}
 use Rattle.curp_model.specs.Master.{MasterState}
 use Rattle.curp_model.specs.Recovery.{Serving}
-use Rattle.curp_model.specs.World.{World, step, run, opening, world}
+use Rattle.curp_model.specs.World.{World, Stepped, step, run, opening, world}
+use Rattle.curp_msg.specs.declared.outcome.Outcome.{Outcome}
+use Rattle.curp_msg.specs.declared.outcome.StepResult.{StepResult}
+use Rattle.curp_msg.specs.declared.outcome.StepResult.TheVariants.{Done}
 use Rattle.curp_world.specs.Nodes.{first_log, remarked}
 use Rattle.curp_world.specs.Reached.{Reached}
 
@@ -66,6 +69,8 @@ pub step_told : {A E : Type 0} (result : Result A E) (w v : World) (s : Step) �
     → OnOk result (v ≡ remarked (step w s).world) → OnOk result (v ≡ (step w s).world)
 step_told (Ok a) w v s can r marks shape ok = ok ∙ remarked_same (step w s).world (reached_next w s can r) marks shape
 step_told (Err e) w v s can r marks shape ok = ok
+
+-- ---- headers
 
 parts_within : (clients f fast parts sets ways : Bool)
     → (if not clients then Some Clients else if not f then Some F else if fast then Some Fast else if not parts then Some Parts else if not sets then Some Sets else if not ways then Some Ways else None) ≡ None

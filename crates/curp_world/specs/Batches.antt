@@ -1,10 +1,9 @@
 -- The messages of a world, kept as each step sent them.
 use Rattle.std.specs.Prelude.{◌≡◌, ℕ, ◌+◌, ◌-◌, ◌<◌, ◌≤◌, ◌^◌, min, map, List, [], ◌∷◌, length, slice_index_or}
 use Rattle.std.specs.List.{sum}
-use Rattle.curp_base.specs.Words.{Each}
+use Rattle.curp_base.specs.Words.{Each, all_of}
 use Rattle.curp_msg.specs.declared.message.Message.{Message}
 use Rattle.curp_msg.specs.Weight.{weight_of}
-use Rattle.curp_model.specs.World.{all_of}
 
 -- what each step sent, where it sent something, and for how many more steps there is room
 pub record Batched : Type 0 where
@@ -24,7 +23,7 @@ abbrev pub weight_of_all : List Message → ℕ
 weight_of_all messages = min (sum (map weight_of messages)) (2 ^ 64 - 1)
 
 -- the lists with the numbers of their first messages, the number of the next message, and what all messages weigh
-pub record IsKept (firsts : List ℕ) (lists : List (List Message)) (next weight : ℕ) : Type 0 where
+pub record IsIndexOf (firsts : List ℕ) (lists : List (List Message)) (next weight : ℕ) : Type 0 where
   pub firsts_are : firsts ≡ firsts_from 1 lists
   pub none_empty : Each SentSome lists
   pub next_is : next ≡ length (all_of lists) + 1

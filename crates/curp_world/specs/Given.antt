@@ -1,50 +1,93 @@
 -- One input to one node: a message, or an order.
-use Rattle.std.specs.Prelude.{ℕ, List, [], Option, Some, None}
+use Rattle.std.specs.Prelude.{◌≡◌, ℕ, nat_lt, ◌==◌, if◌then◌else◌, not, List, [], ◌∷◌, Option, Some, None, ⊤}
+use Rattle.std.specs.Option.{option_map}
+use Rattle.curp_base.specs.Cases.{first_case, only_if}
+use Rattle.curp_base.specs.Words.{numbered}
 use Rattle.curp_cmd.specs.declared.command.Command.{Command}
 use Rattle.curp_cmd.specs.declared.command.RequestId.{RequestId}
-use Rattle.curp_inv.specs.Machines.{client_gets, backup_gets, witness_gets}
-use Rattle.curp_master.specs.Built.{on_input}
+use Rattle.curp_cmd.specs.declared.node.NodeId.{NodeId}
+use Rattle.curp_cmd.specs.declared.node.NodeKind.{NodeKind}
+use Rattle.curp_cmd.specs.declared.node.NodeKind.TheVariants.{Client, Master}
+use Rattle.curp_model.specs.Client.{ClientState}
+use Rattle.curp_model.specs.Sent.{IsBuilt, IsSaidTo}
+use Rattle.curp_model.specs.World.{Deed, Gives, Stepped, World, delivery, effect, has_node, is_stopped, messages}
+use Rattle.curp_model.specs.World.{steps_by, weight, weight_limit}
 use Rattle.curp_msg.specs.declared.machine.Input.{Input}
 use Rattle.curp_msg.specs.declared.machine.Input.TheVariants as input
 use Rattle.curp_msg.specs.declared.machine.Local.{Local}
 use Rattle.curp_msg.specs.declared.machine.Local.TheVariants as local
-use Rattle.curp_msg.specs.declared.outcome.StepResult.TheVariants.{NoNode}
-use Rattle.curp_order.specs.declared.Event.{Event}
-use Rattle.curp_model.specs.Backup.{BackupState}
-use Rattle.curp_model.specs.Client.{ClientState}
-use Rattle.curp_model.specs.Master.{MasterState}
-use Rattle.curp_model.specs.Moved.{Moved, within, client_node, master_node, backup_node, witness_node}
-use Rattle.curp_model.specs.Recovery.{MasterNode, Fresh, Recovering, Serving}
-use Rattle.curp_model.specs.Witness.{WitnessState}
-use Rattle.curp_model.specs.World.{World, Stepped, refused, if_it_runs, made, with_client, with_master, with_backup, with_witness, events_of}
+use Rattle.curp_msg.specs.declared.message.Message.{Message}
+use Rattle.curp_msg.specs.declared.outcome.StepResult.{StepResult}
+use Rattle.curp_msg.specs.declared.outcome.StepResult.TheVariants as result
+use Rattle.curp_world.specs.declared.given.Gift.{Gift}
+use Rattle.curp_world.specs.declared.given.Gift.TheVariants as gift
+use Rattle.curp_world.specs.declared.given.Given.{Given}
+use Rattle.curp_world.specs.declared.given.Given.TheVariants as given
 
--- an invocation that client n accepts goes into the history
-abbrev pub events_by : ℕ → ClientState → Input → List Event
-events_by n c (input.Local order) = events_of n c order
-events_by n c (input.Message m) = []
+-- the input that it is
+abbrev pub input_of : Given → Input
+input_of (given.Message m) = input.Message m.now
+input_of (given.Order order) = input.Local order.now
 
--- what client n has invoked, if the input was an invocation and `last` is its last number now
-abbrev pub invoked_by : ℕ → ℕ → Input → Option (RequestId × Command)
-invoked_by n last (input.Local (local.Invoke command)) = Some (record { client = n; seq = last }, command)
-invoked_by n last (input.Local order) = None
-invoked_by n last (input.Message m) = None
+-- ---- what is built
 
--- an input to client n
-abbrev pub gives_client : World → ℕ → Input → Option ClientState → Stepped
-gives_client w n given None = refused w NoNode
-gives_client w n given (Some c) = if_it_runs w (client_node n) (made w (with_client w n) (events_by n c given) (client_gets n c given))
+-- the order is one that nodes of that kind get
+abbrev pub IsOrderFor : NodeKind → Local → Type 0
+IsOrderFor Client (local.Invoke command) = ⊤
+IsOrderFor Master local.Sync = ⊤
+IsOrderFor _ _ = ⊥
 
--- an input to master n, which serves
-abbrev pub gives_master : World → ℕ → Input → Option MasterNode → Stepped
-gives_master w n given (Some (Serving m)) = if_it_runs w (master_node n) (made w (with_master w n (Serving m)) [] (within Serving (on_input n m given)))
-gives_master w n given _ = refused w NoNode
+-- the input is one that the node of that kind and number gets
+abbrev pub IsFor : NodeKind → ℕ → Input → Type 0
+IsFor kind n (input.Message m) = IsSaidTo kind n m.body
+IsFor kind n (input.Local order) = IsOrderFor kind order
 
--- an input to backup n
-abbrev pub gives_backup : World → ℕ → Input → Option BackupState → Stepped
-gives_backup w n given None = refused w NoNode
-gives_backup w n given (Some b) = if_it_runs w (backup_node n) (made w (with_backup w n) [] (backup_gets n b given))
+-- the message of that number was sent to the node, and is of a kind that is built for it
+pub record IsMessageTo (w : World) (number : ℕ) (to : NodeId) : Type 0 where
+  pub message : Message
+  pub found : numbered (messages w) number ≡ Some message
+  pub addressee : message.to ≡ to
+  pub built : IsBuilt message
 
--- an input to witness n
-abbrev pub gives_witness : World → ℕ → Input → Option WitnessState → Stepped
-gives_witness w n given None = refused w NoNode
-gives_witness w n given (Some x) = if_it_runs w (witness_node n) (made w (with_witness w n) [] (witness_gets n x given))
+-- the node may get it
+abbrev pub CanGet : World → NodeId → Gift → Type 0
+CanGet w to (gift.Message number) = IsMessageTo w number to
+CanGet w to (gift.Order order) = IsOrderFor to.kind order
+
+-- ---- what comes of it
+
+-- the input that it stands for, where its message is among those that were sent
+abbrev pub input_in : List Message → Gift → Option Input
+input_in sent (gift.Message number) = option_map input.Message (numbered sent number)
+input_in sent (gift.Order order) = Some (input.Local order)
+
+-- what is to be done
+abbrev pub gift_deed : World → NodeId → Gift → Deed
+gift_deed w to (gift.Message number) = delivery (numbered (messages w) number)
+gift_deed w to (gift.Order order) = Gives to (input.Local order)
+
+-- why the node gets nothing, whatever it is: there is no such node, it is stopped, or all messages weigh too much
+abbrev pub barrier : World → NodeId → Option StepResult
+barrier w to = first_case (
+    only_if (not (has_node w to)) (Some result.NoNode)
+    ∷ only_if (is_stopped w to) (Some result.Gone)
+    ∷ only_if (nat_lt weight_limit (weight w)) (Some (result.Full (weight w)))
+    ∷ []) None
+
+-- a node took it, or refused it by a number
+abbrev pub taken_by : ℕ → StepResult
+taken_by number = if number == 0 then result.Done else result.Refused number
+
+-- how it goes to do this to a node: by the barrier, or by the node
+abbrev pub goes : World → Deed → Option StepResult → StepResult
+goes w deed (Some why) = why
+goes w deed None = taken_by (effect w deed).refused
+
+-- a node is handed what it is to get, if it can be
+abbrev pub hands : World → NodeId → Gift → Stepped
+hands w to gift = steps_by w (gift_deed w to gift) (goes w (gift_deed w to gift) (barrier w to))
+
+-- what a client has invoked, if it got the order: the request that is its last one now
+abbrev pub invoked_by : NodeId → Gift → Option ClientState → Option (RequestId × Command)
+invoked_by to (gift.Order (local.Invoke command)) (Some c) = Some (record { client = to.number; seq = c.last }, command)
+invoked_by to _ _ = None

@@ -1,7 +1,7 @@
 -- What a world can be.
 use Rattle.std.specs.Prelude.{◌≡◌, List}
-use Rattle.curp_script.specs.declared.script.Header.{Header}
-use Rattle.curp_script.specs.declared.script.Step.{Step}
+use Rattle.curp_msg.specs.declared.script.Header.{Header}
+use Rattle.curp_msg.specs.declared.script.Step.{Step}
 use Rattle.curp_model.specs.Built.{IsScript}
 use Rattle.curp_model.specs.World.{World, world}
 

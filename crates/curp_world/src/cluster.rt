@@ -1,42 +1,35 @@
-ghost use Rattle.std.specs.Prelude.{◌≡◌, ◌⊎◌, ◌≤◌, ◌<◌, ◌++◌, ◌+◌, ℕ, [], length, nat_lt, OnOk, OnErr, IfOk, IfSome, IfNone, Some, None};
+ghost use Rattle.std.specs.Prelude.{◌≡◌, ◌≤◌, ◌++◌, ◌+◌, ℕ, length, OnOk, OnErr, IfOk, IsSome, Some};
 ghost use Rattle.std.specs.Option.{option_map};
-ghost use Rattle.curp_base.specs.Words.{At, numbered};
-ghost use Rattle.curp_law_order.specs.Sent.{IsBuilt};
+ghost use Rattle.curp_base.specs.Words.{At, all_of, numbered};
+ghost use Rattle.curp_model.specs.Built.{CanStep};
+ghost use Rattle.curp_model.specs.Sent.{IsBuilt};
+ghost use Rattle.curp_model.specs.World as world;
 ghost use Rattle.curp_msg.specs.declared.message.Message.{Message};
 ghost use Rattle.curp_order.specs.Recorded.{invocation};
-ghost use Rattle.curp_model.specs.Built.{CanStep};
-ghost use Rattle.curp_model.specs.Moved as nodes;
-ghost use Rattle.curp_model.specs.World as world;
-ghost use Rattle.curp_script.specs.Headers.{bad_field};
-ghost use Rattle.curp_world.specs.Nodes.{IsServing, remarked, serving};
-ghost use Rattle.curp_world.specs.Given.{gives_client, gives_master, gives_backup, gives_witness, invoked_by};
+ghost use Rattle.curp_world.specs.Given.{CanGet, barrier, hands, input_in, input_of};
+ghost use Rattle.curp_world.specs.Nodes.{remarked, serving};
 
-use crate::names::{backup_node, client_node, master_node, witness_node};
-use crate::opening;
+use crate::given::{Gift, Given};
+use crate::nodes::Nodes;
 use crate::sent::Sent;
 use crate::stopped::Stopped;
 use curp_base::NoMemory;
-use curp_cmd::{Command, NodeId, NodeKind, RequestId};
-use curp_inv::{BackupNode, ClientNode, MasterNode, WitnessNode, place_of};
-use curp_msg::{Core, Done, Input, Local, Message, Outcome, StepResult};
+use curp_cmd::{Command, NodeId, RequestId};
+use curp_inv::MasterNode;
+use curp_msg::{Done, Header, Local, Message, Outcome, Step, StepResult};
 use curp_order::History;
-use curp_script::{Header, Step};
 use std::alloc::Global;
 use std::marker::Model;
 
 /// Beyond this weight of all messages no node gets anything more.
 const WEIGHT_LIMIT: u64 = 2_000_000;
 
-/// All nodes, every message that was ever sent, and the history. The manager doesn't move in what is built, so its header
-/// tells it.
+/// All nodes, every message that was ever sent, and the history. The manager doesn't move in what is built, so its
+/// header tells it.
 #[derive(Drop)]
 pub(crate) struct Cluster {
-    alloc: Global,
     header: Header,
-    clients: Vec<ClientNode>,
-    masters: Vec<MasterNode>,
-    backups: Vec<BackupNode>,
-    witnesses: Vec<WitnessNode>,
+    nodes: Nodes,
     stopped: Stopped,
     sent: Sent,
     history: History,
@@ -44,13 +37,11 @@ pub(crate) struct Cluster {
 
 impl Model for Cluster {
     ghost use Rattle.curp_model.specs.World.{World};
-    ghost use Rattle.curp_world.specs.Nodes.{AreNumbered, seen};
+    ghost use Rattle.curp_world.specs.Nodes.{seen};
 
     ghost Value = { World };
 
-    ghost view = { λ c. seen c.header c.clients.items c.masters.items c.backups.items c.witnesses.items c.stopped c.sent.lists c.history.events };
-
-    ghost invariant = { λ c. AreNumbered c.clients.items c.masters.items c.backups.items c.witnesses.items };
+    ghost view = { λ c. seen c.header c.nodes c.stopped c.sent.lists c.history.events };
 }
 
 impl Cluster {
@@ -59,14 +50,9 @@ impl Cluster {
         requires { header.now.parts ≡ 1 }
         ensures { IfOk result (λ cluster. cluster ≡ world.opening header.now) }
     {
-        let config = opening::config(alloc, header)?;
         Ok(Cluster {
-            alloc,
             header: *header,
-            clients: opening::clients(alloc, header, &config)?,
-            masters: opening::masters(alloc, header)?,
-            backups: opening::backups(alloc, header)?,
-            witnesses: opening::witnesses(alloc, header)?,
+            nodes: Nodes::new(alloc, header)?,
             stopped: Stopped::new(alloc),
             sent: Sent::new(alloc),
             history: History::new(alloc),
@@ -76,7 +62,7 @@ impl Cluster {
     pub(crate) fn masters(&self) -> &[MasterNode]
         ensures { serving result.now ≡ self.now.masters }
     {
-        &self.masters
+        self.nodes.masters()
     }
 
     pub(crate) fn sent(&self) -> &Sent
@@ -98,42 +84,7 @@ impl Cluster {
         self.sent.weight()
     }
 
-    // No master recovers in what is built. (A fact for the proofs; nothing is done.)
-    fn masters_serve(&self)
-        ensures { (n : ℕ) → IsServing (numbered self.now.masters n) }
-    {
-        let _masters = self.masters();
-    }
-
-    // What a step did that sends nothing, as one that can't be made.
-    fn silent(&self, how: StepResult) -> Outcome
-        ensures { result ≡ (world.refused self.now how).outcome }
-    {
-        Outcome {
-            result: how,
-            first: self.sent.next(),
-            sent: 0,
-            completed: None,
-        }
-    }
-
-    // Why the node of that name gets nothing, if so: it is stopped, or all messages weigh too much.
-    fn barrier(&self, node: NodeId) -> Option<StepResult>
-        ensures some { IfSome result (λ why. (s : world.Stepped) → world.if_it_runs self.now node s ≡ world.refused self.now why) }
-        ensures none { IfNone result ((s : world.Stepped) → world.if_it_runs self.now node s ≡ s) }
-    {
-        if self.stopped.contains(node) {
-            return Some(StepResult::Gone);
-        }
-        let weight = self.weight();
-        if weight > WEIGHT_LIMIT {
-            return Some(StepResult::Full { weight });
-        }
-        None
-    }
-
     /// Makes a step. The marks are told by the log.
-    #[tactic(auto, unfolding(curp_model::specs::World::step))]
     pub(crate) fn step(&mut self, step: &Step) -> Result<Outcome, NoMemory>
         requires can { CanStep step.now }
         requires built { (k : ℕ) (m : Message) → At (world.messages self.old) k m → IsBuilt m }
@@ -143,142 +94,88 @@ impl Cluster {
     {
         match step {
             Step::Invoke { client, command } => {
-                self.give_client(*client, &Input::Local(Local::Invoke(*command)))
+                self.hand(
+                    NodeId::client(*client),
+                    &Gift::Order(Local::Invoke(*command)),
+                )
             }
-            Step::Deliver { message } => self.deliver(*message),
+            Step::Deliver { message } => match self.addressee(*message) {
+                None => Ok(self.silent(StepResult::NoMessage)),
+                Some(to) => self.hand(to, &Gift::Message(*message)),
+            },
             Step::Sync { master } => {
-                self.masters_serve();
-                self.give_master(*master, &Input::Local(Local::Sync))
+                self.hand(NodeId::master(*master), &Gift::Order(Local::Sync))
             }
             Step::Stop { node } => self.stop(*node),
-            _ => Ok(self.silent(StepResult::NoNode)),
+            // No other kind of step is built.
+            _ => unreachable!(),
         }
     }
 
-    // The message of that number comes to its addressee.
-    fn deliver(&mut self, number: u64) -> Result<Outcome, NoMemory>
-        requires { (k : ℕ) (m : Message) → At (world.messages self.old) k m → IsBuilt m }
-        ensures state { OnOk result (self.new ≡ remarked (world.delivers self.old (numbered (world.messages self.old) number)).world) }
-        ensures outcome { IfOk result (λ outcome. outcome ≡ (world.delivers self.old (numbered (world.messages self.old) number)).outcome) }
-        ensures err { OnErr result (self.new ≡ self.old) }
+    // Whom the message of that number goes to.
+    fn addressee(&self, number: u64) -> Option<NodeId>
+        ensures { result ≡ option_map (λ m. m.to) (numbered (world.messages self.now) number) }
     {
-        let message = match self.sent.get(number) {
-            None => return Ok(self.silent(StepResult::NoMessage)),
-            Some(message) => message.copy(self.alloc)?,
-        };
-        self.arrive(message)
+        self.sent.get(number).map(|message| message.to)
     }
 
-    fn arrive(&mut self, message: Message) -> Result<Outcome, NoMemory>
-        requires { IsBuilt message }
-        ensures state { OnOk result (self.new ≡ remarked (world.arrives self.old message.to.kind message.to.number message.from message.body).world) }
-        ensures outcome { IfOk result (λ outcome. outcome ≡ (world.arrives self.old message.to.kind message.to.number message.from message.body).outcome) }
+    // The node of that name is handed what it is to get, unless something is in the way.
+    fn hand(&mut self, to: NodeId, gift: &Gift) -> Result<Outcome, NoMemory>
+        requires { CanGet self.old to gift.now }
+        ensures state { OnOk result (self.new ≡ remarked (hands self.old to gift.now).world) }
+        ensures outcome { IfOk result (λ outcome. outcome ≡ (hands self.old to gift.now).outcome) }
         ensures err { OnErr result (self.new ≡ self.old) }
     {
-        let NodeId { kind, number } = message.to;
-        let input = Input::Message(message);
-        match kind {
-            NodeKind::Client => self.give_client(number, &input),
-            NodeKind::Master => {
-                self.masters_serve();
-                self.give_master(number, &input)
-            }
-            NodeKind::Backup => self.give_backup(number, &input),
-            NodeKind::Witness => self.give_witness(number, &input),
-            // Nothing is said to the manager in what is built.
-            NodeKind::Manager => Ok(self.silent(StepResult::NoNode)),
-        }
-    }
-
-    // The client of that number gets an input.
-    fn give_client(&mut self, number: u32, input: &Input) -> Result<Outcome, NoMemory>
-        ensures state { OnOk result (self.new ≡ remarked (gives_client self.old number input.now (numbered self.old.clients number)).world) }
-        ensures outcome { IfOk result (λ outcome. outcome ≡ (gives_client self.old number input.now (numbered self.old.clients number)).outcome) }
-        ensures err { OnErr result (self.new ≡ self.old) }
-    {
-        let Some(index) = place_of(number as u64, self.clients.len()) else {
-            return Ok(self.silent(StepResult::NoNode));
-        };
-        if let Some(why) = self.barrier(client_node(number)) {
+        if let Some(why) = self.barrier(to) {
             return Ok(self.silent(why));
         }
         self.sent.reserve()?;
         self.history.reserve(2)?;
-        let done = self.clients[index].on(input)?;
+        let done = self.nodes.give(to, &given_of(&self.sent, gift))?;
         if done.refused != 0 {
             let number = done.refused;
             return Ok(self.silent(StepResult::Refused { number }));
         }
-        let event = invoked(number, self.clients[index].last(), input);
-        Ok(keep(&mut self.sent, &mut self.history, event, done))
+        let invoked = self.nodes.invoked(to, gift);
+        Ok(keep(&mut self.sent, &mut self.history, invoked, done))
     }
 
-    // The master of that number gets an input.
-    fn give_master(&mut self, number: u32, input: &Input) -> Result<Outcome, NoMemory>
-        ensures state { OnOk result (self.new ≡ remarked (gives_master self.old number input.now (numbered self.old.masters number)).world) }
-        ensures outcome { IfOk result (λ outcome. outcome ≡ (gives_master self.old number input.now (numbered self.old.masters number)).outcome) }
-        ensures err { OnErr result (self.new ≡ self.old) }
+    // Why the node of that name gets nothing, whatever it is: it isn't there, it is stopped, or all messages weigh too
+    // much.
+    fn barrier(&self, to: NodeId) -> Option<StepResult>
+        ensures { result ≡ barrier self.now to }
     {
-        let Some(index) = place_of(number as u64, self.masters.len()) else {
-            return Ok(self.silent(StepResult::NoNode));
-        };
-        if let Some(why) = self.barrier(master_node(number)) {
-            return Ok(self.silent(why));
+        if !self.has_node(to) {
+            return Some(StepResult::NoNode);
         }
-        self.sent.reserve()?;
-        self.history.reserve(2)?;
-        let done = self.masters[index].on(input)?;
-        Ok(keep(&mut self.sent, &mut self.history, None, done))
+        if self.stopped.contains(to) {
+            return Some(StepResult::Gone);
+        }
+        let weight = self.weight();
+        if weight > WEIGHT_LIMIT {
+            return Some(StepResult::Full { weight });
+        }
+        None
     }
 
-    // The backup of that number gets an input.
-    fn give_backup(&mut self, number: u32, input: &Input) -> Result<Outcome, NoMemory>
-        ensures state { OnOk result (self.new ≡ remarked (gives_backup self.old number input.now (numbered self.old.backups number)).world) }
-        ensures outcome { IfOk result (λ outcome. outcome ≡ (gives_backup self.old number input.now (numbered self.old.backups number)).outcome) }
-        ensures err { OnErr result (self.new ≡ self.old) }
+    fn has_node(&self, node: NodeId) -> bool
+        ensures { result ≡ world.has_node self.now node }
     {
-        let Some(index) = place_of(number as u64, self.backups.len()) else {
-            return Ok(self.silent(StepResult::NoNode));
-        };
-        if let Some(why) = self.barrier(backup_node(number)) {
-            return Ok(self.silent(why));
-        }
-        self.sent.reserve()?;
-        self.history.reserve(2)?;
-        let done = self.backups[index].on(input)?;
-        Ok(keep(&mut self.sent, &mut self.history, None, done))
-    }
-
-    // The witness of that number gets an input.
-    fn give_witness(&mut self, number: u32, input: &Input) -> Result<Outcome, NoMemory>
-        ensures state { OnOk result (self.new ≡ remarked (gives_witness self.old number input.now (numbered self.old.witnesses number)).world) }
-        ensures outcome { IfOk result (λ outcome. outcome ≡ (gives_witness self.old number input.now (numbered self.old.witnesses number)).outcome) }
-        ensures err { OnErr result (self.new ≡ self.old) }
-    {
-        let Some(index) = place_of(number as u64, self.witnesses.len()) else {
-            return Ok(self.silent(StepResult::NoNode));
-        };
-        if let Some(why) = self.barrier(witness_node(number)) {
-            return Ok(self.silent(why));
-        }
-        self.sent.reserve()?;
-        self.history.reserve(2)?;
-        let done = self.witnesses[index].on(input)?;
-        Ok(keep(&mut self.sent, &mut self.history, None, done))
+        self.nodes.has_node(node)
     }
 
     // The node of that name gets nothing more.
     fn stop(&mut self, node: NodeId) -> Result<Outcome, NoMemory>
-        ensures state { OnOk result (self.new ≡ remarked (world.stops_kind self.old node.kind node.number).world) }
-        ensures outcome { IfOk result (λ outcome. outcome ≡ (world.stops_kind self.old node.kind node.number).outcome) }
+        ensures state { OnOk result (self.new ≡ remarked (world.step self.old (Step.Stop node)).world) }
+        ensures outcome { IfOk result (λ outcome. outcome ≡ (world.step self.old (Step.Stop node)).outcome) }
         ensures err { OnErr result (self.new ≡ self.old) }
     {
-        let Some(count) = self.count_of(node.kind) else {
-            return Ok(self.silent(StepResult::Manager));
-        };
-        let Some(_place) = place_of(node.number as u64, count) else {
+        if !self.has_node(node) {
             return Ok(self.silent(StepResult::NoNode));
-        };
+        }
+        if node == NodeId::manager() {
+            return Ok(self.silent(StepResult::Manager));
+        }
         if self.stopped.contains(node) {
             return Ok(self.silent(StepResult::Gone));
         }
@@ -286,34 +183,32 @@ impl Cluster {
         Ok(self.silent(StepResult::Done))
     }
 
-    // How many nodes there are of a kind that may be stopped.
-    fn count_of(&self, kind: NodeKind) -> Option<usize>
-        ensures manager { IfNone result (kind ≡ NodeKind.Manager) }
-        ensures past { IfSome result (λ count. (n : ℕ) → (n ≡ 0) ⊎ (count < n) → world.stops_kind self.now kind n ≡ world.refused self.now StepResult.NoNode) }
-        ensures there { IfSome result (λ count. (n k : ℕ) → n ≡ k + 1 → k < count → world.stops_kind self.now kind n ≡ world.stops self.now (record { kind = kind; number = n })) }
+    // What a step did that sends nothing, as one that can't be made. The marks are told by the log in any case.
+    fn silent(&self, how: StepResult) -> Outcome
+        ensures outcome { result ≡ (world.refused self.now how).outcome }
+        ensures told { remarked self.now ≡ self.now }
     {
-        match kind {
-            NodeKind::Manager => None,
-            NodeKind::Client => Some(self.clients.len()),
-            NodeKind::Master => Some(self.masters.len()),
-            NodeKind::Backup => Some(self.backups.len()),
-            NodeKind::Witness => Some(self.witnesses.len()),
+        Outcome {
+            result: how,
+            first: self.sent.next(),
+            sent: 0,
+            completed: None,
         }
     }
 }
 
-// What a client invoked, where the order let it and it was accepted: the request that is its last one now.
-fn invoked(number: u32, last: u32, input: &Input) -> Option<(RequestId, Command)>
-    ensures { result ≡ invoked_by number last input.now }
+// What a node is given, by what it is to get.
+fn given_of<'a>(sent: &'a Sent, gift: &'a Gift) -> Given<'a>
+    requires { IsSome (input_in (all_of sent.now.lists) gift.now) }
+    ensures { input_in (all_of sent.now.lists) gift.now ≡ Some (input_of result) }
 {
-    let Input::Local(Local::Invoke(command)) = input else {
-        return None;
-    };
-    let id = RequestId {
-        client: number,
-        seq: last,
-    };
-    Some((id, *command))
+    match gift {
+        Gift::Order(order) => Given::Order(order),
+        Gift::Message(number) => match sent.get(*number) {
+            Some(message) => Given::Message(message),
+            None => unreachable!(),
+        },
+    }
 }
 
 // What a node did on an input is kept, behind an invocation where it was one.
@@ -325,9 +220,15 @@ fn keep(
 ) -> Outcome
     requires sent { 1 ≤ sent.old.spare }
     requires history { 2 ≤ history.old.spare }
-    ensures sent { sent.new.lists ≡ world.kept sent.old.lists done.sent }
-    ensures history { history.new.events ≡ (history.old.events ++ invocation invoked) ++ world.completion done.completed }
-    ensures outcome { result ≡ record { result = StepResult.Done; first = length (world.all_of sent.old.lists) + 1; sent = length done.sent; completed = done.completed } }
+    ensures sent { sent.new.lists ≡ world.with_batch sent.old.lists done.sent }
+    ensures history { history.new.events
+        ≡ (history.old.events ++ invocation invoked) ++ world.completion done.completed }
+    ensures outcome { result ≡ record {
+      result = StepResult.Done;
+      first = length (all_of sent.old.lists) + 1;
+      sent = length done.sent;
+      completed = done.completed;
+    } }
 {
     let outcome = Outcome {
         result: StepResult::Done,

@@ -2,7 +2,8 @@
 #![tactic(auto)]
 
 mod cluster;
-mod names;
+mod given;
+mod nodes;
 mod opening;
 mod ordered;
 mod sent;
@@ -11,6 +12,6 @@ mod stopped;
 mod tests;
 mod world;
 
-pub use curp_msg::{Outcome, StepResult};
-pub use curp_script::{FieldName, Header, Step};
+pub use curp_msg::{Header, Outcome, Step, StepResult};
+pub use curp_script::FieldName;
 pub use world::{BeginError, World};

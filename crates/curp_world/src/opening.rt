@@ -7,13 +7,11 @@ ghost use Rattle.curp_model.specs.Witness.{started_witness};
 ghost use Rattle.curp_model.specs.World.{opening_master, shape_of};
 ghost use Rattle.curp_world.specs.Nodes.{HasNumbers, serving, states};
 
-use crate::names::{backup_node, master_node, witness_node};
 use curp_base::{Items, NoMemory};
 use curp_cmd::NodeId;
 use curp_inv::{BackupNode, ClientNode, MasterNode, WitnessNode};
-use curp_msg::{Config, PartConfig};
+use curp_msg::{Config, Header, PartConfig};
 use curp_range::{Ranges, Spans};
-use curp_script::Header;
 use curp_slots::ShapeError;
 use std::alloc::{AllocError, Global};
 
@@ -42,7 +40,7 @@ fn part(alloc: Global, header: &Header) -> Result<PartConfig, NoMemory>
         part: 1,
         epoch: FIRST,
         version: FIRST,
-        master: master_node(1),
+        master: NodeId::master(1),
         backups: Items::new(backup_names(alloc, header.f)?),
         witnesses: Items::new(witness_names(alloc, header.f)?),
         ranges: Spans::new(Ranges::new(alloc, 0, u64::MAX)?),
@@ -54,7 +52,7 @@ fn backup_names(alloc: Global, count: u32) -> Result<Vec<NodeId>, NoMemory>
 {
     let mut names = Vec::with_capacity(alloc, count as usize)?;
     for named in 0..count {
-        names.push(backup_node(named + 1))?;
+        names.push(NodeId::backup(named + 1))?;
     }
     Ok(names)
 }
@@ -64,7 +62,7 @@ fn witness_names(alloc: Global, count: u32) -> Result<Vec<NodeId>, NoMemory>
 {
     let mut names = Vec::with_capacity(alloc, count as usize)?;
     for named in 0..count {
-        names.push(witness_node(named + 1))?;
+        names.push(NodeId::witness(named + 1))?;
     }
     Ok(names)
 }
@@ -74,7 +72,8 @@ pub(crate) fn clients(
     header: &Header,
     config: &Config,
 ) -> Result<Vec<ClientNode>, NoMemory>
-    ensures states { IfOk result (λ nodes. states nodes.items ≡ replicate header.now.clients (fresh_client header.now.fast config.now)) }
+    ensures states { IfOk result (λ nodes. states nodes.items
+        ≡ replicate header.now.clients (fresh_client header.now.fast config.now)) }
     ensures numbers { IfOk result (λ nodes. HasNumbers nodes.items) }
 {
     let mut nodes = Vec::with_capacity(alloc, header.clients as usize)?;
@@ -110,7 +109,8 @@ pub(crate) fn backups(alloc: Global, header: &Header) -> Result<Vec<BackupNode>,
 }
 
 pub(crate) fn witnesses(alloc: Global, header: &Header) -> Result<Vec<WitnessNode>, NoMemory>
-    ensures states { IfOk result (λ nodes. states nodes.items ≡ replicate header.now.f (started_witness header.now.sets header.now.ways 1)) }
+    ensures states { IfOk result (λ nodes. states nodes.items
+        ≡ replicate header.now.f (started_witness header.now.sets header.now.ways 1)) }
     ensures numbers { IfOk result (λ nodes. HasNumbers nodes.items) }
 {
     let mut nodes = Vec::with_capacity(alloc, header.f as usize)?;

@@ -1,7 +1,7 @@
 // One order of the requests: that of the master's log.
 ghost use Rattle.std.specs.Prelude.{◌≡◌, [], length, IfOk};
 ghost use Rattle.curp_order.specs.Order.{answers};
-ghost use Rattle.curp_law_order.specs.Marked.{requests_of};
+ghost use Rattle.curp_model.specs.Marked.{requests_of};
 ghost use Rattle.curp_model.specs.World.{with_answers};
 ghost use Rattle.curp_world.specs.Nodes.{first_log, serving};
 
@@ -16,7 +16,8 @@ pub(crate) fn answered(
     alloc: Global,
     masters: &[MasterNode],
 ) -> Result<Vec<(RequestId, Command, Answer)>, NoMemory>
-    ensures { IfOk result (λ list. list.items ≡ with_answers (requests_of (first_log (serving masters.now))) (answers (requests_of (first_log (serving masters.now))))) }
+    ensures { IfOk result (λ list. let requests = requests_of (first_log (serving masters.now)) in
+        list.items ≡ with_answers requests (answers requests)) }
 {
     let Some(master) = masters.first() else {
         return Ok(Vec::new(alloc));

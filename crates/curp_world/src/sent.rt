@@ -1,7 +1,7 @@
 ghost use Rattle.std.specs.Prelude.{◌≡◌, ◌+◌, ◌≤◌, ◌<◌, ◌^◌, [], length, OnOk, IfOk, IfErr, IfSome, IfNone};
 ghost use Rattle.std.specs.Option.{option_copied};
-ghost use Rattle.curp_base.specs.Words.{numbered};
-ghost use Rattle.curp_model.specs.World.{all_of, kept, sent_at};
+ghost use Rattle.curp_base.specs.Words.{numbered, all_of};
+ghost use Rattle.curp_model.specs.World.{sent_at, with_batch};
 ghost use Rattle.curp_world.specs.Batches.{Rise, StandsAt, IsGapAt, IsBatchOf, weight_of_all};
 
 use curp_base::{Items, NoMemory};
@@ -25,13 +25,18 @@ pub(crate) struct Sent {
 
 impl Model for Sent {
     ghost use Rattle.std.specs.Prelude.{◌-◌, ◌^◌, nat_le, if◌then◌else◌, vec_len, vec_capacity, min};
-    ghost use Rattle.curp_world.specs.Batches.{Batched, IsKept};
+    ghost use Rattle.curp_world.specs.Batches.{Batched, IsIndexOf};
 
     ghost Value = { Batched };
 
-    ghost view = { λ s. record { lists = s.batches.items; spare = if nat_le s.next (2 ^ 63) then min (vec_capacity s.batches - vec_len s.batches) (vec_capacity s.firsts - vec_len s.firsts) else 0 } };
+    ghost view = { λ s. record {
+      lists = s.batches.items;
+      spare = if nat_le s.next (2 ^ 63)
+          then min (vec_capacity s.batches - vec_len s.batches) (vec_capacity s.firsts - vec_len s.firsts)
+          else 0;
+    } };
 
-    ghost invariant = { λ s. IsKept s.firsts.items s.batches.items s.next s.weight };
+    ghost invariant = { λ s. IsIndexOf s.firsts.items s.batches.items s.next s.weight };
 }
 
 impl Sent {
@@ -62,7 +67,7 @@ impl Sent {
     /// Keeps what a step sent. It takes no memory.
     pub(crate) fn push(&mut self, messages: Items<Message>)
         requires { 1 ≤ self.old.spare }
-        ensures { self.new.lists ≡ kept self.old.lists messages }
+        ensures { self.new.lists ≡ with_batch self.old.lists messages }
     {
         if messages.len() == 0 {
             return;

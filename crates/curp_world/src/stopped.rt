@@ -1,8 +1,7 @@
 ghost use Rattle.std.specs.Prelude.{◌≡◌, ◌++◌, ◌∷◌, [], OnOk, OnErr};
 ghost use Rattle.std.specs.List.{list_any};
-ghost use Rattle.curp_model.specs.Master.{same_node};
+ghost use Rattle.curp_cmd.specs.Node.{same_node};
 
-use crate::names::same_node;
 use curp_base::NoMemory;
 use curp_cmd::NodeId;
 use std::alloc::Global;
@@ -52,5 +51,5 @@ impl Stopped {
 fn is_among(nodes: &[NodeId], node: NodeId) -> bool
     ensures { result ≡ list_any (same_node node) nodes.now }
 {
-    nodes.iter().any(|other| same_node(node, *other))
+    nodes.iter().any(|other| node == *other)
 }

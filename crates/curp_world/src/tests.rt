@@ -1,8 +1,7 @@
 use crate::World;
 use curp_cmd::{Answer, Command, Key, RequestId, Value};
-use curp_msg::{Completed, Outcome, StepResult};
+use curp_msg::{Completed, Header, Outcome, Protocol, Step, StepResult};
 use curp_order::Event;
-use curp_script::{Header, Protocol, Step};
 use std::test::Fail;
 
 const HEADER: Header = Header {

@@ -1,10 +1,11 @@
-ghost use Rattle.std.specs.Prelude.{◌≡◌, ◌+◌, ◌<◌, ◌^◌, ◌↔◌, [], length, OnOk, OnErr, IfOk};
+ghost use Rattle.std.specs.Prelude.{◌≡◌, ◌≢◌, ◌+◌, ◌<◌, ◌^◌, ◌↔◌, ℕ, true, [], length, OnOk, OnErr, IfOk};
 ghost use Rattle.std.specs.Option.{option_copied};
 ghost use Rattle.curp_base.specs.Words.{numbered};
 ghost use Rattle.curp_order.specs.Order.{IsHistory, IsOrder};
 ghost use Rattle.curp_script.specs.declared.error.FieldName.{FieldName};
 ghost use Rattle.curp_script.specs.Headers.{bad_field};
 ghost use Rattle.curp_model.specs.Built.{CanStep};
+ghost use Rattle.curp_model.specs.Causes.{IsLight, IsRunning, IsSent, IsThere, SparesManager};
 ghost use Rattle.curp_model.specs.World as world;
 
 use crate::cluster::Cluster;
@@ -12,16 +13,17 @@ use crate::ordered;
 use curp_base::NoMemory;
 use curp_cmd::{Answer, Command, RequestId};
 use curp_inv::laws;
-use curp_msg::{Message, Outcome};
+use curp_msg::{Header, Message, Outcome, Step, StepResult};
 use curp_order::History;
-use curp_script::{FieldName, Header, Step};
+use curp_script::{FieldName, bad_field};
 use std::alloc::Global;
 use std::marker::Model;
 
 /// Why no world begins.
 #[derive(Clone, Copy, Debug, PartialEq, Eq)]
 pub enum BeginError {
-    /// The header's value of that name is out of its range or isn't built yet. It is the first such name, in byte order.
+    /// The header's value of that name is out of its range or isn't built yet. It is the first such name, in byte
+    /// order.
     BadHeader { field: FieldName },
     /// There was no memory for it.
     NoMemory,
@@ -46,13 +48,14 @@ impl Model for World {
 }
 
 impl World {
-    /// The world of a header before any step: its clients, the master, its backups and its witnesses. All memory for the
-    /// witnesses' slots is taken here.
+    /// The world of a header before any step: its clients, the master, its backups and its witnesses. All memory for
+    /// the witnesses' slots is taken here.
     pub fn begin(alloc: Global, header: &Header) -> Result<World, BeginError>
         ensures ok { IfOk result (λ w. w ≡ world.world header.now []) }
-        ensures bad_header { (field : FieldName) → (result ≡ Err (BeginError.BadHeader field)) ↔ (bad_field header.now ≡ Some field) }
+        ensures bad_header { (field : FieldName) → (result ≡ Err (BeginError.BadHeader field))
+            ↔ (bad_field header.now ≡ Some field) }
     {
-        if let Some(field) = header.bad_field() {
+        if let Some(field) = bad_field(header) {
             return Err(BeginError::BadHeader { field });
         }
         match Cluster::new(alloc, header) {
@@ -61,21 +64,42 @@ impl World {
         }
     }
 
-    /// Makes a step. It is of a kind that is built.
+    /// Makes a step. It is of a kind that is built. Where it can't be made the outcome tells why: the first cause that
+    /// holds, in the order of these clauses. No node gets anything once all messages weigh more than 2,000,000.
     pub fn step(&mut self, step: &Step) -> Result<Outcome, NoMemory>
         requires { CanStep step.now }
         ensures state { OnOk result (self.new ≡ (world.step self.old step.now).world) }
         ensures outcome { IfOk result (λ outcome. outcome ≡ (world.step self.old step.now).outcome) }
+        ensures no_message { IfOk result (λ outcome. (outcome.result ≡ StepResult.NoMessage)
+            ↔ (world.is_lost self.old step.now ≡ true)) }
+        ensures no_node { IfOk result (λ outcome. (outcome.result ≡ StepResult.NoNode)
+            ↔ (IsSent self.old step.now × (world.names_nobody self.old step.now ≡ true))) }
+        ensures manager { IfOk result (λ outcome. (outcome.result ≡ StepResult.Manager)
+            ↔ (IsThere self.old step.now × (world.stops_manager step.now ≡ true))) }
+        ensures gone { IfOk result (λ outcome. (outcome.result ≡ StepResult.Gone)
+            ↔ (SparesManager self.old step.now × (world.names_stopped self.old step.now ≡ true))) }
+        ensures full { IfOk result (λ outcome. (much : ℕ) → (outcome.result ≡ StepResult.Full much)
+            ↔ (IsRunning self.old step.now × (world.is_too_much self.old (world.deed_of self.old step.now) ≡ true)
+            × (much ≡ world.weight self.old))) }
+        ensures refused { IfOk result (λ outcome. (number : ℕ) → (outcome.result ≡ StepResult.Refused number)
+            ↔ (IsLight self.old step.now × (world.refusal self.old step.now ≢ 0)
+            × (number ≡ world.refusal self.old step.now))) }
+        ensures done { IfOk result (λ outcome. (outcome.result ≡ StepResult.Done)
+            ↔ (IsLight self.old step.now × (world.refusal self.old step.now ≡ 0))) }
+        ensures unchanged { IfOk result (λ outcome. outcome.result ≢ StepResult.Done → self.new ≡ self.old) }
         ensures err { OnErr result (self.new ≡ self.old) }
     {
         laws::messages_are_built();
         laws::marks_tell_the_log();
         laws::shape_stays();
+        laws::results_have_causes();
+        laws::only_the_named_node_moves();
         self.cluster.step(step)
     }
 
-    /// What all messages weigh that were ever sent. A message weighs 1, and 1 more for each entry that it carries, each pair of
-    /// a multi-put in an entry, and each other thing that `curp_msg::weight` names. The sum stands still at 2^64 - 1.
+    /// What all messages weigh that were ever sent. A message weighs 1, and 1 more for each entry that it carries, each
+    /// pair of a multi-put in an entry, and each other thing that `curp_msg::weight` names. The sum stands still at
+    /// 2^64 - 1.
     pub fn weight(&self) -> u64
         ensures { result ≡ world.weight self.now }
     {

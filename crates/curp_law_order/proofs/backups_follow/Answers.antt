@@ -1,6 +1,6 @@
 use Rattle.std.proofs.Common.{subst}
 use Rattle.curp_model.specs.World.{world}
-use Rattle.curp_law_order.specs.Stored.{BackupsFollow}
+use Rattle.curp_law_order.specs.Stored.{FollowTheMaster}
 use Rattle.curp_law_order.proofs.Runs.{always}
 use Rattle.curp_law_order.proofs.Laws.{follow, same_master}
 use Rattle.curp_law_order.proofs.backups_follow.Goals as goal
@@ -10,5 +10,5 @@ returns c = record {
   follow = λ h steps script m is.
       let w = world h steps in
       let inv = always h steps script in
-      subst (BackupsFollow w) (same_master h w inv m is) (follow h w inv);
+      subst (FollowTheMaster w) (same_master h w inv m is) (follow h w inv);
 }

@@ -1,5 +1,4 @@
 use Rattle.curp_law_trip.proofs.Deliveries.{accepted_is, replied_is, sent_is}
-use Rattle.curp_law_trip.proofs.Numbers.{heard_used, ordered_used}
 use Rattle.curp_law_trip.proofs.Trips.{all_count, completes}
 use Rattle.curp_law_trip.proofs.one_round_trip.Goals as goal
 
@@ -10,7 +9,4 @@ returns c = record {
   accepted = accepted_is;
   completes = completes;
   all_count = all_count;
-  fresh_numbers = λ fast config. tt;
-  ordered_numbers = ordered_used;
-  heard_numbers = heard_used;
 }

@@ -1,14 +1,16 @@
-use Rattle.curp_rows.proofs.ConflictRuns as runs
+use Rattle.std.proofs.Common.{refl}
+use Rattle.curp_rows.specs.CollectionAndSuspects.{collection_and_suspects}
+use Rattle.curp_rows.specs.Conflict.{conflict}
+use Rattle.curp_rows.specs.FullSet.{full_set}
+use Rattle.curp_rows.specs.FullSetAndSync.{full_set_and_sync}
+use Rattle.curp_rows.proofs.Computed.{everything, by_computing}
 use Rattle.curp_rows.proofs.conflicts_run.Goals as goal
 
-pub returns-clause-conflict_and_sync : goal.returns-clause-conflict_and_sync
-returns-clause-conflict_and_sync c = runs.conflict_and_sync
-
-pub returns-clause-full_set : goal.returns-clause-full_set
-returns-clause-full_set c = runs.full_set
-
-pub returns-clause-full_set_and_sync : goal.returns-clause-full_set_and_sync
-returns-clause-full_set_and_sync c = runs.full_set_and_sync
-
-pub returns-clause-collection_and_suspects : goal.returns-clause-collection_and_suspects
-returns-clause-collection_and_suspects c = runs.collection_and_suspects
+pub returns : goal.returns
+unfolding everything
+returns c = record {
+  conflict = by_computing conflict refl;
+  full_set = by_computing full_set refl;
+  full_set_and_sync = by_computing full_set_and_sync refl;
+  collection_and_suspects = by_computing collection_and_suspects refl;
+}

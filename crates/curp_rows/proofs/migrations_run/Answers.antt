@@ -1,11 +1,14 @@
-use Rattle.curp_rows.proofs.MigrationRuns as runs
+use Rattle.std.proofs.Common.{refl}
+use Rattle.curp_rows.specs.MigrationThereAndBack.{migration_there_and_back}
+use Rattle.curp_rows.specs.PackageHasFirstNumbers.{package_has_first_numbers}
+use Rattle.curp_rows.specs.SplitMulti.{split_multi}
+use Rattle.curp_rows.proofs.Computed.{everything, by_computing}
 use Rattle.curp_rows.proofs.migrations_run.Goals as goal
 
-pub returns-clause-migration_there_and_back : goal.returns-clause-migration_there_and_back
-returns-clause-migration_there_and_back c = runs.migration_there_and_back
-
-pub returns-clause-package_has_first_numbers : goal.returns-clause-package_has_first_numbers
-returns-clause-package_has_first_numbers c = runs.package_has_first_numbers
-
-pub returns-clause-split_multi : goal.returns-clause-split_multi
-returns-clause-split_multi c = runs.split_multi
+pub returns : goal.returns
+unfolding everything
+returns c = record {
+  migration_there_and_back = by_computing migration_there_and_back refl;
+  package_has_first_numbers = by_computing package_has_first_numbers refl;
+  split_multi = by_computing split_multi refl;
+}

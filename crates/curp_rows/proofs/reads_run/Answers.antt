@@ -1,8 +1,12 @@
-use Rattle.curp_rows.proofs.ReadRuns as runs
+use Rattle.std.proofs.Common.{refl}
+use Rattle.curp_rows.specs.ReadAtASupersededMaster.{read_at_a_superseded_master}
+use Rattle.curp_rows.specs.ReadByARound.{read_by_a_round}
+use Rattle.curp_rows.proofs.Computed.{everything, by_computing}
 use Rattle.curp_rows.proofs.reads_run.Goals as goal
 
-pub returns-clause-read_by_a_round : goal.returns-clause-read_by_a_round
-returns-clause-read_by_a_round c = runs.read_by_a_round
-
-pub returns-clause-read_at_a_superseded_master : goal.returns-clause-read_at_a_superseded_master
-returns-clause-read_at_a_superseded_master c = runs.read_at_a_superseded_master
+pub returns : goal.returns
+unfolding everything
+returns c = record {
+  read_by_a_round = by_computing read_by_a_round refl;
+  read_at_a_superseded_master = by_computing read_at_a_superseded_master refl;
+}

@@ -1,17 +1,18 @@
-use Rattle.curp_rows.proofs.RecoveryRuns as runs
+use Rattle.std.proofs.Common.{refl}
+use Rattle.curp_rows.specs.AppendBelowTheFence.{append_below_the_fence}
+use Rattle.curp_rows.specs.LateReplyOfASupersededMaster.{late_reply_of_a_superseded_master}
+use Rattle.curp_rows.specs.RecoveryReplays.{recovery_replays}
+use Rattle.curp_rows.specs.ReplayKeepsAnAcknowledgedRequest.{replay_keeps_an_acknowledged_request}
+use Rattle.curp_rows.specs.RetryAfterRecovery.{retry_after_recovery}
+use Rattle.curp_rows.proofs.Computed.{everything, by_computing}
 use Rattle.curp_rows.proofs.recoveries_run.Goals as goal
 
-pub returns-clause-recovery_replays : goal.returns-clause-recovery_replays
-returns-clause-recovery_replays c = runs.recovery_replays
-
-pub returns-clause-retry_after_recovery : goal.returns-clause-retry_after_recovery
-returns-clause-retry_after_recovery c = runs.retry_after_recovery
-
-pub returns-clause-late_reply_of_a_superseded_master : goal.returns-clause-late_reply_of_a_superseded_master
-returns-clause-late_reply_of_a_superseded_master c = runs.late_reply_of_a_superseded_master
-
-pub returns-clause-replay_keeps_an_acknowledged_request : goal.returns-clause-replay_keeps_an_acknowledged_request
-returns-clause-replay_keeps_an_acknowledged_request c = runs.replay_keeps_an_acknowledged_request
-
-pub returns-clause-append_below_the_fence : goal.returns-clause-append_below_the_fence
-returns-clause-append_below_the_fence c = runs.append_below_the_fence
+pub returns : goal.returns
+unfolding everything
+returns c = record {
+  recovery_replays = by_computing recovery_replays refl;
+  retry_after_recovery = by_computing retry_after_recovery refl;
+  late_reply_of_a_superseded_master = by_computing late_reply_of_a_superseded_master refl;
+  replay_keeps_an_acknowledged_request = by_computing replay_keeps_an_acknowledged_request refl;
+  append_below_the_fence = by_computing append_below_the_fence refl;
+}

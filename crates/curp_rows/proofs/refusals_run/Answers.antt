@@ -1,23 +1,22 @@
-use Rattle.curp_rows.proofs.RefusalRuns as runs
+use Rattle.std.proofs.Common.{refl}
+use Rattle.curp_rows.specs.ExpiredClient.{expired_client}
+use Rattle.curp_rows.specs.NineInvocations.{nine_invocations}
+use Rattle.curp_rows.specs.NoMessage.{no_message}
+use Rattle.curp_rows.specs.NoNode.{no_node}
+use Rattle.curp_rows.specs.RetryOfNothing.{retry_of_nothing}
+use Rattle.curp_rows.specs.StopTheManager.{stop_the_manager}
+use Rattle.curp_rows.specs.StoppedNode.{stopped_node}
+use Rattle.curp_rows.proofs.Computed.{everything, by_computing}
 use Rattle.curp_rows.proofs.refusals_run.Goals as goal
 
-pub returns-clause-no_message : goal.returns-clause-no_message
-returns-clause-no_message c = runs.no_message
-
-pub returns-clause-stop_the_manager : goal.returns-clause-stop_the_manager
-returns-clause-stop_the_manager c = runs.stop_the_manager
-
-pub returns-clause-no_node : goal.returns-clause-no_node
-returns-clause-no_node c = runs.no_node
-
-pub returns-clause-gone : goal.returns-clause-gone
-returns-clause-gone c = runs.gone
-
-pub returns-clause-nine_invocations : goal.returns-clause-nine_invocations
-returns-clause-nine_invocations c = runs.nine_invocations
-
-pub returns-clause-retry_of_nothing : goal.returns-clause-retry_of_nothing
-returns-clause-retry_of_nothing c = runs.retry_of_nothing
-
-pub returns-clause-expired_client : goal.returns-clause-expired_client
-returns-clause-expired_client c = runs.expired_client
+pub returns : goal.returns
+unfolding everything
+returns c = record {
+  no_message = by_computing no_message refl;
+  stop_the_manager = by_computing stop_the_manager refl;
+  no_node = by_computing no_node refl;
+  stopped_node = by_computing stopped_node refl;
+  nine_invocations = by_computing nine_invocations refl;
+  retry_of_nothing = by_computing retry_of_nothing refl;
+  expired_client = by_computing expired_client refl;
+}

@@ -1,9 +1,9 @@
 use Rattle.std.proofs.Common.{◌∙◌, sym, rules, tests}
 use Rattle.std.proofs.lemmas.Iterator.{YieldsList-from_slice}
 use Rattle.std.proofs.lemmas.Iterator.Search.{all_from_yields_List}
+use Rattle.curp_cmd.proofs.Ascendings.{all_ascending}
 use Rattle.curp_cmd.specs.Hash.{hashes_of}
 use Rattle.curp_range.specs.Spans.{is_owned}
-use Rattle.curp_client.proofs.Alls.{all_ascending}
 use Rattle.curp_client.proofs.owner.owns_all.Goals as goal
 
 pub returns : goal.returns

@@ -1,5 +1,5 @@
 use Rattle.std.proofs.Common.{drop}
-use Rattle.curp_model.specs.Requests.{hashes}
+use Rattle.curp_cmd.specs.Hash.{hashes}
 use Rattle.curp_tail.proofs.Tails.{touches_alike, dirty_from, covers_from}
 use Rattle.curp_tail.proofs.laws.tail_tells_of_log.Goals as goal
 

@@ -1,5 +1,5 @@
 use Rattle.curp_model.specs.Backup.{installed_backup}
-use Rattle.curp_world.proofs.Nodes.{made_more}
+use Rattle.curp_world.proofs.Numbered.{made_more}
 use Rattle.curp_world.proofs.opening.backups.Goals as goal
 
 pub loop-made-preserved : goal.loop-made-preserved

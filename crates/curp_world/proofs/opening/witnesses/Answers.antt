@@ -1,5 +1,5 @@
 use Rattle.curp_model.specs.Witness.{started_witness}
-use Rattle.curp_world.proofs.Nodes.{made_more}
+use Rattle.curp_world.proofs.Numbered.{made_more}
 use Rattle.curp_world.proofs.opening.witnesses.Goals as goal
 
 pub loop-made-preserved : goal.loop-made-preserved

@@ -1,5 +1,9 @@
-use Rattle.curp_client.proofs.Replacing.{rise_without}
+use Rattle.std.proofs.Common.{◌≤◌, not}
+use Rattle.curp_cmd.specs.RequestId.{same_id}
+use Rattle.curp_model.specs.Client.{Pending}
+use Rattle.curp_client.proofs.Numbers.{each_filter}
 use Rattle.curp_client.proofs.client.Client.complete.Goals as goal
 
 pub invariant_of-self : goal.invariant_of-self
-invariant_of-self c = rise_without c.self.inside.pending.items _ c.self.inside.last c.args.id.now.seq c.self.invariant c.remove.ensures
+invariant_of-self c =
+    rw c.remove.ensures (each_filter (λ (p : Pending). p.request.id.seq ≤ c.self.inside.last) (λ (p : Pending). not (same_id p.request.id c.args.id.now)) c.self.inside.pending c.self.invariant)

@@ -1,31 +1,43 @@
-use Rattle.std.proofs.Common.{◌≡◌, refl, ap, sym, ◌∙◌, rules}
+use Rattle.std.proofs.Common.{◌≤◌, false, [], ◌∷◌, ◌++◌, ap, refl, sym}
 use Rattle.curp_model.specs.Client as model
-use Rattle.curp_model.specs.Moved.{Moved}
-use Rattle.curp_client.proofs.Firsts.{get_same}
-use Rattle.curp_client.proofs.Invoking.{owner_found}
-use Rattle.curp_client.proofs.Replacing.{retry_at}
+use Rattle.curp_msg.specs.Moved.{Moved}
+use Rattle.curp_client.proofs.Numbers.{each_changed}
+use Rattle.curp_client.proofs.Orders.{retry_made, retry_sends, retry_split, retry_wants_memory}
 use Rattle.curp_client.proofs.client.Client.retry.Goals as goal
 
-pub returns-clause-state : goal.returns-clause-state
-returns-clause-state c =
-    let s : model.ClientState = record { fast = c.self.inside.fast; config = c.self.inside.config; last = c.self.inside.last; pending = c.self.inside.pending.items } in
-    let same : c.index_mut.result.now ≡ c.index.result.now = c.index_mut.ensures.value ∙ get_same c.self.inside.pending.items c.in-Some.at _ _ (search rules) ∙ sym c.index.ensures in
-    let fact = retry_at c.self.inside.number s c.args.seq c.in-Some.at c.index.result.now c.attempt.new.self c.index-as_slice-owner.result c.self.invariant
-    (search rules) (search rules) (search rules) (owner_found c.self.inside.config c.index.result.now.request.command c.in-Some-owner_at.owner c.index-as_slice-owner.result (search rules) (search rules) (search rules)) (c.in_ok-attempt-2.ensures.ok ∙ rw (same, c.in_ok-attempt.ensures) refl) in
-    rw (sym c.self.view_is) (sym (ap (λ (m : Moved model.ClientState). m.state) fact))
+pub returns-in_default-owner_of-clause-refused : goal.returns-in_default-owner_of-clause-refused
+returns-in_default-owner_of-clause-refused c =
+    rw (sym c.self.view_is) (ap (λ (m : Moved model.ClientState). m.refused) (retry_split _ _ _ c.in-Some.pending.now c.request.result.now c.in-Some.ensures c.request.ensures c.in_default-owner_of.ensures))
 
-pub returns-clause-sent : goal.returns-clause-sent
-returns-clause-sent c =
-    let s : model.ClientState = record { fast = c.self.inside.fast; config = c.self.inside.config; last = c.self.inside.last; pending = c.self.inside.pending.items } in
-    let same : c.index_mut.result.now ≡ c.index.result.now = c.index_mut.ensures.value ∙ get_same c.self.inside.pending.items c.in-Some.at _ _ (search rules) ∙ sym c.index.ensures in
-    let fact = retry_at c.self.inside.number s c.args.seq c.in-Some.at c.index.result.now c.attempt.new.self c.index-as_slice-owner.result c.self.invariant
-    (search rules) (search rules) (search rules) (owner_found c.self.inside.config c.index.result.now.request.command c.in-Some-owner_at.owner c.index-as_slice-owner.result (search rules) (search rules) (search rules)) (c.in_ok-attempt-2.ensures.ok ∙ rw (same, c.in_ok-attempt.ensures) refl) in
-    rw (sym c.self.view_is) (c.sends.ensures.sent ∙ search rules ∙ sym (ap (λ (m : Moved model.ClientState). m.messages) fact))
+pub returns-in_err-messages-clause-refused : goal.returns-in_err-messages-clause-refused
+returns-in_err-messages-clause-refused c =
+    rw (sym c.self.view_is) (retry_wants_memory _ _ _ c.in-Some.pending.now c.request.result.now c.in-Some.ensures c.request.ensures c.in-Some-owner_of.part.now _ c.in-Some-owner_of.ensures c.from_residual.ensures)
+
+pub returns-in_err-attempt-clause-refused : goal.returns-in_err-attempt-clause-refused
+returns-in_err-attempt-clause-refused c =
+    rw (sym c.self.view_is)
+    (retry_wants_memory _ _ _ c.in-Some.pending.now c.request.result.now c.in-Some.ensures c.request.ensures c.in-Some-owner_of.part.now _ c.in-Some-owner_of.ensures c.from_residual-in_err-attempt.ensures)
+
+pub returns-in_err-resend-clause-refused : goal.returns-in_err-resend-clause-refused
+returns-in_err-resend-clause-refused c =
+    rw (sym c.self.view_is)
+    (retry_wants_memory _ _ _ c.in-Some.pending.now c.request.result.now c.in-Some.ensures c.request.ensures c.in-Some-owner_of.part.now _ c.in-Some-owner_of.ensures c.from_residual-in_err-resend.ensures)
+
+pub invariant_of-self-2 : goal.invariant_of-self-2
+invariant_of-self-2 c =
+    each_changed (λ n. n ≤ c.self.inside.last) c.self.inside.pending c.resend.new.self _ (λ p. record p { attempts = p.attempts ++ c.in_ok-attempt.attempt ∷ []; asked = false })
+    c.in_ok-resend.ensures.ok c.self.invariant
+
+pub returns-clause-moves : goal.returns-clause-moves
+returns-clause-moves c =
+    let before : model.ClientState = record { fast = c.self.inside.fast; config = c.self.inside.config; last = c.self.inside.last; pending = c.self.inside.pending } in
+    let sent =
+    retry_sends c.self.inside.number before c.args.seq c.in-Some.pending.now c.request.result.now c.in-Some.ensures c.request.ensures c.in-Some-owner_of.part.now c.in_ok-attempt.attempt c.resend.new.self
+    c.in_ok-messages.messages.items c.in-Some-owner_of.ensures c.in_ok-messages.ensures c.in_ok-attempt.ensures c.in_ok-resend.ensures.ok
+    in
+    rw (sym c.self.view_is, sent) (refl, c.sends.ensures)
 
 pub returns-clause-refused : goal.returns-clause-refused
 returns-clause-refused c =
-    let s : model.ClientState = record { fast = c.self.inside.fast; config = c.self.inside.config; last = c.self.inside.last; pending = c.self.inside.pending.items } in
-    let same : c.index_mut.result.now ≡ c.index.result.now = c.index_mut.ensures.value ∙ get_same c.self.inside.pending.items c.in-Some.at _ _ (search rules) ∙ sym c.index.ensures in
-    let fact = retry_at c.self.inside.number s c.args.seq c.in-Some.at c.index.result.now c.attempt.new.self c.index-as_slice-owner.result c.self.invariant
-    (search rules) (search rules) (search rules) (owner_found c.self.inside.config c.index.result.now.request.command c.in-Some-owner_at.owner c.index-as_slice-owner.result (search rules) (search rules) (search rules)) (c.in_ok-attempt-2.ensures.ok ∙ rw (same, c.in_ok-attempt.ensures) refl) in
-    rw (sym c.self.view_is) (ap (λ (m : Moved model.ClientState). m.refused) fact)
+    rw (sym c.self.view_is)
+    (ap (λ (m : Moved model.ClientState). m.refused) (retry_made _ _ _ c.in-Some.pending.now c.request.result.now c.in-Some.ensures c.request.ensures c.in-Some-owner_of.part.now c.in-Some-owner_of.ensures))

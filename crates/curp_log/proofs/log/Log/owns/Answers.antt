@@ -1,8 +1,7 @@
 use Rattle.std.proofs.Common.{◌∙◌, ap, sym}
-use Rattle.curp_cmd.specs.Hash.{hashes_of}
+use Rattle.curp_cmd.specs.Hash.{hashes_of, hashes}
 use Rattle.curp_model.specs.Log.{log_opening}
 use Rattle.curp_model.specs.Ranges.{owns_all}
-use Rattle.curp_model.specs.Requests.{hashes}
 use Rattle.curp_log.proofs.Fold.{left_by_ops}
 use Rattle.curp_log.proofs.Owned.{owned_in_one}
 use Rattle.curp_log.proofs.log.Log.owns.Goals as goal

@@ -1,6 +1,6 @@
 use Rattle.std.proofs.Common.{ap, ◌∙◌}
 use Rattle.curp_model.specs.Master.{has}
-use Rattle.curp_master.proofs.Ascents.{contained}
+use Rattle.curp_master.proofs.Places.{contained}
 use Rattle.curp_master.proofs.indexes.Indexes.contains.Goals as goal
 
 pub returns : goal.returns

@@ -1,6 +1,6 @@
 use Rattle.std.proofs.Common.{ap}
 use Rattle.curp_master.specs.Indexes.{IndexList}
-use Rattle.curp_master.proofs.Ascents.{rise_push}
+use Rattle.curp_master.proofs.Places.{rise_push}
 use Rattle.curp_master.proofs.indexes.Indexes.push.Goals as goal
 
 pub invariant_of-self : goal.invariant_of-self

@@ -1,10 +1,10 @@
 use Rattle.std.proofs.Common.{◌++◌, take, codes}
 use Rattle.std.specs.List.{flat_map}
 use Rattle.std.specs.Fmt.{HasWritten, IsPlainFormatter}
-use Rattle.curp_report.specs.Text.{node_text}
+use Rattle.curp_report.specs.Text.{node_label}
 use Rattle.curp_report.proofs.names.ShownRefSliceNodeIdDisplay.fmt.Given as goal
 
 -- of the nodes behind the first one those so far are written
 abbrev pub invariant-loop-node : goal.invariant-loop-node
 invariant-loop-node g l =
-    IsPlainFormatter l.initial.f → HasWritten g.W.Write.write_str_gives l.initial.f (flat_map (λ node. codes "+" ++ node_text node) (take l.node-index l.others)) l.f
+    IsPlainFormatter l.initial.f → HasWritten g.W.Write.write_str_gives l.initial.f (flat_map (λ node. codes "+" ++ node_label node) (take l.node-index l.others)) l.f

@@ -3,7 +3,7 @@ use Rattle.std.proofs.lemmas.Iterator.{YieldsList-from_slice}
 use Rattle.std.proofs.lemmas.Iterator.Search.{any_from_yields_List}
 use Rattle.curp_cmd.specs.Hash.{hashes_of}
 use Rattle.curp_tail.specs.Tail.{is_dirty}
-use Rattle.curp_tail.proofs.Ascendings.{any_ascending}
+use Rattle.curp_cmd.proofs.Ascendings.{any_ascending}
 use Rattle.curp_tail.proofs.tail.Tail.covers_dirty.Goals as goal
 
 pub returns : goal.returns

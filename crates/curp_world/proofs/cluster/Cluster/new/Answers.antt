@@ -3,6 +3,5 @@ use Rattle.curp_world.proofs.cluster.Cluster.new.Goals as goal
 
 pub returns : goal.returns
 returns c =
-    rw (c.new.ensures, c.new-2.ensures, c.new-3.ensures)
-    (seen_opening c.args.header.now c.in_ok-config.config c.in_ok-clients.field-0.items c.in_ok-masters.field-0.items c.in_ok-backups.field-0.items c.in_ok-witnesses.field-0.items
-    c.requires c.in_ok-config.ensures c.in_ok-clients.ensures.states c.in_ok-masters.ensures.states c.in_ok-backups.ensures.states c.in_ok-witnesses.ensures.states)
+    rw (c.new-2.ensures, c.new-3.ensures, c.new-4.ensures)
+    (seen_opening c.args.header.now c.in_ok-new.field-0 c.requires c.in_ok-new.ensures)

@@ -1,0 +1,28 @@
+-- Requests that are pending: their numbers, and what is sent for them.
+use Rattle.std.specs.Prelude.{◌≡◌, ℕ, ◌<◌, false, List, [], ◌∷◌, MatchOption, ⊤}
+use Rattle.curp_base.specs.Words.{Each}
+use Rattle.curp_cmd.specs.Node.{client_node}
+use Rattle.curp_cmd.specs.declared.command.Request.{Request}
+use Rattle.curp_cmd.specs.declared.command.RequestId.{RequestId}
+use Rattle.curp_msg.specs.Moved.{says}
+use Rattle.curp_msg.specs.declared.body.Body.TheVariants as body
+use Rattle.curp_msg.specs.declared.config.PartConfig.{PartConfig}
+use Rattle.curp_msg.specs.declared.message.Message.{Message}
+use Rattle.curp_model.specs.Client.{Attempt, Pending, attempt_at, replaced, with_id}
+
+-- the numbers of pending requests strictly rise
+abbrev pub NumbersRise : List Pending → Type 0
+NumbersRise [] = ⊤
+NumbersRise (p ∷ rest) = Each (λ (q : Pending). p.request.id.seq < q.request.id.seq) rest × NumbersRise rest
+
+-- the request of that id, if it is pending, is replaced by what becomes of it
+abbrev pub Changes : (old new : List Pending) → RequestId → (Pending → Pending) → Type 0
+Changes old new id becomes = MatchOption (with_id id old) (new ≡ old) (λ p. new ≡ replaced (becomes p) old)
+
+-- a request that is sent for the first time
+abbrev pub first_sent : Request → PartConfig → Pending
+first_sent r p = record { request = r; attempts = attempt_at p ∷ []; asked = false; early = []; accepts = [] }
+
+-- what asks the master of an attempt for a synced reply
+abbrev pub sync_at : ℕ → Request → Attempt → Message
+sync_at n r a = says (client_node n) a.master (body.Sync (record { request = r; epoch = a.epoch; version = a.version }))

@@ -1,0 +1,19 @@
+-- The test of ids tells whether they are one.
+use Rattle.std.proofs.Common.{◌≡◌, ℕ, ◌==◌, true, arith}
+use Rattle.std.proofs.lemmas.Bool.{and_from, and_parts}
+use Rattle.std.proofs.lemmas.Bool.Decides.{nat_tests}
+use Rattle.curp_cmd.specs.RequestId.{same_id}
+use Rattle.curp_cmd.specs.declared.command.RequestId.{RequestId}
+
+pub same_id-true : (a b : RequestId) → same_id a b ≡ true → a ≡ b
+same_id-true a b e =
+    let parts = and_parts (a.client == b.client) (a.seq == b.seq) e in
+    let client : a.client ≡ b.client = grind (arith, nat_tests) in
+    let seq : a.seq ≡ b.seq = grind (arith, nat_tests) in
+    λ i. record { client = client i; seq = seq i }
+
+pub same_id-self : (a : RequestId) → same_id a a ≡ true
+same_id-self a = and_from _ _ (one a.client) (one a.seq)
+  where
+    one : (n : ℕ) → (n == n) ≡ true
+    one n = grind (arith, nat_tests)

@@ -1,0 +1,34 @@
+-- What clients wish, and what becomes of their requests.
+use Rattle.std.specs.Prelude.{ℕ, Bool, [], ◌∷◌, length, option_map}
+use Rattle.curp_base.specs.Cases.{first_case}
+use Rattle.curp_cmd.specs.declared.command.Request.{Request}
+use Rattle.curp_msg.specs.Moved.{Moved}
+use Rattle.curp_msg.specs.declared.body.Ask.{Ask}
+use Rattle.curp_model.specs.Master as master
+use Rattle.curp_model.specs.Master.{MasterState, by_owner, by_version, holds_back, marked_free, pushed}
+use Rattle.curp_master.specs.declared.verdict.Verdict.{Verdict}
+use Rattle.curp_master.specs.declared.verdict.Verdict.TheVariants.{Deny, Tell, TellAgain, HoldBack, Execute}
+use Rattle.curp_master.specs.declared.verdict.Wish.{Wish}
+use Rattle.curp_master.specs.declared.verdict.Wish.TheVariants.{AtOnce, WhenSynced}
+
+-- the wish, by its definition
+abbrev pub wish_of : Wish → master.Wish
+wish_of AtOnce = master.AtOnce
+wish_of WhenSynced = master.WhenSynced
+
+-- the verdict, by its definition
+abbrev pub verdict_of : Verdict → master.Verdict
+verdict_of (Deny why) = master.Deny why
+verdict_of (Tell answer) = master.Tell answer
+verdict_of (TellAgain answer) = master.TellAgain answer
+verdict_of (HoldBack index) = master.HoldBack index
+verdict_of Execute = master.Execute
+
+-- the verdict on a request that is new
+abbrev pub new_verdict : MasterState → Ask → master.Verdict
+new_verdict m ask =
+    first_case (option_map master.Deny (by_version m ask) ∷ option_map master.Deny (by_owner m ask) ∷ []) master.Execute
+
+-- a request is pushed, free or not, and held back
+abbrev pub pushes_held : ℕ → MasterState → Request → Bool → Moved MasterState
+pushes_held n m r is_free = holds_back n (marked_free (pushed m r r.first) (length m.log) is_free) (length m.log)

@@ -1,0 +1,202 @@
+use crate::Master;
+use curp_base::Boxed;
+use curp_cmd::{Answer, Command, Key, NodeId, Request, RequestId, Value};
+use curp_log::Log;
+use curp_msg::{AppendAnswer, Appended, Ask, Body, Local, Message, Refusal};
+use std::alloc::Global;
+use std::process::Abort;
+use std::test::Fail;
+
+// What comes: a client's put of one key, by the request's number; an answer of a backup, with a length and a round; the
+// order to begin a round.
+#[derive(Clone, Copy)]
+enum Comes {
+    Update(u32, u32),
+    // The client has the answers to all requests below.
+    Acknowledging(u32, u32),
+    // The client knows that epoch and that version.
+    Late(u32, u32, u32),
+    Sync(u32, u32),
+    Stored(u32, u64, u64),
+    Round,
+}
+
+// What the master says: to a client that its put is done, or why it isn't; to a backup how many entries of its log,
+// from which one on and in which round.
+#[derive(Clone, Copy, Debug, PartialEq, Eq)]
+enum Said {
+    Unsynced(u32),
+    Synced(u32),
+    Refused(u32, Refusal),
+    Appends(u32, usize, u64, u64),
+    Another,
+}
+
+// A master of that many backups, of the hashes up to one, and at a round, with what comes and what it says then.
+type Case = (u32, u64, u64, &'static [(Comes, &'static [Said])]);
+
+const CASES: [Case; 4] = [
+    (
+        1,
+        u64::MAX,
+        0,
+        &[
+            (Comes::Update(1, 1), &[Said::Unsynced(1)]),
+            (Comes::Update(1, 1), &[Said::Unsynced(1)]),
+            (Comes::Update(2, 1), &[Said::Appends(1, 2, 0, 1)]),
+            (Comes::Sync(2, 1), &[Said::Refused(2, Refusal::InProgress)]),
+            (Comes::Stored(1, 2, 1), &[Said::Synced(2)]),
+            (Comes::Update(1, 1), &[Said::Synced(1)]),
+            (
+                Comes::Late(3, 2, 2),
+                &[Said::Refused(3, Refusal::Epoch { current: 1 })],
+            ),
+            (
+                Comes::Late(3, 1, 2),
+                &[Said::Refused(3, Refusal::Version { current: 1 })],
+            ),
+            (Comes::Round, &[Said::Appends(1, 0, 2, 2)]),
+            (Comes::Acknowledging(1, 3), &[Said::Unsynced(1)]),
+            (
+                Comes::Update(1, 1),
+                &[Said::Refused(1, Refusal::Stale { first: 3 })],
+            ),
+            (Comes::Sync(1, 3), &[Said::Appends(1, 1, 2, 3)]),
+            (Comes::Stored(2, 3, 3), &[]),
+            (Comes::Stored(1, 3, 3), &[Said::Synced(1)]),
+        ],
+    ),
+    (
+        1,
+        0,
+        0,
+        &[(Comes::Sync(1, 1), &[Said::Refused(1, Refusal::NotOwner)])],
+    ),
+    (
+        2,
+        u64::MAX,
+        0,
+        &[
+            (
+                Comes::Sync(1, 1),
+                &[Said::Appends(1, 1, 0, 1), Said::Appends(2, 1, 0, 1)],
+            ),
+            (Comes::Stored(1, 1, 1), &[]),
+            (Comes::Stored(2, 1, 1), &[Said::Synced(1)]),
+        ],
+    ),
+    (
+        1,
+        u64::MAX,
+        u64::MAX,
+        &[
+            (Comes::Round, &[]),
+            (Comes::Update(1, 1), &[Said::Unsynced(1)]),
+            (Comes::Update(2, 1), &[]),
+        ],
+    ),
+];
+
+#[test]
+fn answers_what_comes(rt: HostRuntime) -> Result<(), Fail> {
+    let alloc = rt.alloc();
+    for (backups, hi, round, rows) in CASES {
+        let mut master = begin(alloc, backups, hi, round)?;
+        for (comes, expected) in rows {
+            let said = give(alloc, &mut master, *comes)?;
+            assert_eq!(rt; said.as_slice(), *expected);
+        }
+    }
+    Ok(())
+}
+
+// All but the first wait for one round.
+#[test]
+fn keeps_many_entries(rt: HostRuntime) -> Result<(), Fail> {
+    let alloc = rt.alloc();
+    let mut master = begin(alloc, 1, u64::MAX, 0)?;
+    for client in 1..=200 {
+        give(alloc, &mut master, Comes::Update(client, 1))?;
+    }
+    assert_eq!(rt; master.log().len(), 200);
+    let said = give(alloc, &mut master, Comes::Stored(1, 200, 199))?;
+    assert_eq!(rt; said.len(), 199);
+    assert_eq!(rt; master.synced(), 200);
+    Ok(())
+}
+
+fn begin(alloc: Global, backups: u32, hi: u64, round: u64) -> Result<Master, Fail> {
+    let mut nodes = Vec::new(alloc);
+    for number in 0..backups {
+        nodes.push(NodeId::backup(number + 1))?;
+    }
+    let witnesses = vec![in alloc; NodeId::witness(1)]?;
+    let log = Log::begin(alloc, 0, hi)?;
+    Ok(Master::begin(alloc, 1, 1, 1, 1, nodes, witnesses, log, round)?)
+}
+
+fn give(alloc: Global, master: &mut Master, comes: Comes) -> Result<Vec<Said>, Fail> {
+    let done = match message(alloc, comes)? {
+        Some(message) => master.on_message(&message)?,
+        None => master.on_order(&Local::Sync)?,
+    };
+    let mut said = Vec::new(alloc);
+    for message in done.sent.as_slice() {
+        said.push(said_by(message))?;
+    }
+    Ok(said)
+}
+
+fn message(alloc: Global, comes: Comes) -> Result<Option<Message>, Fail> {
+    let (from, body) = match comes {
+        Comes::Update(client, seq) => update(alloc, client, ask(client, seq, 1, 1, 1)?)?,
+        Comes::Acknowledging(client, seq) => update(alloc, client, ask(client, seq, seq, 1, 1)?)?,
+        Comes::Late(client, epoch, version) => {
+            update(alloc, client, ask(client, 1, 1, epoch, version)?)?
+        }
+        Comes::Sync(client, seq) => (
+            NodeId::client(client),
+            Body::Sync(Boxed::new(alloc, ask(client, seq, 1, 1, 1)?)?),
+        ),
+        Comes::Stored(backup, length, round) => (
+            NodeId::backup(backup),
+            Body::Appended(Appended {
+                epoch: 1,
+                round,
+                answer: AppendAnswer::Stored { length },
+            }),
+        ),
+        Comes::Round => return Ok(None),
+    };
+    let to = NodeId::master(1);
+    Ok(Some(Message { from, to, body }))
+}
+
+fn update(alloc: Global, client: u32, ask: Ask) -> Result<(NodeId, Body), Fail> {
+    Ok((
+        NodeId::client(client),
+        Body::Update(Boxed::new(alloc, ask)?),
+    ))
+}
+
+fn ask(client: u32, seq: u32, first: u32, epoch: u32, version: u32) -> Result<Ask, Fail> {
+    let id = RequestId { client, seq };
+    let command = Command::Put(Key::new(b"a")?, Value::new(b"1")?);
+    Ok(Ask {
+        request: Request { id, first, command },
+        epoch,
+        version,
+    })
+}
+
+fn said_by(message: &Message) -> Said {
+    let to = message.to.number;
+    match &message.body {
+        Body::Reply(reply) if reply.get().answer != Answer::Done => Said::Another,
+        Body::Reply(reply) if reply.get().synced => Said::Synced(to),
+        Body::Reply(_) => Said::Unsynced(to),
+        Body::Refuse(refuse) => Said::Refused(to, refuse.refusal),
+        Body::Append(append) => Said::Appends(to, append.entries.len(), append.base, append.round),
+        _ => Said::Another,
+    }
+}

@@ -1,0 +1,28 @@
+use Rattle.std.proofs.Common.{◌≡◌, ◌≤◌, ◌+◌, ◌-◌, true}
+use Rattle.curp_io.specs.Streams.{SameCount}
+use Rattle.curp_script.specs.Script.{step_limit}
+use Rattle.curp_play.specs.Play.{text_from}
+use Rattle.curp_play.specs.Reading.{IsBehind, due}
+use Rattle.curp_play.proofs.SoFar.{SoFar}
+use Rattle.curp_play.proofs.play.play_steps.Given as goal
+
+-- what was read and written so far, and what is due of the script
+abbrev pub invariant-steps : goal.invariant-steps
+invariant-steps g l =
+    let all = due l.fn.script (g.S.Source.left l.fn.source) in
+    let rest = due l.script (g.S.Source.left l.source) in
+    record {
+      counted : (1 ≤ l.number) × (l.number ≤ step_limit + 1);
+      behind : IsBehind l.script.lines l.number;
+      source_tells : g.S.Source.tells l.fn.source ≡ true → g.S.Source.tells l.source ≡ true;
+      sink_tells : g.K.Sink.tells l.fn.sink ≡ true → g.K.Sink.tells l.sink ≡ true;
+      source_faults : SameCount (g.S.Source.faults l.fn.source) (g.S.Source.faults l.source);
+      sink_faults : SameCount (g.K.Sink.faults l.fn.sink) (g.K.Sink.faults l.sink);
+      ending : g.S.Source.tells l.fn.source ≡ true → rest.ending ≡ all.ending;
+      written : g.S.Source.tells l.fn.source ≡ true → g.K.Sink.tells l.fn.sink ≡ true
+          → SoFar (text_from 1 l.fn.world all) (g.K.Sink.held l.fn.sink) (g.K.Sink.held l.sink)
+          (text_from l.number l.world rest);
+    }
+
+abbrev pub decreases-steps : goal.decreases-steps
+decreases-steps g l = step_limit + 2 - l.number

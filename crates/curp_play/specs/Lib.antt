@@ -1,0 +1,3 @@
+pub mod Play
+pub mod Reading
+pub mod Status

@@ -1,0 +1,90 @@
+-- The command line, and what the program tells of how a run ended.
+use Rattle.std.specs.Prelude.{◌≡◌, ℕ, ◌++◌, codes, Bool, true, false, List, [], ◌∷◌, Option, Some, None, Result, Ok, Err, ⊤}
+use Rattle.std.specs.Borrow.{Bor}
+use Rattle.std.specs.Fmt.{decimal}
+use Rattle.std.specs.Str.{bytes_eq}
+use Rattle.std.specs.declared.io.ErrorKind.{ErrorKind}
+use Rattle.std.specs.declared.io.ErrorKind.TheVariants as kind
+use Rattle.curp_script.specs.declared.error.LineError.{LineError}
+use Rattle.curp_script.specs.declared.error.LineError.TheVariants.{NoMemory}
+use Rattle.curp_script.specs.Script.{Ending, Whole, Bad, TooLong, TooMany, step_limit}
+use Rattle.curp_script.specs.Text.{reason_text}
+use Rattle.curp_play.specs.declared.status.Status.{Status}
+use Rattle.curp_play.specs.declared.status.Status.TheVariants as status
+
+-- ---- the words
+
+-- the words are the one word `play`
+abbrev pub is_play : List (Bor (List ℕ)) → Bool
+is_play [] = false
+is_play (word ∷ []) = bytes_eq word.now (codes "play")
+is_play (word ∷ next ∷ more) = false
+
+-- words that are no text are no command line; any other error of reading them is want of memory
+abbrev pub unread_words : ErrorKind → Status
+unread_words kind.InvalidData = status.Usage
+unread_words _ = status.NoMemory
+
+-- ---- how a run ends
+
+-- the status of a script that was played as far as it goes
+abbrev pub status_of : Ending → Status
+status_of Whole = status.Ok
+status_of (Bad line reason) = status.BadLine line reason
+status_of (TooLong line) = status.LineTooLong line
+status_of TooMany = status.TooManySteps
+
+-- the status of a run that gave this
+abbrev pub ended : Result ⊤ Status → Status
+ended (Ok _) = status.Ok
+ended (Err stop) = stop
+
+-- a fault or want of memory ended the run before its script did
+abbrev pub is_cut_short : Status → Bool
+is_cut_short status.ReadFault = true
+is_cut_short status.WriteFault = true
+is_cut_short status.NoMemory = true
+is_cut_short _ = false
+
+-- the status of a run that a line ends. Want of memory says nothing of the line
+abbrev pub refused_at : ℕ → LineError → Status
+refused_at line NoMemory = status.NoMemory
+refused_at line reason = status.BadLine line reason
+
+-- ---- what is told
+
+-- the number with which the process ends
+abbrev pub code_of : Status → ℕ
+code_of status.Ok = 0
+code_of status.Usage = 2
+code_of (status.BadLine line reason) = 3
+code_of status.ReadFault = 4
+code_of status.WriteFault = 5
+code_of status.NoMemory = 6
+code_of status.TooManySteps = 7
+code_of (status.LineTooLong line) = 10
+
+-- the process ends with the number of a status
+pub record TellsStatus (number : ℕ) : Type 0 where
+  pub status : Status
+  pub tells : number ≡ code_of status
+
+-- how the run ended, in words
+abbrev pub status_text : Status → List ℕ
+status_text status.Ok = codes "done"
+status_text status.Usage = codes "usage: curp play"
+status_text (status.BadLine line reason) = codes "line " ++ decimal line ++ codes ": " ++ reason_text reason
+status_text status.ReadFault = codes "reading failed"
+status_text status.WriteFault = codes "writing failed"
+status_text status.NoMemory = codes "out of memory"
+status_text status.TooManySteps = codes "more than " ++ decimal step_limit ++ codes " steps"
+status_text (status.LineTooLong line) = codes "line " ++ decimal line ++ codes " is too long"
+
+-- a run that ended well is no cause for complaint
+abbrev pub complaint_of : Status → Option Status
+complaint_of status.Ok = None
+complaint_of s = Some s
+
+-- the line on standard error for a run that didn't end well, without its line feed
+abbrev pub complaint_text : Status → List ℕ
+complaint_text s = codes "curp: " ++ status_text s

@@ -1,0 +1,48 @@
+ghost use Rattle.std.specs.Prelude.{◌≡◌};
+ghost use Rattle.std.specs.Process.{exit_status};
+ghost use Rattle.curp_play.specs.Status.{TellsStatus, code_of};
+
+use crate::command::run;
+use crate::status::Status;
+use curp_io::{StdSink, StdSource};
+use std::process::ExitCode;
+use std::rt::Env;
+use std::{env, io};
+
+/// Does all that `main` does: runs the command line over the standard streams, writes what there is to complain of to
+/// standard error, and says with which number the process ends.
+pub fn start(rt: &(impl Env + Input + Print + Eprint + AllocGlobal)) -> ExitCode
+    ensures { TellsStatus (exit_status result) }
+{
+    let status = match run_words(rt) {
+        Ok(status) => status,
+        Err(error) => Status::of_unread_words(&error),
+    };
+    finish(rt, status)
+}
+
+/// Runs the words of the process over the standard streams.
+fn run_words(rt: &(impl Env + Input + Print + AllocGlobal)) -> io::Result<Status> {
+    let mut arguments = Vec::new(rt.alloc());
+    for argument in env::args(rt)?.skip(1) {
+        arguments.push(argument)?;
+    }
+    let mut words = Vec::new(rt.alloc());
+    for argument in &arguments {
+        words.push(argument.as_str())?;
+    }
+    let mut source = StdSource::new(rt.reader());
+    let mut sink = StdSink::new(io::writer(rt));
+    Ok(run(rt.alloc(), &words, &mut source, &mut sink))
+}
+
+/// Writes the complaint of a status, if it has one, to standard error.
+fn finish(rt: &impl Eprint, status: Status) -> ExitCode
+    ensures { exit_status result ≡ code_of status }
+{
+    if let Some(complaint) = status.complaint() {
+        // Where standard error can't be written, the number still tells.
+        let _ = eprintln!(rt; "{complaint}");
+    }
+    ExitCode::from(status)
+}

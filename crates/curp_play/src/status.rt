@@ -1,0 +1,156 @@
+ghost use Rattle.std.specs.Prelude.{◌≡◌, option_map};
+ghost use Rattle.std.specs.IoError.{error_kind};
+ghost use Rattle.curp_play.specs.Status.{code_of, complaint_of, ended, is_cut_short, refused_at, unread_words};
+
+use crate::reading::STEP_LIMIT;
+use curp_base::NoMemory;
+use curp_script::LineError;
+use std::process::ExitCode;
+use std::{fmt, io};
+
+/// How a run ended.
+#[derive(Clone, Copy, Debug, PartialEq, Eq)]
+pub enum Status {
+    /// The input was read to its end, and all text was written and flushed.
+    Ok,
+    /// The words are no command line. Nothing was read or written.
+    Usage,
+    /// That line, counted from 1, is the first that the grammar refuses.
+    BadLine { line: u64, reason: LineError },
+    /// Reading failed.
+    ReadFault,
+    /// Writing failed.
+    WriteFault,
+    /// There was no memory left.
+    NoMemory,
+    /// There is a step after the 200,000th.
+    TooManySteps,
+    /// That line, counted from 1, is the first above 65,536 bytes.
+    LineTooLong { line: u64 },
+}
+
+impl Status {
+    /// The number with which the process ends.
+    pub fn code(&self) -> u8
+        ensures { result ≡ code_of self.now }
+    {
+        match self {
+            Status::Ok => 0,
+            Status::Usage => 2,
+            Status::BadLine { .. } => 3,
+            Status::ReadFault => 4,
+            Status::WriteFault => 5,
+            Status::NoMemory => 6,
+            Status::TooManySteps => 7,
+            Status::LineTooLong { .. } => 10,
+        }
+    }
+
+    /// What the program has to say on standard error.
+    pub fn complaint(&self) -> Option<Complaint>
+        ensures { option_map (λ complaint. complaint.0) result ≡ complaint_of self.now }
+    {
+        match self {
+            Status::Ok => None,
+            _ => Some(Complaint(*self)),
+        }
+    }
+
+    /// The status of a run whose words can't be read, by std's error.
+    pub(crate) fn of_unread_words(error: &io::Error) -> Status
+        ensures { result ≡ unread_words (error_kind error.now) }
+    {
+        match error.kind() {
+            io::ErrorKind::InvalidData => Status::Usage,
+            _ => Status::NoMemory,
+        }
+    }
+
+    /// The status of a run that a line ends.
+    pub(crate) fn refused_at(line: u64, reason: LineError) -> Status
+        ensures { result ≡ refused_at line reason }
+    {
+        match reason {
+            LineError::NoMemory => Status::NoMemory,
+            _ => Status::BadLine { line, reason },
+        }
+    }
+
+    /// The status of a run that gave this.
+    pub(crate) fn of_run(outcome: Result<(), Status>) -> Status
+        ensures { result ≡ ended outcome }
+    {
+        match outcome {
+            Ok(()) => Status::Ok,
+            Err(stop) => stop,
+        }
+    }
+
+    /// Whether a fault or want of memory ended the run before its script did.
+    pub(crate) fn is_cut_short(&self) -> bool
+        ensures { result ≡ is_cut_short self.now }
+    {
+        matches!(
+            self,
+            Status::ReadFault | Status::WriteFault | Status::NoMemory
+        )
+    }
+}
+
+impl From<NoMemory> for Status {
+    ghost use Rattle.std.specs.Prelude.{◌≡◌};
+    ghost use Rattle.curp_play.specs.declared.status.Status.TheVariants as status;
+
+    ghost from_gives = { λ _ s. s ≡ status.NoMemory };
+
+    fn from(_error: NoMemory) -> Status {
+        Status::NoMemory
+    }
+}
+
+impl From<Status> for ExitCode {
+    ghost use Rattle.std.specs.Prelude.{◌≡◌};
+    ghost use Rattle.std.specs.Process.{exit_status};
+    ghost use Rattle.curp_play.specs.Status.{code_of};
+
+    ghost from_gives = { λ s code. exit_status code ≡ code_of s };
+
+    fn from(status: Status) -> ExitCode {
+        ExitCode::from(status.code())
+    }
+}
+
+impl fmt::Display for Status {
+    ghost use Rattle.std.specs.Prelude.{Some};
+    ghost use Rattle.curp_play.specs.Status.{status_text};
+
+    ghost output = { λ s. Some (status_text s) };
+
+    fn fmt<W: fmt::Write>(&self, f: &mut fmt::Formatter<W>) -> fmt::Result {
+        match self {
+            Status::Ok => write!(f, "done"),
+            Status::Usage => write!(f, "usage: curp play"),
+            Status::BadLine { line, reason } => write!(f, "line {line}: {reason}"),
+            Status::ReadFault => write!(f, "reading failed"),
+            Status::WriteFault => write!(f, "writing failed"),
+            Status::NoMemory => write!(f, "out of memory"),
+            Status::TooManySteps => write!(f, "more than {STEP_LIMIT} steps"),
+            Status::LineTooLong { line } => write!(f, "line {line} is too long"),
+        }
+    }
+}
+
+/// The line on standard error for a run that didn't end well.
+#[derive(Clone, Copy, Debug, PartialEq, Eq)]
+pub struct Complaint(pub Status);
+
+impl fmt::Display for Complaint {
+    ghost use Rattle.std.specs.Prelude.{Some};
+    ghost use Rattle.curp_play.specs.Status.{complaint_text};
+
+    ghost output = { λ complaint. Some (complaint_text complaint.0) };
+
+    fn fmt<W: fmt::Write>(&self, f: &mut fmt::Formatter<W>) -> fmt::Result {
+        write!(f, "curp: {}", self.0)
+    }
+}

@@ -1,0 +1,225 @@
+// What no clause says: that there is an answer where there is memory, also at the largest sizes.
+use crate::{Status, run};
+use curp_io::{MemorySink, MemorySource};
+use curp_script::{FieldName, LineError, Word};
+use std::alloc::Global;
+use std::test::Fail;
+
+const HEADER: &str =
+    "{\"clients\":2,\"f\":1,\"fast\":true,\"parts\":1,\"protocol\":1,\"sets\":16,\"ways\":4}";
+
+const INVOKE: &str = "{\"client\":1,\"cmd\":[\"put\",\"61\",\"31\"],\"do\":\"invoke\"}";
+
+const DELIVER_9: &str = "{\"do\":\"deliver\",\"msg\":9}";
+
+// How `curp play` ends for a script, and what it has written, where the calls of these numbers fail.
+fn played(
+    alloc: Global,
+    script: &str,
+    reads: &[u64],
+    writes: &[u64],
+) -> Result<(Status, MemorySink), Fail> {
+    let mut source = MemorySource::new(alloc, script.as_bytes(), reads)?;
+    let mut sink = MemorySink::new(alloc, writes)?;
+    let status = run(alloc, &["play"], &mut source, &mut sink);
+    Ok((status, sink))
+}
+
+// How `curp play` ends for a script.
+fn ends(alloc: Global, script: &str) -> Result<Status, Fail> {
+    let (status, _) = played(alloc, script, &[], &[])?;
+    Ok(status)
+}
+
+// Steps that deliver the messages of these numbers.
+fn deliver(script: &mut String, first: u64, last: u64) -> Result<(), Fail> {
+    for message in first..=last {
+        writeln!(script, "{{\"do\":\"deliver\",\"msg\":{message}}}")?;
+    }
+    Ok(())
+}
+
+// 64 fast clients put a value of the greatest length under a key of their own, of the greatest length too. All updates
+// and records are delivered, a round is begun, and then all that is sent is delivered until nothing is left:
+//
+//     64 steps   each invocation sends an update and 5 records: messages 1 to 384
+//     384 steps  each is answered at once, by a reply or an acceptance: messages 385 to 768
+//     1 step     the round sends an append to each of 5 backups: messages 769 to 773
+//     384 steps  a client completes with its reply and all 5 acceptances: 64 completions
+//     5 steps    each backup has stored the log: messages 774 to 778
+//     5 steps    the master knows it, and has nothing more to send
+//
+// These are 843 steps, 778 messages and 64 completions, with a line each. The order has a line, and one a request.
+#[test]
+fn all_messages_of_64_clients_are_delivered(rt: HostRuntime) -> Result<(), Fail> {
+    let key = "61".repeat(rt.alloc(), 31)?;
+    let value = "62".repeat(rt.alloc(), 128)?;
+    let header = HEADER
+        .replace(
+            rt.alloc(),
+            "\"clients\":2,\"f\":1",
+            "\"clients\":64,\"f\":5",
+        )?
+        .replace(
+            rt.alloc(),
+            "\"sets\":16,\"ways\":4",
+            "\"sets\":1024,\"ways\":16",
+        )?;
+    let mut script = format!(in rt.alloc(); "{header}\n")?;
+    for client in 1..=64 {
+        let command = format!(in rt.alloc(); "[\"put\",\"{client:02x}{key}\",\"{value}\"]")?;
+        writeln!(
+            script,
+            "{{\"client\":{client},\"cmd\":{command},\"do\":\"invoke\"}}"
+        )?;
+    }
+    deliver(&mut script, 1, 384)?;
+    writeln!(script, "{{\"do\":\"sync\",\"master\":1}}")?;
+    deliver(&mut script, 385, 778)?;
+    let (status, sink) = played(rt.alloc(), script.as_str(), &[], &[])?;
+    assert_eq!(rt; status, Status::Ok);
+    assert!(rt; sink.is_flushed());
+    let first = format!(in rt.alloc(); "\norder 64\n1.1 put 01{key} {value} -> done\n")?;
+    let last = format!(in rt.alloc(); "\n64.1 put 40{key} {value} -> done\n")?;
+    assert!(rt; sink.bytes().ends_with(last.as_bytes()));
+    let text = std::str::from_utf8(sink.bytes())?;
+    assert!(rt; text.contains(first.as_str()));
+    assert_eq!(rt; text.lines().count(), 843 + 778 + 64 + 1 + 64);
+    assert_eq!(rt;
+        text.lines().filter(|line| line.starts_with("c ")).count(),
+        64
+    );
+    assert!(rt; !text.contains("refused"));
+    Ok(())
+}
+
+// The order is written in one piece and then flushed; the header is read in one piece, and then the end is looked for.
+#[test]
+fn each_failing_call_is_a_fault(rt: HostRuntime) -> Result<(), Fail> {
+    let text = b"order 0\n".as_slice();
+    for (reads, writes, ended, wrote) in [
+        ([1], [9], Status::ReadFault, b"".as_slice()),
+        ([2], [9], Status::ReadFault, b"".as_slice()),
+        ([9], [1], Status::WriteFault, b"".as_slice()),
+        ([9], [2], Status::WriteFault, text),
+        ([3], [3], Status::Ok, text),
+    ] {
+        let (status, sink) = played(rt.alloc(), HEADER, &reads, &writes)?;
+        assert_eq!(rt; status, ended);
+        assert_eq!(rt; sink.bytes(), wrote);
+        assert_eq!(rt; sink.is_flushed(), wrote.is_empty() || ended == Status::Ok);
+    }
+    Ok(())
+}
+
+#[test]
+fn a_script_has_up_to_200000_steps(rt: HostRuntime) -> Result<(), Fail> {
+    let mut script = String::from_str(rt.alloc(), HEADER)?;
+    let mut text = String::new(rt.alloc());
+    for number in 1..=200_000 {
+        script.push('\n')?;
+        script.push_str(DELIVER_9)?;
+        writeln!(text, "s{number} refused no-message")?;
+    }
+    script.push('\n')?;
+    script.push_str(DELIVER_9)?;
+    let (status, sink) = played(rt.alloc(), script.as_str(), &[], &[])?;
+    assert_eq!(rt; status, Status::TooManySteps);
+    assert!(rt; sink.bytes() == text.as_bytes());
+    assert!(rt; sink.is_flushed());
+    Ok(())
+}
+
+#[test]
+fn lines_have_up_to_65536_bytes(rt: HostRuntime) -> Result<(), Fail> {
+    let blanks = " ".repeat(rt.alloc(), 65_536 - HEADER.len())?;
+    let longest = format!(in rt.alloc(); "{HEADER}{blanks}")?;
+    let longer = format!(in rt.alloc(); "{HEADER}{blanks} ")?;
+    let second = format!(in rt.alloc(); "{longest}\n{longer}\n")?;
+    for (script, status) in [
+        (longest, Status::Ok),
+        (longer, Status::LineTooLong { line: 1 }),
+        (second, Status::LineTooLong { line: 2 }),
+    ] {
+        assert_eq!(rt; ends(rt.alloc(), script.as_str())?, status);
+    }
+    Ok(())
+}
+
+#[test]
+fn other_words_are_refused(rt: HostRuntime) -> Result<(), Fail> {
+    let none: [&str; 0] = [];
+    for words in [
+        none.as_slice(),
+        &["plya"],
+        &["play", "--f"],
+        &["play", "play"],
+    ] {
+        let mut source = MemorySource::new(rt.alloc(), HEADER.as_bytes(), &[])?;
+        let mut sink = MemorySink::new(rt.alloc(), &[])?;
+        let status = run(rt.alloc(), words, &mut source, &mut sink);
+        assert_eq!(rt; status, Status::Usage);
+    }
+    Ok(())
+}
+
+fn bad(name: FieldName) -> LineError {
+    LineError::BadField { name }
+}
+
+fn later(word: Word) -> LineError {
+    LineError::Later { word }
+}
+
+#[test]
+fn headers_are_refused_by_their_first_fault(rt: HostRuntime) -> Result<(), Fail> {
+    for (old, new, reason) in [
+        ("\"f\":1", "\"f\":6", bad(FieldName::F)),
+        ("\"parts\":1", "\"parts\":2", later(Word::Parts)),
+        ("\"parts\":1", "\"parts\":17", bad(FieldName::Parts)),
+        ("\"protocol\":1", "\"protocol\":2", later(Word::Protocol)),
+        ("}", "", LineError::BadJson),
+        (HEADER, "", LineError::BadJson),
+    ] {
+        let header = HEADER.replace(rt.alloc(), old, new)?;
+        let status = Status::BadLine { line: 1, reason };
+        assert_eq!(rt; ends(rt.alloc(), header.as_str())?, status, "of {header}");
+    }
+    Ok(())
+}
+
+// What stands behind a header and a first step, without a line feed at its end.
+#[test]
+fn lines_are_refused_by_their_first_fault(rt: HostRuntime) -> Result<(), Fail> {
+    for (line, reason) in [
+        ("\n", LineError::BadJson),
+        ("{\"do\":\"deli", LineError::BadJson),
+        ("{\"do\":\"dance\"}", bad(FieldName::Do)),
+        ("{\"do\":\"collect\",\"master\":1}", later(Word::Collect)),
+        (
+            "{\"do\":\"deliver\",\"msg\":1,\"x\":2}",
+            bad(FieldName::Other),
+        ),
+        (
+            "{\"client\":2,\"cmd\":[\"get\",\"61\"],\"do\":\"invoke\"}",
+            later(Word::Get),
+        ),
+        (
+            "{\"client\":2,\"cmd\":[\"put\",\"6\",\"\"],\"do\":\"invoke\"}",
+            bad(FieldName::Cmd),
+        ),
+        (
+            "{\"client\":1,\"cmd\":[\"incr\",\"61\"],\"do\":\"invoke\"}",
+            later(Word::Invoke),
+        ),
+        (
+            "{\"client\":1,\"cmd\":[\"incr\",\"61\"],\"do\":\"invoke\",\"x\":1}",
+            bad(FieldName::Other),
+        ),
+    ] {
+        let script = format!(in rt.alloc(); "{HEADER}\n{INVOKE}\n{line}")?;
+        let status = Status::BadLine { line: 3, reason };
+        assert_eq!(rt; ends(rt.alloc(), script.as_str())?, status, "of {line}");
+    }
+    Ok(())
+}

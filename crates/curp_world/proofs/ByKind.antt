@@ -1,0 +1,154 @@
+-- Each kind of node moves in a world as its machine does.
+use Rattle.std.proofs.Common.{◌≡◌, ℕ, ◌-◌, ◌≤◌, List, Result, true, refl, sym, subst}
+use Rattle.std.specs.declared.alloc.AllocError.{AllocError}
+use Rattle.curp_cmd.specs.Node.{backup_node, client_node, master_node, witness_node}
+use Rattle.curp_cmd.specs.declared.node.NodeId.{NodeId}
+use Rattle.curp_cmd.specs.declared.node.NodeKind.{NodeKind}
+use Rattle.curp_cmd.specs.declared.node.NodeKind.TheVariants as kind
+use Rattle.curp_inv.specs.Machines.{backup_machine, built_witness_input, client_machine, master_machine, on_built_witness, witness_machine}
+use Rattle.curp_master.specs.Built.{built_ordered, on_built, on_input}
+use Rattle.curp_model.specs.Backup.{BackupState, backup_input}
+use Rattle.curp_model.specs.Client.{ClientState, client_input}
+use Rattle.curp_model.specs.Master.{MasterState}
+use Rattle.curp_model.specs.Recovery.{MasterStage, Serving, master_input, master_ordered, on_master}
+use Rattle.curp_model.specs.Sent.{IsSaidTo}
+use Rattle.curp_model.specs.Witness.{WitnessState, witness_input}
+use Rattle.curp_model.specs.World.{World, has_node, is_there, moves, moves_kind, with_backup, with_client, with_master, with_witness}
+use Rattle.curp_msg.specs.Moved.{Moved, Moves, MovesAt, Node, numbered_move, within}
+use Rattle.curp_msg.specs.declared.body.Body.{Body}
+use Rattle.curp_msg.specs.declared.body.Body.TheVariants as body
+use Rattle.curp_msg.specs.declared.machine.Done.{Done}
+use Rattle.curp_msg.specs.declared.machine.Input.{Input}
+use Rattle.curp_msg.specs.declared.machine.Input.TheVariants as input
+use Rattle.curp_msg.specs.declared.machine.Local.{Local}
+use Rattle.curp_msg.specs.declared.machine.Local.TheVariants as local
+use Rattle.curp_world.specs.Given.{IsFor}
+use Rattle.curp_world.specs.Nodes.{HasNumbers, NodeStates, remarked, serving, states, with_nodes}
+use Rattle.curp_world.proofs.Giving.{numbers_stay, one_moves, world_moves}
+
+-- ---- what is built is what the definitions say, for what nodes get
+
+-- a master that serves
+heard : (n : ℕ) (m : MasterState) (given : Input) → IsFor kind.Master n given → master_input n (Serving m) given ≡ within Serving (on_input n m given)
+unfolding on_built built_ordered on_master master_ordered
+heard n m (input.Message x) said = go x.from x.body said
+  where
+    go : (from : NodeId) (b : Body) → IsSaidTo kind.Master n b → on_master n (Serving m) from b ≡ within Serving (on_built n m from b)
+    go from (body.Update ask) said = refl
+    go from (body.Sync ask) said = refl
+    go from (body.Appended a) said = refl
+    go from _ said = absurd said
+heard n m (input.Local local.Sync) built = refl
+heard n m (input.Local _) built = absurd built
+
+-- a witness
+recorded : (n : ℕ) (w : WitnessState) (given : Input) → IsFor kind.Witness n given → witness_input n w given ≡ built_witness_input n w given
+unfolding on_built_witness
+recorded n w (input.Message x) said = go x.body said
+  where
+    go : (b : Body) → IsSaidTo kind.Witness n b → witness_input n w (input.Message (record x { body = b })) ≡ built_witness_input n w (input.Message (record x { body = b }))
+    go (body.Record r) said = refl
+    go _ said = absurd said
+recorded n w (input.Local order) built = absurd built
+
+-- ---- nodes of each kind
+
+module _ (given : Input) where
+  client_moves : (x : Node ClientState) → client_machine x given ≡ numbered_move x.number (client_input x.number x.state given)
+  unfolding client_machine
+  client_moves x = refl
+
+  master_moves : (x : Node MasterState) → master_machine x given ≡ numbered_move x.number (on_input x.number x.state given)
+  unfolding master_machine
+  master_moves x = refl
+
+  backup_moves : (x : Node BackupState) → backup_machine x given ≡ numbered_move x.number (backup_input x.number x.state given)
+  unfolding backup_machine
+  backup_moves x = refl
+
+  witness_moves : (x : Node WitnessState) → witness_machine x given ≡ numbered_move x.number (built_witness_input x.number x.state given)
+  unfolding witness_machine
+  witness_moves x = refl
+
+module _ (given : Input) (nodes nodes' : List (Node ClientState)) (n : ℕ) (r : Result Done AllocError)
+    (numbers : HasNumbers nodes) (low : 1 ≤ n) (made : MovesAt (n - 1) nodes nodes' r (λ node. client_machine node given)) where
+  pub clients_stay : HasNumbers nodes'
+  clients_stay = numbers_stay (λ (s : ClientState). s) nodes nodes' n r (λ node. client_machine node given) (λ i s. client_input i s given)
+      (λ s. client_input n s given) (client_moves given) numbers low made
+
+  pub clients_give : (w : World) (others : NodeStates)
+      → Moves (with_nodes w (record others { clients = states nodes })) (with_nodes w (record others { clients = states nodes' })) r
+      (within remarked (moves (with_nodes w (record others { clients = states nodes })) (client_node n) given))
+  clients_give w others =
+      let v : World = with_nodes w (record others { clients = states nodes }) in
+      world_moves (λ (list : List ClientState). with_nodes w (record others { clients = list })) (states nodes) (states nodes') n r
+      (λ s. client_input n s given) (λ s. within (with_client v n) (client_input n s given)) v (λ s. refl)
+      (one_moves (λ (s : ClientState). s) nodes nodes' n r (λ node. client_machine node given) (λ i s. client_input i s given)
+      (λ s. client_input n s given) (client_moves given) numbers low made (λ s. refl))
+
+module _ (given : Input) (nodes nodes' : List (Node MasterState)) (n : ℕ) (r : Result Done AllocError)
+    (numbers : HasNumbers nodes) (low : 1 ≤ n) (made : MovesAt (n - 1) nodes nodes' r (λ node. master_machine node given)) where
+  pub masters_stay : HasNumbers nodes'
+  masters_stay = numbers_stay Serving nodes nodes' n r (λ node. master_machine node given) (λ i s. on_input i s given)
+      (λ s. master_input n s given) (master_moves given) numbers low made
+
+  pub masters_give : (w : World) (others : NodeStates) → IsFor kind.Master n given
+      → Moves (with_nodes w (record others { masters = serving nodes })) (with_nodes w (record others { masters = serving nodes' })) r
+      (within remarked (moves (with_nodes w (record others { masters = serving nodes })) (master_node n) given))
+  masters_give w others built =
+      let v : World = with_nodes w (record others { masters = serving nodes }) in
+      world_moves (λ (list : List MasterStage). with_nodes w (record others { masters = list })) (serving nodes) (serving nodes') n r
+      (λ s. master_input n s given) (λ s. within (with_master v n s) (master_input n s given)) v (λ s. refl)
+      (one_moves Serving nodes nodes' n r (λ node. master_machine node given) (λ i s. on_input i s given)
+      (λ s. master_input n s given) (master_moves given) numbers low made (λ s. heard n s given built))
+
+module _ (given : Input) (nodes nodes' : List (Node BackupState)) (n : ℕ) (r : Result Done AllocError)
+    (numbers : HasNumbers nodes) (low : 1 ≤ n) (made : MovesAt (n - 1) nodes nodes' r (λ node. backup_machine node given)) where
+  pub backups_stay : HasNumbers nodes'
+  backups_stay = numbers_stay (λ (s : BackupState). s) nodes nodes' n r (λ node. backup_machine node given) (λ i s. backup_input i s given)
+      (λ s. backup_input n s given) (backup_moves given) numbers low made
+
+  pub backups_give : (w : World) (others : NodeStates)
+      → Moves (with_nodes w (record others { backups = states nodes })) (with_nodes w (record others { backups = states nodes' })) r
+      (within remarked (moves (with_nodes w (record others { backups = states nodes })) (backup_node n) given))
+  backups_give w others =
+      let v : World = with_nodes w (record others { backups = states nodes }) in
+      world_moves (λ (list : List BackupState). with_nodes w (record others { backups = list })) (states nodes) (states nodes') n r
+      (λ s. backup_input n s given) (λ s. within (with_backup v n) (backup_input n s given)) v (λ s. refl)
+      (one_moves (λ (s : BackupState). s) nodes nodes' n r (λ node. backup_machine node given) (λ i s. backup_input i s given)
+      (λ s. backup_input n s given) (backup_moves given) numbers low made (λ s. refl))
+
+module _ (given : Input) (nodes nodes' : List (Node WitnessState)) (n : ℕ) (r : Result Done AllocError)
+    (numbers : HasNumbers nodes) (low : 1 ≤ n) (made : MovesAt (n - 1) nodes nodes' r (λ node. witness_machine node given)) where
+  pub witnesses_stay : HasNumbers nodes'
+  witnesses_stay = numbers_stay (λ (s : WitnessState). s) nodes nodes' n r (λ node. witness_machine node given) (λ i s. built_witness_input i s given)
+      (λ s. witness_input n s given) (witness_moves given) numbers low made
+
+  pub witnesses_give : (w : World) (others : NodeStates) → IsFor kind.Witness n given
+      → Moves (with_nodes w (record others { witnesses = states nodes })) (with_nodes w (record others { witnesses = states nodes' })) r
+      (within remarked (moves (with_nodes w (record others { witnesses = states nodes })) (witness_node n) given))
+  witnesses_give w others built =
+      let v : World = with_nodes w (record others { witnesses = states nodes }) in
+      world_moves (λ (list : List WitnessState). with_nodes w (record others { witnesses = list })) (states nodes) (states nodes') n r
+      (λ s. witness_input n s given) (λ s. within (with_witness v n) (witness_input n s given)) v (λ s. refl)
+      (one_moves (λ (s : WitnessState). s) nodes nodes' n r (λ node. witness_machine node given) (λ i s. built_witness_input i s given)
+      (λ s. witness_input n s given) (witness_moves given) numbers low made (λ s. recorded n s given built))
+
+-- ---- by the name of the node
+
+-- what is there of all nodes, is there of what is seen of them
+pub is_here : (nodes all : NodeStates) (to : NodeId) (k : NodeKind) → all ≡ nodes → to.kind ≡ k
+    → ((w : World) × (has_node (with_nodes w nodes) to ≡ true)) → (w : World) × (is_there (with_nodes w all) k to.number ≡ true)
+is_here nodes all to k same is there = (
+  there.0,
+  subst (λ (n : NodeStates). is_there (with_nodes there.0 n) k to.number ≡ true) (sym same)
+      (subst (λ (kind : NodeKind). is_there (with_nodes there.0 nodes) kind to.number ≡ true) is there.1),
+)
+
+-- and moves alike
+pub seen_moves : (nodes all after : NodeStates) (to : NodeId) (k : NodeKind) (given : Input) (r : Result Done AllocError) (w : World) → all ≡ nodes → to.kind ≡ k
+    → Moves (with_nodes w all) (with_nodes w after) r (within remarked (moves_kind (with_nodes w all) k to.number given))
+    → Moves (with_nodes w nodes) (with_nodes w after) r (within remarked (moves (with_nodes w nodes) to given))
+seen_moves nodes all after to k given r w same is moved =
+    subst (λ (n : NodeStates). Moves (with_nodes w n) (with_nodes w after) r (within remarked (moves (with_nodes w n) to given))) same
+    (subst (λ (kind : NodeKind). Moves (with_nodes w all) (with_nodes w after) r (within remarked (moves_kind (with_nodes w all) kind to.number given))) (sym is) moved)

@@ -1,0 +1,212 @@
+-- What is kept of a step is the step of the definition.
+use Rattle.std.proofs.Common.{◌≡◌, ◌≢◌, ◌==◌, nat_le, ℕ, zero, suc, ◌+◌, ◌-◌, ◌^◌, Bool, true, false, List, [], ◌∷◌, ◌++◌, length, slice_set, Option, Some, None, is_some, Result, Ok, Err, IfOk, OnOk, append-nil, arith, refl, ap, sym, ◌∙◌, subst}
+use Rattle.std.proofs.lemmas.Bool.{eq-eqb, ne_eqb}
+use Rattle.std.specs.Option.{ok_or, option_map}
+use Rattle.curp_base.specs.Cases.{◌>>=◌, refuse_if}
+use Rattle.curp_base.specs.Words.{all_of, numbered}
+use Rattle.curp_cmd.specs.declared.command.Command.{Command}
+use Rattle.curp_cmd.specs.declared.command.RequestId.{RequestId}
+use Rattle.curp_cmd.specs.declared.node.NodeId.{NodeId}
+use Rattle.curp_cmd.specs.declared.node.NodeKind.{NodeKind}
+use Rattle.curp_cmd.specs.declared.node.NodeKind.TheVariants as kind
+use Rattle.curp_model.specs.Client.{ClientState, client_ordered, invocation_for, invoke, most_pending, next_request, owner_of, sends_first}
+use Rattle.curp_model.specs.Sent.{IsSaidTo}
+use Rattle.curp_model.specs.World.{Deed, Gives, Stepped, World, completion, delivery, effect, events_of, has_node, invocation_of, kept, messages, moves, next_number, refused, steps_by, with_batch, with_completion}
+use Rattle.curp_msg.specs.Moved.{Makes, Moved, Moves, done_of, quiet, unless_refused, within}
+use Rattle.curp_msg.specs.declared.config.PartConfig.{PartConfig}
+use Rattle.curp_msg.specs.declared.machine.Done.{Done}
+use Rattle.curp_msg.specs.declared.machine.Input.{Input}
+use Rattle.curp_msg.specs.declared.machine.Input.TheVariants as input
+use Rattle.curp_msg.specs.declared.machine.Local.{Local}
+use Rattle.curp_msg.specs.declared.machine.Local.TheVariants as local
+use Rattle.curp_msg.specs.declared.message.Message.{Message}
+use Rattle.curp_msg.specs.declared.outcome.Outcome.{Outcome}
+use Rattle.curp_msg.specs.declared.outcome.StepResult.{StepResult}
+use Rattle.curp_msg.specs.declared.outcome.StepResult.TheVariants as result
+use Rattle.curp_msg.specs.declared.script.Header.{Header}
+use Rattle.curp_order.specs.Recorded.{invocation}
+use Rattle.curp_order.specs.declared.Event.{Event}
+use Rattle.curp_order.specs.declared.Event.TheVariants as event
+use Rattle.curp_world.specs.Given.{CanGet, IsFor, IsOrderFor, barrier, gift_deed, goes, hands, input_in, invoked_by, taken_by}
+use Rattle.curp_world.specs.Nodes.{NodeStates, remarked, seen, with_nodes}
+use Rattle.curp_world.specs.declared.given.Gift.{Gift}
+use Rattle.curp_world.specs.declared.given.Gift.TheVariants as gift
+use Rattle.curp_world.proofs.Giving.{set_there}
+
+-- ---- what a gift is
+
+-- it gives its node an input that the node gets
+pub gift_gives : (w : World) (to : NodeId) (g : Gift) (given : Input) → CanGet w to g → input_in (messages w) g ≡ Some given
+    → (gift_deed w to g ≡ Gives to given) × IsFor to.kind to.number given
+gift_gives w to (gift.Order order) given can is = let same : given ≡ input.Local order = cc in (ap (Gives to) (sym same), rw same can)
+gift_gives w to (gift.Message number) given can is =
+    let found : Some (input.Message can.message) ≡ Some given = ap (option_map input.Message) (sym can.found) ∙ is in
+    let same : given ≡ input.Message can.message = cc in (
+      ap delivery can.found ∙ ap (λ (node : NodeId). Gives node (input.Message can.message)) can.addressee ∙ ap (Gives to) (sym same),
+      rw same (subst (λ (node : NodeId). IsSaidTo node.kind node.number can.message.body) can.addressee can.built),
+    )
+
+-- ---- what goes into the history before anything completes
+
+-- an invocation that isn't refused has the next number
+invoke_last : (n : ℕ) (c : ClientState) (command : Command) → (invoke n c command).refused ≡ 0 → (invoke n c command).state.last ≡ c.last + 1
+unfolding invoke
+invoke_last n c command = go (nat_le most_pending (length c.pending)) (nat_le (2 ^ 32 - 1) c.last) (owner_of c.config command)
+  where
+    act : PartConfig → Moved ClientState
+    act = sends_first n c (next_request n c command)
+
+    go : (many last : Bool) (o : Option PartConfig) → let m = unless_refused c act (refuse_if many 1 >>= (λ _. refuse_if last 2 >>= (λ _. ok_or o 3))) in m.refused ≡ 0 → m.state.last ≡ c.last + 1
+    go true last o taken = absurd (omega (arith, taken))
+    go false true o taken = absurd (omega (arith, taken))
+    go false false None taken = absurd (omega (arith, taken))
+    go false false (Some p) taken = refl
+
+no_invocation : (to : NodeId) (o : Option ClientState) (order : Local) → ((command : Command) → order ≢ local.Invoke command) → invocation_of to o (input.Local order) ≡ []
+no_invocation to None order other = refl
+no_invocation to (Some c) (local.Invoke command) other = absurd (other command refl)
+no_invocation to (Some c) (local.Retry seq) other = refl
+no_invocation to (Some c) local.Fetch other = refl
+no_invocation to (Some c) local.Sync other = refl
+no_invocation to (Some c) local.Collect other = refl
+no_invocation to (Some c) (local.Recover part backup witness) other = refl
+no_invocation to (Some c) (local.Replace keeper part place) other = refl
+no_invocation to (Some c) (local.Migrate lo hi to') other = refl
+no_invocation to (Some c) local.Nudge other = refl
+no_invocation to (Some c) (local.Expire client) other = refl
+
+no_message : (to : NodeId) (o : Option ClientState) (m : Message) → invocation_of to o (input.Message m) ≡ []
+no_message to None m = refl
+no_message to (Some c) m = refl
+
+-- the request of a client that has invoked it
+invoked : (w : World) (n : ℕ) (command : Command) (o : Option ClientState) → numbered w.clients n ≡ o → is_some o ≡ true → (moves w (record { kind = kind.Client; number = n }) (input.Local (local.Invoke command))).refused ≡ 0
+    → invocation (invoked_by (record { kind = kind.Client; number = n }) (gift.Order (local.Invoke command)) (numbered (moves w (record { kind = kind.Client; number = n }) (input.Local (local.Invoke command))).state.clients n))
+    ≡ invocation_of (record { kind = kind.Client; number = n }) o (input.Local (local.Invoke command))
+unfolding client_ordered
+invoked w n command None here there = absurd cc
+invoked w n command (Some c) here there =
+    rw (here, set_there w.clients n c (invoke n c command).state here)
+    (λ taken. ap (λ (seq : ℕ). event.Invoke (record { client = n; seq = seq }) command ∷ []) (invoke_last n c command taken))
+
+-- the request of a client, told by its last number, is the event of its invocation
+pub event_is : (w : World) (to : NodeId) (g : Gift) (given : Input) → CanGet w to g → input_in (messages w) g ≡ Some given
+    → has_node w to ≡ true → (moves w to given).refused ≡ 0
+    → invocation (invoked_by to g (numbered (moves w to given).state.clients to.number)) ≡ events_of w (Gives to given)
+event_is w to (gift.Message number) given can is there taken =
+    let found : Some (input.Message can.message) ≡ Some given = ap (option_map input.Message) (sym can.found) ∙ is in
+    let same : given ≡ input.Message can.message = cc in
+    sym (ap (λ (x : Input). events_of w (Gives to x)) same ∙ no_message to (numbered w.clients to.number) can.message)
+event_is w to (gift.Order order) given can is there taken =
+    let same : input.Local order ≡ given = cc in
+    subst (λ (x : Input). invocation (invoked_by to (gift.Order order) (numbered (moves w to x).state.clients to.number)) ≡ events_of w (Gives to x)) same
+    (go to.kind order refl can there (subst (λ (x : Input). (moves w to x).refused ≡ 0) (sym same) taken))
+  where
+    go : (k : NodeKind) (order : Local) → to.kind ≡ k → IsOrderFor k order → has_node w to ≡ true → (moves w to (input.Local order)).refused ≡ 0
+        → invocation (invoked_by to (gift.Order order) (numbered (moves w to (input.Local order)).state.clients to.number)) ≡ events_of w (Gives to (input.Local order))
+    go kind.Client (local.Invoke command) is built there taken =
+        subst (λ (k : NodeKind). let node : NodeId = record { kind = k; number = to.number } in
+        has_node w node ≡ true → (moves w node (input.Local (local.Invoke command))).refused ≡ 0
+        → invocation (invoked_by to (gift.Order (local.Invoke command)) (numbered (moves w node (input.Local (local.Invoke command))).state.clients to.number))
+        ≡ invocation_of to (numbered w.clients to.number) (input.Local (local.Invoke command))) (sym is)
+        (λ there taken. invoked w to.number command (numbered w.clients to.number) refl there taken) there taken
+    go kind.Master local.Sync is built there taken = sym (no_invocation to (numbered w.clients to.number) local.Sync (λ command e. absurd cc))
+    go _ _ is built there taken = absurd built
+
+-- ---- a world that is seen
+
+-- a step that isn't made
+pub nothing_done : (w : World) (s : Stepped) (why : StepResult) → remarked w ≡ w → s ≡ refused w why
+    → (w ≡ remarked s.world) × ((refused w why).outcome ≡ s.outcome)
+nothing_done w s why told is =
+    (sym told ∙ sym (ap (λ (x : Stepped). remarked x.world) is), sym (ap (λ (x : Stepped). x.outcome) is))
+
+-- one that stops a node
+pub node_stopped : (h : Header) (nodes : NodeStates) (stopped stopped' : List NodeId) (sent : List (List Message)) (history : List Event) (w : World) (node : NodeId) (s : Stepped)
+    → seen h nodes stopped sent history ≡ w → s ≡ kept w [] (quiet (record w { stopped = w.stopped ++ node ∷ [] })) → stopped' ≡ stopped ++ node ∷ []
+    → (seen h nodes stopped' sent history ≡ remarked s.world) × ((refused (seen h nodes stopped' sent history) result.Done).outcome ≡ s.outcome)
+node_stopped h nodes stopped stopped' sent history w node s view is more =
+    let as_it_was : history ≡ (history ++ []) ++ [] = sym (append-nil (history ++ []) ∙ append-nil history) in
+    let now : s ≡ kept (seen h nodes stopped sent history) [] (quiet (seen h nodes (stopped ++ node ∷ []) sent history)) =
+    is ∙ ap (λ (v : World). kept v [] (quiet (record v { stopped = v.stopped ++ node ∷ [] }))) (sym view) in (
+      rw more (ap (λ (events : List Event). seen h nodes (stopped ++ node ∷ []) sent events) as_it_was) ∙ sym (ap (λ (x : Stepped). remarked x.world) now),
+      sym (ap (λ (x : Stepped). x.outcome) now),
+    )
+
+-- what a node did on an input
+pub kept_as : (h : Header) (nodes : NodeStates) (stopped : List NodeId) (sent sent' : List (List Message)) (history history' : List Event) (w : World) (deed : Deed) (done : Done) (event : Option (RequestId × Command))
+    → seen h nodes stopped sent history ≡ remarked (effect w deed).state → done ≡ done_of (effect w deed)
+    → sent' ≡ with_batch w.sent done.sent
+    → history' ≡ (w.history ++ invocation event) ++ completion done.completed
+    → invocation event ≡ events_of w deed
+    → seen h nodes stopped sent' history' ≡ remarked (kept w (events_of w deed) (effect w deed)).world
+kept_as h nodes stopped sent sent' history history' w deed done event state does sends records invokes =
+    ap (λ (v : World). remarked (record v { sent = sent'; history = history' })) state
+    ∙ rw (sends, records, invokes, does) refl
+
+-- ---- a node gets something
+
+module _ (h : Header) (nodes : NodeStates) (stopped : List NodeId) (sent : List (List Message)) (history : List Event) (to : NodeId) (g : Gift) (given : Input) (nodes' : NodeStates) (done : Done)
+    (makes : (v : World) → Makes (with_nodes v nodes') done (within remarked (moves (with_nodes v nodes) to given))) where
+  abbrev was : World
+  was = seen h nodes stopped sent history
+
+  -- by what the node answers, where nothing is in the way
+  answered : CanGet was to g → barrier was to ≡ None
+      → input_in (messages was) g ≡ Some given
+      → hands was to g ≡ steps_by was (Gives to given) (taken_by done.refused)
+  answered can passes is =
+      ap (λ (o : Option StepResult). steps_by was (gift_deed was to g) (goes was (gift_deed was to g) o)) passes
+      ∙ ap (λ (d : Deed). steps_by was d (taken_by (effect was d).refused)) (gift_gives was to g given can is).0
+      ∙ ap (λ (n : ℕ). steps_by was (Gives to given) (taken_by n)) (sym (ap (λ (d : Done). d.refused) (makes was).1))
+
+  done_at : (sent' : List (List Message)) (history' : List Event) (event : Option (RequestId × Command)) (o : Outcome)
+      → CanGet was to g → barrier was to ≡ None
+      → input_in (messages was) g ≡ Some given → done.refused ≡ 0
+      → has_node was to ≡ true
+      → event ≡ invoked_by to g (numbered nodes'.clients to.number)
+      → sent' ≡ with_batch sent done.sent → history' ≡ (history ++ invocation event) ++ completion done.completed
+      → o ≡ record { result = result.Done; first = length (all_of sent) + 1; sent = length done.sent; completed = done.completed }
+      → (seen h nodes' stopped sent' history' ≡ remarked (hands was to g).world)
+      × (o ≡ (hands was to g).outcome)
+  done_at sent' history' event o can passes is taken there invokes sends records outcome =
+      let m : Moved World = moves was to given in
+      let made = makes was in
+      let whole : hands was to g ≡ kept was (events_of was (Gives to given)) m =
+      answered can passes is ∙ ap (λ (n : ℕ). steps_by was (Gives to given) (taken_by n)) taken in
+      let refuses_none : m.refused ≡ 0 = sym (ap (λ (d : Done). d.refused) made.1) ∙ taken in
+      let event_of : invocation event ≡ events_of was (Gives to given) =
+      ap invocation (invokes ∙ ap (λ (v : World). invoked_by to g (numbered v.clients to.number)) made.0) ∙ event_is was to g given can is there refuses_none in (
+        kept_as h nodes' stopped sent sent' history history' was (Gives to given) done event made.0 made.1 sends records event_of
+            ∙ sym (ap (λ (x : Stepped). remarked x.world) whole),
+        outcome ∙ ap (λ (d : Done). record { result = result.Done; first = length (all_of sent) + 1; sent = length d.sent; completed = d.completed }) made.1
+            ∙ sym (ap (λ (x : Stepped). x.outcome) whole),
+      )
+
+-- what a node did on what it got, as it is kept
+pub hands_done : (h : Header) (nodes nodes' : NodeStates) (stopped : List NodeId) (sent sent' : List (List Message)) (history history' : List Event) (w : World)
+    (to : NodeId) (g : Gift) (given : Input) (done : Done) (event : Option (RequestId × Command)) (o : Outcome)
+    → ((v : World) → Makes (with_nodes v nodes') done (within remarked (moves (with_nodes v nodes) to given)))
+    → seen h nodes stopped sent history ≡ w → CanGet w to g → barrier w to ≡ None → has_node w to ≡ true
+    → input_in (all_of sent) g ≡ Some given → done.refused ≡ 0
+    → event ≡ invoked_by to g (numbered nodes'.clients to.number)
+    → sent' ≡ with_batch sent done.sent → history' ≡ (history ++ invocation event) ++ completion done.completed
+    → o ≡ record { result = result.Done; first = length (all_of sent) + 1; sent = length done.sent; completed = done.completed }
+    → (seen h nodes' stopped sent' history' ≡ remarked (hands w to g).world) × (o ≡ (hands w to g).outcome)
+hands_done h nodes nodes' stopped sent sent' history history' w to g given done event o makes view can passes there is taken invokes sends records outcome =
+    subst (λ (v : World). CanGet v to g → barrier v to ≡ None → has_node v to ≡ true
+    → (seen h nodes' stopped sent' history' ≡ remarked (hands v to g).world) × (o ≡ (hands v to g).outcome)) view
+    (λ can passes there. done_at h nodes stopped sent history to g given nodes' done makes sent' history' event o can passes is taken there invokes sends records outcome)
+    can passes there
+
+-- ---- answers of calls
+
+-- the world after a call, by what is the same step
+pub state_by : {A E : Type 0} (r : Result A E) (w : World) (s t : Stepped) → s ≡ t → OnOk r (w ≡ remarked s.world) → OnOk r (w ≡ remarked t.world)
+state_by (Ok a) w s t e h = h ∙ ap (λ (x : Stepped). remarked x.world) e
+state_by (Err a) w s t e h = tt
+
+-- and what it did
+pub outcome_by : {E : Type 0} (r : Result Outcome E) (s t : Stepped) → s ≡ t → IfOk r (λ o. o ≡ s.outcome) → IfOk r (λ o. o ≡ t.outcome)
+outcome_by (Ok a) s t e h = h ∙ ap (λ (x : Stepped). x.outcome) e
+outcome_by (Err a) s t e h = tt
