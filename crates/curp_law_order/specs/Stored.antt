@@ -11,7 +11,7 @@ use Rattle.curp_msg.specs.declared.body.Reply.{Reply}
 use Rattle.curp_msg.specs.declared.message.Message.{Message}
 use Rattle.curp_order.specs.declared.Event.{Event}
 use Rattle.curp_order.specs.declared.Event.TheVariants.{Invoke, Complete}
-use Rattle.curp_model.specs.Facts.{IsWitness}
+use Rattle.curp_model.specs.Named.{IsWitness}
 use Rattle.curp_model.specs.Log.{IsDone}
 use Rattle.curp_model.specs.Master.{MasterState}
 use Rattle.curp_model.specs.Recovery.{Serving}

@@ -10,8 +10,7 @@ pub mod Manager
 pub mod Marks
 pub mod World
 pub mod Causes
-pub mod Facts
-pub mod Kept
+pub mod Named
 pub mod Laws
 pub mod Built
 pub mod Sent

@@ -93,16 +93,18 @@ fn all_messages_of_64_clients_are_delivered(rt: HostRuntime) -> Result<(), Fail>
     Ok(())
 }
 
-// The order is written in one piece and then flushed; the header is read in one piece, and then the end is looked for.
+// The header is read in one piece; its end is looked for, and then a step. The order is written in one piece and then
+// flushed.
 #[test]
 fn each_failing_call_is_a_fault(rt: HostRuntime) -> Result<(), Fail> {
     let text = b"order 0\n".as_slice();
     for (reads, writes, ended, wrote) in [
         ([1], [9], Status::ReadFault, b"".as_slice()),
         ([2], [9], Status::ReadFault, b"".as_slice()),
+        ([3], [9], Status::ReadFault, b"".as_slice()),
         ([9], [1], Status::WriteFault, b"".as_slice()),
         ([9], [2], Status::WriteFault, text),
-        ([3], [3], Status::Ok, text),
+        ([4], [3], Status::Ok, text),
     ] {
         let (status, sink) = played(rt.alloc(), HEADER, &reads, &writes)?;
         assert_eq!(rt; status, ended);

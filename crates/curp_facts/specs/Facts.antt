@@ -9,8 +9,6 @@ use Rattle.curp_cmd.specs.declared.entry.Entry.{Entry}
 use Rattle.curp_cmd.specs.declared.entry.Entry.TheVariants.{Take, Give, Expire}
 use Rattle.curp_cmd.specs.declared.migration.Package.{Package}
 use Rattle.curp_cmd.specs.declared.node.NodeId.{NodeId}
-use Rattle.curp_cmd.specs.declared.node.NodeKind.{NodeKind}
-use Rattle.curp_cmd.specs.declared.node.NodeKind.TheVariants as kind
 use Rattle.curp_msg.specs.declared.answer.AppendAnswer.{AppendAnswer}
 use Rattle.curp_msg.specs.declared.answer.AppendAnswer.TheVariants.{Stored}
 use Rattle.curp_msg.specs.declared.answer.FenceReply.{FenceReply}
@@ -34,6 +32,7 @@ use Rattle.curp_model.specs.Log.{IsDone, Stands}
 use Rattle.curp_model.specs.Manager as manager
 use Rattle.curp_model.specs.Manager.{ManagerState, Doing, opening_config}
 use Rattle.curp_model.specs.Master.{MasterState}
+use Rattle.curp_model.specs.Named.{IsBackup, IsMaster, IsNode, IsWitness}
 use Rattle.curp_msg.specs.Moved.{says}
 use Rattle.curp_cmd.specs.Node.{manager_node, client_node}
 use Rattle.curp_model.specs.Ranges.{opening_range}
@@ -60,33 +59,6 @@ lo_of w p = (opening_range w.manager.shape.parts p).lo
 -- the last hash of that range
 abbrev pub hi_of : World → ℕ → ℕ
 hi_of w p = (opening_range w.manager.shape.parts p).hi
-
--- a node of the world, by its kind and its number
-abbrev pub IsNodeOf : World → NodeKind → ℕ → Type 0
-IsNodeOf w kind.Manager n = n ≡ 0
-IsNodeOf w kind.Client n = (1 ≤ n) × (n ≤ length w.clients)
-IsNodeOf w kind.Master n = (1 ≤ n) × (n ≤ length w.masters)
-IsNodeOf w kind.Backup n = (1 ≤ n) × (n ≤ length w.backups)
-IsNodeOf w kind.Witness n = (1 ≤ n) × (n ≤ length w.witnesses)
-
--- a name of a node of the world
-abbrev pub IsNode : World → NodeId → Type 0
-IsNode w node = IsNodeOf w node.kind node.number
-
--- the state of a backup, and of a witness, by its name
-pub record IsBackup (w : World) (node : NodeId) (b : BackupState) : Type 0 where
-  pub its_kind : node.kind ≡ kind.Backup
-  pub its_state : numbered w.backups node.number ≡ Some b
-
--- the state of a witness by its name
-pub record IsWitness (w : World) (node : NodeId) (x : WitnessState) : Type 0 where
-  pub its_kind : node.kind ≡ kind.Witness
-  pub its_state : numbered w.witnesses node.number ≡ Some x
-
--- the state of a master by its name
-pub record IsMaster (w : World) (node : NodeId) (m : MasterStage) : Type 0 where
-  pub its_kind : node.kind ≡ kind.Master
-  pub its_state : numbered w.masters node.number ≡ Some m
 
 -- the log and the last round of a master that has a log, recovering ones included
 pub record Logged : Type 0 where

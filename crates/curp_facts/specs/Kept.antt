@@ -37,7 +37,7 @@ use Rattle.curp_model.specs.declared.Check.{Check}
 use Rattle.curp_model.specs.declared.Mode.TheVariants as mode
 use Rattle.curp_model.specs.declared.Check.TheVariants.{Expired, Stale, Known, New}
 use Rattle.curp_model.specs.Backup.{BackupState}
-use Rattle.curp_model.specs.Facts.{WasSent, IsAmong, lo_of, hi_of, IsBackup, IsMaster, IsWitness, Logged, HasLog, Lists, IsGiven, WasAdopted, IsAdoptedNow, SaidOk, PairsGood, reply_message}
+use Rattle.curp_facts.specs.Facts.{WasSent, IsAmong, lo_of, hi_of, Logged, HasLog, Lists, IsGiven, WasAdopted, IsAdoptedNow, SaidOk, PairsGood, reply_message}
 use Rattle.curp_model.specs.Log.{IsLog, IsDone, LogState, entry_touches, meaning}
 use Rattle.curp_model.specs.Manager.{Migration}
 use Rattle.curp_model.specs.Marks.{Mark, Looked, shown}
@@ -45,6 +45,7 @@ use Rattle.curp_model.specs.Master as master
 use Rattle.curp_model.specs.Master.{MasterState, Captured, Acknowledged, from_backup, has}
 use Rattle.curp_cmd.specs.Node.{is_among, client_node, manager_node}
 use Rattle.curp_msg.specs.Moved.{says}
+use Rattle.curp_model.specs.Named.{IsBackup, IsMaster, IsWitness}
 use Rattle.curp_model.specs.Recovery.{Recovering, RecoveryState, Replayed, Serving, Storing, Waiting, replay}
 use Rattle.curp_model.specs.Table.{check}
 use Rattle.curp_model.specs.Witness.{WitnessState, frozen_requests}
