@@ -1,2 +1,4 @@
 pub mod Facts
 pub mod Kept
+pub mod Reach
+pub mod Growth

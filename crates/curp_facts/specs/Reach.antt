@@ -1,0 +1,113 @@
+-- How far the logs of backups reach, as messages of a master say it, and what these messages say.
+use Rattle.std.specs.Prelude.{◌≡◌, ◌≤◌, ◌<◌, ◌⊎◌, ℕ, ◌+◌, true, false, List, length, take}
+use Rattle.curp_base.specs.Words.{At, Each}
+use Rattle.curp_cmd.specs.declared.command.Answer.{Answer}
+use Rattle.curp_cmd.specs.declared.command.Request.{Request}
+use Rattle.curp_cmd.specs.declared.command.RequestId.{RequestId}
+use Rattle.curp_cmd.specs.declared.entry.Entry.{Entry}
+use Rattle.curp_cmd.specs.declared.entry.Entry.TheVariants.{Op, Give}
+use Rattle.curp_cmd.specs.declared.node.NodeId.{NodeId}
+use Rattle.curp_msg.specs.declared.body.Body.TheVariants as body
+use Rattle.curp_msg.specs.declared.body.Recover.{Recover}
+use Rattle.curp_msg.specs.declared.body.Reply.{Reply}
+use Rattle.curp_msg.specs.declared.body.Gc.{Gc}
+use Rattle.curp_model.specs.Backup.{BackupState}
+use Rattle.curp_facts.specs.Facts.{IsAmong, IsGiven, HasLog, Lists, Logged, WasAdopted, WasSent, hi_of, lo_of}
+use Rattle.curp_facts.specs.Kept.{IsCollectable}
+use Rattle.curp_model.specs.Log.{answer_after, entry_touches, meaning}
+use Rattle.curp_model.specs.Master.{MasterState, has}
+use Rattle.curp_cmd.specs.Node.{manager_node}
+use Rattle.curp_msg.specs.Moved.{says}
+use Rattle.curp_model.specs.Named.{IsBackup, IsMaster}
+use Rattle.curp_model.specs.Recovery.{Serving}
+use Rattle.curp_cmd.specs.Hash.{hashes}
+use Rattle.curp_model.specs.Table.{check}
+use Rattle.curp_model.specs.World.{World}
+
+-- the manager was told that each backup of the list has the whole log
+pub record RecoveredTo (w : World) (l : Lists) : Type 0 where
+  pub order : Recover
+  pub ordered : WasSent w (says manager_node l.master (body.Recover order))
+  pub its_version : order.version ≡ l.version
+  pub told : WasSent w (says l.master manager_node (body.Recovered (record { part = l.part; epoch = l.epoch })))
+
+-- lists that are told to be complete, or are of the opening
+pub record IsReady (w : World) (l : Lists) : Type 0 where
+  pub given : IsGiven w l
+  pub told : (l.version ≡ 1) ⊎ (WasSent w (says l.master manager_node (body.Prepared l.version)) ⊎ RecoveredTo w l)
+
+-- a backup has so many entries
+abbrev pub HasMany : World → ℕ → NodeId → Type 0
+HasMany w n node = (b : BackupState) → IsBackup w node b → n ≤ length b.log
+
+-- each backup of each ready list of the master, from a version on, has so many
+abbrev pub Reach : World → NodeId → ℕ → ℕ → Type 0
+Reach w node version n = (l : Lists) → IsReady w l → l.master ≡ node → version ≤ l.version → Each (HasMany w n) l.backups
+
+-- each backup of the list has all that its master has
+abbrev pub Whole : World → Lists → Type 0
+Whole w l = (its : Logged) → HasLog w l.master its → Each (HasMany w (length its.log)) l.backups
+
+-- a backup of that name is there
+abbrev pub IsThere : World → NodeId → Type 0
+IsThere w node = (b : BackupState) × IsBackup w node b
+
+-- what an entry says of a request
+abbrev pub Tells : ℕ → ℕ → List Entry → ℕ → RequestId → Answer → Entry → Type 0
+Tells lo hi log index id a (Op r acknowledged) = (r.id ≡ id) × (answer_after lo hi (take index log) r.command ≡ a)
+Tells lo hi log index id a (Give migration brought) = IsAmong (id, a) brought.table.records
+Tells lo hi log index id a _ = ⊥
+
+-- the request stands at an index with that answer, as an Op or brought by a Give
+pub record StandsAt (lo hi : ℕ) (log : List Entry) (id : RequestId) (a : Answer) : Type 0 where
+  pub index : ℕ
+  pub entry : Entry
+  pub stands : At log index entry
+  pub tells : Tells lo hi log index id a entry
+
+-- ---- what is said
+
+-- SYNCED
+pub record SyncedSaid (w : World) (from : NodeId) (r : Reply) : Type 0 where
+  pub lists : Lists
+  pub adopted : WasAdopted w lists
+  pub its_master : lists.master ≡ from
+  pub its_version : lists.version ≡ r.version
+  pub l : Logged
+  pub its_log : HasLog w from l
+  pub stands : StandsAt (lo_of w lists.part) (hi_of w lists.part) l.log r.id r.answer
+  pub reach : Reach w from r.version (stands.index + 1)
+
+-- EARLY
+pub record EarlySaid (w : World) (from : NodeId) (r : Reply) : Type 0 where
+  pub lists : Lists
+  pub adopted : WasAdopted w lists
+  pub its_master : lists.master ≡ from
+  pub its_version : lists.version ≡ r.version
+  pub l : Logged
+  pub its_log : HasLog w from l
+  pub index : ℕ
+  pub request : Request
+  pub acknowledged : ℕ
+  pub stands : At l.log index (Op request acknowledged)
+  pub its_id : request.id ≡ r.id
+  pub its_answer : answer_after (lo_of w lists.part) (hi_of w lists.part) (take index l.log) request.command ≡ r.answer
+  pub free : (m : MasterState) → IsMaster w from (Serving m) → has index m.free ≡ true
+  pub synced : ℕ
+  pub below : synced ≤ index
+  pub apart : (k : ℕ) (e : Entry) → synced ≤ k → k < index → At l.log k e → Each (λ h. entry_touches e h ≡ false) (hashes request.command)
+  pub stored : Each (HasMany w synced) lists.backups
+  pub above : Reach w from (r.version + 1) (index + 1)
+
+-- GC, for one id
+pub record GcSaid (w : World) (from to : NodeId) (g : Gc) (id : RequestId) : Type 0 where
+  pub lists : Lists
+  pub adopted : WasAdopted w lists
+  pub its_master : lists.master ≡ from
+  pub its_epoch : lists.epoch ≡ g.epoch
+  pub its_witness : IsAmong to lists.witnesses
+  pub l : Logged
+  pub its_log : HasLog w from l
+  pub count : ℕ
+  pub collectable : IsCollectable (check (meaning (lo_of w lists.part) (hi_of w lists.part) (take count l.log)).table id)
+  pub reach : Reach w from lists.version count
