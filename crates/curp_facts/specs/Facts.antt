@@ -23,9 +23,12 @@ use Rattle.curp_msg.specs.declared.body.Parcel.{Parcel}
 use Rattle.curp_msg.specs.declared.body.Prepare.{Prepare}
 use Rattle.curp_msg.specs.declared.body.Recover.{Recover}
 use Rattle.curp_msg.specs.declared.body.Reply.{Reply}
+use Rattle.curp_msg.specs.declared.body.TakeOut.{TakeOut}
 use Rattle.curp_msg.specs.declared.config.Config.{Config}
 use Rattle.curp_msg.specs.declared.config.PartConfig.{PartConfig}
 use Rattle.curp_msg.specs.declared.message.Message.{Message}
+use Rattle.curp_range.specs.Spans.{Span, with_range, without}
+use Rattle.curp_model.specs.declared.Mode.TheVariants as mode
 use Rattle.curp_model.specs.Backup.{BackupState}
 use Rattle.curp_model.specs.Client.{Attempt, ClientState, Pending}
 use Rattle.curp_model.specs.Log.{IsDone, Stands}
@@ -117,9 +120,39 @@ pub record WasAdopted (w : World) (l : Lists) : Type 0 where
   pub given : IsGiven w l
   pub told : (l.version ≡ 1) ⊎ WasSent w (says manager_node l.master (body.Adopted (record { part = l.part; epoch = l.epoch; version = l.version })))
 
+-- they were adopted before the message of that place was sent
+pub record AdoptedBefore (w : World) (place : ℕ) (l : Lists) : Type 0 where
+  pub given : IsGiven w l
+  pub told : (l.version ≡ 1)
+      ⊎ ((k : ℕ) × (k < place) × At (messages w) k (says manager_node l.master (body.Adopted (record { part = l.part; epoch = l.epoch; version = l.version }))))
+
 -- the present entry of a partition
 abbrev pub IsAdoptedNow : World → PartConfig → Type 0
 IsAdoptedNow w c = numbered w.manager.config.parts c.part ≡ Some c
+
+-- ---- what the manager ordered
+
+-- a master that was given lists of the partition
+pub record IsMasterOf (w : World) (part : ℕ) (node : NodeId) : Type 0 where
+  pub lists : Lists
+  pub given : IsGiven w lists
+  pub its_master : lists.master ≡ node
+  pub its_part : lists.part ≡ part
+
+-- the manager has sent it to a master of the partition
+pub record WasOrdered (w : World) (part : ℕ) (b : Body) : Type 0 where
+  pub node : NodeId
+  pub is : IsMasterOf w part node
+  pub sent : WasSent w (says manager_node node b)
+
+-- the ranges of a partition at some time: those of the opening, without what was ordered to be taken out of it, and with what
+-- was ordered to be taken out of another one
+pub data WereRanges (w : World) : ℕ → List Span → Type 0 where
+  Opened : (k : ℕ) (c : PartConfig) → At (opening_config w.manager.shape).parts k c → WereRanges w c.part c.ranges
+  TakenFrom : (part : ℕ) (spans : List Span) (order : TakeOut) → WereRanges w part spans → WasOrdered w part (body.TakeOut order)
+      → WereRanges w part (without spans order.lo order.hi)
+  GivenTo : (part other : ℕ) (spans : List Span) (order : TakeOut) → WereRanges w part spans → WasOrdered w other (body.TakeOut order)
+      → WereRanges w part (with_range spans order.lo order.hi)
 
 -- ---- completable, and good pairs
 
@@ -197,23 +230,28 @@ abbrev pub AppendAnswerOk : World → NodeId → NodeId → Appended → AppendA
 AppendAnswerOk w from to a (Stored long) = StoredOk w from to a.epoch a.round long
 AppendAnswerOk w from to a _ = ⊤
 
--- the log is that backup's for good
+-- the log is that backup's for good: it is fenced above the epoch of its lists
 pub record FencedLogOk (w : World) (from : NodeId) (epoch : ℕ) (entries : List Entry) : Type 0 where
   pub b : BackupState
   pub is : IsBackup w from b
   pub its_log : b.log ≡ entries
   pub fenced : epoch ≤ b.fence
+  pub lists : Lists
+  pub given : IsGiven w lists
+  pub its_backup : IsAmong from lists.backups
+  pub earlier : lists.epoch < epoch
 
 -- what a backup's answer to a fence says
 abbrev pub FenceReplyOk : World → NodeId → ℕ → FenceReply → Type 0
 FenceReplyOk w from epoch (Log entries) = FencedLogOk w from epoch entries
 FenceReplyOk w from epoch _ = ⊤
 
--- the requests are that witness's for good
+-- the requests are that witness's for good: it is frozen
 pub record FrozenOk (w : World) (from : NodeId) (requests : List Request) : Type 0 where
   pub x : WitnessState
   pub is : IsWitness w from x
   pub its_requests : frozen_requests x ≡ requests
+  pub frozen : x.mode ≡ mode.Frozen
 
 -- the id is held, or a collection of that epoch which lists it was sent to that witness
 pub record HeldBy (w : World) (from : NodeId) (id : RequestId) : Type 0 where
@@ -268,15 +306,18 @@ GiveStands migration log = (carried : Package) × IsAmong (Give migration carrie
 abbrev pub FromPart : World → NodeId → ((p : ℕ) → Type 0) → Type 0
 FromPart w from P = (l : Lists) → IsGiven w l → l.master ≡ from → P l.part
 
--- every fresh backup has the whole log as it was at Recovered: the replay over the backup and the witness that were named
+-- every fresh backup has the whole log as it was at Recovered: the replay over the backup and the witness that were named,
+-- of which nothing changes any more
 pub record RecoveredOk (w : World) (from : NodeId) (epoch : ℕ) : Type 0 where
   pub order : Recover
   pub sent : WasSent w (says manager_node from (body.Recover order))
   pub its_epoch : order.epoch ≡ epoch
   pub b : BackupState
   pub its_backup : IsBackup w order.backup b
+  pub fenced : epoch ≤ b.fence
   pub x : WitnessState
   pub its_witness : IsWitness w order.witness x
+  pub frozen : x.mode ≡ mode.Frozen
   pub on_all : Each (λ node. (f : BackupState) → IsBackup w node f → IsPrefix (replay order.lo order.hi b.log (frozen_requests x)) f.log) order.backups
 
 -- an entry that may be pushed while a master switches
@@ -317,9 +358,14 @@ pub record PreparedOk (w : World) (from : NodeId) (version : ℕ) : Type 0 where
   pub on_all : Each (λ node. (b : BackupState) → IsBackup w node b → IsPrefix (take long l.log) b.log) lists.backups
   pub since : (m : MasterState) → IsMaster w from (Serving m) → m.version < version → Each IsOnlyExpire (drop long m.log)
 
+-- an entry of a configuration was adopted, with ranges that its partition had
+pub record EntryWas (w : World) (c : PartConfig) : Type 0 where
+  pub adopted : WasAdopted w (lists_of_part c)
+  pub ranges : WereRanges w c.part c.ranges
+
 -- each entry of a configuration is one that was adopted
 abbrev pub ConfigOk : World → Config → Type 0
-ConfigOk w config = Each (λ c. WasAdopted w (lists_of_part c)) config.parts
+ConfigOk w config = Each (EntryWas w) config.parts
 
 -- it is a master that had lists of that epoch, and of that version
 pub record Speaks (w : World) (from : NodeId) (epoch version : ℕ) : Type 0 where
@@ -368,12 +414,15 @@ pub record MessageOk (w : World) (m : Message) : Type 0 where
   pub addressee : IsNode w m.to
   pub says_so : BodyOk w m.from m.to m.body
 
--- a recovering master's log, once it has one, is the replay over the backup and the witness that its order named
+-- a recovering master's log, once it has one, is the replay over the backup and the witness that its order named: the one is
+-- fenced, the other frozen
 pub record ReplayOk (w : World) (s : RecoveryState) (r : Replayed) : Type 0 where
   pub b : BackupState
   pub its_backup : IsBackup w s.order.backup b
+  pub fenced : s.order.epoch ≤ b.fence
   pub x : WitnessState
   pub its_witness : IsWitness w s.order.witness x
+  pub frozen : x.mode ≡ mode.Frozen
   pub is : r.log ≡ replay s.order.lo s.order.hi b.log (frozen_requests x)
   pub its_cut : r.cut ≡ length b.log
 

@@ -37,7 +37,7 @@ use Rattle.curp_model.specs.declared.Check.{Check}
 use Rattle.curp_model.specs.declared.Mode.TheVariants as mode
 use Rattle.curp_model.specs.declared.Check.TheVariants.{Expired, Stale, Known, New}
 use Rattle.curp_model.specs.Backup.{BackupState}
-use Rattle.curp_facts.specs.Facts.{WasSent, IsAmong, lo_of, hi_of, Logged, HasLog, Lists, IsGiven, WasAdopted, IsAdoptedNow, SaidOk, PairsGood, reply_message}
+use Rattle.curp_facts.specs.Facts.{WasSent, IsAmong, lo_of, hi_of, Logged, HasLog, Lists, IsGiven, AdoptedBefore, WasAdopted, IsAdoptedNow, SaidOk, PairsGood, reply_message}
 use Rattle.curp_model.specs.Log.{IsLog, IsDone, LogState, entry_touches, meaning}
 use Rattle.curp_model.specs.Manager.{Migration}
 use Rattle.curp_model.specs.Marks.{Mark, Looked, shown}
@@ -117,13 +117,13 @@ IsCollectable (Stale first) = ⊤
 IsCollectable Expired = ⊤
 IsCollectable New = ⊥
 
--- After so many entries the id stands in the log, or is stale or expired, and every backup of the list that the master had,
--- and of each later list of the epoch, has so many
-pub record CollectionOk (w : World) (node to : NodeId) (epoch : ℕ) (id : RequestId) : Type 0 where
+-- After so many entries the id stands in the log, or is stale or expired, and every backup of a list that was adopted before
+-- the collection was sent, and of each later list of the epoch, has so many
+pub record CollectionOk (w : World) (place : ℕ) (node to : NodeId) (epoch : ℕ) (id : RequestId) : Type 0 where
   pub lists : Lists
   pub its_epoch : lists.epoch ≡ epoch
   pub its_witness : IsAmong to lists.witnesses
-  pub adopted : WasAdopted w lists
+  pub adopted : AdoptedBefore w place lists
   pub its_master : lists.master ≡ node
   pub its : Logged
   pub its_log : HasLog w node its
@@ -134,7 +134,8 @@ pub record CollectionOk (w : World) (node to : NodeId) (epoch : ℕ) (id : Reque
 
 -- each id of a collection may be collected
 abbrev pub CollectionsOk : World → Type 0
-CollectionsOk w = (node to : NodeId) (gc : Gc) → WasSent w (says node to (body.Gc gc)) → Each (CollectionOk w node to gc.epoch) gc.ids
+CollectionsOk w = (place : ℕ) (node to : NodeId) (gc : Gc) → At (messages w) place (says node to (body.Gc gc))
+    → Each (CollectionOk w place node to gc.epoch) gc.ids
 
 -- ---- first numbers
 
@@ -271,11 +272,12 @@ pub record StoresTogether (w : World) : Type 0 where
 
 -- ---- values, and captures that wait
 
--- a mark is kept, and one thread at that mark gives the value
-pub record ValueMarked (w : World) (part epoch capture : ℕ) (id : RequestId) (a : Answer) : Type 0 where
+-- the mark of that master's capture is kept, and one thread at that mark gives the value
+pub record ValueMarked (w : World) (master : NodeId) (part epoch capture : ℕ) (id : RequestId) (a : Answer) : Type 0 where
   pub place : ℕ
   pub mark : Mark
   pub stands : At w.marks place mark
+  pub its_master : mark.master ≡ master
   pub its_part : mark.part ≡ part
   pub its_epoch : mark.epoch ≡ epoch
   pub its_id : mark.id ≡ id
@@ -286,7 +288,7 @@ pub record ValueMarked (w : World) (part epoch capture : ℕ) (id : RequestId) (
 -- each value that was sent has its mark
 abbrev pub ValuesMarked : World → Type 0
 ValuesMarked w = (l : Lists) → IsGiven w l → (v : Worth) → WasSent w (says l.master (client_node v.id.client) (body.Worth v))
-    → ValueMarked w l.part l.epoch v.capture v.id v.answer
+    → ValueMarked w l.master l.part l.epoch v.capture v.id v.answer
 
 -- neither what the master knows of the backup nor any answer that the backup sent is of that round
 pub record NeverSoLate (w : World) (l : Lists) (m : MasterState) (c : Captured) (node : NodeId) : Type 0 where
@@ -311,7 +313,7 @@ pub record PassedBy (w : World) (l : Lists) (m : MasterState) (c : Captured) : T
 -- each capture that waits is marked or passed by
 abbrev pub CapturesOk : World → Type 0
 CapturesOk w = (l : Lists) → IsGiven w l → (m : MasterState) → IsMaster w l.master (Serving m)
-    → Each (λ c. ValueMarked w l.part l.epoch c.number c.id c.answer ⊎ PassedBy w l m c) m.captures
+    → Each (λ c. ValueMarked w l.master l.part l.epoch c.number c.id c.answer ⊎ PassedBy w l m c) m.captures
 
 -- ---- all together
 

@@ -10,7 +10,6 @@ use Rattle.curp_cmd.specs.declared.node.NodeId.{NodeId}
 use Rattle.curp_msg.specs.declared.body.Body.TheVariants as body
 use Rattle.curp_msg.specs.declared.body.Recover.{Recover}
 use Rattle.curp_msg.specs.declared.body.Reply.{Reply}
-use Rattle.curp_msg.specs.declared.body.Gc.{Gc}
 use Rattle.curp_model.specs.Backup.{BackupState}
 use Rattle.curp_facts.specs.Facts.{IsAmong, IsGiven, HasLog, Lists, Logged, WasAdopted, WasSent, hi_of, lo_of}
 use Rattle.curp_facts.specs.Kept.{IsCollectable}
@@ -67,7 +66,7 @@ pub record StandsAt (lo hi : ℕ) (log : List Entry) (id : RequestId) (a : Answe
 
 -- ---- what is said
 
--- SYNCED
+-- a synced reply: its id stands with its answer in the log of its sender, on each backup of each ready list from that version on
 pub record SyncedSaid (w : World) (from : NodeId) (r : Reply) : Type 0 where
   pub lists : Lists
   pub adopted : WasAdopted w lists
@@ -78,7 +77,9 @@ pub record SyncedSaid (w : World) (from : NodeId) (r : Reply) : Type 0 where
   pub stands : StandsAt (lo_of w lists.part) (hi_of w lists.part) l.log r.id r.answer
   pub reach : Reach w from r.version (stands.index + 1)
 
--- EARLY
+-- an unsynced reply: a free Op of its id with its answer stands in the log of its sender. No entry touches its hashes between what
+-- was synced then, which each backup of that version's list has, and its index, and each backup of each later list that is ready
+-- has it
 pub record EarlySaid (w : World) (from : NodeId) (r : Reply) : Type 0 where
   pub lists : Lists
   pub adopted : WasAdopted w lists
@@ -99,15 +100,11 @@ pub record EarlySaid (w : World) (from : NodeId) (r : Reply) : Type 0 where
   pub stored : Each (HasMany w synced) lists.backups
   pub above : Reach w from (r.version + 1) (index + 1)
 
--- GC, for one id
-pub record GcSaid (w : World) (from to : NodeId) (g : Gc) (id : RequestId) : Type 0 where
-  pub lists : Lists
-  pub adopted : WasAdopted w lists
-  pub its_master : lists.master ≡ from
-  pub its_epoch : lists.epoch ≡ g.epoch
-  pub its_witness : IsAmong to lists.witnesses
+-- after so many entries of its master's log the id may be collected, and each backup of each ready list, from these lists on,
+-- has so many
+pub record GcSaid (w : World) (lists : Lists) (id : RequestId) : Type 0 where
   pub l : Logged
-  pub its_log : HasLog w from l
+  pub its_log : HasLog w lists.master l
   pub count : ℕ
   pub collectable : IsCollectable (check (meaning (lo_of w lists.part) (hi_of w lists.part) (take count l.log)).table id)
-  pub reach : Reach w from lists.version count
+  pub reach : Reach w lists.master lists.version count
