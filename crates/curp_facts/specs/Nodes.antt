@@ -108,17 +108,17 @@ pub record ServingOk (w : World) (node : NodeId) (m : MasterState) : Type 0 wher
 
 -- ---- masters that don't serve yet
 
--- the log that came is the named backup's for good
+-- the log that came is the named backup's for good, and a log of the partition
 abbrev pub CameLog : World → RecoveryState → Option (List Entry) → Type 0
 CameLog w s None = ⊤
-CameLog w s (Some entries) = FencedLogOk w s.order.backup s.order.epoch entries
+CameLog w s (Some entries) = FencedLogOk w s.order.backup s.order.epoch entries × LogOk w s.order.part entries
 
--- the requests that came are the named witness's for good
+-- the requests that came are the named witness's for good, and updates that were invoked
 abbrev pub CameRequests : World → RecoveryState → Option (List Request) → Type 0
 CameRequests w s None = ⊤
-CameRequests w s (Some requests) = FrozenOk w s.order.witness requests
+CameRequests w s (Some requests) = FrozenOk w s.order.witness requests × Each (UpdateOk w) requests
 
--- what was replayed is a log, and each backup that is said to be complete has it whole
+-- what was replayed is a log, and each backup that is known to be complete has it whole
 pub record ReplayedOk (w : World) (s : RecoveryState) (r : Replayed) : Type 0 where
   pub replayed : ReplayOk w s r
   pub log : LogOk w s.order.part r.log

@@ -109,9 +109,9 @@ IsTakeOf migration taken e = e ≡ Take migration taken
 abbrev pub IsGiveFrom : ℕ → Entry → Type 0
 IsGiveFrom migration e = (number : ℕ) × (given : Package) × (migration ≤ number) × (e ≡ Give number given)
 
--- the sender was ordered to recover from that node, at that epoch
+-- the master was ordered to recover, by an order of which something holds
 abbrev pub IsOrderedTo : World → NodeId → (Recover → Type 0) → Type 0
-IsOrderedTo w from Has = (order : Recover) × WasSent w (says manager_node from (body.Recover order)) × Has order
+IsOrderedTo w master Has = (order : Recover) × WasSent w (says manager_node master (body.Recover order)) × Has order
 
 -- ---- from backups and witnesses
 
@@ -162,7 +162,7 @@ Says w place from to (body.Appended a) = AppendedSaid w from to a × AppendHolds
 Says w place from to (body.Gc g) = GcHolds w place from to g
 Says w place from to (body.Collected c) = SuspectsHold w c.answer
 Says w place from to (body.Fence epoch) = IsOrderedTo w from (λ o. (o.epoch ≡ epoch) × (o.backup ≡ to))
-Says w place from to (body.FenceAnswer a) = FenceReplyOk w from a.epoch a.answer
+Says w place from to (body.FenceAnswer a) = IsOrderedTo w to (λ o. (o.epoch ≡ a.epoch) × (o.backup ≡ from)) × FenceReplyOk w from a.epoch a.answer
 Says w place from to (body.Freeze epoch) = IsOrderedTo w from (λ o. (o.epoch ≡ epoch) × (o.witness ≡ to))
 Says w place from to (body.FrozenAnswer requests) = FrozenOk w from requests
 Says w place from to (body.Recovered r) = RecoveredOk w from r.epoch
