@@ -4,5 +4,14 @@ pub mod Ranges
 pub mod Stores
 pub mod Tables
 pub mod Logs
-pub mod Noted
 pub mod Packages
+pub mod Noted
+pub mod Gives
+pub mod Untouched
+pub mod Replayed
+pub mod ReplayedGives
+pub mod Early
+pub mod Frozen
+pub mod Reaches
+pub mod Behind
+pub mod LogValues

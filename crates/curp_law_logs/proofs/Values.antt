@@ -1,5 +1,5 @@
 -- The value of a key comes from the requests on its hash, and the answer to a command from those on its hashes.
-use Rattle.std.proofs.Common.{◌≡◌, ℕ, suc, Bool, true, false, cond, ◌||◌, List, [], ◌∷◌, ◌++◌, length, refl, ap, sym, subst, ◌∙◌, arith}
+use Rattle.std.proofs.Common.{◌≡◌, ℕ, suc, Bool, true, false, cond, ◌||◌, List, [], ◌∷◌, ◌++◌, length, Some, refl, ap, sym, subst, ◌∙◌, arith}
 use Rattle.std.specs.List.{filter}
 use Rattle.std.specs.Ordering.{eq_by_cmp}
 use Rattle.std.specs.FinMap.{slice_cmp-IsAntisymmetric, nat_cmp-IsAntisymmetric}
@@ -14,7 +14,7 @@ use Rattle.curp_cmd.specs.declared.command.Answer.{Answer}
 use Rattle.curp_cmd.specs.declared.command.Command.{Command}
 use Rattle.curp_cmd.specs.declared.command.Command.TheVariants.{Get, Put, Delete, Incr, Append, CondPut, Multi}
 use Rattle.curp_order.specs.Order.{answers, answers_from, store_after}
-use Rattle.curp_law_logs.specs.Hashes.{Asked, on, value}
+use Rattle.curp_law_logs.specs.Hashes.{Asked, In, on, value}
 use Rattle.curp_law_logs.proofs.Apart.{order, among, Alike, IsLocal, local, with_pairs-alike, hash_among}
 
 -- ---- one command
@@ -62,6 +62,15 @@ not_among c q none = go (among q (keys_of c)) refl
 pub value_stays : (c : Command) (s : Contents) (q : List ℕ) → touches c (hash_of q) ≡ false → map.get (applied s c).after q ≡ map.get s q
 value_stays c s q none = (local c).others s q (not_among c q none)
 
+-- a key that is found among others stands among them
+among_in : (q : List ℕ) (keys : List (List ℕ)) → among q keys ≡ true → In q keys
+among_in q [] e = absurd cc
+among_in q (key ∷ keys) e = go (eq_by_cmp order q key) refl e (among_in q keys)
+  where
+    go : (b : Bool) → eq_by_cmp order q key ≡ b → (b || among q keys) ≡ true → (among q keys ≡ true → In q keys) → In q (key ∷ keys)
+    go true same r later = (0, ap (λ (k : List ℕ). Some k) (sym (tells_apart (slice_cmp-IsAntisymmetric nat_cmp-IsAntisymmetric) q key same)))
+    go false same r later = let m = later r in (suc m.0, m.1)
+
 -- a key of a command has one of its hashes
 pub key_touched : (c : Command) (q : List ℕ) → among q (keys_of c) ≡ true → touches c (hash_of q) ≡ true
 key_touched c q e = hash_among q (keys_of c) e
@@ -80,6 +89,10 @@ read_only s (Incr key) e = absurd cc
 read_only s (Append key more) e = absurd cc
 read_only s (CondPut key expected value) e = absurd cc
 read_only s (Multi pairs) e = absurd cc
+
+-- stores that agree at its keys give a command one answer
+pub answer_local : (s t : Contents) (c : Command) → ((key : List ℕ) → In key (keys_of c) → map.get s key ≡ map.get t key) → (applied s c).answer ≡ (applied t c).answer
+answer_local s t c same = (local c).answer s t (λ q e. same q (among_in q (keys_of c) e))
 
 -- ---- lists of requests
 
@@ -110,9 +123,9 @@ value_same key xs ys s t e same =
     value_from key xs s s refl ∙ ap (λ (zs : List Asked). map.get (store_after s zs) key) same ∙ sym (value_from key ys t s (sym e))
 
 -- the same requests at each hash of a command give it the same answer
-pub answer_local : (c : Command) (xs ys : List Asked) (s t : Contents) → ((q : List ℕ) → touches c (hash_of q) ≡ true → map.get s q ≡ map.get t q)
+pub same_answer : (c : Command) (xs ys : List Asked) (s t : Contents) → ((q : List ℕ) → touches c (hash_of q) ≡ true → map.get s q ≡ map.get t q)
     → ((h : ℕ) → touches c h ≡ true → on h xs ≡ on h ys) → (applied (store_after s xs) c).answer ≡ (applied (store_after t ys) c).answer
-answer_local c xs ys s t begins same =
+same_answer c xs ys s t begins same =
     answer_alike c (store_after s xs) (store_after t ys) (λ q e. value_same q xs ys s t (begins q e) (same (hash_of q) e))
 
 -- requests that change nothing may be left out
