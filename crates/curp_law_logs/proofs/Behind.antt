@@ -69,18 +69,8 @@ behind_more h xs ys none = behind_append h xs ys ∙ behind_kept h (behind h xs)
 pub behind_give : (h : ℕ) (log : List Entry) (migration : ℕ) (p : Package) → is_in p.lo p.hi h ≡ true → (ys : List Entry) → behind h (log ++ Give migration p ∷ ys) ≡ behind h ys
 behind_give h log migration p covers ys = behind_append h log (Give migration p ∷ ys) ∙ ap (λ (b : Bool). behind_from h (cond b [] (behind h log)) ys) covers
 
--- another give is nothing to it
-pub behind_other_give : (h : ℕ) (log : List Entry) (migration : ℕ) (p : Package) → is_in p.lo p.hi h ≡ false → behind h (log ++ Give migration p ∷ []) ≡ behind h log
-behind_other_give h log migration p out = behind_append h log (Give migration p ∷ []) ∙ ap (λ (b : Bool). cond b [] (behind h log)) out
-
 pub behind_op : (h : ℕ) (log : List Entry) (r : Request) (acknowledged : ℕ) → behind h (log ++ Op r acknowledged ∷ []) ≡ (if touches r.command h then behind h log ++ (r.id, r.command) ∷ [] else behind h log)
 behind_op h log r acknowledged = behind_append h log (Op r acknowledged ∷ [])
-
-pub behind_take : (h : ℕ) (log : List Entry) (migration : ℕ) (p : Package) → behind h (log ++ Take migration p ∷ []) ≡ behind h log
-behind_take h log migration p = behind_append h log (Take migration p ∷ [])
-
-pub behind_expire : (h : ℕ) (log : List Entry) (client : ℕ) → behind h (log ++ Expire client ∷ []) ≡ behind h log
-behind_expire h log client = behind_append h log (Expire client ∷ [])
 
 -- ---- what came
 

@@ -15,3 +15,5 @@ pub mod Frozen
 pub mod Reaches
 pub mod Behind
 pub mod LogValues
+pub mod Owned
+pub mod Migrations
