@@ -1,1 +1,4 @@
 pub mod Hashes
+pub mod Standing
+pub mod Gives
+pub mod Migrations
