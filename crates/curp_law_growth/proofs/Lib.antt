@@ -1,3 +1,5 @@
 pub mod Numbered
 pub mod Keepers
 pub mod Masters
+pub mod Recoveries
+pub mod Managers
