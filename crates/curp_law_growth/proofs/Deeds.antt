@@ -28,6 +28,7 @@ module _ (w : World) where
   delivery_meant number None is = tt
   delivery_meant number (Some m) is = let p = place (messages w) number m is in (refl, record { place = p.0; stands = p.2 })
 
+  -- what a step gives a node was meant for it
   pub deed_meant : (s : Step) → IsMeant w (deed_of w s)
   deed_meant (steps.Deliver number) = delivery_meant number (numbered (messages w) number) refl
   deed_meant (steps.Invoke n command) = tt

@@ -1,5 +1,5 @@
 -- One input grows a backup, and a witness.
-use Rattle.std.proofs.Common.{◌≡◌, ◌⊎◌, ◌||◌, ◌∷◌, Bool, cond, not, map, ℕ, ◌≤◌, ◌<◌, true, false, subst, List, [], length, nat_le, nat_lt, refl, arith, Option, Some, None, ◌==◌, sym, ◌∙◌, ap, inl, inr}
+use Rattle.std.proofs.Common.{◌≡◌, ◌⊎◌, ◌||◌, ◌∷◌, Bool, cond, not, map, ℕ, ◌≤◌, ◌<◌, true, false, subst, List, [], length, nat_lt, refl, arith, Option, Some, None, ◌==◌, sym, ◌∙◌, ap, inl, inr}
 use Rattle.std.specs.List.{filter, list_any}
 use Rattle.std.specs.FinMap.Entries.{by_order}
 use Rattle.std.specs.declared.cmp.Ordering.{Ordering}
@@ -28,6 +28,7 @@ use Rattle.curp_facts.specs.Growth.{BackupGrows, WitnessGrows}
 
 -- ---- backups
 
+-- a backup that stays
 pub backup_self : (b : BackupState) → BackupGrows b b
 backup_self b = record { log = prefix_self b.log; fence = omega arith; installed = λ e h. h; fenced = λ e h low. refl; never = λ a e h. absurd (none e a h) }
   where
@@ -77,6 +78,7 @@ fenced b epoch =
 installs_grows : (b : BackupState) (epoch : ℕ) → BackupGrows b (install b epoch)
 installs_grows b epoch = cond_both (nat_lt epoch b.fence) _ _ (BackupGrows b) (λ y. backup_self b) (λ n. installs b epoch b.installed refl n)
 
+-- a message grows a backup
 pub backup_grows : (n : ℕ) (b : BackupState) (from : NodeId) (m : Body) → BackupGrows b (on_backup n b from m).state
 unfolding on_backup
 backup_grows n b from (body.Append a) = appended b a.epoch a.base a.entries
@@ -84,6 +86,7 @@ backup_grows n b from (body.Install epoch) = installs_grows b epoch
 backup_grows n b from (body.Fence epoch) = fenced b epoch
 backup_grows n b from _ = backup_self b
 
+-- and so does any input
 pub backup_input_grows : (n : ℕ) (b : BackupState) (given : Input) → BackupGrows b (backup_input n b given).state
 backup_input_grows n b (input.Local order) = backup_self b
 backup_input_grows n b (input.Message m) = backup_grows n b m.from m.body
@@ -139,9 +142,11 @@ abbrev pub Drops : Body → WitnessState → RequestId → Type 0
 Drops (body.Gc g) x id = (x.epoch ≡ Some g.epoch) × (has_id id g.ids ≡ true)
 Drops _ x id = ⊥
 
+-- a witness that stays
 pub witness_self : (May : RequestId → Type 0) (x : WitnessState) → WitnessGrows May x x
 witness_self May x = record { epoch = λ i e h. h; idle = λ i. i; frozen = λ h. refl; held = λ id h. inl h }
 
+-- what may be dropped may be said more widely
 pub witness_weaker : (May Might : RequestId → Type 0) (x y : WitnessState) → ((id : RequestId) → May id → Might id) → WitnessGrows May x y → WitnessGrows Might x y
 witness_weaker May Might x y f g = record {
   epoch = g.epoch;
@@ -223,6 +228,7 @@ module _ (w : WitnessState) (g : Gc) where
   unfolding gc
   gc_grows = gc_at_grows w.epoch refl
 
+-- a message grows a witness, and a collection alone lets it drop what is listed
 pub witness_grows : (n : ℕ) (w : WitnessState) (from : NodeId) (m : Body) → WitnessGrows (Drops m w) w (on_witness n w from m).state
 unfolding on_witness
 witness_grows n w from (body.Record r) = hold_grows (Drops (body.Record r) w) w r.epoch r.request
@@ -236,6 +242,7 @@ abbrev pub Lets : Input → WitnessState → RequestId → Type 0
 Lets (input.Local order) x id = ⊥
 Lets (input.Message m) x id = Drops m.body x id
 
+-- and so does any input
 pub witness_input_grows : (n : ℕ) (w : WitnessState) (given : Input) → WitnessGrows (Lets given w) w (witness_input n w given).state
 witness_input_grows n w (input.Local order) = witness_self (Lets (input.Local order) w) w
 witness_input_grows n w (input.Message m) = witness_grows n w m.from m.body

@@ -6,3 +6,5 @@ pub mod Recoveries
 pub mod Managers
 pub mod Worlds
 pub mod Reached
+pub mod Prepared
+pub mod Recovered

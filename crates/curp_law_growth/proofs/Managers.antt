@@ -1,12 +1,11 @@
 -- One input grows the manager.
-use Rattle.std.proofs.Common.{◌≡◌, ℕ, ◌==◌, ◌&&◌, ◌||◌, List, [], ◌∷◌, Bool, true, false, nat_le, nat_lt, refl, arith, Option, Some, None}
+use Rattle.std.proofs.Common.{◌≡◌, ℕ, ◌==◌, ◌||◌, List, [], ◌∷◌, Bool, true, false, refl, arith, Option, Some, None}
 use Rattle.std.specs.BTreeSet.{insert_key}
 use Rattle.std.specs.Ordering.{nat_cmp, match_ordering}
 use Rattle.std.specs.declared.cmp.Ordering.{Ordering}
 use Rattle.std.specs.declared.cmp.Ordering.TheVariants.{Less, Equal, Greater}
 use Rattle.curp_model.specs.Master.{has}
 use Rattle.std.proofs.lemmas.Bool.{cond_both, or_right}
-use Rattle.curp_base.specs.Words.{numbered}
 use Rattle.curp_cmd.specs.declared.migration.Package.{Package}
 use Rattle.curp_cmd.specs.declared.node.Keeper.{Keeper}
 use Rattle.curp_cmd.specs.declared.node.Keeper.TheVariants as keeper
@@ -24,12 +23,12 @@ use Rattle.curp_msg.specs.declared.machine.Input.TheVariants as input
 use Rattle.curp_base.specs.Words.{rises_past}
 use Rattle.std.specs.Prelude.{Result, Ok, Err}
 use Rattle.curp_msg.specs.Moved.{Moved, unless_refused}
-use Rattle.curp_model.specs.Ranges.{Range, range_of}
 use Rattle.curp_facts.specs.Growth.{ManagerGrows, NextGrows}
 
 next_self : (n : Next) → NextGrows n n
 next_self n = record { epoch = omega arith; version = omega arith; master = omega arith; backup = omega arith; witness = omega arith; migration = omega arith }
 
+-- a manager that stays
 pub manager_self : (g : ManagerState) → ManagerGrows g g
 manager_self g = record { shape = refl; next = next_self g.next; gone = λ c h. h }
 
@@ -155,14 +154,17 @@ module _ (g : ManagerState) where
   told_goes (local.Expire client) = expire_goes client
   told_goes _ = rests
 
+  -- a message grows the manager
   pub manager_grows : (from : NodeId) (b : Body) → ManagerGrows g (on_manager g from b).state
   unfolding on_manager
   manager_grows from b = ends_goes (heard g from b) (heard_goes from b)
 
+  -- and so does an order
   pub manager_ordered_grows : (order : Local) → ManagerGrows g (manager_ordered g order).state
   unfolding manager_ordered
   manager_ordered_grows order = ends_goes (told g order) (told_goes order)
 
+  -- any input grows the manager
   pub manager_input_grows : (given : Input) → ManagerGrows g (manager_input g given).state
   manager_input_grows (input.Local order) = manager_ordered_grows order
   manager_input_grows (input.Message m) = manager_grows m.from m.body

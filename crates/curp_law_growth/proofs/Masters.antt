@@ -1,5 +1,5 @@
 -- One input grows a serving master.
-use Rattle.std.proofs.Common.{◌≡◌, ℕ, ◌+◌, ◌^◌, ◌==◌, ◌&&◌, ◌||◌, ◌≤◌, Bool, true, false, not, List, [], ◌∷◌, ◌++◌, length, nat_le, nat_lt, slice_get, refl, arith, Option, Some, None, sym, ◌∙◌, subst}
+use Rattle.std.proofs.Common.{◌≡◌, ℕ, ◌+◌, ◌==◌, ◌&&◌, ◌||◌, ◌≤◌, Bool, true, false, not, List, [], ◌∷◌, ◌++◌, length, nat_le, nat_lt, refl, arith, Option, Some, None, sym, ◌∙◌, subst}
 use Rattle.std.specs.List.{list_any}
 use Rattle.std.proofs.lemmas.Bool.{cond_both}
 use Rattle.std.proofs.lemmas.Bool.Decides.{nat_tests}
@@ -8,8 +8,6 @@ use Rattle.curp_base.proofs.Lists.{prefix_self, prefix_push, prefix_trans}
 use Rattle.curp_cmd.specs.declared.command.Command.{Command}
 use Rattle.curp_cmd.specs.declared.command.Command.TheVariants.{Get}
 use Rattle.curp_cmd.specs.declared.command.Request.{Request}
-use Rattle.curp_cmd.specs.declared.command.RequestId.{RequestId}
-use Rattle.curp_cmd.specs.declared.command.Answer.{Answer}
 use Rattle.curp_cmd.specs.declared.entry.Entry.{Entry}
 use Rattle.curp_cmd.specs.declared.entry.Entry.TheVariants.{Op}
 use Rattle.curp_cmd.specs.declared.node.NodeId.{NodeId}
@@ -30,7 +28,7 @@ use Rattle.curp_range.specs.Spans.{is_covered}
 use Rattle.curp_model.specs.declared.Check.{Check}
 use Rattle.curp_model.specs.declared.Check.TheVariants.{Expired, Stale, Known, New}
 use Rattle.curp_model.specs.Log.{LastGive, LastTake}
-use Rattle.curp_model.specs.Master.{MasterState, Phase, Open, Switching, Switch, Wish, AtOnce, WhenSynced, Verdict, Deny, Tell, TellAgain, HoldBack, Execute, adopted_in, all_have, by_message, carries_out, collect_in, executes, give_after, goes_on, has, is_clean, is_open, last_round, on_appended, on_collected, on_expire, on_give, on_read, on_serving, on_stored, on_take, on_update, prepare_in, prepares, push_take, raised, read_command, read_of, read_refusal, serving_ordered, settle, state_of, stored_on, switch_to, sync_in, synced, take_after, told_again, treat, treated, treats, unless_it_ends, verdict}
+use Rattle.curp_model.specs.Master.{MasterState, Phase, Open, Switching, Switch, Wish, AtOnce, WhenSynced, Verdict, Deny, Tell, TellAgain, HoldBack, Execute, adopted_in, all_have, by_message, carries_out, collect_in, executes, give_after, goes_on, is_clean, is_open, last_round, on_appended, on_collected, on_expire, on_give, on_read, on_serving, on_stored, on_take, on_update, prepare_in, prepares, push_take, raised, read_command, read_of, read_refusal, serving_ordered, settle, state_of, stored_on, switch_to, sync_in, synced, take_after, told_again, treat, treated, treats, unless_it_ends, verdict}
 use Rattle.curp_cmd.specs.Node.{is_among}
 use Rattle.curp_base.specs.Words.{rises_past}
 use Rattle.curp_msg.specs.declared.answer.Refusal.{Refusal}
@@ -42,9 +40,11 @@ use Rattle.curp_facts.specs.Growth.{Core, core, CoreGrows, ServesOn, Above}
 
 -- ---- cores
 
+-- a core that stays
 pub core_self : (c : Core) → CoreGrows c c
 core_self c = record { part = refl; epoch = refl; lo = refl; hi = refl; log = prefix_self c.log; round = omega arith; captured = omega arith; free = λ i h. h; version = λ a. omega arith; above = λ a. a }
 
+-- one growth behind another
 pub core_trans : (c d e : Core) → CoreGrows c d → CoreGrows d e → CoreGrows c e
 core_trans c d e p q = record {
   part = q.part ∙ p.part;
@@ -251,6 +251,7 @@ module _ (n : ℕ) (m : MasterState) where
   message_goes from (body.ExpireClient client) = expire_goes client
   message_goes from _ = core_self (core m)
 
+  -- a message grows a serving master
   pub serving_grows : (from : NodeId) (b : Body) → ServesOn m (on_serving n m from b).state
   unfolding on_serving
   serving_grows from b = ends_goes (by_message n m from b) (message_goes from b)
@@ -263,6 +264,7 @@ module _ (n : ℕ) (m : MasterState) where
   collect_goes Open = core_self (core m)
   collect_goes (Switching s) = core_self (core m)
 
+  -- and so does an order
   pub serving_ordered_grows : (order : Local) → ServesOn m (serving_ordered n m order).state
   unfolding serving_ordered
   serving_ordered_grows local.Sync = ends_goes (sync_in n m m.phase) (sync_goes m.phase)

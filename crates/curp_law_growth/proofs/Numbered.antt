@@ -7,6 +7,7 @@ use Rattle.curp_base.proofs.Lists.{at_set_cases, at_set_same, at_set_other, at_r
 use Rattle.curp_msg.specs.declared.message.Message.{Message}
 use Rattle.curp_model.specs.World.{with_batch}
 
+-- one item has a number
 pub numbered_same : {A : Type 0} (xs : List A) (n : ℕ) (x y : A) → numbered xs n ≡ Some x → numbered xs n ≡ Some y → x ≡ y
 numbered_same xs n x y h g = cc
 
@@ -22,6 +23,7 @@ at_place xs k (suc n) x e h = let same : k ≡ n = omega arith in subst (λ (i :
 set_at : {A : Type 0} (xs : List A) (n k : ℕ) (y : A) → n ≡ k + 1 → set xs (n - 1) y ≡ set xs k y
 set_at xs n k y e = let same : n - 1 ≡ k = omega arith in ap (λ (i : ℕ). set xs i y) same
 
+-- what has a number once one item is set
 pub numbered_set_cases : {A : Type 0} (xs : List A) (n : ℕ) (old y : A) → numbered xs n ≡ Some old → (m : ℕ) (x : A) → numbered (set xs (n - 1) y) m ≡ Some x
     → ((m ≢ n) × (numbered xs m ≡ Some x)) ⊎ ((m ≡ n) × (y ≡ x))
 numbered_set_cases {A} xs n old y here m x h =
@@ -33,17 +35,20 @@ numbered_set_cases {A} xs n old y here m x h =
       | inr o ↦ inr (omega (arith, q.1, p.1), o.1)
     ]
 
+-- the item that is set
 pub numbered_set_same : {A : Type 0} (xs : List A) (n : ℕ) (old y : A) → numbered xs n ≡ Some old → numbered (set xs (n - 1) y) n ≡ Some y
 numbered_set_same {A} xs n old y here =
     let p = place xs n old here in
     at_place (set xs (n - 1) y) p.0 n y p.1 (subst (λ (l : List A). At l p.0 y) (sym (set_at xs n p.0 y p.1)) (at_set_same xs p.0 old y p.2))
 
+-- the others
 pub numbered_set_other : {A : Type 0} (xs : List A) (n : ℕ) (old y : A) → numbered xs n ≡ Some old → (m : ℕ) (x : A) → m ≢ n → numbered xs m ≡ Some x → numbered (set xs (n - 1) y) m ≡ Some x
 numbered_set_other {A} xs n old y here m x ne h =
     let p = place xs n old here in
     let q = place xs m x h in
     at_place (set xs (n - 1) y) q.0 m x q.1 (subst (λ (l : List A). At l q.0 x) (sym (set_at xs n p.0 y p.1)) (at_set_other xs p.0 q.0 x y (omega (arith, q.1, p.1)) q.2))
 
+-- all are that one
 pub numbered_replicate : {A : Type 0} (count : ℕ) (x : A) (n : ℕ) (y : A) → numbered (replicate count x) n ≡ Some y → x ≡ y
 numbered_replicate count x n y h = let p = place (replicate count x) n y h in (at_replicate count x p.0 y p.2).1
 
@@ -63,4 +68,3 @@ all_of-push (ys ∷ rest) xs = ap (λ l. ys ++ l) (all_of-push rest xs) ∙ sym 
 pub all_of-kept : (sent : List (List Message)) (out : List Message) → all_of (with_batch sent out) ≡ all_of sent ++ out
 all_of-kept sent [] = sym (append-nil (all_of sent))
 all_of-kept sent (m ∷ more) = all_of-push sent (m ∷ more)
-

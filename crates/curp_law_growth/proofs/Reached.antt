@@ -27,6 +27,7 @@ serves_above Fresh k g was = absurd g
 serves_above (Recovering s) k g was = subst (Above k.version) (sym g.phase) tt
 serves_above (Serving m) k g was = g.above (was m refl)
 
+-- a world that grows stays steady
 pub grows_steady : (w v : World) → Grows w v → Steady w → Steady v
 grows_steady w v g s = record {
   idle = λ n y here. elim (all_back (λ n x. WitnessGrows (Dropped v n x) x) (fresh_witness w.sets w.ways) w.witnesses v.witnesses g.witnesses g.fresh.2 n y here) [
@@ -73,17 +74,20 @@ run_steady : (steps : List Step) (w : World) → Steady w → Steady (run w step
 run_steady [] w s = s
 run_steady (x ∷ steps) w s = run_steady steps (step w x).world (grows_steady w (step w x).world (step_grows w x) s)
 
+-- every world that scripts reach is steady
 pub reached_steady : (h : Header) (steps : List Step) → Steady (world h steps)
 reached_steady h steps = run_steady steps (opening h) (opening_steady h)
 
 -- ---- so versions and epochs grow
 
+-- a serving master's version never falls
 pub version_grows : (w v : World) → Grows w v → Steady w → (n : ℕ) (m k : MasterState) → numbered w.masters n ≡ Some (Serving m) → numbered v.masters n ≡ Some (Serving k) → m.version ≤ k.version
 version_grows w v g s n m k before after =
     let o = g.masters n (Serving m) before in
     let life : LifeGrows (Serving m) (Serving k) = subst (LifeGrows (Serving m)) (numbered_same v.masters n o.0 (Serving k) o.1 after) o.2.life in
     life.version (s.above n m before)
 
+-- a witness's epoch stays
 pub epoch_stays : (w v : World) → Grows w v → Steady w → (n : ℕ) (x y : WitnessState) → numbered w.witnesses n ≡ Some x → numbered v.witnesses n ≡ Some y → (e : ℕ) → x.epoch ≡ Some e → y.epoch ≡ Some e
 epoch_stays w v g s n x y before after e h =
     let o = g.witnesses n x before in

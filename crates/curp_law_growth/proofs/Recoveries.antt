@@ -1,5 +1,5 @@
 -- One input grows a master, be it fresh, recovering or serving.
-use Rattle.std.proofs.Common.{◌≡◌, ℕ, ◌+◌, ◌^◌, ◌&&◌, ◌≤◌, List, length, nat_le, nat_lt, refl, arith, Option, Some, None}
+use Rattle.std.proofs.Common.{◌≡◌, ℕ, ◌+◌, ◌&&◌, ◌≤◌, List, length, nat_le, refl, arith, Option, Some, None}
 use Rattle.std.proofs.lemmas.Bool.{cond_both}
 use Rattle.curp_base.specs.Words.{IsPrefix}
 use Rattle.curp_base.proofs.Lists.{prefix_self}
@@ -99,6 +99,7 @@ module _ (n : ℕ) (o : Recover) where
 
 -- ---- the master as a node
 
+-- a master that stays
 pub master_self : (m : MasterStage) → MasterGrows m m
 master_self Fresh = record { life = tt; log = tt }
 master_self (Recovering s) = record { life = refl; log = log_self (phase_log s.phase) }
@@ -138,18 +139,21 @@ recovering_grows n s from (body.Sync ask) = master_self (Recovering s)
 recovering_grows n s from (body.Read ask) = read_away_grows n (Recovering s) ask.request
 recovering_grows n s from _ = master_self (Recovering s)
 
+-- a message grows a master
 pub master_grows : (n : ℕ) (m : MasterStage) (from : NodeId) (b : Body) → MasterGrows m (on_master n m from b).state
 unfolding on_master
 master_grows n Fresh from b = fresh_grows n b
 master_grows n (Recovering s) from b = recovering_grows n s from b
 master_grows n (Serving m) from b = goes_on_serving m (on_serving n m from b).state (serving_grows n m from b)
 
+-- and so does an order
 pub master_ordered_grows : (n : ℕ) (m : MasterStage) (order : Local) → MasterGrows m (master_ordered n m order).state
 unfolding master_ordered
 master_ordered_grows n Fresh order = master_self Fresh
 master_ordered_grows n (Recovering s) order = recovers s (recovery_ordered n s order).state (ordered_goes n s.order s.phase order)
 master_ordered_grows n (Serving m) order = goes_on_serving m (serving_ordered n m order).state (serving_ordered_grows n m order)
 
+-- any input grows a master
 pub master_input_grows : (n : ℕ) (m : MasterStage) (given : Input) → MasterGrows m (master_input n m given).state
 master_input_grows n m (input.Local order) = master_ordered_grows n m order
 master_input_grows n m (input.Message x) = master_grows n m x.from x.body

@@ -1,5 +1,5 @@
 -- One step grows the world.
-use Rattle.std.proofs.Common.{◌≡◌, ◌≢◌, Bool, true, false, arith, ℕ, zero, suc, ◌-◌, ◌==◌, List, [], ◌∷◌, ◌++◌, set, refl, Option, Some, None, sym, subst, inl, inr}
+use Rattle.std.proofs.Common.{◌≡◌, ◌≢◌, Bool, true, false, arith, ℕ, zero, suc, ◌-◌, ◌==◌, List, ◌++◌, set, refl, Option, Some, None, sym, subst, inl, inr}
 use Rattle.std.specs.Prelude.{replicate, slice_get}
 use Rattle.std.proofs.lemmas.Bool.Decides.{nat_tests}
 use Rattle.curp_base.specs.Words.{At, IsPrefix, all_of, numbered}
@@ -139,6 +139,7 @@ drops_sent w n x (input.Message m) for id d = by_body m.from m.to m.body for.0 f
 fresh_self : (w : World) → NewFresh w w
 fresh_self w = (new_self Fresh w.masters, new_self fresh_backup w.backups, new_self (fresh_witness w.sets w.ways) w.witnesses)
 
+-- a world that stays
 pub grows_self : (w : World) → Grows w w
 grows_self w = record {
   manager = manager_self w.manager;
