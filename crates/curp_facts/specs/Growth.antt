@@ -36,6 +36,7 @@ pub record Core : Type 0 where
   pub free : List ℕ
   pub phase : Phase
 
+-- those fields of a master
 abbrev pub core : MasterState → Core
 core m = record { part = m.part; epoch = m.epoch; version = m.version; lo = m.lo; hi = m.hi; log = m.log; round = m.round; captured = m.captured; free = m.free; phase = m.phase }
 
@@ -57,6 +58,7 @@ pub record CoreGrows (c d : Core) : Type 0 where
   pub version : Above c.version c.phase → c.version ≤ d.version
   pub above : Above c.version c.phase → Above d.version d.phase
 
+-- a serving master goes on
 abbrev pub ServesOn : MasterState → MasterState → Type 0
 ServesOn m k = CoreGrows (core m) (core k)
 
@@ -71,6 +73,7 @@ pub record ServesByOrder (s : RecoveryState) (k : MasterState) : Type 0 where
   pub hi : k.hi ≡ s.order.hi
   pub phase : k.phase ≡ phase.Open
 
+-- a master gets its order once, is adopted once, and serves then for good
 abbrev pub LifeGrows : MasterStage → MasterStage → Type 0
 LifeGrows Fresh (Serving k) = ⊥
 LifeGrows Fresh later = ⊤
@@ -79,6 +82,7 @@ LifeGrows (Recovering s) (Serving k) = ServesByOrder s k
 LifeGrows (Serving m) (Serving k) = ServesOn m k
 LifeGrows _ _ = ⊥
 
+-- a master goes on, and keeps its log
 pub record MasterGrows (m k : MasterStage) : Type 0 where
   pub life : LifeGrows m k
   pub log : LogGrows (node_log m) (node_log k)
@@ -110,6 +114,7 @@ pub record WitnessGrows (May : RequestId → Type 0) (x y : WitnessState) : Type
   pub frozen : x.mode ≡ Frozen → y ≡ x
   pub held : (id : RequestId) → holds x id ≡ true → (holds y id ≡ true) ⊎ May id
 
+-- the next numbers never fall
 pub record NextGrows (n k : Next) : Type 0 where
   pub epoch : n.epoch ≤ k.epoch
   pub version : n.version ≤ k.version
@@ -118,6 +123,7 @@ pub record NextGrows (n k : Next) : Type 0 where
   pub witness : n.witness ≤ k.witness
   pub migration : n.migration ≤ k.migration
 
+-- the manager keeps its shape, and who is gone stays so
 pub record ManagerGrows (g k : ManagerState) : Type 0 where
   pub shape : k.shape ≡ g.shape
   pub next : NextGrows g.next k.next
@@ -131,9 +137,11 @@ AllGrow {S} G xs ys = (n : ℕ) (x : S) → numbered xs n ≡ Some x → (y : S)
 abbrev pub AllNew : {S : Type 0} → S → List S → List S → Type 0
 AllNew {S} fresh xs ys = (n : ℕ) (y : S) → numbered xs n ≡ None → numbered ys n ≡ Some y → y ≡ fresh
 
+-- nodes that are new are fresh
 abbrev pub NewFresh : World → World → Type 0
 NewFresh w v = AllNew Fresh w.masters v.masters × AllNew fresh_backup w.backups v.backups × AllNew (fresh_witness w.sets w.ways) w.witnesses v.witnesses
 
+-- nothing is taken back
 pub record Grows (w v : World) : Type 0 where
   pub manager : ManagerGrows w.manager v.manager
   pub sent : IsPrefix (messages w) (messages v)

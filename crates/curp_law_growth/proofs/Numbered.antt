@@ -1,0 +1,70 @@
+-- Lists that are numbered from 1, where one item is set or more come behind.
+use Rattle.std.proofs.Common.{◌≡◌, ◌≢◌, ◌⊎◌, inl, inr, ℕ, zero, suc, ◌+◌, ◌-◌, Bool, true, List, [], ◌∷◌, ◌++◌, set, replicate, Some, refl, ap, sym, ◌∙◌, subst, arith, append-nil, append_assoc}
+use Rattle.std.specs.List.{list_any}
+use Rattle.std.proofs.lemmas.Bool.{cases_Bool}
+use Rattle.curp_base.specs.Words.{At, numbered, all_of}
+use Rattle.curp_base.proofs.Lists.{at_set_cases, at_set_same, at_set_other, at_replicate}
+use Rattle.curp_msg.specs.declared.message.Message.{Message}
+use Rattle.curp_model.specs.World.{with_batch}
+
+-- one item has a number
+pub numbered_same : {A : Type 0} (xs : List A) (n : ℕ) (x y : A) → numbered xs n ≡ Some x → numbered xs n ≡ Some y → x ≡ y
+numbered_same xs n x y h g = cc
+
+-- an item that has a number stands one place before it
+pub place : {A : Type 0} (xs : List A) (n : ℕ) (x : A) → numbered xs n ≡ Some x → (k : ℕ) × (n ≡ k + 1) × At xs k x
+place xs zero x h = absurd cc
+place xs (suc k) x h = (k, omega arith, h)
+
+at_place : {A : Type 0} (xs : List A) (k n : ℕ) (x : A) → n ≡ k + 1 → At xs k x → numbered xs n ≡ Some x
+at_place xs k zero x e h = absurd (omega arith)
+at_place xs k (suc n) x e h = let same : k ≡ n = omega arith in subst (λ (i : ℕ). At xs i x) same h
+
+set_at : {A : Type 0} (xs : List A) (n k : ℕ) (y : A) → n ≡ k + 1 → set xs (n - 1) y ≡ set xs k y
+set_at xs n k y e = let same : n - 1 ≡ k = omega arith in ap (λ (i : ℕ). set xs i y) same
+
+-- what has a number once one item is set
+pub numbered_set_cases : {A : Type 0} (xs : List A) (n : ℕ) (old y : A) → numbered xs n ≡ Some old → (m : ℕ) (x : A) → numbered (set xs (n - 1) y) m ≡ Some x
+    → ((m ≢ n) × (numbered xs m ≡ Some x)) ⊎ ((m ≡ n) × (y ≡ x))
+numbered_set_cases {A} xs n old y here m x h =
+    let p = place xs n old here in
+    let q = place (set xs (n - 1) y) m x h in
+    let g : At (set xs p.0 y) q.0 x = subst (λ (l : List A). At l q.0 x) (set_at xs n p.0 y p.1) q.2 in
+    elim (at_set_cases xs p.0 y q.0 x g) [
+      | inl o ↦ inl (omega (arith, q.1, p.1), at_place xs q.0 m x q.1 o.1)
+      | inr o ↦ inr (omega (arith, q.1, p.1), o.1)
+    ]
+
+-- the item that is set
+pub numbered_set_same : {A : Type 0} (xs : List A) (n : ℕ) (old y : A) → numbered xs n ≡ Some old → numbered (set xs (n - 1) y) n ≡ Some y
+numbered_set_same {A} xs n old y here =
+    let p = place xs n old here in
+    at_place (set xs (n - 1) y) p.0 n y p.1 (subst (λ (l : List A). At l p.0 y) (sym (set_at xs n p.0 y p.1)) (at_set_same xs p.0 old y p.2))
+
+-- the others
+pub numbered_set_other : {A : Type 0} (xs : List A) (n : ℕ) (old y : A) → numbered xs n ≡ Some old → (m : ℕ) (x : A) → m ≢ n → numbered xs m ≡ Some x → numbered (set xs (n - 1) y) m ≡ Some x
+numbered_set_other {A} xs n old y here m x ne h =
+    let p = place xs n old here in
+    let q = place xs m x h in
+    at_place (set xs (n - 1) y) q.0 m x q.1 (subst (λ (l : List A). At l q.0 x) (sym (set_at xs n p.0 y p.1)) (at_set_other xs p.0 q.0 x y (omega (arith, q.1, p.1)) q.2))
+
+-- all are that one
+pub numbered_replicate : {A : Type 0} (count : ℕ) (x : A) (n : ℕ) (y : A) → numbered (replicate count x) n ≡ Some y → x ≡ y
+numbered_replicate count x n y h = let p = place (replicate count x) n y h in (at_replicate count x p.0 y p.2).1
+
+-- an item that an `any` finds
+pub any_at : {A : Type 0} (p : A → Bool) (xs : List A) → list_any p xs ≡ true → (k : ℕ) × (x : A) × At xs k x × (p x ≡ true)
+any_at p [] h = absurd cc
+any_at p (x ∷ xs) h = elim (cases_Bool (p x)) [
+  | inl y ↦ (0, x, refl, y)
+  | inr n ↦ let r = any_at p xs (rw n at h) in (suc r.0, r.1, r.2, r.3)
+]
+
+all_of-push : {A : Type 0} (lists : List (List A)) (xs : List A) → all_of (lists ++ xs ∷ []) ≡ all_of lists ++ xs
+all_of-push [] xs = append-nil xs
+all_of-push (ys ∷ rest) xs = ap (λ l. ys ++ l) (all_of-push rest xs) ∙ sym (append_assoc ys (all_of rest) xs)
+
+-- what a step sends comes behind all messages
+pub all_of-kept : (sent : List (List Message)) (out : List Message) → all_of (with_batch sent out) ≡ all_of sent ++ out
+all_of-kept sent [] = sym (append-nil (all_of sent))
+all_of-kept sent (m ∷ more) = all_of-push sent (m ∷ more)
