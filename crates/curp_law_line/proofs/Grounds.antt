@@ -12,7 +12,7 @@ use Rattle.curp_cmd.specs.declared.command.Request.{Request}
 use Rattle.curp_cmd.specs.declared.entry.Entry.{Entry}
 use Rattle.curp_cmd.specs.declared.entry.Entry.TheVariants.{Expire, Give, Op, Take}
 use Rattle.curp_cmd.specs.declared.migration.Package.{Package}
-use Rattle.curp_law_line.proofs.Adoptions.{AdoptGround, cut_part}
+use Rattle.curp_law_line.proofs.Adopting.{AdoptGround, cut_part}
 use Rattle.curp_law_line.proofs.Given.{LogValue}
 use Rattle.curp_law_line.proofs.Hashes.{behind_append, on_append}
 use Rattle.curp_law_line.proofs.Lists.{empty_list, from_filter, in_any}

@@ -58,7 +58,7 @@ module _ (pure : Pure) (second : Second) where
       replayed_alone second o.p.lo o.p.hi o.stays (replayed_of o) j q (filter_apart (replays (meaning o.p.lo o.p.hi o.stays)) clash o.held fits.apart) h in
       let ground =
       adopt_ground s ok.owned o fits later (logs.is_log o.part o.p fits.here) (logs.gives_once o.part o.p fits.here) (logs.values o.part o.p fits.here o.stays o.goes (sym fits.is)) alone in
-      record { order = adopt_keeps pure s ok.order ok.owned o fits ground later; owned = later }
+      record { order = adopt_keeps (record { pure = pure; line = s; facts = ok.order; owned = ok.owned; move = o; fits = fits; ground = ground; owned_after = later }); owned = later }
 
   pub keeps : (s : Line) (m : Move) → Fits s m → LogsOk s.parts → LineOk s → LineOk (after s m)
   keeps s (OpPush o) fits logs ok = record {

@@ -16,6 +16,11 @@ pub mod Gives
 pub mod Orders
 pub mod AdoptedMarks
 pub mod Requests
+pub mod Adopting
+pub mod AdoptedOrder
+pub mod AdoptedHashes
+pub mod AdoptedPlaces
+pub mod AdoptedAnswers
 pub mod Adoptions
 pub mod Owning
 pub mod Grounds
