@@ -1,4 +1,5 @@
 -- An adoption keeps the order's equation, at its own partition and at others.
+use Rattle.curp_law_line.proofs.Lists.{or_false}
 use Rattle.std.proofs.Common.{◌≡◌, ◌≢◌, ℕ, ◌||◌, ◌&&◌, inl, inr, ◌⊎◌, Bool, true, false, cond, List, [], ◌++◌, Option, Some, None, refl, ap, sym, ◌∙◌, subst, append-nil, append_assoc}
 use Rattle.std.specs.List.{list_any}
 use Rattle.std.proofs.lemmas.Bool.{cases_Bool, cases_eq, and_from, and_parts, or_cases, or_left, or_parts, or_right}
@@ -40,10 +41,6 @@ module _ (it : Adopting) where
 
   pub behind_new : (h : ℕ) → behind h (new_part it).log ≡ behind h it.move.stays ++ on h (again it)
   behind_new h = behind_append h [] it.move.stays (ops (replayed it)) ∙ behind_asked h (behind h it.move.stays) (ops (replayed it)) (no_new_give h) ∙ ap (λ w. behind h it.move.stays ++ on h w) (asked_of_ops (replayed it))
-
-  pub or_false : (b : Bool) → (b || false) ≡ b
-  or_false true = refl
-  or_false false = refl
 
   pub give_new : (number : ℕ) → list_any (is_give number) (new_part it).log ≡ list_any (is_give number) it.move.stays
   give_new number = list_any-append (is_give number) it.move.stays (ops (replayed it)) ∙ ap (λ (b : Bool). list_any (is_give number) it.move.stays || b) (ops_any (is_give number) (λ r. refl) (replayed it)) ∙ or_false _

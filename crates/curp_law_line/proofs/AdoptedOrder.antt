@@ -1,7 +1,11 @@
 -- An adoption at one hash: the order is what stood before the cut, and behind it first what goes and then what is replayed.
+use Rattle.curp_model.proofs.Logs.{new_by_test}
+use Rattle.curp_law_line.proofs.Hashes.{update_place}
+use Rattle.curp_law_line.proofs.Entries.{take_ungiven}
+use Rattle.curp_law_line.proofs.Lists.{or_false}
 use Rattle.std.proofs.Common.{◌≡◌, ℕ, ◌+◌, ◌||◌, ◌&&◌, inl, inr, ◌⊎◌, Bool, true, false, not, List, [], ◌++◌, length, Option, Some, None, refl, ap, sym, ◌∙◌, subst, arith, append-nil, append_assoc}
 use Rattle.std.specs.List.{IsDistinct, filter, list_any}
-use Rattle.std.proofs.lemmas.Bool.{cases_Bool, and_from, and_parts, or_cases, or_right, eqb-true}
+use Rattle.std.proofs.lemmas.Bool.{cases_Bool, and_from, and_parts, or_cases, or_right}
 use Rattle.std.proofs.lemmas.List.Elements.{filter-append}
 use Rattle.std.proofs.lemmas.List.Folds.{list_any-append}
 use Rattle.curp_base.proofs.Lists.{at_append, at_append_right, at_same}
@@ -13,7 +17,6 @@ use Rattle.curp_cmd.specs.declared.command.Command.{Command}
 use Rattle.curp_cmd.specs.declared.command.Request.{Request}
 use Rattle.curp_cmd.specs.declared.command.RequestId.{RequestId}
 use Rattle.curp_cmd.specs.declared.entry.Entry.{Entry}
-use Rattle.curp_cmd.specs.declared.entry.Entry.TheVariants.{Expire, Give, Op, Take}
 use Rattle.curp_law_line.proofs.AdoptedMarks.{stays}
 use Rattle.curp_law_line.proofs.Hashes.{behind_append, behind_in, no_onward, on_append, update_mark}
 use Rattle.curp_law_line.proofs.Lines.{has_moving}
@@ -24,37 +27,20 @@ use Rattle.curp_law_line.proofs.Orders.{behind_asked, core, distinct_split}
 use Rattle.curp_law_line.proofs.Requests.{asked_all_in, asked_of_in, distinct_asked_all, distinct_asked_of, in_asked_all, one_on, ops_any, owned_ops}
 use Rattle.curp_law_line.proofs.Takes.{onward_ungiven}
 use Rattle.curp_law_line.specs.Hashes.{HashOk, has_take, holds, is_take, onward, owns}
-use Rattle.curp_law_line.specs.Line.{IsCompleted, Line}
-use Rattle.curp_law_line.specs.Moves.{OnlyMoving, Ungiven, ops}
+use Rattle.curp_law_line.specs.Line.{IsCompleted}
+use Rattle.curp_law_line.specs.Moves.{Ungiven, ops}
 use Rattle.curp_law_logs.specs.Hashes.{Asked, In, NoGive, behind, gives, on}
 use Rattle.curp_model.proofs.Filters.{filter_apart}
 use Rattle.curp_model.proofs.Logs.{op_not_new}
 use Rattle.curp_model.specs.Laws.{clash}
-use Rattle.curp_model.specs.Log.{is_new, meaning}
+use Rattle.curp_model.specs.Log.{meaning}
 use Rattle.curp_model.specs.Manager.{Migration}
-use Rattle.curp_model.specs.Marks.{Executed, Looked, Mark, Place, is_update_mark}
+use Rattle.curp_model.specs.Marks.{Mark}
 use Rattle.curp_model.specs.Recovery.{replays}
 use Rattle.curp_model.specs.Table.{check}
-use Rattle.curp_model.specs.declared.Check.{Check}
-use Rattle.curp_model.specs.declared.Check.TheVariants.{Expired, Known, New, Stale}
+use Rattle.curp_model.specs.declared.Check.TheVariants.{New}
 use Rattle.curp_range.specs.Spans.{Span, is_in, is_owned}
 use Rattle.curp_law_line.proofs.Adopting.{Adopting, Fronts, again, cut_part, done, gone, is_done, is_gone, keeps_on, new_part, not_done, order_now, order_was, parts_now, replayed}
-
-pub update_place : (p : Place) → is_update_mark p ≡ true → (i : ℕ) × (p ≡ Executed i)
-update_place (Executed i) e = (i, refl)
-update_place (Looked c l) e = absurd cc
-
-is_new_true : (c : Check) → is_new c ≡ true → c ≡ New
-is_new_true New e = refl
-is_new_true (Known a index) e = absurd cc
-is_new_true (Stale first) e = absurd cc
-is_new_true Expired e = absurd cc
-
-take_ungiven : (s : Line) (n : ℕ) (e : Entry) → is_take n e ≡ true → OnlyMoving s e → Ungiven s.parts n
-take_ungiven s n (Op r a) t only = absurd cc
-take_ungiven s n (Take number k) t only = subst (Ungiven s.parts) (eqb-true number n t) only.3
-take_ungiven s n (Give number k) t only = absurd cc
-take_ungiven s n (Expire c) t only = absurd cc
 
 module _ (it : Adopting) where
   -- ---- what goes
@@ -97,7 +83,7 @@ module _ (it : Adopting) where
   Q_held j q h = filter_at (replays (meaning it.move.p.lo it.move.p.hi it.move.stays)) it.move.held j q h
 
   pub Q_new : (j : ℕ) (q : Request) → At (replayed it) j q → check (meaning it.move.p.lo it.move.p.hi it.move.stays).table q.id ≡ New
-  Q_new j q h = is_new_true _ (and_parts _ _ (Q_held j q h).2).1
+  Q_new j q h = new_by_test _ (and_parts _ _ (Q_held j q h).2).1
 
   pub Q_apart : IsDistinct clash (replayed it)
   Q_apart = filter_apart (replays (meaning it.move.p.lo it.move.p.hi it.move.stays)) clash it.move.held it.fits.apart
@@ -179,10 +165,6 @@ module _ (it : Adopting) where
       go None = refl
       go (Some m) =
           ap (λ (b : Bool). is_in m.range.lo m.range.hi h && b) (list_any-append (is_take m.number) it.move.stays (ops (replayed it)) ∙ ap (λ (b : Bool). list_any (is_take m.number) it.move.stays || b) (ops_any (is_take m.number) (λ r. refl) (replayed it)) ∙ or_false (list_any (is_take m.number) it.move.stays))
-        where
-          or_false : (b : Bool) → (b || false) ≡ b
-          or_false true = refl
-          or_false false = refl
 
   pub owns_new : (h : ℕ) → owns (new_part it) h ≡ owns (cut_part it.move) h
   owns_new h = ap (λ (spans : List Span). is_owned spans h) (owned_ops it.move.p.lo it.move.p.hi it.move.stays (replayed it))
@@ -298,10 +280,6 @@ module _ (it : Adopting) where
             | inl y ↦ absurd (distinct_split X (on h (gone it)) (subst Distinct is (dh h)) x x m (in_filter (λ (z : Asked). touches z.1 h) (gone it) x (S_from x f.0 y) f.1) refl)
             | inr n ↦ or_right (done it x.0) _ (ap not n)
           ]
-
-      or_false : (b : Bool) → (b || false) ≡ b
-      or_false true = refl
-      or_false false = refl
 
       behind_front : (x : Asked) → In x (on h (gone it)) → keeps_on it x ≡ done it x.0
       behind_front x m = let f = from_filter (λ (z : Asked). touches z.1 h) (gone it) x m in ap (λ (b : Bool). done it x.0 || not b) (in_T_from x f.0) ∙ or_false (done it x.0)

@@ -1,7 +1,11 @@
 -- Who owns a hash after an adoption; and what is replayed is answered as it would be alone.
+use Rattle.curp_law_line.proofs.Given.{TakesOnce}
+use Rattle.curp_law_line.proofs.Entries.{take_entry}
+use Rattle.curp_law_line.proofs.Lists.{or_false}
+use Rattle.curp_law_line.proofs.Lists.{some_same}
 use Rattle.std.proofs.Common.{◌≡◌, ◌≢◌, ℕ, ◌+◌, ◌||◌, inl, inr, ◌⊎◌, Bool, true, false, List, [], ◌∷◌, ◌++◌, take, length, Option, Some, refl, ap, sym, ◌∙◌, subst, arith}
 use Rattle.std.specs.List.{AllByRecursion, IsDistinct, list_any}
-use Rattle.std.proofs.lemmas.Bool.{cases_Bool, and_from, and_parts, eq-eqb, eqb-true, or_cases, or_left, or_right}
+use Rattle.std.proofs.lemmas.Bool.{cases_Bool, and_from, and_parts, eq-eqb, or_cases, or_left, or_right}
 use Rattle.std.proofs.lemmas.List.Folds.{list_any-append}
 use Rattle.curp_base.proofs.Lists.{at_append, at_append_right, at_within}
 use Rattle.curp_base.specs.Words.{At, numbered}
@@ -11,7 +15,6 @@ use Rattle.curp_cmd.specs.declared.command.Command.{Command}
 use Rattle.curp_cmd.specs.declared.command.Request.{Request}
 use Rattle.curp_cmd.specs.declared.entry.Entry.{Entry}
 use Rattle.curp_cmd.specs.declared.entry.Entry.TheVariants.{Expire, Give, Op, Take}
-use Rattle.curp_cmd.specs.declared.migration.Package.{Package}
 use Rattle.curp_law_line.proofs.Lines.{has_moving}
 use Rattle.curp_law_line.proofs.Lists.{in_any}
 use Rattle.curp_law_line.proofs.Numbered.{any_at, numbered_set_cases}
@@ -29,24 +32,6 @@ use Rattle.curp_model.specs.Manager.{Migration}
 use Rattle.curp_range.specs.Spans.{Span, is_in, is_owned}
 
 -- a take stands once in a log
-abbrev pub TakesOnce : List Entry → Type 0
-TakesOnce log = (i j number : ℕ) (k l : Package) → At log i (Take number k) → At log j (Take number l) → i ≡ j
-
-some_same : {A : Type 0} {a b : A} → Some a ≡ Some b → a ≡ b
-some_same e = cc
-
-pub take_entry : (n : ℕ) (e : Entry) → is_take n e ≡ true → (k : Package) × (e ≡ Take n k)
-take_entry n (Op r a) t = absurd cc
-take_entry n (Take m k) t = (k, ap (λ (i : ℕ). Take i k) (eqb-true m n t))
-take_entry n (Give m k) t = absurd cc
-take_entry n (Expire c) t = absurd cc
-
-take_ungiven : (s : Line) (n : ℕ) (e : Entry) → is_take n e ≡ true → OnlyMoving s e → Ungiven s.parts n
-take_ungiven s n (Op r a) t only = absurd cc
-take_ungiven s n (Take number k) t only = subst (Ungiven s.parts) (eqb-true number n t) only.3
-take_ungiven s n (Give number k) t only = absurd cc
-take_ungiven s n (Expire c) t only = absurd cc
-
 module _ (s : Line) (ok : Owned s.moving s.parts) (o : Adopt) (fits : AdoptFits s o) (takes_once : TakesOnce o.p.log) where
   abbrev p : Part
   p = o.p
@@ -65,10 +50,6 @@ module _ (s : Line) (ok : Owned s.moving s.parts) (o : Adopt) (fits : AdoptFits 
 
   abbrev after : List Part
   after = relogged s.parts o.part o.p (o.stays ++ ops (replayed_of o))
-
-  or_false : (b : Bool) → (b || false) ≡ b
-  or_false true = refl
-  or_false false = refl
 
   any_new : (q : Entry → Bool) → ((r : Request) → q (Op r 0) ≡ false) → list_any q new.log ≡ list_any q P
   any_new q none = list_any-append q P (ops Q) ∙ ap (λ (b : Bool). list_any q P || b) (ops_any q none Q) ∙ or_false _

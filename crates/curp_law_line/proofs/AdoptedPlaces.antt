@@ -1,4 +1,5 @@
 -- An adoption drops the marks of what goes and isn't flagged, and adds those of what is replayed.
+use Rattle.curp_law_line.proofs.Hashes.{update_place}
 use Rattle.std.proofs.Common.{◌≡◌, ℕ, ◌≤◌, ◌+◌, ◌||◌, ◌&&◌, ◌==◌, nat_le, inl, inr, ◌⊎◌, Bool, true, false, not, List, ◌++◌, length, Some, refl, ap, sym, ◌∙◌, subst, arith}
 use Rattle.std.specs.List.{filter}
 use Rattle.std.proofs.lemmas.Bool.{cases_Bool, and_from, and_parts, or_left, eqb-true, eq-eqb, leb-true}
@@ -22,7 +23,7 @@ use Rattle.curp_law_line.specs.Line.{OpAt}
 use Rattle.curp_law_logs.specs.Hashes.{Asked, In, asked, updates}
 use Rattle.curp_model.specs.Marks.{Executed, Mark, is_past, is_update_mark}
 use Rattle.curp_law_line.proofs.Adopting.{Adopting, done, gone, is_gone, keeps_on, order_now, replayed}
-use Rattle.curp_law_line.proofs.AdoptedOrder.{S_from, at_T, done_completed, update_place}
+use Rattle.curp_law_line.proofs.AdoptedOrder.{S_from, at_T, done_completed}
 
 module _ (it : Adopting) where
   -- ---- the marks

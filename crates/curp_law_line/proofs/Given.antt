@@ -1,5 +1,9 @@
--- Pure lemmas that are proved elsewhere, as one hypothesis.
-use Rattle.std.specs.Prelude.{◌≡◌, ℕ, true, List, [], ◌∷◌, ◌++◌, Some}
+-- What is taken as given: lemmas on values and packages, and what the adopted logs are by themselves.
+use Rattle.curp_model.specs.Log.{IsLog}
+use Rattle.curp_cmd.specs.declared.entry.Entry.TheVariants.{Take}
+use Rattle.curp_cmd.specs.Hash.{conflicts}
+use Rattle.curp_base.specs.Words.{At}
+use Rattle.std.specs.Prelude.{◌≡◌, ℕ, true, false, List, [], ◌∷◌, ◌++◌, Some}
 use Rattle.std.specs.FinMap as store
 use Rattle.curp_base.specs.Words.{numbered}
 use Rattle.curp_cmd.specs.Hash.{hash_of}
@@ -31,3 +35,23 @@ LogValue p = (h : ℕ) → owns p h ≡ true → (key : List ℕ) → hash_of ke
 -- one owned hash is a test of entries alone
 abbrev pub LogsValue : List Part → Type 0
 LogsValue parts = (n : ℕ) (p : Part) → numbered parts n ≡ Some p → LogValue p
+
+-- commands that have no hash in common answer each as it would alone
+abbrev pub Second : Type 0
+Second = (s : Contents) (a b : Command) → conflicts a b ≡ false → (applied (applied s a).after b).answer ≡ (applied s b).answer
+
+-- the take of a migration stands once in a log
+abbrev pub TakesOnce : List Entry → Type 0
+TakesOnce log = (i j number : ℕ) (k l : Package) → At log i (Take number k) → At log j (Take number l) → i ≡ j
+
+-- the give of a migration stands once in a log
+abbrev pub GivesOnce : List Entry → Type 0
+GivesOnce log = (i j number : ℕ) (k l : Package) → At log i (Give number k) → At log j (Give number l) → i ≡ j
+
+-- what lower layers say of each adopted log by itself
+pub record LogsOk (parts : List Part) : Type 0 where
+  pub is_log : (n : ℕ) (p : Part) → numbered parts n ≡ Some p → IsLog p.lo p.hi p.log
+  pub gives_once : (n : ℕ) (p : Part) → numbered parts n ≡ Some p → GivesOnce p.log
+  pub takes_once : (n : ℕ) (p : Part) → numbered parts n ≡ Some p → TakesOnce p.log
+  -- N7, at each cut
+  pub values : (n : ℕ) (p : Part) → numbered parts n ≡ Some p → (front back : List Entry) → front ++ back ≡ p.log → LogValue (record p { log = front })

@@ -1,7 +1,10 @@
 -- What an adoption asks of the logs by themselves, from: the log is one, gives stand once, and the migration in work has its sides.
+use Rattle.curp_law_line.proofs.Given.{GivesOnce}
+use Rattle.curp_law_line.proofs.Entries.{give_of, take_of, give_entry}
+use Rattle.curp_law_line.proofs.Lists.{some_same}
 use Rattle.std.proofs.Common.{◌≡◌, ℕ, zero, suc, ◌<◌, ◌+◌, inl, inr, Bool, true, false, if◌then◌else◌, List, [], ◌∷◌, ◌++◌, take, drop, length, Option, Some, None, refl, ap, sym, ◌∙◌, subst, arith, append_assoc}
 use Rattle.std.specs.List.{list_any}
-use Rattle.std.proofs.lemmas.Bool.{cases_Bool, and_from, and_parts, eqb-true, eq-eqb, or_left, or_parts, or_right}
+use Rattle.std.proofs.lemmas.Bool.{cases_Bool, and_from, and_parts, eq-eqb, or_left, or_parts, or_right}
 use Rattle.std.proofs.lemmas.List.{take-append-drop}
 use Rattle.std.proofs.lemmas.List.Folds.{list_any-append}
 use Rattle.std.proofs.Math.Seq.{take-append-add}
@@ -29,30 +32,6 @@ use Rattle.curp_model.specs.Log.{IsLog, answer_after, meaning}
 use Rattle.curp_model.specs.Manager.{Migration}
 use Rattle.curp_model.specs.Recovery.{replays}
 use Rattle.curp_range.specs.Spans.{Span, is_in, is_owned}
-
--- a give stands once in a log
-abbrev pub GivesOnce : List Entry → Type 0
-GivesOnce log = (i j number : ℕ) (k l : Package) → At log i (Give number k) → At log j (Give number l) → i ≡ j
-
--- ---- what entries are
-
-pub give_of : (h : ℕ) (e : Entry) → gives h e ≡ true → (n : ℕ) × (k : Package) × (e ≡ Give n k) × (is_in k.lo k.hi h ≡ true)
-give_of h (Op r a) g = absurd cc
-give_of h (Take n k) g = absurd cc
-give_of h (Give n k) g = (n, k, refl, g)
-give_of h (Expire c) g = absurd cc
-
-pub take_of : (h : ℕ) (e : Entry) → takes h e ≡ true → (n : ℕ) × (k : Package) × (e ≡ Take n k) × (is_in k.lo k.hi h ≡ true)
-take_of h (Op r a) g = absurd cc
-take_of h (Take n k) g = (n, k, refl, g)
-take_of h (Give n k) g = absurd cc
-take_of h (Expire c) g = absurd cc
-
-pub numbered_give : (number : ℕ) (e : Entry) → is_give number e ≡ true → (k : Package) × (e ≡ Give number k)
-numbered_give number (Op r a) g = absurd cc
-numbered_give number (Take n k) g = absurd cc
-numbered_give number (Give n k) g = (k, ap (λ (i : ℕ). Give i k) (eqb-true n number g))
-numbered_give number (Expire c) g = absurd cc
 
 asked_of_append : (xs ys : List Entry) → asked_of (xs ++ ys) ≡ asked_of xs ++ asked_of ys
 asked_of_append [] ys = refl
@@ -162,9 +141,6 @@ module _ (s : Line) (below : Owned s.moving s.parts) (o : Adopt) (fits : AdoptFi
       let there : At p.log (length P + j) (Give m.number w.1) = subst (λ (n : ℕ). At p.log (length P + j) (Give n w.1)) number (subst (At p.log (length P + j)) w.2 (at_T j e at_j)) in
       let one = gives_once (length P + j) (length P + i) m.number w.1 b there (at_T i _ at_i) in
       omega (arith, one)
-    where
-      some_same : {a b : Migration} → Some a ≡ Some b → a ≡ b
-      some_same e = cc
 
   ground_behind : (h : ℕ) → list_any (gives h) T ≡ true → behind h p.log ≡ on h (asked_of T)
   ground_behind h g =
@@ -222,14 +198,11 @@ module _ (s : Line) (below : Owned s.moving s.parts) (o : Adopt) (fits : AdoptFi
   ground_covers : (h : ℕ) (m : Migration) → s.moving ≡ Some m → is_in m.range.lo m.range.hi h ≡ true → list_any (is_give m.number) T ≡ true → list_any (gives h) T ≡ true
   ground_covers h m is inside g =
       let a = any_at (is_give m.number) T g in
-      let w = numbered_give m.number a.1 a.3 in
+      let w = give_entry m.number a.1 a.3 in
       let only : OnlyMoving s (Give m.number w.0) = subst (OnlyMoving s) w.1 (fits.moving a.0 a.1 a.2) in
       let same : only.0 ≡ m = some_same (sym only.1 ∙ is) in
       let covers : is_in w.0.lo w.0.hi h ≡ true = (λ i. is_in (only.3 i) (only.4 i) h) ∙ ap (λ (x : Migration). is_in x.range.lo x.range.hi h) same ∙ inside in
       in_any (gives h) T a.1 (a.0, a.2) (ap (gives h) w.1 ∙ covers)
-    where
-      some_same : {a b : Migration} → Some a ≡ Some b → a ≡ b
-      some_same e = cc
 
   ground_moving : (h : ℕ) (m : Migration) → s.moving ≡ Some m → list_any (gives h) T ≡ true → list_any (is_give m.number) P ≡ false × (list_any (is_give m.number) T ≡ true)
   ground_moving h m is g =
@@ -240,15 +213,12 @@ module _ (s : Line) (below : Owned s.moving s.parts) (o : Adopt) (fits : AdoptFi
           | inr n ↦ n
           | inl y ↦
               let a = any_at (is_give m.number) P y in
-              let b = numbered_give m.number a.1 a.3 in
+              let b = give_entry m.number a.1 a.3 in
               let one = gives_once a.0 (length P + w.0) m.number b.0 w.2 (subst (At p.log a.0) b.1 (at_P a.0 a.1 a.2)) (at_T w.0 _ there) in
               absurd (omega (arith, at_within P a.0 a.1 a.2, one))
         ],
         in_any (is_give m.number) T (Give m.number w.2) (w.0, there) (eq-eqb m.number m.number refl),
       )
-    where
-      some_same : {a b : Migration} → Some a ≡ Some b → a ≡ b
-      some_same e = cc
 
   ground_owned : (j h : ℕ) (q : Request) → At (replayed_of o) j q → touches q.command h ≡ true → owns (cut_part o) h ≡ true
   ground_owned j h q at t =

@@ -22,14 +22,11 @@ use Rattle.curp_law_logs.specs.Hashes.{Asked, In, NoGive, asked, behind, behind_
 use Rattle.curp_model.proofs.Logs.{meaning_append}
 use Rattle.curp_model.specs.Log.{LogState, after_entry, meaning}
 use Rattle.curp_model.specs.Manager.{Migration}
-use Rattle.curp_model.specs.Marks.{Mark, is_update_mark}
+use Rattle.curp_model.specs.Marks.{Executed, Looked, Mark, Place, is_update_mark}
 use Rattle.curp_range.specs.Spans.{is_in}
 
 pub on_append : (h : ℕ) (xs ys : List Asked) → on h (xs ++ ys) ≡ on h xs ++ on h ys
 on_append h xs ys = filter-append _ xs ys
-
-pub on_one : (h : ℕ) (x : Asked) → touches x.1 h ≡ true → on h (x ∷ []) ≡ x ∷ []
-on_one h x t = ap (λ (b : Bool). cond b (x ∷ []) []) t
 
 pub on_none : (h : ℕ) (x : Asked) → touches x.1 h ≡ false → on h (x ∷ []) ≡ []
 on_none h x t = ap (λ (b : Bool). cond b (x ∷ []) []) t
@@ -43,6 +40,11 @@ update_mark marks k x h =
     let m = in_map asked (filter (λ (m : Mark). is_update_mark m.place) marks) k x h in
     let f = filter_at (λ (m : Mark). is_update_mark m.place) marks k m.0 m.1 in
     (m.0, f.0, f.1, f.2, m.2)
+
+-- an update's mark has an index
+pub update_place : (p : Place) → is_update_mark p ≡ true → (i : ℕ) × (p ≡ Executed i)
+update_place (Executed i) e = (i, refl)
+update_place (Looked c l) e = absurd cc
 
 pub behind_append : (h : ℕ) (kept : List Asked) (xs ys : List Entry) → behind_from h kept (xs ++ ys) ≡ behind_from h (behind_from h kept xs) ys
 behind_append h kept [] ys = refl

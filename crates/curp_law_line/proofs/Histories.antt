@@ -1,5 +1,6 @@
 -- Where each request is an update, the marks are an order of the history.
-use Rattle.std.proofs.Common.{◌≡◌, ℕ, ◌<◌, inl, inr, Bool, true, List, refl, ap, sym, ◌∙◌, subst, arith}
+use Rattle.curp_law_line.proofs.Hashes.{update_place}
+use Rattle.std.proofs.Common.{◌≡◌, ℕ, ◌<◌, inl, inr, true, List, refl, ap, sym, ◌∙◌, subst, arith}
 use Rattle.std.specs.List.{filter}
 use Rattle.std.proofs.lemmas.Bool.{cases_Bool, cases_eq, cases_lt}
 use Rattle.curp_base.proofs.Lists.{at_same}
@@ -13,16 +14,13 @@ use Rattle.curp_law_line.proofs.Hashes.{update_mark}
 use Rattle.curp_law_line.proofs.Lists.{in_map}
 use Rattle.curp_law_line.specs.Line.{Line, OrderOk}
 use Rattle.curp_law_logs.specs.Hashes.{Asked, asked, updates}
-use Rattle.curp_model.specs.Marks.{Executed, Looked, Mark, Place, is_update_mark}
+use Rattle.curp_model.specs.Marks.{Mark, is_update_mark}
 use Rattle.curp_order.specs.Order.{IsOrder, answers}
 use Rattle.curp_order.specs.declared.Event.TheVariants.{Complete, Invoke}
 
 module _ (s : Line) (ok : OrderOk s) (no_reads : (i : ℕ) (id : RequestId) (c : Command) → At s.history i (Invoke id c) → is_update c ≡ true) where
   abbrev os : List Asked
   os = updates s.marks
-
-  is_op : Mark → Bool
-  is_op m = is_update_mark m.place
 
   -- the marks of two requests of the order stand in its order
   in_order : (l k : ℕ) (x y : Asked) → At os l x → At os k y → l < k → (i : ℕ) × (j : ℕ) × (m : Mark) × (o : Mark) × At s.marks i m × At s.marks j o × (i < j) × (asked m ≡ x) × (asked o ≡ y) × (is_update_mark o.place ≡ true)
@@ -35,10 +33,6 @@ module _ (s : Line) (ok : OrderOk s) (no_reads : (i : ℕ) (id : RequestId) (c :
     where
       from_kind : (o : Mark) (j : ℕ) → At s.marks j o → asked o ≡ y → is_update_mark o.place ≡ true
       from_kind o j h e = let v = ok.invoked j o h in sym (ok.kinds j o h) ∙ no_reads v.event o.id o.command v.stands
-
-  place_of : (p : Place) → is_update_mark p ≡ true → (i : ℕ) × (p ≡ Executed i)
-  place_of (Executed i) e = (i, refl)
-  place_of (Looked c l) e = absurd cc
 
   completed_stands : (i : ℕ) (id : RequestId) (a : Answer) → At s.history i (Complete id a) → (k : ℕ) × (c : Command) × At os k (id, c) × At (answers os) k a
   completed_stands i id a h =
@@ -71,7 +65,7 @@ module _ (s : Line) (ok : OrderOk s) (no_reads : (i : ℕ) (id : RequestId) (c :
             let f = in_order l k y x hl hk below in
             let its_id : f.3.id ≡ earlier = ap (λ (z : Asked). z.0) f.8 ∙ xe in
             let hi2 : At s.history i (Complete f.3.id a) = subst (λ (z : RequestId). At s.history i (Complete z a)) (sym its_id) hi in
-            let p = place_of f.3.place f.9 in
+            let p = update_place f.3.place f.9 in
             let done : f.3.completed ≡ true = elim (cases_Bool f.3.completed) [
               | inl t ↦ t
               | inr n ↦ absurd (ok.unflagged f.1 p.0 f.3 f.5 p.1 n (record { event = i; answer = a; stands = hi2 }))

@@ -1,21 +1,19 @@
 -- Each move keeps the order's facts and who owns what; and so do lists of moves, from the opening on.
-use Rattle.std.proofs.Common.{◌≡◌, ℕ, true, false, List, [], ◌∷◌, ◌++◌, Some, None, refl, ap, sym, subst, append-nil}
+use Rattle.curp_law_line.proofs.Given.{LogsOk, Second}
+use Rattle.std.proofs.Common.{◌≡◌, ℕ, true, List, [], ◌∷◌, Some, None, refl, ap, sym, subst, append-nil}
 use Rattle.std.specs.Bool.{⊤}
 use Rattle.std.specs.FinMap as map
 use Rattle.curp_base.specs.Words.{At, numbered}
-use Rattle.curp_cmd.specs.Hash.{conflicts}
-use Rattle.curp_cmd.specs.Store.{Contents, applied}
-use Rattle.curp_cmd.specs.declared.command.Command.{Command}
 use Rattle.curp_cmd.specs.declared.command.Request.{Request}
 use Rattle.curp_cmd.specs.declared.entry.Entry.{Entry}
 use Rattle.curp_cmd.specs.declared.entry.Entry.TheVariants.{Expire, Op, Take}
-use Rattle.curp_law_line.proofs.AdoptedOwners.{TakesOnce, adopt_owned, replayed_alone}
+use Rattle.curp_law_line.proofs.AdoptedOwners.{adopt_owned, replayed_alone}
 use Rattle.curp_law_line.proofs.Adoptions.{adopt_keeps}
 use Rattle.curp_law_line.proofs.Completions.{complete_keeps, flag_keeps}
 use Rattle.curp_law_line.proofs.Expiries.{expire_keeps, look_keeps}
 use Rattle.curp_law_line.proofs.Given.{LogValue, Pure}
 use Rattle.curp_law_line.proofs.Gives.{give_keeps}
-use Rattle.curp_law_line.proofs.Grounds.{GivesOnce, adopt_ground}
+use Rattle.curp_law_line.proofs.Grounds.{adopt_ground}
 use Rattle.curp_law_line.proofs.Hashes.{owned_expire, owned_op}
 use Rattle.curp_law_line.proofs.Invocations.{invoke_keeps, tell_keeps}
 use Rattle.curp_law_line.proofs.Migrations.{given_keeps, migrate_keeps}
@@ -27,25 +25,14 @@ use Rattle.curp_law_line.specs.Line.{Line, OrderOk, Owned}
 use Rattle.curp_law_line.specs.Moves.{Adopt, AdoptFits, Adopts, Completes, ExpirePush, Fits, Flags, GivePush, GivenDone, Invokes, Looks, Migrates, Move, OpPush, TakePush, Told, after, replayed_of}
 use Rattle.curp_model.proofs.Filters.{filter_apart}
 use Rattle.curp_model.specs.Laws.{clash}
-use Rattle.curp_model.specs.Log.{IsLog, meaning}
+use Rattle.curp_model.specs.Log.{meaning}
 use Rattle.curp_model.specs.Recovery.{replays}
 use Rattle.curp_range.specs.Spans.{Span, is_owned}
-
--- what lower layers say of each adopted log by itself
-pub record LogsOk (parts : List Part) : Type 0 where
-  pub is_log : (n : ℕ) (p : Part) → numbered parts n ≡ Some p → IsLog p.lo p.hi p.log
-  pub gives_once : (n : ℕ) (p : Part) → numbered parts n ≡ Some p → GivesOnce p.log
-  pub takes_once : (n : ℕ) (p : Part) → numbered parts n ≡ Some p → TakesOnce p.log
-  -- N7, at each cut
-  pub values : (n : ℕ) (p : Part) → numbered parts n ≡ Some p → (front back : List Entry) → front ++ back ≡ p.log → LogValue (record p { log = front })
 
 -- what is kept
 pub record LineOk (s : Line) : Type 0 where
   pub order : OrderOk s
   pub owned : Owned s.moving s.parts
-
-abbrev pub Second : Type 0
-Second = (s : Contents) (a b : Command) → conflicts a b ≡ false → (applied (applied s a).after b).answer ≡ (applied s b).answer
 
 module _ (pure : Pure) (second : Second) where
   whole_value : (s : Line) → LogsOk s.parts → (n : ℕ) (p : Part) → numbered s.parts n ≡ Some p → LogValue p

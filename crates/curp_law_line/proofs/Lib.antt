@@ -12,6 +12,7 @@ pub mod Expiries
 pub mod Migrations
 pub mod Takes
 pub mod Spans
+pub mod Entries
 pub mod Gives
 pub mod Orders
 pub mod AdoptedMarks

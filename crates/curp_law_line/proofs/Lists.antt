@@ -11,6 +11,9 @@ use Rattle.curp_law_logs.specs.Hashes.{Asked, In}
 pub same_id-alike : (a b : RequestId) → a ≡ b → same_id a b ≡ true
 same_id-alike a b same = ap (same_id a) (sym same) ∙ same_id-self a
 
+pub some_same : {A : Type 0} {a b : A} → Some a ≡ Some b → a ≡ b
+some_same e = cc
+
 pub in_left : {A : Type 0} (xs ys : List A) (x : A) → In x xs → In x (xs ++ ys)
 in_left xs ys x m = (m.0, at_append xs ys m.0 x m.1)
 
@@ -125,6 +128,10 @@ distinct_places (z ∷ xs) d (suc j) zero x y h g same = absurd (Each-at _ xs d.
 distinct_places (z ∷ xs) d (suc j) (suc k) x y h g same = ap suc (distinct_places xs d.1 j k x y h g same)
 
 -- ---- any
+
+pub or_false : (b : Bool) → (b || false) ≡ b
+or_false true = refl
+or_false false = refl
 
 pub or_none : (b : Bool) → (b || (false || false)) ≡ b
 or_none true = refl

@@ -1,4 +1,7 @@
 -- Reads: what an adoption drops doesn't reach below a look that is kept.
+use Rattle.curp_law_line.proofs.Given.{TakesOnce}
+use Rattle.curp_law_line.proofs.Hashes.{update_place}
+use Rattle.curp_law_line.proofs.Entries.{take_entry}
 use Rattle.std.proofs.Common.{◌≡◌, ◌≢◌, ℕ, ◌<◌, ◌≤◌, ◌&&◌, ◌==◌, nat_le, nat_lt, not, inl, inr, ◌⊎◌, Bool, true, false, cond, List, [], ◌∷◌, ◌++◌, length, Some, refl, ap, sym, ◌∙◌, subst, arith}
 use Rattle.std.specs.List.{filter, list_any}
 use Rattle.std.proofs.lemmas.Bool.{cases_Bool, cases_eq, eqb-true, eq-eqb}
@@ -12,7 +15,6 @@ use Rattle.curp_cmd.specs.declared.entry.Entry.TheVariants.{Take}
 use Rattle.curp_cmd.specs.declared.migration.Package.{Package}
 use Rattle.curp_facts.specs.Facts.{IsAmong}
 use Rattle.curp_law_line.proofs.AdoptedMarks.{flagged_stays, stays}
-use Rattle.curp_law_line.proofs.AdoptedOwners.{TakesOnce, take_entry}
 use Rattle.curp_law_line.proofs.Given.{Pure}
 use Rattle.curp_law_line.proofs.Lists.{in_any, in_head, in_tail}
 use Rattle.curp_law_line.proofs.Numbered.{any_at, numbered_same}
@@ -107,18 +109,11 @@ module _ (s : Line) (looks : LooksOk s.parts s.told s.marks) (o : Adopt) (fits :
       at_m : At s.marks (length f) m
       at_m = subst (λ (l : List Mark). At l (length f) m) (sym is) (at_append_right f (m ∷ b) 0 (length f) m (omega arith) refl)
 
-      place : (u : Mark) → is_update_mark u.place ≡ true → (i : ℕ) × (u.place ≡ Executed i)
-      place u e = by_place u.place e
-        where
-          by_place : (p : _) → is_update_mark p ≡ true → (i : ℕ) × (p ≡ Executed i)
-          by_place (Executed i) e = (i, refl)
-          by_place (Looked c l) e = absurd cc
-
       kept : (u : Mark) → In u f → is_update_mark u.place ≡ true → touches u.command h ≡ true → stays o.part (length o.stays) u ≡ true
       kept u n up tu = elim (cases_Bool u.completed) [
         | inl y ↦ flagged_stays o.part (length o.stays) u y
         | inr no_flag ↦
-            let i = place u up in
+            let i = update_place u.place up in
             let at_u : At s.marks n.0 u = subst (λ (l : List Mark). At l n.0 u) (sym is) (at_append f (m ∷ b) n.0 u n.1) in
             elim (looks (length f) n.0 i.0 number long h m u at_m at at_u (at_within f n.0 u n.1) i.1 no_flag t tu) [
               | inl same ↦ elim (cases_eq u.part o.part) [

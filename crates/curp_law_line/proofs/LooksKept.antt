@@ -1,4 +1,5 @@
 -- L1 as the moves go on.
+use Rattle.curp_law_line.proofs.Given.{TakesOnce}
 use Rattle.std.proofs.Common.{◌≡◌, ◌≢◌, ℕ, ◌<◌, inl, inr, ◌⊎◌, true, false, List, [], ◌∷◌, ◌++◌, length, Some, ap, sym, ◌∙◌, subst, arith}
 use Rattle.std.specs.List.{filter}
 use Rattle.std.proofs.lemmas.Bool.{cases_eq}
@@ -10,7 +11,6 @@ use Rattle.curp_cmd.specs.declared.command.Request.{Request}
 use Rattle.curp_cmd.specs.declared.entry.Entry.{Entry}
 use Rattle.curp_cmd.specs.declared.entry.Entry.TheVariants.{Op, Take}
 use Rattle.curp_law_line.proofs.AdoptedMarks.{filter_order, stays}
-use Rattle.curp_law_line.proofs.AdoptedOwners.{TakesOnce}
 use Rattle.curp_law_line.proofs.Completions.{flagging_at}
 use Rattle.curp_law_line.proofs.Looks.{LooksOk, ToldTake, told_low}
 use Rattle.curp_law_line.proofs.Numbered.{numbered_same, numbered_set_other, numbered_set_same}

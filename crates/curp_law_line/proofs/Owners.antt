@@ -1,4 +1,5 @@
 -- Who owns a hash, as the moves go on.
+use Rattle.curp_law_line.proofs.Lists.{some_same}
 use Rattle.std.proofs.Common.{◌≡◌, ℕ, ◌<◌, ◌≤◌, ◌+◌, ◌-◌, min, max, nat_lt, ◌||◌, inl, inr, ◌⊎◌, Bool, true, false, cond, List, [], ◌∷◌, ◌++◌, Option, Some, None, refl, ap, sym, ◌∙◌, subst, arith}
 use Rattle.std.specs.List.{list_any}
 use Rattle.std.proofs.lemmas.Bool.{cases_Bool, and_from, and_parts, eq-eqb, or_cases}
@@ -18,9 +19,6 @@ use Rattle.curp_range.proofs.Ascending.{owned-append, range_bounds}
 use Rattle.curp_range.proofs.Tests.{covers_if_covered}
 use Rattle.curp_range.specs.Spans.{Span, is_in, is_owned, part_above, part_below, without}
 use Rattle.curp_law_line.proofs.Pushes as pushes
-
-some_same : {A : Type 0} {a b : A} → Some a ≡ Some b → a ≡ b
-some_same e = cc
 
 -- ---- an entry that takes and gives nothing
 

@@ -1,15 +1,10 @@
 -- What an op of a log says of its hashes.
-use Rattle.std.proofs.Common.{◌≡◌, ℕ, zero, suc, ◌+◌, ◌==◌, ◌&&◌, Bool, true, false, List, [], ◌∷◌, fold, take, refl, ap, sym, ◌∙◌}
-use Rattle.std.specs.BTreeSet.{insert_key}
+use Rattle.curp_cmd.proofs.Ascendings.{all_ascending}
+use Rattle.std.proofs.Common.{◌≡◌, ℕ, zero, suc, ◌+◌, ◌==◌, ◌&&◌, Bool, true, List, [], ◌∷◌, take, ap, sym, ◌∙◌}
 use Rattle.std.specs.List.{list_all}
-use Rattle.std.specs.Ordering.{nat_cmp, match_ordering}
-use Rattle.std.specs.declared.cmp.Ordering.{Ordering}
-use Rattle.std.specs.declared.cmp.Ordering.TheVariants.{Less, Equal, Greater}
-use Rattle.std.proofs.Math.Bool.{and_comm, and_assoc}
 use Rattle.std.proofs.lemmas.Bool.{and_parts, eqb-true}
-use Rattle.std.proofs.lemmas.Map.Lookups.{exact_unsigned}
 use Rattle.curp_base.specs.Words.{At}
-use Rattle.curp_cmd.specs.Hash.{ascending, hashes, hashes_of, touches}
+use Rattle.curp_cmd.specs.Hash.{hashes, hashes_of, touches}
 use Rattle.curp_cmd.specs.declared.command.Command.{Command}
 use Rattle.curp_cmd.specs.declared.command.Request.{Request}
 use Rattle.curp_cmd.specs.declared.entry.Entry.{Entry}
@@ -19,29 +14,6 @@ use Rattle.curp_model.specs.Log.{IsLog, LogState, after_entries, after_entry, al
 use Rattle.curp_model.specs.Ranges.{owns_all}
 use Rattle.curp_model.specs.Table.{check}
 use Rattle.curp_range.specs.Spans.{Span, is_owned}
-
-and_again : (a b : Bool) → (a && b) ≡ ((a && b) && a)
-and_again true true = refl
-and_again true false = refl
-and_again false b = refl
-
-all_inserted : (p : ℕ → Bool) (xs : List ℕ) (k : ℕ) → list_all p (insert_key nat_cmp xs k) ≡ (list_all p xs && p k)
-all_inserted p [] k = and_comm (p k) true
-all_inserted p (x ∷ xs) k = go (nat_cmp k x) refl (all_inserted p xs k)
-  where
-    go : (r : Ordering) → nat_cmp k x ≡ r → list_all p (insert_key nat_cmp xs k) ≡ (list_all p xs && p k)
-        → list_all p (match_ordering r (k ∷ x ∷ xs) (x ∷ xs) (x ∷ insert_key nat_cmp xs k)) ≡ ((p x && list_all p xs) && p k)
-    go Less e rest = and_comm (p k) (p x && list_all p xs)
-    go Equal e rest = let same : k ≡ x = exact_unsigned k x e in rw same (and_again (p x) (list_all p xs))
-    go Greater e rest = rw rest (sym (and_assoc (p x) (list_all p xs) (p k)))
-
-all_collected : (p : ℕ → Bool) (xs found : List ℕ) → list_all p (fold (insert_key nat_cmp) found xs) ≡ (list_all p found && list_all p xs)
-all_collected p [] found = and_comm true (list_all p found)
-all_collected p (x ∷ xs) found =
-    all_collected p xs (insert_key nat_cmp found x) ∙ ap (λ (b : Bool). b && list_all p xs) (all_inserted p found x) ∙ and_assoc (list_all p found) (p x) (list_all p xs)
-
-all_ascending : (p : ℕ → Bool) (xs : List ℕ) → list_all p (ascending xs) ≡ list_all p xs
-all_ascending p xs = all_collected p xs []
 
 all_at : (p : ℕ → Bool) (xs : List ℕ) (k x : ℕ) → list_all p xs ≡ true → At xs k x → p x ≡ true
 all_at p [] k x all h = absurd cc
