@@ -1,0 +1,144 @@
+-- The take of the migration in work.
+use Rattle.std.proofs.Common.{◌≡◌, ℕ, ◌≤◌, ◌+◌, ◌-◌, min, max, nat_lt, ◌&&◌, ◌||◌, inl, inr, Bool, true, false, cond, List, [], ◌∷◌, ◌++◌, Option, Some, None, refl, ap, sym, ◌∙◌, subst, arith}
+use Rattle.std.specs.List.{list_any}
+use Rattle.std.proofs.lemmas.Bool.{cond_both, and_parts, or_cases, or_left, or_right}
+use Rattle.curp_base.specs.Words.{numbered}
+use Rattle.curp_cmd.specs.declared.command.Request.{Request}
+use Rattle.curp_cmd.specs.declared.entry.Entry.{Entry}
+use Rattle.curp_cmd.specs.declared.entry.Entry.TheVariants.{Op, Take}
+use Rattle.curp_cmd.specs.declared.migration.Package.{Package}
+use Rattle.curp_law_line.proofs.Hashes.{any_push, behind_append, came_append}
+use Rattle.curp_law_line.proofs.Lines.{known_push}
+use Rattle.curp_law_line.specs.Hashes.{HashOk, HashesOk, Part, given_on, has_take, holds, is_give, is_take, onward, owns, state_of}
+use Rattle.curp_law_line.specs.Line.{Line, OrderOk}
+use Rattle.curp_law_line.specs.Moves.{PushTake, PushTakeFits, Ungiven, pushed, take_pushed, taken_by}
+use Rattle.curp_law_logs.specs.Hashes.{Asked, behind, updates}
+use Rattle.curp_model.proofs.Logs.{meaning_append}
+use Rattle.curp_model.specs.Log.{LogState, after_entry, meaning}
+use Rattle.curp_model.specs.Manager.{Migration}
+use Rattle.curp_range.proofs.Ascending.{in_range, owned-append, range_bounds}
+use Rattle.curp_range.proofs.Tests.{covers_if_covered}
+use Rattle.curp_range.specs.Spans.{Span, is_in, is_owned, part_above, part_below, without}
+use Rattle.curp_law_line.proofs.Pushes as pushes
+
+-- ---- what a range leaves
+
+or_no : (b : Bool) → (b || false) ≡ true → b ≡ true
+or_no true e = refl
+or_no false e = e
+
+below_in : (s : Span) (lo h : ℕ) → is_owned (part_below s lo) h ≡ true → is_in s.0 s.1 h ≡ true
+below_in s lo h e = go (nat_lt s.0 lo) e
+  where
+    go : (b : Bool) → is_owned (cond b ((s.0, min s.1 (lo - 1)) ∷ []) []) h ≡ true → is_in s.0 s.1 h ≡ true
+    go true e =
+        let b = range_bounds s.0 (min s.1 (lo - 1)) h (or_no (is_in s.0 (min s.1 (lo - 1)) h) e) in
+        let u : h ≤ s.1 = omega (arith, b.1) in
+        in_range s.0 s.1 h b.0 u
+    go false e = absurd cc
+
+above_in : (s : Span) (hi h : ℕ) → is_owned (part_above s hi) h ≡ true → is_in s.0 s.1 h ≡ true
+above_in s hi h e = go (nat_lt hi s.1) e
+  where
+    go : (b : Bool) → is_owned (cond b ((max s.0 (hi + 1), s.1) ∷ []) []) h ≡ true → is_in s.0 s.1 h ≡ true
+    go true e =
+        let b = range_bounds (max s.0 (hi + 1)) s.1 h (or_no (is_in (max s.0 (hi + 1)) s.1 h) e) in
+        let u : s.0 ≤ h = omega (arith, b.0) in
+        in_range s.0 s.1 h u b.1
+    go false e = absurd cc
+
+pub without_owned : (spans : List Span) (lo hi h : ℕ) → is_owned (without spans lo hi) h ≡ true → is_owned spans h ≡ true
+without_owned [] lo hi h e = e
+without_owned (s ∷ spans) lo hi h e = elim (or_cases _ _ (sym (owned-append (part_below s lo ++ part_above s hi) (without spans lo hi) h) ∙ e)) [
+  | inl first ↦ or_left _ _ (elim (or_cases _ _ (sym (owned-append (part_below s lo) (part_above s hi) h) ∙ first)) [ inl b ↦ below_in s lo h b | inr a ↦ above_in s hi h a ])
+  | inr later ↦ or_right (is_in s.0 s.1 h) _ (without_owned spans lo hi h later)
+]
+
+pub owned_take : (lo hi : ℕ) (log : List Entry) (number : ℕ) (k : Package) → (meaning lo hi (log ++ Take number k ∷ [])).owned ≡ without (meaning lo hi log).owned k.lo k.hi
+unfolding after_entry
+owned_take lo hi log number k = ap (λ (s : LogState). s.owned) (meaning_append lo hi log (Take number k ∷ []))
+
+-- ---- nothing goes on where the give is nowhere
+
+pub onward_ungiven : (m : Migration) (parts : List Part) (log : List Entry) (h : ℕ) → Ungiven parts m.number → onward (Some m) parts log h ≡ []
+onward_ungiven m parts log h none =
+    cond_both (is_in m.range.lo m.range.hi h && list_any (is_take m.number) log) _ _ (λ (xs : List Asked). xs ≡ []) (λ y. at_target (numbered parts m.target) refl) (λ n. refl)
+  where
+    at_target : (t : Option Part) → numbered parts m.target ≡ t → given_on h m.number t ≡ []
+    at_target None e = refl
+    at_target (Some t) e = ap (λ (b : Bool). cond b (behind h t.log) []) (none m.target t e)
+
+module _ (s : Line) (ok : OrderOk s) (o : PushTake) (fits : PushTakeFits s o) where
+  abbrev p : Part
+  p = o.p
+
+  abbrev e : Entry
+  e = Take o.m.number (taken_by o)
+
+  abbrev after : List Part
+  after = pushed s.parts o.part o.p (Take o.m.number (taken_by o))
+
+  abbrev longer : Part
+  longer = record o.p { log = o.p.log ++ Take o.m.number (taken_by o) ∷ [] }
+
+  no_op : (r : Request) (a : ℕ) → e ≡ Op r a → ⊥
+  no_op r a is = absurd cc
+
+  still_ungiven : Ungiven after o.m.number
+  still_ungiven k q hk = elim (pushes.cases s.parts o.part p e fits.here k q hk) [
+    | inl old ↦ fits.ungiven k q old.1
+    | inr new ↦ subst (λ (y : Part). list_any (is_give o.m.number) y.log ≡ false) new.1 (any_push (is_give o.m.number) p.log e refl ∙ fits.ungiven o.part p fits.here)
+  ]
+
+  -- what it holds now it owned before
+  owned_before : (h : ℕ) → holds (Some o.m) longer h ≡ true → owns p h ≡ true
+  owned_before h held = elim (or_cases (owns longer h) (has_take (Some o.m) h longer.log) held) [
+    | inl own ↦
+        without_owned (state_of p).owned o.m.range.lo o.m.range.hi h (sym (ap (λ (spans : List Span). is_owned spans h) (owned_take p.lo p.hi p.log o.m.number (taken_by o))) ∙ own)
+    | inr out ↦ covers_if_covered (state_of p).owned o.m.range.lo o.m.range.hi fits.covered h (and_parts _ _ out).0
+  ]
+
+  take_hashes : HashesOk (Some o.m) after (updates s.marks)
+  take_hashes k q hk h held = elim (pushes.cases s.parts o.part p e fits.here k q hk) [
+    | inl old ↦
+        let here : HashOk (Some o.m) s.parts (updates s.marks) q h = before k q old.1 h held in
+        record {
+          past = here.past;
+          alike = here.alike ∙ ap (λ w. here.past ++ (behind h q.log ++ w)) (onward_ungiven o.m s.parts q.log h fits.ungiven ∙ sym (onward_ungiven o.m after q.log h still_ungiven));
+          values = here.values;
+          known = here.known;
+        }
+    | inr new ↦ subst (λ (y : Part). HashOk (Some o.m) after (updates s.marks) y h) new.1 (own h (subst (λ (y : Part). holds (Some o.m) y h ≡ true) (sym new.1) held))
+  ]
+    where
+      before : (k : ℕ) (q : Part) → numbered s.parts k ≡ Some q → (h : ℕ) → holds (Some o.m) q h ≡ true → HashOk (Some o.m) s.parts (updates s.marks) q h
+      before = subst (λ (moving : Option Migration). HashesOk moving s.parts (updates s.marks)) fits.in_work ok.hashes
+
+      own : (h : ℕ) → holds (Some o.m) longer h ≡ true → HashOk (Some o.m) after (updates s.marks) longer h
+      own h held =
+          let here = before o.part p fits.here h (or_left _ _ (owned_before h held)) in
+          record {
+            past = here.past;
+            alike = here.alike ∙ (λ i. here.past ++ (sym (behind_append h [] p.log (e ∷ [])) i ++ (onward_ungiven o.m s.parts p.log h fits.ungiven ∙ sym (onward_ungiven o.m after longer.log h still_ungiven)) i));
+            values = λ key k. here.values key k ∙ sym (came_append h key None p.log (e ∷ []));
+            known = λ y m. known_push p.lo p.hi h p.log e y.0 (here.known y m);
+          }
+
+  pub take_keeps : OrderOk (take_pushed s o)
+  take_keeps = record {
+    history = ok.history;
+    hashes = subst (λ (moving : Option Migration). HashesOk moving after (updates s.marks)) (sym fits.in_work) take_hashes;
+    waiting = pushes.waiting_stays s.parts o.part p e fits.here s.marks ok.waiting;
+    standing = pushes.standing_stays s.parts o.part p e fits.here s.marks ok.standing;
+    flags = ok.flags;
+    unflagged = ok.unflagged;
+    invoked = ok.invoked;
+    marked = ok.marked;
+    kinds = ok.kinds;
+    reads = ok.reads;
+    one_flag = ok.one_flag;
+    distinct = ok.distinct;
+    answered = pushes.answers_stay s.parts o.part p e fits.here no_op (updates s.marks) ok.answered;
+    once = pushes.once_stays s.parts o.part p e fits.here no_op ok.once;
+    in_time = ok.in_time;
+  }

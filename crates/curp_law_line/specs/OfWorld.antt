@@ -1,0 +1,40 @@
+-- The machine's state of a world.
+use Rattle.std.specs.Prelude.{ℕ, List, [], ◌∷◌, map, flat_map, Option, Some, None}
+use Rattle.curp_base.specs.Words.{numbered}
+use Rattle.curp_cmd.specs.declared.entry.Entry.{Entry}
+use Rattle.curp_facts.specs.Facts.{Logged, hi_of, lo_of, node_log}
+use Rattle.curp_law_line.specs.Hashes.{Part}
+use Rattle.curp_law_line.specs.Line.{Line}
+use Rattle.curp_model.specs.Recovery.{MasterStage}
+use Rattle.curp_model.specs.World.{World, messages}
+use Rattle.curp_msg.specs.declared.body.Body.{Body}
+use Rattle.curp_msg.specs.declared.config.PartConfig.{PartConfig}
+use Rattle.curp_msg.specs.declared.message.Message.{Message}
+use Rattle.curp_msg.specs.declared.body.Body.TheVariants as body
+
+abbrev pub logged_entries : Option Logged → List Entry
+logged_entries None = []
+logged_entries (Some l) = l.log
+
+-- the log of a master, nothing where it has none
+abbrev pub entries_at : Option MasterStage → List Entry
+entries_at None = []
+entries_at (Some m) = logged_entries (node_log m)
+
+-- the adopted log of a partition
+abbrev pub part_of : World → PartConfig → Part
+part_of w c = record { lo = lo_of w c.part; hi = hi_of w c.part; log = entries_at (numbered w.masters c.master.number) }
+
+-- the migration of which a package was told
+abbrev pub told_by : Body → List ℕ
+told_by (body.Taken t) = t.migration ∷ []
+told_by _ = []
+
+abbrev pub line_of : World → Line
+line_of w = record {
+  parts = map (part_of w) w.manager.config.parts;
+  moving = w.manager.moving;
+  told = flat_map (λ (m : Message). told_by m.body) (messages w);
+  marks = w.marks;
+  history = w.history;
+}
