@@ -355,6 +355,7 @@ pub record PreparedOk (w : World) (from : NodeId) (version : ℕ) : Type 0 where
   pub first : FirstPrepared w from version place
   pub long : ℕ
   pub then_long : LengthAt w from place long
+  pub low : long ≤ length l.log
   pub on_all : Each (λ node. (b : BackupState) → IsBackup w node b → IsPrefix (take long l.log) b.log) lists.backups
   pub since : (m : MasterState) → IsMaster w from (Serving m) → m.version < version → Each IsOnlyExpire (drop long m.log)
 

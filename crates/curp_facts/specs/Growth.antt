@@ -1,17 +1,18 @@
 -- Nothing is taken back: the growth relation.
-use Rattle.std.specs.Prelude.{◌≡◌, ◌≤◌, ◌<◌, ◌⊎◌, true, ℕ, List, Option, Some, None, ⊤}
-use Rattle.curp_base.specs.Words.{IsPrefix, numbered}
+use Rattle.std.specs.Prelude.{◌≡◌, ◌≤◌, ◌<◌, ◌⊎◌, true, ℕ, List, length, drop, Option, Some, None, ⊤}
+use Rattle.curp_base.specs.Words.{Each, IsPrefix, numbered}
 use Rattle.curp_cmd.specs.declared.command.RequestId.{RequestId}
 use Rattle.curp_cmd.specs.declared.entry.Entry.{Entry}
 use Rattle.curp_cmd.specs.declared.node.NodeId.{NodeId}
+use Rattle.curp_msg.specs.declared.body.Body.{Body}
 use Rattle.curp_msg.specs.declared.body.Body.TheVariants as body
 use Rattle.curp_msg.specs.declared.body.Gc.{Gc}
 use Rattle.curp_model.specs.declared.Mode.TheVariants.{Idle, Frozen}
 use Rattle.curp_model.specs.Backup.{BackupState, fresh_backup}
-use Rattle.curp_facts.specs.Facts.{IsAmong, Logged, WasSent, node_log}
+use Rattle.curp_facts.specs.Facts.{IsAmong, IsOnlyExpire, Logged, WasSent, node_log}
 use Rattle.curp_model.specs.Manager.{ManagerState, Next}
 use Rattle.curp_model.specs.Master as phase
-use Rattle.curp_model.specs.Master.{MasterState, Phase, has}
+use Rattle.curp_model.specs.Master.{MasterState, Phase, Switch, has}
 use Rattle.curp_cmd.specs.Node.{witness_node}
 use Rattle.curp_msg.specs.Moved.{says}
 use Rattle.curp_model.specs.Recovery.{MasterStage, Fresh, Recovering, Serving, RecoveryState}
@@ -45,7 +46,7 @@ abbrev pub Above : ℕ → Phase → Type 0
 Above version phase.Open = ⊤
 Above version (phase.Switching s) = version ≤ s.version
 
--- a serving master stays the same master. Its version isn't less where the lists that it takes up next are above
+-- a serving master stays the same master. Its version isn't less where the lists that it takes up next are above.
 pub record CoreGrows (c d : Core) : Type 0 where
   pub part : d.part ≡ c.part
   pub epoch : d.epoch ≡ c.epoch
@@ -82,17 +83,33 @@ LifeGrows (Recovering s) (Serving k) = ServesByOrder s k
 LifeGrows (Serving m) (Serving k) = ServesOn m k
 LifeGrows _ _ = ⊥
 
+-- no reply, no value, no collection, and nothing of a migration
+abbrev pub IsSilent : Body → Type 0
+IsSilent (body.Reply r) = ⊥
+IsSilent (body.Worth v) = ⊥
+IsSilent (body.Taken t) = ⊥
+IsSilent (body.Given migration) = ⊥
+IsSilent (body.Gc g) = ⊥
+IsSilent _ = ⊤
+
+-- while it switches, it pushes nothing but expiries
+abbrev pub PushesLittle : MasterStage → MasterStage → Type 0
+PushesLittle (Serving m) (Serving k) = (s : Switch) → m.phase ≡ phase.Switching s → Each IsOnlyExpire (drop (length m.log) k.log)
+PushesLittle _ _ = ⊤
+
 -- a master goes on, and keeps its log
 pub record MasterGrows (m k : MasterStage) : Type 0 where
   pub life : LifeGrows m k
   pub log : LogGrows (node_log m) (node_log k)
+  pub little : PushesLittle m k
 
--- a backup that is installed and fenced above its epoch keeps its log, and one isn't installed below its fence
+-- a backup that isn't installed keeps its log, and so does one that is fenced above its epoch; none is installed below its fence
 pub record BackupGrows (b c : BackupState) : Type 0 where
   pub log : IsPrefix b.log c.log
   pub fence : b.fence ≤ c.fence
   pub installed : (e : ℕ) → b.installed ≡ Some e → c.installed ≡ Some e
   pub fenced : (e : ℕ) → b.installed ≡ Some e → e < b.fence → c.log ≡ b.log
+  pub absent : b.installed ≡ None → c.log ≡ b.log
   pub never : b.installed ≡ None → (e : ℕ) → c.installed ≡ Some e → b.fence ≤ e
 
 -- one that was never started, nor frozen, has no epoch

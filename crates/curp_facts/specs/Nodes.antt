@@ -31,13 +31,13 @@ use Rattle.curp_model.specs.World.{World}
 use Rattle.curp_facts.specs.Entries.{LogOk, RequestOk, UpdateOk}
 use Rattle.curp_facts.specs.Facts.{AttemptWas, Completable, ConfigOk, FencedLogOk, FrozenOk, IsOnlyExpire, Lists, ReplayOk, WasAdopted, WasSent, hi_of, lo_of}
 use Rattle.curp_facts.specs.Kept.{FollowsLog, IsCollectable, lists_of_master}
-use Rattle.curp_facts.specs.Reach.{HasMany}
+use Rattle.curp_facts.specs.Reach.{HasStored}
 
 -- ---- serving masters
 
 -- what it knows of a backup is so: the backup has so many entries, which are no more than its own, and the round was begun
 pub record AcknowledgedOk (w : World) (m : MasterState) (a : Acknowledged) : Type 0 where
-  pub stored : HasMany w a.length a.backup
+  pub stored : HasStored w a.length a.backup
   pub within : a.length ≤ length m.log
   pub begun : a.round ≤ m.round
 
@@ -122,7 +122,7 @@ CameRequests w s (Some requests) = FrozenOk w s.order.witness requests × Each (
 pub record ReplayedOk (w : World) (s : RecoveryState) (r : Replayed) : Type 0 where
   pub replayed : ReplayOk w s r
   pub log : LogOk w s.order.part r.log
-  pub complete : Each (HasMany w (length r.log)) r.complete
+  pub complete : Each (HasStored w (length r.log)) r.complete
 
 -- by its phase
 abbrev pub StageOk : World → RecoveryState → RecoveryPhase → Type 0

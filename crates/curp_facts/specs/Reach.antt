@@ -47,6 +47,12 @@ Reach w node version n = (l : Lists) → IsReady w l → l.master ≡ node → v
 abbrev pub Whole : World → Lists → Type 0
 Whole w l = (its : Logged) → HasLog w l.master its → Each (HasMany w (length its.log)) l.backups
 
+-- a backup of that name is there, and has so many entries
+pub record HasStored (w : World) (n : ℕ) (node : NodeId) : Type 0 where
+  pub b : BackupState
+  pub is : IsBackup w node b
+  pub low : n ≤ length b.log
+
 -- a backup of that name is there
 abbrev pub IsThere : World → NodeId → Type 0
 IsThere w node = (b : BackupState) × IsBackup w node b
@@ -85,18 +91,18 @@ pub record EarlySaid (w : World) (from : NodeId) (r : Reply) : Type 0 where
   pub adopted : WasAdopted w lists
   pub its_master : lists.master ≡ from
   pub its_version : lists.version ≡ r.version
-  pub l : Logged
-  pub its_log : HasLog w from l
+  pub m : MasterState
+  pub serves : IsMaster w from (Serving m)
   pub index : ℕ
   pub request : Request
   pub acknowledged : ℕ
-  pub stands : At l.log index (Op request acknowledged)
+  pub stands : At m.log index (Op request acknowledged)
   pub its_id : request.id ≡ r.id
-  pub its_answer : answer_after (lo_of w lists.part) (hi_of w lists.part) (take index l.log) request.command ≡ r.answer
-  pub free : (m : MasterState) → IsMaster w from (Serving m) → has index m.free ≡ true
+  pub its_answer : answer_after (lo_of w lists.part) (hi_of w lists.part) (take index m.log) request.command ≡ r.answer
+  pub free : has index m.free ≡ true
   pub synced : ℕ
   pub below : synced ≤ index
-  pub apart : (k : ℕ) (e : Entry) → synced ≤ k → k < index → At l.log k e → Each (λ h. entry_touches e h ≡ false) (hashes request.command)
+  pub apart : (k : ℕ) (e : Entry) → synced ≤ k → k < index → At m.log k e → Each (λ h. entry_touches e h ≡ false) (hashes request.command)
   pub stored : Each (HasMany w synced) lists.backups
   pub above : Reach w from (r.version + 1) (index + 1)
 

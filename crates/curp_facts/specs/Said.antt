@@ -1,5 +1,5 @@
 -- What each message says, and that it stays true.
-use Rattle.std.specs.Prelude.{◌≡◌, ◌≤◌, ℕ, ◌+◌, Bool, true, false, ⊤}
+use Rattle.std.specs.Prelude.{◌≡◌, ◌≤◌, ◌⊎◌, ℕ, ◌+◌, Bool, true, false, Some, ⊤}
 use Rattle.curp_base.specs.Words.{At, Each}
 use Rattle.curp_cmd.specs.Node.{client_node, manager_node}
 use Rattle.curp_cmd.specs.Store as cmd
@@ -14,6 +14,7 @@ use Rattle.curp_msg.specs.declared.answer.AppendAnswer.{AppendAnswer}
 use Rattle.curp_msg.specs.declared.answer.AppendAnswer.TheVariants.{Stored}
 use Rattle.curp_msg.specs.declared.answer.GcAnswer.{GcAnswer}
 use Rattle.curp_msg.specs.declared.answer.GcAnswer.TheVariants.{Suspects}
+use Rattle.curp_msg.specs.declared.body.Accepted.{Accepted}
 use Rattle.curp_msg.specs.declared.body.Adopted.{Adopted}
 use Rattle.curp_msg.specs.declared.body.Append.{Append}
 use Rattle.curp_msg.specs.declared.body.Appended.{Appended}
@@ -24,9 +25,11 @@ use Rattle.curp_msg.specs.declared.body.Recover.{Recover}
 use Rattle.curp_msg.specs.declared.body.Reply.{Reply}
 use Rattle.curp_msg.specs.declared.body.Worth.{Worth}
 use Rattle.curp_order.specs.declared.Event.TheVariants.{Invoke}
+use Rattle.curp_model.specs.Named.{IsWitness}
+use Rattle.curp_model.specs.Witness.{WitnessState, holds}
 use Rattle.curp_model.specs.World.{World}
 use Rattle.curp_facts.specs.Entries.{RequestOk, UpdateOk}
-use Rattle.curp_facts.specs.Facts.{AcceptedOk, AdoptedBefore, AppendOk, ConfigOk, FenceReplyOk, FrozenOk, HasLog, IsAmong, IsGiven, Lists, Logged, PreparedOk, RecoveredOk, Speaks, StoredOk, WasAdopted, WasSent, WasTaken}
+use Rattle.curp_facts.specs.Facts.{AdoptedBefore, AppendOk, Collected, ConfigOk, FenceReplyOk, FrozenOk, HasLog, IsAmong, IsGiven, Lists, Logged, PreparedOk, RecoveredOk, Speaks, StoredOk, WasAdopted, WasSent, WasTaken}
 use Rattle.curp_facts.specs.Kept.{RefusalFirstOk}
 use Rattle.curp_facts.specs.Reach.{EarlySaid, GcSaid, IsReady, Reach, SyncedSaid}
 
@@ -128,6 +131,15 @@ abbrev pub AppendHolds : World → NodeId → NodeId → Appended → AppendAnsw
 AppendHolds w from to a (Stored long) = StoredOk w from to a.epoch a.round long
 AppendHolds w from to a _ = ⊤
 
+-- the witness was started at that epoch, and holds the id, or a collection of that epoch that lists it was sent to it; it tells
+-- so to the client of the id
+pub record AcceptedSaid (w : World) (from to : NodeId) (a : Accepted) : Type 0 where
+  pub addressee : to ≡ client_node a.id.client
+  pub x : WitnessState
+  pub is : IsWitness w from x
+  pub its_epoch : x.epoch ≡ Some a.epoch
+  pub kept : (holds x a.id ≡ true) ⊎ Collected w from a.id a.epoch
+
 -- suspects are updates that were invoked
 abbrev pub SuspectsHold : World → GcAnswer → Type 0
 SuspectsHold w (Suspects requests) = Each (UpdateOk w) requests
@@ -156,7 +168,7 @@ Says w place from to (body.Configuration config) = ConfigOk w config
 Says w place from to (body.Reply r) = ReplySaid w from to r
 Says w place from to (body.Worth v) = WorthSaid w from to v
 Says w place from to (body.Refuse r) = RefusalFirstOk w r.id.client r.refusal
-Says w place from to (body.Accepted a) = AcceptedOk w from a
+Says w place from to (body.Accepted a) = AcceptedSaid w from to a
 Says w place from to (body.Append a) = AppendSaid w from to a
 Says w place from to (body.Appended a) = AppendedSaid w from to a × AppendHolds w from to a a.answer
 Says w place from to (body.Gc g) = GcHolds w place from to g

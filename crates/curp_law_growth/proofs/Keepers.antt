@@ -30,7 +30,7 @@ use Rattle.curp_facts.specs.Growth.{BackupGrows, WitnessGrows}
 
 -- a backup that stays
 pub backup_self : (b : BackupState) → BackupGrows b b
-backup_self b = record { log = prefix_self b.log; fence = omega arith; installed = λ e h. h; fenced = λ e h low. refl; never = λ a e h. absurd (none e a h) }
+backup_self b = record { log = prefix_self b.log; fence = omega arith; installed = λ e h. h; fenced = λ e h low. refl; absent = λ a. refl; never = λ a e h. absurd (none e a h) }
   where
     none : (e : ℕ) → b.installed ≡ None → b.installed ≡ Some e → ⊥
     none e a h = cc
@@ -41,7 +41,7 @@ appended b epoch base entries =
     cond_both (nat_lt epoch b.fence) _ _ (λ (k : AfterAppend). BackupGrows b k.state) (λ y. backup_self b)
     (λ n. cond_both (not (is_installed_at b.installed epoch)) _ _ (λ (k : AfterAppend). BackupGrows b k.state) (λ y. backup_self b)
     (λ own. cond_both (nat_lt (length b.log) base) _ _ (λ (k : AfterAppend). BackupGrows b k.state) (λ gap. backup_self b)
-    (λ reaches. record { log = prefix_push b.log _; fence = omega arith; installed = λ e h. h; fenced = λ e h low. absurd (apart b.installed e h (not-false (is_installed_at b.installed epoch) own) n low); never = λ a e h. absurd (none e a h) })))
+    (λ reaches. record { log = prefix_push b.log _; fence = omega arith; installed = λ e h. h; fenced = λ e h low. absurd (apart b.installed e h (not-false (is_installed_at b.installed epoch) own) n low); absent = λ a. absurd (missing b.installed a (not-false (is_installed_at b.installed epoch) own)); never = λ a e h. absurd (none e a h) })))
   where
     none : (e : ℕ) → b.installed ≡ None → b.installed ≡ Some e → ⊥
     none e a h = cc
@@ -49,12 +49,16 @@ appended b epoch base entries =
     own : (e : ℕ) → (e == epoch) ≡ true → nat_lt epoch b.fence ≡ false → e < b.fence → ⊥
     own e same above low = grind (arith, nat_tests)
 
+    missing : (o : Option ℕ) → o ≡ None → is_installed_at o epoch ≡ true → ⊥
+    missing None e y = absurd cc
+    missing (Some k) e y = absurd cc
+
     apart : (o : Option ℕ) (e : ℕ) → o ≡ Some e → is_installed_at o epoch ≡ true → nat_lt epoch b.fence ≡ false → e < b.fence → ⊥
     apart None e h y above low = absurd cc
     apart (Some k) e h y above low = own e (subst (λ (x : Option ℕ). is_installed_at x epoch ≡ true) h y) above low
 
 installs : (b : BackupState) (epoch : ℕ) (own : Option ℕ) → b.installed ≡ own → nat_lt epoch b.fence ≡ false → BackupGrows b (installed_once b epoch own)
-installs b epoch None is above = record { log = prefix_self b.log; fence = omega arith; installed = λ e h. absurd (none e is h); fenced = λ e h low. refl; never = λ a e h. it e h }
+installs b epoch None is above = record { log = prefix_self b.log; fence = omega arith; installed = λ e h. absurd (none e is h); fenced = λ e h low. refl; absent = λ a. refl; never = λ a e h. it e h }
   where
     none : (e : ℕ) → b.installed ≡ None → b.installed ≡ Some e → ⊥
     none e a h = cc
@@ -70,7 +74,7 @@ fenced : (b : BackupState) (epoch : ℕ) → BackupGrows b (fence b epoch).state
 unfolding fence
 fenced b epoch =
     cond_both (nat_lt epoch b.fence) _ _ (λ (k : AfterFence). BackupGrows b k.state) (λ y. backup_self b)
-    (λ n. record { log = prefix_self b.log; fence = grind (arith, nat_tests); installed = λ e h. h; fenced = λ e h low. refl; never = λ a e h. absurd (none e a h) })
+    (λ n. record { log = prefix_self b.log; fence = grind (arith, nat_tests); installed = λ e h. h; fenced = λ e h low. refl; absent = λ a. refl; never = λ a e h. absurd (none e a h) })
   where
     none : (e : ℕ) → b.installed ≡ None → b.installed ≡ Some e → ⊥
     none e a h = cc

@@ -35,14 +35,14 @@ use Rattle.curp_facts.specs.Entries.{LogOk, RequestOk, UpdateOk}
 use Rattle.curp_facts.specs.Facts.{FencedLogOk, FrozenOk, IsAmong, IsOnlyExpire, WasOrdered}
 use Rattle.curp_facts.specs.Kept.{AllCompletedBelow, IsCollectable, RefusalFirstOk}
 use Rattle.curp_facts.specs.Nodes.{AcknowledgedOk, CapturedOk, FreeOp, IsOnEach, IsOpAt, IsWaiting, QueuedOk, StageOk, WasPrepared}
-use Rattle.curp_facts.specs.Reach.{HasMany, StandsAt}
+use Rattle.curp_facts.specs.Reach.{HasStored, StandsAt}
 use Rattle.curp_facts.specs.Said.{IsGiveFrom, IsTakeOf}
 
 -- ---- what a serving master hears
 
 -- what an answer to an append says: the backup has so many entries, no more than the master, as of a round that was begun
 abbrev pub HearsAnswer : World → MasterState → NodeId → ℕ → AppendAnswer → Type 0
-HearsAnswer w m from round (Stored long) = HasMany w long from × (long ≤ length m.log) × (round ≤ m.round)
+HearsAnswer w m from round (Stored long) = HasStored w long from × (long ≤ length m.log) × (round ≤ m.round)
 HearsAnswer w m from round _ = ⊤
 
 -- suspects are updates that were invoked
@@ -231,7 +231,7 @@ HearsLog w s from _ = ⊤
 
 -- what an answer to an append says: the backup has so many entries
 abbrev pub HearsStored : World → NodeId → AppendAnswer → Type 0
-HearsStored w from (Stored long) = HasMany w long from
+HearsStored w from (Stored long) = HasStored w long from
 HearsStored w from _ = ⊤
 
 -- what a message that comes to a recovering master has to say
