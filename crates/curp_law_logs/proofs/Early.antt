@@ -9,12 +9,10 @@ use Rattle.curp_cmd.specs.declared.command.Request.{Request}
 use Rattle.curp_cmd.specs.declared.command.RequestId.{RequestId}
 use Rattle.curp_cmd.specs.declared.entry.Entry.{Entry}
 use Rattle.curp_cmd.specs.declared.entry.Entry.TheVariants.{Op, Take, Give, Expire}
-use Rattle.curp_model.specs.declared.Check.TheVariants.{New}
 use Rattle.curp_model.specs.Laws.{clash}
-use Rattle.curp_model.specs.Log.{IsDone, IsLog, Stands, answer_after, entry_touches, meaning}
+use Rattle.curp_model.specs.Log.{IsDone, IsLog, Stands, answer_after, entry_touches}
 use Rattle.curp_model.specs.Recovery.{replay}
 use Rattle.curp_cmd.specs.Hash.{hashes}
-use Rattle.curp_model.specs.Table.{check}
 use Rattle.curp_facts.specs.Reach.{Tells}
 use Rattle.curp_law_logs.specs.Hashes.{NotNew}
 use Rattle.curp_law_logs.specs.Gives.{GivesWithin}

@@ -11,7 +11,7 @@ use Rattle.curp_cmd.specs.declared.entry.Entry.TheVariants.{Op, Take, Give, Expi
 use Rattle.curp_cmd.specs.declared.migration.Package.{Package}
 use Rattle.curp_range.specs.Spans.{is_in}
 use Rattle.curp_model.specs.Log.{LogState, log_opening, after_entry, after_entries, meaning, package_of}
-use Rattle.curp_law_logs.specs.Gives.{GiveFits, GivesFit, GivesWithin, PairsAscend, PairsWithin}
+use Rattle.curp_law_logs.specs.Gives.{GiveFits, GivesFit, PairsAscend, PairsWithin}
 use Rattle.curp_law_logs.proofs.Stores.{find_in_range, range_ascends, range_within}
 
 -- ---- gives that fit

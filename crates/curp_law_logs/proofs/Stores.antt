@@ -9,7 +9,6 @@ use Rattle.std.specs.FinMap.{slice_cmp-IsAntisymmetric, nat_cmp-IsAntisymmetric}
 use Rattle.std.specs.FinMap as map
 use Rattle.std.specs.FinMap.Entries.{find, below_all, is_some-find, is_sorted-where_key, find-where_key}
 use Rattle.std.proofs.lemmas.Map.Views.{tells_apart}
-use Rattle.curp_base.specs.Words.{Each}
 use Rattle.curp_cmd.specs.Hash.{hash_of}
 use Rattle.curp_cmd.specs.Pairs.{Pair}
 use Rattle.curp_cmd.specs.Store.{Contents, with_pairs}

@@ -21,8 +21,8 @@ use Rattle.curp_cmd.specs.declared.command.RequestId.{RequestId}
 use Rattle.curp_cmd.specs.declared.migration.TablePart.{TablePart}
 use Rattle.curp_model.specs.declared.Check.TheVariants.{Expired, Stale, New}
 use Rattle.curp_facts.specs.Facts.{IsAmong}
-use Rattle.curp_model.specs.Table.{Noted, Table, check, known, is_gone, first_number, is_of_use, of_use, note, note_once, raise_first, packed, merge}
-use Rattle.curp_model.proofs.Tables.{ids_total, ids_same, Has, has_note, has_only, has_merge, not_new, first_rises, kept_before, kept_from}
+use Rattle.curp_model.specs.Table.{Noted, Table, check, known, is_gone, first_number, is_of_use, note, note_once, raise_first, packed, merge}
+use Rattle.curp_model.proofs.Tables.{ids_total, ids_same, Has, has_note, has_only, has_merge, not_new, first_rises, kept_before}
 use Rattle.curp_law_logs.specs.Standing.{Carries}
 
 -- ---- numbers put in their places

@@ -9,13 +9,13 @@ use Rattle.std.proofs.lemmas.List.Elements.{filter-append}
 use Rattle.curp_base.specs.Words.{At}
 use Rattle.curp_base.proofs.Lists.{at_append_right}
 use Rattle.curp_cmd.specs.Store.{Contents, Applied, nothing, keys_of, is_update, applied}
-use Rattle.curp_cmd.specs.Hash.{hash_of, touches}
+use Rattle.curp_cmd.specs.Hash.{conflicts, hash_of, touches}
 use Rattle.curp_cmd.specs.declared.command.Answer.{Answer}
 use Rattle.curp_cmd.specs.declared.command.Command.{Command}
 use Rattle.curp_cmd.specs.declared.command.Command.TheVariants.{Get, Put, Delete, Incr, Append, CondPut, Multi}
 use Rattle.curp_order.specs.Order.{answers, answers_from, store_after}
 use Rattle.curp_law_logs.specs.Hashes.{Asked, In, on, value}
-use Rattle.curp_law_logs.proofs.Apart.{order, among, Alike, IsLocal, local, with_pairs-alike, hash_among}
+use Rattle.curp_law_logs.proofs.Apart.{order, among, Alike, IsLocal, local, with_pairs-alike, hash_among, keys_apart, same_after, same_second}
 
 -- ---- one command
 
@@ -78,6 +78,14 @@ key_touched c q e = hash_among q (keys_of c) e
 -- stores that agree at the keys of a command's hashes give it one answer
 pub answer_alike : (c : Command) (s t : Contents) → ((q : List ℕ) → touches c (hash_of q) ≡ true → map.get s q ≡ map.get t q) → (applied s c).answer ≡ (applied t c).answer
 answer_alike c s t same = (local c).answer s t (λ q e. same q (key_touched c q e))
+
+-- commands that don't conflict may be done in either order
+pub commute : (s : Contents) (a b : Command) → conflicts a b ≡ false → (applied (applied s a).after b).after ≡ (applied (applied s b).after a).after
+commute s a b none = same_after (keys_of a) (keys_of b) (λ s. applied s a) (λ s. applied s b) (local a) (local b) (keys_apart a b none) s
+
+-- and the second answers as it would alone
+pub second_alone : (s : Contents) (a b : Command) → conflicts a b ≡ false → (applied (applied s a).after b).answer ≡ (applied s b).answer
+second_alone s a b none = same_second (keys_of a) (keys_of b) (λ s. applied s a) (λ s. applied s b) (local a) (local b) (keys_apart a b none) s
 
 -- a get changes nothing
 pub read_only : (s : Contents) (command : Command) → is_update command ≡ false → (applied s command).after ≡ s
