@@ -40,7 +40,7 @@ stands_back lo hi xs ys index id a p within s = record {
   tells = tells_alike lo hi ys xs index id a s.entry (sym (take_grows index p (omega arith))) s.tells;
 }
 
--- SYNCED: what stands below a backup's length stands in the backup's log, and in each longer one
+-- what stands below a backup's length stands in the backup's log, and in each longer one
 pub synced_stands : (lo hi : ℕ) (log backup : List Entry) (index : ℕ) (id : RequestId) (a : Answer) → IsPrefix backup log → index < length backup → StandsHere lo hi log index id a → Stands lo hi backup id a
 synced_stands lo hi log backup index id a p within s = stands_from_here lo hi backup index id a (stands_back lo hi backup log index id a p within s)
 
@@ -69,15 +69,16 @@ stands_grows lo hi xs ys id a p s = elim s [
   })
 ]
 
--- ---- COLLECTED: an op whose id is known after so many entries is one of them
+-- ---- an op that was collected
 
+-- an op whose id isn't new after so many entries is one of them
 pub collected_below : (lo hi : ℕ) (log : List Entry) (i count : ℕ) (r : Request) (acknowledged : ℕ) → IsLog lo hi log → At log i (Op r acknowledged) → NotNew lo hi (take count log) r.id → i < count
 collected_below lo hi log i count r acknowledged fits at old = elim (cases_lt i count) [
   | inl below ↦ below
   | inr above ↦ absurd (known_mono_take lo hi count i log r.id above old (op_new lo hi log i r acknowledged fits at))
 ]
 
--- ---- EARLY
+-- ---- an op that was answered early
 
 -- with nothing on its hashes from a number on that the backup has, it stands in the backup's log or is replayed behind it
 pub early_replayed : (lo hi : ℕ) (log backup : List Entry) (synced i : ℕ) (r : Request) (acknowledged : ℕ) → lo ≤ hi → IsLog lo hi log → GivesWithin log → IsPrefix backup log

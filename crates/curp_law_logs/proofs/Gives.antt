@@ -1,5 +1,5 @@
 -- Gives that fit, as a log grows; and what a package brings.
-use Rattle.std.proofs.Common.{◌≡◌, ◌≤◌, ℕ, suc, ◌+◌, Bool, true, cond, List, [], ◌∷◌, ◌++◌, length, None, take, refl, ap, ◌∙◌, subst, arith}
+use Rattle.std.proofs.Common.{◌≡◌, ◌≤◌, ℕ, zero, suc, ◌+◌, Bool, true, cond, List, [], ◌∷◌, ◌++◌, length, None, take, refl, ap, ◌∙◌, subst, arith}
 use Rattle.std.specs.Cmp.Lexicographic.{slice_cmp}
 use Rattle.std.specs.FinMap as map
 use Rattle.std.specs.FinMap.Entries.{find}
@@ -11,7 +11,7 @@ use Rattle.curp_cmd.specs.declared.entry.Entry.TheVariants.{Op, Take, Give, Expi
 use Rattle.curp_cmd.specs.declared.migration.Package.{Package}
 use Rattle.curp_range.specs.Spans.{is_in}
 use Rattle.curp_model.specs.Log.{LogState, log_opening, after_entry, after_entries, meaning, package_of}
-use Rattle.curp_law_logs.specs.Gives.{GiveFits, GivesFit, PairsAscend, PairsWithin}
+use Rattle.curp_law_logs.specs.Gives.{GiveFits, GivesFit, GivesWithin, PairsAscend, PairsWithin}
 use Rattle.curp_law_logs.proofs.Stores.{find_in_range, range_ascends, range_within}
 
 -- ---- gives that fit
@@ -48,6 +48,18 @@ gives_fit_more lo hi log more fits none = gives_fit_append log more (log_opening
 -- and with a give that fits
 pub gives_fit_give : (lo hi : ℕ) (log : List Entry) (migration : ℕ) (p : Package) → GivesFit (log_opening lo hi) 0 log → GiveFits (meaning lo hi log) p → GivesFit (log_opening lo hi) 0 (log ++ Give migration p ∷ [])
 gives_fit_give lo hi log migration p fits here = gives_fit_append log (Give migration p ∷ []) (log_opening lo hi) 0 (length log) (omega arith) fits (here, tt)
+
+-- the pairs of gives that fit lie in their ranges
+pub gives_within : (es : List Entry) (s : LogState) (k : ℕ) → GivesFit s k es → GivesWithin es
+gives_within [] s k fits i migration p at = absurd cc
+gives_within (Op r acknowledged ∷ es) s k fits zero migration p at = absurd cc
+gives_within (Op r acknowledged ∷ es) s k fits (suc i) migration p at = gives_within es (after_entry s k (Op r acknowledged)) (k + 1) fits i migration p at
+gives_within (Take m x ∷ es) s k fits zero migration p at = absurd cc
+gives_within (Take m x ∷ es) s k fits (suc i) migration p at = gives_within es (after_entry s k (Take m x)) (k + 1) fits i migration p at
+gives_within (Give m x ∷ es) s k fits zero migration p at = let same : x ≡ p = cc in subst (λ (y : Package). PairsWithin y.lo y.hi y.pairs) same fits.0.within
+gives_within (Give m x ∷ es) s k fits (suc i) migration p at = gives_within es (after_entry s k (Give m x)) (k + 1) fits.1 i migration p at
+gives_within (Expire client ∷ es) s k fits zero migration p at = absurd cc
+gives_within (Expire client ∷ es) s k fits (suc i) migration p at = gives_within es (after_entry s k (Expire client)) (k + 1) fits i migration p at
 
 -- each give fits where each that stands does
 pub gives_fit_from : (es : List Entry) (s : LogState) (k : ℕ) → ((i migration : ℕ) (p : Package) → At es i (Give migration p) → GiveFits (after_entries s k (take i es)) p) → GivesFit s k es

@@ -92,7 +92,7 @@ op_new lo hi log i r acknowledged fits at = new_by_test _ (and_parts (is_new (ch
 pub op_owned : (lo hi : ℕ) (log : List Entry) (i : ℕ) (r : Request) (acknowledged : ℕ) → IsLog lo hi log → At log i (Op r acknowledged) → owns_all (meaning lo hi (take i log)).owned (hashes r.command) ≡ true
 op_owned lo hi log i r acknowledged fits at = (and_parts (is_new (check (meaning lo hi (take i log)).table r.id)) _ (fits_place lo hi log i (Op r acknowledged) fits at)).1
 
--- ---- N3: what isn't new stays so
+-- ---- what isn't new stays so
 
 pub known_mono : (lo hi : ℕ) (xs ys : List Entry) (id : RequestId) → IsPrefix xs ys → NotNew lo hi xs id → NotNew lo hi ys id
 known_mono lo hi xs ys id p old =
@@ -137,7 +137,7 @@ given_new : (s : LogState) (k migration : ℕ) (p : Package) (id : RequestId) �
 unfolding after_entry
 given_new s k migration p id carries = merge_known s.table p.table k id carries
 
--- N8 in a log: what a give carries isn't new behind it
+-- what a give carries isn't new behind it
 pub give_old : (lo hi : ℕ) (log : List Entry) (i n migration : ℕ) (p : Package) (id : RequestId) → At log i (Give migration p) → i < n → Carries p.table id → NotNew lo hi (take n log) id
 give_old lo hi log i n migration p id at l carries =
     known_mono_take lo hi (i + 1) n log id (omega arith) (λ new. here (subst (λ (s : LogState). check s.table id ≡ New) next new))

@@ -1,4 +1,4 @@
--- N6: a log's store has only keys whose hashes are owned, and the pairs of a package lie in its range.
+-- A log's store has only keys whose hashes are owned, and the pairs of a package lie in its range.
 use Rattle.std.proofs.Common.{◌≡◌, ◌≤◌, ◌&&◌, not, ℕ, suc, ◌+◌, Bool, true, false, cond, List, [], ◌∷◌, take, Some, None, refl, ap, sym, ◌∙◌, subst}
 use Rattle.std.specs.Cmp.Lexicographic.{slice_cmp}
 use Rattle.std.specs.FinMap as map
