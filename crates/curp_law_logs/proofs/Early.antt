@@ -44,6 +44,7 @@ stands_back lo hi xs ys index id a p within s = record {
 pub synced_stands : (lo hi : ℕ) (log backup : List Entry) (index : ℕ) (id : RequestId) (a : Answer) → IsPrefix backup log → index < length backup → StandsHere lo hi log index id a → Stands lo hi backup id a
 synced_stands lo hi log backup index id a p within s = stands_from_here lo hi backup index id a (stands_back lo hi backup log index id a p within s)
 
+-- what is done in a log is done in a longer one
 pub done_grows : (lo hi : ℕ) (xs ys : List Entry) (id : RequestId) (a : Answer) → IsPrefix xs ys → IsDone lo hi xs id a → IsDone lo hi ys id a
 done_grows lo hi xs ys id a p d =
     let within : d.index < length xs = at_within xs d.index (Op d.request d.acknowledged) d.stands in
@@ -56,6 +57,7 @@ done_grows lo hi xs ys id a p d =
       its_answer = ap (λ (es : List Entry). answer_after lo hi es d.request.command) (take_grows d.index p (omega arith)) ∙ d.its_answer;
     }
 
+-- and so does what stands in it
 pub stands_grows : (lo hi : ℕ) (xs ys : List Entry) (id : RequestId) (a : Answer) → IsPrefix xs ys → Stands lo hi xs id a → Stands lo hi ys id a
 stands_grows lo hi xs ys id a p s = elim s [
   | inl done ↦ inl (done_grows lo hi xs ys id a p done)

@@ -23,6 +23,7 @@ gives_fit_append (Take migration p ∷ xs) ys s k n e front back = gives_fit_app
 gives_fit_append (Give migration p ∷ xs) ys s k n e front back = (front.0, gives_fit_append xs ys (after_entry s k (Give migration p)) (k + 1) n (omega arith) front.1 back)
 gives_fit_append (Expire client ∷ xs) ys s k n e front back = gives_fit_append xs ys (after_entry s k (Expire client)) (k + 1) n (omega arith) front back
 
+-- a beginning's gives fit where those of the whole do
 pub gives_fit_front : (xs ys : List Entry) (s : LogState) (k : ℕ) → GivesFit s k (xs ++ ys) → GivesFit s k xs
 gives_fit_front [] ys s k all = tt
 gives_fit_front (Op r acknowledged ∷ xs) ys s k all = gives_fit_front xs ys (after_entry s k (Op r acknowledged)) (k + 1) all
@@ -34,6 +35,7 @@ gives_fit_front (Expire client ∷ xs) ys s k all = gives_fit_front xs ys (after
 abbrev pub NoGives : List Entry → Type 0
 NoGives es = (k migration : ℕ) (p : Package) → At es k (Give migration p) → ⊥
 
+-- where there is none, each fits
 pub no_gives_fit : (es : List Entry) (s : LogState) (k : ℕ) → NoGives es → GivesFit s k es
 no_gives_fit [] s k none = tt
 no_gives_fit (Op r acknowledged ∷ es) s k none = no_gives_fit es (after_entry s k (Op r acknowledged)) (k + 1) (λ i. none (suc i))
@@ -74,8 +76,10 @@ gives_fit_from (Expire client ∷ es) s k each = gives_fit_from es (after_entry 
 pub package_pair : (s : LogState) (lo hi : ℕ) (ordered : lo ≤ hi) (key : List ℕ) → is_in lo hi (hash_of key) ≡ true → find (slice_cmp nat_cmp) key (package_of s lo hi ordered).pairs ≡ map.get s.store key
 package_pair s lo hi ordered key within = find_in_range s.store lo hi key ∙ ap (λ (b : Bool). cond b (map.get s.store key) None) within
 
+-- the keys of its pairs ascend
 pub package_ascends : (s : LogState) (lo hi : ℕ) (ordered : lo ≤ hi) → PairsAscend (package_of s lo hi ordered).pairs
 package_ascends s lo hi ordered = range_ascends s.store lo hi
 
+-- and lie in its range
 pub package_within : (s : LogState) (lo hi : ℕ) (ordered : lo ≤ hi) → PairsWithin lo hi (package_of s lo hi ordered).pairs
 package_within s lo hi ordered = range_within lo hi (map.entries s.store)

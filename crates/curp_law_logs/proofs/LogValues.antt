@@ -33,6 +33,7 @@ pub record IsTraced (q : List ℕ) (b : Option (List ℕ)) (kept : List Asked) (
   pub value : is_owned s.owned (hash_of q) ≡ true → (base : Contents) → map.get base q ≡ b → map.get s.store q ≡ map.get (store_after base kept) q
   pub none : is_owned s.owned (hash_of q) ≡ false → map.get s.store q ≡ None
 
+-- an op touches no hash that its log does not own
 pub untouched : (s : LogState) (r : Request) (h : ℕ) → owns_all s.owned (hashes r.command) ≡ true → is_owned s.owned h ≡ false → touches r.command h ≡ false
 untouched s r h owns away = elim (cases_Bool (touches r.command h)) [
   | inl y ↦ absurd (cc (away, owns_touched s.owned r.command owns h y))
@@ -110,6 +111,7 @@ traced_expire : (q : List ℕ) (b : Option (List ℕ)) (kept : List Asked) (s : 
 unfolding after_entry
 traced_expire q b kept s k client t = record { ordered = t.ordered; value = t.value; none = t.none }
 
+-- the trace goes on with the entries
 pub traced_entries : (q : List ℕ) (es : List Entry) (b : Option (List ℕ)) (kept : List Asked) (s : LogState) (k : ℕ) → all_fit s k es ≡ true → GivesFit s k es → IsTraced q b kept s
     → IsTraced q (came_from (hash_of q) q b es) (behind_from (hash_of q) kept es) (after_entries s k es)
 traced_entries q [] b kept s k fits gives t = t
@@ -132,6 +134,7 @@ traced_opening q lo hi l = record {
   none = λ away. map.get-empty (slice_cmp nat_cmp) q;
 }
 
+-- the trace of a whole log
 pub log_traced : (lo hi : ℕ) (log : List Entry) → lo ≤ hi → IsLog lo hi log → GivesFit (log_opening lo hi) 0 log → (q : List ℕ) → IsTraced q (came (hash_of q) q log) (behind (hash_of q) log) (meaning lo hi log)
 log_traced lo hi log l fits gives q = traced_entries q log None [] (log_opening lo hi) 0 fits gives (traced_opening q lo hi l)
 

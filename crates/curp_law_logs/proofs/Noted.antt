@@ -28,6 +28,7 @@ use Rattle.curp_law_logs.proofs.Tables.{found_where, merged_found, noted_found}
 abbrev pub IsNoted : ℕ → ℕ → List Entry → Type 0
 IsNoted lo hi log = (id : RequestId) (n : Noted) → find id_cmp id (meaning lo hi log).table.records ≡ Some n → StandsHere lo hi log n.index id n.answer
 
+-- what an entry tells comes from the entries before it
 pub tells_alike : (lo hi : ℕ) (xs ys : List Entry) (index : ℕ) (id : RequestId) (a : Answer) (e : Entry) → take index ys ≡ take index xs → Tells lo hi xs index id a e → Tells lo hi ys index id a e
 tells_alike lo hi xs ys index id a (Op r acknowledged) same t = (t.0, ap (λ (before : List Entry). answer_after lo hi before r.command) same ∙ t.1)
 tells_alike lo hi xs ys index id a (Take migration taken) same t = absurd t
@@ -44,6 +45,7 @@ stands_longer lo hi xs ys index id a p s =
 pub stands_here : (lo hi : ℕ) (log : List Entry) (id : RequestId) (a : Answer) → (s : StandsAt lo hi log id a) → StandsHere lo hi log s.index id a
 stands_here lo hi log id a s = record { entry = s.entry; stands = s.stands; tells = s.tells }
 
+-- what stands at an index stands
 abbrev pub stands_at : (lo hi : ℕ) (log : List Entry) (index : ℕ) (id : RequestId) (a : Answer) → StandsHere lo hi log index id a → StandsAt lo hi log id a
 stands_at lo hi log index id a s = record { index = index; entry = s.entry; stands = s.stands; tells = s.tells }
 

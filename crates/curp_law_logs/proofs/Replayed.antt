@@ -30,6 +30,7 @@ use Rattle.curp_law_logs.proofs.Untouched.{answer_untouched, owns_untouched}
 swap_and : (a b : Bool) → (a && b) ≡ true → (b && a) ≡ true
 swap_and a b e = let p = and_parts a b e in and_from _ _ p.1 p.0
 
+-- what is replayed behind a log makes a log
 pub replay_log : (lo hi : ℕ) (rs : List Request) (log : List Entry) → IsLog lo hi log → IsLog lo hi (replay lo hi log rs)
 replay_log lo hi [] log fits = fits
 replay_log lo hi (r ∷ rs) log fits = go (replays (meaning lo hi log) r) refl (replay_log lo hi rs (log ++ Op r 0 ∷ [])) (replay_log lo hi rs log fits)
@@ -39,6 +40,7 @@ replay_log lo hi (r ∷ rs) log fits = go (replays (meaning lo hi log) r) refl (
     go true y longer same = longer (log_push lo hi log (Op r 0) fits (swap_and (owns_all (meaning lo hi log).owned (hashes r.command)) _ y))
     go false n longer same = same
 
+-- which begins with it
 pub replay_prefix : (lo hi : ℕ) (rs : List Request) (log : List Entry) → IsPrefix log (replay lo hi log rs)
 replay_prefix lo hi [] log = prefix_self log
 replay_prefix lo hi (r ∷ rs) log = go (replays (meaning lo hi log) r) (replay_prefix lo hi rs (log ++ Op r 0 ∷ [])) (replay_prefix lo hi rs log)

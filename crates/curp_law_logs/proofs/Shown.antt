@@ -19,6 +19,7 @@ use Rattle.curp_law_logs.proofs.Values.{answer_middle, updates_only, value_local
 abbrev pub MarksRight : List Mark → Type 0
 MarksRight marks = (k : ℕ) (m : Mark) → At marks k m → is_update m.command ≡ is_update_mark m.place
 
+-- the updates that are shown are those that are marked
 pub shown_updates : (marks : List Mark) → MarksRight marks → filter (λ (x : Asked). is_update x.1) (shown marks) ≡ updates marks
 shown_updates [] right = refl
 shown_updates (m ∷ marks) right = go m.completed (is_update_mark m.place) (is_update m.command) refl refl (right 0 m refl) (shown_updates marks (λ k. right (suc k)))
@@ -38,9 +39,11 @@ shown_updates (m ∷ marks) right = go m.completed (is_update_mark m.place) (is_
 pub store_shown : (s : Contents) (marks : List Mark) → MarksRight marks → store_after s (shown marks) ≡ store_after s (updates marks)
 store_shown s marks right = sym (updates_only s (shown marks)) ∙ ap (store_after s) (shown_updates marks right)
 
+-- so a value comes from the updates that are marked on its hash
 pub value_shown : (key : List ℕ) (marks : List Mark) → MarksRight marks → value key (shown marks) ≡ value key (on (hash_of key) (updates marks))
 value_shown key marks right = ap (λ (s : Contents). finite.get s key) (store_shown nothing marks right) ∙ value_local key (updates marks)
 
+-- and an answer from the updates that are marked
 pub answer_shown : (c : Command) (marks : List Mark) → MarksRight marks → (applied (store_after nothing (shown marks)) c).answer ≡ (applied (store_after nothing (updates marks)) c).answer
 answer_shown c marks right = ap (λ (s : Contents). (applied s c).answer) (store_shown nothing marks right)
 
@@ -49,6 +52,7 @@ answer_shown c marks right = ap (λ (s : Contents). (applied s c).answer) (store
 pub shown_append : (xs ys : List Mark) → shown (xs ++ ys) ≡ shown xs ++ shown ys
 shown_append xs ys = ap (map asked) (filter-append is_shown xs ys) ∙ map-append asked (filter is_shown xs) (filter is_shown ys)
 
+-- what is shown before a mark and behind it
 pub shown_split : (marks : List Mark) (j : ℕ) (m : Mark) → At marks j m → is_shown m ≡ true → shown marks ≡ shown (take j marks) ++ asked m ∷ shown (drop (j + 1) marks)
 shown_split marks j m at is =
     ap shown (sym (ap (λ (w : List Mark). take j marks ++ w) (sym (drop_at marks j m at)) ∙ take-append-drop j marks)) ∙ shown_append (take j marks) (m ∷ drop (j + 1) marks)

@@ -109,6 +109,7 @@ module _ (lo hi : ℕ) (log : List Entry) (h j number : ℕ) (k : Package) (orde
       (log_back lo hi (front ++ Take number k ∷ []) back (subst (IsLog lo hi) (sym whole) fits)) quiet
       ∙ behind_append h front (Take number k ∷ [])
 
+  -- and what came is what had come before it
   pub came_taken : (key : List ℕ) → came h key log ≡ came h key front
   came_taken key = ap (came h key) (sym parts) ∙ came_more h key front (Take number k ∷ back) quiet
 

@@ -24,10 +24,12 @@ ordered_entry s k (Take migration p) o = ordered_without s.owned p.lo p.hi o
 ordered_entry s k (Give migration p) o = ordered_with_range s.owned p.lo p.hi o p.ordered
 ordered_entry s k (Expire client) o = o
 
+-- entries keep the order of each span
 pub ordered_entries : (es : List Entry) (s : LogState) (k : ℕ) → Ordered s.owned → Ordered (after_entries s k es).owned
 ordered_entries [] s k o = o
 ordered_entries (e ∷ es) s k o = ordered_entries es (after_entry s k e) (k + 1) (ordered_entry s k e o)
 
+-- so no span of a log ends before it begins
 pub log_ordered : (lo hi : ℕ) (log : List Entry) → lo ≤ hi → Ordered (meaning lo hi log).owned
 log_ordered lo hi log l = ordered_entries log (log_opening lo hi) 0 (l, tt)
 

@@ -108,6 +108,7 @@ pub store_append : (s : Contents) (xs ys : List Asked) → store_after s (xs ++ 
 store_append s [] ys = refl
 store_append s (x ∷ xs) ys = store_append (applied s x.1).after xs ys
 
+-- requests at a hash, of two lists
 pub on_append : (h : ℕ) (xs ys : List Asked) → on h (xs ++ ys) ≡ on h xs ++ on h ys
 on_append h xs ys = filter-append (λ (x : Asked). touches x.1 h) xs ys
 
@@ -121,6 +122,7 @@ value_from q (x ∷ xs) s t e = go (touches x.1 (hash_of q)) refl (value_from q 
     go true y ih = ih (applied s x.1).after (applied t x.1).after (value_step x.1 s t q e)
     go false n ih = ih (applied s x.1).after t (value_stays x.1 s q n ∙ e)
 
+-- a value comes from the requests on its hash
 pub value_local : (key : List ℕ) (xs : List Asked) → value key xs ≡ value key (on (hash_of key) xs)
 value_local key xs = value_from key xs nothing nothing refl
 
@@ -152,6 +154,7 @@ pub answers_append : (s : Contents) (xs ys : List Asked) → answers_from s (xs 
 answers_append s [] ys = refl
 answers_append s (x ∷ xs) ys = ap (λ (w : List Answer). (applied s x.1).answer ∷ w) (answers_append (applied s x.1).after xs ys)
 
+-- one answer for each request
 pub length_answers : (s : Contents) (xs : List Asked) → length (answers_from s xs) ≡ length xs
 length_answers s [] = refl
 length_answers s (x ∷ xs) = ap suc (length_answers (applied s x.1).after xs)
