@@ -9,12 +9,10 @@ use Rattle.curp_cmd.specs.declared.command.Request.{Request}
 use Rattle.curp_cmd.specs.declared.command.RequestId.{RequestId}
 use Rattle.curp_cmd.specs.declared.entry.Entry.{Entry}
 use Rattle.curp_cmd.specs.declared.entry.Entry.TheVariants.{Op, Take, Give, Expire}
-use Rattle.curp_model.specs.declared.Check.TheVariants.{New}
 use Rattle.curp_model.specs.Laws.{clash}
-use Rattle.curp_model.specs.Log.{IsDone, IsLog, Stands, answer_after, entry_touches, meaning}
+use Rattle.curp_model.specs.Log.{IsDone, IsLog, Stands, answer_after, entry_touches}
 use Rattle.curp_model.specs.Recovery.{replay}
 use Rattle.curp_cmd.specs.Hash.{hashes}
-use Rattle.curp_model.specs.Table.{check}
 use Rattle.curp_facts.specs.Reach.{Tells}
 use Rattle.curp_law_logs.specs.Hashes.{NotNew}
 use Rattle.curp_law_logs.specs.Gives.{GivesWithin}
@@ -42,10 +40,11 @@ stands_back lo hi xs ys index id a p within s = record {
   tells = tells_alike lo hi ys xs index id a s.entry (sym (take_grows index p (omega arith))) s.tells;
 }
 
--- SYNCED: what stands below a backup's length stands in the backup's log, and in each longer one
+-- what stands below a backup's length stands in the backup's log, and in each longer one
 pub synced_stands : (lo hi : ℕ) (log backup : List Entry) (index : ℕ) (id : RequestId) (a : Answer) → IsPrefix backup log → index < length backup → StandsHere lo hi log index id a → Stands lo hi backup id a
 synced_stands lo hi log backup index id a p within s = stands_from_here lo hi backup index id a (stands_back lo hi backup log index id a p within s)
 
+-- what is done in a log is done in a longer one
 pub done_grows : (lo hi : ℕ) (xs ys : List Entry) (id : RequestId) (a : Answer) → IsPrefix xs ys → IsDone lo hi xs id a → IsDone lo hi ys id a
 done_grows lo hi xs ys id a p d =
     let within : d.index < length xs = at_within xs d.index (Op d.request d.acknowledged) d.stands in
@@ -58,6 +57,7 @@ done_grows lo hi xs ys id a p d =
       its_answer = ap (λ (es : List Entry). answer_after lo hi es d.request.command) (take_grows d.index p (omega arith)) ∙ d.its_answer;
     }
 
+-- and so does what stands in it
 pub stands_grows : (lo hi : ℕ) (xs ys : List Entry) (id : RequestId) (a : Answer) → IsPrefix xs ys → Stands lo hi xs id a → Stands lo hi ys id a
 stands_grows lo hi xs ys id a p s = elim s [
   | inl done ↦ inl (done_grows lo hi xs ys id a p done)
@@ -71,15 +71,16 @@ stands_grows lo hi xs ys id a p s = elim s [
   })
 ]
 
--- ---- COLLECTED: an op whose id is known after so many entries is one of them
+-- ---- an op that was collected
 
+-- an op whose id isn't new after so many entries is one of them
 pub collected_below : (lo hi : ℕ) (log : List Entry) (i count : ℕ) (r : Request) (acknowledged : ℕ) → IsLog lo hi log → At log i (Op r acknowledged) → NotNew lo hi (take count log) r.id → i < count
 collected_below lo hi log i count r acknowledged fits at old = elim (cases_lt i count) [
   | inl below ↦ below
   | inr above ↦ absurd (known_mono_take lo hi count i log r.id above old (op_new lo hi log i r acknowledged fits at))
 ]
 
--- ---- EARLY
+-- ---- an op that was answered early
 
 -- with nothing on its hashes from a number on that the backup has, it stands in the backup's log or is replayed behind it
 pub early_replayed : (lo hi : ℕ) (log backup : List Entry) (synced i : ℕ) (r : Request) (acknowledged : ℕ) → lo ≤ hi → IsLog lo hi log → GivesWithin log → IsPrefix backup log

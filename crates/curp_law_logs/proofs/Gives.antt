@@ -1,5 +1,5 @@
 -- Gives that fit, as a log grows; and what a package brings.
-use Rattle.std.proofs.Common.{◌≡◌, ◌≤◌, ℕ, suc, ◌+◌, Bool, true, cond, List, [], ◌∷◌, ◌++◌, length, None, take, refl, ap, ◌∙◌, subst, arith}
+use Rattle.std.proofs.Common.{◌≡◌, ◌≤◌, ℕ, zero, suc, ◌+◌, Bool, true, cond, List, [], ◌∷◌, ◌++◌, length, None, take, refl, ap, ◌∙◌, subst, arith}
 use Rattle.std.specs.Cmp.Lexicographic.{slice_cmp}
 use Rattle.std.specs.FinMap as map
 use Rattle.std.specs.FinMap.Entries.{find}
@@ -23,6 +23,7 @@ gives_fit_append (Take migration p ∷ xs) ys s k n e front back = gives_fit_app
 gives_fit_append (Give migration p ∷ xs) ys s k n e front back = (front.0, gives_fit_append xs ys (after_entry s k (Give migration p)) (k + 1) n (omega arith) front.1 back)
 gives_fit_append (Expire client ∷ xs) ys s k n e front back = gives_fit_append xs ys (after_entry s k (Expire client)) (k + 1) n (omega arith) front back
 
+-- a beginning's gives fit where those of the whole do
 pub gives_fit_front : (xs ys : List Entry) (s : LogState) (k : ℕ) → GivesFit s k (xs ++ ys) → GivesFit s k xs
 gives_fit_front [] ys s k all = tt
 gives_fit_front (Op r acknowledged ∷ xs) ys s k all = gives_fit_front xs ys (after_entry s k (Op r acknowledged)) (k + 1) all
@@ -34,6 +35,7 @@ gives_fit_front (Expire client ∷ xs) ys s k all = gives_fit_front xs ys (after
 abbrev pub NoGives : List Entry → Type 0
 NoGives es = (k migration : ℕ) (p : Package) → At es k (Give migration p) → ⊥
 
+-- where there is none, each fits
 pub no_gives_fit : (es : List Entry) (s : LogState) (k : ℕ) → NoGives es → GivesFit s k es
 no_gives_fit [] s k none = tt
 no_gives_fit (Op r acknowledged ∷ es) s k none = no_gives_fit es (after_entry s k (Op r acknowledged)) (k + 1) (λ i. none (suc i))
@@ -49,6 +51,18 @@ gives_fit_more lo hi log more fits none = gives_fit_append log more (log_opening
 pub gives_fit_give : (lo hi : ℕ) (log : List Entry) (migration : ℕ) (p : Package) → GivesFit (log_opening lo hi) 0 log → GiveFits (meaning lo hi log) p → GivesFit (log_opening lo hi) 0 (log ++ Give migration p ∷ [])
 gives_fit_give lo hi log migration p fits here = gives_fit_append log (Give migration p ∷ []) (log_opening lo hi) 0 (length log) (omega arith) fits (here, tt)
 
+-- the pairs of gives that fit lie in their ranges
+pub gives_within : (es : List Entry) (s : LogState) (k : ℕ) → GivesFit s k es → GivesWithin es
+gives_within [] s k fits i migration p at = absurd cc
+gives_within (Op r acknowledged ∷ es) s k fits zero migration p at = absurd cc
+gives_within (Op r acknowledged ∷ es) s k fits (suc i) migration p at = gives_within es (after_entry s k (Op r acknowledged)) (k + 1) fits i migration p at
+gives_within (Take m x ∷ es) s k fits zero migration p at = absurd cc
+gives_within (Take m x ∷ es) s k fits (suc i) migration p at = gives_within es (after_entry s k (Take m x)) (k + 1) fits i migration p at
+gives_within (Give m x ∷ es) s k fits zero migration p at = let same : x ≡ p = cc in subst (λ (y : Package). PairsWithin y.lo y.hi y.pairs) same fits.0.within
+gives_within (Give m x ∷ es) s k fits (suc i) migration p at = gives_within es (after_entry s k (Give m x)) (k + 1) fits.1 i migration p at
+gives_within (Expire client ∷ es) s k fits zero migration p at = absurd cc
+gives_within (Expire client ∷ es) s k fits (suc i) migration p at = gives_within es (after_entry s k (Expire client)) (k + 1) fits i migration p at
+
 -- each give fits where each that stands does
 pub gives_fit_from : (es : List Entry) (s : LogState) (k : ℕ) → ((i migration : ℕ) (p : Package) → At es i (Give migration p) → GiveFits (after_entries s k (take i es)) p) → GivesFit s k es
 gives_fit_from [] s k each = tt
@@ -62,8 +76,10 @@ gives_fit_from (Expire client ∷ es) s k each = gives_fit_from es (after_entry 
 pub package_pair : (s : LogState) (lo hi : ℕ) (ordered : lo ≤ hi) (key : List ℕ) → is_in lo hi (hash_of key) ≡ true → find (slice_cmp nat_cmp) key (package_of s lo hi ordered).pairs ≡ map.get s.store key
 package_pair s lo hi ordered key within = find_in_range s.store lo hi key ∙ ap (λ (b : Bool). cond b (map.get s.store key) None) within
 
+-- the keys of its pairs ascend
 pub package_ascends : (s : LogState) (lo hi : ℕ) (ordered : lo ≤ hi) → PairsAscend (package_of s lo hi ordered).pairs
 package_ascends s lo hi ordered = range_ascends s.store lo hi
 
+-- and lie in its range
 pub package_within : (s : LogState) (lo hi : ℕ) (ordered : lo ≤ hi) → PairsWithin lo hi (package_of s lo hi ordered).pairs
 package_within s lo hi ordered = range_within lo hi (map.entries s.store)

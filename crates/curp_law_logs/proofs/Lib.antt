@@ -17,3 +17,5 @@ pub mod Behind
 pub mod LogValues
 pub mod Owned
 pub mod Migrations
+pub mod Taken
+pub mod Shown

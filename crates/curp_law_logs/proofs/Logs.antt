@@ -26,6 +26,7 @@ use Rattle.curp_law_logs.proofs.Tables.{Seen, merge_known, packed_carries, seen_
 pub take_grows : {A : Type 0} {xs ys : List A} (n : ℕ) → IsPrefix xs ys → n ≤ length xs → take n ys ≡ take n xs
 take_grows {xs = xs} n p l = ap (take n) (sym p.is) ∙ take-append-le n xs p.rest l
 
+-- the first so many begin the list
 pub prefix_take : {A : Type 0} (n : ℕ) (xs : List A) → IsPrefix (take n xs) xs
 prefix_take n xs = record { rest = drop n xs; is = take-append-drop n xs }
 
@@ -40,6 +41,7 @@ take_suc [] k x at = absurd cc
 take_suc (y ∷ xs) zero x at = let same : y ≡ x = cc in ap (λ z. z ∷ []) same
 take_suc (y ∷ xs) (suc k) x at = ap (λ w. y ∷ w) (take_suc xs k x at)
 
+-- one more
 pub take_one : {A : Type 0} (xs : List A) (k : ℕ) (x : A) → At xs k x → take (k + 1) xs ≡ take k xs ++ x ∷ []
 take_one xs k x at = ap (λ n. take n xs) (add-one k) ∙ take_suc xs k x at
 
@@ -66,6 +68,7 @@ log_front lo hi xs ys fits = (log_parts lo hi xs ys fits).0
 pub log_back : (lo hi : ℕ) (xs ys : List Entry) → IsLog lo hi (xs ++ ys) → all_fit (meaning lo hi xs) (length xs) ys ≡ true
 log_back lo hi xs ys fits = (log_parts lo hi xs ys fits).1
 
+-- and so is each list that it begins with
 pub log_prefix : (lo hi : ℕ) (xs ys : List Entry) → IsPrefix xs ys → IsLog lo hi ys → IsLog lo hi xs
 log_prefix lo hi xs ys p fits = log_front lo hi xs p.rest (subst (IsLog lo hi) (sym p.is) fits)
 
@@ -76,6 +79,7 @@ log_take lo hi n log fits = log_prefix lo hi (take n log) log (prefix_take n log
 pub log_more : (lo hi : ℕ) (xs ys : List Entry) → IsLog lo hi xs → all_fit (meaning lo hi xs) (length xs) ys ≡ true → IsLog lo hi (xs ++ ys)
 log_more lo hi xs ys fits more = fit_parts xs ys (log_opening lo hi) 0 (length xs) (omega arith) ∙ and_from _ _ fits more
 
+-- one entry more
 pub log_push : (lo hi : ℕ) (xs : List Entry) (e : Entry) → IsLog lo hi xs → fits_at (meaning lo hi xs) e ≡ true → IsLog lo hi (xs ++ e ∷ [])
 log_push lo hi xs e fits here = log_more lo hi xs (e ∷ []) fits (and_from _ _ here refl)
 
@@ -89,10 +93,11 @@ fits_place lo hi log i e fits at =
 pub op_new : (lo hi : ℕ) (log : List Entry) (i : ℕ) (r : Request) (acknowledged : ℕ) → IsLog lo hi log → At log i (Op r acknowledged) → check (meaning lo hi (take i log)).table r.id ≡ New
 op_new lo hi log i r acknowledged fits at = new_by_test _ (and_parts (is_new (check (meaning lo hi (take i log)).table r.id)) _ (fits_place lo hi log i (Op r acknowledged) fits at)).0
 
+-- its hashes are owned
 pub op_owned : (lo hi : ℕ) (log : List Entry) (i : ℕ) (r : Request) (acknowledged : ℕ) → IsLog lo hi log → At log i (Op r acknowledged) → owns_all (meaning lo hi (take i log)).owned (hashes r.command) ≡ true
 op_owned lo hi log i r acknowledged fits at = (and_parts (is_new (check (meaning lo hi (take i log)).table r.id)) _ (fits_place lo hi log i (Op r acknowledged) fits at)).1
 
--- ---- N3: what isn't new stays so
+-- ---- what isn't new stays so
 
 pub known_mono : (lo hi : ℕ) (xs ys : List Entry) (id : RequestId) → IsPrefix xs ys → NotNew lo hi xs id → NotNew lo hi ys id
 known_mono lo hi xs ys id p old =
@@ -100,6 +105,7 @@ known_mono lo hi xs ys id p old =
     let whole : after_entries (meaning lo hi xs) (length xs) p.rest ≡ meaning lo hi ys = sym (meaning_append lo hi xs p.rest) ∙ ap (meaning lo hi) p.is in
     seen_old (meaning lo hi ys).table id (subst (λ (s : LogState). Seen s.table id) whole seen)
 
+-- the same along one log
 pub known_mono_take : (lo hi i j : ℕ) (log : List Entry) (id : RequestId) → i ≤ j → NotNew lo hi (take i log) id → NotNew lo hi (take j log) id
 known_mono_take lo hi i j log id l old = known_mono lo hi (take i log) (take j log) id (prefix_takes i j log l) old
 
@@ -137,7 +143,7 @@ given_new : (s : LogState) (k migration : ℕ) (p : Package) (id : RequestId) �
 unfolding after_entry
 given_new s k migration p id carries = merge_known s.table p.table k id carries
 
--- N8 in a log: what a give carries isn't new behind it
+-- what a give carries isn't new behind it
 pub give_old : (lo hi : ℕ) (log : List Entry) (i n migration : ℕ) (p : Package) (id : RequestId) → At log i (Give migration p) → i < n → Carries p.table id → NotNew lo hi (take n log) id
 give_old lo hi log i n migration p id at l carries =
     known_mono_take lo hi (i + 1) n log id (omega arith) (λ new. here (subst (λ (s : LogState). check s.table id ≡ New) next new))

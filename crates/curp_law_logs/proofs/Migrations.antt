@@ -121,9 +121,11 @@ numbers_once number log ascend i j m d e at_i at_j is_d is_e = elim (cases_order
   ]
 ]
 
+-- so each take stands once
 pub takes_once : (log : List Entry) → NumbersAscend take_number log → (i j number : ℕ) (k l : Package) → At log i (Take number k) → At log j (Take number l) → i ≡ j
 takes_once log ascend i j number k l at_i at_j = numbers_once take_number log ascend i j number (Take number k) (Take number l) at_i at_j refl refl
 
+-- and each give
 pub gives_once : (log : List Entry) → NumbersAscend give_number log → (i j number : ℕ) (k l : Package) → At log i (Give number k) → At log j (Give number l) → i ≡ j
 gives_once log ascend i j number k l at_i at_j = numbers_once give_number log ascend i j number (Give number k) (Give number l) at_i at_j refl refl
 

@@ -1,4 +1,4 @@
--- N2: what a log's table has a record of stands in the log, at its index and with its answer.
+-- What a log's table has a record of stands in the log, at its index and with its answer.
 use Rattle.std.proofs.Common.{◌≡◌, ◌⊎◌, inl, inr, ◌<◌, ◌==◌, nat_lt, not, ℕ, List, [], ◌∷◌, ◌++◌, length, take, Option, Some, None, ap, sym, ◌∙◌, subst, arith, append_assoc, append-nil}
 use Rattle.std.specs.FinMap.Entries.{find}
 use Rattle.std.proofs.Math.Seq.{take-append_seam}
@@ -19,7 +19,7 @@ use Rattle.curp_facts.specs.Facts.{IsAmong}
 use Rattle.curp_model.specs.Log.{LogState, after_entry, answer_after, meaning}
 use Rattle.curp_model.specs.Table.{Noted, Table, check, first_number, is_below, is_gone, known, note}
 use Rattle.curp_model.proofs.Logs.{meaning_append}
-use Rattle.curp_facts.specs.Reach.{Tells}
+use Rattle.curp_facts.specs.Reach.{StandsAt, Tells}
 use Rattle.curp_law_logs.specs.Standing.{StandsHere}
 use Rattle.curp_law_logs.proofs.Logs.{take_grows}
 use Rattle.curp_law_logs.proofs.Tables.{found_where, merged_found, noted_found}
@@ -28,6 +28,7 @@ use Rattle.curp_law_logs.proofs.Tables.{found_where, merged_found, noted_found}
 abbrev pub IsNoted : ℕ → ℕ → List Entry → Type 0
 IsNoted lo hi log = (id : RequestId) (n : Noted) → find id_cmp id (meaning lo hi log).table.records ≡ Some n → StandsHere lo hi log n.index id n.answer
 
+-- what an entry tells comes from the entries before it
 pub tells_alike : (lo hi : ℕ) (xs ys : List Entry) (index : ℕ) (id : RequestId) (a : Answer) (e : Entry) → take index ys ≡ take index xs → Tells lo hi xs index id a e → Tells lo hi ys index id a e
 tells_alike lo hi xs ys index id a (Op r acknowledged) same t = (t.0, ap (λ (before : List Entry). answer_after lo hi before r.command) same ∙ t.1)
 tells_alike lo hi xs ys index id a (Take migration taken) same t = absurd t
@@ -39,6 +40,14 @@ pub stands_longer : (lo hi : ℕ) (xs ys : List Entry) (index : ℕ) (id : Reque
 stands_longer lo hi xs ys index id a p s =
     let within : index < length xs = at_within xs index s.entry s.stands in
     record { entry = s.entry; stands = prefix_at p index s.entry s.stands; tells = tells_alike lo hi xs ys index id a s.entry (take_grows index p (omega arith)) s.tells }
+
+-- where it stands, at its index, and the other way round
+pub stands_here : (lo hi : ℕ) (log : List Entry) (id : RequestId) (a : Answer) → (s : StandsAt lo hi log id a) → StandsHere lo hi log s.index id a
+stands_here lo hi log id a s = record { entry = s.entry; stands = s.stands; tells = s.tells }
+
+-- what stands at an index stands
+abbrev pub stands_at : (lo hi : ℕ) (log : List Entry) (index : ℕ) (id : RequestId) (a : Answer) → StandsHere lo hi log index id a → StandsAt lo hi log id a
+stands_at lo hi log index id a s = record { index = index; entry = s.entry; stands = s.stands; tells = s.tells }
 
 found_after_op : (s : LogState) (k : ℕ) (r : Request) (acknowledged : ℕ) (id : RequestId) (n : Noted) → find id_cmp id (after_entry s k (Op r acknowledged)).table.records ≡ Some n
     → ((id ≡ r.id) × ((record { answer = (applied s.store r.command).answer; index = k }) ≡ n)) ⊎ (find id_cmp id s.table.records ≡ Some n)
@@ -91,7 +100,7 @@ noted_more : (lo hi : ℕ) (log more : List Entry) → IsNoted lo hi log → IsN
 noted_more lo hi log [] ok = subst (IsNoted lo hi) (sym (append-nil log)) ok
 noted_more lo hi log (e ∷ es) ok = subst (IsNoted lo hi) (append_assoc log (e ∷ []) es) (noted_more lo hi (log ++ e ∷ []) es (noted_push lo hi log e ok))
 
--- N2
+-- each record of a log's table stands in the log
 pub noted : (lo hi : ℕ) (log : List Entry) → IsNoted lo hi log
 noted lo hi log = noted_more lo hi [] log (λ id n found. absurd cc)
 

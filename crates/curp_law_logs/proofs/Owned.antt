@@ -1,4 +1,4 @@
--- N6: a log's store has only keys whose hashes are owned, and the pairs of a package lie in its range.
+-- A log's store has only keys whose hashes are owned, and the pairs of a package lie in its range.
 use Rattle.std.proofs.Common.{◌≡◌, ◌≤◌, ◌&&◌, not, ℕ, suc, ◌+◌, Bool, true, false, cond, List, [], ◌∷◌, take, Some, None, refl, ap, sym, ◌∙◌, subst}
 use Rattle.std.specs.Cmp.Lexicographic.{slice_cmp}
 use Rattle.std.specs.FinMap as map
@@ -51,6 +51,7 @@ bare_entry q s k (Take migration p) ordered fits gives bare = bare_take q s k mi
 bare_entry q s k (Give migration p) ordered fits gives bare = bare_give q s k migration p ordered (gives migration p refl) bare
 bare_entry q s k (Expire client) ordered fits gives bare = bare
 
+-- entries keep it
 pub bare_entries : (q : List ℕ) (es : List Entry) (s : LogState) (k : ℕ) → Ordered s.owned → all_fit s k es ≡ true → GivesWithin es → Bare q s → Bare q (after_entries s k es)
 bare_entries q [] s k ordered fits gives bare = bare
 bare_entries q (e ∷ es) s k ordered fits gives bare =
@@ -66,5 +67,6 @@ log_bare lo hi log l fits gives q = bare_entries q log (log_opening lo hi) 0 (l,
 pub take_ascends : (lo hi : ℕ) (log : List Entry) (i migration : ℕ) (p : Package) → IsLog lo hi log → At log i (Take migration p) → PairsAscend p.pairs
 take_ascends lo hi log i migration p fits at = subst PairsAscend (sym (ap (λ (x : Package). x.pairs) (take_package lo hi log i migration p fits at))) (package_ascends (meaning lo hi (take i log)) p.lo p.hi p.ordered)
 
+-- they lie in its range
 pub take_within : (lo hi : ℕ) (log : List Entry) (i migration : ℕ) (p : Package) → IsLog lo hi log → At log i (Take migration p) → PairsWithin p.lo p.hi p.pairs
 take_within lo hi log i migration p fits at = subst (PairsWithin p.lo p.hi) (sym (ap (λ (x : Package). x.pairs) (take_package lo hi log i migration p fits at))) (package_within (meaning lo hi (take i log)) p.lo p.hi p.ordered)

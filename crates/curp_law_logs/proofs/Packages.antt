@@ -1,5 +1,5 @@
 -- What the test of packages says in a log.
-use Rattle.std.proofs.Common.{◌≡◌, ◌≤◌, ◌&&◌, ℕ, true, List, take, refl}
+use Rattle.std.proofs.Common.{◌≡◌, ◌≤◌, ℕ, true, List, take, refl}
 use Rattle.std.proofs.lemmas.Bool.{and_from, and_parts}
 use Rattle.curp_base.specs.Words.{At}
 use Rattle.curp_cmd.specs.declared.entry.Entry.{Entry}

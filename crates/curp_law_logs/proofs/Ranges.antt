@@ -1,11 +1,6 @@
 -- Owned ranges at one hash.
 use Rattle.std.proofs.Common.{◌≡◌, ℕ, zero, suc, ◌+◌, ◌-◌, ◌≤◌, min, max, nat_lt, ◌==◌, Some, Bool, true, false, cond, ◌&&◌, ◌||◌, not, inl, inr, List, [], ◌∷◌, ◌++◌, refl, ap, sym, ◌∙◌, arith}
-use Rattle.std.specs.List.{list_any, list_all, fold}
-use Rattle.std.specs.BTreeSet.{insert_key}
-use Rattle.std.specs.Ordering.{nat_cmp, match_ordering}
-use Rattle.std.specs.declared.cmp.Ordering.{Ordering}
-use Rattle.std.specs.declared.cmp.Ordering.TheVariants.{Less, Equal, Greater}
-use Rattle.std.specs.FinMap.{nat_cmp-IsAntisymmetric}
+use Rattle.std.specs.List.{list_any, list_all}
 use Rattle.std.proofs.lemmas.Bool.{and_parts, and_from, or_cases, or_left, or_right, cond_both}
 use Rattle.std.proofs.lemmas.Bool.Decides.{nat_tests}
 use Rattle.std.proofs.lemmas.List.Folds.{list_any-append}
@@ -57,6 +52,7 @@ both_without true b true = both_none b
 both_without true b false = refl
 both_without false b c = refl
 
+-- a hash is owned behind it, if it was and is not of the range
 pub owned_without : (spans : List Span) (lo hi h : ℕ) → is_owned (without spans lo hi) h ≡ (is_owned spans h && not (is_in lo hi h))
 owned_without [] lo hi h = refl
 owned_without (s ∷ spans) lo hi h =
@@ -95,6 +91,7 @@ last_or a b c = turn_or b (a || c)
 joined : (a b first last h : ℕ) → a ≤ b → first ≤ last → nat_lt (b + 1) first ≡ false → nat_lt (last + 1) a ≡ false → is_in (min a first) (max b last) h ≡ (is_in a b h || is_in first last h)
 joined a b first last h o q front back = grind (arith, nat_tests)
 
+-- a hash is owned behind it, if it was or is of the range
 pub owned_with_range : (spans : List Span) (lo hi h : ℕ) → Ordered spans → lo ≤ hi → is_owned (with_range spans lo hi) h ≡ (is_owned spans h || is_in lo hi h)
 owned_with_range [] lo hi h o l = turn_or (is_in lo hi h) false
 owned_with_range (s ∷ spans) lo hi h o l =
@@ -143,9 +140,11 @@ any_among h xs m = go xs m.place m.stands
     go (x ∷ xs) zero at = let same : x ≡ h = cc in or_left _ _ (ap (λ (y : ℕ). y == h) same ∙ same_number h)
     go (x ∷ xs) (suc k) at = or_right (x == h) _ (go xs k at)
 
+-- what a command touches stands among its hashes
 pub touched_among : (c : Command) (h : ℕ) → touches c h ≡ true → IsAmong h (hashes c)
 touched_among c h t = among_any h (hashes c) (any_hashes (λ x. x == h) c ∙ t)
 
+-- and the other way round
 pub among_touched : (c : Command) (h : ℕ) → IsAmong h (hashes c) → touches c h ≡ true
 among_touched c h m = sym (any_hashes (λ x. x == h) c) ∙ any_among h (hashes c) m
 
@@ -153,6 +152,7 @@ among_touched c h m = sym (any_hashes (λ x. x == h) c) ∙ any_among h (hashes 
 pub each_touched : (P : ℕ → Type 0) (c : Command) → Each P (hashes c) → (h : ℕ) → touches c h ≡ true → P h
 each_touched P c each h t = let m = touched_among c h t in Each-at P (hashes c) each m.place h m.stands
 
+-- and the other way round
 pub touched_each : (P : ℕ → Type 0) (c : Command) → ((h : ℕ) → touches c h ≡ true → P h) → Each P (hashes c)
 touched_each P c all = Each-from_at P (hashes c) (λ k h at. all h (among_touched c h (record { place = k; stands = at })))
 
@@ -168,5 +168,6 @@ all_from p (h ∷ hs) each = and_from _ _ each.0 (all_from p hs each.1)
 pub owns_touched : (spans : List Span) (c : Command) → owns_all spans (hashes c) ≡ true → (h : ℕ) → touches c h ≡ true → is_owned spans h ≡ true
 owns_touched spans c e = each_touched (λ h. is_owned spans h ≡ true) c (all_at (is_owned spans) (hashes c) e)
 
+-- and the other way round
 pub owns_from_touched : (spans : List Span) (c : Command) → ((h : ℕ) → touches c h ≡ true → is_owned spans h ≡ true) → owns_all spans (hashes c) ≡ true
 owns_from_touched spans c all = all_from (is_owned spans) (hashes c) (touched_each (λ h. is_owned spans h ≡ true) c all)

@@ -1,33 +1,26 @@
 -- Replays: they make logs, and a request that nothing touched is replayed with the answer that it had.
-use Rattle.std.proofs.Common.{◌≡◌, ◌⊎◌, inl, inr, ◌≤◌, ◌<◌, ◌&&◌, ◌||◌, not, ℕ, suc, ◌+◌, Bool, true, false, cond, List, [], ◌∷◌, ◌++◌, length, take, Some, None, refl, ap, sym, ◌∙◌, subst, arith}
-use Rattle.std.specs.FinMap as map
+use Rattle.std.proofs.Common.{◌≡◌, ◌⊎◌, inl, inr, ◌≤◌, ◌<◌, ◌&&◌, ℕ, suc, ◌+◌, Bool, true, false, cond, List, [], ◌∷◌, ◌++◌, length, take, refl, ap, sym, ◌∙◌, subst, arith}
 use Rattle.std.specs.List.{IsDistinct}
 use Rattle.std.proofs.lemmas.Bool.{and_parts, and_from}
 use Rattle.std.proofs.lemmas.List.{length-take-le}
-use Rattle.curp_base.specs.Words.{At, Each, IsPrefix}
+use Rattle.curp_base.specs.Words.{At, IsPrefix}
 use Rattle.curp_base.proofs.Lists.{at_append_right, at_push_cases, at_take, at_within, prefix_self, prefix_trans, prefix_push}
-use Rattle.curp_cmd.specs.Hash.{conflicts, hash_of, hashes, touches}
-use Rattle.curp_cmd.specs.Store.{Contents, applied, keys_of}
+use Rattle.curp_cmd.specs.Hash.{hashes, touches}
 use Rattle.curp_cmd.specs.declared.command.Command.{Command}
 use Rattle.curp_cmd.specs.declared.command.Request.{Request}
 use Rattle.curp_cmd.specs.declared.entry.Entry.{Entry}
-use Rattle.curp_cmd.specs.declared.entry.Entry.TheVariants.{Op, Take, Give, Expire}
-use Rattle.curp_cmd.specs.declared.migration.Package.{Package}
-use Rattle.curp_range.specs.Spans.{is_owned}
+use Rattle.curp_cmd.specs.declared.entry.Entry.TheVariants.{Op, Give}
 use Rattle.curp_model.specs.declared.Check.TheVariants.{New}
 use Rattle.curp_facts.specs.Facts.{IsAmong}
 use Rattle.curp_model.specs.Laws.{clash}
-use Rattle.curp_model.specs.Log.{LogState, IsDone, IsLog, log_opening, after_entry, after_entries, answer_after, entry_touches, is_new, meaning}
+use Rattle.curp_model.specs.Log.{IsDone, IsLog, answer_after, entry_touches, is_new, meaning}
 use Rattle.curp_model.specs.Ranges.{owns_all}
 use Rattle.curp_model.specs.Recovery.{replay, replays}
 use Rattle.curp_model.specs.Table.{check}
-use Rattle.curp_model.proofs.Logs.{meaning_append}
 use Rattle.curp_model.proofs.Replays.{alone}
-use Rattle.curp_law_logs.proofs.Apart.{keys_apart, local, same_after, same_second}
+use Rattle.curp_law_logs.proofs.Values.{commute, second_alone}
 use Rattle.curp_law_logs.proofs.Logs.{log_push, new_before, op_new, op_owned, prefix_takes}
-use Rattle.curp_law_logs.proofs.Ranges.{Ordered, each_touched, ordered_with_range, ordered_without, owned_with_range, owned_without, owns_from_touched, owns_touched}
-use Rattle.curp_law_logs.proofs.Stores.{get_with_others, get_without_keys}
-use Rattle.curp_law_logs.proofs.Values.{answer_alike, value_stays}
+use Rattle.curp_law_logs.proofs.Ranges.{each_touched}
 use Rattle.curp_law_logs.specs.Standing.{IsFree, Untouched}
 use Rattle.curp_law_logs.specs.Gives.{GivesWithin}
 use Rattle.curp_law_logs.proofs.Untouched.{answer_untouched, owns_untouched}
@@ -37,6 +30,7 @@ use Rattle.curp_law_logs.proofs.Untouched.{answer_untouched, owns_untouched}
 swap_and : (a b : Bool) → (a && b) ≡ true → (b && a) ≡ true
 swap_and a b e = let p = and_parts a b e in and_from _ _ p.1 p.0
 
+-- what is replayed behind a log makes a log
 pub replay_log : (lo hi : ℕ) (rs : List Request) (log : List Entry) → IsLog lo hi log → IsLog lo hi (replay lo hi log rs)
 replay_log lo hi [] log fits = fits
 replay_log lo hi (r ∷ rs) log fits = go (replays (meaning lo hi log) r) refl (replay_log lo hi rs (log ++ Op r 0 ∷ [])) (replay_log lo hi rs log fits)
@@ -46,6 +40,7 @@ replay_log lo hi (r ∷ rs) log fits = go (replays (meaning lo hi log) r) refl (
     go true y longer same = longer (log_push lo hi log (Op r 0) fits (swap_and (owns_all (meaning lo hi log).owned (hashes r.command)) _ y))
     go false n longer same = same
 
+-- which begins with it
 pub replay_prefix : (lo hi : ℕ) (rs : List Request) (log : List Entry) → IsPrefix log (replay lo hi log rs)
 replay_prefix lo hi [] log = prefix_self log
 replay_prefix lo hi (r ∷ rs) log = go (replays (meaning lo hi log) r) (replay_prefix lo hi rs (log ++ Op r 0 ∷ [])) (replay_prefix lo hi rs log)
@@ -79,12 +74,6 @@ replay_cases lo hi (r ∷ rs) log k e at = go (replays (meaning lo hi log) r) at
     ]
 
 -- ---- a request that nothing touched behind a beginning
-
-pub commute : (s : Contents) (a b : Command) → conflicts a b ≡ false → (applied (applied s a).after b).after ≡ (applied (applied s b).after a).after
-commute s a b none = same_after (keys_of a) (keys_of b) (λ s. applied s a) (λ s. applied s b) (local a) (local b) (keys_apart a b none) s
-
-pub second_alone : (s : Contents) (a b : Command) → conflicts a b ≡ false → (applied (applied s a).after b).answer ≡ (applied s b).answer
-second_alone s a b none = same_second (keys_of a) (keys_of b) (λ s. applied s a) (λ s. applied s b) (local a) (local b) (keys_apart a b none) s
 
 between_at : (log : List Entry) (c i : ℕ) (p : IsPrefix (take c log) (take i log)) → c ≤ i → i < length log → (k : ℕ) (e : Entry) → At p.rest k e → (c + k < i) × At log (c + k) e
 between_at log c i p l within k e at =

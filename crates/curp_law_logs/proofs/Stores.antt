@@ -9,7 +9,6 @@ use Rattle.std.specs.FinMap.{slice_cmp-IsAntisymmetric, nat_cmp-IsAntisymmetric}
 use Rattle.std.specs.FinMap as map
 use Rattle.std.specs.FinMap.Entries.{find, below_all, is_some-find, is_sorted-where_key, find-where_key}
 use Rattle.std.proofs.lemmas.Map.Views.{tells_apart}
-use Rattle.curp_base.specs.Words.{Each}
 use Rattle.curp_cmd.specs.Hash.{hash_of}
 use Rattle.curp_cmd.specs.Pairs.{Pair}
 use Rattle.curp_cmd.specs.Store.{Contents, with_pairs}
@@ -67,6 +66,7 @@ outside_absent lo hi q (p ∷ ps) within out = go (eq_by_cmp order q p.0) refl (
         absurd (cc (within.0, out, ap (λ (k : List ℕ). is_in lo hi (hash_of k)) same))
     go false e ih = ih
 
+-- pairs of a range leave the values of other keys
 pub get_with_others : (lo hi : ℕ) (ps : List Pair) (s : Contents) (q : List ℕ) → PairsWithin lo hi ps → is_in lo hi (hash_of q) ≡ false → map.get (with_pairs s ps) q ≡ map.get s q
 get_with_others lo hi ps s q within out = with_pairs-other ps s q (outside_absent lo hi q ps within out)
 
@@ -93,9 +93,11 @@ pub find_in_range : (s : Contents) (lo hi : ℕ) (q : List ℕ) → find order q
 find_in_range s lo hi q =
     find-where_key order (λ k. is_in lo hi (hash_of k)) q (same_range lo hi q) (map.entries s) ∙ ap (λ (o : Option (List ℕ)). cond (is_in lo hi (hash_of q)) o None) (sym (map.get-entries s q))
 
+-- their keys ascend
 pub range_ascends : (s : Contents) (lo hi : ℕ) → PairsAscend (filter (is_pair_in lo hi) (map.entries s))
 range_ascends s lo hi = is_sorted-where_key order (λ k. is_in lo hi (hash_of k)) (map.entries s) (map.entries_sorted s)
 
+-- and lie in the range
 pub range_within : (lo hi : ℕ) (ps : List Pair) → PairsWithin lo hi (filter (is_pair_in lo hi) ps)
 range_within lo hi [] = tt
 range_within lo hi (p ∷ ps) = go (is_in lo hi (hash_of p.0)) refl (range_within lo hi ps)

@@ -21,8 +21,8 @@ use Rattle.curp_cmd.specs.declared.command.RequestId.{RequestId}
 use Rattle.curp_cmd.specs.declared.migration.TablePart.{TablePart}
 use Rattle.curp_model.specs.declared.Check.TheVariants.{Expired, Stale, New}
 use Rattle.curp_facts.specs.Facts.{IsAmong}
-use Rattle.curp_model.specs.Table.{Noted, Table, check, known, is_gone, first_number, is_of_use, of_use, note, note_once, raise_first, packed, merge}
-use Rattle.curp_model.proofs.Tables.{ids_total, ids_same, Has, has_note, has_only, has_merge, not_new, first_rises, kept_before, kept_from}
+use Rattle.curp_model.specs.Table.{Noted, Table, check, known, is_gone, first_number, is_of_use, note, note_once, raise_first, packed, merge}
+use Rattle.curp_model.proofs.Tables.{ids_total, ids_same, Has, has_note, has_only, has_merge, not_new, first_rises, kept_before}
 use Rattle.curp_law_logs.specs.Standing.{Carries}
 
 -- ---- numbers put in their places
@@ -46,6 +46,7 @@ any_inserted p k (x ∷ xs) = go (nat_cmp k x) refl (any_inserted p k xs)
     go Equal e ih = twice (p x) (list_any p xs) ∙ ap (λ (y : ℕ). p y || (p x || list_any p xs)) (sym (nat_cmp-IsAntisymmetric k x e))
     go Greater e ih = ap (λ (b : Bool). p x || b) ih ∙ swap (p x) (p k) (list_any p xs)
 
+-- some of the numbers that are there, or that come
 pub any_folded : (p : ℕ → Bool) (ks xs : List ℕ) → list_any p (fold (insert_key nat_cmp) xs ks) ≡ (list_any p ks || list_any p xs)
 any_folded p [] xs = refl
 any_folded p (k ∷ ks) xs = any_folded p ks (insert_key nat_cmp xs k) ∙ ap (λ (b : Bool). list_any p ks || b) (any_inserted p k xs) ∙ turn (list_any p ks) (p k) (list_any p xs)
@@ -74,6 +75,7 @@ kept_parts t id k =
     let parts = and_parts (not (is_gone t id.client)) (nat_le (first_number t id.client) id.seq) k in
     (not-true _ parts.0, let low : nat_le (first_number t id.client) id.seq ≡ true = parts.1 in grind (arith, nat_tests))
 
+-- what is of use is checked by its record
 pub check_kept : (t : Table) (id : RequestId) → is_of_use t id ≡ true → check t id ≡ known (find id_cmp id t.records)
 unfolding check
 check_kept t id k =
@@ -85,6 +87,7 @@ check_kept t id k =
 pub seen_from : (t : Table) (id : RequestId) → (check t id ≡ New → ⊥) → Seen t id
 seen_from t id old k = some_any (find id_cmp id t.records) (λ e. old (check_kept t id k ∙ e))
 
+-- and what is seen is not new
 pub seen_old : (t : Table) (id : RequestId) → Seen t id → check t id ≡ New → ⊥
 seen_old t id seen = not_new t id Any seen
 
@@ -98,6 +101,7 @@ found_where test es id n e = go (test id) (sym (find-where_key id_cmp test id (�
     go true e = e
     go false e = absurd cc
 
+-- a record is the one that is noted, or was there
 pub noted_found : (t : Table) (id other : RequestId) (new n : Noted) → find id_cmp id (note t other new.answer new.index).records ≡ Some n
     → ((id ≡ other) × (new ≡ n)) ⊎ (find id_cmp id t.records ≡ Some n)
 noted_found t id other new n e = go (eq_by_cmp id_cmp id other) refl (sym (find-put id_cmp ids_total id other new t.records) ∙ e)
@@ -122,6 +126,7 @@ once_found index t e id n None f = elim (noted_found t id e.0 (record { answer =
   | inr old ↦ inr old
 ]
 
+-- a record is one of those that are noted, or was there
 pub all_found : (index : ℕ) (es : List (RequestId × Answer)) (t : Table) (id : RequestId) (n : Noted) → find id_cmp id (noted_all index es t).records ≡ Some n
     → IsBroughtBy es index id n ⊎ (find id_cmp id t.records ≡ Some n)
 all_found index [] t id n f = inr f
@@ -162,6 +167,7 @@ some_of : (o : Option Noted) → IsSomeAnd o Any → (n : Noted) × (o ≡ Some 
 some_of None s = absurd s
 some_of (Some n) s = (n, refl)
 
+-- what a table knows goes along
 pub packed_carries : (t : Table) (id : RequestId) → (check t id ≡ New → ⊥) → Carries (packed t) id
 packed_carries t id old = go (is_gone t id.client) refl (nat_lt id.seq (first_number t id.client)) refl
   where
@@ -233,6 +239,7 @@ acknowledged_seen t id l k = let no_less = (kept_parts t id k).1 in absurd (grin
 records_seen : (t u : Table) (id : RequestId) → u.records ≡ t.records → (is_gone t id.client ≡ true → is_gone u id.client ≡ true) → first_number t id.client ≤ first_number u id.client → Seen t id → Seen u id
 records_seen t u id same gone rises seen k = subst (λ (es : List (RequestId × Noted)). IsSomeAnd (find id_cmp id es) Any) (sym same) (seen (kept_before t u id gone rises k))
 
+-- what goes along is known where it is given
 pub merge_known : (t : Table) (part : TablePart) (index : ℕ) (id : RequestId) → Carries part id → check (merge t part index) id ≡ New → ⊥
 unfolding merge
 merge_known t part index id carries =

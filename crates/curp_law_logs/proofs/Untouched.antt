@@ -1,31 +1,17 @@
 -- Entries that don't touch a hash: who owns it, the values at it, and the answers there.
-use Rattle.std.proofs.Common.{◌≡◌, ◌⊎◌, inl, inr, ◌≤◌, ◌<◌, ◌&&◌, ◌||◌, not, ℕ, suc, ◌+◌, Bool, true, false, cond, List, [], ◌∷◌, ◌++◌, length, take, Some, None, refl, ap, sym, ◌∙◌, subst, arith}
+use Rattle.std.proofs.Common.{◌≡◌, ◌≤◌, ◌&&◌, ◌||◌, not, ℕ, suc, ◌+◌, Bool, true, false, cond, List, [], ◌∷◌, ◌++◌, length, Some, None, refl, ap, sym, ◌∙◌}
 use Rattle.std.specs.FinMap as map
-use Rattle.std.specs.List.{IsDistinct}
-use Rattle.std.proofs.lemmas.Bool.{and_parts, and_from}
-use Rattle.std.proofs.lemmas.List.{length-take-le}
-use Rattle.curp_base.specs.Words.{At, Each, IsPrefix}
-use Rattle.curp_base.proofs.Lists.{at_append_right, at_push_cases, at_take, at_within, prefix_self, prefix_trans, prefix_push}
-use Rattle.curp_cmd.specs.Hash.{conflicts, hash_of, hashes, touches}
-use Rattle.curp_cmd.specs.Store.{Contents, applied, keys_of}
+use Rattle.curp_cmd.specs.Hash.{hash_of, hashes, touches}
+use Rattle.curp_cmd.specs.Store.{applied}
 use Rattle.curp_cmd.specs.declared.command.Command.{Command}
-use Rattle.curp_cmd.specs.declared.command.Request.{Request}
 use Rattle.curp_cmd.specs.declared.entry.Entry.{Entry}
 use Rattle.curp_cmd.specs.declared.entry.Entry.TheVariants.{Op, Take, Give, Expire}
 use Rattle.curp_cmd.specs.declared.migration.Package.{Package}
 use Rattle.curp_range.specs.Spans.{is_owned}
-use Rattle.curp_model.specs.declared.Check.TheVariants.{New}
-use Rattle.curp_facts.specs.Facts.{IsAmong}
-use Rattle.curp_model.specs.Laws.{clash}
-use Rattle.curp_model.specs.Log.{LogState, IsDone, IsLog, log_opening, after_entry, after_entries, answer_after, entry_touches, is_new, meaning}
+use Rattle.curp_model.specs.Log.{LogState, log_opening, after_entry, after_entries, answer_after, entry_touches, meaning}
 use Rattle.curp_model.specs.Ranges.{owns_all}
-use Rattle.curp_model.specs.Recovery.{replay, replays}
-use Rattle.curp_model.specs.Table.{check}
 use Rattle.curp_model.proofs.Logs.{meaning_append}
-use Rattle.curp_model.proofs.Replays.{alone}
-use Rattle.curp_law_logs.proofs.Apart.{keys_apart, local, same_after, same_second}
-use Rattle.curp_law_logs.proofs.Logs.{log_push, new_before, op_new, op_owned, prefix_takes}
-use Rattle.curp_law_logs.proofs.Ranges.{Ordered, each_touched, ordered_with_range, ordered_without, owned_with_range, owned_without, owns_from_touched, owns_touched}
+use Rattle.curp_law_logs.proofs.Ranges.{Ordered, ordered_with_range, ordered_without, owned_with_range, owned_without, owns_from_touched, owns_touched}
 use Rattle.curp_law_logs.proofs.Stores.{get_with_others, get_without_keys}
 use Rattle.curp_law_logs.proofs.Values.{answer_alike, value_stays}
 use Rattle.curp_law_logs.specs.Standing.{Untouched}
@@ -38,10 +24,12 @@ ordered_entry s k (Take migration p) o = ordered_without s.owned p.lo p.hi o
 ordered_entry s k (Give migration p) o = ordered_with_range s.owned p.lo p.hi o p.ordered
 ordered_entry s k (Expire client) o = o
 
+-- entries keep the order of each span
 pub ordered_entries : (es : List Entry) (s : LogState) (k : ℕ) → Ordered s.owned → Ordered (after_entries s k es).owned
 ordered_entries [] s k o = o
 ordered_entries (e ∷ es) s k o = ordered_entries es (after_entry s k e) (k + 1) (ordered_entry s k e o)
 
+-- so no span of a log ends before it begins
 pub log_ordered : (lo hi : ℕ) (log : List Entry) → lo ≤ hi → Ordered (meaning lo hi log).owned
 log_ordered lo hi log l = ordered_entries log (log_opening lo hi) 0 (l, tt)
 

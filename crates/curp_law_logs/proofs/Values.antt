@@ -9,13 +9,13 @@ use Rattle.std.proofs.lemmas.List.Elements.{filter-append}
 use Rattle.curp_base.specs.Words.{At}
 use Rattle.curp_base.proofs.Lists.{at_append_right}
 use Rattle.curp_cmd.specs.Store.{Contents, Applied, nothing, keys_of, is_update, applied}
-use Rattle.curp_cmd.specs.Hash.{hash_of, touches}
+use Rattle.curp_cmd.specs.Hash.{conflicts, hash_of, touches}
 use Rattle.curp_cmd.specs.declared.command.Answer.{Answer}
 use Rattle.curp_cmd.specs.declared.command.Command.{Command}
 use Rattle.curp_cmd.specs.declared.command.Command.TheVariants.{Get, Put, Delete, Incr, Append, CondPut, Multi}
 use Rattle.curp_order.specs.Order.{answers, answers_from, store_after}
 use Rattle.curp_law_logs.specs.Hashes.{Asked, In, on, value}
-use Rattle.curp_law_logs.proofs.Apart.{order, among, Alike, IsLocal, local, with_pairs-alike, hash_among}
+use Rattle.curp_law_logs.proofs.Apart.{order, among, Alike, IsLocal, local, with_pairs-alike, hash_among, keys_apart, same_after, same_second}
 
 -- ---- one command
 
@@ -79,6 +79,14 @@ key_touched c q e = hash_among q (keys_of c) e
 pub answer_alike : (c : Command) (s t : Contents) → ((q : List ℕ) → touches c (hash_of q) ≡ true → map.get s q ≡ map.get t q) → (applied s c).answer ≡ (applied t c).answer
 answer_alike c s t same = (local c).answer s t (λ q e. same q (key_touched c q e))
 
+-- commands that don't conflict may be done in either order
+pub commute : (s : Contents) (a b : Command) → conflicts a b ≡ false → (applied (applied s a).after b).after ≡ (applied (applied s b).after a).after
+commute s a b none = same_after (keys_of a) (keys_of b) (λ s. applied s a) (λ s. applied s b) (local a) (local b) (keys_apart a b none) s
+
+-- and the second answers as it would alone
+pub second_alone : (s : Contents) (a b : Command) → conflicts a b ≡ false → (applied (applied s a).after b).answer ≡ (applied s b).answer
+second_alone s a b none = same_second (keys_of a) (keys_of b) (λ s. applied s a) (λ s. applied s b) (local a) (local b) (keys_apart a b none) s
+
 -- a get changes nothing
 pub read_only : (s : Contents) (command : Command) → is_update command ≡ false → (applied s command).after ≡ s
 unfolding applied
@@ -100,6 +108,7 @@ pub store_append : (s : Contents) (xs ys : List Asked) → store_after s (xs ++ 
 store_append s [] ys = refl
 store_append s (x ∷ xs) ys = store_append (applied s x.1).after xs ys
 
+-- requests at a hash, of two lists
 pub on_append : (h : ℕ) (xs ys : List Asked) → on h (xs ++ ys) ≡ on h xs ++ on h ys
 on_append h xs ys = filter-append (λ (x : Asked). touches x.1 h) xs ys
 
@@ -113,6 +122,7 @@ value_from q (x ∷ xs) s t e = go (touches x.1 (hash_of q)) refl (value_from q 
     go true y ih = ih (applied s x.1).after (applied t x.1).after (value_step x.1 s t q e)
     go false n ih = ih (applied s x.1).after t (value_stays x.1 s q n ∙ e)
 
+-- a value comes from the requests on its hash
 pub value_local : (key : List ℕ) (xs : List Asked) → value key xs ≡ value key (on (hash_of key) xs)
 value_local key xs = value_from key xs nothing nothing refl
 
@@ -144,6 +154,7 @@ pub answers_append : (s : Contents) (xs ys : List Asked) → answers_from s (xs 
 answers_append s [] ys = refl
 answers_append s (x ∷ xs) ys = ap (λ (w : List Answer). (applied s x.1).answer ∷ w) (answers_append (applied s x.1).after xs ys)
 
+-- one answer for each request
 pub length_answers : (s : Contents) (xs : List Asked) → length (answers_from s xs) ≡ length xs
 length_answers s [] = refl
 length_answers s (x ∷ xs) = ap suc (length_answers (applied s x.1).after xs)

@@ -2,3 +2,4 @@ pub mod Hashes
 pub mod Standing
 pub mod Gives
 pub mod Migrations
+pub mod Follows
