@@ -4,3 +4,4 @@ pub mod Moves
 pub mod Keeps
 pub mod Steps
 pub mod Quiet
+pub mod Says
