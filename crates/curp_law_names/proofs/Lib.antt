@@ -5,3 +5,5 @@ pub mod Keeps
 pub mod Steps
 pub mod Quiet
 pub mod Says
+pub mod Adoptions
+pub mod Named
