@@ -6,3 +6,4 @@ pub mod Entries
 pub mod Said
 pub mod Nodes
 pub mod Invariant
+pub mod Run

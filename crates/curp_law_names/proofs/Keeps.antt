@@ -1,0 +1,82 @@
+-- A move keeps the facts of shape and names; what is left to each kind of move are its numbers, entries and what is being done.
+use Rattle.std.proofs.Common.{◌≡◌, ◌≢◌, ◌≤◌, ◌<◌, ◌⊎◌, inl, inr, ℕ, ◌+◌, List, length, refl, sym, ◌∙◌, ap, subst, arith, Some}
+use Rattle.curp_base.specs.Words.{At, Each, numbered}
+use Rattle.curp_base.proofs.Lists.{at_same}
+use Rattle.curp_msg.specs.declared.config.PartConfig.{PartConfig}
+use Rattle.curp_model.specs.Manager.{Doing, Shape}
+use Rattle.curp_model.specs.World.{World}
+use Rattle.curp_facts.specs.Facts.{IsAdoptedNow, IsAmong, IsGiven, Lists, WasAdopted, lists_of_part}
+use Rattle.curp_law_names.specs.Names.{DoingOk, IsClientNumber, Names, NumbersOk, ShapeOk, Top}
+use Rattle.curp_law_names.proofs.Later.{adopted_later}
+use Rattle.curp_law_names.proofs.Lists.{at_place, place}
+use Rattle.curp_law_names.proofs.Moves.{Adoption, Fresh, FreshOk, IsNewlyAdopted, Move, adopted_back, agree_kept, given_kept, one_order_kept, says_kept, versions_kept}
+
+-- what a move has to show besides
+pub record Holds (v : World) : Type 0 where
+  pub numbers : NumbersOk v
+  pub entries : (k : ℕ) (c : PartConfig) → At v.manager.config.parts k c → c.part ≡ k + 1
+  pub top : (c : PartConfig) → IsAdoptedNow v c → Top v (lists_of_part c)
+  pub doing : (c : PartConfig) (d : Doing) → IsAdoptedNow v c → numbered v.manager.doing c.part ≡ Some d → DoingOk v (lists_of_part c) d
+  pub gone : Each (IsClientNumber v) v.manager.gone
+
+module _ {w v : World} (n : Names w) (f : Fresh) (m : Move w v f) (fresh : FreshOk w v f) where
+  -- a move keeps all
+  pub names_moved : Holds v → Names v
+  names_moved h = record {
+    shape = subst ShapeOk (sym m.later.shape) n.shape;
+    numbers = h.numbers;
+    entries = h.entries;
+    given = given_kept n f m fresh;
+    agree = agree_kept n f m fresh;
+    manager_says = says_kept n f m fresh;
+    one_order = one_order_kept n f m fresh;
+    versions_apart = versions_kept n f m fresh;
+    top = h.top;
+    doing = h.doing;
+    gone = h.gone;
+  }
+
+  was_adopted : (l now : Lists) → ((k : Lists) → IsNewlyAdopted f k → k.part ≡ now.part → ⊥) → WasAdopted v l → l.part ≡ now.part → WasAdopted w l
+  was_adopted l now other was same = elim (adopted_back n f m fresh l was) [ inl before ↦ before | inr new ↦ absurd (other l new same) ]
+
+  -- where nothing of a partition is newly adopted, its lists stay on top
+  pub top_stays : (now : Lists) → Top w now → ((k : Lists) → IsNewlyAdopted f k → k.part ≡ now.part → ⊥) → Top v now
+  top_stays now t other = record {
+    was = adopted_later m.later now t.was;
+    epochs = λ l was same. t.epochs l (was_adopted l now other was same) same;
+    versions = λ l was same. t.versions l (was_adopted l now other was same) same;
+    last = λ l was same version. t.last l (was_adopted l now other was same) same version;
+  }
+
+-- what is newly adopted is on top, where its numbers are above
+module _ {w v : World} (n : Names w) (l : Lists) (m : Move w v (Adoption l)) (given : IsGiven w l) where
+  pub top_adopted : (now : Lists) → WasAdopted v l → Top w now → now.part ≡ l.part → now.epoch ≤ l.epoch → now.version < l.version → Top v l
+  top_adopted now was t part epoch version = record {
+    was = was;
+    epochs = λ k adopted same. elim (adopted_back n (Adoption l) m given k adopted) [
+      | inl before ↦ omega (arith, t.epochs k before (same ∙ sym part), epoch)
+      | inr is ↦ omega (arith, ap (λ (x : Lists). x.epoch) is)
+    ];
+    versions = λ k adopted same. elim (adopted_back n (Adoption l) m given k adopted) [
+      | inl before ↦ omega (arith, t.versions k before (same ∙ sym part), version)
+      | inr is ↦ omega (arith, ap (λ (x : Lists). x.version) is)
+    ];
+    last = λ k adopted same equal. elim (adopted_back n (Adoption l) m given k adopted) [
+      | inl before ↦ absurd (omega (arith, t.versions k before (same ∙ sym part), version, equal))
+      | inr is ↦ is
+    ];
+  }
+
+-- ---- entries
+
+module _ {w : World} (n : Names w) where
+  -- an entry is that of its own number
+  pub entry_now : (c : PartConfig) → IsAmong c w.manager.config.parts → IsAdoptedNow w c
+  entry_now c a = at_place w.manager.config.parts a.place c.part c (n.entries a.place c a.stands) a.stands
+
+  -- the entry of a number has that number
+  pub entry_numbered : (p : ℕ) (c : PartConfig) → numbered w.manager.config.parts p ≡ Some c → c.part ≡ p
+  entry_numbered p c here = let at = place w.manager.config.parts p c here in n.entries at.0 c at.2 ∙ sym at.1
+
+  pub numbered_now : (p : ℕ) (c : PartConfig) → numbered w.manager.config.parts p ≡ Some c → IsAdoptedNow w c
+  numbered_now p c here = subst (λ (i : ℕ). numbered w.manager.config.parts i ≡ Some c) (sym (entry_numbered p c here)) here

@@ -1,0 +1,9 @@
+pub mod Lists
+pub mod Later
+pub mod Moves
+pub mod Keeps
+pub mod Steps
+pub mod Quiet
+pub mod Says
+pub mod Adoptions
+pub mod Named

@@ -1,0 +1,114 @@
+-- Lists that are numbered from 1, what is among lists, and lists whose items differ.
+use Rattle.std.proofs.Common.{◌≡◌, ◌≢◌, ◌⊎◌, inl, inr, ℕ, zero, suc, ◌+◌, ◌-◌, ◌<◌, ◌≤◌, List, [], ◌∷◌, ◌++◌, length, map, set, refl, ap, sym, ◌∙◌, subst, arith, append-nil, append_assoc, Some}
+use Rattle.curp_base.specs.Words.{At, Each, numbered, numbers_from, all_of}
+use Rattle.curp_base.proofs.Lists.{at_append, at_append_cases, at_append_right, at_map, at_within, at_set_cases, at_set_same, at_set_other, Each-at, Each-from_at}
+use Rattle.curp_msg.specs.declared.message.Message.{Message}
+use Rattle.curp_model.specs.World.{with_batch}
+use Rattle.curp_facts.specs.Facts.{IsAmong}
+use Rattle.curp_law_names.specs.Names.{AllDiffer}
+
+-- ---- numbers from 1
+
+-- an item that has a number stands one place before it
+pub place : {A : Type 0} (xs : List A) (n : ℕ) (x : A) → numbered xs n ≡ Some x → (k : ℕ) × (n ≡ k + 1) × At xs k x
+place xs zero x h = absurd cc
+place xs (suc k) x h = (k, omega arith, h)
+
+pub at_place : {A : Type 0} (xs : List A) (k n : ℕ) (x : A) → n ≡ k + 1 → At xs k x → numbered xs n ≡ Some x
+at_place xs k zero x e h = absurd (omega arith)
+at_place xs k (suc n) x e h = let same : k ≡ n = omega arith in subst (λ (i : ℕ). At xs i x) same h
+
+set_at : {A : Type 0} (xs : List A) (n k : ℕ) (y : A) → n ≡ k + 1 → set xs (n - 1) y ≡ set xs k y
+set_at xs n k y e = let same : n - 1 ≡ k = omega arith in ap (λ (i : ℕ). set xs i y) same
+
+-- after one item was set, another stands as before, and that one is the new one
+pub numbered_set_cases : {A : Type 0} (xs : List A) (n : ℕ) (y : A) → 1 ≤ n → (m : ℕ) (x : A) → numbered (set xs (n - 1) y) m ≡ Some x
+    → ((m ≢ n) × (numbered xs m ≡ Some x)) ⊎ ((m ≡ n) × (y ≡ x))
+numbered_set_cases {A} xs n y low m x h =
+    let q = place (set xs (n - 1) y) m x h in
+    elim (at_set_cases xs (n - 1) y q.0 x q.2) [
+      | inl o ↦ inl (omega (arith, q.1, o.0), at_place xs q.0 m x q.1 o.1)
+      | inr o ↦ inr (omega (arith, q.1, o.0), o.1)
+    ]
+
+pub numbered_set_other : {A : Type 0} (xs : List A) (n : ℕ) (y : A) (m : ℕ) (x : A) → 1 ≤ n → m ≢ n → numbered xs m ≡ Some x → numbered (set xs (n - 1) y) m ≡ Some x
+numbered_set_other {A} xs n y m x low ne h =
+    let q = place xs m x h in
+    at_place (set xs (n - 1) y) q.0 m x q.1 (at_set_other xs (n - 1) q.0 x y (omega (arith, q.1)) q.2)
+
+-- what has a number is one of as many
+pub number_within : {A : Type 0} (xs : List A) (n : ℕ) (x : A) → numbered xs n ≡ Some x → (1 ≤ n) × (n ≤ length xs)
+number_within xs n x h = let p = place xs n x h in let low = at_within xs p.0 x p.2 in (omega (arith, p.1), omega (arith, p.1, low))
+
+-- what stands among numbers from one on
+pub numbers_back : (first count k n : ℕ) → At (numbers_from first count) k n → (n ≡ first + k) × (k < count)
+numbers_back first zero k n h = absurd cc
+numbers_back first (suc count) zero n h = let e : first ≡ n = cc in (omega (arith, e), omega arith)
+numbers_back first (suc count) (suc k) n h = let r = numbers_back (first + 1) count k n h in (omega (arith, r.0), omega (arith, r.1))
+
+pub length-numbers : (first count : ℕ) → length (numbers_from first count) ≡ count
+length-numbers first zero = refl
+length-numbers first (suc count) = ap suc (length-numbers (first + 1) count)
+
+-- what stands in a list of what a function makes
+pub at_mapped : {A B : Type 0} (f : A → B) (xs : List A) (k : ℕ) (y : B) → At (map f xs) k y → (x : A) × At xs k x × (f x ≡ y)
+at_mapped f [] k y h = absurd cc
+at_mapped f (x ∷ xs) zero y h = (x, refl, cc)
+at_mapped f (x ∷ xs) (suc k) y h = at_mapped f xs k y h
+
+-- ---- what is among lists
+
+pub among_each : {A : Type 0} (P : A → Type 0) (xs : List A) → Each P xs → (x : A) → IsAmong x xs → P x
+among_each P xs all x a = Each-at P xs all a.place x a.stands
+
+pub each_among : {A : Type 0} (P : A → Type 0) (xs : List A) → ((x : A) → IsAmong x xs → P x) → Each P xs
+each_among P xs f = Each-from_at P xs (λ k x at. f x (record { place = k; stands = at }))
+
+abbrev pub among_left : {A : Type 0} (xs ys : List A) (x : A) → IsAmong x xs → IsAmong x (xs ++ ys)
+among_left xs ys x a = record { place = a.place; stands = at_append xs ys a.place x a.stands }
+
+abbrev pub among_right : {A : Type 0} (xs ys : List A) (x : A) → IsAmong x ys → IsAmong x (xs ++ ys)
+among_right xs ys x a = record { place = length xs + a.place; stands = at_append_right xs ys a.place _ x refl a.stands }
+
+pub among_cases : {A : Type 0} (xs ys : List A) (x : A) → IsAmong x (xs ++ ys) → IsAmong x xs ⊎ IsAmong x ys
+among_cases xs ys x a = elim (at_append_cases xs ys a.place x a.stands) [
+  | inl h ↦ inl (record { place = a.place; stands = h })
+  | inr h ↦ inr (record { place = h.0; stands = h.2 })
+]
+
+abbrev pub among_map : {A B : Type 0} (f : A → B) (xs : List A) (x : A) → IsAmong x xs → IsAmong (f x) (map f xs)
+among_map f xs x a = record { place = a.place; stands = at_map f xs a.place x a.stands }
+
+-- what is among a list of which one item was set is the new one, or was there
+pub among_set : {A : Type 0} (xs : List A) (i : ℕ) (y x : A) → IsAmong x (set xs i y) → (x ≡ y) ⊎ IsAmong x xs
+among_set xs i y x a = elim (at_set_cases xs i y a.place x a.stands) [
+  | inl o ↦ inr (record { place = a.place; stands = o.1 })
+  | inr o ↦ inl (sym o.1)
+]
+
+-- ---- lists whose items differ
+
+-- one that is new can be set
+pub set_differs : {A : Type 0} (xs : List A) (i : ℕ) (y : A) → (IsAmong y xs → ⊥) → AllDiffer xs → AllDiffer (set xs i y)
+set_differs xs i y fresh differ a b x ha hb = elim (at_set_cases xs i y a x ha) [
+  | inl o ↦ elim (at_set_cases xs i y b x hb) [
+    | inl p ↦ differ a b x o.1 p.1
+    | inr p ↦ absurd (fresh (record { place = a; stands = subst (λ z. At xs a z) (sym p.1) o.1 }))
+  ]
+  | inr o ↦ elim (at_set_cases xs i y b x hb) [
+    | inl p ↦ absurd (fresh (record { place = b; stands = subst (λ z. At xs b z) (sym o.1) p.1 }))
+    | inr p ↦ o.0 ∙ sym p.0
+  ]
+]
+
+-- ---- messages
+
+-- one more list comes behind all
+all_of-push : {A : Type 0} (lists : List (List A)) (xs : List A) → all_of (lists ++ xs ∷ []) ≡ all_of lists ++ xs
+all_of-push [] xs = append-nil xs
+all_of-push (ys ∷ rest) xs = ap (λ l. ys ++ l) (all_of-push rest xs) ∙ sym (append_assoc ys (all_of rest) xs)
+
+-- what a step sends comes behind all messages
+pub all_of-kept : (sent : List (List Message)) (out : List Message) → all_of (with_batch sent out) ≡ all_of sent ++ out
+all_of-kept sent [] = sym (append-nil (all_of sent))
+all_of-kept sent (m ∷ more) = all_of-push sent (m ∷ more)
