@@ -29,8 +29,8 @@ use Rattle.curp_model.specs.Log.{meaning}
 use Rattle.curp_model.specs.Recovery.{replays}
 use Rattle.curp_range.specs.Spans.{Span, is_owned}
 
--- what is kept
-pub record LineOk (s : Line) : Type 0 where
+-- what is kept of the order of updates, and who owns what
+pub record UpdatesOk (s : Line) : Type 0 where
   pub order : OrderOk s
   pub owned : Owned s.moving s.parts
 
@@ -38,7 +38,7 @@ module _ (pure : Pure) (second : Second) where
   whole_value : (s : Line) → LogsOk s.parts → (n : ℕ) (p : Part) → numbered s.parts n ≡ Some p → LogValue p
   whole_value s logs n p here = logs.values n p here p.log [] (append-nil p.log)
 
-  adopt_line : (s : Line) (o : Adopt) → AdoptFits s o → LogsOk s.parts → LineOk s → LineOk (after s (Adopts o))
+  adopt_line : (s : Line) (o : Adopt) → AdoptFits s o → LogsOk s.parts → UpdatesOk s → UpdatesOk (after s (Adopts o))
   adopt_line s o fits logs ok =
       let later = adopt_owned s ok.owned o fits (logs.takes_once o.part o.p fits.here) in
       let alone : (j : ℕ) (q : Request) → At (replayed_of o) j q → _ = λ j q h.
@@ -47,7 +47,7 @@ module _ (pure : Pure) (second : Second) where
       adopt_ground s ok.owned o fits later (logs.is_log o.part o.p fits.here) (logs.gives_once o.part o.p fits.here) (logs.values o.part o.p fits.here o.stays o.goes (sym fits.is)) alone in
       record { order = adopt_keeps (record { pure = pure; line = s; facts = ok.order; owned = ok.owned; move = o; fits = fits; ground = ground; owned_after = later }); owned = later }
 
-  pub keeps : (s : Line) (m : Move) → Fits s m → LogsOk s.parts → LineOk s → LineOk (after s m)
+  pub keeps : (s : Line) (m : Move) → Fits s m → LogsOk s.parts → UpdatesOk s → UpdatesOk (after s m)
   keeps s (OpPush o) fits logs ok = record {
     order = op_keeps pure s ok.order ok.owned (whole_value s logs) o fits;
     owned = owned_alike s.moving s.parts _ (push_was s.moving s.parts o.part o.p (Op o.request o.acknowledged) fits.here
@@ -82,7 +82,7 @@ module _ (pure : Pure) (second : Second) where
   AllFit s [] = ⊤
   AllFit s (m ∷ ms) = Fits s m × LogsOk s.parts × AllFit (after s m) ms
 
-  pub all_keep : (ms : List Move) (s : Line) → AllFit s ms → LineOk s → LineOk (all_after s ms)
+  pub all_keep : (ms : List Move) (s : Line) → AllFit s ms → UpdatesOk s → UpdatesOk (all_after s ms)
   all_keep [] s fits ok = ok
   all_keep (m ∷ ms) s fits ok = all_keep ms (after s m) fits.2 (keeps s m fits.0 fits.1 ok)
 
@@ -91,7 +91,7 @@ module _ (pure : Pure) (second : Second) where
 -- partitions with empty logs, of which no two own a hash
 pub opening_keeps : (parts : List Part) → ((n : ℕ) (p : Part) → numbered parts n ≡ Some p → p.log ≡ [])
     → ((n k : ℕ) (p q : Part) (h : ℕ) → numbered parts n ≡ Some p → numbered parts k ≡ Some q → owns p h ≡ true → owns q h ≡ true → n ≡ k)
-    → LineOk (record { parts = parts; moving = None; told = []; marks = []; history = [] })
+    → UpdatesOk (record { parts = parts; moving = None; told = []; marks = []; history = [] })
 opening_keeps parts empty one = record {
   order = record {
     history = record { invoked_once = λ i j id c d h g. absurd cc; completed_once = λ i j id a b h g. absurd cc; after_invoked = λ j id a h. absurd cc };
