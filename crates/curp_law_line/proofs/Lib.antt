@@ -29,9 +29,11 @@ pub mod Owning
 pub mod Grounds
 pub mod Owners
 pub mod AdoptedOwners
+pub mod UpdatesKept
 pub mod Keeps
 pub mod Histories
 pub mod ToldTakes
 pub mod Looks
 pub mod LooksKept
 pub mod Values
+pub mod ReadsKept

@@ -1,5 +1,5 @@
 -- The moves of the small machine, with what each needs and what it does.
-use Rattle.std.specs.Prelude.{◌≡◌, ◌≢◌, ◌≤◌, ℕ, ◌-◌, Bool, true, false, List, [], ◌∷◌, ◌++◌, set, map, length, take, Some, None, ⊤}
+use Rattle.std.specs.Prelude.{◌≡◌, ◌≢◌, ◌≤◌, ◌<◌, ℕ, ◌-◌, Bool, true, false, List, [], ◌∷◌, ◌++◌, set, map, length, take, Some, None, ⊤}
 use Rattle.std.specs.List.{IsDistinct, list_any}
 use Rattle.curp_base.specs.Words.{At, numbered}
 use Rattle.curp_cmd.specs.Hash.{touches}
@@ -338,3 +338,18 @@ after s (Completes id a) = completing s id a
 after s (Looks o) = looking s o
 after s (Flags by id a) = flagging s by id a
 after s (Adopts o) = adopting s o
+
+-- the state after moves
+abbrev pub all_after : Line → List Move → Line
+all_after s [] = s
+all_after s (m ∷ ms) = all_after (after s m) ms
+
+-- each move can be made in its turn, with what is given of the logs
+abbrev pub AllFit : (List Part → Type 0) → Line → List Move → Type 0
+AllFit Given s [] = ⊤
+AllFit Given s (m ∷ ms) = Fits s m × Given s.parts × AllFit Given (after s m) ms
+
+-- the move drops the looks of that length in that partition: it adopts a log of which less stays
+abbrev pub IsDropped : Move → ℕ → ℕ → Type 0
+IsDropped (Adopts o) part long = (o.part ≡ part) × (length o.stays < long)
+IsDropped _ part long = ⊥
