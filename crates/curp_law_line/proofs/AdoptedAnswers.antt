@@ -88,7 +88,7 @@ module _ (it : Adopting) where
       let a = it.fits.asked k.0 q k.1 in
       let mA : In x (again it) = in_asked_all (replayed it) j q hq in
       let on_it : (h : ℕ) → touches q.command h ≡ true → In x (on h (again it)) = λ h t. in_filter (λ (z : Asked). touches z.1 h) (again it) x mA t in
-      let is = split_in (order_now it) x (in_now a.2.0 x (on_it a.2.0 a.2.1)) in
+      let is = split_in (order_now it) x (in_now a.hash x (on_it a.hash a.has_hash)) in
       subst (Answered (order_now it) x) (it.pure.answer_local (store_after nothing is.front) (state_of (cut_part it.move)).store q.command (λ key mk. key_value j q hq is on_it key mk)) (answered_there (order_now it) x is)
     where
       key_value : (j : ℕ) (q : Request) → At (replayed it) j q → (is : Split (order_now it) (q.id, q.command)) → ((h : ℕ) → touches q.command h ≡ true → In (q.id, q.command) (on h (again it))) → (key : List ℕ) → In key (keys_of q.command)

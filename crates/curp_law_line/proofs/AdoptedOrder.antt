@@ -28,7 +28,8 @@ use Rattle.curp_law_line.proofs.Requests.{asked_all_in, asked_of_in, distinct_as
 use Rattle.curp_law_line.proofs.Takes.{onward_ungiven}
 use Rattle.curp_law_line.specs.Hashes.{HashOk, has_take, holds, is_take, onward, owns}
 use Rattle.curp_law_line.specs.Line.{IsCompleted}
-use Rattle.curp_law_line.specs.Moves.{Ungiven, ops}
+use Rattle.curp_law_line.specs.Moves.{ops}
+use Rattle.curp_law_line.specs.Line.{Ungiven}
 use Rattle.curp_law_logs.specs.Hashes.{Asked, In, NoGive, behind, gives, on}
 use Rattle.curp_model.proofs.Filters.{filter_apart}
 use Rattle.curp_model.proofs.Logs.{op_not_new}
@@ -189,13 +190,13 @@ module _ (it : Adopting) where
   replayed_goes j q x hq m same =
       let k = Q_held j q hq in
       let a = it.fits.asked k.0 q k.1 in
-      let h = a.2.0 in
-      let t : touches q.command h ≡ true = a.2.1 in
+      let h = a.hash in
+      let t : touches q.command h ≡ true = a.has_hash in
       let own = it.ground.owned j h q hq t in
       let none = no_give h own in
       let u = update_mark it.line.marks m.0 x m.1 in
       let its_id : u.0.id ≡ q.id = ap (λ (z : Asked). z.0) u.4 ∙ same in
-      let command : x.1 ≡ q.command = ap (λ (z : Asked). z.1) (sym u.4) ∙ one_command it.line.history it.facts.history u.0.id q.id u.0.command q.command its_id (it.facts.invoked u.1 u.0 u.2) a.0 in
+      let command : x.1 ≡ q.command = ap (λ (z : Asked). z.1) (sym u.4) ∙ one_command it.line.history it.facts.history u.0.id q.id u.0.command q.command its_id (it.facts.invoked u.1 u.0 u.2) a.was_invoked in
       let here = at_hash h (it.ground.held_before h own none) in
       let tx : touches x.1 h ≡ true = ap (λ (c : Command). touches c h) command ∙ t in
       let is_new : check (meaning it.move.p.lo it.move.p.hi it.move.stays).table x.0 ≡ New = ap (check (meaning it.move.p.lo it.move.p.hi it.move.stays).table) same ∙ Q_new j q hq in
@@ -221,7 +222,7 @@ module _ (it : Adopting) where
       let k = Q_held w.0 w.1 w.2 in
       let a = it.fits.asked k.0 w.1 k.1 in
       let c : IsCompleted it.line.history w.1.id = subst (IsCompleted it.line.history) (ap (λ (y : Asked). y.0) (sym w.3)) (done_completed x.0 d) in
-      let there = it.facts.marked c.event w.1.id w.1.command c.answer c.stands a.0 a.1 in
+      let there = it.facts.marked c.event w.1.id w.1.command c.answer c.stands a.was_invoked a.updates in
       subst (λ (y : Asked). In y (gone it)) w.3 (replayed_goes w.0 w.1 (w.1.id, w.1.command) w.2 (there.place, there.stands) refl)
 
   -- ---- the order before the cut and behind it, at each hash

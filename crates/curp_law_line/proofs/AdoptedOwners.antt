@@ -22,7 +22,8 @@ use Rattle.curp_law_line.proofs.Requests.{ops_any, owned_ops}
 use Rattle.curp_law_line.proofs.Spans.{owned_after, takes}
 use Rattle.curp_law_line.specs.Hashes.{Part, has_take, is_give, is_take, owns}
 use Rattle.curp_law_line.specs.Line.{Line, Owned}
-use Rattle.curp_law_line.specs.Moves.{Adopt, AdoptFits, OnlyMoving, Ungiven, ops, relogged, replayed_of}
+use Rattle.curp_law_line.specs.Moves.{Adopt, AdoptFits, OnlyMoving, ops, relogged, replayed_of}
+use Rattle.curp_law_line.specs.Line.{Ungiven}
 use Rattle.curp_law_logs.specs.Hashes.{NoGive, gives}
 use Rattle.curp_model.proofs.Clashes.{front_apart}
 use Rattle.curp_model.proofs.Replays.{log_stored, stored, take_ops}

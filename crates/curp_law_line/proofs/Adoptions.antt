@@ -124,7 +124,7 @@ module _ (it : Adopting) where
 
   -- a replayed request was invoked
   asked_before : (j : ℕ) (r : Request) → At (replayed it) j r → WasInvoked it.line.history r.id r.command × (is_update r.command ≡ true)
-  asked_before j r h = let k = Q_held it j r h in let a = it.fits.asked k.0 r k.1 in (a.0, a.1)
+  asked_before j r h = let k = Q_held it j r h in let a = it.fits.asked k.0 r k.1 in (a.was_invoked, a.updates)
 
   adopt_unflagged : UnflaggedOk (marks_now it) it.line.history
   adopt_unflagged k i m h at_i f c = elim (mark_cases k m h) [

@@ -305,10 +305,10 @@ module _ (s : Line) (ok : OrderOk s) (id : RequestId) (a : Answer) (fits : Compl
   abbrev by_update : Completed
   by_update = record { id = id; answer = a; by = None }
 
-  update_own : (m : Mark) → is_flagged by_update None m ≡ true → m.id ≡ id
+  pub update_own : (m : Mark) → is_flagged by_update None m ≡ true → m.id ≡ id
   update_own m y = same_id-true m.id id (and_parts (same_id m.id id) (is_update_mark m.place) y).0
 
-  update_kind : (m : Mark) → is_flagged by_update None m ≡ true → is_update_mark m.place ≡ true
+  pub update_kind : (m : Mark) → is_flagged by_update None m ≡ true → is_update_mark m.place ≡ true
   update_kind m y = (and_parts (same_id m.id id) (is_update_mark m.place) y).1
 
   abbrev asks : Asked
@@ -349,7 +349,7 @@ module _ (s : Line) (ok : OrderOk s) (by : Capture) (id : RequestId) (a : Answer
   abbrev by_read : Completed
   by_read = record { id = id; answer = a; by = Some by }
 
-  read_own : (m : Mark) → is_flagged by_read (Some by) m ≡ true → m.id ≡ id
+  pub read_own : (m : Mark) → is_flagged by_read (Some by) m ≡ true → m.id ≡ id
   read_own m y = same_id-true m.id id (and_parts _ _ (and_parts _ _ (and_parts _ _ y).0).0).0
 
   reads_it : is_update fits.m.command ≡ false

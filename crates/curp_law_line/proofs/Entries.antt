@@ -7,7 +7,8 @@ use Rattle.curp_cmd.specs.declared.migration.Package.{Package}
 use Rattle.curp_law_line.proofs.Spans.{takes}
 use Rattle.curp_law_line.specs.Hashes.{is_give, is_take}
 use Rattle.curp_law_line.specs.Line.{Line}
-use Rattle.curp_law_line.specs.Moves.{OnlyMoving, Ungiven}
+use Rattle.curp_law_line.specs.Moves.{OnlyMoving}
+use Rattle.curp_law_line.specs.Line.{Ungiven}
 use Rattle.curp_law_logs.specs.Hashes.{gives}
 use Rattle.curp_range.specs.Spans.{is_in}
 

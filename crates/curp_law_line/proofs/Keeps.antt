@@ -1,90 +1,61 @@
--- Each move keeps the order's facts and who owns what; and so do lists of moves, from the opening on.
+-- Each move keeps the machine's facts; and so do lists of moves, from the opening on. A look that is kept keeps its value.
 use Rattle.curp_law_line.proofs.Given.{LogsOk, Second}
-use Rattle.std.proofs.Common.{◌≡◌, ℕ, true, List, [], ◌∷◌, Some, None, refl, ap, sym, subst, append-nil}
-use Rattle.std.specs.Bool.{⊤}
+use Rattle.std.proofs.Common.{◌≡◌, ◌⊎◌, inl, length, ℕ, true, List, [], ◌∷◌, Some, None, refl, sym, subst}
 use Rattle.std.specs.FinMap as map
 use Rattle.curp_base.specs.Words.{At, numbered}
-use Rattle.curp_cmd.specs.declared.command.Request.{Request}
 use Rattle.curp_cmd.specs.declared.entry.Entry.{Entry}
-use Rattle.curp_cmd.specs.declared.entry.Entry.TheVariants.{Expire, Op, Take}
-use Rattle.curp_law_line.proofs.AdoptedOwners.{adopt_owned, replayed_alone}
-use Rattle.curp_law_line.proofs.Adoptions.{adopt_keeps}
-use Rattle.curp_law_line.proofs.Completions.{complete_keeps, flag_keeps}
-use Rattle.curp_law_line.proofs.Expiries.{expire_keeps, look_keeps}
-use Rattle.curp_law_line.proofs.Given.{LogValue, Pure}
-use Rattle.curp_law_line.proofs.Gives.{give_keeps}
-use Rattle.curp_law_line.proofs.Grounds.{adopt_ground}
-use Rattle.curp_law_line.proofs.Hashes.{owned_expire, owned_op}
-use Rattle.curp_law_line.proofs.Invocations.{invoke_keeps, tell_keeps}
-use Rattle.curp_law_line.proofs.Migrations.{given_keeps, migrate_keeps}
-use Rattle.curp_law_line.proofs.Ops.{op_keeps}
-use Rattle.curp_law_line.proofs.Owners.{give_owned, given_owned, migrate_owned, owned_alike, push_was, take_owned}
-use Rattle.curp_law_line.proofs.Takes.{take_keeps}
+use Rattle.curp_cmd.specs.declared.entry.Entry.TheVariants.{Op, Take}
+use Rattle.curp_law_line.proofs.Given.{Pure}
 use Rattle.curp_law_line.specs.Hashes.{HashOk, Part, owns}
-use Rattle.curp_law_line.specs.Line.{Line, OrderOk, Owned}
-use Rattle.curp_law_line.specs.Moves.{Adopt, AdoptFits, Adopts, Completes, ExpirePush, Fits, Flags, GivePush, GivenDone, Invokes, Looks, Migrates, Move, OpPush, TakePush, Told, after, replayed_of}
-use Rattle.curp_model.proofs.Filters.{filter_apart}
-use Rattle.curp_model.specs.Laws.{clash}
-use Rattle.curp_model.specs.Log.{meaning}
-use Rattle.curp_model.specs.Recovery.{replays}
-use Rattle.curp_range.specs.Spans.{Span, is_owned}
-
--- what is kept
-pub record LineOk (s : Line) : Type 0 where
-  pub order : OrderOk s
-  pub owned : Owned s.moving s.parts
+use Rattle.curp_law_line.specs.Line.{Line}
+use Rattle.curp_law_line.specs.Moves.{Adopts, Completes, ExpirePush, Fits, Flags, GivePush, GivenDone, Invokes, Looks, Migrates, Move, OpPush, TakePush, Told, after}
+use Rattle.curp_law_line.proofs.UpdatesKept.{UpdatesOk, updates_keep, whole_value}
+use Rattle.curp_law_line.proofs.ReadsKept.{reads_keep}
+use Rattle.curp_law_line.proofs.Values.{look_adopt, look_begins, look_flagged, look_more}
+use Rattle.curp_law_line.specs.Line.{LineOk, LookGives}
+use Rattle.curp_law_line.specs.Moves.{AllFit, IsDropped, Look, LookFits, all_after, looking}
+use Rattle.curp_model.specs.Log.{answer_after}
+use Rattle.curp_msg.specs.declared.machine.Capture.{Capture}
+use Rattle.curp_cmd.specs.declared.command.Answer.{Answer}
+use Rattle.curp_cmd.specs.declared.command.RequestId.{RequestId}
 
 module _ (pure : Pure) (second : Second) where
-  whole_value : (s : Line) → LogsOk s.parts → (n : ℕ) (p : Part) → numbered s.parts n ≡ Some p → LogValue p
-  whole_value s logs n p here = logs.values n p here p.log [] (append-nil p.log)
+  updates_of : (s : Line) → LineOk s → UpdatesOk s
+  updates_of s ok = record { order = ok.order; owned = ok.owned }
 
-  adopt_line : (s : Line) (o : Adopt) → AdoptFits s o → LogsOk s.parts → LineOk s → LineOk (after s (Adopts o))
-  adopt_line s o fits logs ok =
-      let later = adopt_owned s ok.owned o fits (logs.takes_once o.part o.p fits.here) in
-      let alone : (j : ℕ) (q : Request) → At (replayed_of o) j q → _ = λ j q h.
-      replayed_alone second o.p.lo o.p.hi o.stays (replayed_of o) j q (filter_apart (replays (meaning o.p.lo o.p.hi o.stays)) clash o.held fits.apart) h in
-      let ground =
-      adopt_ground s ok.owned o fits later (logs.is_log o.part o.p fits.here) (logs.gives_once o.part o.p fits.here) (logs.values o.part o.p fits.here o.stays o.goes (sym fits.is)) alone in
-      record { order = adopt_keeps (record { pure = pure; line = s; facts = ok.order; owned = ok.owned; move = o; fits = fits; ground = ground; owned_after = later }); owned = later }
-
+  -- each move keeps the facts
   pub keeps : (s : Line) (m : Move) → Fits s m → LogsOk s.parts → LineOk s → LineOk (after s m)
-  keeps s (OpPush o) fits logs ok = record {
-    order = op_keeps pure s ok.order ok.owned (whole_value s logs) o fits;
-    owned = owned_alike s.moving s.parts _ (push_was s.moving s.parts o.part o.p (Op o.request o.acknowledged) fits.here
-        (λ h. ap (λ (spans : List Span). is_owned spans h) (owned_op o.p.lo o.p.hi o.p.log o.request o.acknowledged)) (λ number. refl) (λ number. refl)) ok.owned;
-  }
-  keeps s (TakePush o) fits logs ok = record { order = take_keeps s ok.order o fits; owned = take_owned s ok.owned o fits }
-  keeps s (GivePush o) fits logs ok = record {
-    order = give_keeps pure s ok.order o fits (logs.values o.m.source fits.source fits.its_source fits.before (Take o.m.number o.brought ∷ fits.after) (sym fits.taken));
-    owned = give_owned s ok.owned o fits;
-  }
-  keeps s (ExpirePush o) fits logs ok = record {
-    order = expire_keeps s ok.order o fits;
-    owned = owned_alike s.moving s.parts _ (push_was s.moving s.parts o.part o.p (Expire o.client) fits.here
-        (λ h. ap (λ (spans : List Span). is_owned spans h) (owned_expire o.p.lo o.p.hi o.p.log o.client)) (λ number. refl) (λ number. refl)) ok.owned;
-  }
-  keeps s (Told number) fits logs ok = record { order = tell_keeps s number ok.order; owned = ok.owned }
-  keeps s (Migrates m) fits logs ok = record { order = migrate_keeps s ok.order m fits; owned = migrate_owned s m ok.owned fits }
-  keeps s (GivenDone m) fits logs ok = record { order = given_keeps s ok.order ok.owned; owned = given_owned s.moving s.parts ok.owned }
-  keeps s (Invokes id command) fits logs ok = record { order = invoke_keeps s ok.order id command fits; owned = ok.owned }
-  keeps s (Completes id a) fits logs ok = record { order = complete_keeps s ok.order id a fits; owned = ok.owned }
-  keeps s (Looks o) fits logs ok = record { order = look_keeps s ok.order o fits; owned = ok.owned }
-  keeps s (Flags by id a) fits logs ok = record { order = flag_keeps s ok.order by id a fits; owned = ok.owned }
-  keeps s (Adopts o) fits logs ok = adopt_line s o fits logs ok
+  keeps s m fits logs ok =
+      let now = updates_keep pure second s m fits logs (updates_of s ok) in
+      record { order = now.order; owned = now.owned; looks = reads_keep pure s m fits logs ok.order ok.owned now.order ok.looks }
 
-  -- ---- lists of moves
-
-  abbrev pub all_after : Line → List Move → Line
-  all_after s [] = s
-  all_after s (m ∷ ms) = all_after (after s m) ms
-
-  abbrev pub AllFit : Line → List Move → Type 0
-  AllFit s [] = ⊤
-  AllFit s (m ∷ ms) = Fits s m × LogsOk s.parts × AllFit (after s m) ms
-
-  pub all_keep : (ms : List Move) (s : Line) → AllFit s ms → LineOk s → LineOk (all_after s ms)
+  -- and so do all of a list
+  pub all_keep : (ms : List Move) (s : Line) → AllFit LogsOk s ms → LineOk s → LineOk (all_after s ms)
   all_keep [] s fits ok = ok
   all_keep (m ∷ ms) s fits ok = all_keep ms (after s m) fits.2 (keeps s m fits.0 fits.1 ok)
+
+  -- a look gives at its mark what it gave, unless an adoption drops it
+  pub look_stays : (s : Line) (m : Move) → Fits s m → LogsOk s.parts → LineOk s → (by : Capture) (part long : ℕ) (id : RequestId) (a : Answer)
+      → LookGives s.marks by part long id a → LookGives (after s m).marks by part long id a ⊎ IsDropped m part long
+  look_stays s (OpPush o) fits logs ok by part long id a w = inl (look_more s.marks _ by part long id a w)
+  look_stays s (TakePush o) fits logs ok by part long id a w = inl w
+  look_stays s (GivePush o) fits logs ok by part long id a w = inl w
+  look_stays s (ExpirePush o) fits logs ok by part long id a w = inl w
+  look_stays s (Told number) fits logs ok by part long id a w = inl w
+  look_stays s (Migrates m) fits logs ok by part long id a w = inl w
+  look_stays s (GivenDone m) fits logs ok by part long id a w = inl w
+  look_stays s (Invokes other command) fits logs ok by part long id a w = inl w
+  look_stays s (Completes other b) fits logs ok by part long id a w =
+      inl (look_flagged (record { id = other; answer = b; by = None }) s.marks ok.order.kinds (keeps s (Completes other b) fits logs ok).order.kinds by part long id a w)
+  look_stays s (Looks o) fits logs ok by part long id a w = inl (look_more s.marks _ by part long id a w)
+  look_stays s (Flags at other b) fits logs ok by part long id a w =
+      inl (look_flagged (record { id = other; answer = b; by = Some at }) s.marks ok.order.kinds (keeps s (Flags at other b) fits logs ok).order.kinds by part long id a w)
+  look_stays s (Adopts o) fits logs ok by part long id a w = look_adopt pure s ok.order.kinds ok.looks.looks o fits (logs.takes_once o.part o.p fits.here) by part long id a w
+
+  -- a look gives at its mark what it read in the log
+  pub look_reads : (s : Line) (o : Look) → LookFits s o → LogsOk s.parts → LineOk s
+      → LookGives (looking s o).marks (record { master = o.node; epoch = o.epoch; number = o.capture }) o.part (length o.p.log) o.id (answer_after o.p.lo o.p.hi o.p.log o.command)
+  look_reads s o fits logs ok = look_begins pure s ok.order ok.owned o fits (whole_value pure second s logs o.part o.p fits.here)
 
 -- ---- the opening
 
@@ -122,6 +93,11 @@ opening_keeps parts empty one = record {
     source = λ n p m is hn t. absurd cc;
     target = λ n p m is hn t. absurd cc;
     apart = λ m is same. absurd cc;
+  };
+  looks = record {
+    looks = λ j k i number long h m u hm am hk lt au f tm tu. absurd cc;
+    takes = λ n p i number k hn hi. absurd (none_there n p i (Take number k) hn hi);
+    values = λ k e m a h look f done. absurd cc;
   };
 }
   where

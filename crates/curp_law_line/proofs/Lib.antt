@@ -5,6 +5,8 @@ pub mod Known
 pub mod Given
 pub mod Pushes
 pub mod Lines
+pub mod OwnedValues
+pub mod Shown
 pub mod Ops
 pub mod Invocations
 pub mod Completions
@@ -27,7 +29,11 @@ pub mod Owning
 pub mod Grounds
 pub mod Owners
 pub mod AdoptedOwners
+pub mod UpdatesKept
 pub mod Keeps
 pub mod Histories
+pub mod ToldTakes
 pub mod Looks
 pub mod LooksKept
+pub mod Values
+pub mod ReadsKept

@@ -2,7 +2,7 @@
 use Rattle.curp_law_line.proofs.Given.{TakesOnce}
 use Rattle.curp_law_line.proofs.Hashes.{update_place}
 use Rattle.curp_law_line.proofs.Entries.{take_entry}
-use Rattle.std.proofs.Common.{◌≡◌, ◌≢◌, ℕ, ◌<◌, ◌≤◌, ◌&&◌, ◌==◌, nat_le, nat_lt, not, inl, inr, ◌⊎◌, Bool, true, false, cond, List, [], ◌∷◌, ◌++◌, length, Some, refl, ap, sym, ◌∙◌, subst, arith}
+use Rattle.std.proofs.Common.{◌≡◌, ◌≢◌, ℕ, ◌<◌, ◌≤◌, ◌&&◌, ◌==◌, nat_le, nat_lt, not, inl, inr, Bool, true, false, cond, List, [], ◌∷◌, ◌++◌, length, Some, refl, ap, sym, ◌∙◌, subst, arith}
 use Rattle.std.specs.List.{filter, list_any}
 use Rattle.std.proofs.lemmas.Bool.{cases_Bool, cases_eq, eqb-true, eq-eqb}
 use Rattle.std.proofs.lemmas.Bool.Decides.{nat_tests}
@@ -12,36 +12,17 @@ use Rattle.curp_cmd.specs.Hash.{touches}
 use Rattle.curp_cmd.specs.Store.{applied, nothing}
 use Rattle.curp_cmd.specs.declared.entry.Entry.{Entry}
 use Rattle.curp_cmd.specs.declared.entry.Entry.TheVariants.{Take}
-use Rattle.curp_cmd.specs.declared.migration.Package.{Package}
-use Rattle.curp_facts.specs.Facts.{IsAmong}
 use Rattle.curp_law_line.proofs.AdoptedMarks.{flagged_stays, stays}
 use Rattle.curp_law_line.proofs.Given.{Pure}
 use Rattle.curp_law_line.proofs.Lists.{in_any, in_head, in_tail}
 use Rattle.curp_law_line.proofs.Numbered.{any_at, numbered_same}
 use Rattle.curp_law_line.proofs.Orders.{same_fronts}
 use Rattle.curp_law_line.specs.Hashes.{Part, is_take}
-use Rattle.curp_law_line.specs.Line.{Line}
+use Rattle.curp_law_line.specs.Line.{Line, LooksOk, ToldTake}
 use Rattle.curp_law_line.specs.Moves.{Adopt, AdoptFits}
 use Rattle.curp_law_logs.specs.Hashes.{In, asked, on, updates}
 use Rattle.curp_model.specs.Marks.{Executed, Looked, Mark, is_past, is_update_mark}
 use Rattle.curp_order.specs.Order.{store_after}
-use Rattle.curp_range.specs.Spans.{is_in}
-
--- a take of the hash that was told stands behind the index
-pub record ToldTake (told : List ℕ) (log : List Entry) (i h : ℕ) : Type 0 where
-  pub place : ℕ
-  pub number : ℕ
-  pub taken : Package
-  pub stands : At log place (Take number taken)
-  pub behind : i < place
-  pub covers : is_in taken.lo taken.hi h ≡ true
-  pub is_told : IsAmong number told
-
--- L1: an uncompleted update before a look on its hash stands below the look's length, or in another partition before a told take of the hash
-abbrev pub LooksOk : List Part → List ℕ → List Mark → Type 0
-LooksOk parts told marks = (j k i number long h : ℕ) (m u : Mark) → At marks j m → m.place ≡ Looked number long → At marks k u → k < j → u.place ≡ Executed i → u.completed ≡ false
-    → touches m.command h ≡ true → touches u.command h ≡ true
-    → ((u.part ≡ m.part) × (i < long)) ⊎ ((u.part ≢ m.part) × (p : Part) × (numbered parts u.part ≡ Some p) × ToldTake told p.log i h)
 
 -- marks that a filter keeps on a hash leave what the order has there
 pub filter_on : (h : ℕ) (q : Mark → Bool) (marks : List Mark) → ((u : Mark) → In u marks → is_update_mark u.place ≡ true → touches u.command h ≡ true → q u ≡ true) → on h (updates (filter q marks)) ≡ on h (updates marks)

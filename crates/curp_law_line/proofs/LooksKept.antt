@@ -12,10 +12,10 @@ use Rattle.curp_cmd.specs.declared.entry.Entry.{Entry}
 use Rattle.curp_cmd.specs.declared.entry.Entry.TheVariants.{Op, Take}
 use Rattle.curp_law_line.proofs.AdoptedMarks.{filter_order, stays}
 use Rattle.curp_law_line.proofs.Completions.{flagging_at}
-use Rattle.curp_law_line.proofs.Looks.{LooksOk, ToldTake, told_low}
+use Rattle.curp_law_line.proofs.Looks.{told_low}
 use Rattle.curp_law_line.proofs.Numbered.{numbered_same, numbered_set_other, numbered_set_same}
 use Rattle.curp_law_line.specs.Hashes.{Part}
-use Rattle.curp_law_line.specs.Line.{Line, OpAt, OrderOk}
+use Rattle.curp_law_line.specs.Line.{Line, LooksOk, OpAt, OrderOk, ToldTake}
 use Rattle.curp_law_line.specs.Moves.{Adopt, AdoptFits, Look, LookFits, ops, pushed, relogged, replayed_of}
 use Rattle.curp_model.specs.Marks.{Executed, Looked, Mark, flagged, looked}
 use Rattle.curp_msg.specs.declared.machine.Completed.{Completed}

@@ -1,33 +1,33 @@
 -- The push of an op at the owner of its hashes.
 use Rattle.std.proofs.Common.{◌≡◌, ◌≢◌, ℕ, ◌||◌, inl, inr, true, false, List, [], ◌∷◌, ◌++◌, length, take, Some, refl, ap, sym, ◌∙◌, subst, arith, append-nil, append_assoc}
-use Rattle.std.specs.FinMap as store
-use Rattle.std.proofs.lemmas.Bool.{cases_Bool, or_left, or_cases}
+use Rattle.std.proofs.lemmas.Bool.{cases_Bool, or_cases}
 use Rattle.std.proofs.Math.Seq.{take-append_seam}
 use Rattle.curp_base.proofs.Lists.{at_append, at_push, at_push_cases, at_within}
 use Rattle.curp_base.specs.Words.{At, numbered}
-use Rattle.curp_cmd.specs.Hash.{hash_of, touches}
-use Rattle.curp_cmd.specs.Store.{is_update, keys_of, nothing}
+use Rattle.curp_cmd.specs.Hash.{touches}
+use Rattle.curp_cmd.specs.Store.{is_update, nothing}
 use Rattle.curp_cmd.specs.declared.command.Answer.{Answer}
 use Rattle.curp_cmd.specs.declared.command.Command.{Command}
 use Rattle.curp_cmd.specs.declared.command.Request.{Request}
 use Rattle.curp_cmd.specs.declared.command.RequestId.{RequestId}
 use Rattle.curp_cmd.specs.declared.entry.Entry.{Entry}
 use Rattle.curp_cmd.specs.declared.entry.Entry.TheVariants.{Op}
+use Rattle.curp_law_line.proofs.OwnedValues.{at_own, no_take, owned_answer}
 use Rattle.curp_law_line.proofs.Given.{LogsValue, Pure}
-use Rattle.curp_law_line.proofs.Hashes.{any_push, behind_in, behind_op, came_op, has_take_push, key_touches, no_onward, on_append, on_none, owned_op, update_mark, updates_append}
+use Rattle.curp_law_line.proofs.Hashes.{any_push, behind_in, behind_op, came_op, has_take_push, no_onward, on_append, on_none, owned_op, update_mark, updates_append}
 use Rattle.curp_law_line.proofs.Lines.{has_moving, known_push, onward_given, onward_log, onward_same}
 use Rattle.curp_law_line.proofs.Lists.{in_cases, in_filter, in_none}
 use Rattle.curp_law_line.proofs.Pushes.{answered_grows}
 use Rattle.curp_law_line.specs.Hashes.{HashOk, HashesOk, Part, has_take, holds, is_give, is_take, onward, owns, state_of}
 use Rattle.curp_law_line.specs.Line.{Answered, AnswersOk, DistinctOk, FlagsOk, InTimeOk, InvokedOk, IsCompleted, KindsOk, Line, MarkedOk, OnceOk, OneFlagOk, OpAt, OrderOk, Owned, ReadsOk, StandingOk, UnflaggedOk, WaitingOk, WasInvoked}
 use Rattle.curp_law_line.specs.Moves.{PushOp, PushOpFits, op_pushed, pushed}
-use Rattle.curp_law_logs.specs.Hashes.{Asked, In, behind, on, updates, value}
+use Rattle.curp_law_logs.specs.Hashes.{Asked, In, behind, on, updates}
 use Rattle.curp_model.proofs.Logs.{op_not_new}
 use Rattle.curp_model.specs.Log.{answer_after}
 use Rattle.curp_model.specs.Marks.{Executed, Mark, executed, is_update_mark}
 use Rattle.curp_model.specs.Table.{check}
 use Rattle.curp_order.proofs.Laws.{answers_push}
-use Rattle.curp_order.specs.Order.{IsHistory, answers, store_after}
+use Rattle.curp_order.specs.Order.{IsHistory, answers}
 use Rattle.curp_order.specs.declared.Event.{Event}
 use Rattle.curp_order.specs.declared.Event.TheVariants.{Invoke}
 use Rattle.curp_range.specs.Spans.{Span, is_owned}
@@ -73,12 +73,6 @@ module _ (pure : Pure) (s : Line) (ok : OrderOk s) (below : Owned s.moving s.par
   abbrev longer : Part
   longer = record o.p { log = o.p.log ++ Op o.request o.acknowledged ∷ [] }
 
-  no_take : (h : ℕ) → owns p h ≡ true → has_take s.moving h p.log ≡ false
-  no_take h own = elim (cases_Bool (has_take s.moving h p.log)) [ inl t ↦ absurd (below.gone o.part p h fits.here own t) | inr f ↦ f ]
-
-  at_own : (h : ℕ) → owns p h ≡ true → HashOk s.moving s.parts os p h
-  at_own h own = ok.hashes o.part p fits.here h (or_left _ _ own)
-
   -- ---- the id is new everywhere
 
   fresh : (y : Asked) → In y os → y.0 ≡ r.id → ⊥
@@ -89,7 +83,7 @@ module _ (pure : Pure) (s : Line) (ok : OrderOk s) (below : Owned s.moving s.par
       let command : y.1 ≡ r.command = sym (ap (λ (z : Asked). z.1) u.4) ∙ one_command s.history ok.history u.0.id r.id u.0.command r.command its_id v fits.was_invoked in
       let h = fits.hash in
       let own = fits.owned h fits.has_hash in
-      let here = at_own h own in
+      let here = at_own s ok below o.part p fits.here h own in
       let line : In y (on h os) = in_filter (λ (z : Asked). touches z.1 h) os y m (ap (λ (c : Command). touches c h) command ∙ fits.has_hash) in
       let cut : In y (here.past ++ (behind h p.log ++ onward s.moving s.parts p.log h)) = subst (In y) here.alike line in
       elim (in_cases here.past _ y cut) [
@@ -101,7 +95,7 @@ module _ (pure : Pure) (s : Line) (ok : OrderOk s) (below : Owned s.moving s.par
                 op_not_new p.lo p.hi p.log op.place op.request op.acknowledged op.stands
                 (ap (check (state_of p).table) (ap (λ (z : Asked). z.0) op.is ∙ same) ∙ fits.new)
           ]
-          | inr on_more ↦ in_none y ⊥ (subst (In y) (no_onward s.moving s.parts p.log h (no_take h own)) on_more)
+          | inr on_more ↦ in_none y ⊥ (subst (In y) (no_onward s.moving s.parts p.log h (no_take s ok below o.part p fits.here h own)) on_more)
         ]
       ]
 
@@ -140,20 +134,11 @@ module _ (pure : Pure) (s : Line) (ok : OrderOk s) (below : Owned s.moving s.par
 
   -- ---- O5
 
-  key_value : (key : List ℕ) → In key (keys_of r.command) → value key os ≡ store.get (state_of p).store key
-  key_value key m =
-      let h = hash_of key in
-      let own = fits.owned h (key_touches r.command key m) in
-      let here = at_own h own in
-      let line : on h os ≡ here.past ++ behind h p.log =
-      here.alike ∙ ap (λ (w : List Asked). here.past ++ (behind h p.log ++ w)) (no_onward s.moving s.parts p.log h (no_take h own)) ∙ ap (λ (w : List Asked). here.past ++ w) (append-nil _) in
-      pure.value_local key os ∙ ap (value key) line ∙ sym (values o.part p fits.here h own key refl here.past here.values)
-
   own_answer : Answered (os ++ x ∷ []) x (answer_after p.lo p.hi p.log r.command)
   own_answer = record {
     place = length os;
     stands = at_push os x (length os) refl;
-    answer = subst (λ (a : Answer). At (answers (os ++ x ∷ [])) (length os) a) (pure.answer_local (store_after nothing os) (state_of p).store r.command key_value) (answers_push nothing os x (length os) refl);
+    answer = subst (λ (a : Answer). At (answers (os ++ x ∷ [])) (length os) a) (owned_answer s ok below o.part p fits.here pure (values o.part p fits.here) r.command fits.owned) (answers_push nothing os x (length os) refl);
   }
 
   op_answers : AnswersOk after (os ++ x ∷ [])
@@ -199,8 +184,8 @@ module _ (pure : Pure) (s : Line) (ok : OrderOk s) (below : Owned s.moving s.par
     | inl t ↦
         let own = fits.owned h t in
         line_grows h ∙ ap (λ w. w ++ on h (x ∷ [])) here.alike
-        ∙ end_own here.past (behind h p.log) (onward s.moving s.parts p.log h) (on h (x ∷ [])) (onward s.moving after longer.log h) (no_onward s.moving s.parts p.log h (no_take h own))
-        (no_onward s.moving after longer.log h (take_same h ∙ no_take h own))
+        ∙ end_own here.past (behind h p.log) (onward s.moving s.parts p.log h) (on h (x ∷ [])) (onward s.moving after longer.log h) (no_onward s.moving s.parts p.log h (no_take s ok below o.part p fits.here h own))
+        (no_onward s.moving after longer.log h (take_same h ∙ no_take s ok below o.part p fits.here h own))
         ∙ ap (λ w. here.past ++ (w ++ onward s.moving after longer.log h)) (sym (behind_op h p.log r o.acknowledged))
     | inr n ↦
         let more : onward s.moving after longer.log h ≡ onward s.moving s.parts p.log h =

@@ -11,7 +11,8 @@ use Rattle.curp_law_line.proofs.Hashes.{any_push, behind_append, came_append}
 use Rattle.curp_law_line.proofs.Lines.{known_push}
 use Rattle.curp_law_line.specs.Hashes.{HashOk, HashesOk, Part, given_on, has_take, holds, is_give, is_take, onward, owns, state_of}
 use Rattle.curp_law_line.specs.Line.{Line, OrderOk}
-use Rattle.curp_law_line.specs.Moves.{PushTake, PushTakeFits, Ungiven, pushed, take_pushed, taken_by}
+use Rattle.curp_law_line.specs.Moves.{PushTake, PushTakeFits, pushed, take_pushed, taken_by}
+use Rattle.curp_law_line.specs.Line.{Ungiven}
 use Rattle.curp_law_logs.specs.Hashes.{Asked, behind, updates}
 use Rattle.curp_model.proofs.Logs.{meaning_append}
 use Rattle.curp_model.specs.Log.{LogState, after_entry, meaning}

@@ -1,29 +1,38 @@
--- The small machine of the order, and the facts that its moves keep.
-use Rattle.std.specs.Prelude.{◌≡◌, ℕ, ◌<◌, true, false, List, take, Option, Some}
+-- The small machine of the order, and the facts that its moves keep. It has the adopted logs, the migration in work, the
+-- migrations that were told, the marks and the history: no node, no message (this project's own).
+use Rattle.std.specs.Prelude.{◌≡◌, ◌≢◌, ◌⊎◌, ℕ, ◌<◌, true, false, List, take, Option, Some}
 use Rattle.std.specs.List.{list_any}
 use Rattle.curp_base.specs.Words.{At, numbered}
-use Rattle.curp_cmd.specs.Store.{is_update}
+use Rattle.curp_cmd.specs.Hash.{touches}
+use Rattle.curp_cmd.specs.Store.{applied, is_update, nothing}
 use Rattle.curp_cmd.specs.declared.command.Answer.{Answer}
 use Rattle.curp_cmd.specs.declared.command.Command.{Command}
 use Rattle.curp_cmd.specs.declared.command.Request.{Request}
 use Rattle.curp_cmd.specs.declared.command.RequestId.{RequestId}
-use Rattle.curp_cmd.specs.declared.entry.Entry.TheVariants.{Op}
+use Rattle.curp_cmd.specs.declared.entry.Entry.TheVariants.{Op, Take}
+use Rattle.curp_cmd.specs.declared.entry.Entry.{Entry}
+use Rattle.curp_cmd.specs.declared.migration.Package.{Package}
+use Rattle.curp_facts.specs.Facts.{IsAmong}
 use Rattle.curp_law_line.specs.Hashes.{HashesOk, Part, has_take, is_give, is_take, owns}
 use Rattle.curp_law_logs.specs.Hashes.{Asked, updates}
 use Rattle.curp_model.specs.Log.{answer_after}
 use Rattle.curp_model.specs.Manager.{Migration}
-use Rattle.curp_model.specs.Marks.{Executed, Mark, is_update_mark}
-use Rattle.curp_order.specs.Order.{IsHistory, answers}
-use Rattle.curp_order.specs.declared.Event.{Event}
+use Rattle.curp_model.specs.Marks.{Executed, Looked, Mark, is_update_mark, shown}
+use Rattle.curp_msg.specs.declared.machine.Capture.{Capture}
+use Rattle.curp_order.specs.Order.{IsHistory, answers, store_after}
 use Rattle.curp_order.specs.declared.Event.TheVariants.{Complete, Invoke}
+use Rattle.curp_order.specs.declared.Event.{Event}
+use Rattle.curp_range.specs.Spans.{is_in}
 
--- the partitions, the migration in work, the migrations that were told, the marks and the history
+-- the adopted log of each partition, the migration in work, the migrations whose package was told, the marks, the history
 pub record Line : Type 0 where
   pub parts : List Part
   pub moving : Option Migration
   pub told : List ℕ
   pub marks : List Mark
   pub history : List Event
+
+-- ---- words
 
 -- an op of that request stands at the index of the partition's log
 pub record OpAt (parts : List Part) (part index : ℕ) (id : RequestId) (command : Command) : Type 0 where
@@ -35,47 +44,59 @@ pub record OpAt (parts : List Part) (part index : ℕ) (id : RequestId) (command
   pub its_id : request.id ≡ id
   pub its_command : request.command ≡ command
 
-pub record IsCompleted (h : List Event) (id : RequestId) : Type 0 where
+-- the request has completed
+pub record IsCompleted (history : List Event) (id : RequestId) : Type 0 where
   pub event : ℕ
   pub answer : Answer
-  pub stands : At h event (Complete id answer)
+  pub stands : At history event (Complete id answer)
 
-pub record WasInvoked (h : List Event) (id : RequestId) (command : Command) : Type 0 where
+-- the request was invoked with that command
+pub record WasInvoked (history : List Event) (id : RequestId) (command : Command) : Type 0 where
   pub event : ℕ
-  pub stands : At h event (Invoke id command)
+  pub stands : At history event (Invoke id command)
 
--- a request stands in the order with that answer
-pub record Answered (os : List Asked) (x : Asked) (a : Answer) : Type 0 where
+-- a request stands in the order, and one thread gives it that answer there
+pub record Answered (order : List Asked) (x : Asked) (a : Answer) : Type 0 where
   pub place : ℕ
-  pub stands : At os place x
-  pub answer : At (answers os) place a
+  pub stands : At order place x
+  pub answer : At (answers order) place a
 
--- O2: an uncompleted update's mark gives its op's place; a completed one has its op somewhere in its partition
+-- no adopted log has the give of the migration
+abbrev pub Ungiven : List Part → ℕ → Type 0
+Ungiven parts number = (k : ℕ) (q : Part) → numbered parts k ≡ Some q → list_any (is_give number) q.log ≡ false
+
+-- ---- marks of updates, ops and completions
+
+-- an uncompleted update's mark gives the place of its op
 abbrev pub WaitingOk : List Part → List Mark → Type 0
 WaitingOk parts marks = (k i : ℕ) (m : Mark) → At marks k m → m.place ≡ Executed i → m.completed ≡ false → OpAt parts m.part i m.id m.command
 
+-- each update's mark, completed or not, has its op somewhere in its partition's log
 abbrev pub StandingOk : List Part → List Mark → Type 0
 StandingOk parts marks = (k i : ℕ) (m : Mark) → At marks k m → m.place ≡ Executed i → (j : ℕ) × OpAt parts m.part j m.id m.command
 
--- O3
+-- a flagged mark is of a completed request
 abbrev pub FlagsOk : List Mark → List Event → Type 0
-FlagsOk marks h = (k : ℕ) (m : Mark) → At marks k m → m.completed ≡ true → IsCompleted h m.id
+FlagsOk marks history = (k : ℕ) (m : Mark) → At marks k m → m.completed ≡ true → IsCompleted history m.id
 
+-- an update's mark that isn't flagged is of a request that hasn't completed
 abbrev pub UnflaggedOk : List Mark → List Event → Type 0
-UnflaggedOk marks h = (k i : ℕ) (m : Mark) → At marks k m → m.place ≡ Executed i → m.completed ≡ false → IsCompleted h m.id → ⊥
+UnflaggedOk marks history = (k i : ℕ) (m : Mark) → At marks k m → m.place ≡ Executed i → m.completed ≡ false → IsCompleted history m.id → ⊥
 
+-- each mark is of a request that was invoked with that command
 abbrev pub InvokedOk : List Mark → List Event → Type 0
-InvokedOk marks h = (k : ℕ) (m : Mark) → At marks k m → WasInvoked h m.id m.command
+InvokedOk marks history = (k : ℕ) (m : Mark) → At marks k m → WasInvoked history m.id m.command
 
 -- a completed update stands in the order with the answer that it completed with
 abbrev pub MarkedOk : List Asked → List Event → Type 0
-MarkedOk os h = (e : ℕ) (id : RequestId) (c : Command) (a : Answer) → At h e (Complete id a) → WasInvoked h id c → is_update c ≡ true → Answered os (id, c) a
+MarkedOk order history = (e : ℕ) (id : RequestId) (c : Command) (a : Answer) → At history e (Complete id a) → WasInvoked history id c → is_update c ≡ true
+    → Answered order (id, c) a
 
 -- an update's mark is that of an op, and a read's that of a look
 abbrev pub KindsOk : List Mark → Type 0
 KindsOk marks = (k : ℕ) (m : Mark) → At marks k m → is_update m.command ≡ is_update_mark m.place
 
--- a completed read has a flagged mark, and no two flagged marks have one id
+-- a flagged mark of the request
 pub record FlagOf (marks : List Mark) (id : RequestId) : Type 0 where
   pub place : ℕ
   pub m : Mark
@@ -83,31 +104,34 @@ pub record FlagOf (marks : List Mark) (id : RequestId) : Type 0 where
   pub its_id : m.id ≡ id
   pub is_flagged : m.completed ≡ true
 
+-- a completed read has a flagged mark
 abbrev pub ReadsOk : List Mark → List Event → Type 0
-ReadsOk marks h = (id : RequestId) (c : Command) → IsCompleted h id → WasInvoked h id c → is_update c ≡ false → FlagOf marks id
+ReadsOk marks history = (id : RequestId) (c : Command) → IsCompleted history id → WasInvoked history id c → is_update c ≡ false → FlagOf marks id
 
+-- no two flagged marks are of one request
 abbrev pub OneFlagOk : List Mark → Type 0
 OneFlagOk marks = (j k : ℕ) (m o : Mark) → At marks j m → At marks k o → m.completed ≡ true → o.completed ≡ true → m.id ≡ o.id → j ≡ k
 
--- O4
+-- no request stands in the order twice
 abbrev pub DistinctOk : List Asked → Type 0
-DistinctOk os = (j k : ℕ) (x y : Asked) → At os j x → At os k y → x.0 ≡ y.0 → j ≡ k
+DistinctOk order = (j k : ℕ) (x y : Asked) → At order j x → At order k y → x.0 ≡ y.0 → j ≡ k
 
--- O5
+-- each op of an adopted log stands in the order, and one thread gives it there the answer that the log gives
 abbrev pub AnswersOk : List Part → List Asked → Type 0
-AnswersOk parts os = (n : ℕ) (p : Part) (i : ℕ) (r : Request) (a : ℕ) → numbered parts n ≡ Some p → At p.log i (Op r a)
-    → Answered os (r.id, r.command) (answer_after p.lo p.hi (take i p.log) r.command)
+AnswersOk parts order = (n : ℕ) (p : Part) (i : ℕ) (r : Request) (a : ℕ) → numbered parts n ≡ Some p → At p.log i (Op r a)
+    → Answered order (r.id, r.command) (answer_after p.lo p.hi (take i p.log) r.command)
 
--- O6
+-- a request is an op at one place of one adopted log
 abbrev pub OnceOk : List Part → Type 0
 OnceOk parts = (n m : ℕ) (p q : Part) (i j : ℕ) (r s : Request) (a b : ℕ) → numbered parts n ≡ Some p → numbered parts m ≡ Some q
     → At p.log i (Op r a) → At q.log j (Op s b) → r.id ≡ s.id → (n ≡ m) × (i ≡ j)
 
--- O9: what stands before a flagged mark was invoked before the mark's request completed
+-- what stands before a flagged mark was invoked before the mark's request completed
 abbrev pub InTimeOk : List Mark → List Event → Type 0
-InTimeOk marks h = (j k e : ℕ) (m o : Mark) (a : Answer) → At marks j m → m.completed ≡ true → At h e (Complete m.id a) → k < j → At marks k o
-    → (i : ℕ) × (i < e) × At h i (Invoke o.id o.command)
+InTimeOk marks history = (j k e : ℕ) (m o : Mark) (a : Answer) → At marks j m → m.completed ≡ true → At history e (Complete m.id a) → k < j → At marks k o
+    → (i : ℕ) × (i < e) × At history i (Invoke o.id o.command)
 
+-- what is kept of the updates' order: its equation at each hash, its marks, its answers
 pub record OrderOk (s : Line) : Type 0 where
   pub history : IsHistory s.history
   pub hashes : HashesOk s.moving s.parts (updates s.marks)
@@ -125,15 +149,83 @@ pub record OrderOk (s : Line) : Type 0 where
   pub once : OnceOk s.parts
   pub in_time : InTimeOk s.marks s.history
 
--- ---- what lower layers say of the adopted logs
+-- ---- who owns a hash
 
--- One partition owns a hash. Where a take is out, its source doesn't own the hash, and an owner is the target with its give
+-- One partition owns a hash at most. Where a take is out, its source doesn't own the hash, and an owner is the target with
+-- the give. The entries of the migration in work stand at its source and at its target
 pub record Owned (moving : Option Migration) (parts : List Part) : Type 0 where
   pub one : (n k : ℕ) (p q : Part) (h : ℕ) → numbered parts n ≡ Some p → numbered parts k ≡ Some q → owns p h ≡ true → owns q h ≡ true → n ≡ k
   pub gone : (n : ℕ) (p : Part) (h : ℕ) → numbered parts n ≡ Some p → owns p h ≡ true → has_take moving h p.log ≡ true → ⊥
   pub moved : (n k : ℕ) (p q : Part) (h : ℕ) (m : Migration) → moving ≡ Some m → numbered parts n ≡ Some p → numbered parts k ≡ Some q → owns p h ≡ true
       → has_take moving h q.log ≡ true → (n ≡ m.target) × (list_any (is_give m.number) p.log ≡ true)
-  -- the entries of the migration in work stand at its source and its target
   pub source : (n : ℕ) (p : Part) (m : Migration) → moving ≡ Some m → numbered parts n ≡ Some p → list_any (is_take m.number) p.log ≡ true → n ≡ m.source
   pub target : (n : ℕ) (p : Part) (m : Migration) → moving ≡ Some m → numbered parts n ≡ Some p → list_any (is_give m.number) p.log ≡ true → n ≡ m.target
   pub apart : (m : Migration) → moving ≡ Some m → m.source ≡ m.target → ⊥
+
+-- ---- reads
+
+-- what one thread answers to the command at that place of the marks
+abbrev pub answer_at : List Mark → ℕ → Command → Answer
+answer_at marks place command = (applied (store_after nothing (shown (take place marks))) command).answer
+
+-- a take of the hash that was told stands behind the index
+pub record ToldTake (told : List ℕ) (log : List Entry) (i h : ℕ) : Type 0 where
+  pub place : ℕ
+  pub number : ℕ
+  pub taken : Package
+  pub stands : At log place (Take number taken)
+  pub behind : i < place
+  pub covers : is_in taken.lo taken.hi h ≡ true
+  pub is_told : IsAmong number told
+
+-- An uncompleted update that is marked before a look, on one of its hashes, stands below the look's length in the same
+-- partition's log, or in another partition's log before a told take of the hash. So no adoption drops it and keeps the look
+abbrev pub LooksOk : List Part → List ℕ → List Mark → Type 0
+LooksOk parts told marks = (j k i number long h : ℕ) (m u : Mark) → At marks j m → m.place ≡ Looked number long → At marks k u → k < j → u.place ≡ Executed i → u.completed ≡ false
+    → touches m.command h ≡ true → touches u.command h ≡ true
+    → ((u.part ≡ m.part) × (i < long)) ⊎ ((u.part ≢ m.part) × (p : Part) × (numbered parts u.part ≡ Some p) × ToldTake told p.log i h)
+
+-- the take is that of the migration in work, with its range, and no log has the give
+pub record IsMoving (parts : List Part) (moving : Option Migration) (number : ℕ) (taken : Package) : Type 0 where
+  pub m : Migration
+  pub in_work : moving ≡ Some m
+  pub its_number : m.number ≡ number
+  pub lo : taken.lo ≡ m.range.lo
+  pub hi : taken.hi ≡ m.range.hi
+  pub ungiven : Ungiven parts number
+
+-- each take in an adopted log was told, or is that of the migration in work
+abbrev pub TakesOk : List Part → Option Migration → List ℕ → Type 0
+TakesOk parts moving told = (n : ℕ) (p : Part) (i number : ℕ) (taken : Package) → numbered parts n ≡ Some p → At p.log i (Take number taken)
+    → IsAmong number told ⊎ IsMoving parts moving number taken
+
+-- one thread gives a flagged look the answer that its request completed with
+abbrev pub ValuesOk : List Mark → List Event → Type 0
+ValuesOk marks history = (k e : ℕ) (m : Mark) (a : Answer) → At marks k m → is_update_mark m.place ≡ false → m.completed ≡ true → At history e (Complete m.id a)
+    → answer_at marks k m.command ≡ a
+
+-- what is kept of reads
+pub record LooksKept (s : Line) : Type 0 where
+  pub looks : LooksOk s.parts s.told s.marks
+  pub takes : TakesOk s.parts s.moving s.told
+  pub values : ValuesOk s.marks s.history
+
+-- the mark of a look is kept, and one thread gives the answer at that mark
+pub record LookGives (marks : List Mark) (by : Capture) (part length : ℕ) (id : RequestId) (a : Answer) : Type 0 where
+  pub place : ℕ
+  pub mark : Mark
+  pub stands : At marks place mark
+  pub its_master : mark.master ≡ by.master
+  pub its_epoch : mark.epoch ≡ by.epoch
+  pub its_part : mark.part ≡ part
+  pub its_id : mark.id ≡ id
+  pub is_look : mark.place ≡ Looked by.number length
+  pub gives : answer_at marks place mark.command ≡ a
+
+-- ---- all together
+
+-- what every move keeps
+pub record LineOk (s : Line) : Type 0 where
+  pub order : OrderOk s
+  pub owned : Owned s.moving s.parts
+  pub looks : LooksKept s

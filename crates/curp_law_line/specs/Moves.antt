@@ -1,5 +1,5 @@
--- The moves of the small machine, with their premises.
-use Rattle.std.specs.Prelude.{◌≡◌, ◌≢◌, ◌≤◌, ℕ, ◌-◌, Bool, true, false, List, [], ◌∷◌, ◌++◌, set, map, length, take, Some, None, ⊤}
+-- The moves of the small machine, with what each needs and what it does.
+use Rattle.std.specs.Prelude.{◌≡◌, ◌≢◌, ◌≤◌, ◌<◌, ℕ, ◌-◌, Bool, true, false, List, [], ◌∷◌, ◌++◌, set, map, length, take, Some, None, ⊤}
 use Rattle.std.specs.List.{IsDistinct, list_any}
 use Rattle.curp_base.specs.Words.{At, numbered}
 use Rattle.curp_cmd.specs.Hash.{touches}
@@ -14,7 +14,7 @@ use Rattle.curp_cmd.specs.declared.migration.Package.{Package}
 use Rattle.curp_cmd.specs.declared.node.NodeId.{NodeId}
 use Rattle.curp_facts.specs.Facts.{IsAmong}
 use Rattle.curp_law_line.specs.Hashes.{Part, is_give, is_take, owns, state_of}
-use Rattle.curp_law_line.specs.Line.{IsCompleted, Line, WasInvoked}
+use Rattle.curp_law_line.specs.Line.{IsCompleted, Line, Ungiven, WasInvoked, answer_at}
 use Rattle.curp_law_logs.specs.Hashes.{gives}
 use Rattle.curp_model.specs.Laws.{clash}
 use Rattle.curp_model.specs.Log.{IsDone, entry_touches, meaning, package_of}
@@ -28,6 +28,8 @@ use Rattle.curp_order.specs.declared.Event.TheVariants.{Complete, Invoke}
 use Rattle.curp_range.specs.Spans.{is_covered, is_in}
 use Rattle.std.specs.List.{filter}
 
+-- ---- words
+
 -- the partition has another log
 abbrev pub relogged : List Part → ℕ → Part → List Entry → List Part
 relogged parts n p log = set parts (n - 1) (record p { log = log })
@@ -40,12 +42,9 @@ pushed parts n p e = relogged parts n p (p.log ++ e ∷ [])
 abbrev pub ops : List Request → List Entry
 ops rs = map (λ (r : Request). Op r 0) rs
 
--- no adopted log has the give
-abbrev pub Ungiven : List Part → ℕ → Type 0
-Ungiven parts number = (k : ℕ) (q : Part) → numbered parts k ≡ Some q → list_any (is_give number) q.log ≡ false
+-- ---- an adopted master pushes an entry
 
--- ---- the moves
-
+-- an op goes to the log p of that partition
 pub record PushOp : Type 0 where
   pub part : ℕ
   pub p : Part
@@ -54,6 +53,7 @@ pub record PushOp : Type 0 where
   pub request : Request
   pub acknowledged : ℕ
 
+-- the request is an invoked update, new to the log, whose hashes the partition owns
 pub record PushOpFits (s : Line) (o : PushOp) : Type 0 where
   pub here : numbered s.parts o.part ≡ Some o.p
   pub new : check (state_of o.p).table o.request.id ≡ New
@@ -63,21 +63,25 @@ pub record PushOpFits (s : Line) (o : PushOp) : Type 0 where
   pub updates : is_update o.request.command ≡ true
   pub was_invoked : WasInvoked s.history o.request.id o.request.command
 
+-- its mark comes to the end
 abbrev pub op_pushed : Line → PushOp → Line
 op_pushed s o = record s {
   parts = pushed s.parts o.part o.p (Op o.request o.acknowledged);
   marks = s.marks ++ executed o.node o.part o.epoch (length o.p.log) o.request.id o.request.command ∷ [];
 }
 
+-- the take of a migration goes to the log p of that partition
 pub record PushTake : Type 0 where
   pub part : ℕ
   pub p : Part
   pub m : Migration
   pub ordered : m.range.lo ≤ m.range.hi
 
+-- the package that it takes
 abbrev pub taken_by : PushTake → Package
 taken_by o = package_of (state_of o.p) o.m.range.lo o.m.range.hi o.ordered
 
+-- the migration is in work, from a partition that owns its range and has no take of it, and no log has its give
 pub record PushTakeFits (s : Line) (o : PushTake) : Type 0 where
   pub here : numbered s.parts o.part ≡ Some o.p
   pub in_work : s.moving ≡ Some o.m
@@ -86,15 +90,19 @@ pub record PushTakeFits (s : Line) (o : PushTake) : Type 0 where
   pub first : list_any (is_take o.m.number) o.p.log ≡ false
   pub ungiven : Ungiven s.parts o.m.number
 
+-- the take stands at the end
 abbrev pub take_pushed : Line → PushTake → Line
 take_pushed s o = record s { parts = pushed s.parts o.part o.p (Take o.m.number (taken_by o)) }
 
+-- the give of a migration goes to the log p of that partition
 pub record PushGive : Type 0 where
   pub part : ℕ
   pub p : Part
   pub m : Migration
   pub brought : Package
 
+-- The migration is in work, to that partition, and no log has its give. What it brings is the package of the take in the
+-- source's log, which was told: the source owned the range before it, and nothing behind it touches the range
 pub record PushGiveFits (s : Line) (o : PushGive) : Type 0 where
   pub here : numbered s.parts o.part ≡ Some o.p
   pub in_work : s.moving ≡ Some o.m
@@ -108,44 +116,54 @@ pub record PushGiveFits (s : Line) (o : PushGive) : Type 0 where
   pub lo : o.brought.lo ≡ o.m.range.lo
   pub hi : o.brought.hi ≡ o.m.range.hi
   pub its_package : o.brought ≡ package_of (meaning source.lo source.hi before) o.brought.lo o.brought.hi o.brought.ordered
-  -- the source owned the range before its take, and nothing behind it touches the range
   pub covered : (h : ℕ) → is_in o.m.range.lo o.m.range.hi h ≡ true → owns (record source { log = before }) h ≡ true
   pub quiet : (h : ℕ) → is_in o.m.range.lo o.m.range.hi h ≡ true → list_any (λ (e : Entry). entry_touches e h) after ≡ false
   pub ungiven : Ungiven s.parts o.m.number
+  pub told : IsAmong o.m.number s.told
 
+-- the give stands at the end
 abbrev pub give_pushed : Line → PushGive → Line
 give_pushed s o = record s { parts = pushed s.parts o.part o.p (Give o.m.number o.brought) }
 
+-- the expiry of a client goes to the log p of that partition
 pub record PushExpire : Type 0 where
   pub part : ℕ
   pub p : Part
   pub client : ℕ
 
+-- it may always be pushed
 pub record PushExpireFits (s : Line) (o : PushExpire) : Type 0 where
   pub here : numbered s.parts o.part ≡ Some o.p
 
+-- the expiry stands at the end
 abbrev pub expire_pushed : Line → PushExpire → Line
 expire_pushed s o = record s { parts = pushed s.parts o.part o.p (Expire o.client) }
 
--- a master tells of its take, of the migration in work or of an older one, again and again
+-- ---- the migration in work
+
+-- a master tells of a take that stands in its log, of the migration in work or of an older one, again and again
 pub record TellFits (s : Line) (number : ℕ) : Type 0 where
   pub part : ℕ
   pub source : Part
   pub here : numbered s.parts part ≡ Some source
   pub stands : list_any (is_take number) source.log ≡ true
 
+-- its number is among the told
 abbrev pub take_told : Line → ℕ → Line
 take_told s number = record s { told = s.told ++ number ∷ [] }
 
+-- a migration begins where none is in work: between two partitions, and no log has its entries
 pub record MigrateFits (s : Line) (m : Migration) : Type 0 where
   pub none : s.moving ≡ None
   pub untaken : (k : ℕ) (q : Part) → numbered s.parts k ≡ Some q → list_any (is_take m.number) q.log ≡ false
   pub ungiven : Ungiven s.parts m.number
   pub other : m.source ≢ m.target
 
+-- it is in work
 abbrev pub migrating : Line → Migration → Line
 migrating s m = record s { moving = Some m }
 
+-- it is done once its take and its give stand in the logs
 pub record GivenFits (s : Line) (m : Migration) : Type 0 where
   pub in_work : s.moving ≡ Some m
   pub source : Part
@@ -155,12 +173,17 @@ pub record GivenFits (s : Line) (m : Migration) : Type 0 where
   pub its_target : numbered s.parts m.target ≡ Some target
   pub given : list_any (is_give m.number) target.log ≡ true
 
+-- none is in work
 abbrev pub given_done : Line → Line
 given_done s = record s { moving = None }
 
+-- ---- invocations, completions and looks
+
+-- a request is invoked that wasn't yet
 pub record InvokeFits (s : Line) (id : RequestId) : Type 0 where
   pub new : (i : ℕ) (c : Command) → At s.history i (Invoke id c) → ⊥
 
+-- the history has it
 abbrev pub invoking : Line → RequestId → Command → Line
 invoking s id command = record s { history = s.history ++ Invoke id command ∷ [] }
 
@@ -173,9 +196,11 @@ pub record CompleteFits (s : Line) (id : RequestId) (a : Answer) : Type 0 where
   pub was_invoked : (i : ℕ) × (c : Command) × At s.history i (Invoke id c)
   pub waits : IsCompleted s.history id → ⊥
 
+-- its mark is flagged, and the history has the completion
 abbrev pub completing : Line → RequestId → Answer → Line
 completing s id a = record s { marks = flagged (record { id = id; answer = a; by = None }) s.marks; history = s.history ++ Complete id a ∷ [] }
 
+-- an adopted master takes the value of a read at its log p, under the number of a capture
 pub record Look : Type 0 where
   pub part : ℕ
   pub p : Part
@@ -185,19 +210,22 @@ pub record Look : Type 0 where
   pub id : RequestId
   pub command : Command
 
+-- the request is an invoked read, whose hashes the partition owns
 pub record LookFits (s : Line) (o : Look) : Type 0 where
   pub here : numbered s.parts o.part ≡ Some o.p
   pub owned : (h : ℕ) → touches o.command h ≡ true → owns o.p h ≡ true
   pub reads : is_update o.command ≡ false
   pub was_invoked : WasInvoked s.history o.id o.command
 
+-- its mark comes to the end
 abbrev pub looking : Line → Look → Line
 looking s o = record s { marks = s.marks ++ looked o.node o.part o.epoch o.capture (length o.p.log) o.id o.command ∷ [] }
 
--- a read completes by the one mark that it flags
+-- a completion by a capture flags the mark
 abbrev pub flags_mark : Capture → RequestId → Answer → Mark → Bool
 flags_mark by id a m = is_flagged (record { id = id; answer = a; by = Some by }) (Some by) m
 
+-- a read completes by the mark of one look, and with the answer that one thread gives at that mark
 pub record FlagFits (s : Line) (by : Capture) (id : RequestId) (a : Answer) : Type 0 where
   pub place : ℕ
   pub m : Mark
@@ -206,13 +234,16 @@ pub record FlagFits (s : Line) (by : Capture) (id : RequestId) (a : Answer) : Ty
   pub hits : flags_mark by id a m ≡ true
   pub only : (k : ℕ) (o : Mark) → At s.marks k o → flags_mark by id a o ≡ true → k ≡ place
   pub waits : IsCompleted s.history id → ⊥
+  pub gives : answer_at s.marks place m.command ≡ a
 
+-- the mark is flagged, and the history has the completion
 abbrev pub flagging : Line → Capture → RequestId → Answer → Line
 flagging s by id a = record s { marks = flagged (record { id = id; answer = a; by = Some by }) s.marks; history = s.history ++ Complete id a ∷ [] }
 
 -- ---- adoption
 
--- P stays, T goes, and the requests Q are replayed
+-- Of the log p of that partition a beginning stays and the rest goes, and of what the witness held the requests that fit
+-- are replayed behind it
 pub record Adopt : Type 0 where
   pub part : ℕ
   pub p : Part
@@ -222,33 +253,39 @@ pub record Adopt : Type 0 where
   pub goes : List Entry
   pub held : List Request
 
+-- the requests that are replayed
 abbrev pub replayed_of : Adopt → List Request
 replayed_of o = filter (replays (meaning o.p.lo o.p.hi o.stays)) o.held
 
--- of the migration in work, with its range; where its take goes, no log has its give
+-- a take or a give that goes is of the migration in work and has its range; where its take goes, no log has its give
 abbrev pub OnlyMoving : Line → Entry → Type 0
 OnlyMoving s (Take migration taken) = (m : Migration) × (s.moving ≡ Some m) × (m.number ≡ migration) × Ungiven s.parts migration × (taken.lo ≡ m.range.lo) × (taken.hi ≡ m.range.hi)
 OnlyMoving s (Give migration given) = (m : Migration) × (s.moving ≡ Some m) × (m.number ≡ migration) × (given.lo ≡ m.range.lo) × (given.hi ≡ m.range.hi)
 OnlyMoving s _ = ⊤
 
+-- a request that was held: an invoked update that names a key
+pub record IsHeld (s : Line) (r : Request) : Type 0 where
+  pub was_invoked : WasInvoked s.history r.id r.command
+  pub updates : is_update r.command ≡ true
+  pub hash : ℕ
+  pub has_hash : touches r.command hash ≡ true
+
+-- What goes is of the migration in work, and where a give goes, what stays doesn't own its hashes. What was held are
+-- invoked updates of which no two clash. Each completed op that goes is replayed, and nothing before it there touches its
+-- hashes. No completed look is longer than what stays, and each take that was told stays
 pub record AdoptFits (s : Line) (o : Adopt) : Type 0 where
   pub here : numbered s.parts o.part ≡ Some o.p
   pub is : o.p.log ≡ o.stays ++ o.goes
-  -- (a)
   pub moving : (k : ℕ) (e : Entry) → At o.goes k e → OnlyMoving s e
-  -- (b)
   pub unowned : (h : ℕ) → list_any (gives h) o.goes ≡ true → owns (record o.p { log = o.stays }) h ≡ false
-  -- (c)
   pub apart : IsDistinct clash o.held
-  pub asked : (k : ℕ) (r : Request) → At o.held k r → WasInvoked s.history r.id r.command × (is_update r.command ≡ true) × ((h : ℕ) × (touches r.command h ≡ true))
-  -- (d): each completed op of what goes is replayed, and nothing before it there touches its hashes
+  pub asked : (k : ℕ) (r : Request) → At o.held k r → IsHeld s r
   pub done : (k : ℕ) (r : Request) (a : ℕ) → At o.goes k (Op r a) → IsCompleted s.history r.id
       → IsAmong r (replayed_of o) × ((h : ℕ) → touches r.command h ≡ true → list_any (λ (e : Entry). entry_touches e h) (take k o.goes) ≡ false)
-  -- (e)
   pub looks : (k : ℕ) (m : Mark) (number long : ℕ) → At s.marks k m → m.part ≡ o.part → m.place ≡ Looked number long → m.completed ≡ true → long ≤ length o.stays
-  -- (f)
   pub told : (number : ℕ) → IsAmong number s.told → list_any (is_take number) o.p.log ≡ true → list_any (is_take number) o.stays ≡ true
 
+-- the log is what stays and the replayed requests behind it, and the marks follow
 abbrev pub adopting : Line → Adopt → Line
 adopting s o = record s {
   parts = relogged s.parts o.part o.p (o.stays ++ ops (replayed_of o));
@@ -257,6 +294,7 @@ adopting s o = record s {
 
 -- ---- all of them
 
+-- a move of the machine
 pub data Move : Type 0 where
   OpPush : PushOp → Move
   TakePush : PushTake → Move
@@ -271,6 +309,7 @@ pub data Move : Type 0 where
   Flags : Capture → RequestId → Answer → Move
   Adopts : Adopt → Move
 
+-- the move can be made
 abbrev pub Fits : Line → Move → Type 0
 Fits s (OpPush o) = PushOpFits s o
 Fits s (TakePush o) = PushTakeFits s o
@@ -285,6 +324,7 @@ Fits s (Looks o) = LookFits s o
 Fits s (Flags by id a) = FlagFits s by id a
 Fits s (Adopts o) = AdoptFits s o
 
+-- the state after it
 abbrev pub after : Line → Move → Line
 after s (OpPush o) = op_pushed s o
 after s (TakePush o) = take_pushed s o
@@ -298,3 +338,18 @@ after s (Completes id a) = completing s id a
 after s (Looks o) = looking s o
 after s (Flags by id a) = flagging s by id a
 after s (Adopts o) = adopting s o
+
+-- the state after moves
+abbrev pub all_after : Line → List Move → Line
+all_after s [] = s
+all_after s (m ∷ ms) = all_after (after s m) ms
+
+-- each move can be made in its turn, with what is given of the logs
+abbrev pub AllFit : (List Part → Type 0) → Line → List Move → Type 0
+AllFit Given s [] = ⊤
+AllFit Given s (m ∷ ms) = Fits s m × Given s.parts × AllFit Given (after s m) ms
+
+-- the move drops the looks of that length in that partition: it adopts a log of which less stays
+abbrev pub IsDropped : Move → ℕ → ℕ → Type 0
+IsDropped (Adopts o) part long = (o.part ≡ part) × (length o.stays < long)
+IsDropped _ part long = ⊥
