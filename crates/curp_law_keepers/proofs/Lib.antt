@@ -1,2 +1,4 @@
 pub mod Brought
+pub mod Lists
 pub mod Backups
+pub mod HeldApart

@@ -1,2 +1,3 @@
 pub mod Brought
 pub mod BackupEffect
+pub mod WitnessEffect
