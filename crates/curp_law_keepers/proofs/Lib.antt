@@ -2,3 +2,4 @@ pub mod Brought
 pub mod Lists
 pub mod Backups
 pub mod HeldApart
+pub mod Witnesses

@@ -115,7 +115,7 @@ pub record BackupEffect (n : ℕ) (given : Input) (b : BackupState) (r : Moved B
 
 -- It is installed at no other epoch than that of its master's lists, has no entry before that, and its log is a beginning of
 -- its master's
-pub record IsAtHome (epoch : ℕ) (whole : List Entry) (b : BackupState) : Type 0 where
+pub record BackupAtHome (epoch : ℕ) (whole : List Entry) (b : BackupState) : Type 0 where
   pub own : (e : ℕ) → b.installed ≡ Some e → e ≡ epoch
   pub empty : b.installed ≡ None → b.log ≡ []
   pub front : IsPrefix b.log whole

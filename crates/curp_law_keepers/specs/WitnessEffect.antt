@@ -1,5 +1,5 @@
 -- What one input does to a witness.
-use Rattle.std.specs.Prelude.{◌≡◌, ◌⊎◌, ℕ, true, List, map, Option, Some, None, ⊤}
+use Rattle.std.specs.Prelude.{◌≡◌, ◌⊎◌, ℕ, true, List, map, Some, None, ⊤}
 use Rattle.std.specs.List.{IsDistinct}
 use Rattle.curp_base.specs.Words.{Each}
 use Rattle.curp_cmd.specs.Node.{witness_node}
@@ -143,7 +143,7 @@ pub record WitnessEffect (n : ℕ) (given : Input) (x : WitnessState) (r : Moved
 
 -- It has no other epoch than that of its master's lists, none before it is started, and that one while it serves; what it
 -- holds was asked for, and no two of it clash
-pub record IsAtHome (epoch : ℕ) (Asked : Request → Type 0) (x : WitnessState) : Type 0 where
+pub record WitnessAtHome (epoch : ℕ) (Asked : Request → Type 0) (x : WitnessState) : Type 0 where
   pub own : (e : ℕ) → x.epoch ≡ Some e → e ≡ epoch
   pub idle : x.mode ≡ Idle → x.epoch ≡ None
   pub started : x.mode ≡ Normal → x.epoch ≡ Some epoch
