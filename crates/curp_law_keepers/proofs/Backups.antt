@@ -1,0 +1,133 @@
+-- The effect of each input on a backup.
+use Rattle.std.proofs.Common.{◌≡◌, ℕ, ◌+◌, ◌-◌, ◌≤◌, ◌<◌, true, not, List, drop, length, nat_lt, length-append, length-drop, refl, ap, sym, ◌∙◌, subst, arith, Option, Some, None}
+use Rattle.std.proofs.lemmas.Bool.{cond_both, not-false}
+use Rattle.std.proofs.lemmas.Bool.Decides.{nat_tests}
+use Rattle.curp_base.specs.Words.{IsPrefix}
+use Rattle.curp_base.proofs.Lists.{overlap, prefix_trans}
+use Rattle.curp_cmd.specs.declared.entry.Entry.{Entry}
+use Rattle.curp_cmd.specs.declared.node.NodeId.{NodeId}
+use Rattle.curp_msg.specs.Moved.{says}
+use Rattle.curp_msg.specs.declared.body.Append.{Append}
+use Rattle.curp_msg.specs.declared.body.Body.{Body}
+use Rattle.curp_msg.specs.declared.body.Body.TheVariants as body
+use Rattle.curp_msg.specs.declared.machine.Input.{Input}
+use Rattle.curp_msg.specs.declared.machine.Input.TheVariants as input
+use Rattle.curp_model.specs.Backup.{AfterAppend, AfterFence, BackupState, append, backup_input, fence, fresh_backup, install, installed_backup, installed_once, is_installed_at, longer, on_backup}
+use Rattle.curp_law_keepers.specs.BackupEffect.{AppendAnswerSays, BackupEffect, BackupMove, ByAppend, ByFence, ByInstall, FenceReplySays, InputSuitsBackup, BackupAtHome, Rests, SuitsBackup}
+use Rattle.curp_law_keepers.specs.Brought.{Brings}
+
+installed_at : (own : Option ℕ) (epoch : ℕ) → is_installed_at own epoch ≡ true → own ≡ Some epoch
+installed_at None epoch e = absurd cc
+installed_at (Some own) epoch e = let same : own ≡ epoch = grind (arith, nat_tests) in ap (λ (x : ℕ). Some x) same
+
+-- entries that reach behind the log make it as long as they reach
+longer_reaches : (log : List Entry) (base : ℕ) (entries : List Entry) → base ≤ length log → base + length entries ≤ length (longer log base entries)
+longer_reaches log base entries low =
+    let n = length log - base in
+    omega (arith, length-append log (drop n entries), length-drop n entries)
+
+module _ (given : Input) (from : NodeId) (b : BackupState) where
+  -- ---- an append
+
+  record Takes (a : Append) (k : AfterAppend) : Type 0 where
+    move : BackupMove given b k.state
+    answer : AppendAnswerSays k.state a k.answer
+
+  takes : (a : Append) → Brings given from (body.Append a) → Takes a (append b a.epoch a.base a.entries)
+  unfolding append
+  takes a came =
+      cond_both (nat_lt a.epoch b.fence) _ _ (Takes a) (λ below. record { move = Rests refl; answer = tt })
+      (λ above. cond_both (not (is_installed_at b.installed a.epoch)) _ _ (Takes a) (λ other. record { move = Rests refl; answer = tt })
+      (λ own. cond_both (nat_lt (length b.log) a.base) _ _ (Takes a) (λ gap. record { move = Rests refl; answer = tt })
+      (λ reaches.
+      let low : a.base ≤ length b.log = grind (arith, nat_tests) in
+      let above : b.fence ≤ a.epoch = grind (arith, nat_tests) in
+      let at : b.installed ≡ Some a.epoch = installed_at b.installed a.epoch (not-false (is_installed_at b.installed a.epoch) own) in
+      record {
+        move = ByAppend (record { from = from; append = a; came = came; own_epoch = at; not_fenced = above; no_gap = low; after = refl });
+        answer = record { long_enough = omega arith; reaches = longer_reaches b.log a.base a.entries low; own_epoch = at; not_fenced = above };
+      })))
+
+  -- ---- an install
+
+  installs : (epoch : ℕ) → Brings given from (body.Install epoch) → b.fence ≤ epoch → (own : Option ℕ) → b.installed ≡ own → BackupMove given b (installed_once b epoch own)
+  installs epoch came above None is = ByInstall (record { from = from; epoch = epoch; came = came; not_yet = is; not_fenced = above; after = refl })
+  installs epoch came above (Some own) is = Rests refl
+
+  installing : (epoch : ℕ) → Brings given from (body.Install epoch) → BackupMove given b (install b epoch)
+  installing epoch came = cond_both (nat_lt epoch b.fence) _ _ (BackupMove given b) (λ below. Rests refl) (λ above. installs epoch came (grind (arith, nat_tests)) b.installed refl)
+
+  -- ---- a fence
+
+  record Raises (epoch : ℕ) (k : AfterFence) : Type 0 where
+    move : BackupMove given b k.state
+    answer : FenceReplySays k.state epoch k.answer
+
+  raises : (epoch : ℕ) → Brings given from (body.Fence epoch) → Raises epoch (fence b epoch)
+  unfolding fence
+  raises epoch came =
+      cond_both (nat_lt epoch b.fence) _ _ (Raises epoch) (λ below. record { move = Rests refl; answer = (refl, grind (arith, nat_tests)) })
+      (λ above. record { move = ByFence (record { from = from; epoch = epoch; came = came; not_fenced = grind (arith, nat_tests); after = refl }); answer = record { its_log = refl; fenced = refl } })
+
+by_message : (n : ℕ) (b : BackupState) (from to : NodeId) (m : Body) → BackupEffect n (input.Message (says from to m)) b (on_backup n b from m)
+unfolding on_backup
+by_message n b from to (body.Append a) =
+    let came : Brings (input.Message (says from to (body.Append a))) from (body.Append a) = record { to = to; is = refl } in
+    let t = takes (input.Message (says from to (body.Append a))) from b a came in
+    record { idle = refl; obeys = refl; move = t.move; says = (record { sender = refl; says_so = record { append = a; came = came; epoch = refl; round = refl; answer = t.answer } }, tt) }
+by_message n b from to (body.Install epoch) =
+    record { idle = refl; obeys = refl; move = installing (input.Message (says from to (body.Install epoch))) from b epoch (record { to = to; is = refl }); says = tt }
+by_message n b from to (body.Fence epoch) =
+    let came : Brings (input.Message (says from to (body.Fence epoch))) from (body.Fence epoch) = record { to = to; is = refl } in
+    let t = raises (input.Message (says from to (body.Fence epoch))) from b epoch came in
+    record { idle = refl; obeys = refl; move = t.move; says = (record { sender = refl; says_so = record { came = came; answer = t.answer } }, tt) }
+by_message n b from to _ = record { idle = refl; obeys = refl; move = Rests refl; says = tt }
+
+-- what any input does to a backup
+pub backup_effect : (n : ℕ) (b : BackupState) (given : Input) → BackupEffect n given b (backup_input n b given)
+backup_effect n b (input.Local order) = record { idle = refl; obeys = refl; move = Rests refl; says = tt }
+backup_effect n b (input.Message m) = by_message n b m.from m.to m.body
+
+-- ---- at home
+
+module _ (epoch : ℕ) (whole : List Entry) (given : Input) (b c : BackupState) (home : BackupAtHome epoch whole b) where
+  none_else : (e : ℕ) → b.installed ≡ Some e → b.installed ≡ None → ⊥
+  none_else e own none = cc
+
+  -- what came suits the backup
+  suited : (from : NodeId) (m : Body) → Brings given from m → InputSuitsBackup epoch whole given → SuitsBackup epoch whole m
+  suited from m brings suits = subst (InputSuitsBackup epoch whole) brings.is suits
+
+  -- a backup at home stays there, where what it is given suits it
+  pub backup_home_kept : InputSuitsBackup epoch whole given → BackupMove given b c → BackupAtHome epoch whole c
+  backup_home_kept suits (Rests same) = subst (BackupAtHome epoch whole) (sym same) home
+  backup_home_kept suits (ByInstall i) = subst (BackupAtHome epoch whole) (sym i.after) (record {
+    own = λ e is. sym (cc (is)) ∙ suited i.from (body.Install i.epoch) i.came suits;
+    empty = λ none. absurd (cc (none));
+    front = home.front;
+  })
+  backup_home_kept suits (ByAppend a) = subst (BackupAtHome epoch whole) (sym a.after) (record {
+    own = home.own;
+    empty = λ none. absurd (none_else a.append.epoch a.own_epoch none);
+    front = overlap a.append.base (length b.log - a.append.base) b.log a.append.entries whole (omega (arith, a.no_gap)) home.front (suited a.from (body.Append a.append) a.came suits (home.own a.append.epoch a.own_epoch));
+  })
+  backup_home_kept suits (ByFence f) = subst (BackupAtHome epoch whole) (sym f.after) (record { own = home.own; empty = home.empty; front = home.front })
+
+  -- and one that is fenced above its home keeps its log
+  pub fenced_keeps : epoch < b.fence → BackupMove given b c → c.log ≡ b.log
+  fenced_keeps above (Rests same) = ap (λ (x : BackupState). x.log) same
+  fenced_keeps above (ByInstall i) = ap (λ (x : BackupState). x.log) i.after
+  fenced_keeps above (ByAppend a) = absurd (omega (arith, above, a.not_fenced, home.own a.append.epoch a.own_epoch))
+  fenced_keeps above (ByFence f) = ap (λ (x : BackupState). x.log) f.after
+
+-- its master's log may grow
+pub backup_home_grows : (epoch : ℕ) (whole later : List Entry) (b : BackupState) → IsPrefix whole later → BackupAtHome epoch whole b → BackupAtHome epoch later b
+backup_home_grows epoch whole later b grows home = record { own = home.own; empty = home.empty; front = prefix_trans home.front grows }
+
+-- a backup that was never installed is at home anywhere
+pub fresh_backup_home : (epoch : ℕ) (whole : List Entry) → BackupAtHome epoch whole fresh_backup
+fresh_backup_home epoch whole = record { own = λ e is. absurd cc; empty = λ none. refl; front = record { rest = whole; is = refl } }
+
+-- and one that has nothing yet, in its epoch
+pub installed_backup_home : (epoch : ℕ) (whole : List Entry) → BackupAtHome epoch whole (installed_backup epoch)
+installed_backup_home epoch whole = record { own = λ e is. sym (cc (is)); empty = λ none. refl; front = record { rest = whole; is = refl } }

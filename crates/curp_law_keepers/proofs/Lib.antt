@@ -1,0 +1,5 @@
+pub mod Brought
+pub mod Lists
+pub mod Backups
+pub mod HeldApart
+pub mod Witnesses

@@ -1,0 +1,3 @@
+pub mod Brought
+pub mod BackupEffect
+pub mod WitnessEffect
