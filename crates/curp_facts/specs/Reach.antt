@@ -112,5 +112,6 @@ pub record GcSaid (w : World) (lists : Lists) (id : RequestId) : Type 0 where
   pub l : Logged
   pub its_log : HasLog w lists.master l
   pub count : ℕ
+  pub low : count ≤ length l.log
   pub collectable : IsCollectable (check (meaning (lo_of w lists.part) (hi_of w lists.part) (take count l.log)).table id)
   pub reach : Reach w lists.master lists.version count

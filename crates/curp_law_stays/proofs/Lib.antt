@@ -1,0 +1,6 @@
+pub mod Words
+pub mod Entries
+pub mod Replies
+pub mod Keepers
+pub mod Prepared
+pub mod Said

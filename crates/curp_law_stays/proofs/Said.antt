@@ -1,0 +1,78 @@
+-- What a message says stays so, whatever kind it is.
+use Rattle.std.proofs.Common.{◌≡◌, ◌⊎◌, inl, inr, ℕ, ◌+◌, ◌<◌, ◌≤◌, true, List, [], ◌∷◌, refl, ap, sym, subst, Some}
+use Rattle.std.specs.Bool.{⊤}
+use Rattle.curp_base.specs.Words.{At, Each}
+use Rattle.curp_base.proofs.Lists.{Each-weaker}
+use Rattle.curp_cmd.specs.Node.{manager_node}
+use Rattle.curp_cmd.specs.declared.command.Request.{Request}
+use Rattle.curp_cmd.specs.declared.node.NodeId.{NodeId}
+use Rattle.curp_msg.specs.declared.answer.GcAnswer.{GcAnswer}
+use Rattle.curp_msg.specs.declared.answer.GcAnswer.TheVariants.{Suspects}
+use Rattle.curp_msg.specs.declared.body.Body.{Body}
+use Rattle.curp_msg.specs.declared.body.Body.TheVariants as body
+use Rattle.curp_msg.specs.declared.body.Recover.{Recover}
+use Rattle.curp_msg.specs.declared.config.Config.{Config}
+use Rattle.curp_msg.specs.declared.config.PartConfig.{PartConfig}
+use Rattle.curp_model.specs.Manager.{Shape, opening_config}
+use Rattle.curp_model.specs.World.{World, messages}
+use Rattle.curp_range.specs.Spans.{Span}
+use Rattle.curp_facts.specs.Facts.{ConfigOk, EntryWas, GivenTo, Opened, TakenFrom, WereRanges}
+use Rattle.curp_facts.specs.Invariant.{Invariant}
+use Rattle.curp_facts.specs.Said.{AskSaid, IsGiveFrom, IsOrderedTo, IsTakeOf, ReadSaid, Says, SuspectsHold, UpdateSaid}
+use Rattle.curp_law_stays.proofs.Entries.{ordered_later, refusal_later, request_later, updates_later}
+use Rattle.curp_law_stays.proofs.Keepers.{accepted_later, append_holds_later, append_later, appended_later, fence_reply_later, frozen_later}
+use Rattle.curp_law_stays.proofs.Prepared.{prepared_later, recovered_later}
+use Rattle.curp_law_stays.proofs.Replies.{entry_stored_later, gc_later, reply_later, worth_later}
+use Rattle.curp_law_stays.proofs.Words.{Follows, adopted_later, ready_later, sent_later}
+
+module _ {w v : World} (s : Follows w v) where
+  pub ranges_later : (part : ℕ) (spans : List Span) → WereRanges w part spans → WereRanges v part spans
+  ranges_later _ _ (Opened k c at) = Opened k c (subst (λ (x : Shape). At (opening_config x).parts k c) (sym s.later.shape) at)
+  ranges_later _ _ (TakenFrom part spans order before ordered) = TakenFrom part spans order (ranges_later part spans before) (ordered_later s ordered)
+  ranges_later _ _ (GivenTo part other spans order before ordered) = GivenTo part other spans order (ranges_later part spans before) (ordered_later s ordered)
+
+  pub entry_was_later : (c : PartConfig) → EntryWas w c → EntryWas v c
+  entry_was_later c ok = record { adopted = adopted_later s ok.adopted; ranges = ranges_later c.part c.ranges ok.ranges }
+
+  pub config_later : (config : Config) → ConfigOk w config → ConfigOk v config
+  config_later config ok = Each-weaker (EntryWas w) (EntryWas v) entry_was_later config.parts ok
+
+  asked_later : (from : NodeId) (r : Request) → AskSaid w from r → AskSaid v from r
+  asked_later from r ok = record { request = request_later s ok.request; sender = ok.sender }
+
+  update_said_later : (from : NodeId) (r : Request) → UpdateSaid w from r → UpdateSaid v from r
+  update_said_later from r ok = record { asked = asked_later from r ok.asked; updates = ok.updates }
+
+  suspects_later : (a : GcAnswer) → SuspectsHold w a → SuspectsHold v a
+  suspects_later (Suspects requests) ok = updates_later s requests ok
+  suspects_later _ ok = tt
+
+  abbrev ordered_to_later : (master : NodeId) (Has : Recover → Type 0) → IsOrderedTo w master Has → IsOrderedTo v master Has
+  ordered_to_later master Has ok = (ok.0, sent_later s ok.1, ok.2)
+
+  pub says_later : Invariant w → (place : ℕ) (from to : NodeId) (b : Body) → Says w place from to b → Says v place from to b
+  says_later inv place from to (body.Update ask) ok = update_said_later from ask.request ok
+  says_later inv place from to (body.Sync ask) ok = update_said_later from ask.request ok
+  says_later inv place from to (body.Read ask) ok = record { asked = asked_later from ask.request ok.asked; reads = ok.reads }
+  says_later inv place from to (body.Record r) ok = update_said_later from r.request ok
+  says_later inv place from to (body.Configuration config) ok = config_later config ok
+  says_later inv place from to (body.Reply r) ok = reply_later s from to r ok
+  says_later inv place from to (body.Worth x) ok = worth_later s from to x ok
+  says_later inv place from to (body.Refuse r) ok = refusal_later s r.id.client r.refusal ok
+  says_later inv place from to (body.Accepted a) ok = accepted_later s from to a ok
+  says_later inv place from to (body.Append a) ok = append_later s from to a ok
+  says_later inv place from to (body.Appended a) ok = (appended_later s from to a ok.0, append_holds_later s from to a a.answer ok.1)
+  says_later inv place from to (body.Gc g) ok = gc_later s place from to g ok
+  says_later inv place from to (body.Collected c) ok = suspects_later c.answer ok
+  says_later inv place from to (body.Fence epoch) ok = ordered_to_later from _ ok
+  says_later inv place from to (body.FenceAnswer a) ok = (ordered_to_later to _ ok.0, fence_reply_later s inv.backups from a.epoch a.answer ok.1)
+  says_later inv place from to (body.Freeze epoch) ok = ordered_to_later from _ ok
+  says_later inv place from to (body.FrozenAnswer requests) ok = frozen_later s from requests ok
+  says_later inv place from to (body.Recovered r) ok = recovered_later s inv from r.epoch ok
+  says_later inv place from to (body.Adopted a) ok =
+      record { lists = ok.lists; ready = ready_later s ok.ready; its_master = ok.its_master; its_part = ok.its_part; its_epoch = ok.its_epoch; its_version = ok.its_version }
+  says_later inv place from to (body.Prepared version) ok = prepared_later s inv from version ok
+  says_later inv place from to (body.Taken t) ok = entry_stored_later s from (IsTakeOf t.migration t.package) ok
+  says_later inv place from to (body.GiveIn t) ok = record { node = ok.node; told = sent_later s ok.told }
+  says_later inv place from to (body.Given migration) ok = entry_stored_later s from (IsGiveFrom migration) ok
+  says_later inv place from to _ ok = tt
