@@ -22,6 +22,7 @@ use Rattle.curp_msg.specs.declared.body.Body.{Body}
 use Rattle.curp_msg.specs.declared.body.Body.TheVariants as body
 use Rattle.curp_msg.specs.declared.body.Gc.{Gc}
 use Rattle.curp_msg.specs.declared.body.Recover.{Recover}
+use Rattle.curp_msg.specs.declared.body.Rejected.{Rejected}
 use Rattle.curp_msg.specs.declared.body.Reply.{Reply}
 use Rattle.curp_msg.specs.declared.body.Worth.{Worth}
 use Rattle.curp_order.specs.declared.Event.TheVariants.{Invoke}
@@ -140,6 +141,14 @@ pub record AcceptedSaid (w : World) (from to : NodeId) (a : Accepted) : Type 0 w
   pub its_epoch : x.epoch ≡ Some a.epoch
   pub kept : (holds x a.id ≡ true) ⊎ Collected w from a.id a.epoch
 
+-- what is rejected is an update that was invoked, and it is told to its client
+pub record RejectedSaid (w : World) (to : NodeId) (r : Rejected) : Type 0 where
+  pub addressee : to ≡ client_node r.id.client
+  pub place : ℕ
+  pub command : Command
+  pub invoked : At w.history place (Invoke r.id command)
+  pub updates : cmd.is_update command ≡ true
+
 -- suspects are updates that were invoked
 abbrev pub SuspectsHold : World → GcAnswer → Type 0
 SuspectsHold w (Suspects requests) = Each (UpdateOk w) requests
@@ -169,6 +178,7 @@ Says w place from to (body.Reply r) = ReplySaid w from to r
 Says w place from to (body.Worth v) = WorthSaid w from to v
 Says w place from to (body.Refuse r) = RefusalFirstOk w r.id.client r.refusal
 Says w place from to (body.Accepted a) = AcceptedSaid w from to a
+Says w place from to (body.Rejected r) = RejectedSaid w to r
 Says w place from to (body.Append a) = AppendSaid w from to a
 Says w place from to (body.Appended a) = AppendedSaid w from to a × AppendHolds w from to a a.answer
 Says w place from to (body.Gc g) = GcHolds w place from to g

@@ -4,3 +4,5 @@ pub mod Replies
 pub mod Keepers
 pub mod Prepared
 pub mod Said
+pub mod Nodes
+pub mod Masters

@@ -23,7 +23,7 @@ use Rattle.curp_law_stays.proofs.Entries.{ordered_later, refusal_later, request_
 use Rattle.curp_law_stays.proofs.Keepers.{accepted_later, append_holds_later, append_later, appended_later, fence_reply_later, frozen_later}
 use Rattle.curp_law_stays.proofs.Prepared.{prepared_later, recovered_later}
 use Rattle.curp_law_stays.proofs.Replies.{entry_stored_later, gc_later, reply_later, worth_later}
-use Rattle.curp_law_stays.proofs.Words.{Follows, adopted_later, ready_later, sent_later}
+use Rattle.curp_law_stays.proofs.Words.{Follows, adopted_later, event_at, ready_later, sent_later}
 
 module _ {w v : World} (s : Follows w v) where
   pub ranges_later : (part : ℕ) (spans : List Span) → WereRanges w part spans → WereRanges v part spans
@@ -60,6 +60,8 @@ module _ {w v : World} (s : Follows w v) where
   says_later inv place from to (body.Worth x) ok = worth_later s from to x ok
   says_later inv place from to (body.Refuse r) ok = refusal_later s r.id.client r.refusal ok
   says_later inv place from to (body.Accepted a) ok = accepted_later s from to a ok
+  says_later inv place from to (body.Rejected r) ok =
+      record { addressee = ok.addressee; place = ok.place; command = ok.command; invoked = event_at s ok.place _ ok.invoked; updates = ok.updates }
   says_later inv place from to (body.Append a) ok = append_later s from to a ok
   says_later inv place from to (body.Appended a) ok = (appended_later s from to a ok.0, append_holds_later s from to a a.answer ok.1)
   says_later inv place from to (body.Gc g) ok = gc_later s place from to g ok
