@@ -1,6 +1,6 @@
 -- What each message says, and that it stays true.
-use Rattle.std.specs.Prelude.{◌≡◌, ◌≤◌, ◌⊎◌, ℕ, ◌+◌, Bool, true, false, Some, ⊤}
-use Rattle.curp_base.specs.Words.{At, Each}
+use Rattle.std.specs.Prelude.{◌≡◌, ◌≤◌, ◌⊎◌, ℕ, ◌+◌, Bool, true, false, List, length, Some, ⊤}
+use Rattle.curp_base.specs.Words.{At, Each, IsPrefix}
 use Rattle.curp_cmd.specs.Node.{client_node, manager_node}
 use Rattle.curp_cmd.specs.Store as cmd
 use Rattle.curp_cmd.specs.declared.command.Command.{Command}
@@ -22,12 +22,14 @@ use Rattle.curp_msg.specs.declared.body.Body.{Body}
 use Rattle.curp_msg.specs.declared.body.Body.TheVariants as body
 use Rattle.curp_msg.specs.declared.body.Gc.{Gc}
 use Rattle.curp_msg.specs.declared.body.Recover.{Recover}
+use Rattle.curp_msg.specs.declared.body.Recovered.{Recovered}
 use Rattle.curp_msg.specs.declared.body.Rejected.{Rejected}
 use Rattle.curp_msg.specs.declared.body.Reply.{Reply}
 use Rattle.curp_msg.specs.declared.body.Worth.{Worth}
 use Rattle.curp_order.specs.declared.Event.TheVariants.{Invoke}
 use Rattle.curp_model.specs.Named.{IsWitness}
-use Rattle.curp_model.specs.Witness.{WitnessState, holds}
+use Rattle.curp_model.specs.Recovery.{replay}
+use Rattle.curp_model.specs.Witness.{WitnessState, frozen_requests, holds}
 use Rattle.curp_model.specs.World.{World}
 use Rattle.curp_facts.specs.Entries.{RequestOk, UpdateOk}
 use Rattle.curp_facts.specs.Facts.{AdoptedBefore, AppendOk, Collected, ConfigOk, FenceReplyOk, FrozenOk, HasLog, IsAmong, IsGiven, Lists, Logged, PreparedOk, RecoveredOk, Speaks, StoredOk, WasAdopted, WasSent, WasTaken}
@@ -117,6 +119,17 @@ IsGiveFrom migration e = (number : ℕ) × (given : Package) × (migration ≤ n
 abbrev pub IsOrderedTo : World → NodeId → (Recover → Type 0) → Type 0
 IsOrderedTo w master Has = (order : Recover) × WasSent w (says manager_node master (body.Recover order)) × Has order
 
+-- a recovered master's log begins with what it replayed, and each backup of each ready list of it has so much
+pub record RecoveredSaid (w : World) (from : NodeId) (r : Recovered) : Type 0 where
+  pub holds : RecoveredOk w from r.epoch
+  pub its_part : holds.order.part ≡ r.part
+  pub front : List Entry
+  pub is_replay : front ≡ replay holds.order.lo holds.order.hi holds.b.log (frozen_requests holds.x)
+  pub l : Logged
+  pub its_log : HasLog w from l
+  pub began : IsPrefix front l.log
+  pub reach : Reach w from holds.order.version (length front)
+
 -- ---- from backups and witnesses
 
 -- an answer to an append goes to the master of given lists of the backup, in their epoch
@@ -187,7 +200,7 @@ Says w place from to (body.Fence epoch) = IsOrderedTo w from (λ o. (o.epoch ≡
 Says w place from to (body.FenceAnswer a) = IsOrderedTo w to (λ o. (o.epoch ≡ a.epoch) × (o.backup ≡ from)) × FenceReplyOk w from a.epoch a.answer
 Says w place from to (body.Freeze epoch) = IsOrderedTo w from (λ o. (o.epoch ≡ epoch) × (o.witness ≡ to))
 Says w place from to (body.FrozenAnswer requests) = FrozenOk w from requests
-Says w place from to (body.Recovered r) = RecoveredOk w from r.epoch
+Says w place from to (body.Recovered r) = RecoveredSaid w from r
 Says w place from to (body.Adopted a) = AdoptedSaid w to a
 Says w place from to (body.Prepared version) = PreparedOk w from version
 Says w place from to (body.Taken t) = StoredEntry w from (IsTakeOf t.migration t.package)

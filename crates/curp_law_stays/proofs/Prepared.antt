@@ -2,12 +2,13 @@
 use Rattle.std.proofs.Common.{◌≡◌, ◌⊎◌, inl, inr, ℕ, zero, suc, ◌+◌, ◌<◌, ◌≤◌, Bool, true, false, List, [], ◌∷◌, ◌++◌, length, drop, take, nat_lt, refl, ap, sym, ◌∙◌, subst, arith, Option, Some, None}
 use Rattle.std.proofs.lemmas.Bool.Decides.{nat_tests}
 use Rattle.curp_base.specs.Words.{At, Each, IsPrefix}
-use Rattle.curp_base.proofs.Lists.{Each-append, prefix_at, prefix_back, at_within, prefix_length}
+use Rattle.curp_base.proofs.Lists.{Each-append, prefix_at, prefix_back, prefix_trans, at_within, prefix_length}
 use Rattle.curp_cmd.specs.Node.{manager_node}
 use Rattle.curp_cmd.specs.declared.entry.Entry.{Entry}
 use Rattle.curp_cmd.specs.declared.node.NodeId.{NodeId}
 use Rattle.curp_msg.specs.Moved.{says}
 use Rattle.curp_msg.specs.declared.body.Body.TheVariants as body
+use Rattle.curp_msg.specs.declared.body.Recovered.{Recovered}
 use Rattle.curp_model.specs.Backup.{BackupState}
 use Rattle.curp_model.specs.Master.{MasterState, Open, Phase, Switch, Switching}
 use Rattle.curp_model.specs.Named.{IsBackup, IsMaster, IsWitness}
@@ -18,10 +19,11 @@ use Rattle.curp_facts.specs.Facts.{ByRecovery, FirstPrepared, HasLog, IsGiven, I
 use Rattle.curp_facts.specs.Growth.{LifeGrows, MasterGrows}
 use Rattle.curp_facts.specs.Invariant.{Invariant}
 use Rattle.curp_facts.specs.Nodes.{MasterOk, RecoveringOk, ServingOk, FreshOk}
+use Rattle.curp_facts.specs.Said.{RecoveredSaid}
 use Rattle.curp_law_logs.proofs.Logs.{take_grows}
 use Rattle.curp_law_names.specs.Names.{OrderOk}
 use Rattle.curp_law_stays.proofs.Keepers.{fenced_stays, fronts_later}
-use Rattle.curp_law_stays.proofs.Words.{Follows, backup_later, given_later, log_later, master_later, message_at, one_state, sent_later, there, witness_later}
+use Rattle.curp_law_stays.proofs.Words.{Follows, backup_later, given_later, log_later, master_later, message_at, one_state, reach_later, sent_later, there, witness_later}
 
 -- a list behind a prefix, from a place in the prefix on
 drop_prefix : {A : Type 0} (n : ℕ) (xs ys : List A) → IsPrefix xs ys → n ≤ length xs → drop n ys ≡ drop n xs ++ drop (length xs) ys
@@ -98,7 +100,7 @@ module _ {w v : World} (s : Follows w v) where
         since = since_later inv from version ok.long sent ok.l ok.its_log ok.low ok.since;
       }
 
-  pub recovered_later : Invariant w → (from : NodeId) (epoch : ℕ) → RecoveredOk w from epoch → RecoveredOk v from epoch
+  abbrev pub recovered_later : Invariant w → (from : NodeId) (epoch : ℕ) → RecoveredOk w from epoch → RecoveredOk v from epoch
   recovered_later inv from epoch ok =
       let b = backup_later s ok.order.backup ok.b ok.its_backup in
       let x = witness_later s ok.order.witness ok.x ok.its_witness in
@@ -116,4 +118,22 @@ module _ {w v : World} (s : Follows w v) where
         frozen = ok.frozen;
         on_all = subst (λ (es : List Entry). Each (λ node. (f : BackupState) → IsBackup v node f → IsPrefix (replay ok.order.lo ok.order.hi es (frozen_requests ok.x)) f.log) ok.order.backups) (sym same)
             (fronts_later s ok.order.backups (replay ok.order.lo ok.order.hi ok.b.log (frozen_requests ok.x)) (there s (lists_of_order from ok.order) (ByRecovery from ok.order ok.sent)) ok.on_all);
+      }
+
+  pub recovered_said_later : Invariant w → (from : NodeId) (r : Recovered) → RecoveredSaid w from r → RecoveredSaid v from r
+  recovered_said_later inv from r ok =
+      let o = log_later s from ok.l ok.its_log in
+      let b = backup_later s ok.holds.order.backup ok.holds.b ok.holds.its_backup in
+      let home : OrderOk w from ok.holds.order = s.names.manager_says from (body.Recover ok.holds.order) ok.holds.sent in
+      let same : b.0.log ≡ ok.holds.b.log = fenced_stays s inv.backups home.before home.was.given ok.holds.order.backup home.its_backup ok.holds.b b.0 ok.holds.its_backup b.1
+          (omega (arith, home.earlier, ok.holds.its_epoch, ok.holds.fenced)) in
+      record {
+        holds = recovered_later inv from r.epoch ok.holds;
+        its_part = ok.its_part;
+        front = ok.front;
+        is_replay = subst (λ (es : List Entry). ok.front ≡ replay ok.holds.order.lo ok.holds.order.hi es (frozen_requests ok.holds.x)) (sym same) ok.is_replay;
+        l = o.0;
+        its_log = o.1;
+        began = prefix_trans ok.began o.2;
+        reach = reach_later s from ok.holds.order.version (length ok.front) o.0 o.1 (omega (arith, prefix_length ok.began, prefix_length o.2)) ok.reach;
       }

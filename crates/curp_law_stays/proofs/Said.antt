@@ -21,7 +21,7 @@ use Rattle.curp_facts.specs.Invariant.{Invariant}
 use Rattle.curp_facts.specs.Said.{AskSaid, IsGiveFrom, IsOrderedTo, IsTakeOf, ReadSaid, Says, SuspectsHold, UpdateSaid}
 use Rattle.curp_law_stays.proofs.Entries.{ordered_later, refusal_later, request_later, updates_later}
 use Rattle.curp_law_stays.proofs.Keepers.{accepted_later, append_holds_later, append_later, appended_later, fence_reply_later, frozen_later}
-use Rattle.curp_law_stays.proofs.Prepared.{prepared_later, recovered_later}
+use Rattle.curp_law_stays.proofs.Prepared.{prepared_later, recovered_said_later}
 use Rattle.curp_law_stays.proofs.Replies.{entry_stored_later, gc_later, reply_later, worth_later}
 use Rattle.curp_law_stays.proofs.Words.{Follows, adopted_later, event_at, ready_later, sent_later}
 
@@ -70,7 +70,7 @@ module _ {w v : World} (s : Follows w v) where
   says_later inv place from to (body.FenceAnswer a) ok = (ordered_to_later to _ ok.0, fence_reply_later s inv.backups from a.epoch a.answer ok.1)
   says_later inv place from to (body.Freeze epoch) ok = ordered_to_later from _ ok
   says_later inv place from to (body.FrozenAnswer requests) ok = frozen_later s from requests ok
-  says_later inv place from to (body.Recovered r) ok = recovered_later s inv from r.epoch ok
+  says_later inv place from to (body.Recovered r) ok = recovered_said_later s inv from r ok
   says_later inv place from to (body.Adopted a) ok =
       record { lists = ok.lists; ready = ready_later s ok.ready; its_master = ok.its_master; its_part = ok.its_part; its_epoch = ok.its_epoch; its_version = ok.its_version }
   says_later inv place from to (body.Prepared version) ok = prepared_later s inv from version ok
