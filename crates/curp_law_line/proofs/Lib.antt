@@ -37,3 +37,4 @@ pub mod Looks
 pub mod LooksKept
 pub mod Values
 pub mod ReadsKept
+pub mod Growing

@@ -13,6 +13,7 @@ use Rattle.curp_cmd.specs.declared.command.RequestId.{RequestId}
 use Rattle.curp_law_line.proofs.AdoptedMarks.{adopted_is, new_mark_at, new_marks, stays}
 use Rattle.curp_law_line.proofs.Completions.{flagged_order, flagging_at}
 use Rattle.curp_law_line.proofs.Given.{LogValue, Pure, TakesOnce}
+use Rattle.curp_law_line.proofs.Lists.{take_split}
 use Rattle.curp_law_line.proofs.Looks.{look_value}
 use Rattle.curp_law_line.proofs.Numbered.{filter_at}
 use Rattle.curp_law_line.proofs.OwnedValues.{owned_answer}
@@ -76,11 +77,6 @@ filter_on {A} q (y ∷ xs) (suc k) x h t = go (q y) (filter_on q xs k x h t)
     go : (b : Bool) → (j : ℕ) × At (filter q xs) j x × (take j (filter q xs) ≡ filter q (take k xs)) → (j : ℕ) × At (cond b (y ∷ filter q xs) (filter q xs)) j x × (take j (cond b (y ∷ filter q xs) (filter q xs)) ≡ cond b (y ∷ filter q (take k xs)) (filter q (take k xs)))
     go true r = (suc r.0, r.1, ap (λ (l : List A). y ∷ l) r.2)
     go false r = r
-
-take_split : {A : Type 0} (xs : List A) (k : ℕ) (x : A) → At xs k x → xs ≡ take k xs ++ x ∷ drop (suc k) xs
-take_split [] k x h = absurd cc
-take_split (y ∷ xs) zero x h = let same : y ≡ x = cc in ap (λ z. z ∷ xs) same
-take_split (y ∷ xs) (suc k) x h = ap (λ l. y ∷ l) (take_split xs k x h)
 
 -- ---- the values of flagged looks
 
