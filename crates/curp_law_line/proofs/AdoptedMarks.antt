@@ -8,9 +8,9 @@ use Rattle.curp_cmd.specs.RequestId.{same_id}
 use Rattle.curp_cmd.specs.declared.command.Request.{Request}
 use Rattle.curp_cmd.specs.declared.command.RequestId.{RequestId}
 use Rattle.curp_cmd.specs.declared.node.NodeId.{NodeId}
-use Rattle.curp_law_line.proofs.Lists.{in_head, in_tail, or_none}
-use Rattle.curp_law_logs.specs.Hashes.{Asked, In, asked, updates}
 use Rattle.curp_model.specs.Marks.{Mark, adopted, executed, has_completed, is_dropped, is_past, is_update_mark, replayed_marks}
+use Rattle.curp_law_logs.specs.Hashes.{Asked, In, asked, updates}
+use Rattle.curp_law_line.proofs.Lists.{in_head, in_tail, or_none}
 
 -- requests as those of the order
 abbrev pub asked_all : List Request → List Asked

@@ -1,29 +1,29 @@
 -- A completion, of an update or of a read.
 use Rattle.std.proofs.Common.{◌≡◌, ℕ, zero, suc, inl, inr, ◌⊎◌, Bool, true, false, cond, List, [], ◌∷◌, ◌++◌, map, length, Some, None, refl, ap, sym, ◌∙◌, subst, arith}
 use Rattle.std.specs.List.{filter}
-use Rattle.std.proofs.lemmas.Bool.{cases_Bool, and_parts, and_from}
-use Rattle.curp_base.proofs.Lists.{Each-at, at_append, at_map, at_push, at_push_cases, at_within}
+use Rattle.std.proofs.lemmas.Bool.{and_from, and_parts, cases_Bool}
 use Rattle.curp_base.specs.Words.{At, Each, numbered}
-use Rattle.curp_cmd.proofs.Ids.{same_id-true}
+use Rattle.curp_base.proofs.Lists.{Each-at, at_append, at_map, at_push, at_push_cases, at_within}
 use Rattle.curp_cmd.specs.RequestId.{same_id}
 use Rattle.curp_cmd.specs.Store.{is_update}
 use Rattle.curp_cmd.specs.declared.command.Answer.{Answer}
 use Rattle.curp_cmd.specs.declared.command.Command.{Command}
 use Rattle.curp_cmd.specs.declared.command.RequestId.{RequestId}
+use Rattle.curp_cmd.proofs.Ids.{same_id-true}
+use Rattle.curp_order.specs.Order.{IsHistory}
+use Rattle.curp_order.specs.declared.Event.{Event}
+use Rattle.curp_order.specs.declared.Event.TheVariants.{Complete, Invoke}
+use Rattle.curp_msg.specs.declared.machine.Capture.{Capture}
+use Rattle.curp_msg.specs.declared.machine.Completed.{Completed}
+use Rattle.curp_model.specs.Marks.{Executed, Mark, flagged, is_flagged, is_update_mark}
+use Rattle.curp_law_logs.specs.Hashes.{Asked, In, asked, updates}
+use Rattle.curp_law_line.specs.Hashes.{HashesOk, Part}
+use Rattle.curp_law_line.specs.Line.{Answered, AnswersOk, DistinctOk, FlagOf, FlagsOk, InTimeOk, InvokedOk, IsCompleted, KindsOk, Line, MarkedOk, OneFlagOk, OpAt, OrderOk, ReadsOk, StandingOk, UnflaggedOk, WaitingOk, WasInvoked}
+use Rattle.curp_law_line.specs.Moves.{CompleteFits, FlagFits, completing, flagging}
 use Rattle.curp_law_line.proofs.Hashes.{update_mark}
 use Rattle.curp_law_line.proofs.Invocations.{completed_grows, invoked_grows}
 use Rattle.curp_law_line.proofs.Lists.{Distinct, distinct_from, in_filter, in_map, same_id-alike}
 use Rattle.curp_law_line.proofs.Ops.{one_command}
-use Rattle.curp_law_line.specs.Hashes.{HashesOk, Part}
-use Rattle.curp_law_line.specs.Line.{Answered, AnswersOk, DistinctOk, FlagOf, FlagsOk, InTimeOk, InvokedOk, IsCompleted, KindsOk, Line, MarkedOk, OneFlagOk, OpAt, OrderOk, ReadsOk, StandingOk, UnflaggedOk, WaitingOk, WasInvoked}
-use Rattle.curp_law_line.specs.Moves.{CompleteFits, FlagFits, completing, flagging}
-use Rattle.curp_law_logs.specs.Hashes.{Asked, In, asked, updates}
-use Rattle.curp_model.specs.Marks.{Executed, Mark, flagged, is_flagged, is_update_mark}
-use Rattle.curp_msg.specs.declared.machine.Capture.{Capture}
-use Rattle.curp_msg.specs.declared.machine.Completed.{Completed}
-use Rattle.curp_order.specs.Order.{IsHistory}
-use Rattle.curp_order.specs.declared.Event.{Event}
-use Rattle.curp_order.specs.declared.Event.TheVariants.{Complete, Invoke}
 
 -- a flag changes neither what a mark stands for nor its place
 pub flagged_order : (c : Completed) (marks : List Mark) → updates (flagged c marks) ≡ updates marks

@@ -1,16 +1,15 @@
 -- What entries are, by what is said of them.
 use Rattle.std.proofs.Common.{◌≡◌, ℕ, true, refl, ap, subst}
 use Rattle.std.proofs.lemmas.Bool.{eqb-true}
+use Rattle.curp_range.specs.Spans.{is_in}
 use Rattle.curp_cmd.specs.declared.entry.Entry.{Entry}
 use Rattle.curp_cmd.specs.declared.entry.Entry.TheVariants.{Expire, Give, Op, Take}
 use Rattle.curp_cmd.specs.declared.migration.Package.{Package}
-use Rattle.curp_law_line.proofs.Spans.{takes}
-use Rattle.curp_law_line.specs.Hashes.{is_give, is_take}
-use Rattle.curp_law_line.specs.Line.{Line}
-use Rattle.curp_law_line.specs.Moves.{OnlyMoving}
-use Rattle.curp_law_line.specs.Line.{Ungiven}
 use Rattle.curp_law_logs.specs.Hashes.{gives}
-use Rattle.curp_range.specs.Spans.{is_in}
+use Rattle.curp_law_line.specs.Hashes.{is_give, is_take}
+use Rattle.curp_law_line.specs.Line.{Line, Ungiven}
+use Rattle.curp_law_line.specs.Moves.{OnlyMoving}
+use Rattle.curp_law_line.proofs.Spans.{takes}
 
 pub give_of : (h : ℕ) (e : Entry) → gives h e ≡ true → (n : ℕ) × (k : Package) × (e ≡ Give n k) × (is_in k.lo k.hi h ≡ true)
 give_of h (Op r a) g = absurd cc

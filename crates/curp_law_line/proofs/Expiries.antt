@@ -1,19 +1,19 @@
 -- An expiry, and a look.
 use Rattle.std.proofs.Common.{◌≡◌, ℕ, ◌||◌, inl, inr, true, false, List, [], ◌∷◌, ◌++◌, length, None, refl, ap, sym, ◌∙◌, subst, arith, append-nil}
-use Rattle.curp_base.proofs.Lists.{at_append, at_push_cases, at_within}
 use Rattle.curp_base.specs.Words.{At}
+use Rattle.curp_base.proofs.Lists.{at_append, at_push_cases, at_within}
+use Rattle.curp_range.specs.Spans.{Span, is_owned}
 use Rattle.curp_cmd.specs.Store.{is_update}
 use Rattle.curp_cmd.specs.declared.command.Request.{Request}
 use Rattle.curp_cmd.specs.declared.entry.Entry.{Entry}
 use Rattle.curp_cmd.specs.declared.entry.Entry.TheVariants.{Expire, Op}
-use Rattle.curp_law_line.proofs.Hashes.{any_push, behind_append, came_append, has_take_push, owned_expire, updates_append}
-use Rattle.curp_law_line.proofs.Lines.{known_push, onward_log, onward_same}
+use Rattle.curp_model.specs.Marks.{Executed, Looked, Mark, is_update_mark, looked}
+use Rattle.curp_law_logs.specs.Hashes.{Asked, behind, updates}
 use Rattle.curp_law_line.specs.Hashes.{HashOk, HashesOk, Part, holds, is_give, is_take, onward}
 use Rattle.curp_law_line.specs.Line.{AnswersOk, DistinctOk, InTimeOk, InvokedOk, KindsOk, Line, MarkedOk, OrderOk, ReadsOk, WasInvoked}
 use Rattle.curp_law_line.specs.Moves.{Look, LookFits, PushExpire, PushExpireFits, expire_pushed, looking, pushed}
-use Rattle.curp_law_logs.specs.Hashes.{Asked, behind, updates}
-use Rattle.curp_model.specs.Marks.{Executed, Looked, Mark, is_update_mark, looked}
-use Rattle.curp_range.specs.Spans.{Span, is_owned}
+use Rattle.curp_law_line.proofs.Hashes.{any_push, behind_append, came_append, has_take_push, owned_expire, updates_append}
+use Rattle.curp_law_line.proofs.Lines.{known_push, onward_log, onward_same}
 use Rattle.curp_law_line.proofs.Pushes as pushes
 
 module _ (s : Line) (ok : OrderOk s) (o : PushExpire) (fits : PushExpireFits s o) where

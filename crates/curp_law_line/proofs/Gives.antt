@@ -1,35 +1,35 @@
 -- The give of the migration in work.
 use Rattle.std.proofs.Common.{◌≡◌, ℕ, ◌≤◌, ◌&&◌, ◌||◌, inl, inr, Bool, true, false, cond, if◌then◌else◌, List, [], ◌∷◌, ◌++◌, Option, Some, None, refl, ap, sym, ◌∙◌, subst, append-nil}
-use Rattle.std.specs.FinMap as store
-use Rattle.std.specs.FinMap.{nat_cmp-IsAntisymmetric, slice_cmp-IsAntisymmetric}
-use Rattle.std.specs.FinMap.Entries.{find, find-where_key}
 use Rattle.std.specs.Cmp.Lexicographic.{slice_cmp}
+use Rattle.std.specs.FinMap.{nat_cmp-IsAntisymmetric, slice_cmp-IsAntisymmetric}
+use Rattle.std.specs.FinMap as store
+use Rattle.std.specs.FinMap.Entries.{find, find-where_key}
 use Rattle.std.specs.List.{list_any}
 use Rattle.std.specs.Ordering.{nat_cmp}
-use Rattle.std.proofs.lemmas.Bool.{cases_Bool, eq-eqb, or_cases, or_left, or_right, or_parts}
+use Rattle.std.proofs.lemmas.Bool.{cases_Bool, eq-eqb, or_cases, or_left, or_parts, or_right}
 use Rattle.std.proofs.lemmas.List.Folds.{list_any-append}
 use Rattle.curp_base.specs.Words.{numbered}
+use Rattle.curp_range.specs.Spans.{is_in}
 use Rattle.curp_cmd.specs.Hash.{hash_of, touches}
 use Rattle.curp_cmd.specs.declared.command.Request.{Request}
 use Rattle.curp_cmd.specs.declared.entry.Entry.{Entry}
 use Rattle.curp_cmd.specs.declared.entry.Entry.TheVariants.{Expire, Give, Op, Take}
 use Rattle.curp_cmd.specs.declared.migration.Package.{Package}
+use Rattle.curp_model.specs.Log.{LogState, entry_touches, package_of}
+use Rattle.curp_model.specs.Manager.{Migration}
+use Rattle.curp_model.specs.Table.{check}
+use Rattle.curp_model.proofs.Logs.{op_not_new}
+use Rattle.curp_law_logs.specs.Hashes.{Asked, In, NoGive, NotNew, behind, behind_from, came, gives, on, updates, value}
+use Rattle.curp_law_line.specs.Hashes.{HashOk, HashesOk, Part, given_on, has_take, holds, is_give, is_take, onward, owns, state_of}
+use Rattle.curp_law_line.specs.Line.{Line, OrderOk}
+use Rattle.curp_law_line.specs.Moves.{PushGive, PushGiveFits, give_pushed, pushed}
 use Rattle.curp_law_line.proofs.Given.{LogValue, Pure}
 use Rattle.curp_law_line.proofs.Hashes.{behind_append, behind_in, came_append, came_stays}
 use Rattle.curp_law_line.proofs.Lines.{known_push, split_push}
 use Rattle.curp_law_line.proofs.Lists.{in_any, in_cases, in_head, in_none, in_right}
+use Rattle.curp_law_line.proofs.Pushes as pushes
 use Rattle.curp_law_line.proofs.Spans.{owned_give}
 use Rattle.curp_law_line.proofs.Takes.{onward_ungiven}
-use Rattle.curp_law_line.specs.Hashes.{HashOk, HashesOk, Part, given_on, has_take, holds, is_give, is_take, onward, owns, state_of}
-use Rattle.curp_law_line.specs.Line.{Line, OrderOk}
-use Rattle.curp_law_line.specs.Moves.{PushGive, PushGiveFits, give_pushed, pushed}
-use Rattle.curp_law_logs.specs.Hashes.{Asked, In, NoGive, NotNew, behind, behind_from, came, gives, on, updates, value}
-use Rattle.curp_model.proofs.Logs.{op_not_new}
-use Rattle.curp_model.specs.Log.{LogState, entry_touches, package_of}
-use Rattle.curp_model.specs.Manager.{Migration}
-use Rattle.curp_model.specs.Table.{check}
-use Rattle.curp_range.specs.Spans.{is_in}
-use Rattle.curp_law_line.proofs.Pushes as pushes
 
 -- what a package has of a key of its range
 pub packed_value : (s : LogState) (lo hi : ℕ) (ordered : lo ≤ hi) (key : List ℕ) → is_in lo hi (hash_of key) ≡ true → find (slice_cmp nat_cmp) key (package_of s lo hi ordered).pairs ≡ store.get s.store key

@@ -7,20 +7,20 @@ use Rattle.std.proofs.lemmas.List.Elements.{filter-append}
 use Rattle.curp_base.specs.Words.{At}
 use Rattle.curp_cmd.specs.declared.command.RequestId.{RequestId}
 use Rattle.curp_cmd.proofs.Ids.{same_id-self, same_id-true}
+use Rattle.curp_order.specs.declared.Event.{Event}
+use Rattle.curp_order.specs.declared.Event.TheVariants.{Complete, Invoke}
+use Rattle.curp_msg.specs.declared.machine.Completed.{Completed}
+use Rattle.curp_model.specs.Marked.{completes, is_completed}
+use Rattle.curp_model.specs.Marks.{Mark, flagged, has_completed, is_flagged, is_shown, is_update_mark, shown}
+use Rattle.curp_law_logs.specs.Hashes.{Asked, In, asked}
+use Rattle.curp_law_line.specs.Line.{IsCompleted, Line, LineOk, StandsIn, completed_order}
+use Rattle.curp_law_line.specs.Moves.{Adopt, Adopts, AllFit, Completes, ExpirePush, Fits, Flags, GivePush, GivenDone, Invokes, Looks, Migrates, Move, OpPush, TakePush, Told, after, all_after, replayed_of}
 use Rattle.curp_law_line.proofs.AdoptedMarks.{adopted_is, flagged_stays, new_marks, stays}
 use Rattle.curp_law_line.proofs.Given.{LogsOk, Pure, Second}
 use Rattle.curp_law_line.proofs.Hashes.{update_place}
 use Rattle.curp_law_line.proofs.Keeps.{keeps}
 use Rattle.curp_law_line.proofs.Lists.{in_any, in_head, in_tail}
 use Rattle.curp_law_line.proofs.Numbered.{any_at}
-use Rattle.curp_law_line.specs.Line.{IsCompleted, Line, LineOk, StandsIn, completed_order}
-use Rattle.curp_law_line.specs.Moves.{Adopt, Adopts, AllFit, Completes, ExpirePush, Fits, Flags, GivePush, GivenDone, Invokes, Looks, Migrates, Move, OpPush, TakePush, Told, after, all_after, replayed_of}
-use Rattle.curp_law_logs.specs.Hashes.{Asked, In, asked}
-use Rattle.curp_model.specs.Marked.{completes, is_completed}
-use Rattle.curp_model.specs.Marks.{Mark, flagged, has_completed, is_flagged, is_shown, is_update_mark, shown}
-use Rattle.curp_msg.specs.declared.machine.Completed.{Completed}
-use Rattle.curp_order.specs.declared.Event.{Event}
-use Rattle.curp_order.specs.declared.Event.TheVariants.{Complete, Invoke}
 
 -- ---- lists that stand in others
 

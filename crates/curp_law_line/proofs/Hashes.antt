@@ -1,29 +1,29 @@
 -- The order and the logs at one hash, as they grow at their ends.
 use Rattle.std.proofs.Common.{◌≡◌, ℕ, suc, ◌==◌, ◌||◌, ◌&&◌, inl, inr, ◌⊎◌, Bool, true, false, cond, if◌then◌else◌, List, [], ◌∷◌, ◌++◌, map, Option, Some, None, refl, ap, sym, ◌∙◌, append-nil}
+use Rattle.std.specs.Cmp.Lexicographic.{slice_cmp}
+use Rattle.std.specs.FinMap.Entries.{find}
 use Rattle.std.specs.List.{filter, list_any}
-use Rattle.std.proofs.lemmas.Bool.{cases_Bool, or_left, eq-eqb}
+use Rattle.std.specs.Ordering.{nat_cmp}
+use Rattle.std.proofs.lemmas.Bool.{cases_Bool, eq-eqb, or_left}
 use Rattle.std.proofs.lemmas.List.{map-append}
 use Rattle.std.proofs.lemmas.List.Elements.{filter-append}
 use Rattle.std.proofs.lemmas.List.Folds.{list_any-append}
-use Rattle.std.specs.FinMap.Entries.{find}
-use Rattle.std.specs.Cmp.Lexicographic.{slice_cmp}
-use Rattle.std.specs.Ordering.{nat_cmp}
 use Rattle.curp_base.specs.Words.{At, numbered}
+use Rattle.curp_range.specs.Spans.{is_in}
 use Rattle.curp_cmd.specs.Hash.{hash_of, touches}
 use Rattle.curp_cmd.specs.Store.{keys_of}
 use Rattle.curp_cmd.specs.declared.command.Command.{Command}
 use Rattle.curp_cmd.specs.declared.command.Request.{Request}
 use Rattle.curp_cmd.specs.declared.entry.Entry.{Entry}
 use Rattle.curp_cmd.specs.declared.entry.Entry.TheVariants.{Expire, Give, Op, Take}
-use Rattle.curp_law_line.proofs.Lists.{in_cases, in_cons, in_map, in_none, or_none}
-use Rattle.curp_law_line.proofs.Numbered.{filter_at}
-use Rattle.curp_law_line.specs.Hashes.{Part, given_on, has_take, is_take, onward}
-use Rattle.curp_law_logs.specs.Hashes.{Asked, In, NoGive, asked, behind, behind_from, came, came_from, gives, on, updates}
-use Rattle.curp_model.proofs.Logs.{meaning_append}
 use Rattle.curp_model.specs.Log.{LogState, after_entry, meaning}
 use Rattle.curp_model.specs.Manager.{Migration}
 use Rattle.curp_model.specs.Marks.{Executed, Looked, Mark, Place, is_update_mark}
-use Rattle.curp_range.specs.Spans.{is_in}
+use Rattle.curp_model.proofs.Logs.{meaning_append}
+use Rattle.curp_law_logs.specs.Hashes.{Asked, In, NoGive, asked, behind, behind_from, came, came_from, gives, on, updates}
+use Rattle.curp_law_line.specs.Hashes.{Part, given_on, has_take, is_take, onward}
+use Rattle.curp_law_line.proofs.Lists.{in_cases, in_cons, in_map, in_none, or_none}
+use Rattle.curp_law_line.proofs.Numbered.{filter_at}
 
 pub on_append : (h : ℕ) (xs ys : List Asked) → on h (xs ++ ys) ≡ on h xs ++ on h ys
 on_append h xs ys = filter-append _ xs ys

@@ -2,14 +2,21 @@
 use Rattle.std.proofs.Common.{◌≡◌, ◌||◌, cond, inl, inr, ℕ, suc, ◌<◌, Bool, true, false, List, ◌∷◌, ◌++◌, take, drop, map, length, Some, refl, ap, sym, ◌∙◌, subst, arith}
 use Rattle.std.specs.List.{filter}
 use Rattle.std.proofs.lemmas.Bool.{cases_Bool, cases_eq, cases_lt, or_left, or_right}
-use Rattle.std.proofs.lemmas.List.Elements.{filter-append}
 use Rattle.std.proofs.lemmas.List.{map-append}
-use Rattle.curp_base.proofs.Lists.{at_append_right, at_same}
+use Rattle.std.proofs.lemmas.List.Elements.{filter-append}
 use Rattle.curp_base.specs.Words.{At, numbered}
+use Rattle.curp_base.proofs.Lists.{at_append_right, at_same}
 use Rattle.curp_cmd.specs.Store.{applied, is_update, nothing}
 use Rattle.curp_cmd.specs.declared.command.Answer.{Answer}
 use Rattle.curp_cmd.specs.declared.command.Command.{Command}
 use Rattle.curp_cmd.specs.declared.command.RequestId.{RequestId}
+use Rattle.curp_order.specs.Order.{IsOrder, answers, store_after}
+use Rattle.curp_order.specs.declared.Event.TheVariants.{Complete, Invoke}
+use Rattle.curp_model.specs.Log.{IsDone}
+use Rattle.curp_model.specs.Marks.{Mark, is_shown, is_update_mark, shown}
+use Rattle.curp_law_logs.specs.Hashes.{Asked, asked, updates}
+use Rattle.curp_law_line.specs.Hashes.{Part}
+use Rattle.curp_law_line.specs.Line.{Answered, Line, LineOk, ShowsAnswer, answer_at}
 use Rattle.curp_law_line.proofs.AdoptedMarks.{filter_order}
 use Rattle.curp_law_line.proofs.Completions.{marks_once}
 use Rattle.curp_law_line.proofs.Hashes.{update_mark, update_place, updates_append}
@@ -18,13 +25,6 @@ use Rattle.curp_law_line.proofs.Numbered.{filter_at}
 use Rattle.curp_law_line.proofs.Ops.{one_command}
 use Rattle.curp_law_line.proofs.Orders.{answer_there}
 use Rattle.curp_law_line.proofs.Shown.{by_updates}
-use Rattle.curp_law_line.specs.Hashes.{Part}
-use Rattle.curp_law_line.specs.Line.{Answered, Line, LineOk, ShowsAnswer, answer_at}
-use Rattle.curp_law_logs.specs.Hashes.{Asked, asked, updates}
-use Rattle.curp_model.specs.Log.{IsDone}
-use Rattle.curp_model.specs.Marks.{Mark, is_shown, is_update_mark, shown}
-use Rattle.curp_order.specs.Order.{IsOrder, answers, store_after}
-use Rattle.curp_order.specs.declared.Event.TheVariants.{Complete, Invoke}
 
 shown_append : (xs ys : List Mark) → shown (xs ++ ys) ≡ shown xs ++ shown ys
 shown_append xs ys = ap (map asked) (filter-append is_shown xs ys) ∙ map-append asked _ _

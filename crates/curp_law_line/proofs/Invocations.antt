@@ -1,15 +1,15 @@
 -- An invocation, and the moves that touch neither logs nor marks.
 use Rattle.std.proofs.Common.{◌≡◌, ℕ, inl, inr, List, [], ◌∷◌, ◌++◌, subst, arith}
-use Rattle.curp_base.proofs.Lists.{at_append, at_push_cases}
 use Rattle.curp_base.specs.Words.{At}
+use Rattle.curp_base.proofs.Lists.{at_append, at_push_cases}
 use Rattle.curp_cmd.specs.declared.command.Answer.{Answer}
 use Rattle.curp_cmd.specs.declared.command.Command.{Command}
 use Rattle.curp_cmd.specs.declared.command.RequestId.{RequestId}
-use Rattle.curp_law_line.specs.Line.{IsCompleted, Line, OrderOk, WasInvoked}
-use Rattle.curp_law_line.specs.Moves.{InvokeFits, invoking, take_told}
 use Rattle.curp_order.specs.Order.{IsHistory}
 use Rattle.curp_order.specs.declared.Event.{Event}
 use Rattle.curp_order.specs.declared.Event.TheVariants.{Complete, Invoke}
+use Rattle.curp_law_line.specs.Line.{IsCompleted, Line, OrderOk, WasInvoked}
+use Rattle.curp_law_line.specs.Moves.{InvokeFits, invoking, take_told}
 
 pub invoked_grows : (h more : List Event) (id : RequestId) (c : Command) → WasInvoked h id c → WasInvoked (h ++ more) id c
 invoked_grows h more id c w = record { event = w.event; stands = at_append h more w.event _ w.stands }

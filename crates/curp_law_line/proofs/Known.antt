@@ -8,12 +8,12 @@ use Rattle.std.proofs.lemmas.Bool.Decides.{nat_tests}
 use Rattle.curp_cmd.specs.RequestId.{id_cmp}
 use Rattle.curp_cmd.specs.declared.command.RequestId.{RequestId}
 use Rattle.curp_cmd.specs.declared.entry.Entry.{Entry}
-use Rattle.curp_law_logs.specs.Hashes.{NotNew}
-use Rattle.curp_model.proofs.Logs.{meaning_append, seen_entries}
-use Rattle.curp_model.proofs.Tables.{Has, not_new}
 use Rattle.curp_model.specs.Log.{LogState, meaning}
 use Rattle.curp_model.specs.Table.{Noted, Table, check, first_number, is_gone, known}
 use Rattle.curp_model.specs.declared.Check.TheVariants.{Expired, New, Stale}
+use Rattle.curp_model.proofs.Logs.{meaning_append, seen_entries}
+use Rattle.curp_model.proofs.Tables.{Has, not_new}
+use Rattle.curp_law_logs.specs.Hashes.{NotNew}
 
 abbrev Any : Noted → Type 0
 Any n = ⊤

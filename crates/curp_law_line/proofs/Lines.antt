@@ -4,15 +4,15 @@ use Rattle.std.specs.List.{list_any}
 use Rattle.std.proofs.lemmas.Bool.{cases_eq, or_parts}
 use Rattle.std.proofs.lemmas.List.Folds.{list_any-append}
 use Rattle.curp_base.specs.Words.{numbered}
+use Rattle.curp_range.specs.Spans.{is_in}
 use Rattle.curp_cmd.specs.declared.command.RequestId.{RequestId}
 use Rattle.curp_cmd.specs.declared.entry.Entry.{Entry}
-use Rattle.curp_law_line.proofs.Known.{stays_known}
-use Rattle.curp_law_line.proofs.Pushes.{cases, longer, other, own}
+use Rattle.curp_model.specs.Manager.{Migration}
+use Rattle.curp_law_logs.specs.Hashes.{Asked, NoGive, NotNew, behind, gives}
 use Rattle.curp_law_line.specs.Hashes.{Part, given_on, has_take, is_give, is_take, onward}
 use Rattle.curp_law_line.specs.Moves.{pushed}
-use Rattle.curp_law_logs.specs.Hashes.{Asked, NoGive, NotNew, behind, gives}
-use Rattle.curp_model.specs.Manager.{Migration}
-use Rattle.curp_range.specs.Spans.{is_in}
+use Rattle.curp_law_line.proofs.Known.{stays_known}
+use Rattle.curp_law_line.proofs.Pushes.{cases, longer, other, own}
 
 -- a list that is cut somewhere, with one item more
 pub split_push : {A : Type 0} (front back xs : List A) (e : A) → front ++ back ≡ xs ++ e ∷ []

@@ -1,8 +1,8 @@
 -- What stands in lists, and what filters keep.
 use Rattle.std.proofs.Common.{◌≡◌, take, drop, ℕ, zero, suc, ◌+◌, ◌||◌, Bool, true, false, cond, List, [], ◌∷◌, ◌++◌, map, length, Some, refl, ap, sym, ◌∙◌, arith, ◌⊎◌, inl, inr}
 use Rattle.std.specs.List.{filter, list_any}
-use Rattle.curp_base.proofs.Lists.{Each-at, Each-from_at, at_append, at_append_cases, at_append_right}
 use Rattle.curp_base.specs.Words.{At, Each}
+use Rattle.curp_base.proofs.Lists.{Each-at, Each-from_at, at_append, at_append_cases, at_append_right}
 use Rattle.curp_cmd.specs.RequestId.{same_id}
 use Rattle.curp_cmd.specs.declared.command.RequestId.{RequestId}
 use Rattle.curp_cmd.proofs.Ids.{same_id-self}

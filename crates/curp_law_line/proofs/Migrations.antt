@@ -2,13 +2,13 @@
 use Rattle.std.proofs.Common.{◌≡◌, ℕ, ◌&&◌, inl, inr, Bool, true, false, [], ◌++◌, Option, Some, None, refl, ap, sym, ◌∙◌}
 use Rattle.std.proofs.lemmas.Bool.{cases_Bool, or_cases, or_left}
 use Rattle.curp_base.specs.Words.{numbered}
-use Rattle.curp_law_line.proofs.Hashes.{no_onward}
+use Rattle.curp_range.specs.Spans.{is_in}
+use Rattle.curp_model.specs.Manager.{Migration}
+use Rattle.curp_law_logs.specs.Hashes.{behind, updates}
 use Rattle.curp_law_line.specs.Hashes.{HashesOk, Part, has_take, onward, owns}
 use Rattle.curp_law_line.specs.Line.{Line, OrderOk, Owned}
 use Rattle.curp_law_line.specs.Moves.{MigrateFits, given_done, migrating}
-use Rattle.curp_law_logs.specs.Hashes.{behind, updates}
-use Rattle.curp_model.specs.Manager.{Migration}
-use Rattle.curp_range.specs.Spans.{is_in}
+use Rattle.curp_law_line.proofs.Hashes.{no_onward}
 
 -- where only the equation changes
 rehashed : (s : Line) → OrderOk s → (moving : Option Migration) → HashesOk moving s.parts (updates s.marks) → OrderOk (record s { moving = moving })

@@ -2,22 +2,22 @@
 use Rattle.std.proofs.Common.{◌≡◌, ℕ, zero, suc, inl, inr, Bool, true, false, not, cond, if◌then◌else◌, List, [], ◌∷◌, ◌++◌, length, refl, ap, sym, ◌∙◌, subst, arith, append-nil, append_assoc}
 use Rattle.std.specs.List.{filter}
 use Rattle.std.proofs.lemmas.Bool.{or_parts}
-use Rattle.curp_base.proofs.Lists.{Each-append, Each-at, Each-from_at, at_append_right, at_same}
 use Rattle.curp_base.specs.Words.{At}
+use Rattle.curp_base.proofs.Lists.{Each-append, Each-at, Each-from_at, at_append_right, at_same}
+use Rattle.curp_range.specs.Spans.{is_in}
 use Rattle.curp_cmd.specs.Hash.{hash_of, touches}
 use Rattle.curp_cmd.specs.Store.{applied, nothing}
 use Rattle.curp_cmd.specs.declared.command.Answer.{Answer}
 use Rattle.curp_cmd.specs.declared.command.RequestId.{RequestId}
 use Rattle.curp_cmd.specs.declared.entry.Entry.{Entry}
 use Rattle.curp_cmd.specs.declared.entry.Entry.TheVariants.{Expire, Give, Op, Take}
+use Rattle.curp_order.specs.Order.{answers, answers_from, store_after}
+use Rattle.curp_order.proofs.Laws.{answers_append, length-answers}
+use Rattle.curp_law_logs.specs.Hashes.{Asked, In, NoGive, behind_from, on, value}
+use Rattle.curp_law_line.specs.Line.{Answered}
 use Rattle.curp_law_line.proofs.Given.{Pure}
 use Rattle.curp_law_line.proofs.Hashes.{key_touches, on_append}
 use Rattle.curp_law_line.proofs.Lists.{Distinct, distinct_filter, empty_list, from_filter, in_cons, in_filter, in_head, in_none, in_right, in_tail, only_one, some_or_none}
-use Rattle.curp_law_line.specs.Line.{Answered}
-use Rattle.curp_law_logs.specs.Hashes.{Asked, In, NoGive, behind_from, on, value}
-use Rattle.curp_order.proofs.Laws.{answers_append, length-answers}
-use Rattle.curp_order.specs.Order.{answers, answers_from, store_after}
-use Rattle.curp_range.specs.Spans.{is_in}
 
 -- the ops of entries, as requests of the order
 abbrev pub asked_of : List Entry → List Asked

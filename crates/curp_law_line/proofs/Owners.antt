@@ -1,24 +1,23 @@
 -- Who owns a hash, as the moves go on.
-use Rattle.curp_law_line.proofs.Lists.{some_same}
 use Rattle.std.proofs.Common.{◌≡◌, ℕ, ◌<◌, ◌≤◌, ◌+◌, ◌-◌, min, max, nat_lt, ◌||◌, inl, inr, ◌⊎◌, Bool, true, false, cond, List, [], ◌∷◌, ◌++◌, Option, Some, None, refl, ap, sym, ◌∙◌, subst, arith}
 use Rattle.std.specs.List.{list_any}
-use Rattle.std.proofs.lemmas.Bool.{cases_Bool, and_from, and_parts, eq-eqb, or_cases}
+use Rattle.std.proofs.lemmas.Bool.{and_from, and_parts, cases_Bool, eq-eqb, or_cases}
 use Rattle.std.proofs.lemmas.Bool.Decides.{nat_tests}
 use Rattle.curp_base.specs.Words.{numbered}
+use Rattle.curp_range.specs.Spans.{Span, is_in, is_owned, part_above, part_below, without}
+use Rattle.curp_range.proofs.Ascending.{owned-append, range_bounds}
+use Rattle.curp_range.proofs.Tests.{covers_if_covered}
 use Rattle.curp_cmd.specs.declared.entry.Entry.{Entry}
 use Rattle.curp_cmd.specs.declared.entry.Entry.TheVariants.{Give, Take}
-use Rattle.curp_law_line.proofs.Hashes.{any_push, has_take_push}
-use Rattle.curp_law_line.proofs.Lists.{in_any, in_head, in_right}
-use Rattle.curp_law_line.proofs.Spans.{owned_give}
-use Rattle.curp_law_line.proofs.Takes.{owned_take, without_owned}
+use Rattle.curp_model.specs.Manager.{Migration}
 use Rattle.curp_law_line.specs.Hashes.{Part, has_take, is_give, is_take, owns, state_of}
 use Rattle.curp_law_line.specs.Line.{Line, Owned}
 use Rattle.curp_law_line.specs.Moves.{MigrateFits, PushGive, PushGiveFits, PushTake, PushTakeFits, pushed, taken_by}
-use Rattle.curp_model.specs.Manager.{Migration}
-use Rattle.curp_range.proofs.Ascending.{owned-append, range_bounds}
-use Rattle.curp_range.proofs.Tests.{covers_if_covered}
-use Rattle.curp_range.specs.Spans.{Span, is_in, is_owned, part_above, part_below, without}
+use Rattle.curp_law_line.proofs.Hashes.{any_push, has_take_push}
+use Rattle.curp_law_line.proofs.Lists.{in_any, in_head, in_right, some_same}
 use Rattle.curp_law_line.proofs.Pushes as pushes
+use Rattle.curp_law_line.proofs.Spans.{owned_give}
+use Rattle.curp_law_line.proofs.Takes.{owned_take, without_owned}
 
 -- ---- an entry that takes and gives nothing
 

@@ -1,19 +1,19 @@
 -- What an op of a log says of its hashes.
-use Rattle.curp_cmd.proofs.Ascendings.{all_ascending}
 use Rattle.std.proofs.Common.{◌≡◌, ℕ, zero, suc, ◌+◌, ◌==◌, ◌&&◌, Bool, true, List, [], ◌∷◌, take, ap, sym, ◌∙◌}
 use Rattle.std.specs.List.{list_all}
 use Rattle.std.proofs.lemmas.Bool.{and_parts, eqb-true}
 use Rattle.curp_base.specs.Words.{At}
+use Rattle.curp_range.specs.Spans.{Span, is_owned}
 use Rattle.curp_cmd.specs.Hash.{hashes, hashes_of, touches}
 use Rattle.curp_cmd.specs.declared.command.Command.{Command}
 use Rattle.curp_cmd.specs.declared.command.Request.{Request}
 use Rattle.curp_cmd.specs.declared.entry.Entry.{Entry}
 use Rattle.curp_cmd.specs.declared.entry.Entry.TheVariants.{Op}
-use Rattle.curp_law_line.proofs.Numbered.{any_at}
+use Rattle.curp_cmd.proofs.Ascendings.{all_ascending}
 use Rattle.curp_model.specs.Log.{IsLog, LogState, after_entries, after_entry, all_fit, fits_at, is_new, log_opening, meaning}
 use Rattle.curp_model.specs.Ranges.{owns_all}
 use Rattle.curp_model.specs.Table.{check}
-use Rattle.curp_range.specs.Spans.{Span, is_owned}
+use Rattle.curp_law_line.proofs.Numbered.{any_at}
 
 all_at : (p : ℕ → Bool) (xs : List ℕ) (k x : ℕ) → list_all p xs ≡ true → At xs k x → p x ≡ true
 all_at p [] k x all h = absurd cc

@@ -2,22 +2,22 @@
 use Rattle.std.proofs.Common.{◌≡◌, ◌≢◌, ℕ, inl, inr, ◌⊎◌, List, [], ◌∷◌, ◌++◌, length, take, Some, refl, ap, sym, subst, arith}
 use Rattle.std.proofs.lemmas.Bool.{cases_eq}
 use Rattle.std.proofs.lemmas.List.{take-append-le}
-use Rattle.curp_base.proofs.Lists.{at_append, at_push_cases, at_within, prefix_at, prefix_push}
 use Rattle.curp_base.specs.Words.{At, numbered}
+use Rattle.curp_base.proofs.Lists.{at_append, at_push_cases, at_within, prefix_at, prefix_push}
 use Rattle.curp_cmd.specs.declared.command.Answer.{Answer}
 use Rattle.curp_cmd.specs.declared.command.Command.{Command}
 use Rattle.curp_cmd.specs.declared.command.Request.{Request}
 use Rattle.curp_cmd.specs.declared.command.RequestId.{RequestId}
 use Rattle.curp_cmd.specs.declared.entry.Entry.{Entry}
 use Rattle.curp_cmd.specs.declared.entry.Entry.TheVariants.{Op}
-use Rattle.curp_law_line.proofs.Numbered.{numbered_same, numbered_set_cases, numbered_set_other, numbered_set_same}
+use Rattle.curp_order.proofs.Laws.{answers_prefix}
+use Rattle.curp_model.specs.Log.{answer_after}
+use Rattle.curp_model.specs.Marks.{Mark}
+use Rattle.curp_law_logs.specs.Hashes.{Asked}
 use Rattle.curp_law_line.specs.Hashes.{Part}
 use Rattle.curp_law_line.specs.Line.{Answered, AnswersOk, OnceOk, OpAt, StandingOk, WaitingOk}
 use Rattle.curp_law_line.specs.Moves.{pushed}
-use Rattle.curp_law_logs.specs.Hashes.{Asked}
-use Rattle.curp_model.specs.Log.{answer_after}
-use Rattle.curp_model.specs.Marks.{Mark}
-use Rattle.curp_order.proofs.Laws.{answers_prefix}
+use Rattle.curp_law_line.proofs.Numbered.{numbered_same, numbered_set_cases, numbered_set_other, numbered_set_same}
 
 -- what is answered in an order is so in a longer one
 pub answered_grows : (os more : List Asked) (x : Asked) (a : Answer) → Answered os x a → Answered (os ++ more) x a

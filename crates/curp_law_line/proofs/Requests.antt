@@ -2,24 +2,24 @@
 use Rattle.std.proofs.Common.{◌≡◌, ℕ, zero, suc, ◌+◌, ◌==◌, inl, inr, Bool, true, false, cond, List, [], ◌∷◌, ◌++◌, take, length, Some, refl, ap, sym, ◌∙◌, arith}
 use Rattle.std.specs.List.{IsDistinct, list_any}
 use Rattle.std.proofs.lemmas.Bool.{eqb-true, or_parts}
-use Rattle.curp_base.proofs.Lists.{Each-from_at}
 use Rattle.curp_base.specs.Words.{At}
+use Rattle.curp_base.proofs.Lists.{Each-from_at}
+use Rattle.curp_range.specs.Spans.{is_in}
 use Rattle.curp_cmd.specs.Hash.{conflicts, hashes_of, touches}
 use Rattle.curp_cmd.specs.declared.command.Command.{Command}
 use Rattle.curp_cmd.specs.declared.command.Request.{Request}
 use Rattle.curp_cmd.specs.declared.entry.Entry.{Entry}
 use Rattle.curp_cmd.specs.declared.entry.Entry.TheVariants.{Expire, Give, Op, Take}
+use Rattle.curp_model.specs.Laws.{clash}
+use Rattle.curp_model.specs.Log.{LogState, after_entries, after_entry, entry_touches, meaning}
+use Rattle.curp_model.proofs.Clashes.{all_at, first_apart, no_conflict, one_id_clashes, rest_apart}
+use Rattle.curp_model.proofs.Logs.{meaning_append}
+use Rattle.curp_law_logs.specs.Hashes.{Asked, In, on}
+use Rattle.curp_law_line.specs.Moves.{ops}
 use Rattle.curp_law_line.proofs.AdoptedMarks.{asked_all}
 use Rattle.curp_law_line.proofs.Lists.{Distinct, in_any, in_cons, in_none, in_tail}
 use Rattle.curp_law_line.proofs.Numbered.{any_at}
 use Rattle.curp_law_line.proofs.Orders.{asked_of}
-use Rattle.curp_law_line.specs.Moves.{ops}
-use Rattle.curp_law_logs.specs.Hashes.{Asked, In, on}
-use Rattle.curp_model.proofs.Clashes.{all_at, first_apart, no_conflict, one_id_clashes, rest_apart}
-use Rattle.curp_model.proofs.Logs.{meaning_append}
-use Rattle.curp_model.specs.Laws.{clash}
-use Rattle.curp_model.specs.Log.{LogState, after_entries, after_entry, entry_touches, meaning}
-use Rattle.curp_range.specs.Spans.{is_in}
 
 pub asked_all_in : (rs : List Request) (x : Asked) → In x (asked_all rs) → (j : ℕ) × (r : Request) × At rs j r × ((r.id, r.command) ≡ x)
 asked_all_in [] x m = in_none x _ m

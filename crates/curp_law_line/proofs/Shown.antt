@@ -5,11 +5,11 @@ use Rattle.curp_base.proofs.Lists.{at_take}
 use Rattle.curp_cmd.specs.Store.{Contents, applied, is_update, nothing}
 use Rattle.curp_cmd.specs.declared.command.Command.{Command}
 use Rattle.curp_cmd.specs.declared.command.Command.TheVariants.{Append, CondPut, Delete, Get, Incr, Multi, Put}
-use Rattle.curp_law_line.proofs.Lists.{in_head, in_tail}
-use Rattle.curp_law_line.specs.Line.{KindsOk, answer_at}
-use Rattle.curp_law_logs.specs.Hashes.{In, asked, updates}
-use Rattle.curp_model.specs.Marks.{Mark, is_shown, is_update_mark, shown}
 use Rattle.curp_order.specs.Order.{store_after}
+use Rattle.curp_model.specs.Marks.{Mark, is_shown, is_update_mark, shown}
+use Rattle.curp_law_logs.specs.Hashes.{In, asked, updates}
+use Rattle.curp_law_line.specs.Line.{KindsOk, answer_at}
+use Rattle.curp_law_line.proofs.Lists.{in_head, in_tail}
 
 read_only : (s : Contents) (command : Command) → is_update command ≡ false → (applied s command).after ≡ s
 unfolding applied

@@ -3,16 +3,16 @@ use Rattle.std.proofs.Common.{◌≡◌, ℕ, ◌<◌, ◌≤◌, ◌+◌, ◌-�
 use Rattle.std.specs.List.{list_any}
 use Rattle.std.proofs.lemmas.Bool.{cases_Bool, or_cases, or_left, or_parts, or_right}
 use Rattle.std.proofs.lemmas.Bool.Decides.{nat_tests}
+use Rattle.curp_range.specs.Spans.{Span, is_in, is_owned, part_above, part_below, with_range, without}
+use Rattle.curp_range.proofs.Ascending.{in_range, owned-append, range_bounds}
 use Rattle.curp_cmd.specs.declared.entry.Entry.{Entry}
 use Rattle.curp_cmd.specs.declared.entry.Entry.TheVariants.{Expire, Give, Op, Take}
 use Rattle.curp_cmd.specs.declared.migration.Package.{Package}
-use Rattle.curp_law_line.proofs.Takes.{without_owned}
-use Rattle.curp_law_line.specs.Hashes.{Part, owns}
-use Rattle.curp_law_logs.specs.Hashes.{NoGive}
-use Rattle.curp_model.proofs.Logs.{meaning_append}
 use Rattle.curp_model.specs.Log.{LogState, after_entries, after_entry, meaning}
-use Rattle.curp_range.proofs.Ascending.{in_range, owned-append, range_bounds}
-use Rattle.curp_range.specs.Spans.{Span, is_in, is_owned, part_above, part_below, with_range, without}
+use Rattle.curp_model.proofs.Logs.{meaning_append}
+use Rattle.curp_law_logs.specs.Hashes.{NoGive}
+use Rattle.curp_law_line.specs.Hashes.{Part, owns}
+use Rattle.curp_law_line.proofs.Takes.{without_owned}
 
 outside : (lo hi h : ℕ) → is_in lo hi h ≡ false → (h < lo) ⊎ (hi < h)
 outside lo hi h e = go (nat_le lo h) (nat_le h hi) refl refl e

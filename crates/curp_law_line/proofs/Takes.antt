@@ -1,25 +1,24 @@
 -- The take of the migration in work.
 use Rattle.std.proofs.Common.{◌≡◌, ℕ, ◌≤◌, ◌+◌, ◌-◌, min, max, nat_lt, ◌&&◌, ◌||◌, inl, inr, Bool, true, false, cond, List, [], ◌∷◌, ◌++◌, Option, Some, None, refl, ap, sym, ◌∙◌, subst, arith}
 use Rattle.std.specs.List.{list_any}
-use Rattle.std.proofs.lemmas.Bool.{cond_both, and_parts, or_cases, or_left, or_right}
+use Rattle.std.proofs.lemmas.Bool.{and_parts, cond_both, or_cases, or_left, or_right}
 use Rattle.curp_base.specs.Words.{numbered}
+use Rattle.curp_range.specs.Spans.{Span, is_in, is_owned, part_above, part_below, without}
+use Rattle.curp_range.proofs.Ascending.{in_range, owned-append, range_bounds}
+use Rattle.curp_range.proofs.Tests.{covers_if_covered}
 use Rattle.curp_cmd.specs.declared.command.Request.{Request}
 use Rattle.curp_cmd.specs.declared.entry.Entry.{Entry}
 use Rattle.curp_cmd.specs.declared.entry.Entry.TheVariants.{Op, Take}
 use Rattle.curp_cmd.specs.declared.migration.Package.{Package}
-use Rattle.curp_law_line.proofs.Hashes.{any_push, behind_append, came_append}
-use Rattle.curp_law_line.proofs.Lines.{known_push}
-use Rattle.curp_law_line.specs.Hashes.{HashOk, HashesOk, Part, given_on, has_take, holds, is_give, is_take, onward, owns, state_of}
-use Rattle.curp_law_line.specs.Line.{Line, OrderOk}
-use Rattle.curp_law_line.specs.Moves.{PushTake, PushTakeFits, pushed, take_pushed, taken_by}
-use Rattle.curp_law_line.specs.Line.{Ungiven}
-use Rattle.curp_law_logs.specs.Hashes.{Asked, behind, updates}
-use Rattle.curp_model.proofs.Logs.{meaning_append}
 use Rattle.curp_model.specs.Log.{LogState, after_entry, meaning}
 use Rattle.curp_model.specs.Manager.{Migration}
-use Rattle.curp_range.proofs.Ascending.{in_range, owned-append, range_bounds}
-use Rattle.curp_range.proofs.Tests.{covers_if_covered}
-use Rattle.curp_range.specs.Spans.{Span, is_in, is_owned, part_above, part_below, without}
+use Rattle.curp_model.proofs.Logs.{meaning_append}
+use Rattle.curp_law_logs.specs.Hashes.{Asked, behind, updates}
+use Rattle.curp_law_line.specs.Hashes.{HashOk, HashesOk, Part, given_on, has_take, holds, is_give, is_take, onward, owns, state_of}
+use Rattle.curp_law_line.specs.Line.{Line, OrderOk, Ungiven}
+use Rattle.curp_law_line.specs.Moves.{PushTake, PushTakeFits, pushed, take_pushed, taken_by}
+use Rattle.curp_law_line.proofs.Hashes.{any_push, behind_append, came_append}
+use Rattle.curp_law_line.proofs.Lines.{known_push}
 use Rattle.curp_law_line.proofs.Pushes as pushes
 
 -- ---- what a range leaves

@@ -4,14 +4,20 @@ use Rattle.std.specs.List.{list_any}
 use Rattle.std.proofs.lemmas.Bool.{and_from, cases_Bool, eq-eqb, or_parts}
 use Rattle.std.proofs.lemmas.List.{take-append-drop}
 use Rattle.std.proofs.lemmas.List.Folds.{list_any-append}
-use Rattle.curp_base.proofs.Lists.{at_append, at_append_cases, at_drop, at_push_cases, at_same}
 use Rattle.curp_base.specs.Words.{At, numbered}
+use Rattle.curp_base.proofs.Lists.{at_append, at_append_cases, at_drop, at_push_cases, at_same}
+use Rattle.curp_range.specs.Spans.{is_in}
 use Rattle.curp_cmd.specs.Hash.{touches}
 use Rattle.curp_cmd.specs.declared.command.Request.{Request}
 use Rattle.curp_cmd.specs.declared.entry.Entry.{Entry}
 use Rattle.curp_cmd.specs.declared.entry.Entry.TheVariants.{Give, Op, Take}
 use Rattle.curp_cmd.specs.declared.migration.Package.{Package}
+use Rattle.curp_model.specs.Log.{IsLog}
+use Rattle.curp_model.specs.Manager.{Migration}
 use Rattle.curp_facts.specs.Facts.{IsAmong}
+use Rattle.curp_law_line.specs.Hashes.{Part, has_take, is_give, is_take, owns}
+use Rattle.curp_law_line.specs.Line.{IsMoving, Line, Owned, TakesOk, ToldTake, Ungiven}
+use Rattle.curp_law_line.specs.Moves.{Adopt, AdoptFits, GivenFits, MigrateFits, PushGive, PushGiveFits, PushTake, PushTakeFits, ops, pushed, relogged, replayed_of, taken_by}
 use Rattle.curp_law_line.proofs.Entries.{take_of}
 use Rattle.curp_law_line.proofs.Hashes.{any_push}
 use Rattle.curp_law_line.proofs.Lists.{in_any, or_false, some_same}
@@ -20,12 +26,6 @@ use Rattle.curp_law_line.proofs.Owning.{op_owned}
 use Rattle.curp_law_line.proofs.Pushes as pushes
 use Rattle.curp_law_line.proofs.Requests.{ops_any}
 use Rattle.curp_law_line.proofs.Spans.{owned_after, takes}
-use Rattle.curp_law_line.specs.Hashes.{Part, has_take, is_give, is_take, owns}
-use Rattle.curp_law_line.specs.Line.{IsMoving, Line, Owned, TakesOk, ToldTake, Ungiven}
-use Rattle.curp_law_line.specs.Moves.{Adopt, AdoptFits, GivenFits, MigrateFits, PushGive, PushGiveFits, PushTake, PushTakeFits, ops, pushed, relogged, replayed_of, taken_by}
-use Rattle.curp_model.specs.Log.{IsLog}
-use Rattle.curp_model.specs.Manager.{Migration}
-use Rattle.curp_range.specs.Spans.{is_in}
 
 -- ---- the moves
 

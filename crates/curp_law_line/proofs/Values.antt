@@ -4,12 +4,22 @@ use Rattle.std.specs.List.{filter}
 use Rattle.std.proofs.lemmas.Bool.{cases_Bool, eqb-true}
 use Rattle.std.proofs.lemmas.Bool.Decides.{nat_tests}
 use Rattle.std.proofs.lemmas.List.{take-append-le}
-use Rattle.curp_base.proofs.Lists.{at_append, at_append_cases, at_map, at_push, at_push_cases, at_within}
 use Rattle.curp_base.specs.Words.{At}
+use Rattle.curp_base.proofs.Lists.{at_append, at_append_cases, at_map, at_push, at_push_cases, at_within}
 use Rattle.curp_cmd.specs.Store.{applied, nothing}
 use Rattle.curp_cmd.specs.declared.command.Answer.{Answer}
 use Rattle.curp_cmd.specs.declared.command.Command.{Command}
 use Rattle.curp_cmd.specs.declared.command.RequestId.{RequestId}
+use Rattle.curp_order.specs.Order.{store_after}
+use Rattle.curp_order.specs.declared.Event.{Event}
+use Rattle.curp_order.specs.declared.Event.TheVariants.{Complete, Invoke}
+use Rattle.curp_msg.specs.declared.machine.Capture.{Capture}
+use Rattle.curp_msg.specs.declared.machine.Completed.{Completed}
+use Rattle.curp_model.specs.Log.{answer_after}
+use Rattle.curp_model.specs.Marks.{Executed, Looked, Mark, Place, flagged, has_completed, is_flagged, is_past, is_update_mark, looked, shown}
+use Rattle.curp_law_logs.specs.Hashes.{updates}
+use Rattle.curp_law_line.specs.Line.{FlagsOk, IsCompleted, KindsOk, Line, LookGives, LooksOk, OrderOk, Owned, ValuesOk, answer_at}
+use Rattle.curp_law_line.specs.Moves.{Adopt, AdoptFits, Look, LookFits, adopting, looking, replayed_of}
 use Rattle.curp_law_line.proofs.AdoptedMarks.{adopted_is, new_mark_at, new_marks, stays}
 use Rattle.curp_law_line.proofs.Completions.{flagged_order, flagging_at}
 use Rattle.curp_law_line.proofs.Given.{LogValue, Pure, TakesOnce}
@@ -18,16 +28,6 @@ use Rattle.curp_law_line.proofs.Looks.{look_value}
 use Rattle.curp_law_line.proofs.Numbered.{filter_at}
 use Rattle.curp_law_line.proofs.OwnedValues.{owned_answer}
 use Rattle.curp_law_line.proofs.Shown.{by_updates}
-use Rattle.curp_law_line.specs.Line.{FlagsOk, IsCompleted, KindsOk, Line, LookGives, LooksOk, OrderOk, Owned, ValuesOk, answer_at}
-use Rattle.curp_law_line.specs.Moves.{Adopt, AdoptFits, Look, LookFits, adopting, looking, replayed_of}
-use Rattle.curp_law_logs.specs.Hashes.{updates}
-use Rattle.curp_model.specs.Log.{answer_after}
-use Rattle.curp_model.specs.Marks.{Executed, Looked, Mark, Place, flagged, has_completed, is_flagged, is_past, is_update_mark, looked, shown}
-use Rattle.curp_msg.specs.declared.machine.Capture.{Capture}
-use Rattle.curp_msg.specs.declared.machine.Completed.{Completed}
-use Rattle.curp_order.specs.Order.{store_after}
-use Rattle.curp_order.specs.declared.Event.{Event}
-use Rattle.curp_order.specs.declared.Event.TheVariants.{Complete, Invoke}
 
 look_place : (p : Place) → is_update_mark p ≡ false → (number : ℕ) × (long : ℕ) × (p ≡ Looked number long)
 look_place (Executed i) e = absurd cc

@@ -1,29 +1,29 @@
 -- The small machine of the order, and the facts that its moves keep. It has the adopted logs, the migration in work, the
 -- migrations that were told, the marks and the history: no node, no message (this project's own).
-use Rattle.std.specs.Prelude.{◌≡◌, ◌≢◌, ◌⊎◌, ℕ, ◌<◌, true, false, List, [], ◌∷◌, take, Option, Some, ⊤}
 use Rattle.std.specs.List.{filter, list_any}
+use Rattle.std.specs.Prelude.{◌≡◌, ◌≢◌, ◌⊎◌, ℕ, ◌<◌, true, false, List, [], ◌∷◌, take, Option, Some, ⊤}
 use Rattle.curp_base.specs.Words.{At, numbered}
+use Rattle.curp_range.specs.Spans.{is_in}
 use Rattle.curp_cmd.specs.Hash.{touches}
 use Rattle.curp_cmd.specs.Store.{applied, is_update, nothing}
 use Rattle.curp_cmd.specs.declared.command.Answer.{Answer}
 use Rattle.curp_cmd.specs.declared.command.Command.{Command}
 use Rattle.curp_cmd.specs.declared.command.Request.{Request}
 use Rattle.curp_cmd.specs.declared.command.RequestId.{RequestId}
-use Rattle.curp_cmd.specs.declared.entry.Entry.TheVariants.{Op, Take}
 use Rattle.curp_cmd.specs.declared.entry.Entry.{Entry}
+use Rattle.curp_cmd.specs.declared.entry.Entry.TheVariants.{Op, Take}
 use Rattle.curp_cmd.specs.declared.migration.Package.{Package}
-use Rattle.curp_facts.specs.Facts.{IsAmong}
-use Rattle.curp_law_line.specs.Hashes.{HashesOk, Part, has_take, is_give, is_take, owns}
-use Rattle.curp_law_logs.specs.Hashes.{Asked, updates}
+use Rattle.curp_order.specs.Order.{IsHistory, answers, store_after}
+use Rattle.curp_order.specs.declared.Event.{Event}
+use Rattle.curp_order.specs.declared.Event.TheVariants.{Complete, Invoke}
+use Rattle.curp_msg.specs.declared.machine.Capture.{Capture}
 use Rattle.curp_model.specs.Log.{answer_after}
 use Rattle.curp_model.specs.Manager.{Migration}
 use Rattle.curp_model.specs.Marked.{is_completed}
 use Rattle.curp_model.specs.Marks.{Executed, Looked, Mark, is_update_mark, shown}
-use Rattle.curp_msg.specs.declared.machine.Capture.{Capture}
-use Rattle.curp_order.specs.Order.{IsHistory, answers, store_after}
-use Rattle.curp_order.specs.declared.Event.TheVariants.{Complete, Invoke}
-use Rattle.curp_order.specs.declared.Event.{Event}
-use Rattle.curp_range.specs.Spans.{is_in}
+use Rattle.curp_facts.specs.Facts.{IsAmong}
+use Rattle.curp_law_logs.specs.Hashes.{Asked, updates}
+use Rattle.curp_law_line.specs.Hashes.{HashesOk, Part, has_take, is_give, is_take, owns}
 
 -- the adopted log of each partition, the migration in work, the migrations whose package was told, the marks, the history
 pub record Line : Type 0 where

@@ -1,7 +1,8 @@
 -- The moves of the small machine, with what each needs and what it does.
+use Rattle.std.specs.List.{IsDistinct, filter, list_any}
 use Rattle.std.specs.Prelude.{◌≡◌, ◌≢◌, ◌≤◌, ◌<◌, ℕ, ◌-◌, Bool, true, false, List, [], ◌∷◌, ◌++◌, set, map, length, take, Some, None, ⊤}
-use Rattle.std.specs.List.{IsDistinct, list_any}
 use Rattle.curp_base.specs.Words.{At, numbered}
+use Rattle.curp_range.specs.Spans.{is_covered, is_in}
 use Rattle.curp_cmd.specs.Hash.{touches}
 use Rattle.curp_cmd.specs.Store.{is_update}
 use Rattle.curp_cmd.specs.declared.command.Answer.{Answer}
@@ -12,10 +13,8 @@ use Rattle.curp_cmd.specs.declared.entry.Entry.{Entry}
 use Rattle.curp_cmd.specs.declared.entry.Entry.TheVariants.{Expire, Give, Op, Take}
 use Rattle.curp_cmd.specs.declared.migration.Package.{Package}
 use Rattle.curp_cmd.specs.declared.node.NodeId.{NodeId}
-use Rattle.curp_facts.specs.Facts.{IsAmong}
-use Rattle.curp_law_line.specs.Hashes.{Part, is_give, is_take, owns, state_of}
-use Rattle.curp_law_line.specs.Line.{IsCompleted, Line, Ungiven, WasInvoked, answer_at}
-use Rattle.curp_law_logs.specs.Hashes.{gives}
+use Rattle.curp_order.specs.declared.Event.TheVariants.{Complete, Invoke}
+use Rattle.curp_msg.specs.declared.machine.Capture.{Capture}
 use Rattle.curp_model.specs.Laws.{clash}
 use Rattle.curp_model.specs.Log.{IsDone, entry_touches, meaning, package_of}
 use Rattle.curp_model.specs.Manager.{Migration}
@@ -23,10 +22,10 @@ use Rattle.curp_model.specs.Marks.{Looked, Mark, adopted, executed, flagged, is_
 use Rattle.curp_model.specs.Recovery.{replays}
 use Rattle.curp_model.specs.Table.{check}
 use Rattle.curp_model.specs.declared.Check.TheVariants.{New}
-use Rattle.curp_msg.specs.declared.machine.Capture.{Capture}
-use Rattle.curp_order.specs.declared.Event.TheVariants.{Complete, Invoke}
-use Rattle.curp_range.specs.Spans.{is_covered, is_in}
-use Rattle.std.specs.List.{filter}
+use Rattle.curp_facts.specs.Facts.{IsAmong}
+use Rattle.curp_law_logs.specs.Hashes.{gives}
+use Rattle.curp_law_line.specs.Hashes.{Part, is_give, is_take, owns, state_of}
+use Rattle.curp_law_line.specs.Line.{IsCompleted, Line, Ungiven, WasInvoked, answer_at}
 
 -- ---- words
 
