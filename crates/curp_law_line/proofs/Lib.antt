@@ -15,6 +15,7 @@ pub mod Migrations
 pub mod Takes
 pub mod Spans
 pub mod Entries
+pub mod Carried
 pub mod Gives
 pub mod Orders
 pub mod AdoptedMarks
@@ -38,3 +39,4 @@ pub mod LooksKept
 pub mod Values
 pub mod ReadsKept
 pub mod Growing
+pub mod Stores

@@ -161,16 +161,16 @@ module _ (s : Line) (ok : Owned s.moving s.parts) (o : PushGive) (fits : PushGiv
   abbrev after2 : List Part
   after2 = pushed s.parts o.part o.p (Give o.m.number o.brought)
 
-  source_takes : (h : ℕ) → is_in o.m.range.lo o.m.range.hi h ≡ true → has_take s.moving h fits.source.log ≡ true
+  source_takes : (h : ℕ) → is_in o.m.range.lo o.m.range.hi h ≡ true → has_take s.moving h fits.way.source.log ≡ true
   source_takes h inside =
-      let taken : list_any (is_take o.m.number) fits.source.log ≡ true =
-      ap (list_any (is_take o.m.number)) fits.taken ∙ in_any (is_take o.m.number) _ (Take o.m.number o.brought) (in_right fits.before (Take o.m.number o.brought ∷ fits.after) _ (in_head _ fits.after)) (eq-eqb o.m.number o.m.number refl) in
-      subst (λ (mv : Option Migration). has_take mv h fits.source.log ≡ true) (sym fits.in_work) (and_from _ _ inside taken)
+      let taken : list_any (is_take o.m.number) fits.way.source.log ≡ true =
+      ap (list_any (is_take o.m.number)) fits.way.taken ∙ in_any (is_take o.m.number) _ (Take o.m.number o.brought) (in_right fits.way.before (Take o.m.number o.brought ∷ fits.way.after) _ (in_head _ fits.way.after)) (eq-eqb o.m.number o.m.number refl) in
+      subst (λ (mv : Option Migration). has_take mv h fits.way.source.log ≡ true) (sym fits.in_work) (and_from _ _ inside taken)
 
   nobody : (h : ℕ) → is_in o.m.range.lo o.m.range.hi h ≡ true → (k : ℕ) (q : Part) → numbered s.parts k ≡ Some q → owns q h ≡ true → ⊥
   nobody h inside k q hk own =
-      let f = ok.moved k o.m.source q fits.source h o.m fits.in_work hk fits.its_source own (source_takes h inside) in
-      let bad : true ≡ false = sym f.1 ∙ fits.ungiven k q hk in
+      let f = ok.moved k o.m.source q fits.way.source h o.m fits.in_work hk fits.way.its_source own (source_takes h inside) in
+      let bad : true ≡ false = sym f.1 ∙ fits.way.ungiven k q hk in
       cc
 
   own_now : (k : ℕ) (q : Part) (h : ℕ) → numbered after2 k ≡ Some q → owns q h ≡ true
@@ -180,7 +180,7 @@ module _ (s : Line) (ok : Owned s.moving s.parts) (o : PushGive) (fits : PushGiv
     | inr new ↦ elim (cases_Bool (is_in o.m.range.lo o.m.range.hi h)) [
       | inl y ↦ inl (y, new.0)
       | inr out ↦
-          let off : is_in o.brought.lo o.brought.hi h ≡ false = (λ i. is_in (fits.lo i) (fits.hi i) h) ∙ out in
+          let off : is_in o.brought.lo o.brought.hi h ≡ false = (λ i. is_in (fits.way.lo i) (fits.way.hi i) h) ∙ out in
           inr (
             p2,
             subst (λ (j : ℕ). numbered s.parts j ≡ Some p2) (sym new.0) fits.here,
@@ -236,13 +236,13 @@ module _ (s : Line) (ok : Owned s.moving s.parts) (o : PushGive) (fits : PushGiv
           | inl v ↦ subst (λ (z : Migration). (n ≡ z.target) × (list_any (is_give z.number) x.log ≡ true)) same (v.1 ∙ sym fits.its_target, give_at n x hn v.1)
           | inr v ↦
               let f = ok.moved n k v.0 tw.0 h o.m fits.in_work v.1 tw.1 v.2 t0 in
-              absurd (let bad : true ≡ false = sym f.1 ∙ fits.ungiven n v.0 v.1 in cc)
+              absurd (let bad : true ≡ false = sym f.1 ∙ fits.way.ungiven n v.0 v.1 in cc)
         ];
     source = λ n x m is hn t. let tw = take_was n x hn in ok.source n tw.0 m is tw.1 (sym (tw.2 m.number) ∙ t);
     target = λ n x m is hn t.
         let same : o.m ≡ m = some_same (sym fits.in_work ∙ is) in
         elim (pushes.cases s.parts o.part p2 e2 fits.here n x hn) [
-          | inl old ↦ absurd (let bad : true ≡ false = sym t ∙ ap (λ (z : Migration). list_any (is_give z.number) x.log) (sym same) ∙ fits.ungiven n x old.1 in cc)
+          | inl old ↦ absurd (let bad : true ≡ false = sym t ∙ ap (λ (z : Migration). list_any (is_give z.number) x.log) (sym same) ∙ fits.way.ungiven n x old.1 in cc)
           | inr new ↦ new.0 ∙ sym fits.its_target ∙ ap (λ (z : Migration). z.target) same
         ];
     apart = ok.apart;

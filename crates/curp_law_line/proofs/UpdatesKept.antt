@@ -52,7 +52,7 @@ module _ (pure : Pure) (second : Second) where
   }
   updates_keep s (TakePush o) fits logs ok = record { order = take_keeps s ok.order o fits; owned = take_owned s ok.owned o fits }
   updates_keep s (GivePush o) fits logs ok = record {
-    order = give_keeps pure s ok.order o fits (logs.values o.m.source fits.source fits.its_source fits.before (Take o.m.number o.brought ∷ fits.after) (sym fits.taken));
+    order = give_keeps pure s ok.order o fits (logs.values o.m.source fits.way.source fits.way.its_source fits.way.before (Take o.m.number o.brought ∷ fits.way.after) (sym fits.way.taken));
     owned = give_owned s ok.owned o fits;
   }
   updates_keep s (ExpirePush o) fits logs ok = record {
