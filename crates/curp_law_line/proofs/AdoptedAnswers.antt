@@ -31,6 +31,7 @@ use Rattle.curp_law_line.proofs.Requests.{asked_all_in, asked_of_in, first_on, i
 module _ (it : Adopting) where
   -- ---- no request stands twice
 
+  -- no request stands twice in the order afterwards
   pub now_distinct : Distinct (order_now it)
   now_distinct =
       distinct_append (filter (keeps_on it) (order_was it)) (filter (not_done it) (again it)) (distinct_filter (keeps_on it) (order_was it) (was_distinct it)) (distinct_filter (not_done it) (again it) (again_distinct it)) (λ x y mx my same.
@@ -45,14 +46,17 @@ module _ (it : Adopting) where
       both_ways false true a b c = cc
       both_ways false false a b c = cc
 
+  -- the same by places
   pub adopt_distinct : DistinctOk (order_now it)
   adopt_distinct = distinct_places (order_now it) now_distinct
 
+  -- nor at one hash
   pub now_distinct_on : (h : ℕ) → Distinct (on h (order_now it))
   now_distinct_on h = distinct_filter _ (order_now it) now_distinct
 
   -- ---- the answers of ops
 
+  -- what doesn't go stays in the order
   pub kept_in : (x : Asked) → In x (order_was it) → (In x (gone it) → ⊥) → In x (order_now it)
   kept_in x m not_gone =
       let k : keeps_on it x ≡ true = elim (cases_Bool (is_gone it x)) [ inl y ↦ absurd (not_gone (gone_by_test it x m y)) | inr n ↦ or_right (done it x.0) _ (ap not n) ] in
@@ -72,9 +76,11 @@ module _ (it : Adopting) where
       front_of h (order_was it) c.front (on h (gone it)) x t (was_distinct_on it h) c.is was.0 sc ∙ sym (front_of h (order_now it) c.front (on h (again it)) x t (now_distinct_on h) (after_line it h c.front c.is) is sc) in
       subst (Answered (order_now it) x) (sym (was.1 ∙ same_fronts it.pure was.0.front is.front x fronts)) (answered_there (order_now it) x is)
 
+  -- at one hash one request is replayed at most
   pub again_alone : (h : ℕ) (x : Asked) → In x (on h (again it)) → on h (again it) ≡ x ∷ []
   again_alone h x m = only_one (on h (again it)) x (distinct_filter _ (again it) (again_distinct it)) m (λ y n. again_once it h y x n m)
 
+  -- each replayed request stands in the order afterwards
   pub in_now : (h : ℕ) (x : Asked) → In x (on h (again it)) → In x (order_now it)
   in_now h x m =
       let c = cut_at it h in
@@ -113,6 +119,7 @@ module _ (it : Adopting) where
       let one = it.facts.once n it.move.part q it.move.p i (length it.move.stays + t.0) r t.1 a t.2 hn it.fits.here hi (at_goes it t.0 _ t.3) (ap (λ (z : Asked). z.0) (sym t.4)) in
       elim apart [ inl ne ↦ ne one.0 | inr low ↦ omega (arith, one.1) ]
 
+  -- each op of the logs afterwards has in the order the answer that its log gives
   pub adopt_answers : AnswersOk (parts_now it) (order_now it)
   adopt_answers k q i r a hk hi = elim (numbered_set_cases it.line.parts it.move.part it.move.p (new_part it) it.fits.here k q hk) [
     | inl old ↦ stay (r.id, r.command) _ (it.facts.answered k q i r a old.1 hi) (elsewhere k q i r a old.1 hi (inl old.0))
@@ -151,6 +158,7 @@ module _ (it : Adopting) where
     ]
   ]
 
+  -- a request is an op at one place afterwards
   pub adopt_once : OnceOk (parts_now it)
   adopt_once k m x y i j r t a b hk hm hi hj same = elim (where_now k x i r a hk hi) [
     | inl old ↦ elim (where_now m y j t b hm hj) [
@@ -181,6 +189,7 @@ module _ (it : Adopting) where
 
   -- ---- what has completed keeps its answer
 
+  -- a completed update keeps its answer
   pub adopt_marked : MarkedOk (order_now it) it.line.history
   adopt_marked e id c a done_at inv up =
       let w = it.facts.marked e id c a done_at inv up in

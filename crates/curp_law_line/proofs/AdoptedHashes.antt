@@ -23,6 +23,7 @@ use Rattle.curp_law_line.proofs.Requests.{asked_of_ops, ops_any}
 module _ (it : Adopting) where
   -- ---- the equation afterwards
 
+  -- what a number finds afterwards
   pub look_new : (k : ℕ) → (numbered (parts_now it) k ≡ numbered it.line.parts k) ⊎ ((k ≡ it.move.part) × (numbered (parts_now it) k ≡ Some (new_part it)))
   look_new k = elim (cases_eq k it.move.part) [
     | inl same ↦ inr (same, ap (numbered (parts_now it)) same ∙ own_after it)
@@ -35,15 +36,19 @@ module _ (it : Adopting) where
       none_both k ne (Some q) None f g = let h = numbered_set_other it.line.parts it.move.part it.move.p (new_part it) it.fits.here k q ne f in absurd (cc (g, h))
       none_both k ne (Some q) (Some r) f g = let h = numbered_set_other it.line.parts it.move.part it.move.p (new_part it) it.fits.here k q ne f in sym g ∙ h
 
+  -- what is replayed gives nothing
   pub no_new_give : (h : ℕ) → list_any (gives h) (ops (replayed it)) ≡ false
   no_new_give h = ops_any (gives h) (λ r. refl) (replayed it)
 
+  -- what stands behind the last give is what stayed there, and what is replayed
   pub behind_new : (h : ℕ) → behind h (new_part it).log ≡ behind h it.move.stays ++ on h (again it)
   behind_new h = behind_append h [] it.move.stays (ops (replayed it)) ∙ behind_asked h (behind h it.move.stays) (ops (replayed it)) (no_new_give h) ∙ ap (λ w. behind h it.move.stays ++ on h w) (asked_of_ops (replayed it))
 
+  -- the gives afterwards are those that stay
   pub give_new : (number : ℕ) → list_any (is_give number) (new_part it).log ≡ list_any (is_give number) it.move.stays
   give_new number = list_any-append (is_give number) it.move.stays (ops (replayed it)) ∙ ap (λ (b : Bool). list_any (is_give number) it.move.stays || b) (ops_any (is_give number) (λ r. refl) (replayed it)) ∙ or_false _
 
+  -- a give of the log stays or goes
   pub give_old : (number : ℕ) → list_any (is_give number) it.move.p.log ≡ (list_any (is_give number) it.move.stays || list_any (is_give number) it.move.goes)
   give_old number = ap (list_any (is_give number)) it.fits.is ∙ list_any-append (is_give number) it.move.stays it.move.goes
 
@@ -72,6 +77,7 @@ module _ (it : Adopting) where
           let old : list_any (is_give m.number) it.move.p.log ≡ false = give_old m.number ∙ (λ i. ea i || eb i) in
           ap (λ (c : Bool). cond c (behind h (new_part it).log) []) fresh ∙ sym (ap (λ (c : Bool). cond c (behind h it.move.p.log) []) old)
 
+  -- where nothing goes and nothing is replayed at a hash, what went on elsewhere stays
   pub onward_quiet : (h : ℕ) → on h (gone it) ≡ [] → on h (again it) ≡ [] → (log : List Entry) → onward it.line.moving (parts_now it) log h ≡ onward it.line.moving it.line.parts log h
   onward_quiet h none_gone none_again log = go it.line.moving refl
     where
@@ -91,11 +97,13 @@ module _ (it : Adopting) where
               ] in
               ap (λ (xs : List Asked). cond (list_any (is_take m.number) log) xs []) same
 
+  -- and so does the order
   pub quiet_line : (h : ℕ) → on h (gone it) ≡ [] → on h (again it) ≡ [] → on h (order_now it) ≡ on h (order_was it)
   quiet_line h none_gone none_again = after_line it h (on h (order_was it)) (sym (ap (λ w. on h (order_was it) ++ w) none_gone ∙ append-nil (on h (order_was it)))) ∙ ap (λ w. on h (order_was it) ++ w) none_again ∙ append-nil (on h (order_was it))
 
   -- ---- at its own partition
 
+  -- no give goes of a hash that the partition holds afterwards
   pub own_no_give : (h : ℕ) → holds it.line.moving (new_part it) h ≡ true → NoGive h it.move.goes
   own_no_give h held = elim (or_cases (owns (new_part it) h) (has_take it.line.moving h (new_part it).log) held) [
     | inl own ↦ no_give it h (sym (owns_new it h) ∙ own)
@@ -114,6 +122,7 @@ module _ (it : Adopting) where
           let given : list_any (is_give m.0.number) it.move.p.log ≡ true = give_old m.0.number ∙ or_right (list_any (is_give m.0.number) it.move.stays) _ (it.ground.give_moving h m.0 m.1 y).1 in
           it.owned.apart m.0 m.1 (sym (it.owned.source it.move.part it.move.p m.0 m.1 it.fits.here taken) ∙ it.owned.target it.move.part it.move.p m.0 m.1 it.fits.here given)
 
+  -- a take that stays stood in the whole log
   pub take_longer : (h : ℕ) → has_take it.line.moving h it.move.stays ≡ true → has_take it.line.moving h it.move.p.log ≡ true
   take_longer h t = go it.line.moving t
     where
@@ -123,6 +132,7 @@ module _ (it : Adopting) where
           let c = and_parts (is_in m.range.lo m.range.hi h) (list_any (is_take m.number) it.move.stays) t in
           and_from _ _ c.0 (ap (list_any (is_take m.number)) it.fits.is ∙ list_any-append (is_take m.number) it.move.stays it.move.goes ∙ or_left _ _ c.1)
 
+  -- what it holds afterwards it held
   pub own_held : (h : ℕ) → holds it.line.moving (new_part it) h ≡ true → holds it.line.moving it.move.p h ≡ true
   own_held h held = elim (or_cases (owns (new_part it) h) (has_take it.line.moving h (new_part it).log) held) [
     | inl own ↦ it.ground.held_before h (sym (owns_new it h) ∙ own) (own_no_give h held)
@@ -136,6 +146,7 @@ module _ (it : Adopting) where
       let same : n ≡ m = cc in
       ap (λ (b : Bool). cond b (given_on h n.number (numbered parts n.target)) []) t ∙ ap (λ (x : Migration). given_on h x.number (numbered parts x.target)) same
 
+  -- the order at a hash that the partition holds
   pub own_alike : (h : ℕ) (here : HashOk it.line.moving it.line.parts (order_was it) it.move.p h) → NoGive h it.move.goes → on h (order_now it) ≡ here.past ++ (behind h (new_part it).log ++ onward it.line.moving (parts_now it) (new_part it).log h)
   own_alike h here none = elim (cases_Bool (has_take it.line.moving h it.move.stays)) [
     | inr n ↦
@@ -153,6 +164,7 @@ module _ (it : Adopting) where
         quiet_line h none_gone none_again ∙ here.alike ∙ (λ i. here.past ++ (sym alike i ++ sym more i))
   ]
 
+  -- what came before the last give is known, as before
   pub own_known : (h : ℕ) (here : HashOk it.line.moving it.line.parts (order_was it) it.move.p h) → NoGive h it.move.goes → (x : Asked) → In x here.past → (front back : List Entry) → front ++ back ≡ (new_part it).log → NoGive h back → NotNew it.move.p.lo it.move.p.hi front x.0
   own_known h here none x m front back is free = elim (split_append front back it.move.stays (ops (replayed it)) is) [
     | inl mid ↦
@@ -162,10 +174,12 @@ module _ (it : Adopting) where
     | inr mid ↦ subst (λ (es : List Entry). NotNew it.move.p.lo it.move.p.hi es x.0) (sym mid.1) (stays_known it.move.p.lo it.move.p.hi it.move.stays mid.0 x.0 (here.known x m it.move.stays it.move.goes (sym it.fits.is) none))
   ]
 
+  -- what came with the last give stays
   pub came_same : (h : ℕ) (key : List ℕ) → NoGive h it.move.goes → came h key (new_part it).log ≡ came h key it.move.p.log
   came_same h key none =
       came_append h key None it.move.stays (ops (replayed it)) ∙ came_stays h key (came h key it.move.stays) (ops (replayed it)) (no_new_give h) ∙ sym (ap (came h key) it.fits.is ∙ came_append h key None it.move.stays it.move.goes ∙ came_stays h key (came h key it.move.stays) it.move.goes none)
 
+  -- the equation at its own partition
   pub own_hash : (h : ℕ) → holds it.line.moving (new_part it) h ≡ true → HashOk it.line.moving (parts_now it) (order_now it) (new_part it) h
   own_hash h held =
       let none = own_no_give h held in
@@ -226,6 +240,7 @@ module _ (it : Adopting) where
                 after_line it h (here.past ++ behind h q.log) was ∙ append_assoc here.past (behind h q.log) (on h (again it)) ∙ ap (λ w. here.past ++ (behind h q.log ++ w)) (none_again ∙ sym last)
           ]
 
+  -- the order at a hash that another partition holds
   pub other_alike : (k : ℕ) (q : Part) → k ≢ it.move.part → numbered it.line.parts k ≡ Some q → (h : ℕ) → holds it.line.moving q h ≡ true → (here : HashOk it.line.moving it.line.parts (order_was it) q h)
       → on h (order_now it) ≡ here.past ++ (behind h q.log ++ onward it.line.moving (parts_now it) q.log h)
   other_alike k q ne hk h held here = elim (some_or_none (on h (gone it))) [
@@ -238,6 +253,7 @@ module _ (it : Adopting) where
     ]
   ]
 
+  -- the equation at each hash of each partition
   pub adopt_hashes : HashesOk it.line.moving (parts_now it) (order_now it)
   adopt_hashes k q hk h held = elim (numbered_set_cases it.line.parts it.move.part it.move.p (new_part it) it.fits.here k q hk) [
     | inl old ↦

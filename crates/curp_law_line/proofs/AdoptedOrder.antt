@@ -42,31 +42,39 @@ use Rattle.curp_law_line.proofs.Takes.{onward_ungiven}
 module _ (it : Adopting) where
   -- ---- what goes
 
+  -- what goes stood behind what stays
   pub at_goes : (k : ℕ) (e : Entry) → At it.move.goes k e → At it.move.p.log (length it.move.stays + k) e
   at_goes k e h = subst (λ (l : List Entry). At l (length it.move.stays + k) e) (sym it.fits.is) (at_append_right it.move.stays it.move.goes k _ e refl h)
 
+  -- what stays stood at its place
   pub at_stays : (k : ℕ) (e : Entry) → At it.move.stays k e → At it.move.p.log k e
   at_stays k e h = subst (λ (l : List Entry). At l k e) (sym it.fits.is) (at_append it.move.stays it.move.goes k e h)
 
+  -- no request stood twice in the order
   pub was_distinct : Distinct (order_was it)
   was_distinct = distinct_from (order_was it) it.facts.distinct
 
+  -- nor does one go twice
   pub gone_distinct : Distinct (gone it)
   gone_distinct = distinct_asked_of it.move.goes (λ i j r t a b hi hj same.
       let e = (it.facts.once it.move.part it.move.part it.move.p it.move.p (length it.move.stays + i) (length it.move.stays + j) r t a b it.fits.here it.fits.here (at_goes i _ hi) (at_goes j _ hj) same).1 in omega arith)
 
+  -- what goes stood in the order
   pub gone_stood : (x : Asked) → In x (gone it) → In x (order_was it)
   gone_stood x m =
       let w = asked_of_in it.move.goes x m in
       let a = it.facts.answered it.move.part it.move.p (length it.move.stays + w.0) w.1 w.2 it.fits.here (at_goes w.0 _ w.3) in
       subst (λ (y : Asked). In y (order_was it)) w.4 (a.place, a.stands)
 
+  -- what goes passes the test of it
   pub test_gone : (x : Asked) → In x (gone it) → is_gone it x ≡ true
   test_gone x m = in_any (λ (y : Asked). same_id y.0 x.0) (gone it) x m (same_id-alike x.0 x.0 refl)
 
+  -- an id has one command in the order
   pub one_of_id : (x y : Asked) → In x (order_was it) → In y (order_was it) → x.0 ≡ y.0 → x ≡ y
   one_of_id x y mx my same = at_same (order_was it) my.0 x y (subst (λ (j : ℕ). At (order_was it) j x) (it.facts.distinct mx.0 my.0 x y mx.1 my.1 same) mx.1) my.1
 
+  -- what of the order passes the test goes
   pub gone_by_test : (x : Asked) → In x (order_was it) → is_gone it x ≡ true → In x (gone it)
   gone_by_test x m t =
       let w = any_at (λ (y : Asked). same_id y.0 x.0) (gone it) t in
@@ -76,18 +84,23 @@ module _ (it : Adopting) where
 
   -- ---- what is replayed
 
+  -- a replayed request was held, and is replayed over what stays
   pub replayed_held : (j : ℕ) (q : Request) → At (replayed it) j q → (i : ℕ) × At it.move.held i q × (replays (meaning it.move.p.lo it.move.p.hi it.move.stays) q ≡ true)
   replayed_held j q h = filter_at (replays (meaning it.move.p.lo it.move.p.hi it.move.stays)) it.move.held j q h
 
+  -- it is new to what stays
   pub replayed_new : (j : ℕ) (q : Request) → At (replayed it) j q → check (meaning it.move.p.lo it.move.p.hi it.move.stays).table q.id ≡ New
   replayed_new j q h = new_by_test _ (and_parts _ _ (replayed_held j q h).2).1
 
+  -- no two of them clash
   pub replayed_apart : IsDistinct clash (replayed it)
   replayed_apart = filter_apart (replays (meaning it.move.p.lo it.move.p.hi it.move.stays)) clash it.move.held it.fits.apart
 
+  -- none is replayed twice
   pub again_distinct : Distinct (again it)
   again_distinct = distinct_asked_all (replayed it) replayed_apart
 
+  -- at one hash one is replayed at most
   pub again_once : (h : ℕ) (x y : Asked) → In x (on h (again it)) → In y (on h (again it)) → x ≡ y
   again_once h x y mx my =
       let fx = from_filter (λ (z : Asked). touches z.1 h) (again it) x mx in
@@ -107,12 +120,14 @@ module _ (it : Adopting) where
 
   -- ---- what is done
 
+  -- a request with a flagged mark has completed
   pub done_completed : (id : RequestId) → done it id ≡ true → IsCompleted it.line.history id
   done_completed id d =
       let w = any_at (λ (m : Mark). m.completed && same_id m.id id) it.line.marks d in
       let c = and_parts w.1.completed (same_id w.1.id id) w.3 in
       subst (IsCompleted it.line.history) (same_id-true w.1.id id c.1) (it.facts.flags w.0 w.1 w.2 c.0)
 
+  -- a completed one of the order has a flagged mark
   pub completed_done : (x : Asked) → In x (order_was it) → IsCompleted it.line.history x.0 → done it x.0 ≡ true
   completed_done x m c =
       let u = update_mark it.line.marks m.0 x m.1 in
@@ -133,6 +148,7 @@ module _ (it : Adopting) where
 
   -- ---- where the take stands
 
+  -- a take that is out stays, or goes and then no log has its give
   pub take_where : (h : ℕ) → has_take it.line.moving h it.move.p.log ≡ true → (has_take it.line.moving h it.move.stays ≡ true) ⊎ ((m : Migration) × (it.line.moving ≡ Some m) × Ungiven it.line.parts m.number)
   take_where h t =
       let m = has_moving it.line.moving h it.move.p.log t in
@@ -146,6 +162,7 @@ module _ (it : Adopting) where
         | inr y ↦ let w = any_at (is_take m.0.number) it.move.goes y in inr (m.0, m.1, take_ungiven it.line m.0.number w.1 w.3 (it.fits.moving w.0 w.1 w.2))
       ]
 
+  -- where no take of the hash stays, nothing went on elsewhere
   pub no_onward_unless : (h : ℕ) → (has_take it.line.moving h it.move.stays ≡ true → ⊥) → onward it.line.moving it.line.parts it.move.p.log h ≡ []
   no_onward_unless h none = elim (cases_Bool (has_take it.line.moving h it.move.p.log)) [
     | inr n ↦ no_onward it.line.moving it.line.parts it.move.p.log h n
@@ -155,6 +172,7 @@ module _ (it : Adopting) where
     ]
   ]
 
+  -- the take is out afterwards where it stays
   pub take_new : (h : ℕ) → has_take it.line.moving h (new_part it).log ≡ has_take it.line.moving h it.move.stays
   take_new h = go it.line.moving
     where
@@ -163,9 +181,11 @@ module _ (it : Adopting) where
       go (Some m) =
           ap (λ (b : Bool). is_in m.range.lo m.range.hi h && b) (list_any-append (is_take m.number) it.move.stays (ops (replayed it)) ∙ ap (λ (b : Bool). list_any (is_take m.number) it.move.stays || b) (ops_any (is_take m.number) (λ r. refl) (replayed it)) ∙ or_false (list_any (is_take m.number) it.move.stays))
 
+  -- what is replayed changes nothing of what is owned
   pub owns_new : (h : ℕ) → owns (new_part it) h ≡ owns (cut_part it.move) h
   owns_new h = ap (λ (spans : List Span). is_owned spans h) (owned_ops it.move.p.lo it.move.p.hi it.move.stays (replayed it))
 
+  -- the partition has its new log
   pub own_after : numbered (parts_now it) it.move.part ≡ Some (new_part it)
   own_after = numbered_set_same it.line.parts it.move.part it.move.p (new_part it) it.fits.here
 
@@ -175,9 +195,11 @@ module _ (it : Adopting) where
 
   -- ---- the line where no give goes
 
+  -- what stands behind the last give: what stays of it, and what goes
   pub line_is : (h : ℕ) → NoGive h it.move.goes → behind h it.move.p.log ≡ behind h it.move.stays ++ on h (gone it)
   line_is h none = ap (behind h) it.fits.is ∙ behind_append h [] it.move.stays it.move.goes ∙ behind_asked h (behind h it.move.stays) it.move.goes none
 
+  -- the equation before the adoption
   pub at_hash : (h : ℕ) → holds it.line.moving it.move.p h ≡ true → HashOk it.line.moving it.line.parts (order_was it) it.move.p h
   at_hash h held = it.facts.hashes it.move.part it.move.p it.fits.here h held
 
@@ -223,15 +245,18 @@ module _ (it : Adopting) where
 
   -- ---- the order before the cut and behind it, at each hash
 
+  -- no request stood twice at a hash
   pub was_distinct_on : (h : ℕ) → Distinct (on h (order_was it))
   was_distinct_on h = distinct_filter _ (order_was it) was_distinct
 
+  -- what is replayed at a hash is owned at the cut
   pub replayed_on : (h : ℕ) (x : Asked) → In x (on h (again it)) → owns (cut_part it.move) h ≡ true
   replayed_on h x m =
       let f = from_filter (λ (z : Asked). touches z.1 h) (again it) x m in
       let w = asked_all_in (replayed it) x f.0 in
       it.ground.owned w.0 h w.1 w.2 (ap (λ (z : Asked). touches z.1 h) w.3 ∙ f.1)
 
+  -- what goes at a hash is of one that the partition holds, and whose take doesn't stay
   pub gone_on : (h : ℕ) (x : Asked) → In x (on h (gone it)) → (holds it.line.moving it.move.p h ≡ true) × (has_take it.line.moving h it.move.stays ≡ true → ⊥)
   gone_on h x m =
       let f = from_filter (λ (z : Asked). touches z.1 h) (gone it) x m in
@@ -244,6 +269,7 @@ module _ (it : Adopting) where
   cut_line h here none free =
       here.alike ∙ (λ i. here.past ++ (line_is h none i ++ no_onward_unless h free i)) ∙ ap (λ w. here.past ++ w) (append-nil (behind h it.move.stays ++ on h (gone it))) ∙ sym (append_assoc here.past (behind h it.move.stays) (on h (gone it)))
 
+  -- the order at each hash ends with what goes
   pub cut_at : (h : ℕ) → Fronts h (order_was it) (gone it)
   cut_at h = elim (some_or_none (on h (gone it))) [
     | inl none ↦ record { front = on h (order_was it); is = sym (ap (λ w. on h (order_was it) ++ w) none ∙ append-nil (on h (order_was it))) }
@@ -259,6 +285,7 @@ module _ (it : Adopting) where
         ]
   ]
 
+  -- and afterwards what is replayed stands in the place of it
   pub after_line : (h : ℕ) (X : List Asked) → on h (order_was it) ≡ X ++ on h (gone it) → on h (order_now it) ≡ X ++ on h (again it)
   after_line h X is =
       on_append h (filter (keeps_on it) (order_was it)) (filter (not_done it) (again it)) ∙ (λ i. kept_part i ++ filter_swap (λ (z : Asked). touches z.1 h) (not_done it) (again it) i) ∙ append_assoc X (filter (is_done it) (on h (gone it))) (filter (not_done it) (on h (again it)))

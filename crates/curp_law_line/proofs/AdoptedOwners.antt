@@ -173,6 +173,7 @@ module _ (s : Line) (ok : Owned s.moving s.parts) (o : Adopt) (fits : AdoptFits 
               (λ i. is_in (only.3 i) (only.4 i) h) ∙ ap (λ (x : Migration). is_in x.range.lo x.range.hi h) same ∙ inside
           at_entry (Expire c) t only = absurd cc
 
+  -- an adoption keeps who owns what
   pub adopt_owned : Owned s.moving after
   adopt_owned = record {
     one = λ n k x y h hn hk a b. elim (numbered_set_cases s.parts o.part p new fits.here n x hn) [
@@ -215,6 +216,7 @@ module _ (second : (s : Contents) (a b : Command) → conflicts a b ≡ false �
   answers_alone [] c q apart = refl
   answers_alone (r ∷ front) c q apart = answers_alone front (applied c r.command).after q apart.1 ∙ second c r.command q.command apart.0
 
+  -- what is replayed is answered as it would be alone
   pub replayed_alone : (lo hi : ℕ) (log : List Entry) (rs : List Request) (j : ℕ) (q : Request) → IsDistinct clash rs → At rs j q → answer_after lo hi (take (length log + j) (log ++ ops rs)) q.command ≡ answer_after lo hi log q.command
   replayed_alone lo hi log rs j q d h =
       ap (λ (es : List Entry). answer_after lo hi es q.command) (take_ops log rs j (length log + j) refl)

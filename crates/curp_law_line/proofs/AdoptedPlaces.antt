@@ -27,20 +27,25 @@ use Rattle.curp_law_line.proofs.Requests.{asked_of_in, in_asked_of}
 module _ (it : Adopting) where
   -- ---- the marks
 
+  -- the marks that stay
   abbrev pub kept_marks : List Mark
   kept_marks = filter (stays it.move.part (length it.move.stays)) it.line.marks
 
+  -- those of what is replayed
   abbrev pub fresh_marks : List Mark
   fresh_marks = new_marks (done it) it.move.node it.move.part it.move.epoch (length it.move.stays) (replayed it)
 
+  -- the marks afterwards
   abbrev pub marks_now : List Mark
   marks_now = kept_marks ++ fresh_marks
 
+  -- two tests of which each follows from the other are one
   pub bool_same : (a b : Bool) → (a ≡ true → b ≡ true) → (b ≡ true → a ≡ true) → a ≡ b
   bool_same true b f g = sym (f refl)
   bool_same false true f g = g refl
   bool_same false false f g = refl
 
+  -- an entry of the log stays or goes
   pub at_log : (i : ℕ) (e : Entry) → At it.move.p.log i e → At it.move.stays i e ⊎ ((j : ℕ) × (i ≡ length it.move.stays + j) × At it.move.goes j e)
   at_log i e h = at_append_cases it.move.stays it.move.goes i e (subst (λ (l : List Entry). At l i e) it.fits.is h)
 
@@ -54,12 +59,14 @@ module _ (it : Adopting) where
   pub op_is_gone : (m : Mark) (j : ℕ) (r : Request) (a : ℕ) → At it.move.goes j (Op r a) → r.id ≡ m.id → is_gone it (asked m) ≡ true
   op_is_gone m j r a h same = in_any (λ (y : Asked). same_id y.0 m.id) (gone it) (r.id, r.command) (in_asked_of it.move.goes j r a h) (same_id-alike r.id m.id same)
 
+  -- a mark that isn't flagged is of a request that has no flagged mark
   pub done_false : (k i : ℕ) (m : Mark) → At it.line.marks k m → m.place ≡ Executed i → m.completed ≡ false → done it m.id ≡ false
   done_false k i m h at_i f = elim (cases_Bool (done it m.id)) [
     | inl y ↦ absurd (it.facts.unflagged k i m h at_i f (done_completed it m.id y))
     | inr n ↦ n
   ]
 
+  -- an unflagged mark goes where its op goes
   pub dropped_is : (k i : ℕ) (m : Mark) → At it.line.marks k m → m.place ≡ Executed i → m.completed ≡ false → (((m.part == it.move.part) && true) && nat_le (length it.move.stays) i) ≡ is_gone it (asked m)
   dropped_is k i m h at_i f =
       let w = it.facts.waiting k i m h at_i f in
@@ -83,6 +90,7 @@ module _ (it : Adopting) where
           let low : length it.move.stays ≤ i = omega (arith, one.1) in
           and_from _ _ (and_from _ _ (eq-eqb m.part it.move.part one.0) refl) (grind (arith, nat_tests))
 
+  -- an update's mark stays where its request stays in the order
   pub agree : (m : Mark) → In m it.line.marks → is_update_mark m.place ≡ true → stays it.move.part (length it.move.stays) m ≡ keeps_on it (asked m)
   agree m n u =
       let i = update_place m.place u in
@@ -97,5 +105,6 @@ module _ (it : Adopting) where
             e ∙ ap not (dropped_is n.0 i.0 m n.1 i.1 f) ∙ ap (λ (b : Bool). b || not (is_gone it (asked m))) (sym d)
       ]
 
+  -- so the marks afterwards show the order afterwards
   pub order_is : updates marks_now ≡ order_now it
   order_is = updates_append kept_marks fresh_marks ∙ (λ i. filter_updates (stays it.move.part (length it.move.stays)) (keeps_on it) it.line.marks agree i ++ new_updates (done it) it.move.node it.move.part it.move.epoch (length it.move.stays) (replayed it) i)

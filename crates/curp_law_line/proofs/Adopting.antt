@@ -98,6 +98,7 @@ module _ (it : Adopting) where
   abbrev pub is_done : Asked → Bool
   is_done x = done x.0
 
+  -- and this the other way
   abbrev pub not_done : Asked → Bool
   not_done x = not (done x.0)
 

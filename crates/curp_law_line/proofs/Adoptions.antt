@@ -180,6 +180,7 @@ module _ (it : Adopting) where
       let u = filter_order (stays it.move.part (length it.move.stays)) it.line.marks k j y m b w lt in
       it.facts.in_time u.1 u.0 e m y a u.3 f hc u.4 u.2
 
+  -- an adoption keeps the facts
   pub adopt_keeps : OrderOk (adopting it.line it.move)
   adopt_keeps =
       subst (λ (marks : List Mark). OrderOk (record it.line { parts = parts_now it; marks = marks })) (sym (adopted_is it.move.node it.move.part it.move.epoch (length it.move.stays) (replayed it) it.line.marks)) (record {

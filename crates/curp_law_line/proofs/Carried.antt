@@ -29,6 +29,7 @@ packed_value s lo hi ordered key inside =
     find-where_key (slice_cmp nat_cmp) (λ (k : List ℕ). is_in lo hi (hash_of k)) key (λ x e. ap (λ (k : List ℕ). is_in lo hi (hash_of k)) (sym (slice_cmp-IsAntisymmetric nat_cmp-IsAntisymmetric key x e))) (store.entries s.store)
     ∙ ap (λ (b : Bool). cond b (find (slice_cmp nat_cmp) key (store.entries s.store)) None) inside ∙ sym (store.get-entries s.store key)
 
+-- no entry touches the hash
 abbrev pub Quiet : ℕ → List Entry → Type 0
 Quiet h es = list_any (λ (e : Entry). entry_touches e h) es ≡ false
 
@@ -44,6 +45,7 @@ quiet_behind h kept (Give n k ∷ es) q =
     ap (λ (b : Bool). behind_from h (if b then [] else kept) es) c.0 ∙ quiet_behind h kept es c.1
 quiet_behind h kept (Expire client ∷ es) q = quiet_behind h kept es q
 
+-- what doesn't touch a hash gives nothing on it
 pub quiet_gives : (h : ℕ) (es : List Entry) → Quiet h es → NoGive h es
 quiet_gives h [] q = refl
 quiet_gives h (Op r a ∷ es) q = quiet_gives h es (or_parts (touches r.command h) _ q).1
@@ -52,6 +54,7 @@ quiet_gives h (Give n k ∷ es) q = let c = or_parts (is_in k.lo k.hi h) _ q in 
 quiet_gives h (Expire client ∷ es) q = quiet_gives h es q
 
 module _ (s : Line) (ok : OrderOk s) (m : Migration) (in_work : s.moving ≡ Some m) (carried : Package) (way : IsCarried s.parts m carried) (h : ℕ) (inside : is_in m.range.lo m.range.hi h ≡ true) where
+  -- the source holds the hash: its take is out
   pub source_holds : holds s.moving way.source h ≡ true
   source_holds =
       let stands : In (Take m.number carried) way.source.log = subst (In (Take m.number carried)) (sym way.taken) (in_right way.before (Take m.number carried ∷ way.after) _ (in_head _ way.after)) in
@@ -59,6 +62,7 @@ module _ (s : Line) (ok : OrderOk s) (m : Migration) (in_work : s.moving ≡ Som
       let out : has_take (Some m) h way.source.log ≡ true = rw (inside, taken) refl in
       or_right (owns way.source h) _ (subst (λ (moving : Option Migration). has_take moving h way.source.log ≡ true) (sym in_work) out)
 
+  -- the equation at the source
   abbrev pub at_source : HashOk s.moving s.parts (updates s.marks) way.source h
   at_source = ok.hashes m.source way.source way.its_source h source_holds
 

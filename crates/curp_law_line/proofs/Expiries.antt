@@ -61,6 +61,7 @@ module _ (s : Line) (ok : OrderOk s) (o : PushExpire) (fits : PushExpireFits s o
     | inr new ↦ subst (λ (y : Part). HashOk s.moving after (updates s.marks) y h) new.1 (expire_own h (subst (λ (y : Part). holds s.moving y h ≡ true) (sym new.1) held))
   ]
 
+  -- an expiry keeps the facts
   pub expire_keeps : OrderOk (expire_pushed s o)
   expire_keeps = record {
     history = ok.history;
@@ -125,6 +126,7 @@ module _ (s : Line) (ok : OrderOk s) (o : Look) (fits : LookFits s o) where
     | inr last ↦ absurd (omega (arith, last.0, at_within s.marks j m (old_flagged j m hj f)))
   ]
 
+  -- a look keeps the facts
   pub look_keeps : OrderOk (looking s o)
   look_keeps = record {
     history = ok.history;

@@ -153,6 +153,7 @@ module _ (pure : Pure) (s : Line) (ok : OrderOk s) (o : PushGive) (fits : PushGi
       own : holds (Some o.m) longer h ≡ true → HashOk (Some o.m) after os longer h
       own held = elim (cases_Bool (is_in o.m.range.lo o.m.range.hi h)) [ inl y ↦ inside_ok h y | inr n ↦ outside_ok h n held ]
 
+  -- a give keeps the facts
   pub give_keeps : OrderOk (give_pushed s o)
   give_keeps = record {
     history = ok.history;

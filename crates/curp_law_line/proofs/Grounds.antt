@@ -223,6 +223,7 @@ module _ (s : Line) (below : Owned s.moving s.parts) (o : Adopt) (fits : AdoptFi
       let w = filter_at (replays (meaning p.lo p.hi P)) o.held j q at in
       owns_touched (meaning p.lo p.hi P).owned q.command h (and_parts _ _ w.2).0 t
 
+  -- what an adoption asks of the logs
   pub adopt_ground : LogValue (cut_part o) → ((j : ℕ) (q : Request) → At (replayed_of o) j q
       → answer_after o.p.lo o.p.hi (take (length o.stays + j) (o.stays ++ ops (replayed_of o))) q.command ≡ answer_after o.p.lo o.p.hi o.stays q.command) → AdoptGround s o
   adopt_ground its_value alone = record {

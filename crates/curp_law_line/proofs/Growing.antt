@@ -88,6 +88,7 @@ flags_adopted s o =
     subst (λ (l : List Mark). StandsIn (flags s.marks) (flags l)) (sym (adopted_is o.node o.part o.epoch (length o.stays) (replayed_of o) s.marks))
     (subst (λ (l : List Asked). StandsIn l (flags (kept ++ new_marks (has_completed s.marks) o.node o.part o.epoch (length o.stays) (replayed_of o)))) same (flags_more kept _))
 
+-- each move keeps the flagged marks in their order
 pub flags_grow : (s : Line) (m : Move) → StandsIn (flags s.marks) (flags (after s m).marks)
 flags_grow s (OpPush o) = flags_more s.marks _
 flags_grow s (TakePush o) = stands_self (flags s.marks)

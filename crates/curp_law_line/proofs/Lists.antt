@@ -100,6 +100,7 @@ take_split (y ∷ xs) (suc k) x h = ap (λ l. y ∷ l) (take_split xs k x h)
 
 -- ---- lists in which each id stands once
 
+-- no id stands twice
 abbrev pub Distinct : List Asked → Type 0
 Distinct [] = Unit {0}
 Distinct (x ∷ xs) = Each (λ y. x.0 ≡ y.0 → ⊥) xs × Distinct xs

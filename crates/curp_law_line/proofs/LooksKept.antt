@@ -105,6 +105,7 @@ looks_tell parts told number marks ok j k i n long h m u hm am hk lt au f tm tu 
       )
 ]
 
+-- the marks that stay
 abbrev pub filter_stays : Line → Adopt → List Mark
 filter_stays s o = filter (stays o.part (length o.stays)) s.marks
 

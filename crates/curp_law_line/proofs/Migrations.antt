@@ -53,6 +53,7 @@ module _ (s : Line) (ok : OrderOk s) (m : Migration) (fits : MigrateFits s m) wh
         known = was.known;
       }
 
+  -- the beginning of a migration keeps the facts
   pub migrate_keeps : OrderOk (migrating s m)
   migrate_keeps = rehashed s ok (Some m) migrate_hashes
 
@@ -64,5 +65,6 @@ module _ (s : Line) (ok : OrderOk s) (below : Owned s.moving s.parts) where
       let none : has_take s.moving h p.log ≡ false = elim (cases_Bool (has_take s.moving h p.log)) [ inl t ↦ absurd (below.gone n p h here own t) | inr f ↦ f ] in
       record { past = was.past; alike = was.alike ∙ ap (λ w. was.past ++ (behind h p.log ++ w)) (no_onward s.moving s.parts p.log h none); values = was.values; known = was.known }
 
+  -- its end keeps the facts
   pub given_keeps : OrderOk (given_done s)
   given_keeps = rehashed s ok None given_hashes

@@ -314,6 +314,7 @@ module _ (pure : Pure) (s : Line) (ok : OrderOk s) (below : Owned s.moving s.par
 
   -- ---- all
 
+  -- an op keeps the facts
   pub op_keeps : OrderOk (op_pushed s o)
   op_keeps = record {
     history = ok.history;

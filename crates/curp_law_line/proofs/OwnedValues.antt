@@ -15,9 +15,11 @@ use Rattle.curp_law_line.proofs.Given.{LogValue, Pure}
 use Rattle.curp_law_line.proofs.Hashes.{key_touches, no_onward}
 
 module _ (s : Line) (ok : OrderOk s) (below : Owned s.moving s.parts) (part : ℕ) (p : Part) (here : numbered s.parts part ≡ Some p) where
+  -- the owner's take isn't out
   pub no_take : (h : ℕ) → owns p h ≡ true → has_take s.moving h p.log ≡ false
   no_take h own = elim (cases_Bool (has_take s.moving h p.log)) [ inl t ↦ absurd (below.gone part p h here own t) | inr f ↦ f ]
 
+  -- the equation at the owner
   abbrev pub at_own : (h : ℕ) → owns p h ≡ true → HashOk s.moving s.parts (updates s.marks) p h
   at_own h own = ok.hashes part p here h (or_left _ _ own)
 

@@ -30,6 +30,7 @@ pub record Was (moving : Option Migration) (parts : List Part) (k : ℕ) (q : Pa
   pub takes_same : (number : ℕ) → list_any (is_take number) q.log ≡ list_any (is_take number) old.log
   pub gives_same : (number : ℕ) → list_any (is_give number) q.log ≡ list_any (is_give number) old.log
 
+-- who owns what stays where nobody owns, takes or gives anything new
 pub owned_alike : (moving : Option Migration) (parts after : List Part) → ((k : ℕ) (q : Part) → numbered after k ≡ Some q → Was moving parts k q) → Owned moving parts → Owned moving after
 owned_alike moving parts after was ok = record {
   one = λ n k p q h hn hk a b. let v = was n p hn in let w = was k q hk in ok.one n k v.old w.old h v.here w.here (sym (v.owns_same h) ∙ a) (sym (w.owns_same h) ∙ b);
@@ -44,6 +45,7 @@ owned_alike moving parts after was ok = record {
   apart = ok.apart;
 }
 
+-- one more entry that neither takes nor gives
 pub push_was : (moving : Option Migration) (parts : List Part) (n : ℕ) (p : Part) (e : Entry) → numbered parts n ≡ Some p → ((h : ℕ) → owns (record p { log = p.log ++ e ∷ [] }) h ≡ owns p h)
     → ((number : ℕ) → is_take number e ≡ false) → ((number : ℕ) → is_give number e ≡ false) → (k : ℕ) (q : Part) → numbered (pushed parts n p e) k ≡ Some q → Was moving parts k q
 push_was moving parts n p e here same no_take no_give k q hk = elim (pushes.cases parts n p e here k q hk) [
@@ -127,6 +129,7 @@ module _ (s : Line) (ok : Owned (s.moving) s.parts) (o : PushTake) (fits : PushT
     | inr new ↦ subst (λ (y : Part). list_any (is_give o.m.number) y.log ≡ false) new.1 (any_push (is_give o.m.number) p.log e refl ∙ fits.ungiven o.part p fits.here)
   ]
 
+  -- a take keeps who owns what
   pub take_owned : Owned s.moving after
   take_owned = record {
     one = λ n k x y h hn hk a b. let v = own_before n x h hn a in let w = own_before k y h hk b in ok.one n k v.0 w.0 h v.1 w.1 v.2 w.2;
@@ -207,6 +210,7 @@ module _ (s : Line) (ok : Owned s.moving s.parts) (o : PushGive) (fits : PushGiv
     | inr new ↦ subst (λ (y : Part). list_any (is_give o.m.number) y.log ≡ true) new.1 (in_any (is_give o.m.number) (p2.log ++ e2 ∷ []) e2 (in_right p2.log (e2 ∷ []) e2 (in_head e2 [])) (eq-eqb o.m.number o.m.number refl))
   ]
 
+  -- a give keeps who owns what
   pub give_owned : Owned s.moving after2
   give_owned = record {
     one = λ n k x y h hn hk a b. elim (own_now n x h hn a) [
@@ -250,6 +254,7 @@ module _ (s : Line) (ok : Owned s.moving s.parts) (o : PushGive) (fits : PushGiv
 
 -- ---- a migration's beginning and end
 
+-- the end of a migration keeps it
 pub given_owned : (moving : Option Migration) (parts : List Part) → Owned moving parts → Owned None parts
 given_owned moving parts ok = record {
   one = ok.one;
@@ -260,6 +265,7 @@ given_owned moving parts ok = record {
   apart = λ m is same. absurd cc;
 }
 
+-- its beginning keeps it
 pub migrate_owned : (s : Line) (m : Migration) → Owned s.moving s.parts → MigrateFits s m → Owned (Some m) s.parts
 migrate_owned s m ok fits = record {
   one = ok.one;

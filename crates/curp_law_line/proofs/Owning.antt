@@ -27,6 +27,7 @@ owns_touched spans c h all t =
     let e : w.1 ≡ h = eqb-true w.1 h w.3 in
     ap (is_owned spans) (sym e) ∙ all_at (is_owned spans) (hashes_of c) w.0 w.1 (sym (all_ascending (is_owned spans) (hashes_of c)) ∙ all) w.2
 
+-- each entry of a log fits at its place
 pub fit_at : (es : List Entry) (s : LogState) (k i : ℕ) (e : Entry) → all_fit s k es ≡ true → At es i e → fits_at (after_entries s k (take i es)) e ≡ true
 fit_at [] s k i e fits h = absurd cc
 fit_at (x ∷ es) s k zero e fits h = let same : x ≡ e = cc in ap (fits_at s) (sym same) ∙ (and_parts (fits_at s x) _ fits).0

@@ -28,21 +28,27 @@ answered_grows os more x a o = record {
 }
 
 module _ (parts : List Part) (n : ℕ) (p : Part) (e : Entry) (here : numbered parts n ≡ Some p) where
+  -- the partition with one more entry
   abbrev pub longer : Part
   longer = record p { log = p.log ++ e ∷ [] }
 
+  -- the partitions with it
   abbrev pub after : List Part
   after = pushed parts n p e
 
+  -- what a number finds
   pub cases : (k : ℕ) (q : Part) → numbered after k ≡ Some q → ((k ≢ n) × (numbered parts k ≡ Some q)) ⊎ ((k ≡ n) × (longer ≡ q))
   cases k q h = numbered_set_cases parts n p longer here k q h
 
+  -- the partition itself
   pub own : numbered after n ≡ Some longer
   own = numbered_set_same parts n p longer here
 
+  -- another one
   pub other : (k : ℕ) (q : Part) → k ≢ n → numbered parts k ≡ Some q → numbered after k ≡ Some q
   other k q ne h = numbered_set_other parts n p longer here k q ne h
 
+  -- an op stays at its place
   pub op_stays : (k i : ℕ) (id : RequestId) (c : Command) → OpAt parts k i id c → OpAt after k i id c
   op_stays k i id c o = elim (cases_eq k n) [
     | inl same ↦
@@ -67,9 +73,11 @@ module _ (parts : List Part) (n : ℕ) (p : Part) (e : Entry) (here : numbered p
     }
   ]
 
+  -- the places that uncompleted marks give stay
   pub waiting_stays : (marks : List Mark) → WaitingOk parts marks → WaitingOk after marks
   waiting_stays marks ok k i m h at_i f = op_stays m.part i m.id m.command (ok k i m h at_i f)
 
+  -- each mark's op stays
   pub standing_stays : (marks : List Mark) → StandingOk parts marks → StandingOk after marks
   standing_stays marks ok k i m h at_i = let o = ok k i m h at_i in (o.0, op_stays m.part o.0 m.id m.command o.1)
 

@@ -22,6 +22,7 @@ module _ (pure : Pure) where
       let e : Executed (length o.stays + n.0) ≡ Looked number long = sym (ap (λ (y : Mark). y.place) n.3) ∙ look in
       cc))
 
+  -- each move keeps what is kept of reads
   pub reads_keep : (s : Line) (m : Move) → Fits s m → LogsOk s.parts → OrderOk s → Owned s.moving s.parts → OrderOk (after s m) → LooksKept s → LooksKept (after s m)
   reads_keep s (OpPush o) fits logs ok below now k = record {
     looks = looks_more _ s.told s.marks (executed o.node o.part o.epoch (length o.p.log) o.request.id o.request.command) (λ number long is. absurd cc)

@@ -21,6 +21,7 @@ read_only s (Append key more) e = absurd cc
 read_only s (CondPut key expected value) e = absurd cc
 read_only s (Multi pairs) e = absurd cc
 
+-- the store over all that is shown is that over the updates
 pub shown_store : (s : Contents) (marks : List Mark) → ((m : Mark) → In m marks → is_update m.command ≡ is_update_mark m.place) → store_after s (shown marks) ≡ store_after s (updates marks)
 shown_store s [] kind = refl
 shown_store s (m ∷ marks) kind = go m.completed (is_update_mark m.place) (kind m (in_head m marks)) (λ t. shown_store t marks (λ x n. kind x (in_tail x m marks n)))

@@ -47,6 +47,7 @@ above_in s hi h e = go (nat_lt hi s.1) e
         in_range s.0 s.1 h u b.1
     go false e = absurd cc
 
+-- what is left of spans was there
 pub without_owned : (spans : List Span) (lo hi h : ℕ) → is_owned (without spans lo hi) h ≡ true → is_owned spans h ≡ true
 without_owned [] lo hi h e = e
 without_owned (s ∷ spans) lo hi h e = elim (or_cases _ _ (sym (owned-append (part_below s lo ++ part_above s hi) (without spans lo hi) h) ∙ e)) [
@@ -54,12 +55,14 @@ without_owned (s ∷ spans) lo hi h e = elim (or_cases _ _ (sym (owned-append (p
   | inr later ↦ or_right (is_in s.0 s.1 h) _ (without_owned spans lo hi h later)
 ]
 
+-- what a take leaves
 pub owned_take : (lo hi : ℕ) (log : List Entry) (number : ℕ) (k : Package) → (meaning lo hi (log ++ Take number k ∷ [])).owned ≡ without (meaning lo hi log).owned k.lo k.hi
 unfolding after_entry
 owned_take lo hi log number k = ap (λ (s : LogState). s.owned) (meaning_append lo hi log (Take number k ∷ []))
 
 -- ---- nothing goes on where the give is nowhere
 
+-- where no log has the give, nothing went on elsewhere
 pub onward_ungiven : (m : Migration) (parts : List Part) (log : List Entry) (h : ℕ) → Ungiven parts m.number → onward (Some m) parts log h ≡ []
 onward_ungiven m parts log h none =
     cond_both (is_in m.range.lo m.range.hi h && list_any (is_take m.number) log) _ _ (λ (xs : List Asked). xs ≡ []) (λ y. at_target (numbered parts m.target) refl) (λ n. refl)
@@ -124,6 +127,7 @@ module _ (s : Line) (ok : OrderOk s) (o : PushTake) (fits : PushTakeFits s o) wh
             known = λ y m. known_push p.lo p.hi h p.log e y.0 (here.known y m);
           }
 
+  -- a take keeps the facts
   pub take_keeps : OrderOk (take_pushed s o)
   take_keeps = record {
     history = ok.history;

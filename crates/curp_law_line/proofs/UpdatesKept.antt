@@ -31,6 +31,7 @@ pub record UpdatesOk (s : Line) : Type 0 where
   pub owned : Owned s.moving s.parts
 
 module _ (pure : Pure) (second : Second) where
+  -- what a whole log has of its keys
   pub whole_value : (s : Line) → LogsOk s.parts → (n : ℕ) (p : Part) → numbered s.parts n ≡ Some p → LogValue p
   whole_value s logs n p here = logs.values n p here p.log [] (append-nil p.log)
 

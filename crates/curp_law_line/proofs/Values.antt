@@ -197,6 +197,7 @@ module _ (pure : Pure) (s : Line) (kinds : KindsOk s.marks) (looks : LooksOk s.p
 
 -- ---- a look's value through the other moves
 
+-- marks behind it leave a look its value
 pub look_more : (marks more : List Mark) (by : Capture) (part long : ℕ) (id : RequestId) (a : Answer) → LookGives marks by part long id a → LookGives (marks ++ more) by part long id a
 look_more marks more by part long id a w =
     let low : w.place < length marks = at_within marks w.place w.mark w.stands in
@@ -212,6 +213,7 @@ look_more marks more by part long id a w =
       gives = value_more marks more w.place w.mark.command (omega (arith, low)) ∙ w.gives;
     }
 
+-- and so do flags
 pub look_flagged : (c : Completed) (marks : List Mark) → KindsOk marks → KindsOk (flagged c marks) → (by : Capture) (part long : ℕ) (id : RequestId) (a : Answer) → LookGives marks by part long id a → LookGives (flagged c marks) by part long id a
 look_flagged c marks kinds kinds_now by part long id a w = elim (cases_Bool (is_flagged c c.by w.mark)) [
   | inl y ↦ made (record w.mark { completed = true }) (subst (λ (b : Bool). At (flagged c marks) w.place (cond b (record w.mark { completed = true }) w.mark)) y at) w.its_master w.its_epoch w.its_part w.its_id w.is_look refl
