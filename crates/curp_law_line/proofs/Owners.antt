@@ -1,11 +1,9 @@
 -- Who owns a hash, as the moves go on.
-use Rattle.std.proofs.Common.{◌≡◌, ℕ, ◌<◌, ◌≤◌, ◌+◌, ◌-◌, min, max, nat_lt, ◌||◌, inl, inr, ◌⊎◌, Bool, true, false, cond, List, [], ◌∷◌, ◌++◌, Option, Some, None, refl, ap, sym, ◌∙◌, subst, arith}
+use Rattle.std.proofs.Common.{◌≡◌, ℕ, inl, inr, ◌⊎◌, true, false, List, [], ◌∷◌, ◌++◌, Option, Some, None, refl, ap, sym, ◌∙◌, subst}
 use Rattle.std.specs.List.{list_any}
-use Rattle.std.proofs.lemmas.Bool.{and_from, and_parts, cases_Bool, eq-eqb, or_cases}
-use Rattle.std.proofs.lemmas.Bool.Decides.{nat_tests}
+use Rattle.std.proofs.lemmas.Bool.{and_from, and_parts, cases_Bool, eq-eqb}
 use Rattle.curp_base.specs.Words.{numbered}
-use Rattle.curp_range.specs.Spans.{Span, is_in, is_owned, part_above, part_below, without}
-use Rattle.curp_range.proofs.Ascending.{owned-append, range_bounds}
+use Rattle.curp_range.specs.Spans.{Span, is_in, is_owned, without}
 use Rattle.curp_range.proofs.Tests.{covers_if_covered}
 use Rattle.curp_cmd.specs.declared.entry.Entry.{Entry}
 use Rattle.curp_cmd.specs.declared.entry.Entry.TheVariants.{Give, Take}
@@ -16,8 +14,8 @@ use Rattle.curp_law_line.specs.Moves.{MigrateFits, PushGive, PushGiveFits, PushT
 use Rattle.curp_law_line.proofs.Hashes.{any_push, has_take_push}
 use Rattle.curp_law_line.proofs.Lists.{in_any, in_head, in_right, some_same}
 use Rattle.curp_law_line.proofs.Pushes as pushes
-use Rattle.curp_law_line.proofs.Spans.{owned_give}
-use Rattle.curp_law_line.proofs.Takes.{owned_take, without_owned}
+use Rattle.curp_law_line.proofs.Spans.{owned_give, without_out, without_owned}
+use Rattle.curp_law_line.proofs.Takes.{owned_take}
 
 -- ---- an entry that takes and gives nothing
 
@@ -61,33 +59,6 @@ push_was moving parts n p e here same no_take no_give k q hk = elim (pushes.case
 ]
 
 -- ---- the take
-
-without_out : (spans : List Span) (lo hi h : ℕ) → is_in lo hi h ≡ true → is_owned (without spans lo hi) h ≡ true → ⊥
-without_out [] lo hi h inside e = cc
-without_out (s ∷ spans) lo hi h inside e =
-    let b = range_bounds lo hi h inside in
-    elim (or_cases _ _ (sym (owned-append (part_below s lo ++ part_above s hi) (without spans lo hi) h) ∙ e)) [
-      | inr later ↦ without_out spans lo hi h inside later
-      | inl first ↦ elim (or_cases _ _ (sym (owned-append (part_below s lo) (part_above s hi) h) ∙ first)) [
-        | inl y ↦ under (nat_lt s.0 lo) refl y b.0
-        | inr y ↦ over (nat_lt hi s.1) y b.1
-      ]
-    ]
-  where
-    or_no : (b : Bool) → (b || false) ≡ true → b ≡ true
-    or_no true e = refl
-    or_no false e = e
-
-    under : (b : Bool) → nat_lt s.0 lo ≡ b → is_owned (cond b ((s.0, min s.1 (lo - 1)) ∷ []) []) h ≡ true → lo ≤ h → ⊥
-    under true t e low =
-        let r = range_bounds s.0 (min s.1 (lo - 1)) h (or_no _ e) in
-        let u : s.0 < lo = grind (arith, nat_tests) in
-        omega (arith, r.1)
-    under false t e low = cc
-
-    over : (b : Bool) → is_owned (cond b ((max s.0 (hi + 1), s.1) ∷ []) []) h ≡ true → h ≤ hi → ⊥
-    over true e high = let r = range_bounds (max s.0 (hi + 1)) s.1 h (or_no _ e) in omega (arith, r.0)
-    over false e high = cc
 
 module _ (s : Line) (ok : Owned (s.moving) s.parts) (o : PushTake) (fits : PushTakeFits s o) where
   abbrev p : Part
