@@ -8,9 +8,9 @@ use Rattle.curp_cmd.specs.RequestId.{same_id}
 use Rattle.curp_cmd.specs.declared.command.Request.{Request}
 use Rattle.curp_cmd.specs.declared.command.RequestId.{RequestId}
 use Rattle.curp_cmd.specs.declared.node.NodeId.{NodeId}
-use Rattle.curp_law_line.proofs.Lists.{in_head, in_tail, or_none}
-use Rattle.curp_law_logs.specs.Hashes.{Asked, In, asked, updates}
 use Rattle.curp_model.specs.Marks.{Mark, adopted, executed, has_completed, is_dropped, is_past, is_update_mark, replayed_marks}
+use Rattle.curp_law_logs.specs.Hashes.{Asked, In, asked, updates}
+use Rattle.curp_law_line.proofs.Lists.{in_head, in_tail, or_none}
 
 -- requests as those of the order
 abbrev pub asked_all : List Request → List Asked
@@ -27,6 +27,7 @@ completed_same : (marks : List Mark) (master : NodeId) (part epoch index : ℕ) 
 completed_same marks master part epoch index r id =
     list_any-append (λ (m : Mark). m.completed && same_id m.id id) marks (executed master part epoch index r.id r.command ∷ []) ∙ or_none (has_completed marks id)
 
+-- the marks of what is replayed come behind
 pub replayed_is : (master : NodeId) (part epoch index : ℕ) (rs : List Request) (marks : List Mark) → replayed_marks master part epoch index rs marks ≡ marks ++ new_marks (has_completed marks) master part epoch index rs
 replayed_is master part epoch index [] marks = sym (append-nil marks)
 replayed_is master part epoch index (r ∷ rs) marks =
@@ -42,6 +43,7 @@ replayed_is master part epoch index (r ∷ rs) marks =
     go true f g = f
     go false f g = g
 
+-- a filter that keeps what passes another test leaves whether any passes that
 pub any_filter : {A : Type 0} (p q : A → Bool) (xs : List A) → ((x : A) → p x ≡ true → q x ≡ true) → list_any p (filter q xs) ≡ list_any p xs
 any_filter p q [] f = refl
 any_filter {A} p q (x ∷ xs) f = go (q x) (p x) refl refl (any_filter p q xs f)
@@ -60,19 +62,23 @@ flagged_stays part cut m f = go (m.part == part) m.completed (is_past cut m.plac
     go false true b e = refl
     go a false b e = absurd cc
 
+-- the mark stays at an adoption
 abbrev pub stays : ℕ → ℕ → Mark → Bool
 stays part cut m = not (is_dropped part cut m)
 
+-- whether a request has a flagged mark stays
 pub completed_stay : (part cut : ℕ) (marks : List Mark) (id : RequestId) → has_completed (filter (stays part cut) marks) id ≡ has_completed marks id
 completed_stay part cut marks id =
     any_filter (λ (m : Mark). m.completed && same_id m.id id) (stays part cut) marks (λ m y. flagged_stays part cut m (and_parts m.completed (same_id m.id id) y).0)
 
+-- the marks after an adoption: those that stay, and behind them those of what is replayed
 pub adopted_is : (master : NodeId) (part epoch cut : ℕ) (rs : List Request) (marks : List Mark)
     → adopted master part epoch cut rs marks ≡ filter (stays part cut) marks ++ new_marks (has_completed marks) master part epoch cut rs
 adopted_is master part epoch cut rs marks =
     let same : has_completed (filter (stays part cut) marks) ≡ has_completed marks = λ i id. completed_stay part cut marks id i in
     replayed_is master part epoch cut rs (filter (stays part cut) marks) ∙ ap (λ (done : RequestId → Bool). filter (stays part cut) marks ++ new_marks done master part epoch cut rs) same
 
+-- what the new marks stand for
 pub new_updates : (done : RequestId → Bool) (master : NodeId) (part epoch index : ℕ) (rs : List Request) → updates (new_marks done master part epoch index rs) ≡ filter (λ (x : Asked). not (done x.0)) (asked_all rs)
 new_updates done master part epoch index [] = refl
 new_updates done master part epoch index (r ∷ rs) = go (done r.id) (new_updates done master part epoch (index + 1) rs)
@@ -83,6 +89,7 @@ new_updates done master part epoch index (r ∷ rs) = go (done r.id) (new_update
     go true ih = ih
     go false ih = ap (λ (l : List Asked). (r.id, r.command) ∷ l) ih
 
+-- each new mark is that of a replayed request, at its index
 pub new_mark_at : (done : RequestId → Bool) (master : NodeId) (part epoch index : ℕ) (rs : List Request) (k : ℕ) (m : Mark) → At (new_marks done master part epoch index rs) k m
     → (j : ℕ) × (r : Request) × At rs j r × (m ≡ executed master part epoch (index + j) r.id r.command) × (done r.id ≡ false)
 new_mark_at done master part epoch index [] k m h = absurd cc

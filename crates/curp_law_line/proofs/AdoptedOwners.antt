@@ -1,36 +1,33 @@
 -- Who owns a hash after an adoption; and what is replayed is answered as it would be alone.
-use Rattle.curp_law_line.proofs.Given.{TakesOnce}
-use Rattle.curp_law_line.proofs.Entries.{take_entry}
-use Rattle.curp_law_line.proofs.Lists.{or_false}
-use Rattle.curp_law_line.proofs.Lists.{some_same}
 use Rattle.std.proofs.Common.{◌≡◌, ◌≢◌, ℕ, ◌+◌, ◌||◌, inl, inr, ◌⊎◌, Bool, true, false, List, [], ◌∷◌, ◌++◌, take, length, Option, Some, refl, ap, sym, ◌∙◌, subst, arith}
 use Rattle.std.specs.List.{AllByRecursion, IsDistinct, list_any}
-use Rattle.std.proofs.lemmas.Bool.{cases_Bool, and_from, and_parts, eq-eqb, or_cases, or_left, or_right}
+use Rattle.std.proofs.lemmas.Bool.{and_from, and_parts, cases_Bool, eq-eqb, or_cases, or_left, or_right}
 use Rattle.std.proofs.lemmas.List.Folds.{list_any-append}
-use Rattle.curp_base.proofs.Lists.{at_append, at_append_right, at_within}
 use Rattle.curp_base.specs.Words.{At, numbered}
+use Rattle.curp_base.proofs.Lists.{at_append, at_append_right, at_within}
+use Rattle.curp_range.specs.Spans.{Span, is_in, is_owned}
 use Rattle.curp_cmd.specs.Hash.{conflicts}
 use Rattle.curp_cmd.specs.Store.{Contents, applied}
 use Rattle.curp_cmd.specs.declared.command.Command.{Command}
 use Rattle.curp_cmd.specs.declared.command.Request.{Request}
 use Rattle.curp_cmd.specs.declared.entry.Entry.{Entry}
 use Rattle.curp_cmd.specs.declared.entry.Entry.TheVariants.{Expire, Give, Op, Take}
-use Rattle.curp_law_line.proofs.Lines.{has_moving}
-use Rattle.curp_law_line.proofs.Lists.{in_any}
-use Rattle.curp_law_line.proofs.Numbered.{any_at, numbered_set_cases}
-use Rattle.curp_law_line.proofs.Requests.{ops_any, owned_ops}
-use Rattle.curp_law_line.proofs.Spans.{owned_after, takes}
-use Rattle.curp_law_line.specs.Hashes.{Part, has_take, is_give, is_take, owns}
-use Rattle.curp_law_line.specs.Line.{Line, Owned}
-use Rattle.curp_law_line.specs.Moves.{Adopt, AdoptFits, OnlyMoving, ops, relogged, replayed_of}
-use Rattle.curp_law_line.specs.Line.{Ungiven}
-use Rattle.curp_law_logs.specs.Hashes.{NoGive, gives}
-use Rattle.curp_model.proofs.Clashes.{front_apart}
-use Rattle.curp_model.proofs.Replays.{log_stored, stored, take_ops}
 use Rattle.curp_model.specs.Laws.{clash}
 use Rattle.curp_model.specs.Log.{answer_after, meaning}
 use Rattle.curp_model.specs.Manager.{Migration}
-use Rattle.curp_range.specs.Spans.{Span, is_in, is_owned}
+use Rattle.curp_model.proofs.Clashes.{front_apart}
+use Rattle.curp_model.proofs.Replays.{log_stored, stored, take_ops}
+use Rattle.curp_law_logs.specs.Hashes.{NoGive, gives}
+use Rattle.curp_law_line.specs.Hashes.{Part, has_take, is_give, is_take, owns}
+use Rattle.curp_law_line.specs.Line.{Line, Owned, Ungiven}
+use Rattle.curp_law_line.specs.Moves.{Adopt, AdoptFits, OnlyMoving, ops, relogged, replayed_of}
+use Rattle.curp_law_line.proofs.Entries.{take_entry}
+use Rattle.curp_law_line.proofs.Given.{TakesOnce}
+use Rattle.curp_law_line.proofs.Lines.{has_moving}
+use Rattle.curp_law_line.proofs.Lists.{in_any, or_false, some_same}
+use Rattle.curp_law_line.proofs.Numbered.{any_at, numbered_set_cases}
+use Rattle.curp_law_line.proofs.Requests.{ops_any, owned_ops}
+use Rattle.curp_law_line.proofs.Spans.{owned_after, takes}
 
 -- a take stands once in a log
 module _ (s : Line) (ok : Owned s.moving s.parts) (o : Adopt) (fits : AdoptFits s o) (takes_once : TakesOnce o.p.log) where
@@ -176,6 +173,7 @@ module _ (s : Line) (ok : Owned s.moving s.parts) (o : Adopt) (fits : AdoptFits 
               (λ i. is_in (only.3 i) (only.4 i) h) ∙ ap (λ (x : Migration). is_in x.range.lo x.range.hi h) same ∙ inside
           at_entry (Expire c) t only = absurd cc
 
+  -- an adoption keeps who owns what
   pub adopt_owned : Owned s.moving after
   adopt_owned = record {
     one = λ n k x y h hn hk a b. elim (numbered_set_cases s.parts o.part p new fits.here n x hn) [
@@ -218,6 +216,7 @@ module _ (second : (s : Contents) (a b : Command) → conflicts a b ≡ false �
   answers_alone [] c q apart = refl
   answers_alone (r ∷ front) c q apart = answers_alone front (applied c r.command).after q apart.1 ∙ second c r.command q.command apart.0
 
+  -- what is replayed is answered as it would be alone
   pub replayed_alone : (lo hi : ℕ) (log : List Entry) (rs : List Request) (j : ℕ) (q : Request) → IsDistinct clash rs → At rs j q → answer_after lo hi (take (length log + j) (log ++ ops rs)) q.command ≡ answer_after lo hi log q.command
   replayed_alone lo hi log rs j q d h =
       ap (λ (es : List Entry). answer_after lo hi es q.command) (take_ops log rs j (length log + j) refl)

@@ -2,22 +2,22 @@
 use Rattle.std.proofs.Common.{◌≡◌, ℕ, ◌+◌, ◌||◌, Bool, true, false, not, List, ◌++◌, take, length, Some}
 use Rattle.std.specs.List.{filter, list_any}
 use Rattle.curp_base.specs.Words.{At}
+use Rattle.curp_range.specs.Spans.{is_in}
 use Rattle.curp_cmd.specs.Hash.{touches}
 use Rattle.curp_cmd.specs.RequestId.{same_id}
 use Rattle.curp_cmd.specs.declared.command.Request.{Request}
 use Rattle.curp_cmd.specs.declared.command.RequestId.{RequestId}
 use Rattle.curp_cmd.specs.declared.entry.Entry.TheVariants.{Op}
-use Rattle.curp_law_line.proofs.AdoptedMarks.{asked_all}
-use Rattle.curp_law_line.proofs.Given.{LogValue, Pure}
-use Rattle.curp_law_line.proofs.Orders.{asked_of}
-use Rattle.curp_law_line.specs.Hashes.{Part, has_take, holds, is_give, owns}
-use Rattle.curp_law_line.specs.Line.{Line, OrderOk, Owned}
-use Rattle.curp_law_line.specs.Moves.{Adopt, AdoptFits, ops, relogged, replayed_of}
-use Rattle.curp_law_logs.specs.Hashes.{Asked, NoGive, behind, gives, on, updates}
 use Rattle.curp_model.specs.Log.{answer_after}
 use Rattle.curp_model.specs.Manager.{Migration}
 use Rattle.curp_model.specs.Marks.{has_completed}
-use Rattle.curp_range.specs.Spans.{is_in}
+use Rattle.curp_law_logs.specs.Hashes.{Asked, NoGive, behind, gives, on, updates}
+use Rattle.curp_law_line.specs.Hashes.{Part, has_take, holds, is_give, owns}
+use Rattle.curp_law_line.specs.Line.{Line, OrderOk, Owned}
+use Rattle.curp_law_line.specs.Moves.{Adopt, AdoptFits, ops, relogged, replayed_of}
+use Rattle.curp_law_line.proofs.AdoptedMarks.{asked_all}
+use Rattle.curp_law_line.proofs.Given.{LogValue, Pure}
+use Rattle.curp_law_line.proofs.Orders.{asked_of}
 
 -- the partition at the cut
 abbrev pub cut_part : Adopt → Part
@@ -41,10 +41,10 @@ pub record AdoptGround (s : Line) (o : Adopt) : Type 0 where
   pub alone : (j : ℕ) (q : Request) → At (replayed_of o) j q
       → answer_after o.p.lo o.p.hi (take (length o.stays + j) (o.stays ++ ops (replayed_of o))) q.command ≡ answer_after o.p.lo o.p.hi o.stays q.command
 
--- the order at a hash, before what goes
-pub record Fronts (h : ℕ) (os S : List Asked) : Type 0 where
+-- the order at a hash ends with what goes, and this stands before it
+pub record Fronts (h : ℕ) (order gone : List Asked) : Type 0 where
   pub front : List Asked
-  pub is : on h os ≡ front ++ on h S
+  pub is : on h order ≡ front ++ on h gone
 
 -- what an adoption begins with: a state with its facts, the move with its premises, and who owns what behind it
 pub record Adopting : Type 0 where
@@ -94,9 +94,11 @@ module _ (it : Adopting) where
   abbrev pub keeps_on : Asked → Bool
   keeps_on x = done x.0 || not (is_gone x)
 
+  -- a mark of the request is flagged, or none is
   abbrev pub is_done : Asked → Bool
   is_done x = done x.0
 
+  -- and this the other way
   abbrev pub not_done : Asked → Bool
   not_done x = not (done x.0)
 

@@ -1,30 +1,30 @@
 -- An adoption keeps the facts of the order.
 use Rattle.std.proofs.Common.{◌≡◌, ◌≢◌, ℕ, ◌<◌, ◌+◌, ◌||◌, inl, inr, ◌⊎◌, true, false, not, List, length, Some, refl, ap, sym, ◌∙◌, subst, arith}
 use Rattle.std.proofs.lemmas.Bool.{cases_Bool, cases_eq, cases_lt}
-use Rattle.curp_base.proofs.Lists.{at_append, at_append_cases, at_append_right, at_map, at_within}
 use Rattle.curp_base.specs.Words.{At, numbered}
+use Rattle.curp_base.proofs.Lists.{at_append, at_append_cases, at_append_right, at_map, at_within}
 use Rattle.curp_cmd.specs.Store.{is_update}
 use Rattle.curp_cmd.specs.declared.command.Command.{Command}
 use Rattle.curp_cmd.specs.declared.command.Request.{Request}
 use Rattle.curp_cmd.specs.declared.command.RequestId.{RequestId}
 use Rattle.curp_cmd.specs.declared.entry.Entry.TheVariants.{Op}
-use Rattle.curp_law_line.proofs.AdoptedMarks.{adopted_is, filter_order, flagged_stays, new_mark_at, stays}
-use Rattle.curp_law_line.proofs.Completions.{op_as}
-use Rattle.curp_law_line.proofs.Lists.{in_filter}
-use Rattle.curp_law_line.proofs.Numbered.{filter_at, numbered_set_other}
+use Rattle.curp_model.specs.Marks.{Executed, Mark, executed, is_update_mark}
+use Rattle.curp_law_logs.specs.Hashes.{Asked, asked}
 use Rattle.curp_law_line.specs.Hashes.{HashesOk}
 use Rattle.curp_law_line.specs.Line.{AnswersOk, DistinctOk, FlagsOk, InTimeOk, InvokedOk, IsCompleted, KindsOk, MarkedOk, OneFlagOk, OpAt, OrderOk, ReadsOk, StandingOk, UnflaggedOk, WaitingOk, WasInvoked}
 use Rattle.curp_law_line.specs.Moves.{adopting, ops}
-use Rattle.curp_law_logs.specs.Hashes.{Asked, asked}
-use Rattle.curp_model.specs.Marks.{Executed, Mark, executed, is_update_mark}
-use Rattle.curp_law_line.proofs.Adopting.{Adopting, done, is_gone, keeps_on, new_part, parts_now, replayed}
-use Rattle.curp_law_line.proofs.AdoptedOrder.{Q_held, completed_done, own_after}
-use Rattle.curp_law_line.proofs.AdoptedHashes.{adopt_hashes}
-use Rattle.curp_law_line.proofs.AdoptedPlaces.{agree, at_log, done_false, fresh_marks, here_is, kept_marks, marked_in_T, marks_now, order_is}
 use Rattle.curp_law_line.proofs.AdoptedAnswers.{adopt_answers, adopt_distinct, adopt_marked, adopt_once}
+use Rattle.curp_law_line.proofs.AdoptedHashes.{adopt_hashes}
+use Rattle.curp_law_line.proofs.AdoptedMarks.{adopted_is, filter_order, flagged_stays, new_mark_at, stays}
+use Rattle.curp_law_line.proofs.AdoptedOrder.{completed_done, own_after, replayed_held}
+use Rattle.curp_law_line.proofs.AdoptedPlaces.{agree, at_log, done_false, fresh_marks, here_is, kept_marks, marks_now, op_is_gone, order_is}
+use Rattle.curp_law_line.proofs.Adopting.{Adopting, done, is_gone, keeps_on, new_part, parts_now, replayed}
+use Rattle.curp_law_line.proofs.Completions.{op_as}
+use Rattle.curp_law_line.proofs.Lists.{in_filter}
+use Rattle.curp_law_line.proofs.Numbered.{filter_at, numbered_set_other}
 
 module _ (it : Adopting) where
-  -- ---- O2, O3, O9
+  -- ---- the marks
 
   -- each mark afterwards was kept, or is that of a replayed request
   pub mark_cases : (k : ℕ) (m : Mark) → At (marks_now it) k m
@@ -72,7 +72,7 @@ module _ (it : Adopting) where
           | inr ne ↦ inl ne
           | inl same ↦ elim (at_log it i _ (here_is it m.part i m.id m.command same w)) [
             | inl low ↦ inr (at_within it.move.stays i _ low)
-            | inr g ↦ absurd (dropped_not old.0 i m old.1 at_i f old.2 (marked_in_T it m g.0 w.request w.acknowledged g.2 w.its_id))
+            | inr g ↦ absurd (dropped_not old.0 i m old.1 at_i f old.2 (op_is_gone it m g.0 w.request w.acknowledged g.2 w.its_id))
           ]
         ])
     | inr fresh ↦
@@ -124,7 +124,7 @@ module _ (it : Adopting) where
 
   -- a replayed request was invoked
   asked_before : (j : ℕ) (r : Request) → At (replayed it) j r → WasInvoked it.line.history r.id r.command × (is_update r.command ≡ true)
-  asked_before j r h = let k = Q_held it j r h in let a = it.fits.asked k.0 r k.1 in (a.was_invoked, a.updates)
+  asked_before j r h = let k = replayed_held it j r h in let a = it.fits.asked k.0 r k.1 in (a.was_invoked, a.updates)
 
   adopt_unflagged : UnflaggedOk (marks_now it) it.line.history
   adopt_unflagged k i m h at_i f c = elim (mark_cases k m h) [
@@ -180,6 +180,7 @@ module _ (it : Adopting) where
       let u = filter_order (stays it.move.part (length it.move.stays)) it.line.marks k j y m b w lt in
       it.facts.in_time u.1 u.0 e m y a u.3 f hc u.4 u.2
 
+  -- an adoption keeps the facts
   pub adopt_keeps : OrderOk (adopting it.line it.move)
   adopt_keeps =
       subst (λ (marks : List Mark). OrderOk (record it.line { parts = parts_now it; marks = marks })) (sym (adopted_is it.move.node it.move.part it.move.epoch (length it.move.stays) (replayed it) it.line.marks)) (record {

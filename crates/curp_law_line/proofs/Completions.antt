@@ -1,29 +1,29 @@
 -- A completion, of an update or of a read.
 use Rattle.std.proofs.Common.{◌≡◌, ℕ, zero, suc, inl, inr, ◌⊎◌, Bool, true, false, cond, List, [], ◌∷◌, ◌++◌, map, length, Some, None, refl, ap, sym, ◌∙◌, subst, arith}
 use Rattle.std.specs.List.{filter}
-use Rattle.std.proofs.lemmas.Bool.{cases_Bool, and_parts, and_from}
-use Rattle.curp_base.proofs.Lists.{Each-at, at_append, at_map, at_push, at_push_cases, at_within}
+use Rattle.std.proofs.lemmas.Bool.{and_from, and_parts, cases_Bool}
 use Rattle.curp_base.specs.Words.{At, Each, numbered}
-use Rattle.curp_cmd.proofs.Ids.{same_id-true}
+use Rattle.curp_base.proofs.Lists.{Each-at, at_append, at_map, at_push, at_push_cases, at_within}
 use Rattle.curp_cmd.specs.RequestId.{same_id}
 use Rattle.curp_cmd.specs.Store.{is_update}
 use Rattle.curp_cmd.specs.declared.command.Answer.{Answer}
 use Rattle.curp_cmd.specs.declared.command.Command.{Command}
 use Rattle.curp_cmd.specs.declared.command.RequestId.{RequestId}
+use Rattle.curp_cmd.proofs.Ids.{same_id-true}
+use Rattle.curp_order.specs.Order.{IsHistory}
+use Rattle.curp_order.specs.declared.Event.{Event}
+use Rattle.curp_order.specs.declared.Event.TheVariants.{Complete, Invoke}
+use Rattle.curp_msg.specs.declared.machine.Capture.{Capture}
+use Rattle.curp_msg.specs.declared.machine.Completed.{Completed}
+use Rattle.curp_model.specs.Marks.{Executed, Mark, flagged, is_flagged, is_update_mark}
+use Rattle.curp_law_logs.specs.Hashes.{Asked, In, asked, updates}
+use Rattle.curp_law_line.specs.Hashes.{HashesOk, Part}
+use Rattle.curp_law_line.specs.Line.{Answered, AnswersOk, DistinctOk, FlagOf, FlagsOk, InTimeOk, InvokedOk, IsCompleted, KindsOk, Line, MarkedOk, OneFlagOk, OpAt, OrderOk, ReadsOk, StandingOk, UnflaggedOk, WaitingOk, WasInvoked}
+use Rattle.curp_law_line.specs.Moves.{CompleteFits, FlagFits, completing, flagging}
 use Rattle.curp_law_line.proofs.Hashes.{update_mark}
 use Rattle.curp_law_line.proofs.Invocations.{completed_grows, invoked_grows}
 use Rattle.curp_law_line.proofs.Lists.{Distinct, distinct_from, in_filter, in_map, same_id-alike}
 use Rattle.curp_law_line.proofs.Ops.{one_command}
-use Rattle.curp_law_line.specs.Hashes.{HashesOk, Part}
-use Rattle.curp_law_line.specs.Line.{Answered, AnswersOk, DistinctOk, FlagOf, FlagsOk, InTimeOk, InvokedOk, IsCompleted, KindsOk, Line, MarkedOk, OneFlagOk, OpAt, OrderOk, ReadsOk, StandingOk, UnflaggedOk, WaitingOk, WasInvoked}
-use Rattle.curp_law_line.specs.Moves.{CompleteFits, FlagFits, completing, flagging}
-use Rattle.curp_law_logs.specs.Hashes.{Asked, In, asked, updates}
-use Rattle.curp_model.specs.Marks.{Executed, Mark, flagged, is_flagged, is_update_mark}
-use Rattle.curp_msg.specs.declared.machine.Capture.{Capture}
-use Rattle.curp_msg.specs.declared.machine.Completed.{Completed}
-use Rattle.curp_order.specs.Order.{IsHistory}
-use Rattle.curp_order.specs.declared.Event.{Event}
-use Rattle.curp_order.specs.declared.Event.TheVariants.{Complete, Invoke}
 
 -- a flag changes neither what a mark stands for nor its place
 pub flagged_order : (c : Completed) (marks : List Mark) → updates (flagged c marks) ≡ updates marks
@@ -46,6 +46,7 @@ pub record Flagging (c : Completed) (old : List Mark) (k : ℕ) (m : Mark) : Typ
   pub part : m.part ≡ was.part
   pub flag : ((is_flagged c c.by was ≡ true) × (m.completed ≡ true)) ⊎ ((is_flagged c c.by was ≡ false) × (m.completed ≡ was.completed))
 
+-- each mark afterwards was one before
 pub flagging_at : (c : Completed) (marks : List Mark) (k : ℕ) (m : Mark) → At (flagged c marks) k m → Flagging c marks k m
 flagging_at c marks k m h =
     let w = in_map (λ (o : Mark). cond (is_flagged c c.by o) (record o { completed = true }) o) marks k m h in
@@ -58,6 +59,7 @@ flagging_at c marks k m h =
 
 -- ---- two update marks of one id are one
 
+-- an update's mark stands for one of the order
 pub in_updates : (marks : List Mark) (k : ℕ) (m : Mark) → At marks k m → is_update_mark m.place ≡ true → In (asked m) (updates marks)
 in_updates marks k m h u =
     let f = in_filter (λ (o : Mark). is_update_mark o.place) marks m (k, h) u in
@@ -76,6 +78,7 @@ tail_of z marks d = go (is_update_mark z.place) d
     go true d = d.1
     go false d = d
 
+-- two marks of one update are one
 pub marks_once : (marks : List Mark) → Distinct (updates marks) → (j k : ℕ) (m o : Mark) → At marks j m → At marks k o → is_update_mark m.place ≡ true → is_update_mark o.place ≡ true → m.id ≡ o.id → j ≡ k
 marks_once [] d j k m o hj hk um uo same = absurd cc
 marks_once (z ∷ marks) d zero zero m o hj hk um uo same = refl
@@ -93,6 +96,7 @@ marks_once (z ∷ marks) d (suc j) (suc k) m o hj hk um uo same = ap suc (marks_
 
 -- ---- what a completion by `c` keeps
 
+-- an op under other names for the same
 pub op_as : (parts : List Part) (i : ℕ) {part other : ℕ} {id name : RequestId} {c d : Command} → other ≡ part → name ≡ id → d ≡ c → OpAt parts part i id c → OpAt parts other i name d
 op_as parts i same its_id its_command o = record {
   p = o.p;
@@ -278,6 +282,7 @@ module _ (s : Line) (ok : OrderOk s) (c : Completed) (own : (m : Mark) → is_fl
       as_now i was now same command h =
           subst (λ (d : Command). At history i (Invoke now.id d)) (sym command) (subst (λ (x : RequestId). At history i (Invoke x was.command)) (sym same) (at_append s.history (answers ∷ []) i _ h))
 
+  -- a completion keeps the facts, whatever it flags
   pub completion_keeps : OrderOk (record s { marks = flagged c s.marks; history = s.history ++ Complete c.id c.answer ∷ [] })
   completion_keeps =
       let same : updates s.marks ≡ updates marks = sym (flagged_order c s.marks) in
@@ -305,9 +310,11 @@ module _ (s : Line) (ok : OrderOk s) (id : RequestId) (a : Answer) (fits : Compl
   abbrev by_update : Completed
   by_update = record { id = id; answer = a; by = None }
 
+  -- what an update's completion flags is of its id
   pub update_own : (m : Mark) → is_flagged by_update None m ≡ true → m.id ≡ id
   update_own m y = same_id-true m.id id (and_parts (same_id m.id id) (is_update_mark m.place) y).0
 
+  -- and of an update
   pub update_kind : (m : Mark) → is_flagged by_update None m ≡ true → is_update_mark m.place ≡ true
   update_kind m y = (and_parts (same_id m.id id) (is_update_mark m.place) y).1
 
@@ -337,6 +344,7 @@ module _ (s : Line) (ok : OrderOk s) (id : RequestId) (a : Answer) (fits : Compl
       let e : false ≡ true = sym read ∙ ap is_update (sym same) ∙ ok.kinds u.1 u.0 u.2 ∙ u.3 in
       cc
 
+  -- the completion of an update keeps the facts
   pub complete_keeps : OrderOk (completing s id a)
   complete_keeps =
       completion_keeps s ok by_update update_own (λ k i m h place same. and_from _ _ (same_id-alike m.id id same) (ap is_update_mark place))
@@ -349,6 +357,7 @@ module _ (s : Line) (ok : OrderOk s) (by : Capture) (id : RequestId) (a : Answer
   abbrev by_read : Completed
   by_read = record { id = id; answer = a; by = Some by }
 
+  -- what a read's completion flags is of its id
   pub read_own : (m : Mark) → is_flagged by_read (Some by) m ≡ true → m.id ≡ id
   read_own m y = same_id-true m.id id (and_parts _ _ (and_parts _ _ (and_parts _ _ y).0).0).0
 
@@ -363,6 +372,7 @@ module _ (s : Line) (ok : OrderOk s) (by : Capture) (id : RequestId) (a : Answer
       let e : false ≡ true = sym reads_it ∙ ap is_update (one_of_it m.id m.command (sym same) (ok.invoked k m h)) ∙ ok.kinds k m h ∙ ap is_update_mark place in
       absurd cc
 
+  -- the completion of a read keeps the facts
   pub flag_keeps : OrderOk (flagging s by id a)
   flag_keeps =
       completion_keeps s ok by_read read_own read_hits (λ j k m o hj hk y z. fits.only j m hj y ∙ sym (fits.only k o hk z))

@@ -1,19 +1,19 @@
 -- An expiry, and a look.
 use Rattle.std.proofs.Common.{◌≡◌, ℕ, ◌||◌, inl, inr, true, false, List, [], ◌∷◌, ◌++◌, length, None, refl, ap, sym, ◌∙◌, subst, arith, append-nil}
-use Rattle.curp_base.proofs.Lists.{at_append, at_push_cases, at_within}
 use Rattle.curp_base.specs.Words.{At}
+use Rattle.curp_base.proofs.Lists.{at_append, at_push_cases, at_within}
+use Rattle.curp_range.specs.Spans.{Span, is_owned}
 use Rattle.curp_cmd.specs.Store.{is_update}
 use Rattle.curp_cmd.specs.declared.command.Request.{Request}
 use Rattle.curp_cmd.specs.declared.entry.Entry.{Entry}
 use Rattle.curp_cmd.specs.declared.entry.Entry.TheVariants.{Expire, Op}
-use Rattle.curp_law_line.proofs.Hashes.{any_push, behind_append, came_append, has_take_push, owned_expire, updates_append}
-use Rattle.curp_law_line.proofs.Lines.{known_push, onward_log, onward_same}
+use Rattle.curp_model.specs.Marks.{Executed, Looked, Mark, is_update_mark, looked}
+use Rattle.curp_law_logs.specs.Hashes.{Asked, behind, updates}
 use Rattle.curp_law_line.specs.Hashes.{HashOk, HashesOk, Part, holds, is_give, is_take, onward}
 use Rattle.curp_law_line.specs.Line.{AnswersOk, DistinctOk, InTimeOk, InvokedOk, KindsOk, Line, MarkedOk, OrderOk, ReadsOk, WasInvoked}
 use Rattle.curp_law_line.specs.Moves.{Look, LookFits, PushExpire, PushExpireFits, expire_pushed, looking, pushed}
-use Rattle.curp_law_logs.specs.Hashes.{Asked, behind, updates}
-use Rattle.curp_model.specs.Marks.{Executed, Looked, Mark, is_update_mark, looked}
-use Rattle.curp_range.specs.Spans.{Span, is_owned}
+use Rattle.curp_law_line.proofs.Hashes.{any_push, behind_append, came_append, has_take_push, owned_expire, updates_append}
+use Rattle.curp_law_line.proofs.Lines.{known_push, onward_log, onward_same}
 use Rattle.curp_law_line.proofs.Pushes as pushes
 
 module _ (s : Line) (ok : OrderOk s) (o : PushExpire) (fits : PushExpireFits s o) where
@@ -61,6 +61,7 @@ module _ (s : Line) (ok : OrderOk s) (o : PushExpire) (fits : PushExpireFits s o
     | inr new ↦ subst (λ (y : Part). HashOk s.moving after (updates s.marks) y h) new.1 (expire_own h (subst (λ (y : Part). holds s.moving y h ≡ true) (sym new.1) held))
   ]
 
+  -- an expiry keeps the facts
   pub expire_keeps : OrderOk (expire_pushed s o)
   expire_keeps = record {
     history = ok.history;
@@ -125,6 +126,7 @@ module _ (s : Line) (ok : OrderOk s) (o : Look) (fits : LookFits s o) where
     | inr last ↦ absurd (omega (arith, last.0, at_within s.marks j m (old_flagged j m hj f)))
   ]
 
+  -- a look keeps the facts
   pub look_keeps : OrderOk (looking s o)
   look_keeps = record {
     history = ok.history;

@@ -1,23 +1,20 @@
 -- What is taken as given: lemmas on values and packages, and what the adopted logs are by themselves.
-use Rattle.curp_model.specs.Log.{IsLog}
-use Rattle.curp_cmd.specs.declared.entry.Entry.TheVariants.{Take}
-use Rattle.curp_cmd.specs.Hash.{conflicts}
-use Rattle.curp_base.specs.Words.{At}
-use Rattle.std.specs.Prelude.{◌≡◌, ℕ, true, false, List, [], ◌∷◌, ◌++◌, Some}
 use Rattle.std.specs.FinMap as store
-use Rattle.curp_base.specs.Words.{numbered}
-use Rattle.curp_cmd.specs.Hash.{hash_of}
+use Rattle.std.specs.Prelude.{◌≡◌, ℕ, true, false, List, [], ◌∷◌, ◌++◌, Some}
+use Rattle.curp_base.specs.Words.{At, numbered}
+use Rattle.curp_cmd.specs.Hash.{conflicts, hash_of}
 use Rattle.curp_cmd.specs.Store.{Contents, applied, keys_of}
 use Rattle.curp_cmd.specs.declared.command.Command.{Command}
 use Rattle.curp_cmd.specs.declared.command.RequestId.{RequestId}
 use Rattle.curp_cmd.specs.declared.entry.Entry.{Entry}
-use Rattle.curp_cmd.specs.declared.entry.Entry.TheVariants.{Give}
+use Rattle.curp_cmd.specs.declared.entry.Entry.TheVariants.{Give, Take}
 use Rattle.curp_cmd.specs.declared.migration.Package.{Package}
-use Rattle.curp_law_line.specs.Hashes.{Part, owns, state_of}
-use Rattle.curp_law_logs.specs.Hashes.{Asked, In, NotNew, behind, came, on, value}
-use Rattle.curp_model.specs.Log.{meaning}
+use Rattle.curp_model.specs.Log.{IsLog, meaning}
 use Rattle.curp_model.specs.Table.{packed}
+use Rattle.curp_law_logs.specs.Hashes.{Asked, In, NotNew, behind, came, on, value}
+use Rattle.curp_law_line.specs.Hashes.{Part, owns, state_of}
 
+-- lemmas on values, answers and packages
 pub record Pure : Type 0 where
   -- a key's value comes from the requests on its hash
   pub value_local : (key : List ℕ) (xs : List Asked) → value key xs ≡ value key (on (hash_of key) xs)
@@ -27,12 +24,12 @@ pub record Pure : Type 0 where
   pub packed_known : (lo hi : ℕ) (before : List Entry) (id : RequestId) → NotNew lo hi before id → (l h : ℕ) (log : List Entry) (number : ℕ) (k : Package) → k.table ≡ packed (meaning lo hi before).table
       → NotNew l h (log ++ Give number k ∷ []) id
 
--- N7: a log's value of a key, where it owns the hash
+-- what a log has of the keys of a hash that it owns: what came with the last give, and the ops behind it
 abbrev pub LogValue : Part → Type 0
 LogValue p = (h : ℕ) → owns p h ≡ true → (key : List ℕ) → hash_of key ≡ h → (past : List Asked)
     → ((other : List ℕ) → hash_of other ≡ h → value other past ≡ came h other p.log) → store.get (state_of p).store key ≡ value key (past ++ behind h p.log)
 
--- one owned hash is a test of entries alone
+-- the same of each adopted log
 abbrev pub LogsValue : List Part → Type 0
 LogsValue parts = (n : ℕ) (p : Part) → numbered parts n ≡ Some p → LogValue p
 
@@ -53,5 +50,5 @@ pub record LogsOk (parts : List Part) : Type 0 where
   pub is_log : (n : ℕ) (p : Part) → numbered parts n ≡ Some p → IsLog p.lo p.hi p.log
   pub gives_once : (n : ℕ) (p : Part) → numbered parts n ≡ Some p → GivesOnce p.log
   pub takes_once : (n : ℕ) (p : Part) → numbered parts n ≡ Some p → TakesOnce p.log
-  -- N7, at each cut
+  -- at each cut
   pub values : (n : ℕ) (p : Part) → numbered parts n ≡ Some p → (front back : List Entry) → front ++ back ≡ p.log → LogValue (record p { log = front })

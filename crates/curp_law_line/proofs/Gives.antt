@@ -1,65 +1,35 @@
 -- The give of the migration in work.
-use Rattle.std.proofs.Common.{◌≡◌, ℕ, ◌≤◌, ◌&&◌, ◌||◌, inl, inr, Bool, true, false, cond, if◌then◌else◌, List, [], ◌∷◌, ◌++◌, Option, Some, None, refl, ap, sym, ◌∙◌, subst, append-nil}
-use Rattle.std.specs.FinMap as store
-use Rattle.std.specs.FinMap.{nat_cmp-IsAntisymmetric, slice_cmp-IsAntisymmetric}
-use Rattle.std.specs.FinMap.Entries.{find, find-where_key}
+use Rattle.std.proofs.Common.{◌≡◌, ℕ, ◌&&◌, ◌||◌, inl, inr, Bool, true, false, cond, if◌then◌else◌, List, [], ◌∷◌, ◌++◌, Option, Some, None, refl, ap, sym, ◌∙◌, subst, append-nil}
 use Rattle.std.specs.Cmp.Lexicographic.{slice_cmp}
+use Rattle.std.specs.FinMap.Entries.{find}
 use Rattle.std.specs.List.{list_any}
 use Rattle.std.specs.Ordering.{nat_cmp}
-use Rattle.std.proofs.lemmas.Bool.{cases_Bool, eq-eqb, or_cases, or_left, or_right, or_parts}
+use Rattle.std.proofs.lemmas.Bool.{cases_Bool, eq-eqb, or_cases, or_left, or_parts}
 use Rattle.std.proofs.lemmas.List.Folds.{list_any-append}
 use Rattle.curp_base.specs.Words.{numbered}
-use Rattle.curp_cmd.specs.Hash.{hash_of, touches}
+use Rattle.curp_range.specs.Spans.{is_in}
+use Rattle.curp_cmd.specs.Hash.{hash_of}
 use Rattle.curp_cmd.specs.declared.command.Request.{Request}
 use Rattle.curp_cmd.specs.declared.entry.Entry.{Entry}
-use Rattle.curp_cmd.specs.declared.entry.Entry.TheVariants.{Expire, Give, Op, Take}
+use Rattle.curp_cmd.specs.declared.entry.Entry.TheVariants.{Give, Op, Take}
 use Rattle.curp_cmd.specs.declared.migration.Package.{Package}
-use Rattle.curp_law_line.proofs.Given.{LogValue, Pure}
-use Rattle.curp_law_line.proofs.Hashes.{behind_append, behind_in, came_append, came_stays}
-use Rattle.curp_law_line.proofs.Lines.{known_push, split_push}
-use Rattle.curp_law_line.proofs.Lists.{in_any, in_cases, in_head, in_none, in_right}
-use Rattle.curp_law_line.proofs.Spans.{owned_give}
-use Rattle.curp_law_line.proofs.Takes.{onward_ungiven}
+use Rattle.curp_model.specs.Manager.{Migration}
+use Rattle.curp_model.specs.Table.{check}
+use Rattle.curp_model.proofs.Logs.{op_not_new}
+use Rattle.curp_law_logs.specs.Hashes.{Asked, In, NoGive, NotNew, behind, came, gives, on, updates, value}
 use Rattle.curp_law_line.specs.Hashes.{HashOk, HashesOk, Part, given_on, has_take, holds, is_give, is_take, onward, owns, state_of}
 use Rattle.curp_law_line.specs.Line.{Line, OrderOk}
 use Rattle.curp_law_line.specs.Moves.{PushGive, PushGiveFits, give_pushed, pushed}
-use Rattle.curp_law_logs.specs.Hashes.{Asked, In, NoGive, NotNew, behind, behind_from, came, gives, on, updates, value}
-use Rattle.curp_model.proofs.Logs.{op_not_new}
-use Rattle.curp_model.specs.Log.{LogState, entry_touches, package_of}
-use Rattle.curp_model.specs.Manager.{Migration}
-use Rattle.curp_model.specs.Table.{check}
-use Rattle.curp_range.specs.Spans.{is_in}
+use Rattle.curp_law_line.proofs.Carried.{at_source, carried_line, carried_value, quiet_gives}
+use Rattle.curp_law_line.proofs.Given.{LogValue, Pure}
+use Rattle.curp_law_line.proofs.Hashes.{behind_append, behind_in, came_append}
+use Rattle.curp_law_line.proofs.Lines.{known_push, split_push}
+use Rattle.curp_law_line.proofs.Lists.{in_any, in_cases, in_head, in_none, in_right}
 use Rattle.curp_law_line.proofs.Pushes as pushes
+use Rattle.curp_law_line.proofs.Spans.{owned_give}
+use Rattle.curp_law_line.proofs.Takes.{onward_ungiven}
 
--- what a package has of a key of its range
-pub packed_value : (s : LogState) (lo hi : ℕ) (ordered : lo ≤ hi) (key : List ℕ) → is_in lo hi (hash_of key) ≡ true → find (slice_cmp nat_cmp) key (package_of s lo hi ordered).pairs ≡ store.get s.store key
-packed_value s lo hi ordered key inside =
-    find-where_key (slice_cmp nat_cmp) (λ (k : List ℕ). is_in lo hi (hash_of k)) key (λ x e. ap (λ (k : List ℕ). is_in lo hi (hash_of k)) (sym (slice_cmp-IsAntisymmetric nat_cmp-IsAntisymmetric key x e))) (store.entries s.store)
-    ∙ ap (λ (b : Bool). cond b (find (slice_cmp nat_cmp) key (store.entries s.store)) None) inside ∙ sym (store.get-entries s.store key)
-
-abbrev pub Quiet : ℕ → List Entry → Type 0
-Quiet h es = list_any (λ (e : Entry). entry_touches e h) es ≡ false
-
--- what doesn't touch a hash leaves what stands behind
-pub quiet_behind : (h : ℕ) (kept : List Asked) (es : List Entry) → Quiet h es → behind_from h kept es ≡ kept
-quiet_behind h kept [] q = refl
-quiet_behind h kept (Op r a ∷ es) q =
-    let c = or_parts (touches r.command h) _ q in
-    ap (λ (b : Bool). behind_from h (if b then kept ++ (r.id, r.command) ∷ [] else kept) es) c.0 ∙ quiet_behind h kept es c.1
-quiet_behind h kept (Take n k ∷ es) q = quiet_behind h kept es (or_parts (is_in k.lo k.hi h) _ q).1
-quiet_behind h kept (Give n k ∷ es) q =
-    let c = or_parts (is_in k.lo k.hi h) _ q in
-    ap (λ (b : Bool). behind_from h (if b then [] else kept) es) c.0 ∙ quiet_behind h kept es c.1
-quiet_behind h kept (Expire client ∷ es) q = quiet_behind h kept es q
-
-pub quiet_gives : (h : ℕ) (es : List Entry) → Quiet h es → NoGive h es
-quiet_gives h [] q = refl
-quiet_gives h (Op r a ∷ es) q = quiet_gives h es (or_parts (touches r.command h) _ q).1
-quiet_gives h (Take n k ∷ es) q = quiet_gives h es (or_parts (is_in k.lo k.hi h) _ q).1
-quiet_gives h (Give n k ∷ es) q = let c = or_parts (is_in k.lo k.hi h) _ q in rw c.0 (quiet_gives h es c.1)
-quiet_gives h (Expire client ∷ es) q = quiet_gives h es q
-
-module _ (pure : Pure) (s : Line) (ok : OrderOk s) (o : PushGive) (fits : PushGiveFits s o) (its_value : LogValue (record fits.source { log = fits.before })) where
+module _ (pure : Pure) (s : Line) (ok : OrderOk s) (o : PushGive) (fits : PushGiveFits s o) (its_value : LogValue (record fits.way.source { log = fits.way.before })) where
   abbrev p : Part
   p = o.p
 
@@ -76,7 +46,7 @@ module _ (pure : Pure) (s : Line) (ok : OrderOk s) (o : PushGive) (fits : PushGi
   longer = record o.p { log = o.p.log ++ Give o.m.number o.brought ∷ [] }
 
   abbrev cut : Part
-  cut = record fits.source { log = fits.before }
+  cut = record fits.way.source { log = fits.way.before }
 
   no_op : (r : Request) (a : ℕ) → e ≡ Op r a → ⊥
   no_op r a is = absurd cc
@@ -85,7 +55,7 @@ module _ (pure : Pure) (s : Line) (ok : OrderOk s) (o : PushGive) (fits : PushGi
   before = subst (λ (moving : Option Migration). HashesOk moving s.parts os) fits.in_work ok.hashes
 
   brought_is : (h : ℕ) → is_in o.brought.lo o.brought.hi h ≡ is_in o.m.range.lo o.m.range.hi h
-  brought_is h = λ i. is_in (fits.lo i) (fits.hi i) h
+  brought_is h = λ i. is_in (fits.way.lo i) (fits.way.hi i) h
 
   -- the give's range at the target
   behind_now : (h : ℕ) → behind h longer.log ≡ (if is_in o.m.range.lo o.m.range.hi h then [] else behind h p.log)
@@ -112,49 +82,27 @@ module _ (pure : Pure) (s : Line) (ok : OrderOk s) (o : PushGive) (fits : PushGi
   -- ---- at a hash of the range
 
   module _ (h : ℕ) (inside : is_in o.m.range.lo o.m.range.hi h ≡ true) where
-    source_holds : holds (Some o.m) fits.source h ≡ true
-    source_holds =
-        let stands : In (Take o.m.number o.brought) fits.source.log = subst (In (Take o.m.number o.brought)) (sym fits.taken) (in_right fits.before (Take o.m.number o.brought ∷ fits.after) _ (in_head _ fits.after)) in
-        let taken : list_any (is_take o.m.number) fits.source.log ≡ true = in_any (is_take o.m.number) fits.source.log (Take o.m.number o.brought) stands (eq-eqb o.m.number o.m.number refl) in
-        or_right (owns fits.source h) _ (rw (inside, taken) refl)
-
-    there : HashOk (Some o.m) s.parts os fits.source h
-    there = before o.m.source fits.source fits.its_source h source_holds
-
-    source_behind : behind h fits.source.log ≡ behind h fits.before
-    source_behind = ap (behind h) fits.taken ∙ behind_append h [] fits.before (Take o.m.number o.brought ∷ fits.after) ∙ quiet_behind h (behind h fits.before) fits.after (fits.quiet h inside)
-
-    source_came : (key : List ℕ) → came h key fits.source.log ≡ came h key fits.before
-    source_came key =
-        ap (came h key) fits.taken ∙ came_append h key None fits.before (Take o.m.number o.brought ∷ fits.after) ∙ came_stays h key (came h key fits.before) fits.after (quiet_gives h fits.after (fits.quiet h inside))
-
-    line : on h os ≡ there.past ++ behind h fits.before
-    line =
-        there.alike ∙ (λ i. there.past ++ (source_behind i ++ onward_ungiven o.m s.parts fits.source.log h fits.ungiven i)) ∙ ap (λ w. there.past ++ w) (append-nil _)
-
     value_now : (key : List ℕ) → hash_of key ≡ h → value key (on h os) ≡ came h key longer.log
     value_now key k =
-        let a : value key (on h os) ≡ value key (there.past ++ behind h fits.before) = ap (value key) line in
-        let b : store.get (state_of cut).store key ≡ value key (there.past ++ behind h fits.before) =
-        its_value h (fits.covered h inside) key k there.past (λ other same. there.values other same ∙ source_came other) in
-        let c : find (slice_cmp nat_cmp) key o.brought.pairs ≡ store.get (state_of cut).store key =
-        ap (λ (x : Package). find (slice_cmp nat_cmp) key x.pairs) fits.its_package
-        ∙ packed_value (state_of cut) o.brought.lo o.brought.hi o.brought.ordered key (ap (is_in o.brought.lo o.brought.hi) k ∙ brought_is h ∙ inside) in
-        a ∙ sym b ∙ sym c ∙ sym (came_now h key ∙ ap (λ (d : Bool). cond d (find (slice_cmp nat_cmp) key o.brought.pairs) (came h key p.log)) inside)
+        carried_value s ok o.m fits.in_work o.brought fits.way h inside its_value key k
+        ∙ sym (came_now h key ∙ ap (λ (d : Bool). cond d (find (slice_cmp nat_cmp) key o.brought.pairs) (came h key p.log)) inside)
 
-    known_there : (x : Asked) → In x (on h os) → NotNew fits.source.lo fits.source.hi fits.before x.0
-    known_there x m = elim (in_cases there.past (behind h fits.before) x (subst (In x) line m)) [
-      | inl past ↦ there.known x past fits.before (Take o.m.number o.brought ∷ fits.after) (sym fits.taken) (quiet_gives h fits.after (fits.quiet h inside))
-      | inr back ↦ elim (behind_in h [] fits.before x back) [
+    abbrev there : HashOk s.moving s.parts os fits.way.source h
+    there = at_source s ok o.m fits.in_work o.brought fits.way h inside
+
+    known_there : (x : Asked) → In x (on h os) → NotNew fits.way.source.lo fits.way.source.hi fits.way.before x.0
+    known_there x m = elim (in_cases there.past (behind h fits.way.before) x (subst (In x) (carried_line s ok o.m fits.in_work o.brought fits.way h inside) m)) [
+      | inl past ↦ there.known x past fits.way.before (Take o.m.number o.brought ∷ fits.way.after) (sym fits.way.taken) (quiet_gives h fits.way.after (fits.way.quiet h inside))
+      | inr back ↦ elim (behind_in h [] fits.way.before x back) [
         | inl none ↦ in_none x _ none
-        | inr op ↦ λ new. op_not_new fits.source.lo fits.source.hi fits.before op.place op.request op.acknowledged op.stands (ap (λ (z : Asked). check (state_of cut).table z.0) op.is ∙ new)
+        | inr op ↦ λ new. op_not_new fits.way.source.lo fits.way.source.hi fits.way.before op.place op.request op.acknowledged op.stands (ap (λ (z : Asked). check (state_of cut).table z.0) op.is ∙ new)
       ]
     ]
 
     known_now : (x : Asked) → In x (on h os) → (front back : List Entry) → front ++ back ≡ longer.log → NoGive h back → NotNew p.lo p.hi front x.0
     known_now x m front back is none = elim (split_push front back p.log e is) [
       | inl last ↦ subst (λ (es : List Entry). NotNew p.lo p.hi es x.0) (sym last.1)
-          (pure.packed_known fits.source.lo fits.source.hi fits.before x.0 (known_there x m) p.lo p.hi p.log o.m.number o.brought (ap (λ (k : Package). k.table) fits.its_package))
+          (pure.packed_known fits.way.source.lo fits.way.source.hi fits.way.before x.0 (known_there x m) p.lo p.hi p.log o.m.number o.brought (ap (λ (k : Package). k.table) fits.way.its_package))
       | inr mid ↦
           let all : list_any (gives h) (mid.0 ++ e ∷ []) ≡ false = subst (NoGive h) mid.1 none in
           let own : (is_in o.brought.lo o.brought.hi h || false) ≡ false = (or_parts (list_any (gives h) mid.0) _ (sym (list_any-append (gives h) mid.0 (e ∷ [])) ∙ all)).1 in
@@ -184,7 +132,7 @@ module _ (pure : Pure) (s : Line) (ok : OrderOk s) (o : PushGive) (fits : PushGi
       let same : behind h longer.log ≡ behind h p.log = behind_now h ∙ ap (λ (d : Bool). cond d [] (behind h p.log)) outside in
       record {
         past = here.past;
-        alike = here.alike ∙ (λ i. here.past ++ (sym same i ++ (onward_ungiven o.m s.parts p.log h fits.ungiven ∙ sym (nothing_on longer.log h)) i));
+        alike = here.alike ∙ (λ i. here.past ++ (sym same i ++ (onward_ungiven o.m s.parts p.log h fits.way.ungiven ∙ sym (nothing_on longer.log h)) i));
         values = λ key k. here.values key k ∙ sym (came_now h key ∙ ap (λ (d : Bool). cond d (find (slice_cmp nat_cmp) key o.brought.pairs) (came h key p.log)) outside);
         known = λ y m. known_push p.lo p.hi h p.log e y.0 (here.known y m);
       }
@@ -195,7 +143,7 @@ module _ (pure : Pure) (s : Line) (ok : OrderOk s) (o : PushGive) (fits : PushGi
         let here = before k q old.1 h held in
         record {
           past = here.past;
-          alike = here.alike ∙ ap (λ w. here.past ++ (behind h q.log ++ w)) (onward_ungiven o.m s.parts q.log h fits.ungiven ∙ sym (nothing_on q.log h));
+          alike = here.alike ∙ ap (λ w. here.past ++ (behind h q.log ++ w)) (onward_ungiven o.m s.parts q.log h fits.way.ungiven ∙ sym (nothing_on q.log h));
           values = here.values;
           known = here.known;
         }
@@ -205,6 +153,7 @@ module _ (pure : Pure) (s : Line) (ok : OrderOk s) (o : PushGive) (fits : PushGi
       own : holds (Some o.m) longer h ≡ true → HashOk (Some o.m) after os longer h
       own held = elim (cases_Bool (is_in o.m.range.lo o.m.range.hi h)) [ inl y ↦ inside_ok h y | inr n ↦ outside_ok h n held ]
 
+  -- a give keeps the facts
   pub give_keeps : OrderOk (give_pushed s o)
   give_keeps = record {
     history = ok.history;

@@ -1,37 +1,35 @@
 -- What an adoption asks of the logs by themselves, from: the log is one, gives stand once, and the migration in work has its sides.
-use Rattle.curp_law_line.proofs.Given.{GivesOnce}
-use Rattle.curp_law_line.proofs.Entries.{give_of, take_of, give_entry}
-use Rattle.curp_law_line.proofs.Lists.{some_same}
 use Rattle.std.proofs.Common.{◌≡◌, ℕ, zero, suc, ◌<◌, ◌+◌, inl, inr, Bool, true, false, if◌then◌else◌, List, [], ◌∷◌, ◌++◌, take, drop, length, Option, Some, None, refl, ap, sym, ◌∙◌, subst, arith, append_assoc}
 use Rattle.std.specs.List.{list_any}
-use Rattle.std.proofs.lemmas.Bool.{cases_Bool, and_from, and_parts, eq-eqb, or_left, or_parts, or_right}
+use Rattle.std.proofs.Math.Seq.{take-append-add}
+use Rattle.std.proofs.lemmas.Bool.{and_from, and_parts, cases_Bool, eq-eqb, or_left, or_parts, or_right}
 use Rattle.std.proofs.lemmas.List.{take-append-drop}
 use Rattle.std.proofs.lemmas.List.Folds.{list_any-append}
-use Rattle.std.proofs.Math.Seq.{take-append-add}
-use Rattle.curp_base.proofs.Lists.{at_append, at_append_right, at_drop, at_take, at_within, drop_at}
 use Rattle.curp_base.specs.Words.{At}
+use Rattle.curp_base.proofs.Lists.{at_append, at_append_right, at_drop, at_take, at_within, drop_at}
+use Rattle.curp_range.specs.Spans.{Span, is_in, is_owned}
 use Rattle.curp_cmd.specs.Hash.{touches}
 use Rattle.curp_cmd.specs.declared.command.Request.{Request}
 use Rattle.curp_cmd.specs.declared.entry.Entry.{Entry}
 use Rattle.curp_cmd.specs.declared.entry.Entry.TheVariants.{Expire, Give, Op, Take}
 use Rattle.curp_cmd.specs.declared.migration.Package.{Package}
+use Rattle.curp_model.specs.Log.{IsLog, answer_after, meaning}
+use Rattle.curp_model.specs.Manager.{Migration}
+use Rattle.curp_model.specs.Recovery.{replays}
+use Rattle.curp_law_logs.specs.Hashes.{Asked, NoGive, behind, behind_from, gives, on}
+use Rattle.curp_law_line.specs.Hashes.{Part, has_take, holds, is_give, is_take, owns}
+use Rattle.curp_law_line.specs.Line.{Line, Owned}
+use Rattle.curp_law_line.specs.Moves.{Adopt, AdoptFits, OnlyMoving, ops, relogged, replayed_of}
 use Rattle.curp_law_line.proofs.Adopting.{AdoptGround, cut_part}
-use Rattle.curp_law_line.proofs.Given.{LogValue}
+use Rattle.curp_law_line.proofs.Entries.{give_entry, give_of, take_of}
+use Rattle.curp_law_line.proofs.Given.{GivesOnce, LogValue}
 use Rattle.curp_law_line.proofs.Hashes.{behind_append, on_append}
-use Rattle.curp_law_line.proofs.Lists.{empty_list, from_filter, in_any}
+use Rattle.curp_law_line.proofs.Lists.{empty_list, from_filter, in_any, some_same}
 use Rattle.curp_law_line.proofs.Numbered.{any_at, filter_at, numbered_set_same}
 use Rattle.curp_law_line.proofs.Orders.{asked_of, behind_asked}
 use Rattle.curp_law_line.proofs.Owning.{op_owned, owns_touched}
 use Rattle.curp_law_line.proofs.Requests.{asked_of_in, owned_ops}
 use Rattle.curp_law_line.proofs.Spans.{owned_after, owned_before, takes}
-use Rattle.curp_law_line.specs.Hashes.{Part, has_take, holds, is_give, is_take, owns}
-use Rattle.curp_law_line.specs.Line.{Line, Owned}
-use Rattle.curp_law_line.specs.Moves.{Adopt, AdoptFits, OnlyMoving, ops, relogged, replayed_of}
-use Rattle.curp_law_logs.specs.Hashes.{Asked, NoGive, behind, behind_from, gives, on}
-use Rattle.curp_model.specs.Log.{IsLog, answer_after, meaning}
-use Rattle.curp_model.specs.Manager.{Migration}
-use Rattle.curp_model.specs.Recovery.{replays}
-use Rattle.curp_range.specs.Spans.{Span, is_in, is_owned}
 
 asked_of_append : (xs ys : List Entry) → asked_of (xs ++ ys) ≡ asked_of xs ++ asked_of ys
 asked_of_append [] ys = refl
@@ -225,6 +223,7 @@ module _ (s : Line) (below : Owned s.moving s.parts) (o : Adopt) (fits : AdoptFi
       let w = filter_at (replays (meaning p.lo p.hi P)) o.held j q at in
       owns_touched (meaning p.lo p.hi P).owned q.command h (and_parts _ _ w.2).0 t
 
+  -- what an adoption asks of the logs
   pub adopt_ground : LogValue (cut_part o) → ((j : ℕ) (q : Request) → At (replayed_of o) j q
       → answer_after o.p.lo o.p.hi (take (length o.stays + j) (o.stays ++ ops (replayed_of o))) q.command ≡ answer_after o.p.lo o.p.hi o.stays q.command) → AdoptGround s o
   adopt_ground its_value alone = record {

@@ -1,29 +1,29 @@
 -- The order and the logs at one hash, as they grow at their ends.
 use Rattle.std.proofs.Common.{◌≡◌, ℕ, suc, ◌==◌, ◌||◌, ◌&&◌, inl, inr, ◌⊎◌, Bool, true, false, cond, if◌then◌else◌, List, [], ◌∷◌, ◌++◌, map, Option, Some, None, refl, ap, sym, ◌∙◌, append-nil}
+use Rattle.std.specs.Cmp.Lexicographic.{slice_cmp}
+use Rattle.std.specs.FinMap.Entries.{find}
 use Rattle.std.specs.List.{filter, list_any}
-use Rattle.std.proofs.lemmas.Bool.{cases_Bool, or_left, eq-eqb}
+use Rattle.std.specs.Ordering.{nat_cmp}
+use Rattle.std.proofs.lemmas.Bool.{cases_Bool, eq-eqb, or_left}
 use Rattle.std.proofs.lemmas.List.{map-append}
 use Rattle.std.proofs.lemmas.List.Elements.{filter-append}
 use Rattle.std.proofs.lemmas.List.Folds.{list_any-append}
-use Rattle.std.specs.FinMap.Entries.{find}
-use Rattle.std.specs.Cmp.Lexicographic.{slice_cmp}
-use Rattle.std.specs.Ordering.{nat_cmp}
 use Rattle.curp_base.specs.Words.{At, numbered}
+use Rattle.curp_range.specs.Spans.{is_in}
 use Rattle.curp_cmd.specs.Hash.{hash_of, touches}
 use Rattle.curp_cmd.specs.Store.{keys_of}
 use Rattle.curp_cmd.specs.declared.command.Command.{Command}
 use Rattle.curp_cmd.specs.declared.command.Request.{Request}
 use Rattle.curp_cmd.specs.declared.entry.Entry.{Entry}
 use Rattle.curp_cmd.specs.declared.entry.Entry.TheVariants.{Expire, Give, Op, Take}
-use Rattle.curp_law_line.proofs.Lists.{in_cases, in_cons, in_map, in_none, or_none}
-use Rattle.curp_law_line.proofs.Numbered.{filter_at}
-use Rattle.curp_law_line.specs.Hashes.{Part, given_on, has_take, is_take, onward}
-use Rattle.curp_law_logs.specs.Hashes.{Asked, In, NoGive, asked, behind, behind_from, came, came_from, gives, on, updates}
-use Rattle.curp_model.proofs.Logs.{meaning_append}
 use Rattle.curp_model.specs.Log.{LogState, after_entry, meaning}
 use Rattle.curp_model.specs.Manager.{Migration}
 use Rattle.curp_model.specs.Marks.{Executed, Looked, Mark, Place, is_update_mark}
-use Rattle.curp_range.specs.Spans.{is_in}
+use Rattle.curp_model.proofs.Logs.{meaning_append}
+use Rattle.curp_law_logs.specs.Hashes.{Asked, In, NoGive, asked, behind, behind_from, came, came_from, gives, on, updates}
+use Rattle.curp_law_line.specs.Hashes.{Part, given_on, has_take, is_take, onward}
+use Rattle.curp_law_line.proofs.Lists.{in_cases, in_cons, in_map, in_none, or_none}
+use Rattle.curp_law_line.proofs.Numbered.{filter_at}
 
 pub on_append : (h : ℕ) (xs ys : List Asked) → on h (xs ++ ys) ≡ on h xs ++ on h ys
 on_append h xs ys = filter-append _ xs ys
@@ -31,6 +31,7 @@ on_append h xs ys = filter-append _ xs ys
 pub on_none : (h : ℕ) (x : Asked) → touches x.1 h ≡ false → on h (x ∷ []) ≡ []
 on_none h x t = ap (λ (b : Bool). cond b (x ∷ []) []) t
 
+-- the updates of more marks
 pub updates_append : (xs ys : List Mark) → updates (xs ++ ys) ≡ updates xs ++ updates ys
 updates_append xs ys = ap (map asked) (filter-append (λ (m : Mark). is_update_mark m.place) xs ys) ∙ map-append asked _ _
 
@@ -46,6 +47,7 @@ pub update_place : (p : Place) → is_update_mark p ≡ true → (i : ℕ) × (p
 update_place (Executed i) e = (i, refl)
 update_place (Looked c l) e = absurd cc
 
+-- what stands behind the last give of a longer log
 pub behind_append : (h : ℕ) (kept : List Asked) (xs ys : List Entry) → behind_from h kept (xs ++ ys) ≡ behind_from h (behind_from h kept xs) ys
 behind_append h kept [] ys = refl
 behind_append h kept (Op r acknowledged ∷ xs) ys = behind_append h (if touches r.command h then kept ++ (r.id, r.command) ∷ [] else kept) xs ys
@@ -53,6 +55,7 @@ behind_append h kept (Take migration taken ∷ xs) ys = behind_append h kept xs 
 behind_append h kept (Give migration given ∷ xs) ys = behind_append h (if is_in given.lo given.hi h then [] else kept) xs ys
 behind_append h kept (Expire client ∷ xs) ys = behind_append h kept xs ys
 
+-- what came with the last give of a longer log
 pub came_append : (h : ℕ) (key : List ℕ) (before : Option (List ℕ)) (xs ys : List Entry) → came_from h key before (xs ++ ys) ≡ came_from h key (came_from h key before xs) ys
 came_append h key before [] ys = refl
 came_append h key before (Op r acknowledged ∷ xs) ys = came_append h key before xs ys
@@ -85,6 +88,7 @@ op_tail x e es o = record { place = suc o.place; request = o.request; acknowledg
 later : (x : Asked) (kept : List Asked) (e : Entry) (es : List Entry) → In x kept ⊎ OpIn x es → In x kept ⊎ OpIn x (e ∷ es)
 later x kept e es c = elim c [ inl old ↦ inl old | inr o ↦ inr (op_tail x e es o) ]
 
+-- what stands behind the last give is an op of the log
 pub behind_in : (h : ℕ) (kept : List Asked) (es : List Entry) (x : Asked) → In x (behind_from h kept es) → In x kept ⊎ OpIn x es
 behind_in h kept [] x m = inl m
 behind_in h kept (Op r acknowledged ∷ es) x m = go (touches r.command h) m (behind_in h (kept ++ (r.id, r.command) ∷ []) es x) (behind_in h kept es x)
@@ -113,6 +117,7 @@ behind_in h kept (Expire client ∷ es) x m = later x kept _ es (behind_in h kep
 
 -- ---- the entry at the end
 
+-- one more op
 pub behind_op : (h : ℕ) (log : List Entry) (r : Request) (a : ℕ) → behind h (log ++ Op r a ∷ []) ≡ behind h log ++ on h ((r.id, r.command) ∷ [])
 behind_op h log r a = behind_append h [] log (Op r a ∷ []) ∙ go (touches r.command h)
   where
@@ -120,30 +125,37 @@ behind_op h log r a = behind_append h [] log (Op r a ∷ []) ∙ go (touches r.c
     go true = refl
     go false = sym (append-nil (behind h log))
 
+-- one more op brings nothing
 pub came_op : (h : ℕ) (key : List ℕ) (log : List Entry) (r : Request) (a : ℕ) → came h key (log ++ Op r a ∷ []) ≡ came h key log
 came_op h key log r a = came_append h key None log (Op r a ∷ [])
 
+-- one more entry that doesn't pass
 pub any_push : (p : Entry → Bool) (log : List Entry) (e : Entry) → p e ≡ false → list_any p (log ++ e ∷ []) ≡ list_any p log
 any_push p log e none = list_any-append p log (e ∷ []) ∙ ap (λ (b : Bool). list_any p log || (b || false)) none ∙ or_none (list_any p log)
 
+-- one more entry that is no take
 pub has_take_push : (moving : Option Migration) (h : ℕ) (log : List Entry) (e : Entry) → ((number : ℕ) → is_take number e ≡ false) → has_take moving h (log ++ e ∷ []) ≡ has_take moving h log
 has_take_push None h log e none = refl
 has_take_push (Some m) h log e none = ap (λ (b : Bool). is_in m.range.lo m.range.hi h && b) (any_push (is_take m.number) log e (none m.number))
 
+-- an op changes nothing of what is owned
 pub owned_op : (lo hi : ℕ) (log : List Entry) (r : Request) (a : ℕ) → (meaning lo hi (log ++ Op r a ∷ [])).owned ≡ (meaning lo hi log).owned
 unfolding after_entry
 owned_op lo hi log r a = ap (λ (s : LogState). s.owned) (meaning_append lo hi log (Op r a ∷ []))
 
+-- nor does an expiry
 pub owned_expire : (lo hi : ℕ) (log : List Entry) (client : ℕ) → (meaning lo hi (log ++ Expire client ∷ [])).owned ≡ (meaning lo hi log).owned
 unfolding after_entry
 owned_expire lo hi log client = ap (λ (s : LogState). s.owned) (meaning_append lo hi log (Expire client ∷ []))
 
+-- where no take is out, nothing went on elsewhere
 pub no_onward : (moving : Option Migration) (parts : List Part) (log : List Entry) (h : ℕ) → has_take moving h log ≡ false → onward moving parts log h ≡ []
 no_onward None parts log h none = refl
 no_onward (Some m) parts log h none = ap (λ (b : Bool). cond b (given_on h m.number (numbered parts m.target)) []) none
 
 -- ---- keys
 
+-- a command touches the hash of each of its keys
 pub key_touches : (c : Command) (key : List ℕ) → In key (keys_of c) → touches c (hash_of key) ≡ true
 key_touches c key m = go (keys_of c) m
   where

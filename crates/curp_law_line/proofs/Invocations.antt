@@ -1,19 +1,21 @@
 -- An invocation, and the moves that touch neither logs nor marks.
 use Rattle.std.proofs.Common.{◌≡◌, ℕ, inl, inr, List, [], ◌∷◌, ◌++◌, subst, arith}
-use Rattle.curp_base.proofs.Lists.{at_append, at_push_cases}
 use Rattle.curp_base.specs.Words.{At}
+use Rattle.curp_base.proofs.Lists.{at_append, at_push_cases}
 use Rattle.curp_cmd.specs.declared.command.Answer.{Answer}
 use Rattle.curp_cmd.specs.declared.command.Command.{Command}
 use Rattle.curp_cmd.specs.declared.command.RequestId.{RequestId}
-use Rattle.curp_law_line.specs.Line.{IsCompleted, Line, OrderOk, WasInvoked}
-use Rattle.curp_law_line.specs.Moves.{InvokeFits, invoking, take_told}
 use Rattle.curp_order.specs.Order.{IsHistory}
 use Rattle.curp_order.specs.declared.Event.{Event}
 use Rattle.curp_order.specs.declared.Event.TheVariants.{Complete, Invoke}
+use Rattle.curp_law_line.specs.Line.{IsCompleted, Line, OrderOk, WasInvoked}
+use Rattle.curp_law_line.specs.Moves.{InvokeFits, invoking, take_told}
 
+-- what was invoked stays so
 pub invoked_grows : (h more : List Event) (id : RequestId) (c : Command) → WasInvoked h id c → WasInvoked (h ++ more) id c
 invoked_grows h more id c w = record { event = w.event; stands = at_append h more w.event _ w.stands }
 
+-- what has completed stays so
 pub completed_grows : (h more : List Event) (id : RequestId) → IsCompleted h id → IsCompleted (h ++ more) id
 completed_grows h more id w = record { event = w.event; answer = w.answer; stands = at_append h more w.event _ w.stands }
 
@@ -53,6 +55,7 @@ module _ (s : Line) (ok : OrderOk s) (id : RequestId) (command : Command) (fits 
     after_invoked = λ j x a h. let v = ok.history.after_invoked j x a (old_completion j x a h) in (v.0, v.1, v.2, at_append s.history _ v.0 _ v.3);
   }
 
+  -- an invocation keeps the facts
   pub invoke_keeps : OrderOk (invoking s id command)
   invoke_keeps = record {
     history = invoke_history;

@@ -1,23 +1,20 @@
 -- Each move keeps the machine's facts; and so do lists of moves, from the opening on. A look that is kept keeps its value.
-use Rattle.curp_law_line.proofs.Given.{LogsOk, Second}
 use Rattle.std.proofs.Common.{◌≡◌, ◌⊎◌, inl, length, ℕ, true, List, [], ◌∷◌, Some, None, refl, sym, subst}
 use Rattle.std.specs.FinMap as map
 use Rattle.curp_base.specs.Words.{At, numbered}
-use Rattle.curp_cmd.specs.declared.entry.Entry.{Entry}
-use Rattle.curp_cmd.specs.declared.entry.Entry.TheVariants.{Op, Take}
-use Rattle.curp_law_line.proofs.Given.{Pure}
-use Rattle.curp_law_line.specs.Hashes.{HashOk, Part, owns}
-use Rattle.curp_law_line.specs.Line.{Line}
-use Rattle.curp_law_line.specs.Moves.{Adopts, Completes, ExpirePush, Fits, Flags, GivePush, GivenDone, Invokes, Looks, Migrates, Move, OpPush, TakePush, Told, after}
-use Rattle.curp_law_line.proofs.UpdatesKept.{UpdatesOk, updates_keep, whole_value}
-use Rattle.curp_law_line.proofs.ReadsKept.{reads_keep}
-use Rattle.curp_law_line.proofs.Values.{look_adopt, look_begins, look_flagged, look_more}
-use Rattle.curp_law_line.specs.Line.{LineOk, LookGives}
-use Rattle.curp_law_line.specs.Moves.{AllFit, IsDropped, Look, LookFits, all_after, looking}
-use Rattle.curp_model.specs.Log.{answer_after}
-use Rattle.curp_msg.specs.declared.machine.Capture.{Capture}
 use Rattle.curp_cmd.specs.declared.command.Answer.{Answer}
 use Rattle.curp_cmd.specs.declared.command.RequestId.{RequestId}
+use Rattle.curp_cmd.specs.declared.entry.Entry.{Entry}
+use Rattle.curp_cmd.specs.declared.entry.Entry.TheVariants.{Op, Take}
+use Rattle.curp_msg.specs.declared.machine.Capture.{Capture}
+use Rattle.curp_model.specs.Log.{answer_after}
+use Rattle.curp_law_line.specs.Hashes.{HashOk, Part, owns}
+use Rattle.curp_law_line.specs.Line.{Line, LineOk, LookGives}
+use Rattle.curp_law_line.specs.Moves.{Adopts, AllFit, Completes, ExpirePush, Fits, Flags, GivePush, GivenDone, Invokes, IsDropped, Look, LookFits, Looks, Migrates, Move, OpPush, TakePush, Told, after, all_after, looking}
+use Rattle.curp_law_line.proofs.Given.{LogsOk, Pure, Second}
+use Rattle.curp_law_line.proofs.ReadsKept.{reads_keep}
+use Rattle.curp_law_line.proofs.UpdatesKept.{UpdatesOk, updates_keep, whole_value}
+use Rattle.curp_law_line.proofs.Values.{look_adopt, look_begins, look_flagged, look_more}
 
 module _ (pure : Pure) (second : Second) where
   updates_of : (s : Line) → LineOk s → UpdatesOk s

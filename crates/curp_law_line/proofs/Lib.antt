@@ -15,6 +15,7 @@ pub mod Migrations
 pub mod Takes
 pub mod Spans
 pub mod Entries
+pub mod Carried
 pub mod Gives
 pub mod Orders
 pub mod AdoptedMarks
@@ -37,3 +38,5 @@ pub mod Looks
 pub mod LooksKept
 pub mod Values
 pub mod ReadsKept
+pub mod Growing
+pub mod Stores

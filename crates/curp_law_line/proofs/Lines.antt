@@ -4,15 +4,15 @@ use Rattle.std.specs.List.{list_any}
 use Rattle.std.proofs.lemmas.Bool.{cases_eq, or_parts}
 use Rattle.std.proofs.lemmas.List.Folds.{list_any-append}
 use Rattle.curp_base.specs.Words.{numbered}
+use Rattle.curp_range.specs.Spans.{is_in}
 use Rattle.curp_cmd.specs.declared.command.RequestId.{RequestId}
 use Rattle.curp_cmd.specs.declared.entry.Entry.{Entry}
-use Rattle.curp_law_line.proofs.Known.{stays_known}
-use Rattle.curp_law_line.proofs.Pushes.{cases, longer, other, own}
+use Rattle.curp_model.specs.Manager.{Migration}
+use Rattle.curp_law_logs.specs.Hashes.{Asked, NoGive, NotNew, behind, gives}
 use Rattle.curp_law_line.specs.Hashes.{Part, given_on, has_take, is_give, is_take, onward}
 use Rattle.curp_law_line.specs.Moves.{pushed}
-use Rattle.curp_law_logs.specs.Hashes.{Asked, NoGive, NotNew, behind, gives}
-use Rattle.curp_model.specs.Manager.{Migration}
-use Rattle.curp_range.specs.Spans.{is_in}
+use Rattle.curp_law_line.proofs.Known.{stays_known}
+use Rattle.curp_law_line.proofs.Pushes.{cases, longer, other, own}
 
 -- a list that is cut somewhere, with one item more
 pub split_push : {A : Type 0} (front back xs : List A) (e : A) → front ++ back ≡ xs ++ e ∷ []
@@ -42,9 +42,11 @@ split_append {A} (f ∷ front) back (x ∷ xs) ys h =
       | inr mid ↦ inr (mid.0, ap (λ (z : A). z ∷ front) head ∙ ap (λ w. x ∷ w) mid.1, mid.2)
     ]
 
+-- the id is known to each beginning of the log behind which no give covers the hash
 abbrev pub KnownFrom : ℕ → ℕ → ℕ → List Entry → RequestId → Type 0
 KnownFrom lo hi h log id = (front back : List Entry) → front ++ back ≡ log → NoGive h back → NotNew lo hi front id
 
+-- and so behind one more entry
 pub known_push : (lo hi h : ℕ) (log : List Entry) (e : Entry) (id : RequestId) → KnownFrom lo hi h log id → KnownFrom lo hi h (log ++ e ∷ []) id
 known_push lo hi h log e id known front back is none = elim (split_push front back log e is) [
   | inl last ↦ subst (λ (es : List Entry). NotNew lo hi es id) (sym last.1) (stays_known lo hi log (e ∷ []) id (known log [] (append-nil log) refl))
@@ -55,10 +57,12 @@ known_push lo hi h log e id known front back is none = elim (split_push front ba
 
 -- ---- what goes on elsewhere
 
+-- where a take is out, a migration is in work
 pub has_moving : (moving : Option Migration) (h : ℕ) (log : List Entry) → has_take moving h log ≡ true → (m : Migration) × (moving ≡ Some m)
 has_moving None h log t = absurd cc
 has_moving (Some m) h log t = (m, refl)
 
+-- what went on elsewhere, where the target has the give
 pub onward_given : (moving : Option Migration) (m : Migration) (parts : List Part) (log : List Entry) (h : ℕ) (t : Part) → moving ≡ Some m → has_take moving h log ≡ true
     → numbered parts m.target ≡ Some t → list_any (is_give m.number) t.log ≡ true → onward moving parts log h ≡ behind h t.log
 onward_given None m parts log h t is has there given = absurd cc
@@ -69,6 +73,7 @@ onward_given (Some n) m parts log h t is has there given =
     let c : given_on h m.number (numbered parts m.target) ≡ given_on h m.number (Some t) = ap (given_on h m.number) there in
     a ∙ b ∙ c ∙ ap (λ (d : Bool). cond d (behind h t.log) []) given
 
+-- what went on depends on the takes of the log alone
 pub onward_log : (moving : Option Migration) (parts : List Part) (h : ℕ) (log other : List Entry) → ((number : ℕ) → list_any (is_take number) other ≡ list_any (is_take number) log)
     → onward moving parts other h ≡ onward moving parts log h
 onward_log None parts h log other same = refl
@@ -81,6 +86,7 @@ module _ (parts : List Part) (n : ℕ) (p : Part) (e : Entry) (here : numbered p
   none_both k ne (Some q) None f g = let h = other parts n p e here k q ne f in absurd (cc (g, h))
   none_both k ne (Some q) (Some r) f g = let h = other parts n p e here k q ne f in sym g ∙ h
 
+  -- what a number finds behind a push
   pub look : (k : ℕ) → (numbered (pushed parts n p e) k ≡ numbered parts k) ⊎ ((k ≡ n) × (numbered (pushed parts n p e) k ≡ Some (longer parts n p e here)))
   look k = elim (cases_eq k n) [
     | inl same ↦ inr (same, ap (numbered (pushed parts n p e)) same ∙ own parts n p e here)

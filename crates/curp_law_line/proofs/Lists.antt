@@ -1,8 +1,8 @@
 -- What stands in lists, and what filters keep.
-use Rattle.std.proofs.Common.{◌≡◌, ℕ, zero, suc, ◌+◌, ◌||◌, Bool, true, false, cond, List, [], ◌∷◌, ◌++◌, map, length, Some, refl, ap, sym, ◌∙◌, arith, ◌⊎◌, inl, inr}
+use Rattle.std.proofs.Common.{◌≡◌, take, drop, ℕ, zero, suc, ◌+◌, ◌||◌, Bool, true, false, cond, List, [], ◌∷◌, ◌++◌, map, length, Some, refl, ap, sym, ◌∙◌, arith, ◌⊎◌, inl, inr}
 use Rattle.std.specs.List.{filter, list_any}
-use Rattle.curp_base.proofs.Lists.{Each-at, Each-from_at, at_append, at_append_cases, at_append_right}
 use Rattle.curp_base.specs.Words.{At, Each}
+use Rattle.curp_base.proofs.Lists.{Each-at, Each-from_at, at_append, at_append_cases, at_append_right}
 use Rattle.curp_cmd.specs.RequestId.{same_id}
 use Rattle.curp_cmd.specs.declared.command.RequestId.{RequestId}
 use Rattle.curp_cmd.proofs.Ids.{same_id-self}
@@ -92,8 +92,15 @@ pub some_or_none : {A : Type 0} (xs : List A) → (xs ≡ []) ⊎ ((q : A) × In
 some_or_none [] = inl refl
 some_or_none (x ∷ xs) = inr (x, in_head x xs)
 
+-- an item with what stands before it and behind it
+pub take_split : {A : Type 0} (xs : List A) (k : ℕ) (x : A) → At xs k x → xs ≡ take k xs ++ x ∷ drop (suc k) xs
+take_split [] k x h = absurd cc
+take_split (y ∷ xs) zero x h = let same : y ≡ x = cc in ap (λ z. z ∷ xs) same
+take_split (y ∷ xs) (suc k) x h = ap (λ l. y ∷ l) (take_split xs k x h)
+
 -- ---- lists in which each id stands once
 
+-- no id stands twice
 abbrev pub Distinct : List Asked → Type 0
 Distinct [] = Unit {0}
 Distinct (x ∷ xs) = Each (λ y. x.0 ≡ y.0 → ⊥) xs × Distinct xs

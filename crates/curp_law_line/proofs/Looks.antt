@@ -1,28 +1,27 @@
 -- Reads: what an adoption drops doesn't reach below a look that is kept.
-use Rattle.curp_law_line.proofs.Given.{TakesOnce}
-use Rattle.curp_law_line.proofs.Hashes.{update_place}
-use Rattle.curp_law_line.proofs.Entries.{take_entry}
 use Rattle.std.proofs.Common.{◌≡◌, ◌≢◌, ℕ, ◌<◌, ◌≤◌, ◌&&◌, ◌==◌, nat_le, nat_lt, not, inl, inr, Bool, true, false, cond, List, [], ◌∷◌, ◌++◌, length, Some, refl, ap, sym, ◌∙◌, subst, arith}
 use Rattle.std.specs.List.{filter, list_any}
-use Rattle.std.proofs.lemmas.Bool.{cases_Bool, cases_eq, eqb-true, eq-eqb}
+use Rattle.std.proofs.lemmas.Bool.{cases_Bool, cases_eq, eq-eqb, eqb-true}
 use Rattle.std.proofs.lemmas.Bool.Decides.{nat_tests}
-use Rattle.curp_base.proofs.Lists.{at_append, at_append_right, at_within}
 use Rattle.curp_base.specs.Words.{At, numbered}
+use Rattle.curp_base.proofs.Lists.{at_append, at_append_right, at_within}
 use Rattle.curp_cmd.specs.Hash.{touches}
 use Rattle.curp_cmd.specs.Store.{applied, nothing}
 use Rattle.curp_cmd.specs.declared.entry.Entry.{Entry}
 use Rattle.curp_cmd.specs.declared.entry.Entry.TheVariants.{Take}
-use Rattle.curp_law_line.proofs.AdoptedMarks.{flagged_stays, stays}
-use Rattle.curp_law_line.proofs.Given.{Pure}
-use Rattle.curp_law_line.proofs.Lists.{in_any, in_head, in_tail}
-use Rattle.curp_law_line.proofs.Numbered.{any_at, numbered_same}
-use Rattle.curp_law_line.proofs.Orders.{same_fronts}
+use Rattle.curp_order.specs.Order.{store_after}
+use Rattle.curp_model.specs.Marks.{Executed, Looked, Mark, is_past, is_update_mark}
+use Rattle.curp_law_logs.specs.Hashes.{In, asked, on, updates}
 use Rattle.curp_law_line.specs.Hashes.{Part, is_take}
 use Rattle.curp_law_line.specs.Line.{Line, LooksOk, ToldTake}
 use Rattle.curp_law_line.specs.Moves.{Adopt, AdoptFits}
-use Rattle.curp_law_logs.specs.Hashes.{In, asked, on, updates}
-use Rattle.curp_model.specs.Marks.{Executed, Looked, Mark, is_past, is_update_mark}
-use Rattle.curp_order.specs.Order.{store_after}
+use Rattle.curp_law_line.proofs.AdoptedMarks.{flagged_stays, stays}
+use Rattle.curp_law_line.proofs.Entries.{take_entry}
+use Rattle.curp_law_line.proofs.Given.{Pure, TakesOnce}
+use Rattle.curp_law_line.proofs.Hashes.{update_place}
+use Rattle.curp_law_line.proofs.Lists.{in_any, in_head, in_tail}
+use Rattle.curp_law_line.proofs.Numbered.{any_at, numbered_same}
+use Rattle.curp_law_line.proofs.Orders.{same_fronts}
 
 -- marks that a filter keeps on a hash leave what the order has there
 pub filter_on : (h : ℕ) (q : Mark → Bool) (marks : List Mark) → ((u : Mark) → In u marks → is_update_mark u.place ≡ true → touches u.command h ≡ true → q u ≡ true) → on h (updates (filter q marks)) ≡ on h (updates marks)

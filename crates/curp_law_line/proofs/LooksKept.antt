@@ -1,24 +1,24 @@
--- L1 as the moves go on.
-use Rattle.curp_law_line.proofs.Given.{TakesOnce}
+-- No update that stands before a look on its hash is dropped and the look kept, as the moves go on.
 use Rattle.std.proofs.Common.{◌≡◌, ◌≢◌, ℕ, ◌<◌, inl, inr, ◌⊎◌, true, false, List, [], ◌∷◌, ◌++◌, length, Some, ap, sym, ◌∙◌, subst, arith}
 use Rattle.std.specs.List.{filter}
 use Rattle.std.proofs.lemmas.Bool.{cases_eq}
-use Rattle.curp_base.proofs.Lists.{at_append, at_append_cases, at_push_cases, at_within}
 use Rattle.curp_base.specs.Words.{At, numbered}
+use Rattle.curp_base.proofs.Lists.{at_append, at_append_cases, at_push_cases, at_within}
 use Rattle.curp_cmd.specs.Hash.{touches}
 use Rattle.curp_cmd.specs.declared.command.Command.{Command}
 use Rattle.curp_cmd.specs.declared.command.Request.{Request}
 use Rattle.curp_cmd.specs.declared.entry.Entry.{Entry}
 use Rattle.curp_cmd.specs.declared.entry.Entry.TheVariants.{Op, Take}
-use Rattle.curp_law_line.proofs.AdoptedMarks.{filter_order, stays}
-use Rattle.curp_law_line.proofs.Completions.{flagging_at}
-use Rattle.curp_law_line.proofs.Looks.{told_low}
-use Rattle.curp_law_line.proofs.Numbered.{numbered_same, numbered_set_other, numbered_set_same}
+use Rattle.curp_msg.specs.declared.machine.Completed.{Completed}
+use Rattle.curp_model.specs.Marks.{Executed, Looked, Mark, flagged, looked}
 use Rattle.curp_law_line.specs.Hashes.{Part}
 use Rattle.curp_law_line.specs.Line.{Line, LooksOk, OpAt, OrderOk, ToldTake}
 use Rattle.curp_law_line.specs.Moves.{Adopt, AdoptFits, Look, LookFits, ops, pushed, relogged, replayed_of}
-use Rattle.curp_model.specs.Marks.{Executed, Looked, Mark, flagged, looked}
-use Rattle.curp_msg.specs.declared.machine.Completed.{Completed}
+use Rattle.curp_law_line.proofs.AdoptedMarks.{filter_order, stays}
+use Rattle.curp_law_line.proofs.Completions.{flagging_at}
+use Rattle.curp_law_line.proofs.Given.{TakesOnce}
+use Rattle.curp_law_line.proofs.Looks.{told_low}
+use Rattle.curp_law_line.proofs.Numbered.{numbered_same, numbered_set_other, numbered_set_same}
 use Rattle.curp_law_line.proofs.Pushes as pushes
 
 -- the take stands in a log that has all of another
@@ -105,6 +105,7 @@ looks_tell parts told number marks ok j k i n long h m u hm am hk lt au f tm tu 
       )
 ]
 
+-- the marks that stay
 abbrev pub filter_stays : Line → Adopt → List Mark
 filter_stays s o = filter (stays o.part (length o.stays)) s.marks
 

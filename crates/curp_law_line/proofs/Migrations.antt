@@ -2,13 +2,13 @@
 use Rattle.std.proofs.Common.{◌≡◌, ℕ, ◌&&◌, inl, inr, Bool, true, false, [], ◌++◌, Option, Some, None, refl, ap, sym, ◌∙◌}
 use Rattle.std.proofs.lemmas.Bool.{cases_Bool, or_cases, or_left}
 use Rattle.curp_base.specs.Words.{numbered}
-use Rattle.curp_law_line.proofs.Hashes.{no_onward}
+use Rattle.curp_range.specs.Spans.{is_in}
+use Rattle.curp_model.specs.Manager.{Migration}
+use Rattle.curp_law_logs.specs.Hashes.{behind, updates}
 use Rattle.curp_law_line.specs.Hashes.{HashesOk, Part, has_take, onward, owns}
 use Rattle.curp_law_line.specs.Line.{Line, OrderOk, Owned}
 use Rattle.curp_law_line.specs.Moves.{MigrateFits, given_done, migrating}
-use Rattle.curp_law_logs.specs.Hashes.{behind, updates}
-use Rattle.curp_model.specs.Manager.{Migration}
-use Rattle.curp_range.specs.Spans.{is_in}
+use Rattle.curp_law_line.proofs.Hashes.{no_onward}
 
 -- where only the equation changes
 rehashed : (s : Line) → OrderOk s → (moving : Option Migration) → HashesOk moving s.parts (updates s.marks) → OrderOk (record s { moving = moving })
@@ -53,6 +53,7 @@ module _ (s : Line) (ok : OrderOk s) (m : Migration) (fits : MigrateFits s m) wh
         known = was.known;
       }
 
+  -- the beginning of a migration keeps the facts
   pub migrate_keeps : OrderOk (migrating s m)
   migrate_keeps = rehashed s ok (Some m) migrate_hashes
 
@@ -64,5 +65,6 @@ module _ (s : Line) (ok : OrderOk s) (below : Owned s.moving s.parts) where
       let none : has_take s.moving h p.log ≡ false = elim (cases_Bool (has_take s.moving h p.log)) [ inl t ↦ absurd (below.gone n p h here own t) | inr f ↦ f ] in
       record { past = was.past; alike = was.alike ∙ ap (λ w. was.past ++ (behind h p.log ++ w)) (no_onward s.moving s.parts p.log h none); values = was.values; known = was.known }
 
+  -- its end keeps the facts
   pub given_keeps : OrderOk (given_done s)
   given_keeps = rehashed s ok None given_hashes

@@ -1,9 +1,10 @@
 -- The push of an op at the owner of its hashes.
 use Rattle.std.proofs.Common.{◌≡◌, ◌≢◌, ℕ, ◌||◌, inl, inr, true, false, List, [], ◌∷◌, ◌++◌, length, take, Some, refl, ap, sym, ◌∙◌, subst, arith, append-nil, append_assoc}
-use Rattle.std.proofs.lemmas.Bool.{cases_Bool, or_cases}
 use Rattle.std.proofs.Math.Seq.{take-append_seam}
-use Rattle.curp_base.proofs.Lists.{at_append, at_push, at_push_cases, at_within}
+use Rattle.std.proofs.lemmas.Bool.{cases_Bool, or_cases}
 use Rattle.curp_base.specs.Words.{At, numbered}
+use Rattle.curp_base.proofs.Lists.{at_append, at_push, at_push_cases, at_within}
+use Rattle.curp_range.specs.Spans.{Span, is_owned}
 use Rattle.curp_cmd.specs.Hash.{touches}
 use Rattle.curp_cmd.specs.Store.{is_update, nothing}
 use Rattle.curp_cmd.specs.declared.command.Answer.{Answer}
@@ -12,25 +13,24 @@ use Rattle.curp_cmd.specs.declared.command.Request.{Request}
 use Rattle.curp_cmd.specs.declared.command.RequestId.{RequestId}
 use Rattle.curp_cmd.specs.declared.entry.Entry.{Entry}
 use Rattle.curp_cmd.specs.declared.entry.Entry.TheVariants.{Op}
-use Rattle.curp_law_line.proofs.OwnedValues.{at_own, no_take, owned_answer}
+use Rattle.curp_order.specs.Order.{IsHistory, answers}
+use Rattle.curp_order.specs.declared.Event.{Event}
+use Rattle.curp_order.specs.declared.Event.TheVariants.{Invoke}
+use Rattle.curp_order.proofs.Laws.{answers_push}
+use Rattle.curp_model.specs.Log.{answer_after}
+use Rattle.curp_model.specs.Marks.{Executed, Mark, executed, is_update_mark}
+use Rattle.curp_model.specs.Table.{check}
+use Rattle.curp_model.proofs.Logs.{op_not_new}
+use Rattle.curp_law_logs.specs.Hashes.{Asked, In, behind, on, updates}
+use Rattle.curp_law_line.specs.Hashes.{HashOk, HashesOk, Part, has_take, holds, is_give, is_take, onward, owns, state_of}
+use Rattle.curp_law_line.specs.Line.{Answered, AnswersOk, DistinctOk, FlagsOk, InTimeOk, InvokedOk, IsCompleted, KindsOk, Line, MarkedOk, OnceOk, OneFlagOk, OpAt, OrderOk, Owned, ReadsOk, StandingOk, UnflaggedOk, WaitingOk, WasInvoked}
+use Rattle.curp_law_line.specs.Moves.{PushOp, PushOpFits, op_pushed, pushed}
 use Rattle.curp_law_line.proofs.Given.{LogsValue, Pure}
 use Rattle.curp_law_line.proofs.Hashes.{any_push, behind_in, behind_op, came_op, has_take_push, no_onward, on_append, on_none, owned_op, update_mark, updates_append}
 use Rattle.curp_law_line.proofs.Lines.{has_moving, known_push, onward_given, onward_log, onward_same}
 use Rattle.curp_law_line.proofs.Lists.{in_cases, in_filter, in_none}
+use Rattle.curp_law_line.proofs.OwnedValues.{at_own, no_take, owned_answer}
 use Rattle.curp_law_line.proofs.Pushes.{answered_grows}
-use Rattle.curp_law_line.specs.Hashes.{HashOk, HashesOk, Part, has_take, holds, is_give, is_take, onward, owns, state_of}
-use Rattle.curp_law_line.specs.Line.{Answered, AnswersOk, DistinctOk, FlagsOk, InTimeOk, InvokedOk, IsCompleted, KindsOk, Line, MarkedOk, OnceOk, OneFlagOk, OpAt, OrderOk, Owned, ReadsOk, StandingOk, UnflaggedOk, WaitingOk, WasInvoked}
-use Rattle.curp_law_line.specs.Moves.{PushOp, PushOpFits, op_pushed, pushed}
-use Rattle.curp_law_logs.specs.Hashes.{Asked, In, behind, on, updates}
-use Rattle.curp_model.proofs.Logs.{op_not_new}
-use Rattle.curp_model.specs.Log.{answer_after}
-use Rattle.curp_model.specs.Marks.{Executed, Mark, executed, is_update_mark}
-use Rattle.curp_model.specs.Table.{check}
-use Rattle.curp_order.proofs.Laws.{answers_push}
-use Rattle.curp_order.specs.Order.{IsHistory, answers}
-use Rattle.curp_order.specs.declared.Event.{Event}
-use Rattle.curp_order.specs.declared.Event.TheVariants.{Invoke}
-use Rattle.curp_range.specs.Spans.{Span, is_owned}
 use Rattle.curp_law_line.proofs.Pushes as pushes
 
 -- one id is invoked with one command
@@ -102,7 +102,7 @@ module _ (pure : Pure) (s : Line) (ok : OrderOk s) (below : Owned s.moving s.par
   new_op : (n : ℕ) (q : Part) (i : ℕ) (t : Request) (a : ℕ) → numbered s.parts n ≡ Some q → At q.log i (Op t a) → t.id ≡ r.id → ⊥
   new_op n q i t a hn hi same = let w = ok.answered n q i t a hn hi in fresh (t.id, t.command) (w.place, w.stands) same
 
-  -- ---- O4
+  -- ---- no request stands twice
 
   op_distinct : DistinctOk (os ++ x ∷ [])
   op_distinct j k y z hj hk same = elim (at_push_cases os x j y hj) [
@@ -116,7 +116,7 @@ module _ (pure : Pure) (s : Line) (ok : OrderOk s) (below : Owned s.moving s.par
     ]
   ]
 
-  -- ---- O6
+  -- ---- a request is an op once
 
   op_once : OnceOk after
   op_once k m q y i j t u a b hk hm hi hj same = elim (pushes.old_or_new s.parts o.part p e fits.here k q i t a hk hi) [
@@ -132,7 +132,7 @@ module _ (pure : Pure) (s : Line) (ok : OrderOk s) (below : Owned s.moving s.par
         ]
   ]
 
-  -- ---- O5
+  -- ---- the answers of ops
 
   own_answer : Answered (os ++ x ∷ []) x (answer_after p.lo p.hi p.log r.command)
   own_answer = record {
@@ -153,7 +153,7 @@ module _ (pure : Pure) (s : Line) (ok : OrderOk s) (below : Owned s.moving s.par
         (subst (Answered (os ++ x ∷ []) x) (sym before) own_answer))
   ]
 
-  -- ---- O1
+  -- ---- the equation
 
   owns_same : (h : ℕ) → owns longer h ≡ owns p h
   owns_same h = ap (λ (spans : List Span). is_owned spans h) (owned_op p.lo p.hi p.log r o.acknowledged)
@@ -314,6 +314,7 @@ module _ (pure : Pure) (s : Line) (ok : OrderOk s) (below : Owned s.moving s.par
 
   -- ---- all
 
+  -- an op keeps the facts
   pub op_keeps : OrderOk (op_pushed s o)
   op_keeps = record {
     history = ok.history;

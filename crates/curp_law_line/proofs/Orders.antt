@@ -2,22 +2,22 @@
 use Rattle.std.proofs.Common.{◌≡◌, ℕ, zero, suc, inl, inr, Bool, true, false, not, cond, if◌then◌else◌, List, [], ◌∷◌, ◌++◌, length, refl, ap, sym, ◌∙◌, subst, arith, append-nil, append_assoc}
 use Rattle.std.specs.List.{filter}
 use Rattle.std.proofs.lemmas.Bool.{or_parts}
-use Rattle.curp_base.proofs.Lists.{Each-append, Each-at, Each-from_at, at_append_right, at_same}
 use Rattle.curp_base.specs.Words.{At}
+use Rattle.curp_base.proofs.Lists.{Each-append, Each-at, Each-from_at, at_append_right, at_same}
+use Rattle.curp_range.specs.Spans.{is_in}
 use Rattle.curp_cmd.specs.Hash.{hash_of, touches}
 use Rattle.curp_cmd.specs.Store.{applied, nothing}
 use Rattle.curp_cmd.specs.declared.command.Answer.{Answer}
 use Rattle.curp_cmd.specs.declared.command.RequestId.{RequestId}
 use Rattle.curp_cmd.specs.declared.entry.Entry.{Entry}
 use Rattle.curp_cmd.specs.declared.entry.Entry.TheVariants.{Expire, Give, Op, Take}
+use Rattle.curp_order.specs.Order.{answers, answers_from, store_after}
+use Rattle.curp_order.proofs.Laws.{answers_append, length-answers}
+use Rattle.curp_law_logs.specs.Hashes.{Asked, In, NoGive, behind_from, on, value}
+use Rattle.curp_law_line.specs.Line.{Answered}
 use Rattle.curp_law_line.proofs.Given.{Pure}
 use Rattle.curp_law_line.proofs.Hashes.{key_touches, on_append}
 use Rattle.curp_law_line.proofs.Lists.{Distinct, distinct_filter, empty_list, from_filter, in_cons, in_filter, in_head, in_none, in_right, in_tail, only_one, some_or_none}
-use Rattle.curp_law_line.specs.Line.{Answered}
-use Rattle.curp_law_logs.specs.Hashes.{Asked, In, NoGive, behind_from, on, value}
-use Rattle.curp_order.proofs.Laws.{answers_append, length-answers}
-use Rattle.curp_order.specs.Order.{answers, answers_from, store_after}
-use Rattle.curp_range.specs.Spans.{is_in}
 
 -- the ops of entries, as requests of the order
 abbrev pub asked_of : List Entry → List Asked
@@ -27,6 +27,7 @@ asked_of (Take n k ∷ es) = asked_of es
 asked_of (Give n k ∷ es) = asked_of es
 asked_of (Expire client ∷ es) = asked_of es
 
+-- where no give covers the hash, all ops on it stand behind
 pub behind_asked : (h : ℕ) (kept : List Asked) (es : List Entry) → NoGive h es → behind_from h kept es ≡ kept ++ on h (asked_of es)
 behind_asked h kept [] none = sym (append-nil kept)
 behind_asked h kept (Op r a ∷ es) none = go (touches r.command h) (behind_asked h (kept ++ (r.id, r.command) ∷ []) es none) (behind_asked h kept es none)
@@ -43,6 +44,7 @@ behind_asked h kept (Expire client ∷ es) none = behind_asked h kept es none
 
 -- ---- distinct lists
 
+-- two parts of a list have no id in common
 pub distinct_split : (xs ys : List Asked) → Distinct (xs ++ ys) → (x y : Asked) → In x xs → In y ys → x.0 ≡ y.0 → ⊥
 distinct_split [] ys d x y mx my same = in_none x ⊥ mx
 distinct_split (z ∷ xs) ys d x y mx my same = elim (in_cons x z xs mx) [
@@ -50,6 +52,7 @@ distinct_split (z ∷ xs) ys d x y mx my same = elim (in_cons x z xs mx) [
   | inr later ↦ distinct_split xs ys d.1 x y later my same
 ]
 
+-- and such parts make such a list
 pub distinct_append : (xs ys : List Asked) → Distinct xs → Distinct ys → ((x y : Asked) → In x xs → In y ys → x.0 ≡ y.0 → ⊥) → Distinct (xs ++ ys)
 distinct_append [] ys d e f = e
 distinct_append (x ∷ xs) ys d e f = (
@@ -78,6 +81,7 @@ cut_once (z ∷ f) (y ∷ g) b c x e d =
     let tail : f ++ x ∷ b ≡ g ++ x ∷ c = cc in
     ap (λ (w : Asked). w ∷ f) head ∙ ap (λ w. y ∷ w) (cut_once f g b c x tail d.1)
 
+-- a list, cut at a request
 pub record Split (xs : List Asked) (x : Asked) : Type 0 where
   pub front : List Asked
   pub back : List Asked
@@ -93,11 +97,13 @@ split_in xs x m = (split_at xs m.0 x m.1).0
 
 -- ---- answers at a place
 
+-- what one thread answers at a place
 pub answer_there : (f b : List Asked) (x : Asked) → At (answers (f ++ x ∷ b)) (length f) (applied (store_after nothing f) x.1).answer
 answer_there f b x =
     subst (λ (l : List Answer). At l (length f) (applied (store_after nothing f) x.1).answer) (sym (answers_append nothing f (x ∷ b)))
     (at_append_right (answers_from nothing f) _ 0 (length f) _ (let e : length (answers_from nothing f) ≡ length f = length-answers nothing f in omega (arith, e)) refl)
 
+-- the same of a cut
 pub answered_there : (os : List Asked) (x : Asked) (s : Split os x) → Answered os x (applied (store_after nothing s.front) x.1).answer
 answered_there os x s = subst (λ (l : List Asked). Answered l x (applied (store_after nothing s.front) x.1).answer) (sym s.is) (record {
   place = length s.front;
@@ -105,6 +111,7 @@ answered_there os x s = subst (λ (l : List Asked). Answered l x (applied (store
   answer = answer_there s.front s.back x;
 })
 
+-- and back: an answer is that of a cut
 pub answered_is : (os : List Asked) (x : Asked) (a : Answer) → (w : Answered os x a) → (s : Split os x) × (a ≡ (applied (store_after nothing s.front) x.1).answer)
 answered_is os x a w =
     let s = split_at os w.place x w.stands in
@@ -113,11 +120,13 @@ answered_is os x a w =
     (subst (λ (l : List Asked). At (answers l) (length s.0.front) (applied (store_after nothing s.0.front) x.1).answer) (sym s.0.is) (answer_there s.0.front s.0.back x)) in
     (s.0, at_same (answers os) w.place a _ w.answer there)
 
+-- a cut at a hash
 pub on_split : (h : ℕ) (xs : List Asked) (x : Asked) → touches x.1 h ≡ true → (s : Split xs x) → on h xs ≡ on h s.front ++ x ∷ on h s.back
 on_split h xs x t s = ap (on h) s.is ∙ on_append h s.front (x ∷ s.back) ∙ ap (λ (b : Bool). on h s.front ++ cond b (x ∷ on h s.back) (on h s.back)) t
 
 -- ---- what a request has at each of its hashes before it decides its answer
 
+-- what stands before a request at each of its hashes decides its answer
 pub same_fronts : Pure → (f g : List Asked) (x : Asked) → ((h : ℕ) → touches x.1 h ≡ true → on h f ≡ on h g) → (applied (store_after nothing f) x.1).answer ≡ (applied (store_after nothing g) x.1).answer
 same_fronts pure f g x e = pure.answer_local (store_after nothing f) (store_after nothing g) x.1 (λ key m.
     pure.value_local key f ∙ ap (value key) (e (hash_of key) (key_touches x.1 key m)) ∙ sym (pure.value_local key g))
@@ -149,6 +158,7 @@ module _ (done : RequestId → Bool) (S A : List Asked) (once : Distinct S) (one
   abbrev not_done : Asked → Bool
   not_done x = not (done x.0)
 
+  -- what is done of what goes, with what is replayed and isn't done, is what is replayed
   pub core : filter is_done S ++ filter not_done A ≡ A
   core = elim (some_or_none A) [
     | inl none ↦

@@ -1,24 +1,21 @@
 -- Who owns a hash, as the moves go on.
-use Rattle.curp_law_line.proofs.Lists.{some_same}
-use Rattle.std.proofs.Common.{◌≡◌, ℕ, ◌<◌, ◌≤◌, ◌+◌, ◌-◌, min, max, nat_lt, ◌||◌, inl, inr, ◌⊎◌, Bool, true, false, cond, List, [], ◌∷◌, ◌++◌, Option, Some, None, refl, ap, sym, ◌∙◌, subst, arith}
+use Rattle.std.proofs.Common.{◌≡◌, ℕ, inl, inr, ◌⊎◌, true, false, List, [], ◌∷◌, ◌++◌, Option, Some, None, refl, ap, sym, ◌∙◌, subst}
 use Rattle.std.specs.List.{list_any}
-use Rattle.std.proofs.lemmas.Bool.{cases_Bool, and_from, and_parts, eq-eqb, or_cases}
-use Rattle.std.proofs.lemmas.Bool.Decides.{nat_tests}
+use Rattle.std.proofs.lemmas.Bool.{and_from, and_parts, cases_Bool, eq-eqb}
 use Rattle.curp_base.specs.Words.{numbered}
+use Rattle.curp_range.specs.Spans.{Span, is_in, is_owned, without}
+use Rattle.curp_range.proofs.Tests.{covers_if_covered}
 use Rattle.curp_cmd.specs.declared.entry.Entry.{Entry}
 use Rattle.curp_cmd.specs.declared.entry.Entry.TheVariants.{Give, Take}
-use Rattle.curp_law_line.proofs.Hashes.{any_push, has_take_push}
-use Rattle.curp_law_line.proofs.Lists.{in_any, in_head, in_right}
-use Rattle.curp_law_line.proofs.Spans.{owned_give}
-use Rattle.curp_law_line.proofs.Takes.{owned_take, without_owned}
+use Rattle.curp_model.specs.Manager.{Migration}
 use Rattle.curp_law_line.specs.Hashes.{Part, has_take, is_give, is_take, owns, state_of}
 use Rattle.curp_law_line.specs.Line.{Line, Owned}
 use Rattle.curp_law_line.specs.Moves.{MigrateFits, PushGive, PushGiveFits, PushTake, PushTakeFits, pushed, taken_by}
-use Rattle.curp_model.specs.Manager.{Migration}
-use Rattle.curp_range.proofs.Ascending.{owned-append, range_bounds}
-use Rattle.curp_range.proofs.Tests.{covers_if_covered}
-use Rattle.curp_range.specs.Spans.{Span, is_in, is_owned, part_above, part_below, without}
+use Rattle.curp_law_line.proofs.Hashes.{any_push, has_take_push}
+use Rattle.curp_law_line.proofs.Lists.{in_any, in_head, in_right, some_same}
 use Rattle.curp_law_line.proofs.Pushes as pushes
+use Rattle.curp_law_line.proofs.Spans.{owned_give, without_out, without_owned}
+use Rattle.curp_law_line.proofs.Takes.{owned_take}
 
 -- ---- an entry that takes and gives nothing
 
@@ -31,6 +28,7 @@ pub record Was (moving : Option Migration) (parts : List Part) (k : ℕ) (q : Pa
   pub takes_same : (number : ℕ) → list_any (is_take number) q.log ≡ list_any (is_take number) old.log
   pub gives_same : (number : ℕ) → list_any (is_give number) q.log ≡ list_any (is_give number) old.log
 
+-- who owns what stays where nobody owns, takes or gives anything new
 pub owned_alike : (moving : Option Migration) (parts after : List Part) → ((k : ℕ) (q : Part) → numbered after k ≡ Some q → Was moving parts k q) → Owned moving parts → Owned moving after
 owned_alike moving parts after was ok = record {
   one = λ n k p q h hn hk a b. let v = was n p hn in let w = was k q hk in ok.one n k v.old w.old h v.here w.here (sym (v.owns_same h) ∙ a) (sym (w.owns_same h) ∙ b);
@@ -45,6 +43,7 @@ owned_alike moving parts after was ok = record {
   apart = ok.apart;
 }
 
+-- one more entry that neither takes nor gives
 pub push_was : (moving : Option Migration) (parts : List Part) (n : ℕ) (p : Part) (e : Entry) → numbered parts n ≡ Some p → ((h : ℕ) → owns (record p { log = p.log ++ e ∷ [] }) h ≡ owns p h)
     → ((number : ℕ) → is_take number e ≡ false) → ((number : ℕ) → is_give number e ≡ false) → (k : ℕ) (q : Part) → numbered (pushed parts n p e) k ≡ Some q → Was moving parts k q
 push_was moving parts n p e here same no_take no_give k q hk = elim (pushes.cases parts n p e here k q hk) [
@@ -60,33 +59,6 @@ push_was moving parts n p e here same no_take no_give k q hk = elim (pushes.case
 ]
 
 -- ---- the take
-
-without_out : (spans : List Span) (lo hi h : ℕ) → is_in lo hi h ≡ true → is_owned (without spans lo hi) h ≡ true → ⊥
-without_out [] lo hi h inside e = cc
-without_out (s ∷ spans) lo hi h inside e =
-    let b = range_bounds lo hi h inside in
-    elim (or_cases _ _ (sym (owned-append (part_below s lo ++ part_above s hi) (without spans lo hi) h) ∙ e)) [
-      | inr later ↦ without_out spans lo hi h inside later
-      | inl first ↦ elim (or_cases _ _ (sym (owned-append (part_below s lo) (part_above s hi) h) ∙ first)) [
-        | inl y ↦ under (nat_lt s.0 lo) refl y b.0
-        | inr y ↦ over (nat_lt hi s.1) y b.1
-      ]
-    ]
-  where
-    or_no : (b : Bool) → (b || false) ≡ true → b ≡ true
-    or_no true e = refl
-    or_no false e = e
-
-    under : (b : Bool) → nat_lt s.0 lo ≡ b → is_owned (cond b ((s.0, min s.1 (lo - 1)) ∷ []) []) h ≡ true → lo ≤ h → ⊥
-    under true t e low =
-        let r = range_bounds s.0 (min s.1 (lo - 1)) h (or_no _ e) in
-        let u : s.0 < lo = grind (arith, nat_tests) in
-        omega (arith, r.1)
-    under false t e low = cc
-
-    over : (b : Bool) → is_owned (cond b ((max s.0 (hi + 1), s.1) ∷ []) []) h ≡ true → h ≤ hi → ⊥
-    over true e high = let r = range_bounds (max s.0 (hi + 1)) s.1 h (or_no _ e) in omega (arith, r.0)
-    over false e high = cc
 
 module _ (s : Line) (ok : Owned (s.moving) s.parts) (o : PushTake) (fits : PushTakeFits s o) where
   abbrev p : Part
@@ -128,6 +100,7 @@ module _ (s : Line) (ok : Owned (s.moving) s.parts) (o : PushTake) (fits : PushT
     | inr new ↦ subst (λ (y : Part). list_any (is_give o.m.number) y.log ≡ false) new.1 (any_push (is_give o.m.number) p.log e refl ∙ fits.ungiven o.part p fits.here)
   ]
 
+  -- a take keeps who owns what
   pub take_owned : Owned s.moving after
   take_owned = record {
     one = λ n k x y h hn hk a b. let v = own_before n x h hn a in let w = own_before k y h hk b in ok.one n k v.0 w.0 h v.1 w.1 v.2 w.2;
@@ -162,16 +135,16 @@ module _ (s : Line) (ok : Owned s.moving s.parts) (o : PushGive) (fits : PushGiv
   abbrev after2 : List Part
   after2 = pushed s.parts o.part o.p (Give o.m.number o.brought)
 
-  source_takes : (h : ℕ) → is_in o.m.range.lo o.m.range.hi h ≡ true → has_take s.moving h fits.source.log ≡ true
+  source_takes : (h : ℕ) → is_in o.m.range.lo o.m.range.hi h ≡ true → has_take s.moving h fits.way.source.log ≡ true
   source_takes h inside =
-      let taken : list_any (is_take o.m.number) fits.source.log ≡ true =
-      ap (list_any (is_take o.m.number)) fits.taken ∙ in_any (is_take o.m.number) _ (Take o.m.number o.brought) (in_right fits.before (Take o.m.number o.brought ∷ fits.after) _ (in_head _ fits.after)) (eq-eqb o.m.number o.m.number refl) in
-      subst (λ (mv : Option Migration). has_take mv h fits.source.log ≡ true) (sym fits.in_work) (and_from _ _ inside taken)
+      let taken : list_any (is_take o.m.number) fits.way.source.log ≡ true =
+      ap (list_any (is_take o.m.number)) fits.way.taken ∙ in_any (is_take o.m.number) _ (Take o.m.number o.brought) (in_right fits.way.before (Take o.m.number o.brought ∷ fits.way.after) _ (in_head _ fits.way.after)) (eq-eqb o.m.number o.m.number refl) in
+      subst (λ (mv : Option Migration). has_take mv h fits.way.source.log ≡ true) (sym fits.in_work) (and_from _ _ inside taken)
 
   nobody : (h : ℕ) → is_in o.m.range.lo o.m.range.hi h ≡ true → (k : ℕ) (q : Part) → numbered s.parts k ≡ Some q → owns q h ≡ true → ⊥
   nobody h inside k q hk own =
-      let f = ok.moved k o.m.source q fits.source h o.m fits.in_work hk fits.its_source own (source_takes h inside) in
-      let bad : true ≡ false = sym f.1 ∙ fits.ungiven k q hk in
+      let f = ok.moved k o.m.source q fits.way.source h o.m fits.in_work hk fits.way.its_source own (source_takes h inside) in
+      let bad : true ≡ false = sym f.1 ∙ fits.way.ungiven k q hk in
       cc
 
   own_now : (k : ℕ) (q : Part) (h : ℕ) → numbered after2 k ≡ Some q → owns q h ≡ true
@@ -181,7 +154,7 @@ module _ (s : Line) (ok : Owned s.moving s.parts) (o : PushGive) (fits : PushGiv
     | inr new ↦ elim (cases_Bool (is_in o.m.range.lo o.m.range.hi h)) [
       | inl y ↦ inl (y, new.0)
       | inr out ↦
-          let off : is_in o.brought.lo o.brought.hi h ≡ false = (λ i. is_in (fits.lo i) (fits.hi i) h) ∙ out in
+          let off : is_in o.brought.lo o.brought.hi h ≡ false = (λ i. is_in (fits.way.lo i) (fits.way.hi i) h) ∙ out in
           inr (
             p2,
             subst (λ (j : ℕ). numbered s.parts j ≡ Some p2) (sym new.0) fits.here,
@@ -208,6 +181,7 @@ module _ (s : Line) (ok : Owned s.moving s.parts) (o : PushGive) (fits : PushGiv
     | inr new ↦ subst (λ (y : Part). list_any (is_give o.m.number) y.log ≡ true) new.1 (in_any (is_give o.m.number) (p2.log ++ e2 ∷ []) e2 (in_right p2.log (e2 ∷ []) e2 (in_head e2 [])) (eq-eqb o.m.number o.m.number refl))
   ]
 
+  -- a give keeps who owns what
   pub give_owned : Owned s.moving after2
   give_owned = record {
     one = λ n k x y h hn hk a b. elim (own_now n x h hn a) [
@@ -237,13 +211,13 @@ module _ (s : Line) (ok : Owned s.moving s.parts) (o : PushGive) (fits : PushGiv
           | inl v ↦ subst (λ (z : Migration). (n ≡ z.target) × (list_any (is_give z.number) x.log ≡ true)) same (v.1 ∙ sym fits.its_target, give_at n x hn v.1)
           | inr v ↦
               let f = ok.moved n k v.0 tw.0 h o.m fits.in_work v.1 tw.1 v.2 t0 in
-              absurd (let bad : true ≡ false = sym f.1 ∙ fits.ungiven n v.0 v.1 in cc)
+              absurd (let bad : true ≡ false = sym f.1 ∙ fits.way.ungiven n v.0 v.1 in cc)
         ];
     source = λ n x m is hn t. let tw = take_was n x hn in ok.source n tw.0 m is tw.1 (sym (tw.2 m.number) ∙ t);
     target = λ n x m is hn t.
         let same : o.m ≡ m = some_same (sym fits.in_work ∙ is) in
         elim (pushes.cases s.parts o.part p2 e2 fits.here n x hn) [
-          | inl old ↦ absurd (let bad : true ≡ false = sym t ∙ ap (λ (z : Migration). list_any (is_give z.number) x.log) (sym same) ∙ fits.ungiven n x old.1 in cc)
+          | inl old ↦ absurd (let bad : true ≡ false = sym t ∙ ap (λ (z : Migration). list_any (is_give z.number) x.log) (sym same) ∙ fits.way.ungiven n x old.1 in cc)
           | inr new ↦ new.0 ∙ sym fits.its_target ∙ ap (λ (z : Migration). z.target) same
         ];
     apart = ok.apart;
@@ -251,6 +225,7 @@ module _ (s : Line) (ok : Owned s.moving s.parts) (o : PushGive) (fits : PushGiv
 
 -- ---- a migration's beginning and end
 
+-- the end of a migration keeps it
 pub given_owned : (moving : Option Migration) (parts : List Part) → Owned moving parts → Owned None parts
 given_owned moving parts ok = record {
   one = ok.one;
@@ -261,6 +236,7 @@ given_owned moving parts ok = record {
   apart = λ m is same. absurd cc;
 }
 
+-- its beginning keeps it
 pub migrate_owned : (s : Line) (m : Migration) → Owned s.moving s.parts → MigrateFits s m → Owned (Some m) s.parts
 migrate_owned s m ok fits = record {
   one = ok.one;

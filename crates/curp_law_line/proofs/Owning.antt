@@ -1,19 +1,19 @@
 -- What an op of a log says of its hashes.
-use Rattle.curp_cmd.proofs.Ascendings.{all_ascending}
 use Rattle.std.proofs.Common.{◌≡◌, ℕ, zero, suc, ◌+◌, ◌==◌, ◌&&◌, Bool, true, List, [], ◌∷◌, take, ap, sym, ◌∙◌}
 use Rattle.std.specs.List.{list_all}
 use Rattle.std.proofs.lemmas.Bool.{and_parts, eqb-true}
 use Rattle.curp_base.specs.Words.{At}
+use Rattle.curp_range.specs.Spans.{Span, is_owned}
 use Rattle.curp_cmd.specs.Hash.{hashes, hashes_of, touches}
 use Rattle.curp_cmd.specs.declared.command.Command.{Command}
 use Rattle.curp_cmd.specs.declared.command.Request.{Request}
 use Rattle.curp_cmd.specs.declared.entry.Entry.{Entry}
 use Rattle.curp_cmd.specs.declared.entry.Entry.TheVariants.{Op}
-use Rattle.curp_law_line.proofs.Numbered.{any_at}
+use Rattle.curp_cmd.proofs.Ascendings.{all_ascending}
 use Rattle.curp_model.specs.Log.{IsLog, LogState, after_entries, after_entry, all_fit, fits_at, is_new, log_opening, meaning}
 use Rattle.curp_model.specs.Ranges.{owns_all}
 use Rattle.curp_model.specs.Table.{check}
-use Rattle.curp_range.specs.Spans.{Span, is_owned}
+use Rattle.curp_law_line.proofs.Numbered.{any_at}
 
 all_at : (p : ℕ → Bool) (xs : List ℕ) (k x : ℕ) → list_all p xs ≡ true → At xs k x → p x ≡ true
 all_at p [] k x all h = absurd cc
@@ -27,6 +27,7 @@ owns_touched spans c h all t =
     let e : w.1 ≡ h = eqb-true w.1 h w.3 in
     ap (is_owned spans) (sym e) ∙ all_at (is_owned spans) (hashes_of c) w.0 w.1 (sym (all_ascending (is_owned spans) (hashes_of c)) ∙ all) w.2
 
+-- each entry of a log fits at its place
 pub fit_at : (es : List Entry) (s : LogState) (k i : ℕ) (e : Entry) → all_fit s k es ≡ true → At es i e → fits_at (after_entries s k (take i es)) e ≡ true
 fit_at [] s k i e fits h = absurd cc
 fit_at (x ∷ es) s k zero e fits h = let same : x ≡ e = cc in ap (fits_at s) (sym same) ∙ (and_parts (fits_at s x) _ fits).0

@@ -2,22 +2,22 @@
 use Rattle.std.proofs.Common.{◌≡◌, ◌≢◌, ℕ, inl, inr, ◌⊎◌, List, [], ◌∷◌, ◌++◌, length, take, Some, refl, ap, sym, subst, arith}
 use Rattle.std.proofs.lemmas.Bool.{cases_eq}
 use Rattle.std.proofs.lemmas.List.{take-append-le}
-use Rattle.curp_base.proofs.Lists.{at_append, at_push_cases, at_within, prefix_at, prefix_push}
 use Rattle.curp_base.specs.Words.{At, numbered}
+use Rattle.curp_base.proofs.Lists.{at_append, at_push_cases, at_within, prefix_at, prefix_push}
 use Rattle.curp_cmd.specs.declared.command.Answer.{Answer}
 use Rattle.curp_cmd.specs.declared.command.Command.{Command}
 use Rattle.curp_cmd.specs.declared.command.Request.{Request}
 use Rattle.curp_cmd.specs.declared.command.RequestId.{RequestId}
 use Rattle.curp_cmd.specs.declared.entry.Entry.{Entry}
 use Rattle.curp_cmd.specs.declared.entry.Entry.TheVariants.{Op}
-use Rattle.curp_law_line.proofs.Numbered.{numbered_same, numbered_set_cases, numbered_set_other, numbered_set_same}
+use Rattle.curp_order.proofs.Laws.{answers_prefix}
+use Rattle.curp_model.specs.Log.{answer_after}
+use Rattle.curp_model.specs.Marks.{Mark}
+use Rattle.curp_law_logs.specs.Hashes.{Asked}
 use Rattle.curp_law_line.specs.Hashes.{Part}
 use Rattle.curp_law_line.specs.Line.{Answered, AnswersOk, OnceOk, OpAt, StandingOk, WaitingOk}
 use Rattle.curp_law_line.specs.Moves.{pushed}
-use Rattle.curp_law_logs.specs.Hashes.{Asked}
-use Rattle.curp_model.specs.Log.{answer_after}
-use Rattle.curp_model.specs.Marks.{Mark}
-use Rattle.curp_order.proofs.Laws.{answers_prefix}
+use Rattle.curp_law_line.proofs.Numbered.{numbered_same, numbered_set_cases, numbered_set_other, numbered_set_same}
 
 -- what is answered in an order is so in a longer one
 pub answered_grows : (os more : List Asked) (x : Asked) (a : Answer) → Answered os x a → Answered (os ++ more) x a
@@ -28,21 +28,27 @@ answered_grows os more x a o = record {
 }
 
 module _ (parts : List Part) (n : ℕ) (p : Part) (e : Entry) (here : numbered parts n ≡ Some p) where
+  -- the partition with one more entry
   abbrev pub longer : Part
   longer = record p { log = p.log ++ e ∷ [] }
 
+  -- the partitions with it
   abbrev pub after : List Part
   after = pushed parts n p e
 
+  -- what a number finds
   pub cases : (k : ℕ) (q : Part) → numbered after k ≡ Some q → ((k ≢ n) × (numbered parts k ≡ Some q)) ⊎ ((k ≡ n) × (longer ≡ q))
   cases k q h = numbered_set_cases parts n p longer here k q h
 
+  -- the partition itself
   pub own : numbered after n ≡ Some longer
   own = numbered_set_same parts n p longer here
 
+  -- another one
   pub other : (k : ℕ) (q : Part) → k ≢ n → numbered parts k ≡ Some q → numbered after k ≡ Some q
   other k q ne h = numbered_set_other parts n p longer here k q ne h
 
+  -- an op stays at its place
   pub op_stays : (k i : ℕ) (id : RequestId) (c : Command) → OpAt parts k i id c → OpAt after k i id c
   op_stays k i id c o = elim (cases_eq k n) [
     | inl same ↦
@@ -67,9 +73,11 @@ module _ (parts : List Part) (n : ℕ) (p : Part) (e : Entry) (here : numbered p
     }
   ]
 
+  -- the places that uncompleted marks give stay
   pub waiting_stays : (marks : List Mark) → WaitingOk parts marks → WaitingOk after marks
   waiting_stays marks ok k i m h at_i f = op_stays m.part i m.id m.command (ok k i m h at_i f)
 
+  -- each mark's op stays
   pub standing_stays : (marks : List Mark) → StandingOk parts marks → StandingOk after marks
   standing_stays marks ok k i m h at_i = let o = ok k i m h at_i in (o.0, op_stays m.part o.0 m.id m.command o.1)
 

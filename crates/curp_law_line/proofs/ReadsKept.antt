@@ -1,17 +1,17 @@
 -- Each move keeps what is kept of reads.
 use Rattle.std.proofs.Common.{◌≡◌, ◌+◌, ℕ, true, false, ◌++◌, length, Some, None, refl, ap, sym, ◌∙◌, subst}
-use Rattle.curp_base.proofs.Lists.{at_same}
 use Rattle.curp_base.specs.Words.{At}
+use Rattle.curp_base.proofs.Lists.{at_same}
 use Rattle.curp_cmd.specs.declared.entry.Entry.TheVariants.{Expire, Give, Op, Take}
+use Rattle.curp_model.specs.Marks.{Executed, Looked, Mark, executed, has_completed}
+use Rattle.curp_law_line.specs.Line.{Line, LooksKept, LooksOk, OrderOk, Owned, answer_at}
+use Rattle.curp_law_line.specs.Moves.{Adopt, AdoptFits, Adopts, Completes, ExpirePush, Fits, Flags, GivePush, GivenDone, Invokes, Looks, Migrates, Move, OpPush, TakePush, Told, after, ops, relogged, replayed_of, taken_by}
 use Rattle.curp_law_line.proofs.AdoptedMarks.{adopted_is, new_mark_at, new_marks}
 use Rattle.curp_law_line.proofs.Completions.{read_own, update_kind, update_own}
 use Rattle.curp_law_line.proofs.Given.{LogsOk, Pure}
 use Rattle.curp_law_line.proofs.LooksKept.{looks_adopt, looks_flag, looks_look, looks_more, looks_push, looks_tell}
 use Rattle.curp_law_line.proofs.ToldTakes.{takes_adopt, takes_give, takes_given, takes_migrate, takes_push, takes_take, takes_tell, told_behind}
 use Rattle.curp_law_line.proofs.Values.{values_adopt, values_complete, values_invoke, values_more}
-use Rattle.curp_law_line.specs.Line.{Line, LooksKept, LooksOk, OrderOk, Owned, answer_at}
-use Rattle.curp_law_line.specs.Moves.{Adopt, AdoptFits, Adopts, Completes, ExpirePush, Fits, Flags, GivePush, GivenDone, Invokes, Looks, Migrates, Move, OpPush, TakePush, Told, after, ops, relogged, replayed_of, taken_by}
-use Rattle.curp_model.specs.Marks.{Executed, Looked, Mark, executed, has_completed}
 
 module _ (pure : Pure) where
   adopted_looks : (s : Line) (o : Adopt) → AdoptFits s o → LogsOk s.parts → LooksOk s.parts s.told s.marks → LooksOk (relogged s.parts o.part o.p (o.stays ++ ops (replayed_of o))) s.told (after s (Adopts o)).marks
@@ -22,6 +22,7 @@ module _ (pure : Pure) where
       let e : Executed (length o.stays + n.0) ≡ Looked number long = sym (ap (λ (y : Mark). y.place) n.3) ∙ look in
       cc))
 
+  -- each move keeps what is kept of reads
   pub reads_keep : (s : Line) (m : Move) → Fits s m → LogsOk s.parts → OrderOk s → Owned s.moving s.parts → OrderOk (after s m) → LooksKept s → LooksKept (after s m)
   reads_keep s (OpPush o) fits logs ok below now k = record {
     looks = looks_more _ s.told s.marks (executed o.node o.part o.epoch (length o.p.log) o.request.id o.request.command) (λ number long is. absurd cc)

@@ -2,24 +2,24 @@
 use Rattle.std.proofs.Common.{◌≡◌, ℕ, zero, suc, ◌+◌, ◌==◌, inl, inr, Bool, true, false, cond, List, [], ◌∷◌, ◌++◌, take, length, Some, refl, ap, sym, ◌∙◌, arith}
 use Rattle.std.specs.List.{IsDistinct, list_any}
 use Rattle.std.proofs.lemmas.Bool.{eqb-true, or_parts}
-use Rattle.curp_base.proofs.Lists.{Each-from_at}
 use Rattle.curp_base.specs.Words.{At}
+use Rattle.curp_base.proofs.Lists.{Each-from_at}
+use Rattle.curp_range.specs.Spans.{is_in}
 use Rattle.curp_cmd.specs.Hash.{conflicts, hashes_of, touches}
 use Rattle.curp_cmd.specs.declared.command.Command.{Command}
 use Rattle.curp_cmd.specs.declared.command.Request.{Request}
 use Rattle.curp_cmd.specs.declared.entry.Entry.{Entry}
 use Rattle.curp_cmd.specs.declared.entry.Entry.TheVariants.{Expire, Give, Op, Take}
+use Rattle.curp_model.specs.Laws.{clash}
+use Rattle.curp_model.specs.Log.{LogState, after_entries, after_entry, entry_touches, meaning}
+use Rattle.curp_model.proofs.Clashes.{all_at, first_apart, no_conflict, one_id_clashes, rest_apart}
+use Rattle.curp_model.proofs.Logs.{meaning_append}
+use Rattle.curp_law_logs.specs.Hashes.{Asked, In, on}
+use Rattle.curp_law_line.specs.Moves.{ops}
 use Rattle.curp_law_line.proofs.AdoptedMarks.{asked_all}
 use Rattle.curp_law_line.proofs.Lists.{Distinct, in_any, in_cons, in_none, in_tail}
 use Rattle.curp_law_line.proofs.Numbered.{any_at}
 use Rattle.curp_law_line.proofs.Orders.{asked_of}
-use Rattle.curp_law_line.specs.Moves.{ops}
-use Rattle.curp_law_logs.specs.Hashes.{Asked, In, on}
-use Rattle.curp_model.proofs.Clashes.{all_at, first_apart, no_conflict, one_id_clashes, rest_apart}
-use Rattle.curp_model.proofs.Logs.{meaning_append}
-use Rattle.curp_model.specs.Laws.{clash}
-use Rattle.curp_model.specs.Log.{LogState, after_entries, after_entry, entry_touches, meaning}
-use Rattle.curp_range.specs.Spans.{is_in}
 
 pub asked_all_in : (rs : List Request) (x : Asked) → In x (asked_all rs) → (j : ℕ) × (r : Request) × At rs j r × ((r.id, r.command) ≡ x)
 asked_all_in [] x m = in_none x _ m
@@ -60,6 +60,7 @@ OpsOnce es = (i j : ℕ) (r s : Request) (a b : ℕ) → At es i (Op r a) → At
 ops_tail : (e : Entry) (es : List Entry) → OpsOnce (e ∷ es) → OpsOnce es
 ops_tail e es once i j r s a b hi hj same = let n : suc i ≡ suc j = once (suc i) (suc j) r s a b hi hj same in omega arith
 
+-- no op stands twice
 pub distinct_asked_of : (es : List Entry) → OpsOnce es → Distinct (asked_of es)
 distinct_asked_of [] once = tt
 distinct_asked_of (Op r a ∷ es) once = (
@@ -72,6 +73,7 @@ distinct_asked_of (Take n p ∷ es) once = distinct_asked_of es (ops_tail (Take 
 distinct_asked_of (Give n p ∷ es) once = distinct_asked_of es (ops_tail (Give n p) es once)
 distinct_asked_of (Expire c ∷ es) once = distinct_asked_of es (ops_tail (Expire c) es once)
 
+-- of requests that don't clash no id stands twice
 pub distinct_asked_all : (rs : List Request) → IsDistinct clash rs → Distinct (asked_all rs)
 distinct_asked_all [] d = tt
 distinct_asked_all (r ∷ rs) d = (
@@ -109,18 +111,22 @@ unfolding after_entry
 ops_owned [] s k = refl
 ops_owned (r ∷ rs) s k = ops_owned rs (after_entry s k (Op r 0)) (k + 1)
 
+-- what is replayed changes nothing of what is owned
 pub owned_ops : (lo hi : ℕ) (log : List Entry) (rs : List Request) → (meaning lo hi (log ++ ops rs)).owned ≡ (meaning lo hi log).owned
 owned_ops lo hi log rs = ap (λ (s : LogState). s.owned) (meaning_append lo hi log (ops rs)) ∙ ops_owned rs (meaning lo hi log) (length log)
 
+-- what is replayed are ops
 pub ops_any : (p : Entry → Bool) → ((r : Request) → p (Op r 0) ≡ false) → (rs : List Request) → list_any p (ops rs) ≡ false
 ops_any p none [] = refl
 ops_any p none (r ∷ rs) = rw (none r) (ops_any p none rs)
 
+-- a replayed op is of its request
 pub op_in_ops : (rs : List Request) (j : ℕ) (q : Request) (a : ℕ) → At (ops rs) j (Op q a) → At rs j q
 op_in_ops [] j q a h = absurd cc
 op_in_ops (r ∷ rs) zero q a h = let same : r ≡ q = cc in ap (λ (x : Request). Some x) same
 op_in_ops (r ∷ rs) (suc j) q a h = op_in_ops rs j q a h
 
+-- what replayed ops stand for
 pub asked_of_ops : (rs : List Request) → asked_of (ops rs) ≡ asked_all rs
 asked_of_ops [] = refl
 asked_of_ops (r ∷ rs) = ap (λ (l : List Asked). (r.id, r.command) ∷ l) (asked_of_ops rs)

@@ -5,11 +5,11 @@ use Rattle.curp_base.proofs.Lists.{at_take}
 use Rattle.curp_cmd.specs.Store.{Contents, applied, is_update, nothing}
 use Rattle.curp_cmd.specs.declared.command.Command.{Command}
 use Rattle.curp_cmd.specs.declared.command.Command.TheVariants.{Append, CondPut, Delete, Get, Incr, Multi, Put}
-use Rattle.curp_law_line.proofs.Lists.{in_head, in_tail}
-use Rattle.curp_law_line.specs.Line.{KindsOk, answer_at}
-use Rattle.curp_law_logs.specs.Hashes.{In, asked, updates}
-use Rattle.curp_model.specs.Marks.{Mark, is_shown, is_update_mark, shown}
 use Rattle.curp_order.specs.Order.{store_after}
+use Rattle.curp_model.specs.Marks.{Mark, is_shown, is_update_mark, shown}
+use Rattle.curp_law_logs.specs.Hashes.{In, asked, updates}
+use Rattle.curp_law_line.specs.Line.{KindsOk, answer_at}
+use Rattle.curp_law_line.proofs.Lists.{in_head, in_tail}
 
 read_only : (s : Contents) (command : Command) → is_update command ≡ false → (applied s command).after ≡ s
 unfolding applied
@@ -21,6 +21,7 @@ read_only s (Append key more) e = absurd cc
 read_only s (CondPut key expected value) e = absurd cc
 read_only s (Multi pairs) e = absurd cc
 
+-- the store over all that is shown is that over the updates
 pub shown_store : (s : Contents) (marks : List Mark) → ((m : Mark) → In m marks → is_update m.command ≡ is_update_mark m.place) → store_after s (shown marks) ≡ store_after s (updates marks)
 shown_store s [] kind = refl
 shown_store s (m ∷ marks) kind = go m.completed (is_update_mark m.place) (kind m (in_head m marks)) (λ t. shown_store t marks (λ x n. kind x (in_tail x m marks n)))

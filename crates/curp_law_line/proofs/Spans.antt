@@ -1,18 +1,17 @@
 -- The owned hashes of a log, one hash at a time: no order of spans is needed.
-use Rattle.std.proofs.Common.{◌≡◌, ℕ, ◌<◌, ◌≤◌, ◌+◌, ◌-◌, min, max, nat_le, nat_lt, ◌&&◌, ◌||◌, inl, inr, ◌⊎◌, Bool, true, false, cond, List, [], ◌∷◌, ◌++◌, length, refl, ap, sym, ◌∙◌, arith}
+use Rattle.std.proofs.Common.{◌≡◌, ℕ, ◌<◌, ◌≤◌, ◌+◌, ◌-◌, min, max, nat_le, nat_lt, ◌&&◌, ◌||◌, inl, inr, ◌⊎◌, Bool, true, false, not, cond, List, [], ◌∷◌, ◌++◌, length, refl, ap, sym, ◌∙◌, arith}
 use Rattle.std.specs.List.{list_any}
-use Rattle.std.proofs.lemmas.Bool.{cases_Bool, or_cases, or_left, or_parts, or_right}
+use Rattle.std.proofs.lemmas.Bool.{and_from, and_parts, cases_Bool, or_cases, or_left, or_parts, or_right}
 use Rattle.std.proofs.lemmas.Bool.Decides.{nat_tests}
+use Rattle.curp_range.specs.Spans.{Span, is_in, is_owned, part_above, part_below, with_range, without}
+use Rattle.curp_range.proofs.Ascending.{in_range, owned-append, range_bounds}
 use Rattle.curp_cmd.specs.declared.entry.Entry.{Entry}
 use Rattle.curp_cmd.specs.declared.entry.Entry.TheVariants.{Expire, Give, Op, Take}
 use Rattle.curp_cmd.specs.declared.migration.Package.{Package}
-use Rattle.curp_law_line.proofs.Takes.{without_owned}
-use Rattle.curp_law_line.specs.Hashes.{Part, owns}
-use Rattle.curp_law_logs.specs.Hashes.{NoGive}
-use Rattle.curp_model.proofs.Logs.{meaning_append}
 use Rattle.curp_model.specs.Log.{LogState, after_entries, after_entry, meaning}
-use Rattle.curp_range.proofs.Ascending.{in_range, owned-append, range_bounds}
-use Rattle.curp_range.specs.Spans.{Span, is_in, is_owned, part_above, part_below, with_range, without}
+use Rattle.curp_model.proofs.Logs.{meaning_append}
+use Rattle.curp_law_logs.specs.Hashes.{NoGive}
+use Rattle.curp_law_line.specs.Hashes.{Part, owns}
 
 outside : (lo hi h : ℕ) → is_in lo hi h ≡ false → (h < lo) ⊎ (hi < h)
 outside lo hi h e = go (nat_le lo h) (nat_le h hi) refl refl e
@@ -67,25 +66,41 @@ with_range_has (s ∷ spans) lo hi h e = go (nat_lt (s.1 + 1) lo) (nat_lt (hi + 
       | inr r ↦ elim (or_cases (is_in s.0 s.1 h) _ r) [ inl y ↦ ih (min s.0 lo) (max s.1 hi) (or_left _ _ (wider (inr y))) | inr y ↦ ih (min s.0 lo) (max s.1 hi) (or_right (is_in (min s.0 lo) (max s.1 hi) h) _ y) ]
     ]
 
--- a range that leaves takes nothing off it
-pub without_has : (spans : List Span) (lo hi h : ℕ) → is_owned spans h ≡ true → is_in lo hi h ≡ false → is_owned (without spans lo hi) h ≡ true
-without_has [] lo hi h e out = e
-without_has (s ∷ spans) lo hi h e out = owned-append (part_below s lo ++ part_above s hi) (without spans lo hi) h ∙ elim (or_cases (is_in s.0 s.1 h) _ e) [
-  | inl y ↦ or_left _ _ (owned-append (part_below s lo) (part_above s hi) h ∙ first y (outside lo hi h out))
-  | inr y ↦ or_right (is_owned (part_below s lo ++ part_above s hi) h) _ (without_has spans lo hi h y out)
-]
+-- ---- a range goes
+
+and_over : (a b c : Bool) → ((a && c) || (b && c)) ≡ ((a || b) && c)
+and_over true b true = refl
+and_over true true false = refl
+and_over true false false = refl
+and_over false b c = refl
+
+span_without : (s : Span) (lo hi h : ℕ) → is_owned (part_below s lo ++ part_above s hi) h ≡ (is_in s.0 s.1 h && not (is_in lo hi h))
+span_without s lo hi h = go (nat_lt s.0 lo) (nat_lt hi s.1) refl refl
   where
-    first : is_in s.0 s.1 h ≡ true → (h < lo) ⊎ (hi < h) → (is_owned (part_below s lo) h || is_owned (part_above s hi) h) ≡ true
-    first y (inl low) =
-        let r = range_bounds s.0 s.1 h y in
-        let t : nat_lt s.0 lo ≡ true = let u : s.0 < lo = omega (arith, r.0) in grind (arith, nat_tests) in
-        let v : h ≤ min s.1 (lo - 1) = omega (arith, r.1) in
-        or_left _ _ (ap (λ (b : Bool). is_owned (cond b ((s.0, min s.1 (lo - 1)) ∷ []) []) h) t ∙ or_left _ _ (in_range s.0 (min s.1 (lo - 1)) h r.0 v))
-    first y (inr high) =
-        let r = range_bounds s.0 s.1 h y in
-        let t : nat_lt hi s.1 ≡ true = let u : hi < s.1 = omega (arith, r.1) in grind (arith, nat_tests) in
-        let v : max s.0 (hi + 1) ≤ h = omega (arith, r.0) in
-        or_right (is_owned (part_below s lo) h) _ (ap (λ (b : Bool). is_owned (cond b ((max s.0 (hi + 1), s.1) ∷ []) []) h) t ∙ or_left _ _ (in_range (max s.0 (hi + 1)) s.1 h v r.1))
+    go : (p q : Bool) → nat_lt s.0 lo ≡ p → nat_lt hi s.1 ≡ q
+        → is_owned (cond p ((s.0, min s.1 (lo - 1)) ∷ []) [] ++ cond q ((max s.0 (hi + 1), s.1) ∷ []) []) h ≡ (is_in s.0 s.1 h && not (is_in lo hi h))
+    go true true e f = grind (arith, nat_tests)
+    go true false e f = grind (arith, nat_tests)
+    go false true e f = grind (arith, nat_tests)
+    go false false e f = grind (arith, nat_tests)
+
+-- what is owned without a range was owned, and lies off the range
+pub owned_without : (spans : List Span) (lo hi h : ℕ) → is_owned (without spans lo hi) h ≡ (is_owned spans h && not (is_in lo hi h))
+owned_without [] lo hi h = refl
+owned_without (s ∷ spans) lo hi h =
+    rw (owned-append (part_below s lo ++ part_above s hi) (without spans lo hi) h, span_without s lo hi h, owned_without spans lo hi h) (and_over (is_in s.0 s.1 h) (is_owned spans h) (not (is_in lo hi h)))
+
+-- so it was there
+pub without_owned : (spans : List Span) (lo hi h : ℕ) → is_owned (without spans lo hi) h ≡ true → is_owned spans h ≡ true
+without_owned spans lo hi h e = (and_parts (is_owned spans h) _ (sym (owned_without spans lo hi h) ∙ e)).0
+
+-- nothing of the range is
+pub without_out : (spans : List Span) (lo hi h : ℕ) → is_in lo hi h ≡ true → is_owned (without spans lo hi) h ≡ true → ⊥
+without_out spans lo hi h inside e = let bad : not true ≡ true = ap not (sym inside) ∙ (and_parts (is_owned spans h) _ (sym (owned_without spans lo hi h) ∙ e)).1 in cc
+
+-- and all off the range that was
+without_has : (spans : List Span) (lo hi h : ℕ) → is_owned spans h ≡ true → is_in lo hi h ≡ false → is_owned (without spans lo hi) h ≡ true
+without_has spans lo hi h e out = owned_without spans lo hi h ∙ and_from (is_owned spans h) _ e (ap not out)
 
 -- ---- entries
 
@@ -118,9 +133,11 @@ owned_on h (Take n p ∷ es) s k e none =
 owned_on h (Give n p ∷ es) s k e none = owned_on h es (after_entry s k (Give n p)) (k + 1) (with_range_has s.owned p.lo p.hi h (or_right (is_in p.lo p.hi h) _ e)) none
 owned_on h (Expire client ∷ es) s k e none = owned_on h es (after_entry s k (Expire client)) (k + 1) e none
 
+-- what is owned behind entries that give nothing on a hash was owned before
 pub owned_before : (lo hi h : ℕ) (front back : List Entry) → is_owned (meaning lo hi (front ++ back)).owned h ≡ true → NoGive h back → is_owned (meaning lo hi front).owned h ≡ true
 owned_before lo hi h front back e none = owned_back h back (meaning lo hi front) (length front) (ap (λ (s : LogState). is_owned s.owned h) (sym (meaning_append lo hi front back)) ∙ e) none
 
+-- what is owned stays so behind entries that take nothing of it
 pub owned_after : (lo hi h : ℕ) (front back : List Entry) → is_owned (meaning lo hi front).owned h ≡ true → list_any (takes h) back ≡ false → is_owned (meaning lo hi (front ++ back)).owned h ≡ true
 owned_after lo hi h front back e none = ap (λ (s : LogState). is_owned s.owned h) (meaning_append lo hi front back) ∙ owned_on h back (meaning lo hi front) (length front) e none
 

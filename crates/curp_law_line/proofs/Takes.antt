@@ -1,66 +1,34 @@
 -- The take of the migration in work.
-use Rattle.std.proofs.Common.{◌≡◌, ℕ, ◌≤◌, ◌+◌, ◌-◌, min, max, nat_lt, ◌&&◌, ◌||◌, inl, inr, Bool, true, false, cond, List, [], ◌∷◌, ◌++◌, Option, Some, None, refl, ap, sym, ◌∙◌, subst, arith}
+use Rattle.std.proofs.Common.{◌≡◌, ℕ, ◌&&◌, inl, inr, Bool, true, false, cond, List, [], ◌∷◌, ◌++◌, Option, Some, None, refl, ap, sym, ◌∙◌, subst}
 use Rattle.std.specs.List.{list_any}
-use Rattle.std.proofs.lemmas.Bool.{cond_both, and_parts, or_cases, or_left, or_right}
+use Rattle.std.proofs.lemmas.Bool.{and_parts, cond_both, or_cases, or_left}
 use Rattle.curp_base.specs.Words.{numbered}
+use Rattle.curp_range.specs.Spans.{Span, is_in, is_owned, without}
+use Rattle.curp_range.proofs.Tests.{covers_if_covered}
 use Rattle.curp_cmd.specs.declared.command.Request.{Request}
 use Rattle.curp_cmd.specs.declared.entry.Entry.{Entry}
 use Rattle.curp_cmd.specs.declared.entry.Entry.TheVariants.{Op, Take}
 use Rattle.curp_cmd.specs.declared.migration.Package.{Package}
-use Rattle.curp_law_line.proofs.Hashes.{any_push, behind_append, came_append}
-use Rattle.curp_law_line.proofs.Lines.{known_push}
-use Rattle.curp_law_line.specs.Hashes.{HashOk, HashesOk, Part, given_on, has_take, holds, is_give, is_take, onward, owns, state_of}
-use Rattle.curp_law_line.specs.Line.{Line, OrderOk}
-use Rattle.curp_law_line.specs.Moves.{PushTake, PushTakeFits, pushed, take_pushed, taken_by}
-use Rattle.curp_law_line.specs.Line.{Ungiven}
-use Rattle.curp_law_logs.specs.Hashes.{Asked, behind, updates}
-use Rattle.curp_model.proofs.Logs.{meaning_append}
 use Rattle.curp_model.specs.Log.{LogState, after_entry, meaning}
 use Rattle.curp_model.specs.Manager.{Migration}
-use Rattle.curp_range.proofs.Ascending.{in_range, owned-append, range_bounds}
-use Rattle.curp_range.proofs.Tests.{covers_if_covered}
-use Rattle.curp_range.specs.Spans.{Span, is_in, is_owned, part_above, part_below, without}
+use Rattle.curp_model.proofs.Logs.{meaning_append}
+use Rattle.curp_law_logs.specs.Hashes.{Asked, behind, updates}
+use Rattle.curp_law_line.specs.Hashes.{HashOk, HashesOk, Part, given_on, has_take, holds, is_give, is_take, onward, owns, state_of}
+use Rattle.curp_law_line.specs.Line.{Line, OrderOk, Ungiven}
+use Rattle.curp_law_line.specs.Moves.{PushTake, PushTakeFits, pushed, take_pushed, taken_by}
+use Rattle.curp_law_line.proofs.Spans.{without_owned}
+use Rattle.curp_law_line.proofs.Hashes.{any_push, behind_append, came_append}
+use Rattle.curp_law_line.proofs.Lines.{known_push}
 use Rattle.curp_law_line.proofs.Pushes as pushes
 
--- ---- what a range leaves
-
-or_no : (b : Bool) → (b || false) ≡ true → b ≡ true
-or_no true e = refl
-or_no false e = e
-
-below_in : (s : Span) (lo h : ℕ) → is_owned (part_below s lo) h ≡ true → is_in s.0 s.1 h ≡ true
-below_in s lo h e = go (nat_lt s.0 lo) e
-  where
-    go : (b : Bool) → is_owned (cond b ((s.0, min s.1 (lo - 1)) ∷ []) []) h ≡ true → is_in s.0 s.1 h ≡ true
-    go true e =
-        let b = range_bounds s.0 (min s.1 (lo - 1)) h (or_no (is_in s.0 (min s.1 (lo - 1)) h) e) in
-        let u : h ≤ s.1 = omega (arith, b.1) in
-        in_range s.0 s.1 h b.0 u
-    go false e = absurd cc
-
-above_in : (s : Span) (hi h : ℕ) → is_owned (part_above s hi) h ≡ true → is_in s.0 s.1 h ≡ true
-above_in s hi h e = go (nat_lt hi s.1) e
-  where
-    go : (b : Bool) → is_owned (cond b ((max s.0 (hi + 1), s.1) ∷ []) []) h ≡ true → is_in s.0 s.1 h ≡ true
-    go true e =
-        let b = range_bounds (max s.0 (hi + 1)) s.1 h (or_no (is_in (max s.0 (hi + 1)) s.1 h) e) in
-        let u : s.0 ≤ h = omega (arith, b.0) in
-        in_range s.0 s.1 h u b.1
-    go false e = absurd cc
-
-pub without_owned : (spans : List Span) (lo hi h : ℕ) → is_owned (without spans lo hi) h ≡ true → is_owned spans h ≡ true
-without_owned [] lo hi h e = e
-without_owned (s ∷ spans) lo hi h e = elim (or_cases _ _ (sym (owned-append (part_below s lo ++ part_above s hi) (without spans lo hi) h) ∙ e)) [
-  | inl first ↦ or_left _ _ (elim (or_cases _ _ (sym (owned-append (part_below s lo) (part_above s hi) h) ∙ first)) [ inl b ↦ below_in s lo h b | inr a ↦ above_in s hi h a ])
-  | inr later ↦ or_right (is_in s.0 s.1 h) _ (without_owned spans lo hi h later)
-]
-
+-- what a take leaves
 pub owned_take : (lo hi : ℕ) (log : List Entry) (number : ℕ) (k : Package) → (meaning lo hi (log ++ Take number k ∷ [])).owned ≡ without (meaning lo hi log).owned k.lo k.hi
 unfolding after_entry
 owned_take lo hi log number k = ap (λ (s : LogState). s.owned) (meaning_append lo hi log (Take number k ∷ []))
 
 -- ---- nothing goes on where the give is nowhere
 
+-- where no log has the give, nothing went on elsewhere
 pub onward_ungiven : (m : Migration) (parts : List Part) (log : List Entry) (h : ℕ) → Ungiven parts m.number → onward (Some m) parts log h ≡ []
 onward_ungiven m parts log h none =
     cond_both (is_in m.range.lo m.range.hi h && list_any (is_take m.number) log) _ _ (λ (xs : List Asked). xs ≡ []) (λ y. at_target (numbered parts m.target) refl) (λ n. refl)
@@ -125,6 +93,7 @@ module _ (s : Line) (ok : OrderOk s) (o : PushTake) (fits : PushTakeFits s o) wh
             known = λ y m. known_push p.lo p.hi h p.log e y.0 (here.known y m);
           }
 
+  -- a take keeps the facts
   pub take_keeps : OrderOk (take_pushed s o)
   take_keeps = record {
     history = ok.history;

@@ -4,14 +4,20 @@ use Rattle.std.specs.List.{list_any}
 use Rattle.std.proofs.lemmas.Bool.{and_from, cases_Bool, eq-eqb, or_parts}
 use Rattle.std.proofs.lemmas.List.{take-append-drop}
 use Rattle.std.proofs.lemmas.List.Folds.{list_any-append}
-use Rattle.curp_base.proofs.Lists.{at_append, at_append_cases, at_drop, at_push_cases, at_same}
 use Rattle.curp_base.specs.Words.{At, numbered}
+use Rattle.curp_base.proofs.Lists.{at_append, at_append_cases, at_drop, at_push_cases, at_same}
+use Rattle.curp_range.specs.Spans.{is_in}
 use Rattle.curp_cmd.specs.Hash.{touches}
 use Rattle.curp_cmd.specs.declared.command.Request.{Request}
 use Rattle.curp_cmd.specs.declared.entry.Entry.{Entry}
 use Rattle.curp_cmd.specs.declared.entry.Entry.TheVariants.{Give, Op, Take}
 use Rattle.curp_cmd.specs.declared.migration.Package.{Package}
+use Rattle.curp_model.specs.Log.{IsLog}
+use Rattle.curp_model.specs.Manager.{Migration}
 use Rattle.curp_facts.specs.Facts.{IsAmong}
+use Rattle.curp_law_line.specs.Hashes.{Part, has_take, is_give, is_take, owns}
+use Rattle.curp_law_line.specs.Line.{IsMoving, Line, Owned, TakesOk, ToldTake, Ungiven}
+use Rattle.curp_law_line.specs.Moves.{Adopt, AdoptFits, GivenFits, MigrateFits, PushGive, PushGiveFits, PushTake, PushTakeFits, ops, pushed, relogged, replayed_of, taken_by}
 use Rattle.curp_law_line.proofs.Entries.{take_of}
 use Rattle.curp_law_line.proofs.Hashes.{any_push}
 use Rattle.curp_law_line.proofs.Lists.{in_any, or_false, some_same}
@@ -20,12 +26,6 @@ use Rattle.curp_law_line.proofs.Owning.{op_owned}
 use Rattle.curp_law_line.proofs.Pushes as pushes
 use Rattle.curp_law_line.proofs.Requests.{ops_any}
 use Rattle.curp_law_line.proofs.Spans.{owned_after, takes}
-use Rattle.curp_law_line.specs.Hashes.{Part, has_take, is_give, is_take, owns}
-use Rattle.curp_law_line.specs.Line.{IsMoving, Line, Owned, TakesOk, ToldTake, Ungiven}
-use Rattle.curp_law_line.specs.Moves.{Adopt, AdoptFits, GivenFits, MigrateFits, PushGive, PushGiveFits, PushTake, PushTakeFits, ops, pushed, relogged, replayed_of, taken_by}
-use Rattle.curp_model.specs.Log.{IsLog}
-use Rattle.curp_model.specs.Manager.{Migration}
-use Rattle.curp_range.specs.Spans.{is_in}
 
 -- ---- the moves
 
@@ -52,6 +52,7 @@ takes_push parts moving told n p e here no_give own ok m q i number k hm hi = el
     stays : IsAmong number told ⊎ IsMoving parts moving number k → IsAmong number told ⊎ IsMoving (pushed parts n p e) moving number k
     stays w = elim w [ inl t ↦ inl t | inr v ↦ inr (moves v) ]
 
+-- one more take is of the migration in work
 pub takes_take : (s : Line) (o : PushTake) → PushTakeFits s o → TakesOk s.parts s.moving s.told → TakesOk (pushed s.parts o.part o.p (Take o.m.number (taken_by o))) s.moving s.told
 takes_take s o fits ok = takes_push s.parts s.moving s.told o.part o.p (Take o.m.number (taken_by o)) fits.here (λ number. refl)
     (λ number k is. record {
@@ -69,6 +70,7 @@ takes_take s o fits ok = takes_push s.parts s.moving s.told o.part o.p (Take o.m
     package_of_take : {a b : ℕ} {k l : Package} → Take a k ≡ Take b l → k ≡ l
     package_of_take e = cc
 
+-- a give comes once its take was told
 pub takes_give : (s : Line) (o : PushGive) → PushGiveFits s o → TakesOk s.parts s.moving s.told → TakesOk (pushed s.parts o.part o.p (Give o.m.number o.brought)) s.moving s.told
 takes_give s o fits ok n q i number k hn hi = elim (pushes.cases s.parts o.part o.p (Give o.m.number o.brought) fits.here n q hn) [
   | inl old ↦ told_now (ok n q i number k old.1 hi)
@@ -86,18 +88,21 @@ takes_give s o fits ok n q i number k hn hi = elim (pushes.cases s.parts o.part 
           inl (subst (λ (x : ℕ). IsAmong x s.told) (ap (λ (m : Migration). m.number) same ∙ v.its_number) fits.told)
     ]
 
+-- one more is told
 pub takes_tell : (parts : List Part) (moving : Option Migration) (told : List ℕ) (number : ℕ) → TakesOk parts moving told → TakesOk parts moving (told ++ number ∷ [])
 takes_tell parts moving told number ok n q i other k hn hi = elim (ok n q i other k hn hi) [
   | inl t ↦ inl (record { place = t.place; stands = at_append told (number ∷ []) t.place other t.stands })
   | inr v ↦ inr v
 ]
 
+-- a migration begins where each take was told
 pub takes_migrate : (s : Line) (m : Migration) → MigrateFits s m → TakesOk s.parts s.moving s.told → TakesOk s.parts (Some m) s.told
 takes_migrate s m fits ok n q i number k hn hi = elim (ok n q i number k hn hi) [
   | inl t ↦ inl t
   | inr v ↦ absurd (let e : None ≡ Some v.m = sym fits.none ∙ v.in_work in cc)
 ]
 
+-- a migration is done once its take was told
 pub takes_given : (s : Line) (m : Migration) → GivenFits s m → TakesOk s.parts s.moving s.told → TakesOk s.parts None s.told
 takes_given s m fits ok n q i number k hn hi = elim (ok n q i number k hn hi) [
   | inl t ↦ inl t

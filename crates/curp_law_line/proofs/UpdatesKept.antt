@@ -1,14 +1,21 @@
 -- Each move keeps the facts of the order of updates, and who owns what.
-use Rattle.curp_law_line.proofs.Given.{LogsOk, Second}
 use Rattle.std.proofs.Common.{◌≡◌, ℕ, List, [], ◌∷◌, Some, refl, ap, sym, append-nil}
 use Rattle.curp_base.specs.Words.{At, numbered}
+use Rattle.curp_range.specs.Spans.{Span, is_owned}
 use Rattle.curp_cmd.specs.declared.command.Request.{Request}
 use Rattle.curp_cmd.specs.declared.entry.Entry.TheVariants.{Expire, Op, Take}
+use Rattle.curp_model.specs.Laws.{clash}
+use Rattle.curp_model.specs.Log.{meaning}
+use Rattle.curp_model.specs.Recovery.{replays}
+use Rattle.curp_model.proofs.Filters.{filter_apart}
+use Rattle.curp_law_line.specs.Hashes.{Part}
+use Rattle.curp_law_line.specs.Line.{Line, OrderOk, Owned}
+use Rattle.curp_law_line.specs.Moves.{Adopt, AdoptFits, Adopts, Completes, ExpirePush, Fits, Flags, GivePush, GivenDone, Invokes, Looks, Migrates, Move, OpPush, TakePush, Told, after, replayed_of}
 use Rattle.curp_law_line.proofs.AdoptedOwners.{adopt_owned, replayed_alone}
 use Rattle.curp_law_line.proofs.Adoptions.{adopt_keeps}
 use Rattle.curp_law_line.proofs.Completions.{complete_keeps, flag_keeps}
 use Rattle.curp_law_line.proofs.Expiries.{expire_keeps, look_keeps}
-use Rattle.curp_law_line.proofs.Given.{LogValue, Pure}
+use Rattle.curp_law_line.proofs.Given.{LogValue, LogsOk, Pure, Second}
 use Rattle.curp_law_line.proofs.Gives.{give_keeps}
 use Rattle.curp_law_line.proofs.Grounds.{adopt_ground}
 use Rattle.curp_law_line.proofs.Hashes.{owned_expire, owned_op}
@@ -17,14 +24,6 @@ use Rattle.curp_law_line.proofs.Migrations.{given_keeps, migrate_keeps}
 use Rattle.curp_law_line.proofs.Ops.{op_keeps}
 use Rattle.curp_law_line.proofs.Owners.{give_owned, given_owned, migrate_owned, owned_alike, push_was, take_owned}
 use Rattle.curp_law_line.proofs.Takes.{take_keeps}
-use Rattle.curp_law_line.specs.Hashes.{Part}
-use Rattle.curp_law_line.specs.Line.{Line, OrderOk, Owned}
-use Rattle.curp_law_line.specs.Moves.{Adopt, AdoptFits, Adopts, Completes, ExpirePush, Fits, Flags, GivePush, GivenDone, Invokes, Looks, Migrates, Move, OpPush, TakePush, Told, after, replayed_of}
-use Rattle.curp_model.proofs.Filters.{filter_apart}
-use Rattle.curp_model.specs.Laws.{clash}
-use Rattle.curp_model.specs.Log.{meaning}
-use Rattle.curp_model.specs.Recovery.{replays}
-use Rattle.curp_range.specs.Spans.{Span, is_owned}
 
 -- what is kept of the order of updates, and who owns what
 pub record UpdatesOk (s : Line) : Type 0 where
@@ -32,6 +31,7 @@ pub record UpdatesOk (s : Line) : Type 0 where
   pub owned : Owned s.moving s.parts
 
 module _ (pure : Pure) (second : Second) where
+  -- what a whole log has of its keys
   pub whole_value : (s : Line) → LogsOk s.parts → (n : ℕ) (p : Part) → numbered s.parts n ≡ Some p → LogValue p
   whole_value s logs n p here = logs.values n p here p.log [] (append-nil p.log)
 
@@ -53,7 +53,7 @@ module _ (pure : Pure) (second : Second) where
   }
   updates_keep s (TakePush o) fits logs ok = record { order = take_keeps s ok.order o fits; owned = take_owned s ok.owned o fits }
   updates_keep s (GivePush o) fits logs ok = record {
-    order = give_keeps pure s ok.order o fits (logs.values o.m.source fits.source fits.its_source fits.before (Take o.m.number o.brought ∷ fits.after) (sym fits.taken));
+    order = give_keeps pure s ok.order o fits (logs.values o.m.source fits.way.source fits.way.its_source fits.way.before (Take o.m.number o.brought ∷ fits.way.after) (sym fits.way.taken));
     owned = give_owned s ok.owned o fits;
   }
   updates_keep s (ExpirePush o) fits logs ok = record {

@@ -4,29 +4,30 @@ use Rattle.std.specs.List.{filter}
 use Rattle.std.proofs.lemmas.Bool.{cases_Bool, eqb-true}
 use Rattle.std.proofs.lemmas.Bool.Decides.{nat_tests}
 use Rattle.std.proofs.lemmas.List.{take-append-le}
-use Rattle.curp_base.proofs.Lists.{at_append, at_append_cases, at_map, at_push, at_push_cases, at_within}
 use Rattle.curp_base.specs.Words.{At}
+use Rattle.curp_base.proofs.Lists.{at_append, at_append_cases, at_map, at_push, at_push_cases, at_within}
 use Rattle.curp_cmd.specs.Store.{applied, nothing}
 use Rattle.curp_cmd.specs.declared.command.Answer.{Answer}
 use Rattle.curp_cmd.specs.declared.command.Command.{Command}
 use Rattle.curp_cmd.specs.declared.command.RequestId.{RequestId}
+use Rattle.curp_order.specs.Order.{store_after}
+use Rattle.curp_order.specs.declared.Event.{Event}
+use Rattle.curp_order.specs.declared.Event.TheVariants.{Complete, Invoke}
+use Rattle.curp_msg.specs.declared.machine.Capture.{Capture}
+use Rattle.curp_msg.specs.declared.machine.Completed.{Completed}
+use Rattle.curp_model.specs.Log.{answer_after}
+use Rattle.curp_model.specs.Marks.{Executed, Looked, Mark, Place, flagged, has_completed, is_flagged, is_past, is_update_mark, looked, shown}
+use Rattle.curp_law_logs.specs.Hashes.{updates}
+use Rattle.curp_law_line.specs.Line.{FlagsOk, IsCompleted, KindsOk, Line, LookGives, LooksOk, OrderOk, Owned, ValuesOk, answer_at}
+use Rattle.curp_law_line.specs.Moves.{Adopt, AdoptFits, Look, LookFits, adopting, looking, replayed_of}
 use Rattle.curp_law_line.proofs.AdoptedMarks.{adopted_is, new_mark_at, new_marks, stays}
 use Rattle.curp_law_line.proofs.Completions.{flagged_order, flagging_at}
 use Rattle.curp_law_line.proofs.Given.{LogValue, Pure, TakesOnce}
+use Rattle.curp_law_line.proofs.Lists.{take_split}
 use Rattle.curp_law_line.proofs.Looks.{look_value}
 use Rattle.curp_law_line.proofs.Numbered.{filter_at}
 use Rattle.curp_law_line.proofs.OwnedValues.{owned_answer}
 use Rattle.curp_law_line.proofs.Shown.{by_updates}
-use Rattle.curp_law_line.specs.Line.{FlagsOk, IsCompleted, KindsOk, Line, LookGives, LooksOk, OrderOk, Owned, ValuesOk, answer_at}
-use Rattle.curp_law_line.specs.Moves.{Adopt, AdoptFits, Look, LookFits, adopting, looking, replayed_of}
-use Rattle.curp_law_logs.specs.Hashes.{updates}
-use Rattle.curp_model.specs.Log.{answer_after}
-use Rattle.curp_model.specs.Marks.{Executed, Looked, Mark, Place, flagged, has_completed, is_flagged, is_past, is_update_mark, looked, shown}
-use Rattle.curp_msg.specs.declared.machine.Capture.{Capture}
-use Rattle.curp_msg.specs.declared.machine.Completed.{Completed}
-use Rattle.curp_order.specs.Order.{store_after}
-use Rattle.curp_order.specs.declared.Event.{Event}
-use Rattle.curp_order.specs.declared.Event.TheVariants.{Complete, Invoke}
 
 look_place : (p : Place) → is_update_mark p ≡ false → (number : ℕ) × (long : ℕ) × (p ≡ Looked number long)
 look_place (Executed i) e = absurd cc
@@ -76,11 +77,6 @@ filter_on {A} q (y ∷ xs) (suc k) x h t = go (q y) (filter_on q xs k x h t)
     go : (b : Bool) → (j : ℕ) × At (filter q xs) j x × (take j (filter q xs) ≡ filter q (take k xs)) → (j : ℕ) × At (cond b (y ∷ filter q xs) (filter q xs)) j x × (take j (cond b (y ∷ filter q xs) (filter q xs)) ≡ cond b (y ∷ filter q (take k xs)) (filter q (take k xs)))
     go true r = (suc r.0, r.1, ap (λ (l : List A). y ∷ l) r.2)
     go false r = r
-
-take_split : {A : Type 0} (xs : List A) (k : ℕ) (x : A) → At xs k x → xs ≡ take k xs ++ x ∷ drop (suc k) xs
-take_split [] k x h = absurd cc
-take_split (y ∷ xs) zero x h = let same : y ≡ x = cc in ap (λ z. z ∷ xs) same
-take_split (y ∷ xs) (suc k) x h = ap (λ l. y ∷ l) (take_split xs k x h)
 
 -- ---- the values of flagged looks
 
@@ -201,6 +197,7 @@ module _ (pure : Pure) (s : Line) (kinds : KindsOk s.marks) (looks : LooksOk s.p
 
 -- ---- a look's value through the other moves
 
+-- marks behind it leave a look its value
 pub look_more : (marks more : List Mark) (by : Capture) (part long : ℕ) (id : RequestId) (a : Answer) → LookGives marks by part long id a → LookGives (marks ++ more) by part long id a
 look_more marks more by part long id a w =
     let low : w.place < length marks = at_within marks w.place w.mark w.stands in
@@ -216,6 +213,7 @@ look_more marks more by part long id a w =
       gives = value_more marks more w.place w.mark.command (omega (arith, low)) ∙ w.gives;
     }
 
+-- and so do flags
 pub look_flagged : (c : Completed) (marks : List Mark) → KindsOk marks → KindsOk (flagged c marks) → (by : Capture) (part long : ℕ) (id : RequestId) (a : Answer) → LookGives marks by part long id a → LookGives (flagged c marks) by part long id a
 look_flagged c marks kinds kinds_now by part long id a w = elim (cases_Bool (is_flagged c c.by w.mark)) [
   | inl y ↦ made (record w.mark { completed = true }) (subst (λ (b : Bool). At (flagged c marks) w.place (cond b (record w.mark { completed = true }) w.mark)) y at) w.its_master w.its_epoch w.its_part w.its_id w.is_look refl

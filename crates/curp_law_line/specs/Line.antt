@@ -1,28 +1,29 @@
 -- The small machine of the order, and the facts that its moves keep. It has the adopted logs, the migration in work, the
 -- migrations that were told, the marks and the history: no node, no message (this project's own).
-use Rattle.std.specs.Prelude.{◌≡◌, ◌≢◌, ◌⊎◌, ℕ, ◌<◌, true, false, List, take, Option, Some}
-use Rattle.std.specs.List.{list_any}
+use Rattle.std.specs.List.{filter, list_any}
+use Rattle.std.specs.Prelude.{◌≡◌, ◌≢◌, ◌⊎◌, ℕ, ◌<◌, true, false, List, [], ◌∷◌, take, Option, Some, ⊤}
 use Rattle.curp_base.specs.Words.{At, numbered}
+use Rattle.curp_range.specs.Spans.{is_in}
 use Rattle.curp_cmd.specs.Hash.{touches}
 use Rattle.curp_cmd.specs.Store.{applied, is_update, nothing}
 use Rattle.curp_cmd.specs.declared.command.Answer.{Answer}
 use Rattle.curp_cmd.specs.declared.command.Command.{Command}
 use Rattle.curp_cmd.specs.declared.command.Request.{Request}
 use Rattle.curp_cmd.specs.declared.command.RequestId.{RequestId}
-use Rattle.curp_cmd.specs.declared.entry.Entry.TheVariants.{Op, Take}
 use Rattle.curp_cmd.specs.declared.entry.Entry.{Entry}
+use Rattle.curp_cmd.specs.declared.entry.Entry.TheVariants.{Op, Take}
 use Rattle.curp_cmd.specs.declared.migration.Package.{Package}
-use Rattle.curp_facts.specs.Facts.{IsAmong}
-use Rattle.curp_law_line.specs.Hashes.{HashesOk, Part, has_take, is_give, is_take, owns}
-use Rattle.curp_law_logs.specs.Hashes.{Asked, updates}
+use Rattle.curp_order.specs.Order.{IsHistory, answers, store_after}
+use Rattle.curp_order.specs.declared.Event.{Event}
+use Rattle.curp_order.specs.declared.Event.TheVariants.{Complete, Invoke}
+use Rattle.curp_msg.specs.declared.machine.Capture.{Capture}
 use Rattle.curp_model.specs.Log.{answer_after}
 use Rattle.curp_model.specs.Manager.{Migration}
+use Rattle.curp_model.specs.Marked.{is_completed}
 use Rattle.curp_model.specs.Marks.{Executed, Looked, Mark, is_update_mark, shown}
-use Rattle.curp_msg.specs.declared.machine.Capture.{Capture}
-use Rattle.curp_order.specs.Order.{IsHistory, answers, store_after}
-use Rattle.curp_order.specs.declared.Event.TheVariants.{Complete, Invoke}
-use Rattle.curp_order.specs.declared.Event.{Event}
-use Rattle.curp_range.specs.Spans.{is_in}
+use Rattle.curp_facts.specs.Facts.{IsAmong}
+use Rattle.curp_law_logs.specs.Hashes.{Asked, updates}
+use Rattle.curp_law_line.specs.Hashes.{HashesOk, Part, has_take, is_give, is_take, owns}
 
 -- the adopted log of each partition, the migration in work, the migrations whose package was told, the marks, the history
 pub record Line : Type 0 where
@@ -221,6 +222,26 @@ pub record LookGives (marks : List Mark) (by : Capture) (part length : ℕ) (id 
   pub its_id : mark.id ≡ id
   pub is_look : mark.place ≡ Looked by.number length
   pub gives : answer_at marks place mark.command ≡ a
+
+-- ---- what the order shows
+
+-- the order shows the request, and one thread gives it that answer there
+pub record ShowsAnswer (marks : List Mark) (id : RequestId) (a : Answer) : Type 0 where
+  pub place : ℕ
+  pub x : Asked
+  pub stands : At (shown marks) place x
+  pub its_id : x.0 ≡ id
+  pub answer : At (answers (shown marks)) place a
+
+-- the completed requests of the order
+abbrev pub completed_order : Line → List Asked
+completed_order s = filter (λ (x : Asked). is_completed s.history x.0) (shown s.marks)
+
+-- the items of the one list stand in the other, in the same order
+abbrev pub StandsIn : {A : Type 0} → List A → List A → Type 0
+StandsIn [] ys = ⊤
+StandsIn (x ∷ xs) [] = ⊥
+StandsIn (x ∷ xs) (y ∷ ys) = ((x ≡ y) × StandsIn xs ys) ⊎ StandsIn (x ∷ xs) ys
 
 -- ---- all together
 

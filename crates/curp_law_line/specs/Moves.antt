@@ -1,7 +1,8 @@
 -- The moves of the small machine, with what each needs and what it does.
+use Rattle.std.specs.List.{IsDistinct, filter, list_any}
 use Rattle.std.specs.Prelude.{◌≡◌, ◌≢◌, ◌≤◌, ◌<◌, ℕ, ◌-◌, Bool, true, false, List, [], ◌∷◌, ◌++◌, set, map, length, take, Some, None, ⊤}
-use Rattle.std.specs.List.{IsDistinct, list_any}
 use Rattle.curp_base.specs.Words.{At, numbered}
+use Rattle.curp_range.specs.Spans.{is_covered, is_in}
 use Rattle.curp_cmd.specs.Hash.{touches}
 use Rattle.curp_cmd.specs.Store.{is_update}
 use Rattle.curp_cmd.specs.declared.command.Answer.{Answer}
@@ -12,10 +13,8 @@ use Rattle.curp_cmd.specs.declared.entry.Entry.{Entry}
 use Rattle.curp_cmd.specs.declared.entry.Entry.TheVariants.{Expire, Give, Op, Take}
 use Rattle.curp_cmd.specs.declared.migration.Package.{Package}
 use Rattle.curp_cmd.specs.declared.node.NodeId.{NodeId}
-use Rattle.curp_facts.specs.Facts.{IsAmong}
-use Rattle.curp_law_line.specs.Hashes.{Part, is_give, is_take, owns, state_of}
-use Rattle.curp_law_line.specs.Line.{IsCompleted, Line, Ungiven, WasInvoked, answer_at}
-use Rattle.curp_law_logs.specs.Hashes.{gives}
+use Rattle.curp_order.specs.declared.Event.TheVariants.{Complete, Invoke}
+use Rattle.curp_msg.specs.declared.machine.Capture.{Capture}
 use Rattle.curp_model.specs.Laws.{clash}
 use Rattle.curp_model.specs.Log.{IsDone, entry_touches, meaning, package_of}
 use Rattle.curp_model.specs.Manager.{Migration}
@@ -23,10 +22,10 @@ use Rattle.curp_model.specs.Marks.{Looked, Mark, adopted, executed, flagged, is_
 use Rattle.curp_model.specs.Recovery.{replays}
 use Rattle.curp_model.specs.Table.{check}
 use Rattle.curp_model.specs.declared.Check.TheVariants.{New}
-use Rattle.curp_msg.specs.declared.machine.Capture.{Capture}
-use Rattle.curp_order.specs.declared.Event.TheVariants.{Complete, Invoke}
-use Rattle.curp_range.specs.Spans.{is_covered, is_in}
-use Rattle.std.specs.List.{filter}
+use Rattle.curp_facts.specs.Facts.{IsAmong}
+use Rattle.curp_law_logs.specs.Hashes.{gives}
+use Rattle.curp_law_line.specs.Hashes.{Part, is_give, is_take, owns, state_of}
+use Rattle.curp_law_line.specs.Line.{IsCompleted, Line, Ungiven, WasInvoked, answer_at}
 
 -- ---- words
 
@@ -101,24 +100,28 @@ pub record PushGive : Type 0 where
   pub m : Migration
   pub brought : Package
 
--- The migration is in work, to that partition, and no log has its give. What it brings is the package of the take in the
--- source's log, which was told: the source owned the range before it, and nothing behind it touches the range
+-- The package of a migration is on its way: it is that of the take in the source's log, the source owned the range before the
+-- take and nothing behind it touches the range, and no log has the give
+pub record IsCarried (parts : List Part) (m : Migration) (carried : Package) : Type 0 where
+  pub source : Part
+  pub its_source : numbered parts m.source ≡ Some source
+  pub before : List Entry
+  pub after : List Entry
+  pub taken : source.log ≡ before ++ Take m.number carried ∷ after
+  pub lo : carried.lo ≡ m.range.lo
+  pub hi : carried.hi ≡ m.range.hi
+  pub its_package : carried ≡ package_of (meaning source.lo source.hi before) carried.lo carried.hi carried.ordered
+  pub covered : (h : ℕ) → is_in m.range.lo m.range.hi h ≡ true → owns (record source { log = before }) h ≡ true
+  pub quiet : (h : ℕ) → is_in m.range.lo m.range.hi h ≡ true → list_any (λ (e : Entry). entry_touches e h) after ≡ false
+  pub ungiven : Ungiven parts m.number
+
+-- the migration is in work, to that partition, and what it brings is on its way and was told
 pub record PushGiveFits (s : Line) (o : PushGive) : Type 0 where
   pub here : numbered s.parts o.part ≡ Some o.p
   pub in_work : s.moving ≡ Some o.m
   pub its_target : o.m.target ≡ o.part
   pub other : o.m.source ≢ o.m.target
-  pub source : Part
-  pub its_source : numbered s.parts o.m.source ≡ Some source
-  pub before : List Entry
-  pub after : List Entry
-  pub taken : source.log ≡ before ++ Take o.m.number o.brought ∷ after
-  pub lo : o.brought.lo ≡ o.m.range.lo
-  pub hi : o.brought.hi ≡ o.m.range.hi
-  pub its_package : o.brought ≡ package_of (meaning source.lo source.hi before) o.brought.lo o.brought.hi o.brought.ordered
-  pub covered : (h : ℕ) → is_in o.m.range.lo o.m.range.hi h ≡ true → owns (record source { log = before }) h ≡ true
-  pub quiet : (h : ℕ) → is_in o.m.range.lo o.m.range.hi h ≡ true → list_any (λ (e : Entry). entry_touches e h) after ≡ false
-  pub ungiven : Ungiven s.parts o.m.number
+  pub way : IsCarried s.parts o.m o.brought
   pub told : IsAmong o.m.number s.told
 
 -- the give stands at the end
