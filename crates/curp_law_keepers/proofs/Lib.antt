@@ -3,3 +3,4 @@ pub mod Lists
 pub mod Backups
 pub mod HeldApart
 pub mod Witnesses
+pub mod PendingLists

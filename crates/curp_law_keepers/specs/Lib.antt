@@ -1,3 +1,4 @@
 pub mod Brought
 pub mod BackupEffect
 pub mod WitnessEffect
+pub mod ClientNumbers
