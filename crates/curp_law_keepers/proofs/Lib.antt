@@ -4,3 +4,5 @@ pub mod Backups
 pub mod HeldApart
 pub mod Witnesses
 pub mod PendingLists
+pub mod Histories
+pub mod Numbers
