@@ -6,3 +6,4 @@ pub mod Witnesses
 pub mod PendingLists
 pub mod Histories
 pub mod Numbers
+pub mod Evidence
