@@ -1,18 +1,17 @@
 -- The evidence for pending requests, as it comes, and when it is enough.
-use Rattle.std.proofs.Common.{◌≡◌, ℕ, ◌==◌, ◌&&◌, Bool, true, false, List, [], ◌∷◌, ◌++◌, Some, refl, ap, sym, ◌∙◌, subst, arith}
+use Rattle.std.proofs.Common.{◌≡◌, ℕ, ◌==◌, ◌&&◌, true, List, [], ◌∷◌, ◌++◌, Some, ap, ◌∙◌, subst, arith}
 use Rattle.std.specs.List.{list_any}
 use Rattle.std.proofs.lemmas.Bool.{and_parts, cond_both}
 use Rattle.std.proofs.lemmas.Bool.Decides.{nat_tests}
-use Rattle.curp_base.specs.Words.{At, Each}
+use Rattle.curp_base.specs.Words.{Each}
 use Rattle.curp_base.proofs.Lists.{Each-append, Each-at}
 use Rattle.curp_cmd.specs.Node.{same_node}
-use Rattle.curp_cmd.specs.declared.command.RequestId.{RequestId}
 use Rattle.curp_cmd.specs.declared.node.NodeId.{NodeId}
 use Rattle.curp_cmd.proofs.Nodes.{same_node-true}
 use Rattle.curp_msg.specs.declared.body.Body.{Body}
 use Rattle.curp_msg.specs.declared.body.Body.TheVariants as body
 use Rattle.curp_msg.specs.declared.config.PartConfig.{PartConfig}
-use Rattle.curp_model.specs.Client.{Accept, Attempt, Early, Pending, all_accepted, attempt_at, has_accepted, is_told, proved_answer, proves, with_accept, with_early}
+use Rattle.curp_model.specs.Client.{Accept, Attempt, Early, Pending, all_accepted, has_accepted, is_told, proved_answer, proves, with_accept, with_early}
 use Rattle.curp_law_growth.proofs.Numbered.{any_at}
 use Rattle.curp_law_keepers.specs.ClientEffect.{AcceptCame, ByAccepts, EarlyCame, EvidenceOk, IsAttempt}
 use Rattle.curp_law_keepers.proofs.Lists.{each_by_all, filter_at, first_at}

@@ -7,3 +7,4 @@ pub mod PendingLists
 pub mod Histories
 pub mod Numbers
 pub mod Evidence
+pub mod Clients

@@ -25,7 +25,7 @@ use Rattle.curp_order.specs.declared.Event.{Event}
 use Rattle.curp_model.specs.Client.{Accept, Attempt, ClientState, Early, Pending, attempt_at}
 use Rattle.curp_model.specs.World.{completion, invocation_of}
 use Rattle.curp_facts.specs.Facts.{IsAmong}
-use Rattle.curp_law_keepers.specs.ClientNumbers.{IsAsked, IsInvoked, IsPending, NumbersOk}
+use Rattle.curp_law_keepers.specs.ClientNumbers.{IsAsked, IsInvoked, NumbersOk}
 
 -- ---- the evidence that it has
 
