@@ -8,3 +8,4 @@ pub mod Histories
 pub mod Numbers
 pub mod Evidence
 pub mod Clients
+pub mod ClientLater
