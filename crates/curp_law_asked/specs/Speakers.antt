@@ -5,6 +5,7 @@ use Rattle.curp_cmd.specs.declared.node.NodeId.{NodeId}
 use Rattle.curp_msg.specs.declared.body.Body.{Body}
 use Rattle.curp_msg.specs.declared.body.Body.TheVariants as body
 use Rattle.curp_msg.specs.declared.message.Message.{Message}
+use Rattle.curp_model.specs.Manager.{ManagerState}
 
 -- a master answers the clients of requests, speaks to backups and witnesses, and tells the manager
 abbrev pub MasterTells : NodeId → Body → Type 0
@@ -26,20 +27,20 @@ pub record MasterSays (n : ℕ) (m : Message) : Type 0 where
   pub sender : m.from ≡ master_node n
   pub says_so : MasterTells m.to m.body
 
--- the manager orders backups, witnesses and masters, and answers clients
-abbrev pub ManagerTells : Body → Type 0
-ManagerTells (body.Configuration config) = ⊤
-ManagerTells (body.Install epoch) = ⊤
-ManagerTells (body.Start s) = ⊤
-ManagerTells (body.Recover o) = ⊤
-ManagerTells (body.Adopted a) = ⊤
-ManagerTells (body.Prepare p) = ⊤
-ManagerTells (body.TakeOut t) = ⊤
-ManagerTells (body.GiveIn g) = ⊤
-ManagerTells (body.ExpireClient client) = ⊤
-ManagerTells _ = ⊥
+-- the manager orders backups, witnesses and masters, and tells clients the configuration that it has
+abbrev pub ManagerTells : ManagerState → Body → Type 0
+ManagerTells g (body.Configuration config) = config ≡ g.config
+ManagerTells g (body.Install epoch) = ⊤
+ManagerTells g (body.Start s) = ⊤
+ManagerTells g (body.Recover o) = ⊤
+ManagerTells g (body.Adopted a) = ⊤
+ManagerTells g (body.Prepare p) = ⊤
+ManagerTells g (body.TakeOut t) = ⊤
+ManagerTells g (body.GiveIn parcel) = ⊤
+ManagerTells g (body.ExpireClient client) = ⊤
+ManagerTells g _ = ⊥
 
 -- a message of the manager
-pub record ManagerSays (m : Message) : Type 0 where
+pub record ManagerSays (g : ManagerState) (m : Message) : Type 0 where
   pub sender : m.from ≡ manager_node
-  pub says_so : ManagerTells m.body
+  pub says_so : ManagerTells g m.body
