@@ -3,3 +3,9 @@ pub mod Lists
 pub mod Backups
 pub mod HeldApart
 pub mod Witnesses
+pub mod PendingLists
+pub mod Histories
+pub mod Numbers
+pub mod Evidence
+pub mod Clients
+pub mod ClientLater

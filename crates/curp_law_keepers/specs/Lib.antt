@@ -1,3 +1,5 @@
 pub mod Brought
 pub mod BackupEffect
 pub mod WitnessEffect
+pub mod ClientNumbers
+pub mod ClientEffect

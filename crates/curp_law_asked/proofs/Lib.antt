@@ -1,0 +1,3 @@
+pub mod MasterSpeaks
+pub mod RecoverySpeaks
+pub mod ManagerSpeaks

@@ -1,0 +1,208 @@
+-- Which messages a serving master sends.
+use Rattle.std.proofs.Common.{◌||◌, ◌≡◌, ℕ, ◌+◌, ◌==◌, ◌&&◌, Bool, true, false, not, List, [], ◌∷◌, ◌++◌, map, length, nat_le, nat_lt, slice_get, refl, Option, Some, None}
+use Rattle.std.specs.BTreeSet.{insert_key}
+use Rattle.std.specs.FinMap as store
+use Rattle.std.specs.Ordering.{nat_cmp}
+use Rattle.curp_cmd.specs.declared.command.Answer.TheVariants.{Found}
+use Rattle.std.specs.List.{filter, flat_map}
+use Rattle.std.proofs.lemmas.Bool.{cond_both}
+use Rattle.curp_law_growth.proofs.Prepared.{each_map}
+use Rattle.curp_law_asked.specs.Speakers.{MasterSays}
+use Rattle.curp_base.specs.Words.{Each}
+use Rattle.curp_base.proofs.Lists.{Each-append}
+use Rattle.curp_cmd.specs.declared.command.Command.{Command}
+use Rattle.curp_cmd.specs.declared.command.Command.TheVariants.{Get}
+use Rattle.curp_cmd.specs.declared.command.Request.{Request}
+use Rattle.curp_cmd.specs.declared.entry.Entry.{Entry}
+use Rattle.curp_cmd.specs.declared.entry.Entry.TheVariants.{Op, Take, Give, Expire}
+use Rattle.curp_cmd.specs.declared.node.NodeId.{NodeId}
+use Rattle.curp_msg.specs.declared.answer.AppendAnswer.{AppendAnswer}
+use Rattle.curp_msg.specs.declared.answer.AppendAnswer.TheVariants.{Stored}
+use Rattle.curp_msg.specs.declared.answer.GcAnswer.{GcAnswer}
+use Rattle.curp_msg.specs.declared.answer.GcAnswer.TheVariants.{Suspects}
+use Rattle.curp_msg.specs.declared.body.Ask.{Ask}
+use Rattle.curp_msg.specs.declared.body.Body.{Body}
+use Rattle.curp_msg.specs.declared.body.Body.TheVariants as body
+use Rattle.curp_msg.specs.declared.body.Prepare.{Prepare}
+use Rattle.curp_msg.specs.declared.body.TakeOut.{TakeOut}
+use Rattle.curp_msg.specs.declared.body.Parcel.{Parcel}
+use Rattle.curp_msg.specs.declared.machine.Local.{Local}
+use Rattle.curp_msg.specs.declared.machine.Local.TheVariants as local
+use Rattle.curp_msg.specs.declared.message.Message.{Message}
+use Rattle.curp_range.specs.Spans.{is_covered}
+use Rattle.curp_model.specs.Log.{LastGive, LastTake, package_of}
+use Rattle.curp_model.specs.Master.{MasterState, Phase, Open, Switching, Switch, Wish, AtOnce, WhenSynced, Verdict, Deny, Tell, TellAgain, HoldBack, Execute, Queued, adopted_in, all_have, append_to, begins_round, between, by_message, captures_read, carries_out, collect_in, executes, give_after, goes_on, holds_back, is_clean, is_due, is_open, is_ready, last_round, marked_free, moved_entry, next_round, on_appended, on_collected, on_expire, on_give, on_read, on_serving, on_stored, on_take, on_update, prepare_in, prepares, push_take, pushed, raised, read_command, read_of, read_refusal, serving_ordered, settle, state_of, stored_on, switch_to, sync_in, synced, synced_replies, synced_reply, take_after, told_again, treat, treats, unless_it_ends, value_of, verdict}
+use Rattle.curp_cmd.specs.Node.{is_among, manager_node, master_node}
+use Rattle.curp_base.specs.Words.{rises_past}
+use Rattle.curp_msg.specs.declared.answer.Refusal.{Refusal}
+use Rattle.curp_msg.specs.Moved.{Moved, says}
+use Rattle.curp_model.specs.Table.{is_gone}
+
+-- what holds of each image, where images are lists
+pub each_flat : {A B : Type 0} (P : B → Type 0) (f : A → List B) → ((x : A) → Each P (f x)) → (xs : List A) → Each P (flat_map f xs)
+each_flat P f all [] = tt
+each_flat P f all (x ∷ xs) = Each-append P (f x) (flat_map f xs) (all x) (each_flat P f all xs)
+
+module _ (n : ℕ) (m : MasterState) where
+  abbrev Ok : Moved MasterState → Type 0
+  Ok r = (r.completed ≡ None) × Each (MasterSays n) r.messages
+
+  rounds : (k : MasterState) → Ok (begins_round n k)
+  rounds k = (refl, each_map (MasterSays n) (append_to n (next_round k)) (λ b. record { sender = refl; says_so = tt }) (stored_on (next_round k)))
+
+  holds_ok : (k : MasterState) (index : ℕ) → Ok (holds_back n k index)
+  holds_ok k index = rounds (record k { held = insert_key nat_cmp k.held index })
+
+  pushes_ok : (es : List Entry) → Ok (begins_round n (record m { log = m.log ++ es }))
+  pushes_ok es = rounds (record m { log = m.log ++ es })
+
+  executes_ok : (w : Wish) (r : Request) (clean : Bool) → Ok (executes n m w r clean)
+  executes_ok AtOnce r true = (refl, (record { sender = refl; says_so = refl }, tt))
+  executes_ok AtOnce r false = holds_ok (pushed m r r.first) (length m.log)
+  executes_ok WhenSynced r clean = holds_ok (marked_free (pushed m r r.first) (length m.log) clean) (length m.log)
+
+  carries_ok : (w : Wish) (r : Request) (v : Verdict) → Ok (carries_out n m w r v)
+  carries_ok w r (Deny why) = (refl, (record { sender = refl; says_so = refl }, tt))
+  carries_ok w r (Tell a) = (refl, (record { sender = refl; says_so = refl }, tt))
+  carries_ok w r (TellAgain a) = (refl, (record { sender = refl; says_so = refl }, tt))
+  carries_ok w r (HoldBack index) = holds_ok m index
+  carries_ok w r Execute = executes_ok w r (is_clean m r.command)
+
+  update_ok : (w : Wish) (ask : Ask) → Ok (on_update n m w ask)
+  unfolding on_update
+  update_ok w ask = carries_ok w ask.request (verdict m w ask)
+
+  capture_ok : (r : Request) (key : List ℕ) → Ok (captures_read n m r key)
+  capture_ok r key = rounds (record m {
+    captures = m.captures ++ record { number = m.captured + 1; id = r.id; command = r.command; answer = Found (store.get (state_of m).store key); length = length m.log; round = m.round + 1 } ∷ [];
+    captured = m.captured + 1;
+  })
+
+  read_of_ok : (r : Request) (key : List ℕ) (o : Option Refusal) → Ok (read_of n m r key o)
+  read_of_ok r key (Some why) = (refl, (record { sender = refl; says_so = refl }, tt))
+  read_of_ok r key None = capture_ok r key
+
+  command_ok : (ask : Ask) (c : Command) → Ok (read_command n m ask c)
+  command_ok ask (Get key) = read_of_ok ask.request key (read_refusal m ask)
+  command_ok ask _ = (refl, tt)
+
+  read_ok : (ask : Ask) → Ok (on_read n m ask)
+  unfolding on_read
+  read_ok ask = command_ok ask ask.request.command
+
+  -- ---- settling says nothing of it
+
+  reply_ok : (k : MasterState) (index : ℕ) (e : Option Entry) → Each (MasterSays n) (synced_reply n k index e)
+  reply_ok k index (Some (Op r acknowledged)) = (record { sender = refl; says_so = refl }, tt)
+  reply_ok k index _ = tt
+
+  entry_ok : (e : Entry) → Each (MasterSays n) (moved_entry n e)
+  entry_ok (Take migration taken) = (record { sender = refl; says_so = refl }, tt)
+  entry_ok (Give migration given) = (record { sender = refl; says_so = refl }, tt)
+  entry_ok _ = tt
+
+  settle_ok : (k : MasterState) → Ok (settle n k)
+  unfolding settle
+  settle_ok k =
+      let due : List ℕ = filter (λ (index : ℕ). nat_lt index (synced k)) k.held in
+      let replies = synced_replies n k due in
+      let values = map (value_of n k) (filter (is_ready k) k.captures) in
+      let moves = flat_map (moved_entry n) (between k.settled (synced k) k.log) in (
+        refl,
+        Each-append (MasterSays n) (replies ++ values) moves
+            (Each-append (MasterSays n) replies values
+            (each_flat (MasterSays n) (λ (index : ℕ). synced_reply n k index (slice_get k.log index)) (λ (index : ℕ). reply_ok k index (slice_get k.log index)) due)
+            (each_map (MasterSays n) (value_of n k) (λ c. record { sender = refl; says_so = refl }) (filter (is_ready k) k.captures)))
+            (each_flat (MasterSays n) (moved_entry n) entry_ok (between k.settled (synced k) k.log)),
+      )
+
+  prepares_ok : (k : MasterState) (s : Switch) → Ok (prepares n k s)
+  prepares_ok k s = cond_both (not s.prepared && all_have k.acknowledged s.backups (length k.log) s.round) _ _ Ok (λ y. (refl, (record { sender = refl; says_so = refl }, tt))) (λ y. (refl, tt))
+
+  goes_on_ok : (k : MasterState) (p : Phase) → Ok (goes_on n k p)
+  goes_on_ok k Open = settle_ok k
+  goes_on_ok k (Switching s) = prepares_ok k s
+
+  stored_ok : (from : NodeId) (long round : ℕ) → Ok (on_stored n m from long round)
+  stored_ok from long round = cond_both (is_among from (stored_on m)) _ _ Ok (λ y. goes_on_ok (record m { acknowledged = raised m.acknowledged from long round }) m.phase) (λ y. (refl, tt))
+
+  appended_ok : (from : NodeId) (round : ℕ) (a : AppendAnswer) → Ok (on_appended n m from round a)
+  unfolding on_appended
+  appended_ok from round (Stored long) = stored_ok from long round
+  appended_ok from round _ = (refl, tt)
+
+  treats_ok : (rs : List Request) → Ok (treats n m rs)
+  treats_ok rs = cond_both (length (treat m rs).log == length m.log) _ _ Ok (λ y. (refl, tt)) (λ y. rounds (treat m rs))
+
+  collected_ok : (a : GcAnswer) → Ok (on_collected n m a)
+  unfolding on_collected
+  collected_ok (Suspects rs) = cond_both (is_open m.phase) _ _ Ok (λ y. treats_ok rs) (λ y. (refl, tt))
+  collected_ok _ = (refl, tt)
+
+  prepare_ok : (p : Prepare) (at : Phase) → Ok (prepare_in n m p at)
+  prepare_ok p Open = cond_both (nat_lt m.version p.version) _ _ Ok (λ y. rounds (record m { phase = Switching (switch_to m p) })) (λ y. (refl, tt))
+  prepare_ok p (Switching s) = cond_both (s.version == p.version) _ _ Ok (λ y. rounds m) (λ y. (refl, tt))
+
+  adopted_ok : (version : ℕ) (at : Phase) → Ok (adopted_in n m version at)
+  adopted_ok version Open = (refl, tt)
+  adopted_ok version (Switching s) = cond_both (s.version == version) _ _ Ok (λ y. settle_ok (record m { version = s.version; backups = s.backups; witnesses = s.witnesses; phase = Open })) (λ y. (refl, tt))
+
+  told_ok : (index : ℕ) (x : Message) → MasterSays n x → Ok (told_again n m index x)
+  told_ok index x said = cond_both (nat_lt index (synced m)) _ _ Ok (λ y. (refl, (said, tt))) (λ y. rounds m)
+
+  push_take_ok : (t : TakeOut) → Ok (push_take n m t)
+  push_take_ok t = cond_both (is_covered (state_of m).owned t.lo t.hi) _ _ Ok (λ y. pushes_ok (Take t.migration (package_of (state_of m) t.lo t.hi t.ordered) ∷ [])) (λ y. (refl, tt))
+
+  take_ok : (t : TakeOut) (o : Option LastTake) → Ok (take_after n m t o)
+  take_ok t None = push_take_ok t
+  take_ok t (Some last) = cond_both (t.migration == last.migration) _ _ Ok (λ y. told_ok last.index (says (master_node n) manager_node (body.Taken (record { migration = last.migration; «package» = last.taken }))) (record { sender = refl; says_so = refl }))
+      (λ y. cond_both (nat_lt last.migration t.migration) _ _ Ok (λ y. push_take_ok t) (λ y. (refl, tt)))
+
+  give_ok : (g : Parcel) (o : Option LastGive) → Ok (give_after n m g o)
+  give_ok g None = pushes_ok (Give g.migration g.package ∷ [])
+  give_ok g (Some last) = cond_both (nat_le g.migration last.migration) _ _ Ok (λ y. told_ok last.index (says (master_node n) manager_node (body.Given g.migration)) (record { sender = refl; says_so = refl })) (λ y. pushes_ok (Give g.migration g.package ∷ []))
+
+  take_out_ok : (t : TakeOut) → Ok (on_take n m t)
+  take_out_ok t = cond_both (is_open m.phase) _ _ Ok (λ y. take_ok t (state_of m).taken) (λ y. (refl, tt))
+
+  give_in_ok : (g : Parcel) → Ok (on_give n m g)
+  give_in_ok g = cond_both (is_open m.phase) _ _ Ok (λ y. give_ok g (state_of m).given) (λ y. (refl, tt))
+
+  expire_ok : (client : ℕ) → Ok (on_expire n m client)
+  expire_ok client = cond_both (is_gone (state_of m).table client) _ _ Ok (λ y. (refl, tt)) (λ y. pushes_ok (Expire client ∷ []))
+
+  ends_ok : (r : Moved MasterState) → Ok r → Ok (unless_it_ends m r)
+  ends_ok r g = cond_both (rises_past last_round m.round r.state.round || rises_past last_round m.captured r.state.captured) _ _ Ok (λ y. (refl, tt)) (λ y. g)
+
+  message_ok : (from : NodeId) (b : Body) → Ok (by_message n m from b)
+  message_ok from (body.Update ask) = update_ok AtOnce ask
+  message_ok from (body.Sync ask) = update_ok WhenSynced ask
+  message_ok from (body.Read ask) = read_ok ask
+  message_ok from (body.Appended a) = appended_ok from a.round a.answer
+  message_ok from (body.Collected c) = collected_ok c.answer
+  message_ok from (body.Prepare p) = prepare_ok p m.phase
+  message_ok from (body.Adopted a) = adopted_ok a.version m.phase
+  message_ok from (body.TakeOut t) = take_out_ok t
+  message_ok from (body.GiveIn g) = give_in_ok g
+  message_ok from (body.ExpireClient client) = expire_ok client
+  message_ok from _ = (refl, tt)
+
+  -- on a message
+  pub serving_says : (from : NodeId) (b : Body) → Ok (on_serving n m from b)
+  unfolding on_serving
+  serving_says from b = ends_ok (by_message n m from b) (message_ok from b)
+
+  sync_ok : (at : Phase) → Ok (sync_in n m at)
+  sync_ok Open = rounds m
+  sync_ok (Switching s) = cond_both s.prepared _ _ Ok (λ y. (refl, (record { sender = refl; says_so = refl }, (rounds m).1))) (λ y. rounds m)
+
+  collect_ok : (at : Phase) → Ok (collect_in n m at)
+  collect_ok Open = (refl, each_map (MasterSays n) (λ (to : NodeId). says (master_node n) to (body.Gc (record { epoch = m.epoch; ids = map (λ (q : Queued). q.id) (filter (is_due m) m.queue) }))) (λ b. record { sender = refl; says_so = tt }) m.witnesses)
+  collect_ok (Switching s) = (refl, tt)
+
+  -- on an order
+  pub serving_ordered_says : (order : Local) → Ok (serving_ordered n m order)
+  unfolding serving_ordered
+  serving_ordered_says local.Sync = ends_ok (sync_in n m m.phase) (sync_ok m.phase)
+  serving_ordered_says local.Collect = collect_ok m.phase
+  serving_ordered_says _ = (refl, tt)

@@ -1,0 +1,79 @@
+-- The evidence for pending requests, as it comes, and when it is enough.
+use Rattle.std.proofs.Common.{◌≡◌, ℕ, ◌==◌, ◌&&◌, true, List, [], ◌∷◌, ◌++◌, Some, ap, ◌∙◌, subst, arith}
+use Rattle.std.specs.List.{list_any}
+use Rattle.std.proofs.lemmas.Bool.{and_parts, cond_both}
+use Rattle.std.proofs.lemmas.Bool.Decides.{nat_tests}
+use Rattle.curp_base.specs.Words.{Each}
+use Rattle.curp_base.proofs.Lists.{Each-append, Each-at}
+use Rattle.curp_cmd.specs.Node.{same_node}
+use Rattle.curp_cmd.specs.declared.node.NodeId.{NodeId}
+use Rattle.curp_cmd.proofs.Nodes.{same_node-true}
+use Rattle.curp_msg.specs.declared.body.Body.{Body}
+use Rattle.curp_msg.specs.declared.body.Body.TheVariants as body
+use Rattle.curp_msg.specs.declared.config.PartConfig.{PartConfig}
+use Rattle.curp_model.specs.Client.{Accept, Attempt, Early, Pending, all_accepted, has_accepted, is_told, proved_answer, proves, with_accept, with_early}
+use Rattle.curp_law_growth.proofs.Numbered.{any_at}
+use Rattle.curp_law_keepers.specs.ClientEffect.{AcceptCame, ByAccepts, EarlyCame, EvidenceOk, IsAttempt}
+use Rattle.curp_law_keepers.proofs.Lists.{each_by_all, filter_at, first_at}
+
+-- ---- evidence comes
+
+-- one more unsynced reply
+pub early_each : (P : Early → Type 0) (early : List Early) (e : Early) → Each P early → P e → Each P (with_early early e)
+early_each P early e all one = cond_both (list_any (is_told e) early) early (early ++ e ∷ []) (Each P) (λ y. all) (λ n. Each-append P early (e ∷ []) all (one, tt))
+
+-- one more accept
+pub accepts_each : (P : Accept → Type 0) (accepts : List Accept) (a : Accept) → Each P accepts → P a → Each P (with_accept accepts a)
+accepts_each P accepts a all one = cond_both (has_accepted accepts a.epoch a.witness) accepts (accepts ++ a ∷ []) (Each P) (λ y. all) (λ n. Each-append P accepts (a ∷ []) all (one, tt))
+
+-- ---- evidence is enough
+
+numbers_same : (a b : ℕ) → (a == b) ≡ true → a ≡ b
+numbers_same a b e = grind (arith, nat_tests)
+
+-- an unsynced reply and an attempt whose witnesses have accepted
+record Proved (p : Pending) (e : Early) (a : Attempt) : Type 0 where
+  master : e.master ≡ a.master
+  epoch : e.epoch ≡ a.epoch
+  version : e.version ≡ a.version
+  all : all_accepted p a ≡ true
+
+proved_by : (p : Pending) (e : Early) (a : Attempt) → proves p e a ≡ true → Proved p e a
+proved_by p e a t =
+    let last = and_parts (same_node e.master a.master && (e.epoch == a.epoch) && (e.version == a.version)) (all_accepted p a) t in
+    let two = and_parts (same_node e.master a.master && (e.epoch == a.epoch)) (e.version == a.version) last.0 in
+    let one = and_parts (same_node e.master a.master) (e.epoch == a.epoch) two.0 in
+    record { master = same_node-true e.master a.master one.0; epoch = numbers_same e.epoch a.epoch one.1; version = numbers_same e.version a.version two.1; all = last.1 }
+
+module _ (Came : NodeId → Body → Type 0) (Adopted : PartConfig → Type 0) (p : Pending) (ok : EvidenceOk Came Adopted p) where
+  abbrev Accepts : ℕ → NodeId → Type 0
+  Accepts epoch node = Came node (body.Accepted (record { id = p.request.id; epoch = epoch }))
+
+  accepted : (epoch : ℕ) (node : NodeId) → has_accepted p.accepts epoch node ≡ true → Accepts epoch node
+  accepted epoch node e =
+      let f = any_at (λ (a : Accept). (a.epoch == epoch) && same_node a.witness node) p.accepts e in
+      let b = and_parts (f.1.epoch == epoch) (same_node f.1.witness node) f.3 in
+      subst (λ (k : ℕ). Accepts k node) (numbers_same f.1.epoch epoch b.0)
+      (subst (Accepts f.1.epoch) (same_node-true f.1.witness node b.1) (Each-at (AcceptCame Came p.request.id) p.accepts ok.accepts f.0 f.1 f.2))
+
+  -- an early reply that is enough came, with the accepts of all witnesses
+  pub proved_ok : (e : Early) → proved_answer p ≡ Some e → ByAccepts Came Adopted p.request.id e.answer
+  proved_ok e is =
+      let f = filter_at (λ (x : Early). list_any (proves p x) p.attempts) p.early 0 e (first_at _ e is) in
+      let g = any_at (proves p e) p.attempts f.2 in
+      let proof = proved_by p e g.1 g.3 in
+      let attempt = Each-at (IsAttempt Adopted) p.attempts ok.attempts g.0 g.1 g.2 in
+      let early = Each-at (EarlyCame Came p.request.id) p.early ok.early f.0 e f.1 in
+      let all : Each (Accepts g.1.epoch) g.1.witnesses = each_by_all (Accepts g.1.epoch) (has_accepted p.accepts g.1.epoch) (accepted g.1.epoch) g.1.witnesses proof.all in
+      record {
+        part = attempt.part;
+        adopted = attempt.adopted;
+        reply = early.reply;
+        came = subst (λ (node : NodeId). Came node (body.Reply early.reply)) (proof.master ∙ ap (λ (a : Attempt). a.master) attempt.is) early.came;
+        its_id = early.its_id;
+        its_answer = early.answer;
+        unsynced = early.unsynced;
+        epoch = early.epoch ∙ proof.epoch ∙ ap (λ (a : Attempt). a.epoch) attempt.is;
+        version = early.version ∙ proof.version ∙ ap (λ (a : Attempt). a.version) attempt.is;
+        accepts = subst (λ (a : Attempt). Each (Accepts a.epoch) a.witnesses) attempt.is all;
+      }
