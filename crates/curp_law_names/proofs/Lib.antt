@@ -7,3 +7,7 @@ pub mod Quiet
 pub mod Says
 pub mod Adoptions
 pub mod Named
+pub mod Orders
+pub mod Recoveries
+pub mod Replacements
+pub mod Managers
