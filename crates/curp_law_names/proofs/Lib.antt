@@ -11,3 +11,4 @@ pub mod Orders
 pub mod Recoveries
 pub mod Replacements
 pub mod Managers
+pub mod Fits
