@@ -12,3 +12,4 @@ pub mod Recoveries
 pub mod Replacements
 pub mod Managers
 pub mod Fits
+pub mod Keepers
