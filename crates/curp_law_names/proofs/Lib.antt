@@ -13,3 +13,4 @@ pub mod Replacements
 pub mod Managers
 pub mod Fits
 pub mod Keepers
+pub mod Clients

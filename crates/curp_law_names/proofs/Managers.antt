@@ -32,28 +32,13 @@ use Rattle.curp_facts.specs.Facts.{ByRecovery, ByReplacement, IsAdoptedNow, IsAm
 use Rattle.curp_law_names.specs.Names.{IsClientNumber, Names, RecoveringOk, ReplacingOk}
 use Rattle.curp_law_names.proofs.Adoptions.{adopts_good}
 use Rattle.curp_law_names.proofs.Keeps.{entry_now, entry_numbered, numbered_now}
-use Rattle.curp_law_names.proofs.Lists.{at_mapped, place}
+use Rattle.curp_law_names.proofs.Lists.{at_mapped, filter_among, first_among, place}
 use Rattle.curp_law_names.proofs.Quiet.{AllAgain, Good, Stays, quietly, stays_beside, stays_self}
 use Rattle.curp_law_names.proofs.Recoveries.{recover_good, refused_good}
 use Rattle.curp_law_names.proofs.Replacements.{replace_good}
 use Rattle.curp_law_names.proofs.Says.{adopted_again, configuration_again, expire_again, nudge_again, serves_now}
 
 -- ---- lists
-
-first_among : {A : Type 0} (xs : List A) (x : A) → first_of xs ≡ Some x → IsAmong x xs
-first_among [] x e = absurd cc
-first_among (y ∷ xs) x e = record { place = 0; stands = e }
-
-filter_among : {A : Type 0} (p : A → Bool) (xs : List A) (x : A) → IsAmong x (filter p xs) → IsAmong x xs
-filter_among p [] x a = a
-filter_among p (y ∷ xs) x a = elim (cases_Bool (p y)) [
-  | inl t ↦ kept a.place (rw t at a.stands) (filter_among p xs x)
-  | inr f ↦ let r = filter_among p xs x (record { place = a.place; stands = rw f at a.stands }) in record { place = suc r.place; stands = r.stands }
-]
-  where
-    kept : (k : ℕ) → At (y ∷ filter p xs) k x → (IsAmong x (filter p xs) → IsAmong x xs) → IsAmong x (y ∷ xs)
-    kept zero h more = record { place = 0; stands = h }
-    kept (suc k) h more = let r = more (record { place = k; stands = h }) in record { place = suc r.place; stands = r.stands }
 
 there_among : {A : Type 0} (xs : List (Option A)) (x : A) → first_there xs ≡ Some x → IsAmong (Some x) xs
 there_among [] x e = absurd cc
