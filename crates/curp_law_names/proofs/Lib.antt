@@ -14,3 +14,4 @@ pub mod Managers
 pub mod Fits
 pub mod Keepers
 pub mod Clients
+pub mod Servings
