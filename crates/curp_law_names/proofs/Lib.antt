@@ -15,3 +15,4 @@ pub mod Fits
 pub mod Keepers
 pub mod Clients
 pub mod Servings
+pub mod Recoverings
