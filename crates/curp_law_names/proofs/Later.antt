@@ -33,7 +33,7 @@ pub record Later (w v : World) : Type 0 where
   pub sent : (m : Message) → WasSent w m → WasSent v m
 
 module _ {w v : World} (g : Later w v) where
-  node_later : (k : NodeKind) (n : ℕ) → IsNodeOf w k n → IsNodeOf v k n
+  pub node_later : (k : NodeKind) (n : ℕ) → IsNodeOf w k n → IsNodeOf v k n
   node_later kind.Manager n is = is
   node_later kind.Client n is = (is.0, omega (arith, is.1, g.clients))
   node_later kind.Master n is = (is.0, omega (arith, is.1, g.masters))

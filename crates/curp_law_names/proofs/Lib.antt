@@ -7,3 +7,12 @@ pub mod Quiet
 pub mod Says
 pub mod Adoptions
 pub mod Named
+pub mod Orders
+pub mod Recoveries
+pub mod Replacements
+pub mod Managers
+pub mod Fits
+pub mod Keepers
+pub mod Clients
+pub mod Servings
+pub mod Recoverings

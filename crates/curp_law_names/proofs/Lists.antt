@@ -1,6 +1,8 @@
 -- Lists that are numbered from 1, what is among lists, and lists whose items differ.
-use Rattle.std.proofs.Common.{◌≡◌, ◌≢◌, ◌⊎◌, inl, inr, ℕ, zero, suc, ◌+◌, ◌-◌, ◌<◌, ◌≤◌, List, [], ◌∷◌, ◌++◌, length, map, set, refl, ap, sym, ◌∙◌, subst, arith, append-nil, append_assoc, Some}
-use Rattle.curp_base.specs.Words.{At, Each, numbered, numbers_from, all_of}
+use Rattle.std.proofs.Common.{◌≡◌, ◌≢◌, ◌⊎◌, inl, inr, ℕ, zero, suc, ◌+◌, ◌-◌, ◌<◌, ◌≤◌, Bool, true, List, [], ◌∷◌, ◌++◌, length, map, set, refl, ap, sym, ◌∙◌, subst, arith, append-nil, append_assoc, Some}
+use Rattle.std.specs.List.{filter}
+use Rattle.std.proofs.lemmas.Bool.{cases_Bool}
+use Rattle.curp_base.specs.Words.{At, Each, all_of, first_of, last_of, numbered, numbers_from}
 use Rattle.curp_base.proofs.Lists.{at_append, at_append_cases, at_append_right, at_map, at_within, at_set_cases, at_set_same, at_set_other, Each-at, Each-from_at}
 use Rattle.curp_msg.specs.declared.message.Message.{Message}
 use Rattle.curp_model.specs.World.{with_batch}
@@ -85,6 +87,26 @@ among_set xs i y x a = elim (at_set_cases xs i y a.place x a.stands) [
   | inl o ↦ inr (record { place = a.place; stands = o.1 })
   | inr o ↦ inl (sym o.1)
 ]
+
+pub first_among : {A : Type 0} (xs : List A) (x : A) → first_of xs ≡ Some x → IsAmong x xs
+first_among [] x e = absurd cc
+first_among (y ∷ xs) x e = record { place = 0; stands = e }
+
+pub filter_among : {A : Type 0} (p : A → Bool) (xs : List A) (x : A) → IsAmong x (filter p xs) → IsAmong x xs
+filter_among p [] x a = a
+filter_among p (y ∷ xs) x a = elim (cases_Bool (p y)) [
+  | inl t ↦ kept a.place (rw t at a.stands) (filter_among p xs x)
+  | inr f ↦ let r = filter_among p xs x (record { place = a.place; stands = rw f at a.stands }) in record { place = suc r.place; stands = r.stands }
+]
+  where
+    kept : (k : ℕ) → At (y ∷ filter p xs) k x → (IsAmong x (filter p xs) → IsAmong x xs) → IsAmong x (y ∷ xs)
+    kept zero h more = record { place = 0; stands = h }
+    kept (suc k) h more = let r = more (record { place = k; stands = h }) in record { place = suc r.place; stands = r.stands }
+
+pub last_among : {A : Type 0} (xs : List A) (x : A) → last_of xs ≡ Some x → IsAmong x xs
+last_among [] x e = absurd cc
+last_among (y ∷ []) x e = record { place = 0; stands = e }
+last_among (y ∷ z ∷ rest) x e = let r = last_among (z ∷ rest) x e in record { place = suc r.place; stands = r.stands }
 
 -- ---- lists whose items differ
 

@@ -9,7 +9,7 @@ use Rattle.curp_msg.specs.declared.body.Body.{Body}
 use Rattle.curp_msg.specs.declared.config.PartConfig.{PartConfig}
 use Rattle.curp_msg.specs.declared.message.Message.{Message}
 use Rattle.curp_order.specs.declared.Event.{Event}
-use Rattle.curp_model.specs.Manager.{Attempted, Doing, ManagerState}
+use Rattle.curp_model.specs.Manager.{Attempted, Doing, ManagerState, Migration}
 use Rattle.curp_model.specs.World.{World}
 use Rattle.curp_facts.specs.Facts.{IsAdoptedNow, IsAmong, Lists, lists_of_part}
 use Rattle.curp_law_names.specs.Names.{DoingOk, IsClientNumber, ManagerSays, Names, NumbersOk, Top}
@@ -111,3 +111,7 @@ module _ (w : World) (n : Names w) (r : Moved ManagerState) where
 -- the state itself stays
 pub stays_self : (g : ManagerState) → Stays g g
 stays_self g = record { shape = refl; epoch = refl; version = refl; master = refl; backup = refl; witness = refl; lists = refl; doing = refl }
+
+-- and where it changes, no name does
+pub stays_beside : (g : ManagerState) (moving : Option Migration) (gone : List ℕ) (migration : ℕ) → Stays g (record g { moving = moving; gone = gone; next = record g.next { migration = migration } })
+stays_beside g moving gone migration = record { shape = refl; epoch = refl; version = refl; master = refl; backup = refl; witness = refl; lists = refl; doing = refl }

@@ -24,7 +24,7 @@ use Rattle.curp_law_names.proofs.Keeps.{entry_now}
 use Rattle.curp_law_names.proofs.Lists.{each_among, among_each}
 use Rattle.curp_law_names.proofs.Quiet.{Again, AllAgain}
 
-each_flat : {A B : Type 0} (P : B → Type 0) (f : A → List B) (xs : List A) → ((x : A) → IsAmong x xs → Each P (f x)) → Each P (flat_map f xs)
+pub each_flat : {A B : Type 0} (P : B → Type 0) (f : A → List B) (xs : List A) → ((x : A) → IsAmong x xs → Each P (f x)) → Each P (flat_map f xs)
 each_flat P f [] h = tt
 each_flat P f (x ∷ xs) h = Each-append P (f x) (flat_map f xs) (h x (record { place = 0; stands = refl })) (each_flat P f xs (λ y a. h y (record { place = suc a.place; stands = a.stands })))
 
