@@ -1,0 +1,4 @@
+pub mod Pushed
+pub mod Lists
+pub mod Parts
+pub mod Serving
