@@ -1,0 +1,5 @@
+pub mod Pushed
+pub mod Lists
+pub mod Firsts
+pub mod Parts
+pub mod Serving
