@@ -1,3 +1,4 @@
 pub mod Among
 pub mod Replays
 pub mod Recovering
+pub mod Synced
