@@ -2,6 +2,7 @@ pub mod Numbered
 pub mod Deeds
 pub mod Keepers
 pub mod Masters
+pub mod Switches
 pub mod Recoveries
 pub mod Managers
 pub mod Worlds

@@ -1,7 +1,7 @@
 -- One input grows a master, be it fresh, recovering or serving.
-use Rattle.std.proofs.Common.{◌≡◌, ℕ, ◌+◌, ◌&&◌, ◌≤◌, List, length, nat_le, refl, arith, Option, Some, None}
+use Rattle.std.proofs.Common.{◌≡◌, ℕ, ◌+◌, ◌&&◌, ◌≤◌, List, drop, length, nat_le, refl, arith, Option, Some, None}
 use Rattle.std.proofs.lemmas.Bool.{cond_both}
-use Rattle.curp_base.specs.Words.{IsPrefix}
+use Rattle.curp_base.specs.Words.{Each, IsPrefix}
 use Rattle.curp_base.proofs.Lists.{prefix_self}
 use Rattle.curp_cmd.specs.declared.command.Request.{Request}
 use Rattle.curp_cmd.specs.declared.entry.Entry.{Entry}
@@ -15,18 +15,19 @@ use Rattle.curp_msg.specs.declared.body.Body.TheVariants as body
 use Rattle.curp_msg.specs.declared.body.Recover.{Recover}
 use Rattle.curp_msg.specs.declared.machine.Local.{Local}
 use Rattle.curp_msg.specs.declared.machine.Local.TheVariants as local
-use Rattle.curp_facts.specs.Facts.{Logged, node_log, phase_log}
+use Rattle.curp_facts.specs.Facts.{IsOnlyExpire, Logged, node_log, phase_log}
 use Rattle.curp_model.specs.Log.{is_log}
 use Rattle.curp_cmd.specs.Node.{is_among, same_node}
 use Rattle.curp_cmd.specs.Store.{is_update}
 use Rattle.curp_base.specs.Words.{rises_past}
-use Rattle.curp_model.specs.Master.{MasterState, last_round, on_serving, serving_ordered}
+use Rattle.curp_model.specs.Master.{MasterState, Switch, Switching, last_round, on_serving, serving_ordered}
 use Rattle.curp_msg.specs.declared.machine.Input.{Input}
 use Rattle.curp_msg.specs.declared.machine.Input.TheVariants as input
 use Rattle.curp_msg.specs.Moved.{Moved}
 use Rattle.curp_model.specs.Recovery.{MasterStage, Fresh, Recovering, Serving, RecoveryState, RecoveryPhase, Asking, Storing, Waiting, Replayed, again_in, all_complete, append_answered, both_there, completed_by, fence_answered, log_comes, master_ordered, on_fresh, on_master, on_recovering, master_input, recovery_ordered, requests_come, serves, stored_comes, turns_read_away, with_complete}
 use Rattle.curp_facts.specs.Growth.{LogGrows, MasterGrows, ServesOn, core}
 use Rattle.curp_law_growth.proofs.Masters.{core_self, serving_grows, serving_ordered_grows}
+use Rattle.curp_law_growth.proofs.Switches.{nothing_pushed, switching_little, switching_ordered_little}
 
 log_self : (o : Option Logged) → LogGrows o o
 log_self None = tt
@@ -101,15 +102,15 @@ module _ (n : ℕ) (o : Recover) where
 
 -- a master that stays
 pub master_self : (m : MasterStage) → MasterGrows m m
-master_self Fresh = record { life = tt; log = tt }
-master_self (Recovering s) = record { life = refl; log = log_self (phase_log s.phase) }
-master_self (Serving m) = record { life = core_self (core m); log = log_self (node_log (Serving m)) }
+master_self Fresh = record { life = tt; log = tt; little = tt }
+master_self (Recovering s) = record { life = refl; log = log_self (phase_log s.phase); little = tt }
+master_self (Serving m) = record { life = core_self (core m); log = log_self (node_log (Serving m)); little = λ s is. nothing_pushed m.log }
 
 recovers : (s t : RecoveryState) → RecGrows s.order s.phase t → MasterGrows (Recovering s) (Recovering t)
-recovers s t g = record { life = g.order; log = g.log }
+recovers s t g = record { life = g.order; log = g.log; little = tt }
 
-goes_on_serving : (m k : MasterState) → ServesOn m k → MasterGrows (Serving m) (Serving k)
-goes_on_serving m k g = record { life = g; log = (_, refl, g.log, g.round) }
+goes_on_serving : (m k : MasterState) → ServesOn m k → ((s : Switch) → m.phase ≡ Switching s → Each IsOnlyExpire (drop (length m.log) k.log)) → MasterGrows (Serving m) (Serving k)
+goes_on_serving m k g little = record { life = g; log = (_, refl, g.log, g.round); little = little }
 
 serves_grows : (o : Recover) (p : RecoveryPhase) → MasterGrows (Recovering (at o p)) (serves (at o p) p)
 serves_grows o (Asking log requests) = master_self (Recovering (at o (Asking log requests)))
@@ -117,13 +118,14 @@ serves_grows o (Storing r) = master_self (Recovering (at o (Storing r)))
 serves_grows o (Waiting r) = record {
   life = record { part = refl; epoch = refl; version = refl; backups = refl; witnesses = refl; lo = refl; hi = refl; phase = refl };
   log = (_, refl, prefix_self r.log, omega arith);
+  little = tt;
 }
 
 read_away_grows : (n : ℕ) (m : MasterStage) (r : Request) → MasterGrows m (turns_read_away n m r).state
 read_away_grows n m r = cond_both (is_update r.command) _ _ (λ (k : Moved MasterStage). MasterGrows m k.state) (λ y. master_self m) (λ y. master_self m)
 
 fresh_grows : (n : ℕ) (b : Body) → MasterGrows Fresh (on_fresh n b).state
-fresh_grows n (body.Recover o) = record { life = tt; log = tt }
+fresh_grows n (body.Recover o) = record { life = tt; log = tt; little = tt }
 fresh_grows n (body.Update ask) = master_self Fresh
 fresh_grows n (body.Sync ask) = master_self Fresh
 fresh_grows n (body.Read ask) = read_away_grows n Fresh ask.request
@@ -144,14 +146,14 @@ pub master_grows : (n : ℕ) (m : MasterStage) (from : NodeId) (b : Body) → Ma
 unfolding on_master
 master_grows n Fresh from b = fresh_grows n b
 master_grows n (Recovering s) from b = recovering_grows n s from b
-master_grows n (Serving m) from b = goes_on_serving m (on_serving n m from b).state (serving_grows n m from b)
+master_grows n (Serving m) from b = goes_on_serving m (on_serving n m from b).state (serving_grows n m from b) (λ s is. (switching_little n m s is from b).pushes)
 
 -- and so does an order
 pub master_ordered_grows : (n : ℕ) (m : MasterStage) (order : Local) → MasterGrows m (master_ordered n m order).state
 unfolding master_ordered
 master_ordered_grows n Fresh order = master_self Fresh
 master_ordered_grows n (Recovering s) order = recovers s (recovery_ordered n s order).state (ordered_goes n s.order s.phase order)
-master_ordered_grows n (Serving m) order = goes_on_serving m (serving_ordered n m order).state (serving_ordered_grows n m order)
+master_ordered_grows n (Serving m) order = goes_on_serving m (serving_ordered n m order).state (serving_ordered_grows n m order) (λ s is. (switching_ordered_little n m s is order).pushes)
 
 -- any input grows a master
 pub master_input_grows : (n : ℕ) (m : MasterStage) (given : Input) → MasterGrows m (master_input n m given).state

@@ -1,33 +1,18 @@
 -- What holds of each item of a list that is made of another one.
-use Rattle.std.proofs.Common.{◌≡◌, ◌||◌, suc, Bool, true, false, cond, List, [], ◌∷◌, refl}
+use Rattle.std.proofs.Common.{◌≡◌, ◌||◌, suc, Bool, true, false, List, [], ◌∷◌, refl}
 use Rattle.std.specs.List.{filter, list_any, list_all}
 use Rattle.std.proofs.lemmas.Bool.{and_parts}
 use Rattle.curp_base.specs.Words.{Each}
-use Rattle.curp_base.proofs.Lists.{Each-from_at}
+use Rattle.curp_base.proofs.Lists.{Each-weaker}
 use Rattle.curp_cmd.specs.Node.{is_among, same_node}
 use Rattle.curp_cmd.specs.declared.node.NodeId.{NodeId}
 use Rattle.curp_cmd.proofs.Nodes.{same_node-true}
 use Rattle.curp_facts.specs.Facts.{IsAmong}
+use Rattle.curp_law_masters.proofs.Lists.{each_filtered}
 
--- the first, and one behind it
-pub among_first : {A : Type 0} (x : A) (xs : List A) → IsAmong x (x ∷ xs)
-among_first x xs = record { place = 0; stands = refl }
-
-pub among_later : {A : Type 0} (x y : A) (xs : List A) → IsAmong x xs → IsAmong x (y ∷ xs)
-among_later x y xs m = record { place = suc m.place; stands = m.stands }
-
--- what holds of all that are among them
-pub each_among : {A : Type 0} (P : A → Type 0) (xs : List A) → ((x : A) → IsAmong x xs → P x) → Each P xs
-each_among P xs all = Each-from_at P xs (λ k x at. all x (record { place = k; stands = at }))
-
--- of those that a test leaves
-pub each_filter : {A : Type 0} (P : A → Type 0) (p : A → Bool) (xs : List A) → ((x : A) → IsAmong x xs → p x ≡ true → P x) → Each P (filter p xs)
-each_filter P p [] all = tt
-each_filter P p (x ∷ xs) all = go (p x) refl (all x (among_first x xs)) (each_filter P p xs (λ y m. all y (among_later y x xs m)))
-  where
-    go : (b : Bool) → p x ≡ b → (p x ≡ true → P x) → Each P (filter p xs) → Each P (cond b (x ∷ filter p xs) (filter p xs))
-    go true e here rest = (here e, rest)
-    go false e here rest = rest
+-- those that pass a test
+pub each_left : {A : Type 0} (P : A → Type 0) (test : A → Bool) (xs : List A) → Each P xs → Each P (filter test xs)
+each_left {A} P test xs all = Each-weaker (λ (x : A). P x × (test x ≡ true)) P (λ x y. y.0) (filter test xs) (each_filtered P test xs all)
 
 -- what a test finds of all
 pub each_tested : {A : Type 0} (P : A → Type 0) (p : A → Bool) (xs : List A) → ((x : A) → p x ≡ true → P x) → list_all p xs ≡ true → Each P xs
@@ -41,4 +26,4 @@ found_among node (x ∷ xs) e = go (same_node node x) refl e (found_among node x
   where
     go : (b : Bool) → same_node node x ≡ b → (b || list_any (same_node node) xs) ≡ true → (is_among node xs ≡ true → IsAmong node xs) → IsAmong node (x ∷ xs)
     go true same e rest = let is : node ≡ x = same_node-true node x same in record { place = 0; stands = cc }
-    go false other e rest = among_later node x xs (rest e)
+    go false other e rest = let m = rest e in record { place = suc m.place; stands = m.stands }

@@ -1,4 +1,9 @@
+pub mod Lists
+pub mod Pushed
+pub mod Parts
+pub mod Serving
 pub mod Among
 pub mod Replays
 pub mod Recovering
 pub mod Synced
+pub mod Settled

@@ -35,7 +35,8 @@ use Rattle.curp_facts.specs.Nodes.{AcknowledgedOk, CameLog, CameRequests, Replay
 use Rattle.curp_facts.specs.Reach.{HasStored}
 use Rattle.curp_law_masters.specs.Moves.{HearsLog, HearsStored, IsSaidBy, RecoveryHears, RecoveryMove, RecoverySays}
 use Rattle.curp_law_masters.specs.Stages.{BeginningOk, FreshSays}
-use Rattle.curp_law_masters.proofs.Among.{each_among, each_filter, each_tested, found_among}
+use Rattle.curp_law_masters.proofs.Among.{each_left, each_tested, found_among}
+use Rattle.curp_law_masters.proofs.Lists.{each_among}
 use Rattle.curp_law_masters.proofs.Replays.{replay_ok}
 
 -- a state of a recovery
@@ -188,7 +189,7 @@ module _ (w : World) (n : ℕ) (o : Recover) where
       tells p p (unanswered_log n o log ++ unanswered_requests n o requests) ok (Each-append (Says p) (unanswered_log n o log) (unanswered_requests n o requests) (unanswered_logs p log) (unanswered_asked p requests))
   again_goes (Storing r) ok = cond_both (rises_past last_round r.round (r.round + 1)) _ _ (Goes (Storing r)) (λ y. stays (Storing r) (Storing r) ok)
       (λ y. tells (Storing r) (Storing (next_storing r)) _ (rephased w o (Storing r) (Storing (next_storing r)) r (r.round + 1) ok)
-      (whole (next_storing r) (filter (λ b. not (is_among b r.complete)) o.backups) (each_filter (λ b. IsAmong b o.backups) (λ b. not (is_among b r.complete)) o.backups (λ b m e. m))))
+      (whole (next_storing r) (filter (λ b. not (is_among b r.complete)) o.backups) (each_left (λ b. IsAmong b o.backups) (λ b. not (is_among b r.complete)) o.backups (each_among (λ b. IsAmong b o.backups) o.backups (λ b m. m)))))
   again_goes (Waiting r) ok = tells (Waiting r) (Waiting r) (recovered_message n o) ok (recovered r)
 
   ordered_goes : (p : RecoveryPhase) (order : Local) → StageOk w (at o p) p → Goes p (recovery_ordered n (at o p) order)
