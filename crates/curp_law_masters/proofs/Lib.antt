@@ -1,5 +1,10 @@
-pub mod Pushed
 pub mod Lists
 pub mod Firsts
+pub mod Pushed
 pub mod Parts
 pub mod Serving
+pub mod Among
+pub mod Replays
+pub mod Recovering
+pub mod Synced
+pub mod Settled
