@@ -1,0 +1,4 @@
+pub mod Moved
+pub mod Known
+pub mod Backups
+pub mod Witnesses
