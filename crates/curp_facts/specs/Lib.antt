@@ -4,6 +4,8 @@ pub mod Reach
 pub mod Growth
 pub mod Entries
 pub mod Said
+pub mod ClientNumbers
+pub mod Evidence
 pub mod Nodes
 pub mod Invariant
 pub mod Run

@@ -14,6 +14,7 @@ use Rattle.curp_cmd.specs.declared.entry.Entry.TheVariants.{Op}
 use Rattle.curp_cmd.specs.declared.node.NodeId.{NodeId}
 use Rattle.curp_msg.specs.Moved.{says}
 use Rattle.curp_msg.specs.declared.body.Append.{Append}
+use Rattle.curp_msg.specs.declared.body.Body.{Body}
 use Rattle.curp_msg.specs.declared.body.Body.TheVariants as body
 use Rattle.curp_msg.specs.declared.body.Recovered.{Recovered}
 use Rattle.curp_msg.specs.declared.body.Worth.{Worth}
@@ -28,8 +29,10 @@ use Rattle.curp_model.specs.Recovery.{Asking, MasterStage, Fresh, Recovering, Re
 use Rattle.curp_model.specs.Table.{check}
 use Rattle.curp_model.specs.Witness.{HeldRequest, WitnessState}
 use Rattle.curp_model.specs.World.{World}
+use Rattle.curp_facts.specs.ClientNumbers.{NumbersOk}
+use Rattle.curp_facts.specs.Evidence.{KnowledgeOk}
 use Rattle.curp_facts.specs.Entries.{LogOk, RequestOk, UpdateOk}
-use Rattle.curp_facts.specs.Facts.{AttemptWas, Completable, ConfigOk, FencedLogOk, FrozenOk, IsOnlyExpire, Lists, ReplayOk, WasAdopted, WasSent, hi_of, lo_of}
+use Rattle.curp_facts.specs.Facts.{Completable, EntryWas, FencedLogOk, FrozenOk, IsOnlyExpire, Lists, ReplayOk, WasAdopted, WasSent, hi_of, lo_of}
 use Rattle.curp_facts.specs.Kept.{FollowsLog, IsCollectable, lists_of_master}
 use Rattle.curp_facts.specs.Reach.{HasStored}
 
@@ -177,43 +180,14 @@ StartedAt l x = (epoch : ℕ) → x.epoch ≡ Some epoch → epoch ≡ l.epoch
 
 -- ---- clients
 
--- an unsynced reply that a client keeps was sent
-abbrev pub EarlyWas : World → RequestId → Early → Type 0
-EarlyWas w id e =
-    WasSent w (says e.master (client_node id.client) (body.Reply (record { id = id; synced = false; epoch = e.epoch; version = e.version; answer = e.answer })))
+-- a message has come to client n, or may come yet
+abbrev pub MayCome : World → ℕ → NodeId → Body → Type 0
+MayCome w n from b = WasSent w (says from (client_node n) b)
 
--- an accept that a client keeps was sent
-abbrev pub AcceptWas : World → RequestId → Accept → Type 0
-AcceptWas w id a = WasSent w (says a.witness (client_node id.client) (body.Accepted (record { id = id; epoch = a.epoch })))
-
--- a request has completed
-abbrev pub HasCompleted : World → RequestId → Type 0
-HasCompleted w id = (i : ℕ) × (a : Answer) × At w.history i (Complete id a)
-
--- a pending request of the client: it was invoked and isn't completed, and all that it was sent by and told was so
-pub record PendingOk (w : World) (n : ℕ) (c : ClientState) (p : Pending) : Type 0 where
-  pub request : RequestOk w p.request
-  pub its_client : p.request.id.client ≡ n
-  pub used : (1 ≤ p.request.id.seq) × (p.request.id.seq ≤ c.last)
-  pub waits : HasCompleted w p.request.id → ⊥
-  pub attempts : Each (AttemptWas w) p.attempts
-  pub early : Each (EarlyWas w p.request.id) p.early
-  pub accepts : Each (AcceptWas w p.request.id) p.accepts
-
--- the request of that number is pending
-pub record IsPending (c : ClientState) (seq : ℕ) : Type 0 where
-  pub place : ℕ
-  pub p : Pending
-  pub stands : At c.pending place p
-  pub its_number : p.request.id.seq ≡ seq
-
--- each number up to the last is pending or completed, and none behind it was invoked
+-- its numbers are those of the history, and what it knows was said
 pub record ClientOk (w : World) (n : ℕ) (c : ClientState) : Type 0 where
-  pub config : ConfigOk w c.config
-  pub pending : Each (PendingOk w n c) c.pending
-  pub once : (j k : ℕ) (p q : Pending) → At c.pending j p → At c.pending k q → p.request.id.seq ≡ q.request.id.seq → j ≡ k
-  pub done : (seq : ℕ) → 1 ≤ seq → seq ≤ c.last → IsPending c seq ⊎ HasCompleted w (record { client = n; seq = seq })
-  pub unused : (i : ℕ) (id : RequestId) (command : Command) → At w.history i (Invoke id command) → id.client ≡ n → id.seq ≤ c.last
+  pub numbers : NumbersOk n w.history c
+  pub knows : KnowledgeOk (MayCome w n) (EntryWas w) c
 
 -- ---- the history
 

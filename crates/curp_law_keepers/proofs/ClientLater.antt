@@ -18,8 +18,9 @@ use Rattle.curp_order.specs.Order.{IsHistory}
 use Rattle.curp_order.specs.declared.Event.{Event}
 use Rattle.curp_model.specs.Client.{Accept, Attempt, ClientState, Early, Pending, fresh_client}
 use Rattle.curp_model.specs.World.{completion, invocation_of}
-use Rattle.curp_law_keepers.specs.ClientEffect.{AcceptCame, EarlyCame, EvidenceOk, IsAttempt, KnowledgeOk, MayComplete, events_after}
-use Rattle.curp_law_keepers.specs.ClientNumbers.{IsEventOf, NumbersOk}
+use Rattle.curp_facts.specs.Evidence.{AcceptCame, EarlyCame, EvidenceOk, IsAttempt, KnowledgeOk}
+use Rattle.curp_law_keepers.specs.ClientEffect.{MayComplete, events_after}
+use Rattle.curp_facts.specs.ClientNumbers.{IsEventOf, NumbersOk}
 use Rattle.curp_law_keepers.proofs.Numbers.{numbers_stay, waiting}
 
 -- ---- at first

@@ -36,8 +36,9 @@ use Rattle.curp_model.specs.Client.{Attempt, ClientState, Early, Pending, Resent
 use Rattle.curp_model.specs.Ranges.{owns_all}
 use Rattle.curp_model.specs.World.{completion}
 use Rattle.curp_facts.specs.Facts.{IsAmong}
-use Rattle.curp_law_keepers.specs.ClientEffect.{AcceptCame, ClientEffect, ClientSays, EarlyCame, EvidenceOk, InputSuitsClient, IsAttempt, KnowledgeOk, MayComplete, SuitsClient, events_after}
-use Rattle.curp_law_keepers.specs.ClientNumbers.{IsAsked, NumbersOk}
+use Rattle.curp_facts.specs.Evidence.{AcceptCame, EarlyCame, EvidenceOk, IsAttempt, KnowledgeOk}
+use Rattle.curp_law_keepers.specs.ClientEffect.{ClientEffect, ClientSays, InputSuitsClient, MayComplete, SuitsClient, events_after}
+use Rattle.curp_facts.specs.ClientNumbers.{IsAsked, NumbersOk}
 use Rattle.curp_law_keepers.proofs.Evidence.{accepts_each, early_each, proved_ok}
 use Rattle.curp_law_keepers.proofs.Lists.{each_filter, filter_at, first_at, last_at}
 use Rattle.curp_law_keepers.proofs.Numbers.{fresh_asked, history_completed, history_invoked, numbers_changed, numbers_completed, numbers_invoked, waiting}

@@ -9,7 +9,7 @@ use Rattle.curp_order.specs.Order.{IsHistory}
 use Rattle.curp_order.specs.declared.Event.{Event}
 use Rattle.curp_order.specs.declared.Event.TheVariants.{Invoke, Complete}
 use Rattle.curp_cmd.specs.declared.command.Request.{Request}
-use Rattle.curp_law_keepers.specs.ClientNumbers.{CompletedBelow, IsAsked, IsCompleted}
+use Rattle.curp_facts.specs.ClientNumbers.{CompletedBelow, IsAsked, IsCompleted}
 
 -- ---- what stays, whatever comes
 

@@ -8,7 +8,7 @@ use Rattle.curp_cmd.specs.RequestId.{same_id}
 use Rattle.curp_cmd.specs.declared.command.RequestId.{RequestId}
 use Rattle.curp_cmd.proofs.Ids.{same_id-true}
 use Rattle.curp_model.specs.Client.{Pending, replaced, with_id, without_id}
-use Rattle.curp_law_keepers.specs.ClientNumbers.{IsPending, NumbersRise}
+use Rattle.curp_facts.specs.ClientNumbers.{IsPending, NumbersRise}
 use Rattle.curp_law_keepers.proofs.Lists.{each_filter, filter_at, first_at}
 
 -- ---- one comes

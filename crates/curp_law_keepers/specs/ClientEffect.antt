@@ -25,40 +25,8 @@ use Rattle.curp_order.specs.declared.Event.{Event}
 use Rattle.curp_model.specs.Client.{Accept, Attempt, ClientState, Early, Pending, attempt_at}
 use Rattle.curp_model.specs.World.{completion, invocation_of}
 use Rattle.curp_facts.specs.Facts.{IsAmong}
-use Rattle.curp_law_keepers.specs.ClientNumbers.{IsAsked, IsInvoked, NumbersOk}
-
--- ---- the evidence that it has
-
--- the attempt is by an adopted entry
-pub record IsAttempt (Adopted : PartConfig → Type 0) (a : Attempt) : Type 0 where
-  pub part : PartConfig
-  pub adopted : Adopted part
-  pub is : a ≡ attempt_at part
-
--- the unsynced reply of that master, epoch, version and answer came
-pub record EarlyCame (Came : NodeId → Body → Type 0) (id : RequestId) (e : Early) : Type 0 where
-  pub reply : Reply
-  pub came : Came e.master (body.Reply reply)
-  pub its_id : reply.id ≡ id
-  pub unsynced : reply.synced ≡ false
-  pub epoch : reply.epoch ≡ e.epoch
-  pub version : reply.version ≡ e.version
-  pub answer : reply.answer ≡ e.answer
-
--- the accept of that witness at that epoch came
-abbrev pub AcceptCame : (NodeId → Body → Type 0) → RequestId → Accept → Type 0
-AcceptCame Came id a = Came a.witness (body.Accepted (record { id = id; epoch = a.epoch }))
-
--- what is kept of a pending request: attempts by adopted entries, and evidence that came
-pub record EvidenceOk (Came : NodeId → Body → Type 0) (Adopted : PartConfig → Type 0) (p : Pending) : Type 0 where
-  pub attempts : Each (IsAttempt Adopted) p.attempts
-  pub early : Each (EarlyCame Came p.request.id) p.early
-  pub accepts : Each (AcceptCame Came p.request.id) p.accepts
-
--- what a client knows: adopted entries, and evidence
-pub record KnowledgeOk (Came : NodeId → Body → Type 0) (Adopted : PartConfig → Type 0) (c : ClientState) : Type 0 where
-  pub config : Each Adopted c.config.parts
-  pub pending : Each (EvidenceOk Came Adopted) c.pending
+use Rattle.curp_facts.specs.ClientNumbers.{IsAsked, IsInvoked, NumbersOk}
+use Rattle.curp_facts.specs.Evidence.{KnowledgeOk}
 
 -- ---- what comes
 

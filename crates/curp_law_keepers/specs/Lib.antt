@@ -1,5 +1,4 @@
 pub mod Brought
 pub mod BackupEffect
 pub mod WitnessEffect
-pub mod ClientNumbers
 pub mod ClientEffect

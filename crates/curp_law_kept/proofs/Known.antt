@@ -18,17 +18,20 @@ use Rattle.curp_order.specs.declared.Event.TheVariants.{Invoke, Complete}
 use Rattle.curp_model.specs.Client.{ClientState}
 use Rattle.curp_model.specs.Manager.{ManagerState}
 use Rattle.curp_model.specs.World.{World, messages}
-use Rattle.curp_facts.specs.Facts.{IsAdoptedNow, IsGiven, Lists, WasSent, lists_of_part}
+use Rattle.curp_facts.specs.Facts.{EntryWas, IsAdoptedNow, IsGiven, Lists, WasSent, lists_of_part}
+use Rattle.curp_facts.specs.ClientNumbers.{NumbersOk}
+use Rattle.curp_facts.specs.Evidence.{KnowledgeOk}
 use Rattle.curp_facts.specs.Growth.{Steady}
 use Rattle.curp_facts.specs.Invariant.{Invariant, PresentOk}
-use Rattle.curp_facts.specs.Nodes.{ClientOk, CompletedBy}
+use Rattle.curp_facts.specs.Nodes.{ClientOk, CompletedBy, MayCome}
 use Rattle.curp_facts.specs.Said.{Says}
 use Rattle.curp_law_names.specs.Names.{IsOf, Names}
 use Rattle.curp_law_names.specs.Nodes.{MessageFits, Nodes, sender_kind}
+use Rattle.curp_law_keepers.proofs.ClientLater.{knowledge_grows}
 use Rattle.curp_law_kept.proofs.Moved.{given_back, messages_say}
-use Rattle.curp_law_stays.proofs.Nodes.{DoesNoMore, client_ok_later, completed_by_later}
+use Rattle.curp_law_stays.proofs.Nodes.{completed_by_later}
 use Rattle.curp_law_stays.proofs.Said.{entry_was_later, says_later}
-use Rattle.curp_law_stays.proofs.Words.{Follows, ready_later}
+use Rattle.curp_law_stays.proofs.Words.{Follows, ready_later, sent_later}
 
 -- all that holds of a world that a script reaches
 pub record Known (w : World) : Type 0 where
@@ -53,6 +56,10 @@ module _ {w : World} (known : Known w) where
   pub said : (from to : NodeId) (b : Body) (sent : WasSent w (says from to b)) → Says w sent.place from to b
   said from to b sent = known.inv.messages sent.place (says from to b) sent.stands
 
+-- what a client knows stays so
+pub knows_later : (w v : World) → Follows w v → (n : ℕ) (c : ClientState) → KnowledgeOk (MayCome w n) (EntryWas w) c → KnowledgeOk (MayCome v n) (EntryWas v) c
+knows_later w v s n c ok = knowledge_grows (MayCome w n) (MayCome v n) (EntryWas w) (EntryWas v) (λ from b came. sent_later s came) (entry_was_later s) c ok
+
 -- the manager, the clients and the history are as they were, and one node has said more
 pub record Frame (w v : World) (out : List Message) (mover : NodeId) : Type 0 where
   pub sent : messages v ≡ messages w ++ out
@@ -74,12 +81,8 @@ module _ {w v : World} (known : Known w) (s : Follows w v) {out : List Message} 
 
   pub clients_stay : (n : ℕ) (c : ClientState) → numbered v.clients n ≡ Some c → ClientOk v n c
   clients_stay n c here =
-      client_ok_later s n c
-      (record {
-        invoked = λ i id command at its. subst (λ (h : List Event). At h i (Invoke id command)) f.history at;
-        completed = λ i id a at its. subst (λ (h : List Event). At h i (Complete id a)) f.history at;
-      })
-      (known.inv.clients n c (subst (λ (cs : List ClientState). numbered cs n ≡ Some c) f.clients here))
+      let ok = known.inv.clients n c (subst (λ (cs : List ClientState). numbered cs n ≡ Some c) f.clients here) in
+      record { numbers = subst (λ (h : List Event). NumbersOk n h c) (sym f.history) ok.numbers; knows = knows_later w v s n c ok.knows }
 
   pub history_stays : IsHistory v.history
   history_stays = subst IsHistory (sym f.history) known.inv.history
