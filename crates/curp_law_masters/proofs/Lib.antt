@@ -7,3 +7,4 @@ pub mod Replays
 pub mod Recovering
 pub mod Synced
 pub mod Settled
+pub mod Acknowledging
