@@ -1,5 +1,6 @@
 pub mod Lists
 pub mod Pushed
+pub mod Firsts
 pub mod Parts
 pub mod Serving
 pub mod Among

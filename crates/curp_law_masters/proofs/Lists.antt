@@ -39,7 +39,7 @@ each_filtered {A} P test (x ∷ xs) all = go (test x) refl (each_filtered P test
     go false is more = more
 
 -- the larger of two numbers is one of them
-larger : (P : ℕ → Type 0) (a b : ℕ) → P a → P b → P (max a b)
+pub larger : (P : ℕ → Type 0) (a b : ℕ) → P a → P b → P (max a b)
 larger P a b x y = elim (cases_lt a b) [
   | inl less ↦ (let is : b ≡ max a b = omega (arith, less) in subst P is y)
   | inr more ↦ (let is : a ≡ max a b = omega (arith, more) in subst P is x)

@@ -144,10 +144,9 @@ module _ (w : World) (n : ℕ) (m : MasterState) (ok : ServingOk w (master_node 
 
   -- ---- a round begins
 
-  -- the log stays or not, and a round begins
-  pub begins : 1 ≤ length m.backups → (k : MasterState) → SameLists m k → LogMove m k → Parts w m.part k → Move (begins_round n k)
-  begins filled k same moves p =
-      let next : Parts w m.part (next_round k) = parts_round w m.part k p in
+  -- a round begins, after which it keeps what it should
+  pub begins_next : 1 ≤ length m.backups → (k : MasterState) → SameLists m k → LogMove m k → Parts w m.part (next_round k) → Move (begins_round n k)
+  begins_next filled k same moves next =
       stays (next_round k) (appends n (next_round k)) (record { version = same.version; backups = same.backups; witnesses = same.witnesses; phase = same.phase; acknowledged = same.acknowledged }) (onward moves) next
       (λ s switches. inr (says_all w m.part n (next_round k) next (subst (λ (xs : List NodeId). 1 ≤ length xs) (sym same.backups) filled)))
       (appends_say w m.part n (next_round k) next)
@@ -156,6 +155,10 @@ module _ (w : World) (n : ℕ) (m : MasterState) (ok : ServingOk w (master_node 
       onward (SameLog log) = SameLog log
       onward (WhenOpen is) = WhenOpen is
       onward (Expires client log) = Expires client log
+
+  -- the log stays or not, and a round begins
+  pub begins : 1 ≤ length m.backups → (k : MasterState) → SameLists m k → LogMove m k → Parts w m.part k → Move (begins_round n k)
+  begins filled k same moves p = begins_next filled k same moves (parts_round w m.part k p)
 
   -- an entry is pushed, which fits, and a round begins
   pub pushes : 1 ≤ length m.backups → (e : Entry) → fits_at (state_of m) e ≡ true → EntryOk w m.part e → IsAbove m.log e → LogMove m (record m { log = m.log ++ e ∷ [] })
