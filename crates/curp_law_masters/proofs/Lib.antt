@@ -9,3 +9,4 @@ pub mod Recovering
 pub mod Synced
 pub mod Settled
 pub mod Acknowledging
+pub mod Relisting
