@@ -10,3 +10,4 @@ pub mod Synced
 pub mod Settled
 pub mod Acknowledging
 pub mod Relisting
+pub mod Migrating
