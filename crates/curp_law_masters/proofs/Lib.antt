@@ -10,4 +10,5 @@ pub mod Synced
 pub mod Settled
 pub mod Acknowledging
 pub mod Relisting
+pub mod Completed
 pub mod Migrating

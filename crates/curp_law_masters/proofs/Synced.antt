@@ -1,7 +1,6 @@
 -- What backups have acknowledged, and what is synced by it.
 use Rattle.std.proofs.Common.{◌≡◌, ◌≤◌, ◌<◌, ◌&&◌, ℕ, zero, suc, ◌+◌, Bool, true, false, cond, List, [], ◌∷◌, length, map, max, nat_le, Some, refl, ap, sym, ◌∙◌, subst, arith}
-use Rattle.std.proofs.lemmas.Bool.{and_parts}
-use Rattle.std.proofs.lemmas.Bool.Decides.{nat_tests}
+use Rattle.std.proofs.lemmas.Bool.{and_parts, leb-true}
 use Rattle.std.proofs.lemmas.List.{length-map}
 use Rattle.curp_base.specs.Words.{At, Each}
 use Rattle.curp_base.proofs.Lists.{Each-map, Each-weaker}
@@ -99,10 +98,7 @@ raised_ok w m backup long round new (a ∷ rest) all = go (same_node a.backup ba
 -- each backup that is found to have acknowledged so many has done so
 pub all_acknowledged : (m : MasterState) (backups : List NodeId) (long round : ℕ) → all_have m.acknowledged backups long round ≡ true → Each (HasAcknowledged m long) backups
 all_acknowledged m backups long round e = each_tested (HasAcknowledged m long) (λ b. nat_le long (from_backup m.acknowledged b).length && nat_le round (from_backup m.acknowledged b).round) backups
-    (λ b y. reads long (from_backup m.acknowledged b).length (and_parts (nat_le long (from_backup m.acknowledged b).length) (nat_le round (from_backup m.acknowledged b).round) y).0) e
-  where
-    reads : (n k : ℕ) → nat_le n k ≡ true → n ≤ k
-    reads n k e = grind (arith, nat_tests)
+    (λ b y. leb-true long (from_backup m.acknowledged b).length (and_parts (nat_le long (from_backup m.acknowledged b).length) (nat_le round (from_backup m.acknowledged b).round) y).0) e
 
 -- entries that each backup of a list has acknowledged are synced by that list
 pub on_each_synced : (m : MasterState) (backups : List NodeId) (index : ℕ) → 1 ≤ length backups → IsOnEach m backups index → index < least (map (λ b. (from_backup m.acknowledged b).length) backups)
