@@ -259,5 +259,6 @@ RecoverySays w s to _ = ⊥
 pub record RecoveryMove (w : World) (n : ℕ) (s : RecoveryState) (r : Moved RecoveryState) : Type 0 where
   pub order : r.state.order ≡ s.order
   pub stage : StageOk w r.state r.state.phase
+  pub waits : IsWaiting s.phase → IsWaiting r.state.phase
   pub says : Each (IsSaidBy n (RecoverySays w r.state)) r.messages
   pub refused : r.refused ≡ 0
