@@ -1,7 +1,7 @@
 -- What a clean master says of the entries that aren't synced, and an op that is pushed then.
 use Rattle.std.proofs.Common.{◌≡◌, ◌≤◌, ◌+◌, ◌-◌, ◌||◌, inl, inr, ℕ, zero, suc, Bool, true, false, List, [], ◌∷◌, ◌++◌, length, take, drop, refl, ap, sym, ◌∙◌, subst, arith}
 use Rattle.std.specs.List.{list_any}
-use Rattle.std.proofs.Math.Seq.{take-append_seam}
+use Rattle.std.proofs.Math.Seq.{take-append_seam, take-length}
 use Rattle.std.proofs.lemmas.Bool.{not-true, and_from}
 use Rattle.curp_base.specs.Words.{At, Each}
 use Rattle.curp_base.proofs.Lists.{at_push, at_push_cases, at_within}
@@ -92,8 +92,4 @@ module _ (w : World) (part : ℕ) (m : MasterState) (p : Parts w part m) (r : Re
 
   -- its answer is that of the fold before it
   pub pushed_answer : answer_after m.lo m.hi (take (length m.log) (m.log ++ Op r acknowledged ∷ [])) r.command ≡ answer_at m (length m.log) r
-  pushed_answer = ap (λ (before : List Entry). answer_after m.lo m.hi before r.command) (take-append_seam m.log (Op r acknowledged ∷ []) ∙ sym (take_all m.log))
-    where
-      take_all : (xs : List Entry) → take (length xs) xs ≡ xs
-      take_all [] = refl
-      take_all (x ∷ xs) = ap (λ (l : List Entry). x ∷ l) (take_all xs)
+  pushed_answer = ap (λ (before : List Entry). answer_after m.lo m.hi before r.command) (take-append_seam m.log (Op r acknowledged ∷ []) ∙ sym (take-length m.log))

@@ -5,3 +5,5 @@ pub mod Parts
 pub mod Clean
 pub mod Serving
 pub mod Updates
+pub mod Captures
+pub mod Suspects
