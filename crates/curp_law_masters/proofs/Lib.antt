@@ -7,3 +7,4 @@ pub mod Serving
 pub mod Updates
 pub mod Captures
 pub mod Suspects
+pub mod Ordered
