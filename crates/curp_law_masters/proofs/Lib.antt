@@ -1,5 +1,5 @@
-pub mod Pushed
 pub mod Lists
+pub mod Pushed
 pub mod Firsts
 pub mod Parts
 pub mod Clean
@@ -8,3 +8,12 @@ pub mod Updates
 pub mod Captures
 pub mod Suspects
 pub mod Ordered
+pub mod Among
+pub mod Replays
+pub mod Recovering
+pub mod Synced
+pub mod Settled
+pub mod Acknowledging
+pub mod Relisting
+pub mod Migrating
+pub mod Inputs
