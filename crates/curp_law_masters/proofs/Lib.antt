@@ -15,5 +15,6 @@ pub mod Synced
 pub mod Settled
 pub mod Acknowledging
 pub mod Relisting
+pub mod Completed
 pub mod Migrating
 pub mod Inputs

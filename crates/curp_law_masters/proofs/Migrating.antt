@@ -1,12 +1,11 @@
 -- A range leaves with a migration, or comes with one: the entry is pushed once, and told again.
-use Rattle.std.proofs.Common.{◌≡◌, ◌≤◌, ◌<◌, ◌==◌, inl, inr, ℕ, true, false, List, [], ◌∷◌, length, nat_le, nat_lt, Option, Some, None, refl, subst, arith}
-use Rattle.std.proofs.lemmas.Bool.{cases_order, cond_both}
-use Rattle.std.proofs.lemmas.Bool.Decides.{nat_tests}
+use Rattle.std.proofs.Common.{◌≡◌, ◌≤◌, ◌<◌, ◌==◌, inl, inr, ℕ, true, List, [], ◌∷◌, length, nat_le, nat_lt, Option, Some, None, refl, subst, arith}
+use Rattle.std.proofs.lemmas.Bool.{cases_order, cond_both, leb-false, leb-true, ltb-true}
 use Rattle.curp_base.specs.Words.{At, Each}
-use Rattle.curp_base.proofs.Lists.{Each-weaker, at_same}
+use Rattle.curp_base.proofs.Lists.{at_same}
 use Rattle.curp_cmd.specs.Node.{manager_node, master_node}
 use Rattle.curp_cmd.specs.declared.entry.Entry.{Entry}
-use Rattle.curp_cmd.specs.declared.entry.Entry.TheVariants.{Op, Take, Give, Expire}
+use Rattle.curp_cmd.specs.declared.entry.Entry.TheVariants.{Take, Give}
 use Rattle.curp_cmd.specs.declared.node.NodeId.{NodeId}
 use Rattle.curp_msg.specs.Moved.{Moved, says}
 use Rattle.curp_msg.specs.declared.body.Body.{Body}
@@ -15,31 +14,21 @@ use Rattle.curp_msg.specs.declared.body.Parcel.{Parcel}
 use Rattle.curp_msg.specs.declared.body.TakeOut.{TakeOut}
 use Rattle.curp_msg.specs.declared.message.Message.{Message}
 use Rattle.curp_range.specs.Spans.{is_covered}
-use Rattle.curp_model.specs.Log.{LastGive, LastTake, meaning, package_of}
+use Rattle.curp_model.specs.Log.{LastGive, LastTake, package_of}
 use Rattle.curp_model.specs.Master.{MasterState, Open, Phase, Switching, give_after, is_open, on_give, on_take, push_give, push_take, state_of, synced, take_after, told_again}
 use Rattle.curp_model.specs.World.{World}
-use Rattle.curp_facts.specs.Entries.{EntryOk, LogOk}
+use Rattle.curp_facts.specs.Entries.{LogOk}
 use Rattle.curp_facts.specs.Facts.{WasOrdered}
-use Rattle.curp_facts.specs.Kept.{AllCompletedBelow, HasCompletedBelow}
+use Rattle.curp_facts.specs.Kept.{AllCompletedBelow}
 use Rattle.curp_facts.specs.Nodes.{ServingOk}
 use Rattle.curp_law_logs.specs.Migrations.{GivenIs, TakenIs}
 use Rattle.curp_law_logs.proofs.Migrations.{given_is, taken_is}
 use Rattle.curp_law_logs.proofs.Packages.{take_fits}
 use Rattle.curp_law_masters.specs.Moves.{IsSaidBy, ServingSays}
-use Rattle.curp_law_masters.proofs.Firsts.{EntryLines, lines_of_log}
+use Rattle.curp_law_masters.proofs.Completed.{log_firsts}
 use Rattle.curp_law_masters.proofs.Parts.{parts_of}
 use Rattle.curp_law_masters.proofs.Pushed.{AboveGives, AboveTakes}
 use Rattle.curp_law_masters.proofs.Serving.{Move, SameLog, WhenOpen, begins, itself, pushes, rests, tells}
-
--- each first number in the table of a log is one below which its client has completed all
-pub log_firsts : (w : World) (part lo hi : ℕ) (log : List Entry) → LogOk w part log → Each (AllCompletedBelow w) (meaning lo hi log).table.firsts
-log_firsts w part lo hi log ok = lines_of_log (HasCompletedBelow w) lo hi log (Each-weaker (EntryOk w part) (EntryLines (HasCompletedBelow w)) lines log ok.entries)
-  where
-    lines : (e : Entry) → EntryOk w part e → EntryLines (HasCompletedBelow w) e
-    lines (Op r acknowledged) is = is.2
-    lines (Take migration taken) is = tt
-    lines (Give migration given) is = is.1
-    lines (Expire client) is = tt
 
 -- a number above that of the last take is above those of all takes
 above_takes : (w : World) (part : ℕ) (log : List Entry) → LogOk w part log → (last : LastTake) → TakenIs log (Some last) → (migration : ℕ) → last.migration < migration → AboveTakes log migration
@@ -65,15 +54,6 @@ above_gives w part log ok last is migration above j before p at = elim (cases_or
   ]
 ]
 
-is_below : (a b : ℕ) → nat_lt a b ≡ true → a < b
-is_below a b e = grind (arith, nat_tests)
-
-isnt_above : (a b : ℕ) → nat_le a b ≡ false → b < a
-isnt_above a b e = grind (arith, nat_tests)
-
-is_atmost : (a b : ℕ) → nat_le a b ≡ true → a ≤ b
-is_atmost a b e = grind (arith, nat_tests)
-
 serves_by : (p : Phase) → is_open p ≡ true → p ≡ Open
 serves_by Open e = refl
 serves_by (Switching s) e = absurd cc
@@ -84,7 +64,7 @@ module _ (w : World) (n : ℕ) (m : MasterState) (ok : ServingOk w (master_node 
 
   -- what is synced is told again, and what isn't waits for a round
   told_moves : (index : ℕ) (x : Message) → (index < synced m → IsSaidBy n (ServingSays w m) x) → Goes (told_again n m index x)
-  told_moves index x said = cond_both (nat_lt index (synced m)) _ _ Goes (λ y. tells w n m ok from heard (x ∷ []) (said (is_below index (synced m) y), tt))
+  told_moves index x said = cond_both (nat_lt index (synced m)) _ _ Goes (λ y. tells w n m ok from heard (x ∷ []) (said (ltb-true index (synced m) y), tt))
       (λ y. begins w n m ok from heard filled m (itself w n m ok from heard) (SameLog refl) (parts_of w (master_node n) m ok))
 
   -- ---- takes
@@ -102,7 +82,7 @@ module _ (w : World) (n : ℕ) (m : MasterState) (ok : ServingOk w (master_node 
         sender = refl;
         says_so = (record { serves = serves; index = last.index; entry = Take last.migration last.taken; stands = is.0; is = refl; below = low }, refl);
       }))
-      (λ y. cond_both (nat_lt last.migration t.migration) _ _ Goes (λ z. push_take_moves t ordered (above_takes w m.part m.log ok.log last is t.migration (is_below last.migration t.migration z)))
+      (λ y. cond_both (nat_lt last.migration t.migration) _ _ Goes (λ z. push_take_moves t ordered (above_takes w m.part m.log ok.log last is t.migration (ltb-true last.migration t.migration z)))
       (λ z. rests w n m ok from heard))
 
   -- ---- gives
@@ -115,9 +95,9 @@ module _ (w : World) (n : ℕ) (m : MasterState) (ok : ServingOk w (master_node 
   give_moves g ordered firsts (Some last) is = cond_both (nat_le g.migration last.migration) _ _ Goes
       (λ y. told_moves last.index (says (master_node n) manager_node (body.Given g.migration)) (λ low. record {
         sender = refl;
-        says_so = (record { serves = serves; index = last.index; entry = Give last.migration is.0.0; stands = is.0.1; is = (last.migration, is.0.0, is_atmost g.migration last.migration y, refl); below = low }, refl);
+        says_so = (record { serves = serves; index = last.index; entry = Give last.migration is.0.0; stands = is.0.1; is = (last.migration, is.0.0, leb-true g.migration last.migration y, refl); below = low }, refl);
       }))
-      (λ y. push_give_moves g ordered firsts (above_gives w m.part m.log ok.log last is g.migration (isnt_above g.migration last.migration y)))
+      (λ y. push_give_moves g ordered firsts (above_gives w m.part m.log ok.log last is g.migration (leb-false g.migration last.migration y)))
 
 module _ (w : World) (n : ℕ) (m : MasterState) (ok : ServingOk w (master_node n) m) (from : NodeId) (heard : Option Body) (filled : 1 ≤ length m.backups) where
   -- the manager lets it give a range away

@@ -1,8 +1,7 @@
 -- What one input leaves of a master that doesn't serve yet.
 use Rattle.std.proofs.Common.{◌≡◌, ◌≤◌, ◌&&◌, ℕ, ◌+◌, true, not, List, [], ◌∷◌, ◌++◌, length, map, nat_le, Option, Some, None, refl, ap, sym, ◌∙◌, subst, arith}
 use Rattle.std.specs.List.{filter}
-use Rattle.std.proofs.lemmas.Bool.{and_parts, cond_both}
-use Rattle.std.proofs.lemmas.Bool.Decides.{nat_tests}
+use Rattle.std.proofs.lemmas.Bool.{and_parts, cond_both, leb-true}
 use Rattle.curp_base.specs.Words.{Each, rises_past}
 use Rattle.curp_base.proofs.Lists.{Each-append, Each-at}
 use Rattle.curp_cmd.specs.Node.{is_among, same_node}
@@ -156,13 +155,10 @@ module _ (w : World) (n : ℕ) (o : Recover) where
   completed_goes p r ok = cond_both (all_complete o r) _ _ (Goes p)
       (λ y. tells p (Waiting r) (recovered_message n o) (ok (Waiting r), y) (recovered r)) (λ y. stays p (Storing r) (ok (Storing r)))
 
-  long_enough : (long : ℕ) (log : List Entry) → nat_le (length log) long ≡ true → length log ≤ long
-  long_enough long log e = grind (arith, nat_tests)
-
   stored_goes : (from : NodeId) (long : ℕ) (p : RecoveryPhase) → HasStored w long from → StageOk w (at o p) p → Goes p (stored_comes n (at o p) from long p)
   stored_goes from long (Storing r) heard ok = cond_both (is_among from o.backups && nat_le (length r.log) long) _ _ (Goes (Storing r))
       (λ y. completed_goes (Storing r) (with_complete r from)
-      (λ q. completed w o (Storing r) q r from (record { b = heard.b; is = heard.is; low = omega (arith, heard.low, long_enough long r.log (and_parts (is_among from o.backups) (nat_le (length r.log) long) y).1) }) ok))
+      (λ q. completed w o (Storing r) q r from (record { b = heard.b; is = heard.is; low = omega (arith, heard.low, leb-true (length r.log) long (and_parts (is_among from o.backups) (nat_le (length r.log) long) y).1) }) ok))
       (λ y. stays (Storing r) (Storing r) ok)
   stored_goes from long (Asking log requests) heard ok = stays (Asking log requests) (Asking log requests) ok
   stored_goes from long (Waiting r) heard ok = stays (Waiting r) (Waiting r) ok

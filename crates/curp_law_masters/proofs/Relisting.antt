@@ -1,7 +1,6 @@
 -- New lists: a master begins to switch to them, and takes them up.
 use Rattle.std.proofs.Common.{◌≡◌, ◌≤◌, ◌<◌, ◌==◌, inl, inr, ℕ, true, false, List, [], ◌∷◌, length, nat_lt, Option, Some, refl, ◌∙◌, ap, arith}
-use Rattle.std.proofs.lemmas.Bool.{cond_both}
-use Rattle.std.proofs.lemmas.Bool.Decides.{nat_tests}
+use Rattle.std.proofs.lemmas.Bool.{cond_both, eqb-true, ltb-true}
 use Rattle.curp_base.specs.Words.{Each}
 use Rattle.curp_base.proofs.Lists.{Each-weaker, prefix_self}
 use Rattle.curp_cmd.specs.Hash.{hashes}
@@ -23,12 +22,6 @@ use Rattle.curp_law_masters.proofs.Acknowledging.{one_switch, open_switches, set
 use Rattle.curp_law_masters.proofs.Parts.{Grown, Parts, parts_grow, parts_of, parts_round}
 use Rattle.curp_law_masters.proofs.Serving.{Move, SameLog, appends_say, begins, itself, rests, says_all}
 use Rattle.curp_law_masters.proofs.Synced.{on_each_synced}
-
-is_below : (a b : ℕ) → nat_lt a b ≡ true → a < b
-is_below a b e = grind (arith, nat_tests)
-
-is_same : (a b : ℕ) → (a == b) ≡ true → a ≡ b
-is_same a b e = grind (arith, nat_tests)
 
 -- ---- it begins to switch
 
@@ -71,7 +64,7 @@ module _ (w : World) (n : ℕ) (m : MasterState) (ok : ServingOk w (master_node 
   -- it is ordered to
   pub prepare_moves : (p : Prepare) (at : Phase) → m.phase ≡ at → Move w n m ok from (Some (body.Prepare p)) (prepare_in n m p at)
   prepare_moves p Open is = cond_both (nat_lt m.version p.version) _ _ (Move w n m ok from (Some (body.Prepare p)))
-      (λ y. begins_switch p is (is_below m.version p.version y)) (λ y. rests w n m ok from (Some (body.Prepare p)))
+      (λ y. begins_switch p is (ltb-true m.version p.version y)) (λ y. rests w n m ok from (Some (body.Prepare p)))
   prepare_moves p (Switching s) is = cond_both (s.version == p.version) _ _ (Move w n m ok from (Some (body.Prepare p)))
       (λ y. begins w n m ok from (Some (body.Prepare p)) filled m (itself w n m ok from (Some (body.Prepare p))) (SameLog refl) (parts_of w (master_node n) m ok)) (λ y. rests w n m ok from (Some (body.Prepare p)))
 
@@ -125,7 +118,7 @@ pub adopted_moves : (w : World) (n : ℕ) (m : MasterState) (ok : ServingOk w (m
     → (version : ℕ) → WasPrepared m version → (at : Phase) → m.phase ≡ at → Move w n m ok from heard (adopted_in n m version at)
 adopted_moves w n m ok from heard some version was Open is = rests w n m ok from heard
 adopted_moves w n m ok from heard some version was (Switching s) is = cond_both (s.version == version) _ _ (Move w n m ok from heard)
-    (λ y. takes_up w n m ok from heard s is (some s is) (prepared (is_same s.version version y))) (λ y. rests w n m ok from heard)
+    (λ y. takes_up w n m ok from heard s is (some s is) (prepared (eqb-true s.version version y))) (λ y. rests w n m ok from heard)
   where
     prepared : s.version ≡ version → s.prepared ≡ true
     prepared same = elim was [
