@@ -24,10 +24,11 @@ use Rattle.curp_model.specs.Master.{Captured, MasterState, by_read_check, captur
 use Rattle.curp_model.specs.Table.{check}
 use Rattle.curp_model.specs.World.{World}
 use Rattle.curp_law_masters.specs.Moves.{ServingMove}
+use Rattle.curp_law_masters.proofs.Completed.{stale_completed}
 use Rattle.curp_law_masters.proofs.Parts.{parts_capture, parts_of}
 use Rattle.curp_law_masters.proofs.Serving.{begins_next, rests}
 use Rattle.curp_law_masters.proofs.Serving.LogMove.{SameLog}
-use Rattle.curp_law_masters.proofs.Updates.{refuses, stale_completed}
+use Rattle.curp_law_masters.proofs.Updates.{refuses}
 
 module _ (w : World) (n : ℕ) (m : MasterState) (ok : ServingOk w (master_node n) m) (from : NodeId) (heard : Option Body) where
   abbrev Goes : Moved MasterState → Type 0
@@ -52,7 +53,7 @@ module _ (w : World) (n : ℕ) (m : MasterState) (ok : ServingOk w (master_node 
       go true _ _ is _ _ = tt
       go false true _ is _ _ = tt
       go false false Expired is _ _ = tt
-      go false false (Stale first) is _ _ = stale_completed w n m ok from heard ask.request.id first is
+      go false false (Stale first) is _ _ = stale_completed w m.part m.lo m.hi m.log ok.log ask.request.id first is
       go false false (Known a index) is true _ = tt
       go false false (Known a index) is false true = tt
       go false false (Known a index) is false false = tt

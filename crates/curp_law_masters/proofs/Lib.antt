@@ -1,6 +1,7 @@
 pub mod Lists
 pub mod Pushed
 pub mod Firsts
+pub mod Completed
 pub mod Parts
 pub mod Clean
 pub mod Serving
@@ -15,6 +16,5 @@ pub mod Synced
 pub mod Settled
 pub mod Acknowledging
 pub mod Relisting
-pub mod Completed
 pub mod Migrating
 pub mod Inputs

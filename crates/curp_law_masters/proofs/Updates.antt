@@ -7,7 +7,7 @@ use Rattle.std.proofs.lemmas.Bool.{cond_both}
 use Rattle.std.proofs.lemmas.Bool.Decides.{nat_tests}
 use Rattle.curp_base.specs.Cases.{first_case, only_if}
 use Rattle.curp_base.specs.Words.{At}
-use Rattle.curp_base.proofs.Lists.{Each-weaker, at_push, at_same}
+use Rattle.curp_base.proofs.Lists.{at_push, at_same}
 use Rattle.curp_cmd.specs.Hash.{hashes}
 use Rattle.curp_cmd.specs.Node.{master_node}
 use Rattle.curp_cmd.specs.declared.command.Answer.{Answer}
@@ -21,8 +21,8 @@ use Rattle.curp_msg.specs.declared.answer.Refusal.{Refusal}
 use Rattle.curp_msg.specs.declared.answer.Refusal.TheVariants as refusal
 use Rattle.curp_msg.specs.declared.body.Ask.{Ask}
 use Rattle.curp_msg.specs.declared.body.Body.{Body}
-use Rattle.curp_facts.specs.Entries.{EntryOk, UpdateOk}
-use Rattle.curp_facts.specs.Kept.{HasCompletedBelow, RefusalFirstOk}
+use Rattle.curp_facts.specs.Entries.{UpdateOk}
+use Rattle.curp_facts.specs.Kept.{RefusalFirstOk}
 use Rattle.curp_facts.specs.Nodes.{IsOpAt, ServingOk}
 use Rattle.curp_facts.specs.Reach.{Tells}
 use Rattle.curp_model.specs.declared.Check.{Check}
@@ -35,7 +35,7 @@ use Rattle.curp_law_logs.specs.Standing.{StandsHere}
 use Rattle.curp_law_logs.proofs.Noted.{known_stands, stands_at}
 use Rattle.curp_law_masters.specs.Moves.{EarlySays, ServingMove}
 use Rattle.curp_law_masters.proofs.Clean.{parts_pushed, pushed_answer, pushed_free}
-use Rattle.curp_law_masters.proofs.Firsts.{EntryLines, lines_of_log, stale_line}
+use Rattle.curp_law_masters.proofs.Completed.{stale_completed}
 use Rattle.curp_law_masters.proofs.Lists.{has_own}
 use Rattle.curp_law_masters.proofs.Parts.{Parts, parts_free, parts_held, parts_of}
 use Rattle.curp_law_masters.proofs.Serving.{SameLists, begins, open_does, tells}
@@ -46,17 +46,6 @@ module _ (w : World) (n : ℕ) (m : MasterState) (ok : ServingOk w (master_node 
   Goes r = ServingMove w n m from heard r
 
   -- ---- refusals
-
-  -- below the number by which a request is stale, its client has completed all
-  pub stale_completed : (id : RequestId) (first : ℕ) → check (state_of m).table id ≡ Stale first → HasCompletedBelow w id.client first
-  stale_completed id first is = stale_line (HasCompletedBelow w) (state_of m).table id first
-      (lines_of_log (HasCompletedBelow w) m.lo m.hi m.log (Each-weaker (EntryOk w m.part) (EntryLines (HasCompletedBelow w)) lines m.log ok.log.entries)) is
-    where
-      lines : (e : Entry) → EntryOk w m.part e → EntryLines (HasCompletedBelow w) e
-      lines (Op r acknowledged) e = e.2
-      lines (Take migration taken) e = tt
-      lines (Give migration given) e = e.1
-      lines (Expire client) e = tt
 
   -- a refusal goes to the request's client
   pub refuses : (id : RequestId) (why : Refusal) → RefusalFirstOk w id.client why → Goes (answers_with n m id why)
@@ -101,7 +90,7 @@ module _ (w : World) (n : ℕ) (m : MasterState) (ok : ServingOk w (master_node 
       go true _ at _ is _ _ owns = tt
       go false (Switching s) at _ is _ _ owns = tt
       go false Open at Expired is _ _ owns = tt
-      go false Open at (Stale first) is _ _ owns = stale_completed ask.request.id first is
+      go false Open at (Stale first) is _ _ owns = stale_completed w m.part m.lo m.hi m.log ok.log ask.request.id first is
       go false Open at (Known a index) is _ _ owns = known_rests wish ask.request a index at is
       go false Open at New is true _ owns = tt
       go false Open at New is false false owns = tt
