@@ -1,8 +1,14 @@
 pub mod Lists
 pub mod Pushed
 pub mod Firsts
+pub mod Completed
 pub mod Parts
+pub mod Clean
 pub mod Serving
+pub mod Updates
+pub mod Captures
+pub mod Suspects
+pub mod Ordered
 pub mod Among
 pub mod Replays
 pub mod Recovering
@@ -10,5 +16,5 @@ pub mod Synced
 pub mod Settled
 pub mod Acknowledging
 pub mod Relisting
-pub mod Completed
 pub mod Migrating
+pub mod Inputs
