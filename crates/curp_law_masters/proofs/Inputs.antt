@@ -26,7 +26,7 @@ module _ (w : World) (n : ℕ) (m : MasterState) (ok : ServingOk w (master_node 
   message_moves (body.Appended a) heard = appended_moves w n m ok from _ a.round a.answer heard
   message_moves (body.Collected c) heard = collected_moves w n m ok from _ filled c.answer heard
   message_moves (body.Prepare p) heard = prepare_moves w n m ok from filled p m.phase refl
-  message_moves (body.Adopted a) heard = adopted_moves w n m ok from _ next_filled a.version heard m.phase refl
+  message_moves (body.Adopted a) heard = adopted_moves w n m ok from next_filled a heard m.phase refl
   message_moves (body.TakeOut t) heard = take_out_moves w n m ok from _ filled t heard
   message_moves (body.GiveIn g) heard = give_in_moves w n m ok from _ filled g heard.0 heard.1
   message_moves (body.ExpireClient client) heard = expire_moves w n m ok from _ filled client heard

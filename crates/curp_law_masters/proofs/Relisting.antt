@@ -1,5 +1,5 @@
 -- New lists: a master begins to switch to them, and takes them up.
-use Rattle.std.proofs.Common.{◌≡◌, ◌≤◌, ◌<◌, ◌==◌, inl, inr, ℕ, true, false, List, [], ◌∷◌, length, nat_lt, Option, Some, refl, ◌∙◌, ap, arith}
+use Rattle.std.proofs.Common.{◌≡◌, ◌≤◌, ◌<◌, ◌==◌, inl, inr, ℕ, true, false, List, [], ◌∷◌, length, nat_lt, Some, refl, ◌∙◌, ap, arith}
 use Rattle.std.proofs.lemmas.Bool.{cond_both, eqb-true, ltb-true}
 use Rattle.curp_base.specs.Words.{Each}
 use Rattle.curp_base.proofs.Lists.{Each-weaker, prefix_self}
@@ -8,7 +8,7 @@ use Rattle.curp_cmd.specs.Node.{master_node}
 use Rattle.curp_cmd.specs.declared.entry.Entry.{Entry}
 use Rattle.curp_cmd.specs.declared.entry.Entry.TheVariants.{Op, Take, Give, Expire}
 use Rattle.curp_cmd.specs.declared.node.NodeId.{NodeId}
-use Rattle.curp_msg.specs.declared.body.Body.{Body}
+use Rattle.curp_msg.specs.declared.body.Adopted.{Adopted}
 use Rattle.curp_msg.specs.declared.body.Body.TheVariants as body
 use Rattle.curp_msg.specs.declared.body.Prepare.{Prepare}
 use Rattle.curp_model.specs.Log.{entry_touches}
@@ -82,7 +82,7 @@ expiry_touches (Give migration given) only hs = absurd only
 abbrev pub taken_up : MasterState → Switch → MasterState
 taken_up m s = record m { version = s.version; backups = s.backups; witnesses = s.witnesses; phase = Open }
 
-module _ (w : World) (n : ℕ) (m : MasterState) (ok : ServingOk w (master_node n) m) (from : NodeId) (heard : Option Body) (s : Switch) (is : m.phase ≡ Switching s) (some : 1 ≤ length s.backups) (prepared : s.prepared ≡ true) where
+module _ (w : World) (n : ℕ) (m : MasterState) (ok : ServingOk w (master_node n) m) (from : NodeId) (a : Adopted) (s : Switch) (same : s.version ≡ a.version) (is : m.phase ≡ Switching s) (some : 1 ≤ length s.backups) (prepared : s.prepared ≡ true) where
   -- all its entries but expiries are synced by the new lists
   free_up : (index : ℕ) → FreeOp m index → FreeOp (taken_up m s) index
   free_up index f = record {
@@ -106,21 +106,21 @@ module _ (w : World) (n : ℕ) (m : MasterState) (ok : ServingOk w (master_node 
         (λ c x. record { place = x.place; invoked = x.invoked; reads = x.reads; number = x.number; within = x.within; begun = x.begun }) m.captures ok.captures;
   }
 
-  lists_up : ListsMove n m from heard (settle n (taken_up m s)).state (settle n (taken_up m s)).messages
+  lists_up : ListsMove n m from (Some (body.Adopted a)) (settle n (taken_up m s)).state (settle n (taken_up m s)).messages
   unfolding settle
-  lists_up = TakesUp s is prepared refl refl refl refl
+  lists_up = TakesUp s a refl same is prepared refl refl refl refl
 
-  takes_up : Move w n m ok from heard (settle n (taken_up m s))
-  takes_up = settles w n m ok from heard (taken_up m s) parts_up refl lists_up
+  takes_up : Move w n m ok from (Some (body.Adopted a)) (settle n (taken_up m s))
+  takes_up = settles w n m ok from (Some (body.Adopted a)) (taken_up m s) parts_up refl lists_up
 
 -- lists are adopted that it has said to be prepared: those to which it switches
-pub adopted_moves : (w : World) (n : ℕ) (m : MasterState) (ok : ServingOk w (master_node n) m) (from : NodeId) (heard : Option Body) → ((s : Switch) → m.phase ≡ Switching s → 1 ≤ length s.backups)
-    → (version : ℕ) → WasPrepared m version → (at : Phase) → m.phase ≡ at → Move w n m ok from heard (adopted_in n m version at)
-adopted_moves w n m ok from heard some version was Open is = rests w n m ok from heard
-adopted_moves w n m ok from heard some version was (Switching s) is = cond_both (s.version == version) _ _ (Move w n m ok from heard)
-    (λ y. takes_up w n m ok from heard s is (some s is) (prepared (eqb-true s.version version y))) (λ y. rests w n m ok from heard)
+pub adopted_moves : (w : World) (n : ℕ) (m : MasterState) (ok : ServingOk w (master_node n) m) (from : NodeId) → ((s : Switch) → m.phase ≡ Switching s → 1 ≤ length s.backups)
+    → (a : Adopted) → WasPrepared m a.version → (at : Phase) → m.phase ≡ at → Move w n m ok from (Some (body.Adopted a)) (adopted_in n m a.version at)
+adopted_moves w n m ok from some a was Open is = rests w n m ok from (Some (body.Adopted a))
+adopted_moves w n m ok from some a was (Switching s) is = cond_both (s.version == a.version) _ _ (Move w n m ok from (Some (body.Adopted a)))
+    (λ y. let same : s.version ≡ a.version = eqb-true s.version a.version y in takes_up w n m ok from a s same is (some s is) (prepared same)) (λ y. rests w n m ok from (Some (body.Adopted a)))
   where
-    prepared : s.version ≡ version → s.prepared ≡ true
+    prepared : s.version ≡ a.version → s.prepared ≡ true
     prepared same = elim was [
       | inl low ↦ absurd (omega (arith, low, same, (ok.switching s is).above))
       | inr t ↦ ap (λ (x : Switch). x.prepared) (one_switch m.phase s t.0 is t.1) ∙ t.3
