@@ -5,7 +5,7 @@ use Rattle.std.specs.List.{filter}
 use Rattle.std.specs.Ordering.{match_ordering, nat_cmp}
 use Rattle.std.specs.declared.cmp.Ordering.{Ordering}
 use Rattle.std.specs.declared.cmp.Ordering.TheVariants.{Less, Equal, Greater}
-use Rattle.std.proofs.lemmas.Bool.{cases_lt, cond_both}
+use Rattle.std.proofs.lemmas.Bool.{cases_lt, cond_both, or_left, or_right}
 use Rattle.std.proofs.lemmas.Bool.Decides.{nat_tests}
 use Rattle.curp_base.specs.Words.{Each}
 use Rattle.curp_base.proofs.Lists.{Each-from_at}
@@ -67,3 +67,11 @@ has_pushed index n (x ∷ xs) found = go (x == index) (has_pushed index n xs) fo
     go : (b : Bool) → (has index (xs ++ n ∷ []) ≡ true → (has index xs ≡ true) ⊎ (n ≡ index)) → (b || has index (xs ++ n ∷ [])) ≡ true → ((b || has index xs) ≡ true) ⊎ (n ≡ index)
     go true more e = inl refl
     go false more e = more e
+
+-- one that is put at the end is among them
+pub has_own : (index : ℕ) (xs : List ℕ) → has index (xs ++ index ∷ []) ≡ true
+has_own index [] = or_left (index == index) false (own index)
+  where
+    own : (i : ℕ) → (i == i) ≡ true
+    own i = grind (arith, nat_tests)
+has_own index (x ∷ xs) = or_right (x == index) _ (has_own index xs)

@@ -51,6 +51,7 @@ abbrev pub op_grows : (xs ys : List Entry) (index : ℕ) → IsPrefix xs ys → 
 op_grows xs ys index p op = record { request = op.request; acknowledged = op.acknowledged; stands = prefix_at p index (Op op.request op.acknowledged) op.stands }
 
 module _ (w : World) (m k : MasterState) (g : Grown m k) where
+  -- each thing that is kept beside the log is as it should be of the grown master
   pub acknowledged_grows : (a : Acknowledged) → AcknowledgedOk w m a → AcknowledgedOk w k a
   acknowledged_grows a ok = record { stored = ok.stored; within = omega (arith, ok.within, prefix_length g.log); begun = omega (arith, ok.begun, g.round) }
 
@@ -81,6 +82,7 @@ module _ (w : World) (m k : MasterState) (g : Grown m k) where
     begun = omega (arith, ok.begun, g.round);
   }
 
+  -- and so are all of them
   pub acknowledgements_grow : (xs : List Acknowledged) → Each (AcknowledgedOk w m) xs → Each (AcknowledgedOk w k) xs
   acknowledgements_grow xs all = Each-weaker (AcknowledgedOk w m) (AcknowledgedOk w k) acknowledged_grows xs all
 

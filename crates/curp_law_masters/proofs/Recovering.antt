@@ -1,8 +1,7 @@
 -- What one input leaves of a master that doesn't serve yet.
 use Rattle.std.proofs.Common.{◌≡◌, ◌≤◌, ◌&&◌, ℕ, ◌+◌, true, not, List, [], ◌∷◌, ◌++◌, length, map, nat_le, Option, Some, None, refl, ap, sym, ◌∙◌, subst, arith}
 use Rattle.std.specs.List.{filter}
-use Rattle.std.proofs.lemmas.Bool.{and_parts, cond_both}
-use Rattle.std.proofs.lemmas.Bool.Decides.{nat_tests}
+use Rattle.std.proofs.lemmas.Bool.{and_parts, cond_both, leb-true}
 use Rattle.curp_base.specs.Words.{Each, rises_past}
 use Rattle.curp_base.proofs.Lists.{Each-append, Each-at}
 use Rattle.curp_cmd.specs.Node.{is_among, same_node}
@@ -31,7 +30,7 @@ use Rattle.curp_model.specs.Recovery.{Asking, Fresh, MasterStage, Recovering, Re
 use Rattle.curp_model.specs.World.{World}
 use Rattle.curp_facts.specs.Entries.{LogOk, UpdateOk}
 use Rattle.curp_facts.specs.Facts.{FencedLogOk, FrozenOk, IsAmong, ReplayOk, hi_of, lo_of}
-use Rattle.curp_facts.specs.Nodes.{AcknowledgedOk, CameLog, CameRequests, ReplayedOk, StageOk}
+use Rattle.curp_facts.specs.Nodes.{AcknowledgedOk, CameLog, CameRequests, IsWaiting, ReplayedOk, StageOk}
 use Rattle.curp_facts.specs.Reach.{HasStored}
 use Rattle.curp_law_masters.specs.Moves.{HearsLog, HearsStored, IsSaidBy, RecoveryHears, RecoveryMove, RecoverySays}
 use Rattle.curp_law_masters.specs.Stages.{BeginningOk, FreshSays}
@@ -108,11 +107,11 @@ module _ (w : World) (n : ℕ) (o : Recover) where
   abbrev Says : RecoveryPhase → Message → Type 0
   Says p x = IsSaidBy n (RecoverySays w (at o p)) x
 
-  stays : (p q : RecoveryPhase) → StageOk w (at o q) q → Goes p (quiet (at o q))
-  stays p q ok = record { order = refl; stage = ok; says = tt; refused = refl }
+  stays : (p q : RecoveryPhase) → (IsWaiting p → IsWaiting q) → StageOk w (at o q) q → Goes p (quiet (at o q))
+  stays p q waits ok = record { order = refl; stage = ok; waits = waits; says = tt; refused = refl }
 
-  tells : (p q : RecoveryPhase) (xs : List Message) → StageOk w (at o q) q → Each (Says q) xs → Goes p (sends (at o q) xs)
-  tells p q xs ok said = record { order = refl; stage = ok; says = said; refused = refl }
+  tells : (p q : RecoveryPhase) (xs : List Message) → (IsWaiting p → IsWaiting q) → StageOk w (at o q) q → Each (Says q) xs → Goes p (sends (at o q) xs)
+  tells p q xs waits ok said = record { order = refl; stage = ok; waits = waits; says = said; refused = refl }
 
   fences : (p : RecoveryPhase) → Each (Says p) (fence_of n o)
   fences p = (record { sender = refl; says_so = (refl, refl) }, tt)
@@ -127,53 +126,50 @@ module _ (w : World) (n : ℕ) (o : Recover) where
   whole r [] all = tt
   whole r (b ∷ bs) all = (record { sender = refl; says_so = (refl, refl, all.0, (refl, refl)) }, whole r bs all.1)
 
-  both_goes : o.lo ≡ lo_of w o.part → o.hi ≡ hi_of w o.part → (p : RecoveryPhase) (l : Option (List Entry)) (r : Option (List Request)) → CameLog w (at o p) l → CameRequests w (at o p) r → Goes p (both_there n o l r)
-  both_goes lo hi p (Some log) (Some requests) came asked =
+  both_goes : o.lo ≡ lo_of w o.part → o.hi ≡ hi_of w o.part → (p : RecoveryPhase) → (IsWaiting p → ⊥) → (l : Option (List Entry)) (r : Option (List Request)) → CameLog w (at o p) l → CameRequests w (at o p) r → Goes p (both_there n o l r)
+  both_goes lo hi p asking (Some log) (Some requests) came asked =
       let r : Replayed = record { log = replay o.lo o.hi log requests; cut = length log; round = 1; complete = [] } in
-      tells p (Storing r) (appends_whole n o r o.backups) (replay_begins w o p (Storing r) log requests lo hi came asked) (whole r o.backups (each_among (λ b. IsAmong b o.backups) o.backups (λ b m. m)))
-  both_goes lo hi p (Some log) None came asked = stays p (Asking (Some log) None) (came, tt)
-  both_goes lo hi p None r came asked = stays p (Asking None r) (tt, came_requests w o p (Asking None r) r asked)
+      tells p (Storing r) (appends_whole n o r o.backups) (λ x. absurd (asking x)) (replay_begins w o p (Storing r) log requests lo hi came asked) (whole r o.backups (each_among (λ b. IsAmong b o.backups) o.backups (λ b m. m)))
+  both_goes lo hi p asking (Some log) None came asked = stays p (Asking (Some log) None) (λ x. absurd (asking x)) (came, tt)
+  both_goes lo hi p asking None r came asked = stays p (Asking None r) (λ x. absurd (asking x)) (tt, came_requests w o p (Asking None r) r asked)
 
   log_goes : o.lo ≡ lo_of w o.part → o.hi ≡ hi_of w o.part → (from : NodeId) (entries : List Entry) (p : RecoveryPhase)
       → (from ≡ o.backup → FencedLogOk w o.backup o.epoch entries × LogOk w o.part entries) → StageOk w (at o p) p → Goes p (log_comes n (at o p) from entries p)
   log_goes lo hi from entries (Asking None requests) heard ok = cond_both (same_node from o.backup && is_log o.lo o.hi entries) _ _ (Goes (Asking None requests))
-      (λ y. both_goes lo hi (Asking None requests) (Some entries) requests (heard (same_node-true from o.backup (and_parts (same_node from o.backup) (is_log o.lo o.hi entries) y).0)) ok.1)
-      (λ y. stays (Asking None requests) (Asking None requests) ok)
-  log_goes lo hi from entries (Asking (Some log) requests) heard ok = stays (Asking (Some log) requests) (Asking (Some log) requests) ok
-  log_goes lo hi from entries (Storing r) heard ok = stays (Storing r) (Storing r) ok
-  log_goes lo hi from entries (Waiting r) heard ok = stays (Waiting r) (Waiting r) ok
+      (λ y. both_goes lo hi (Asking None requests) (λ x. x) (Some entries) requests (heard (same_node-true from o.backup (and_parts (same_node from o.backup) (is_log o.lo o.hi entries) y).0)) ok.1)
+      (λ y. stays (Asking None requests) (Asking None requests) (λ x. x) ok)
+  log_goes lo hi from entries (Asking (Some log) requests) heard ok = stays (Asking (Some log) requests) (Asking (Some log) requests) (λ x. x) ok
+  log_goes lo hi from entries (Storing r) heard ok = stays (Storing r) (Storing r) (λ x. x) ok
+  log_goes lo hi from entries (Waiting r) heard ok = stays (Waiting r) (Waiting r) (λ x. x) ok
 
   requests_goes : o.lo ≡ lo_of w o.part → o.hi ≡ hi_of w o.part → (from : NodeId) (rs : List Request) (p : RecoveryPhase)
       → FrozenOk w from rs × Each (UpdateOk w) rs → StageOk w (at o p) p → Goes p (requests_come n (at o p) from rs p)
   requests_goes lo hi from rs (Asking log None) heard ok = cond_both (same_node from o.witness) _ _ (Goes (Asking log None))
-      (λ y. both_goes lo hi (Asking log None) log (Some rs) ok.0 (subst (λ (x : NodeId). FrozenOk w x rs) (same_node-true from o.witness y) heard.0, heard.1))
-      (λ y. stays (Asking log None) (Asking log None) ok)
-  requests_goes lo hi from rs (Asking log (Some r)) heard ok = stays (Asking log (Some r)) (Asking log (Some r)) ok
-  requests_goes lo hi from rs (Storing r) heard ok = stays (Storing r) (Storing r) ok
-  requests_goes lo hi from rs (Waiting r) heard ok = stays (Waiting r) (Waiting r) ok
+      (λ y. both_goes lo hi (Asking log None) (λ x. x) log (Some rs) ok.0 (subst (λ (x : NodeId). FrozenOk w x rs) (same_node-true from o.witness y) heard.0, heard.1))
+      (λ y. stays (Asking log None) (Asking log None) (λ x. x) ok)
+  requests_goes lo hi from rs (Asking log (Some r)) heard ok = stays (Asking log (Some r)) (Asking log (Some r)) (λ x. x) ok
+  requests_goes lo hi from rs (Storing r) heard ok = stays (Storing r) (Storing r) (λ x. x) ok
+  requests_goes lo hi from rs (Waiting r) heard ok = stays (Waiting r) (Waiting r) (λ x. x) ok
 
-  completed_goes : (p : RecoveryPhase) (r : Replayed) → ((q : RecoveryPhase) → ReplayedOk w (at o q) r) → Goes p (completed_by n o r)
-  completed_goes p r ok = cond_both (all_complete o r) _ _ (Goes p)
-      (λ y. tells p (Waiting r) (recovered_message n o) (ok (Waiting r), y) (recovered r)) (λ y. stays p (Storing r) (ok (Storing r)))
-
-  long_enough : (long : ℕ) (log : List Entry) → nat_le (length log) long ≡ true → length log ≤ long
-  long_enough long log e = grind (arith, nat_tests)
+  completed_goes : (p : RecoveryPhase) → (IsWaiting p → ⊥) → (r : Replayed) → ((q : RecoveryPhase) → ReplayedOk w (at o q) r) → Goes p (completed_by n o r)
+  completed_goes p storing r ok = cond_both (all_complete o r) _ _ (Goes p)
+      (λ y. tells p (Waiting r) (recovered_message n o) (λ x. absurd (storing x)) (ok (Waiting r), y) (recovered r)) (λ y. stays p (Storing r) (λ x. absurd (storing x)) (ok (Storing r)))
 
   stored_goes : (from : NodeId) (long : ℕ) (p : RecoveryPhase) → HasStored w long from → StageOk w (at o p) p → Goes p (stored_comes n (at o p) from long p)
   stored_goes from long (Storing r) heard ok = cond_both (is_among from o.backups && nat_le (length r.log) long) _ _ (Goes (Storing r))
-      (λ y. completed_goes (Storing r) (with_complete r from)
-      (λ q. completed w o (Storing r) q r from (record { b = heard.b; is = heard.is; low = omega (arith, heard.low, long_enough long r.log (and_parts (is_among from o.backups) (nat_le (length r.log) long) y).1) }) ok))
-      (λ y. stays (Storing r) (Storing r) ok)
-  stored_goes from long (Asking log requests) heard ok = stays (Asking log requests) (Asking log requests) ok
-  stored_goes from long (Waiting r) heard ok = stays (Waiting r) (Waiting r) ok
+      (λ y. completed_goes (Storing r) (λ x. x) (with_complete r from)
+      (λ q. completed w o (Storing r) q r from (record { b = heard.b; is = heard.is; low = omega (arith, heard.low, leb-true (length r.log) long (and_parts (is_among from o.backups) (nat_le (length r.log) long) y).1) }) ok))
+      (λ y. stays (Storing r) (Storing r) (λ x. x) ok)
+  stored_goes from long (Asking log requests) heard ok = stays (Asking log requests) (Asking log requests) (λ x. x) ok
+  stored_goes from long (Waiting r) heard ok = stays (Waiting r) (Waiting r) (λ x. x) ok
 
   fence_goes : o.lo ≡ lo_of w o.part → o.hi ≡ hi_of w o.part → (p : RecoveryPhase) (from : NodeId) (a : FenceReply) → HearsLog w (at o p) from a → StageOk w (at o p) p → Goes p (fence_answered n (at o p) from a)
   fence_goes lo hi p from (Log entries) heard ok = log_goes lo hi from entries p heard ok
-  fence_goes lo hi p from _ heard ok = stays p p ok
+  fence_goes lo hi p from _ heard ok = stays p p (λ x. x) ok
 
   append_goes : (p : RecoveryPhase) (from : NodeId) (a : AppendAnswer) → HearsStored w from a → StageOk w (at o p) p → Goes p (append_answered n (at o p) from a)
   append_goes p from (Stored long) heard ok = stored_goes from long p heard ok
-  append_goes p from _ heard ok = stays p p ok
+  append_goes p from _ heard ok = stays p p (λ x. x) ok
 
   unanswered_logs : (p : RecoveryPhase) (l : Option (List Entry)) → Each (Says p) (unanswered_log n o l)
   unanswered_logs p None = fences p
@@ -186,18 +182,18 @@ module _ (w : World) (n : ℕ) (o : Recover) where
   again_goes : (p : RecoveryPhase) → StageOk w (at o p) p → Goes p (again_in n (at o p) p)
   again_goes (Asking log requests) ok =
       let p : RecoveryPhase = Asking log requests in
-      tells p p (unanswered_log n o log ++ unanswered_requests n o requests) ok (Each-append (Says p) (unanswered_log n o log) (unanswered_requests n o requests) (unanswered_logs p log) (unanswered_asked p requests))
-  again_goes (Storing r) ok = cond_both (rises_past last_round r.round (r.round + 1)) _ _ (Goes (Storing r)) (λ y. stays (Storing r) (Storing r) ok)
-      (λ y. tells (Storing r) (Storing (next_storing r)) _ (rephased w o (Storing r) (Storing (next_storing r)) r (r.round + 1) ok)
+      tells p p (unanswered_log n o log ++ unanswered_requests n o requests) (λ x. x) ok (Each-append (Says p) (unanswered_log n o log) (unanswered_requests n o requests) (unanswered_logs p log) (unanswered_asked p requests))
+  again_goes (Storing r) ok = cond_both (rises_past last_round r.round (r.round + 1)) _ _ (Goes (Storing r)) (λ y. stays (Storing r) (Storing r) (λ x. x) ok)
+      (λ y. tells (Storing r) (Storing (next_storing r)) _ (λ x. x) (rephased w o (Storing r) (Storing (next_storing r)) r (r.round + 1) ok)
       (whole (next_storing r) (filter (λ b. not (is_among b r.complete)) o.backups) (each_left (λ b. IsAmong b o.backups) (λ b. not (is_among b r.complete)) o.backups (each_among (λ b. IsAmong b o.backups) o.backups (λ b m. m)))))
-  again_goes (Waiting r) ok = tells (Waiting r) (Waiting r) (recovered_message n o) ok (recovered r)
+  again_goes (Waiting r) ok = tells (Waiting r) (Waiting r) (recovered_message n o) (λ x. x) ok (recovered r)
 
   ordered_goes : (p : RecoveryPhase) (order : Local) → StageOk w (at o p) p → Goes p (recovery_ordered n (at o p) order)
   ordered_goes p local.Sync ok = again_goes p ok
-  ordered_goes p _ ok = stays p p ok
+  ordered_goes p _ ok = stays p p (λ x. x) ok
 
   turned_away : (p : RecoveryPhase) (id : RequestId) → StageOk w (at o p) p → Goes p (sends (at o p) (refuse n id refusal.Switching ∷ []))
-  turned_away p id ok = tells p p (refuse n id refusal.Switching ∷ []) ok (record { sender = refl; says_so = record { addressee = refl; first = tt } }, tt)
+  turned_away p id ok = tells p p (refuse n id refusal.Switching ∷ []) (λ x. x) ok (record { sender = refl; says_so = record { addressee = refl; first = tt } }, tt)
 
 -- ---- a recovered master begins to serve
 
@@ -235,8 +231,8 @@ recovering_moves w n s lo hi ok from (body.Appended a) heard Goal on starts = on
 recovering_moves w n s lo hi ok from (body.Adopted a) heard Goal on starts = adopts s.phase refl
   where
     adopts : (p : RecoveryPhase) → s.phase ≡ p → Goal (quiet (serves s p))
-    adopts (Asking log requests) is = on (quiet s) (stays w n s.order s.phase s.phase ok)
-    adopts (Storing r) is = on (quiet s) (stays w n s.order s.phase s.phase ok)
+    adopts (Asking log requests) is = on (quiet s) (stays w n s.order s.phase s.phase (λ x. x) ok)
+    adopts (Storing r) is = on (quiet s) (stays w n s.order s.phase s.phase (λ x. x) ok)
     adopts (Waiting r) is = starts a r _ refl is refl (waits s.order s.phase r is ok)
       where
         waits : (o : Recover) (p : RecoveryPhase) (r : Replayed) → p ≡ Waiting r → StageOk w (at o p) p → BeginningOk w (at o p) (beginning o.part o.epoch o.version o.backups o.witnesses o.lo o.hi r.log r.round)
@@ -249,8 +245,8 @@ recovering_moves w n s lo hi ok from (body.Adopted a) heard Goal on starts = ado
 recovering_moves w n s lo hi ok from (body.Update ask) heard Goal on starts = on _ (turned_away w n s.order s.phase ask.request.id ok)
 recovering_moves w n s lo hi ok from (body.Sync ask) heard Goal on starts = on _ (turned_away w n s.order s.phase ask.request.id ok)
 recovering_moves w n s lo hi ok from (body.Read ask) heard Goal on starts = cond_both (is_update ask.request.command) _ _ Goal
-    (λ y. on (quiet s) (stays w n s.order s.phase s.phase ok)) (λ y. on _ (turned_away w n s.order s.phase ask.request.id ok))
-recovering_moves w n s lo hi ok from _ heard Goal on starts = on (quiet s) (stays w n s.order s.phase s.phase ok)
+    (λ y. on (quiet s) (stays w n s.order s.phase s.phase (λ x. x) ok)) (λ y. on _ (turned_away w n s.order s.phase ask.request.id ok))
+recovering_moves w n s lo hi ok from _ heard Goal on starts = on (quiet s) (stays w n s.order s.phase s.phase (λ x. x) ok)
 
 -- and so does an order
 pub recovery_ordered_moves : (w : World) (n : ℕ) (s : RecoveryState) → StageOk w s s.phase → (order : Local) → RecoveryMove w n s (recovery_ordered n s order)
@@ -259,7 +255,7 @@ recovery_ordered_moves w n s ok order = ordered_goes w n s.order s.phase order o
 -- a fresh master asks by its order
 asks : (w : World) (n : ℕ) (o : Recover) → RecoveryMove w n (at o (Asking None None)) (on_recover n o)
 unfolding on_recover
-asks w n o = tells w n o (Asking None None) (Asking None None) (fence_of n o ++ freeze_of n o) (tt, tt) (Each-append (Says w n o (Asking None None)) (fence_of n o) (freeze_of n o) (fences w n o (Asking None None)) (freezes w n o (Asking None None)))
+asks w n o = tells w n o (Asking None None) (Asking None None) (fence_of n o ++ freeze_of n o) (λ x. x) (tt, tt) (Each-append (Says w n o (Asking None None)) (fence_of n o) (freeze_of n o) (fences w n o (Asking None None)) (freezes w n o (Asking None None)))
 
 asked : (n : ℕ) (o : Recover) → (on_recover n o).state ≡ at o (Asking None None)
 unfolding on_recover

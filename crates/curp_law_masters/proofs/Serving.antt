@@ -127,6 +127,7 @@ module _ (w : World) (n : ℕ) (m : MasterState) (ok : ServingOk w (master_node 
   pub keeps_log : (k : MasterState) (messages : List Message) → SameLists m k → k.log ≡ m.log → Parts w m.part k → AllSaid w n k messages → Move (sends k messages)
   keeps_log k messages same log p says = stays k messages same (SameLog log) p (same_reaches k messages same log) says
 
+  -- as it is
   pub itself : SameLists m m
   itself = record { version = refl; backups = refl; witnesses = refl; phase = refl; acknowledged = refl }
 

@@ -1,7 +1,7 @@
 -- What a master says as it settles: each reply, value and migration is of entries that are synced.
 use Rattle.std.proofs.Common.{◌≡◌, ◌<◌, ℕ, ◌-◌, true, not, List, [], ◌∷◌, ◌++◌, map, nat_lt, slice_get, Option, Some, None, refl, arith}
 use Rattle.std.specs.List.{filter, flat_map}
-use Rattle.std.proofs.lemmas.Bool.Decides.{nat_tests}
+use Rattle.std.proofs.lemmas.Bool.{ltb-true}
 use Rattle.curp_base.specs.Words.{At, Each}
 use Rattle.curp_base.proofs.Lists.{Each-append, Each-map, Each-weaker, at_drop, at_take, prefix_self}
 use Rattle.curp_cmd.specs.declared.entry.Entry.{Entry}
@@ -69,9 +69,6 @@ module _ (w : World) (part n : ℕ) (k : MasterState) (p : Parts w part k) (serv
   reply_said index (Some (Expire client)) at low = tt
   reply_said index None at low = tt
 
-  is_less : (a b : ℕ) → nat_lt a b ≡ true → a < b
-  is_less a b e = grind (arith, nat_tests)
-
   replies_said : (due : List ℕ) → Each (λ (index : ℕ). index < synced k) due → Each Said (synced_replies n k due)
   replies_said due low = each_flat Said (λ index. synced_reply n k index (slice_get k.log index)) due
       (Each-weaker (λ (index : ℕ). index < synced k) (λ index. Each Said (synced_reply n k index (slice_get k.log index))) (λ index l. reply_said index (slice_get k.log index) refl l) due low)
@@ -116,7 +113,7 @@ module _ (w : World) (part n : ℕ) (k : MasterState) (p : Parts w part k) (serv
   unfolding settle
   settle_says =
       let due : List ℕ = filter (λ index. nat_lt index (synced k)) k.held in
-      let low : Each (λ (index : ℕ). index < synced k) due = Each-weaker (λ (x : ℕ). IsOpAt k.log x × (nat_lt x (synced k) ≡ true)) (λ (index : ℕ). index < synced k) (λ x y. is_less x (synced k) y.1) due (each_filtered (IsOpAt k.log) (λ index. nat_lt index (synced k)) k.held p.held) in
+      let low : Each (λ (index : ℕ). index < synced k) due = Each-weaker (λ (x : ℕ). IsOpAt k.log x × (nat_lt x (synced k) ≡ true)) (λ (index : ℕ). index < synced k) (λ x y. ltb-true x (synced k) y.1) due (each_filtered (IsOpAt k.log) (λ index. nat_lt index (synced k)) k.held p.held) in
       let values : List Captured = filter (is_ready k) k.captures in
       Each-append Said (synced_replies n k due ++ map (value_of n k) values) (flat_map (moved_entry n) (between k.settled (synced k) k.log))
       (Each-append Said (synced_replies n k due) (map (value_of n k) values) (replies_said due low)

@@ -1,26 +1,25 @@
 -- What backups have acknowledged, and what is synced by it.
 use Rattle.std.proofs.Common.{◌≡◌, ◌≤◌, ◌<◌, ◌&&◌, ℕ, zero, suc, ◌+◌, Bool, true, false, cond, List, [], ◌∷◌, length, map, max, nat_le, Some, refl, ap, sym, ◌∙◌, subst, arith}
-use Rattle.std.proofs.lemmas.Bool.{and_parts}
-use Rattle.std.proofs.lemmas.Bool.Decides.{nat_tests}
+use Rattle.std.proofs.lemmas.Bool.{and_parts, leb-true}
 use Rattle.std.proofs.lemmas.List.{length-map}
 use Rattle.curp_base.specs.Words.{At, Each}
-use Rattle.curp_base.proofs.Lists.{Each-map, Each-weaker}
+use Rattle.curp_base.proofs.Lists.{Each-from_at, Each-map, Each-weaker, at_map}
 use Rattle.curp_model.specs.Named.{IsBackup}
 use Rattle.curp_cmd.specs.Node.{same_node}
 use Rattle.curp_cmd.specs.declared.node.NodeId.{NodeId}
 use Rattle.curp_cmd.proofs.Nodes.{same_node-true}
 use Rattle.curp_model.specs.Backup.{BackupState}
-use Rattle.curp_model.specs.Master.{Acknowledged, MasterState, all_have, from_backup, least, raised}
+use Rattle.curp_model.specs.Master.{Acknowledged, MasterState, synced, all_have, from_backup, least, raised}
 use Rattle.curp_model.specs.World.{World}
 use Rattle.curp_facts.specs.Nodes.{AcknowledgedOk, IsOnEach}
-use Rattle.curp_facts.specs.Reach.{HasStored}
+use Rattle.curp_facts.specs.Reach.{HasMany, HasStored}
 use Rattle.curp_law_masters.specs.Moves.{HasAcknowledged}
 use Rattle.curp_law_masters.proofs.Among.{each_tested}
 
 -- ---- the least
 
 -- the least is below each
-pub least_le : (xs : List ℕ) (k n : ℕ) → At xs k n → least xs ≤ n
+least_le : (xs : List ℕ) (k n : ℕ) → At xs k n → least xs ≤ n
 least_le [] k n at = absurd cc
 least_le (x ∷ []) zero n at = let same : x ≡ n = cc in omega (arith, same)
 least_le (x ∷ []) (suc k) n at = absurd cc
@@ -28,13 +27,13 @@ least_le (x ∷ y ∷ rest) zero n at = let same : x ≡ n = cc in omega (arith,
 least_le (x ∷ y ∷ rest) (suc k) n at = omega (arith, least_le (y ∷ rest) k n at)
 
 -- what is below each is below the least of some
-pub le_least : (n : ℕ) (xs : List ℕ) → 1 ≤ length xs → Each (λ x. n ≤ x) xs → n ≤ least xs
+le_least : (n : ℕ) (xs : List ℕ) → 1 ≤ length xs → Each (λ x. n ≤ x) xs → n ≤ least xs
 le_least n [] some all = absurd (omega arith)
 le_least n (x ∷ []) some all = all.0
 le_least n (x ∷ y ∷ rest) some all = omega (arith, all.0, le_least n (y ∷ rest) (omega arith) all.1)
 
 -- where each rises, the least doesn't fall
-pub least_rises : {A : Type 0} (f g : A → ℕ) (xs : List A) → ((x : A) → f x ≤ g x) → least (map f xs) ≤ least (map g xs)
+least_rises : {A : Type 0} (f g : A → ℕ) (xs : List A) → ((x : A) → f x ≤ g x) → least (map f xs) ≤ least (map g xs)
 least_rises f g [] up = omega arith
 least_rises f g (x ∷ []) up = up x
 least_rises f g (x ∷ y ∷ rest) up = omega (arith, up x, least_rises f g (y ∷ rest) up)
@@ -69,7 +68,7 @@ synced_rises acks backup long round backups =
     least_rises (λ b. (from_backup acks b).length) (λ b. (from_backup (raised acks backup long round) b).length) backups (raised_rises acks backup long round)
 
 -- one name is of one backup
-pub one_backup : (w : World) (node : NodeId) (b c : BackupState) → IsBackup w node b → IsBackup w node c → b ≡ c
+one_backup : (w : World) (node : NodeId) (b c : BackupState) → IsBackup w node b → IsBackup w node c → b ≡ c
 one_backup w node b c p q = let same : Some b ≡ Some c = sym p.its_state ∙ q.its_state in cc
 
 stored_max : (w : World) (a b : NodeId) (n k : ℕ) → a ≡ b → HasStored w n a → HasStored w k b → HasStored w (max n k) b
@@ -99,10 +98,7 @@ raised_ok w m backup long round new (a ∷ rest) all = go (same_node a.backup ba
 -- each backup that is found to have acknowledged so many has done so
 pub all_acknowledged : (m : MasterState) (backups : List NodeId) (long round : ℕ) → all_have m.acknowledged backups long round ≡ true → Each (HasAcknowledged m long) backups
 all_acknowledged m backups long round e = each_tested (HasAcknowledged m long) (λ b. nat_le long (from_backup m.acknowledged b).length && nat_le round (from_backup m.acknowledged b).round) backups
-    (λ b y. reads long (from_backup m.acknowledged b).length (and_parts (nat_le long (from_backup m.acknowledged b).length) (nat_le round (from_backup m.acknowledged b).round) y).0) e
-  where
-    reads : (n k : ℕ) → nat_le n k ≡ true → n ≤ k
-    reads n k e = grind (arith, nat_tests)
+    (λ b y. leb-true long (from_backup m.acknowledged b).length (and_parts (nat_le long (from_backup m.acknowledged b).length) (nat_le round (from_backup m.acknowledged b).round) y).0) e
 
 -- entries that each backup of a list has acknowledged are synced by that list
 pub on_each_synced : (m : MasterState) (backups : List NodeId) (index : ℕ) → 1 ≤ length backups → IsOnEach m backups index → index < least (map (λ b. (from_backup m.acknowledged b).length) backups)
@@ -111,3 +107,27 @@ on_each_synced m backups index some all = omega (
   le_least (index + 1) (map (λ b. (from_backup m.acknowledged b).length) backups) (omega (arith, some, length-map backups (λ b. (from_backup m.acknowledged b).length)))
       (Each-map (λ x. index + 1 ≤ x) (λ b. (from_backup m.acknowledged b).length) backups (Each-weaker (λ b. index < (from_backup m.acknowledged b).length) (λ b. index + 1 ≤ (from_backup m.acknowledged b).length) (λ b l. omega (arith, l)) backups all)),
 )
+
+-- ---- what backups have
+
+-- a backup has at least what is known of it
+from_many : (w : World) (m : MasterState) (acks : List Acknowledged) → Each (AcknowledgedOk w m) acks → (b : NodeId) → HasMany w (from_backup acks b).length b
+from_many w m [] all b c is = omega arith
+from_many w m (a ∷ rest) all b c is = go (same_node a.backup b) refl (from_many w m rest all.1 b c is)
+  where
+    go : (t : Bool) → same_node a.backup b ≡ t → (from_backup rest b).length ≤ length c.log → (cond t a (from_backup rest b)).length ≤ length c.log
+    go true e more =
+        let here : IsBackup w b all.0.stored.b = subst (λ (z : NodeId). IsBackup w z all.0.stored.b) (same_node-true a.backup b e) all.0.stored.is in
+        let long : length all.0.stored.b.log ≡ length c.log = ap (λ (s : BackupState). length s.log) (one_backup w b all.0.stored.b c here is) in
+        omega (arith, all.0.stored.low, long)
+    go false e more = more
+
+-- so many as each has acknowledged
+pub acknowledged_many : (w : World) (m : MasterState) → Each (AcknowledgedOk w m) m.acknowledged → (n : ℕ) (backups : List NodeId) → Each (HasAcknowledged m n) backups → Each (HasMany w n) backups
+acknowledged_many w m known n backups all = Each-weaker (HasAcknowledged m n) (HasMany w n) (λ b l c is. omega (arith, l, from_many w m m.acknowledged known b c is)) backups all
+
+-- each backup of the list has what is synced
+pub synced_many : (w : World) (m : MasterState) → Each (AcknowledgedOk w m) m.acknowledged → (n : ℕ) → n ≤ synced m → Each (HasMany w n) m.backups
+synced_many w m known n low = acknowledged_many w m known n m.backups (Each-from_at (HasAcknowledged m n) m.backups (λ k b at.
+    let below = least_le (map (λ (b : NodeId). (from_backup m.acknowledged b).length) m.backups) k (from_backup m.acknowledged b).length (at_map (λ (b : NodeId). (from_backup m.acknowledged b).length) m.backups k b at) in
+    omega (arith, low, below)))

@@ -16,6 +16,7 @@ use Rattle.curp_msg.specs.declared.answer.FenceReply.{FenceReply}
 use Rattle.curp_msg.specs.declared.answer.FenceReply.TheVariants.{Log}
 use Rattle.curp_msg.specs.declared.answer.GcAnswer.{GcAnswer}
 use Rattle.curp_msg.specs.declared.answer.GcAnswer.TheVariants.{Suspects}
+use Rattle.curp_msg.specs.declared.body.Adopted.{Adopted}
 use Rattle.curp_msg.specs.declared.body.Append.{Append}
 use Rattle.curp_msg.specs.declared.body.Body.{Body}
 use Rattle.curp_msg.specs.declared.body.Body.TheVariants as body
@@ -199,8 +200,8 @@ pub data ListsMove (n : ℕ) (m : MasterState) (from : NodeId) (heard : Option B
       → Each (HasAcknowledged k (length k.log)) s.backups
       → k.version ≡ m.version → k.backups ≡ m.backups → k.witnesses ≡ m.witnesses → k.phase ≡ Switching (record s { prepared = true })
       → SaysPrepared n s.version messages → ListsMove n m from heard k messages
-  -- it takes them up
-  TakesUp : (s : Switch) → m.phase ≡ Switching s → s.prepared ≡ true → k.version ≡ s.version → k.backups ≡ s.backups → k.witnesses ≡ s.witnesses
+  -- it takes them up, as they are adopted
+  TakesUp : (s : Switch) (a : Adopted) → heard ≡ Some (body.Adopted a) → s.version ≡ a.version → m.phase ≡ Switching s → s.prepared ≡ true → k.version ≡ s.version → k.backups ≡ s.backups → k.witnesses ≡ s.witnesses
       → k.phase ≡ Open → ListsMove n m from heard k messages
 
 -- while it switches: the log stays, or an append that reaches to its end goes out
@@ -259,5 +260,6 @@ RecoverySays w s to _ = ⊥
 pub record RecoveryMove (w : World) (n : ℕ) (s : RecoveryState) (r : Moved RecoveryState) : Type 0 where
   pub order : r.state.order ≡ s.order
   pub stage : StageOk w r.state r.state.phase
+  pub waits : IsWaiting s.phase → IsWaiting r.state.phase
   pub says : Each (IsSaidBy n (RecoverySays w r.state)) r.messages
   pub refused : r.refused ≡ 0

@@ -1,0 +1,89 @@
+-- How a serving master moves by a read.
+use Rattle.std.proofs.Common.{◌≡◌, ◌≤◌, ℕ, ◌+◌, Bool, true, false, List, [], ◌∷◌, ◌++◌, length, Option, Some, None, refl, ap, arith}
+use Rattle.std.specs.Bool.{⊤}
+use Rattle.std.specs.FinMap as store
+use Rattle.curp_base.specs.Cases.{first_there, only_if}
+use Rattle.curp_cmd.specs.Node.{master_node}
+use Rattle.curp_cmd.specs.Store.{is_update}
+use Rattle.curp_cmd.specs.declared.command.Answer.TheVariants.{Found}
+use Rattle.curp_cmd.specs.declared.command.Command.{Command}
+use Rattle.curp_cmd.specs.declared.command.Command.TheVariants.{Get}
+use Rattle.curp_cmd.specs.declared.command.Request.{Request}
+use Rattle.curp_cmd.specs.declared.node.NodeId.{NodeId}
+use Rattle.curp_msg.specs.Moved.{Moved}
+use Rattle.curp_msg.specs.declared.answer.Refusal.{Refusal}
+use Rattle.curp_msg.specs.declared.answer.Refusal.TheVariants as refusal
+use Rattle.curp_msg.specs.declared.body.Ask.{Ask}
+use Rattle.curp_msg.specs.declared.body.Body.{Body}
+use Rattle.curp_facts.specs.Entries.{RequestOk}
+use Rattle.curp_facts.specs.Kept.{RefusalFirstOk}
+use Rattle.curp_facts.specs.Nodes.{ServingOk}
+use Rattle.curp_model.specs.declared.Check.{Check}
+use Rattle.curp_model.specs.declared.Check.TheVariants.{Expired, Stale, Known, New}
+use Rattle.curp_model.specs.Master.{Captured, MasterState, by_read_check, captures_read, on_read, read_command, read_of, read_refusal, state_of}
+use Rattle.curp_model.specs.Table.{check}
+use Rattle.curp_model.specs.World.{World}
+use Rattle.curp_law_masters.specs.Moves.{ServingMove}
+use Rattle.curp_law_masters.proofs.Completed.{stale_completed}
+use Rattle.curp_law_masters.proofs.Parts.{parts_capture, parts_of}
+use Rattle.curp_law_masters.proofs.Serving.{begins_next, rests}
+use Rattle.curp_law_masters.proofs.Serving.LogMove.{SameLog}
+use Rattle.curp_law_masters.proofs.Updates.{refuses}
+
+module _ (w : World) (n : ℕ) (m : MasterState) (ok : ServingOk w (master_node n) m) (from : NodeId) (heard : Option Body) where
+  abbrev Goes : Moved MasterState → Type 0
+  Goes r = ServingMove w n m from heard r
+
+  -- what a refusal rests on
+  abbrev Rests : Request → Option Refusal → Type 0
+  Rests r (Some why) = RefusalFirstOk w r.id.client why
+  Rests r None = ⊤
+
+  refusal_rests : (ask : Ask) → Rests ask.request (read_refusal m ask)
+  refusal_rests ask = go _ _ (check (state_of m).table ask.request.id) refl _ _
+    where
+      go : (by_epoch by_phase : Bool) (c : Check) → check (state_of m).table ask.request.id ≡ c → (by_version by_owner : Bool)
+          → Rests ask.request (first_there (
+          only_if by_epoch (refusal.Epoch m.epoch)
+          ∷ only_if by_phase refusal.Switching
+          ∷ by_read_check c
+          ∷ only_if by_version (refusal.Version m.version)
+          ∷ only_if by_owner refusal.NotOwner
+          ∷ []))
+      go true _ _ is _ _ = tt
+      go false true _ is _ _ = tt
+      go false false Expired is _ _ = tt
+      go false false (Stale first) is _ _ = stale_completed w m.part m.lo m.hi m.log ok.log ask.request.id first is
+      go false false (Known a index) is true _ = tt
+      go false false (Known a index) is false true = tt
+      go false false (Known a index) is false false = tt
+      go false false New is true _ = tt
+      go false false New is false true = tt
+      go false false New is false false = tt
+
+  module _ (filled : 1 ≤ length m.backups) where
+    captures : (r : Request) (key : List ℕ) → RequestOk w r → is_update r.command ≡ false → Goes (captures_read n m r key)
+    captures r key asked reads =
+        let c : Captured = record {
+          number = m.captured + 1;
+          id = r.id;
+          command = r.command;
+          answer = Found (store.get (state_of m).store key);
+          length = length m.log;
+          round = m.round + 1;
+        } in
+        begins_next w n m ok from heard filled (record m { captures = m.captures ++ c ∷ []; captured = m.captured + 1 }) (record { version = refl; backups = refl; witnesses = refl; phase = refl; acknowledged = refl }) (SameLog refl)
+        (parts_capture w m.part m (parts_of w (master_node n) m ok) c (record { place = asked.place; invoked = asked.invoked; reads = reads; number = omega arith; within = omega arith; begun = omega arith }))
+
+    read_of_moves : (r : Request) (key : List ℕ) → RequestOk w r → is_update r.command ≡ false → (o : Option Refusal) → Rests r o → Goes (read_of n m r key o)
+    read_of_moves r key asked reads (Some why) first = refuses w n m ok from heard r.id why first
+    read_of_moves r key asked reads None first = captures r key asked reads
+
+    command_moves : (ask : Ask) → RequestOk w ask.request → (c : Command) → ask.request.command ≡ c → Goes (read_command n m ask c)
+    command_moves ask asked (Get key) is = read_of_moves ask.request key asked (ap is_update is) (read_refusal m ask) (refusal_rests ask)
+    command_moves ask asked _ is = rests w n m ok from heard
+
+    -- a read comes
+    pub read_moves : (ask : Ask) → RequestOk w ask.request → Goes (on_read n m ask)
+    unfolding on_read
+    read_moves ask asked = command_moves ask asked ask.request.command refl
