@@ -12,6 +12,7 @@ use Rattle.curp_msg.specs.declared.body.Body.{Body}
 use Rattle.curp_msg.specs.declared.body.Body.TheVariants as body
 use Rattle.curp_msg.specs.declared.body.Prepare.{Prepare}
 use Rattle.curp_msg.specs.declared.body.Recover.{Recover}
+use Rattle.curp_msg.specs.declared.config.Config.{Config}
 use Rattle.curp_msg.specs.declared.config.PartConfig.{PartConfig}
 use Rattle.curp_msg.specs.declared.message.Message.{Message}
 use Rattle.curp_model.specs.Manager.{Doing, Recovering, Replacing, Shape, Steady, opening_config}
@@ -98,6 +99,13 @@ module _ {w v : World} (g : Later w v) where
   pub client_later : (n : ℕ) → IsClientNumber w n → IsClientNumber v n
   client_later n is = (is.0, subst (λ (s : Shape). n ≤ s.clients) (sym g.shape) is.1)
 
+  pub configuration_later : (config : Config) → ConfigurationOk w config → ConfigurationOk v config
+  configuration_later config ok = record {
+    parts = subst (λ (s : Shape). length config.parts ≡ s.parts) (sym g.shape) ok.parts;
+    numbers = ok.numbers;
+    adopted = Each-weaker (λ (c : PartConfig). WasAdopted w (lists_of_part c)) (λ (c : PartConfig). WasAdopted v (lists_of_part c)) (λ (c : PartConfig). adopted_later (lists_of_part c)) config.parts ok.adopted;
+  }
+
   -- what the manager said stays so
   pub says_later : (node : NodeId) (b : Body) → ManagerSays w node b → ManagerSays v node b
   says_later node (body.Install epoch) ok = record { lists = ok.lists; given = given_later ok.lists ok.given; named = ok.named; its_epoch = ok.its_epoch }
@@ -109,11 +117,7 @@ module _ {w v : World} (g : Later w v) where
   says_later node (body.TakeOut t) ok = server_later node ok
   says_later node (body.GiveIn t) ok = server_later node ok
   says_later node (body.ExpireClient client) ok = (server_later node ok.0, client_later client ok.1)
-  says_later node (body.Configuration config) ok = record {
-    parts = subst (λ (s : Shape). length config.parts ≡ s.parts) (sym g.shape) ok.parts;
-    numbers = ok.numbers;
-    adopted = Each-weaker (λ (c : PartConfig). WasAdopted w (lists_of_part c)) (λ (c : PartConfig). WasAdopted v (lists_of_part c)) (λ (c : PartConfig). adopted_later (lists_of_part c)) config.parts ok.adopted;
-  }
+  says_later node (body.Configuration config) ok = (of_later kind.Client node ok.0, configuration_later config ok.1)
   says_later node _ ok = absurd ok
 
   -- what is being done was ordered

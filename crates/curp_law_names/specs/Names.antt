@@ -157,7 +157,7 @@ ManagerSays w node (body.Adopted a) = AdoptedOk w node a
 ManagerSays w node (body.TakeOut t) = IsServer w node
 ManagerSays w node (body.GiveIn g) = IsServer w node
 ManagerSays w node (body.ExpireClient client) = IsServer w node × IsClientNumber w client
-ManagerSays w node (body.Configuration config) = ConfigurationOk w config
+ManagerSays w node (body.Configuration config) = IsOf w kind.Client node × ConfigurationOk w config
 ManagerSays w node _ = ⊥
 
 -- ---- the top, and what is being done
