@@ -16,3 +16,5 @@ pub mod Keepers
 pub mod Clients
 pub mod Servings
 pub mod Recoverings
+pub mod Others
+pub mod Opened
