@@ -101,4 +101,4 @@ module _ {w : World} (n : Names w) (p : ℕ) (now new : PartConfig)
 -- lists that are adopted keep all
 pub adopts_good : {w : World} (n : Names w) (p : ℕ) (now new : PartConfig) → numbered w.manager.config.parts p ≡ Some now → IsGiven w (lists_of_part new)
     → new.part ≡ now.part → now.epoch ≤ new.epoch → now.version < new.version → Good w (adopts w.manager p new)
-adopts_good n p now new here given part epoch version = ((refl, tt), λ adopted events. adoption_keeps n p now new here given part epoch version adopted events)
+adopts_good n p now new here given part epoch version = ((refl, tt), λ adopted events. (adoption_keeps n p now new here given part epoch version adopted events, later n p now new here given part epoch version adopted events))

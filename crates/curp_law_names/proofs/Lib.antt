@@ -18,3 +18,4 @@ pub mod Servings
 pub mod Recoverings
 pub mod Others
 pub mod Opened
+pub mod Runs

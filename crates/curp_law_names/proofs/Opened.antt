@@ -3,7 +3,7 @@ use Rattle.std.proofs.Common.{◌≡◌, ◌≢◌, ◌≤◌, ◌<◌, ◌⊎�
 use Rattle.std.proofs.lemmas.Bool.{cases_lt, cases_eq}
 use Rattle.std.proofs.lemmas.List.{length-map, length-replicate}
 use Rattle.curp_base.specs.Words.{At, Each, numbered, numbers_from}
-use Rattle.curp_base.proofs.Lists.{at_replicate}
+use Rattle.curp_base.proofs.Lists.{at_map, at_replicate}
 use Rattle.curp_cmd.specs.Node.{backup_node, master_node, witness_node}
 use Rattle.curp_cmd.specs.declared.node.NodeId.{NodeId}
 use Rattle.curp_cmd.specs.declared.node.NodeKind.TheVariants as kind
@@ -176,3 +176,51 @@ module _ (h : Header) (its : IsHeader h) where
     doing = λ c d now at. steady c d at;
     gone = tt;
   }
+
+  -- ---- nodes
+
+  opening_configuration : ConfigurationOk start (opening_config s)
+  unfolding opening
+  opening_configuration = record {
+    parts = length-map (numbers_from 1 h.parts) (opening_part s) ∙ length-numbers 1 h.parts;
+    numbers = opening_entries;
+    adopted = each_among (λ (c : PartConfig). WasAdopted start (lists_of_part c)) (opening_config s).parts (λ c a. adopted_opening a.place c a.stands);
+  }
+
+  opening_client : (n : ℕ) (c : ClientState) → numbered start.clients n ≡ Some c → ClientFits start n c
+  unfolding opening
+  opening_client n c at =
+      let p = place start.clients n c at in
+      let same = (at_replicate h.clients (fresh_client h.fast (opening_config s)) p.0 c p.2).1 in
+      subst (ClientFits start n) same (record { config = opening_configuration; pending = tt })
+
+  opening_serves : (k n : ℕ) → At (numbers_from 1 h.parts) k n → MasterFits start n (opening_master s n)
+  unfolding opening
+  opening_serves k n at = record {
+    given = AtOpening k (opening_part s n) (at_map (opening_part s) (numbers_from 1 h.parts) k n at);
+    next = tt;
+    its_lo = refl;
+    its_hi = refl;
+    entries = tt;
+    reads = tt;
+  }
+
+  opening_master_fits : (n : ℕ) (m : MasterStage) → numbered start.masters n ≡ Some m → MasterFits start n m
+  unfolding opening
+  opening_master_fits n m at =
+      let p = place start.masters n m at in
+      let x = at_mapped (opening_master s) (numbers_from 1 h.parts) p.0 m p.2 in
+      let same : x.0 ≡ n = omega (arith, (numbers_back 1 h.parts p.0 x.0 x.1).0, p.1) in
+      subst (λ (i : ℕ). MasterFits start i m) same (subst (MasterFits start x.0) x.2 (opening_serves p.0 x.0 x.1))
+
+  opening_backup : (n : ℕ) (b : BackupState) → numbered start.backups n ≡ Some b → BackupFits start b
+  unfolding opening
+  opening_backup n b at = let p = place start.backups n b at in subst (BackupFits start) (at_replicate (h.parts * h.f) (installed_backup 1) p.0 b p.2).1 tt
+
+  opening_witness : (n : ℕ) (x : WitnessState) → numbered start.witnesses n ≡ Some x → WitnessFits start x
+  unfolding opening
+  opening_witness n x at = let p = place start.witnesses n x at in subst (WitnessFits start) (at_replicate (h.parts * h.f) (started_witness h.sets h.ways 1) p.0 x p.2).1 tt
+
+  pub opening_nodes : Nodes start
+  unfolding opening
+  opening_nodes = record { said = tt; clients = opening_client; masters = opening_master_fits; backups = opening_backup; witnesses = opening_witness }

@@ -26,7 +26,7 @@ IsManagers m = m.from ≡ manager_node
 
 -- the manager alone speaks, and the input keeps all facts of names, whatever it adopts and whatever happens besides
 abbrev pub Good : World → Moved ManagerState → Type 0
-Good w r = Each IsManagers r.messages × ((adopted : Option Attempted) (events : List Event) → Names (manager_moved w adopted events r))
+Good w r = Each IsManagers r.messages × ((adopted : Option Attempted) (events : List Event) → Names (manager_moved w adopted events r) × Later w (manager_moved w adopted events r))
 
 -- what the manager may say without any change
 pub record Again (w : World) (m : Message) : Type 0 where
@@ -108,11 +108,11 @@ module _ (w : World) (n : Names w) (r : Moved ManagerState) where
       let v : World = manager_moved w adopted events r in
       let up : Rises w.manager r.state = stays_rises s in
       let later : Later w v = moved_later w n adopted events r up in
-      names_stay n
+      (names_stay n
           (moved_move w n adopted events r up Nothing (Each-weaker (Again w) (λ (m : Message). Utters w v Nothing m.to m.body)
               (λ (m : Message) a. record { repeats = a.repeats; is_so = says_later later m.to m.body a.is_so }) r.messages says))
           (moved_numbers w n adopted events r up) s.lists s.doing
-          (Each-weaker (IsClientNumber w) (IsClientNumber v) (client_later later) r.state.gone gone))
+          (Each-weaker (IsClientNumber w) (IsClientNumber v) (client_later later) r.state.gone gone), later))
 
 -- the state itself stays
 pub stays_self : (g : ManagerState) → Stays g g

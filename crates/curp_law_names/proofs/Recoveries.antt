@@ -156,7 +156,7 @@ module _ {w : World} (n : Names w) where
   by_witness p c here from named place None found = refused_good 3
   by_witness p c here from named place (Some other) found =
       let at = place_of c.witnesses place other found in
-      (recover_from w.manager.next.master (recover_order w.manager c from other), λ adopted events. recovery_keeps n p c here from other named (record { place = at.0; stands = at.2 }) adopted events)
+      (recover_from w.manager.next.master (recover_order w.manager c from other), λ adopted events. (recovery_keeps n p c here from other named (record { place = at.0; stands = at.2 }) adopted events, later n p c here from other named (record { place = at.0; stands = at.2 }) adopted events))
 
   by_backup : (p : ℕ) (c : PartConfig) → numbered w.manager.config.parts p ≡ Some c → (backup witness : ℕ) (o : Option NodeId) → numbered c.backups backup ≡ o
       → Good w (unless_refused w.manager (recovers w.manager p)

@@ -170,7 +170,7 @@ module _ {w : World} (n : Names w) where
       → Good w (unless_refused w.manager (replaces w.manager p k place) (refuse_if recovering 3 >>= λ _. refuse_if replacing 4 >>= λ _. Ok c))
   by_doing p k place c here old found true replacing = refused_good n 3
   by_doing p k place c here old found false true = refused_good n 4
-  by_doing p k place c here old found false false = (replace_from c k (fresh_node w.manager k) (record { version = w.manager.next.version; backups = new_backups c k place (fresh_node w.manager k); witnesses = new_witnesses c k place (fresh_node w.manager k) }), λ adopted events. replacement_keeps n p c here k place old found adopted events)
+  by_doing p k place c here old found false false = (replace_from c k (fresh_node w.manager k) (record { version = w.manager.next.version; backups = new_backups c k place (fresh_node w.manager k); witnesses = new_witnesses c k place (fresh_node w.manager k) }), λ adopted events. (replacement_keeps n p c here k place old found adopted events, later n p c here k place old found adopted events k))
 
   by_place : (p : ℕ) (k : Keeper) (place : ℕ) (c : PartConfig) → numbered w.manager.config.parts p ≡ Some c → (o : Option NodeId) → numbered (keepers_of c k) place ≡ o
       → Good w (unless_refused w.manager (replaces w.manager p k place)
