@@ -1,5 +1,5 @@
 -- What was said of a world holds of a later one.
-use Rattle.std.proofs.Common.{◌≡◌, ◌≤◌, ◌<◌, ◌⊎◌, inl, inr, ℕ, ◌+◌, List, length, refl, sym, subst, arith}
+use Rattle.std.proofs.Common.{◌≡◌, ◌≤◌, ◌<◌, ◌⊎◌, inl, inr, ℕ, ◌+◌, List, length, refl, sym, ◌∙◌, subst, arith}
 use Rattle.curp_base.specs.Words.{At, Each}
 use Rattle.curp_base.proofs.Lists.{Each-weaker}
 use Rattle.curp_cmd.specs.Node.{manager_node}
@@ -32,6 +32,23 @@ pub record Later (w v : World) : Type 0 where
   pub backups : length w.backups ≤ length v.backups
   pub witnesses : length w.witnesses ≤ length v.witnesses
   pub sent : (m : Message) → WasSent w m → WasSent v m
+
+-- nothing happens
+pub later_self : (w : World) → Later w w
+later_self w = record { shape = refl; epoch = omega arith; version = omega arith; clients = omega arith; masters = omega arith; backups = omega arith; witnesses = omega arith; sent = λ m was. was }
+
+-- and then more happens
+pub later_then : {w v u : World} → Later w v → Later v u → Later w u
+later_then g k = record {
+  shape = k.shape ∙ g.shape;
+  epoch = omega (arith, g.epoch, k.epoch);
+  version = omega (arith, g.version, k.version);
+  clients = omega (arith, g.clients, k.clients);
+  masters = omega (arith, g.masters, k.masters);
+  backups = omega (arith, g.backups, k.backups);
+  witnesses = omega (arith, g.witnesses, k.witnesses);
+  sent = λ m was. k.sent m (g.sent m was);
+}
 
 module _ {w v : World} (g : Later w v) where
   pub node_later : (k : NodeKind) (n : ℕ) → IsNodeOf w k n → IsNodeOf v k n

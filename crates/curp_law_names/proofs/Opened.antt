@@ -173,6 +173,8 @@ module _ (h : Header) (its : IsHeader h) where
     one_order = λ node o q sent too. no_message _ sent.place _ sent.stands;
     versions_apart = λ node other o p sent too. no_message _ sent.place _ sent.stands;
     top = opening_top;
+    chain = λ l k al ak same versions. let a = given_opening l al.given in let b = given_opening k ak.given in
+        omega (arith, ap (λ (x : Lists). x.epoch) a.2, ap (λ (x : Lists). x.epoch) b.2);
     doing = λ c d now at. steady c d at;
     gone = tt;
   }

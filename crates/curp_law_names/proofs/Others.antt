@@ -32,6 +32,11 @@ pub record Both (w : World) : Type 0 where
   pub names : Names w
   pub nodes : Nodes w
 
+-- a later world with both
+pub record Goes (w v : World) : Type 0 where
+  pub both : Both v
+  pub later : Later w v
+
 -- the manager is as it was, there are as many nodes, and these messages came
 pub record Beside (w v : World) (out : List Message) : Type 0 where
   pub manager : v.manager ≡ w.manager
@@ -98,10 +103,10 @@ set_all P Q xs k old new here weaker one all i x at = elim (numbered_set_cases x
 module _ (w : World) (both : Both w) (events : List Event) where
   -- nothing but what is stopped, the history and the marks changes
   pub nothing_keeps : (r : Moved World) → Beside w (kept w events r).world [] → (kept w events r).world.clients ≡ w.clients → (kept w events r).world.masters ≡ w.masters
-      → (kept w events r).world.backups ≡ w.backups → (kept w events r).world.witnesses ≡ w.witnesses → Both (kept w events r).world
+      → (kept w events r).world.backups ≡ w.backups → (kept w events r).world.witnesses ≡ w.witnesses → Goes w (kept w events r).world
   nothing_keeps r b clients masters backups witnesses =
       let g = beside_later both.names [] b in
-      record {
+      record { later = g; both = record {
         names = beside_names both.names [] b (client_node 0) (λ e. absurd cc) tt;
         nodes = record {
           said = beside_said both.names [] b (client_node 0) tt both.nodes.said;
@@ -110,14 +115,14 @@ module _ (w : World) (both : Both w) (events : List Event) where
           backups = λ i x at. backup_later g x (both.nodes.backups i x (subst (λ (xs : List BackupState). numbered xs i ≡ Some x) backups at));
           witnesses = λ i x at. witness_later g x (both.nodes.witnesses i x (subst (λ (xs : List WitnessState). numbered xs i ≡ Some x) witnesses at));
         };
-      }
+      } }
 
-  pub client_keeps : (k : ℕ) (c : ClientState) → numbered w.clients k ≡ Some c → (r : Moved ClientState) → ClientFits w k r.state → AllSaid w (client_node k) r.messages → Both (kept w events (within (with_client w k) r)).world
+  pub client_keeps : (k : ℕ) (c : ClientState) → numbered w.clients k ≡ Some c → (r : Moved ClientState) → ClientFits w k r.state → AllSaid w (client_node k) r.messages → Goes w (kept w events (within (with_client w k) r)).world
   client_keeps k c here r ok all =
       let b : Beside w (kept w events (within (with_client w k) r)).world r.messages =
           record { manager = refl; clients = length-set w.clients (k - 1) r.state; masters = refl; backups = refl; witnesses = refl; came = all_of-kept w.sent r.messages } in
       let g = beside_later both.names r.messages b in
-      record {
+      record { later = g; both = record {
         names = beside_names both.names r.messages b (client_node k) (λ e. absurd cc) all;
         nodes = record {
           said = beside_said both.names r.messages b (client_node k) all both.nodes.said;
@@ -126,14 +131,14 @@ module _ (w : World) (both : Both w) (events : List Event) where
           backups = λ i x at. backup_later g x (both.nodes.backups i x at);
           witnesses = λ i x at. witness_later g x (both.nodes.witnesses i x at);
         };
-      }
+      } }
 
-  pub master_keeps : (k : ℕ) (m : MasterStage) → numbered w.masters k ≡ Some m → (r : Moved MasterStage) → MasterFits w k r.state → AllSaid w (master_node k) r.messages → Both (kept w events (within (with_master w k m) r)).world
+  pub master_keeps : (k : ℕ) (m : MasterStage) → numbered w.masters k ≡ Some m → (r : Moved MasterStage) → MasterFits w k r.state → AllSaid w (master_node k) r.messages → Goes w (kept w events (within (with_master w k m) r)).world
   master_keeps k m here r ok all =
       let b : Beside w (kept w events (within (with_master w k m) r)).world r.messages =
           record { manager = refl; clients = refl; masters = length-set w.masters (k - 1) r.state; backups = refl; witnesses = refl; came = all_of-kept w.sent r.messages } in
       let g = beside_later both.names r.messages b in
-      record {
+      record { later = g; both = record {
         names = beside_names both.names r.messages b (master_node k) (λ e. absurd cc) all;
         nodes = record {
           said = beside_said both.names r.messages b (master_node k) all both.nodes.said;
@@ -142,14 +147,14 @@ module _ (w : World) (both : Both w) (events : List Event) where
           backups = λ i x at. backup_later g x (both.nodes.backups i x at);
           witnesses = λ i x at. witness_later g x (both.nodes.witnesses i x at);
         };
-      }
+      } }
 
-  pub backup_keeps : (k : ℕ) (x : BackupState) → numbered w.backups k ≡ Some x → (r : Moved BackupState) → BackupFits w r.state → AllSaid w (backup_node k) r.messages → Both (kept w events (within (with_backup w k) r)).world
+  pub backup_keeps : (k : ℕ) (x : BackupState) → numbered w.backups k ≡ Some x → (r : Moved BackupState) → BackupFits w r.state → AllSaid w (backup_node k) r.messages → Goes w (kept w events (within (with_backup w k) r)).world
   backup_keeps k x here r ok all =
       let b : Beside w (kept w events (within (with_backup w k) r)).world r.messages =
           record { manager = refl; clients = refl; masters = refl; backups = length-set w.backups (k - 1) r.state; witnesses = refl; came = all_of-kept w.sent r.messages } in
       let g = beside_later both.names r.messages b in
-      record {
+      record { later = g; both = record {
         names = beside_names both.names r.messages b (backup_node k) (λ e. absurd cc) all;
         nodes = record {
           said = beside_said both.names r.messages b (backup_node k) all both.nodes.said;
@@ -158,14 +163,14 @@ module _ (w : World) (both : Both w) (events : List Event) where
           backups = set_all (λ i. BackupFits w) (λ i. BackupFits (kept w events (within (with_backup w k) r)).world) w.backups k x r.state here (λ i. backup_later g) (backup_later g r.state ok) both.nodes.backups;
           witnesses = λ i y at. witness_later g y (both.nodes.witnesses i y at);
         };
-      }
+      } }
 
-  pub witness_keeps : (k : ℕ) (x : WitnessState) → numbered w.witnesses k ≡ Some x → (r : Moved WitnessState) → WitnessFits w r.state → AllSaid w (witness_node k) r.messages → Both (kept w events (within (with_witness w k) r)).world
+  pub witness_keeps : (k : ℕ) (x : WitnessState) → numbered w.witnesses k ≡ Some x → (r : Moved WitnessState) → WitnessFits w r.state → AllSaid w (witness_node k) r.messages → Goes w (kept w events (within (with_witness w k) r)).world
   witness_keeps k x here r ok all =
       let b : Beside w (kept w events (within (with_witness w k) r)).world r.messages =
           record { manager = refl; clients = refl; masters = refl; backups = refl; witnesses = length-set w.witnesses (k - 1) r.state; came = all_of-kept w.sent r.messages } in
       let g = beside_later both.names r.messages b in
-      record {
+      record { later = g; both = record {
         names = beside_names both.names r.messages b (witness_node k) (λ e. absurd cc) all;
         nodes = record {
           said = beside_said both.names r.messages b (witness_node k) all both.nodes.said;
@@ -174,4 +179,4 @@ module _ (w : World) (both : Both w) (events : List Event) where
           backups = λ i y at. backup_later g y (both.nodes.backups i y at);
           witnesses = set_all (λ i. WitnessFits w) (λ i. WitnessFits (kept w events (within (with_witness w k) r)).world) w.witnesses k x r.state here (λ i. witness_later g) (witness_later g r.state ok) both.nodes.witnesses;
         };
-      }
+      } }

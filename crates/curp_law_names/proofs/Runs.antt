@@ -35,12 +35,12 @@ use Rattle.curp_law_names.specs.Nodes.{BackupFits, BodyFits, ClientFits, MasterF
 use Rattle.curp_law_names.proofs.Clients.{Arrives, client_fits}
 use Rattle.curp_law_names.proofs.Fits.{backup_later, client_fits_later, master_later, message_later, witness_later}
 use Rattle.curp_law_names.proofs.Keepers.{InputFits, backup_fits, witness_fits}
-use Rattle.curp_law_names.proofs.Later.{Later}
+use Rattle.curp_law_names.proofs.Later.{Later, later_self, later_then}
 use Rattle.curp_law_names.proofs.Lists.{all_of-kept, among_each, at_mapped, each_among, length-numbers, number_within, place}
 use Rattle.curp_law_names.proofs.Managers.{manager_good}
 use Rattle.curp_law_names.proofs.Named.{named}
 use Rattle.curp_law_names.proofs.Opened.{opening_names, opening_nodes}
-use Rattle.curp_law_names.proofs.Others.{Both, backup_keeps, client_keeps, master_keeps, nothing_keeps, witness_keeps}
+use Rattle.curp_law_names.proofs.Others.{Both, Goes, backup_keeps, client_keeps, master_keeps, nothing_keeps, witness_keeps}
 use Rattle.curp_law_names.proofs.Quiet.{IsManagers}
 use Rattle.curp_law_names.proofs.Recoverings.{IsForMaster, master_fits}
 use Rattle.curp_law_names.proofs.Steps.{manager_moved, moved_messages, sent_now}
@@ -87,13 +87,13 @@ module _ (w : World) (both : Both w) (events : List Event) where
 
   -- ---- the manager
 
-  manager_keeps : (given : Input) → Arrives w given → Both (kept w events (moves_kind w kind.Manager 0 given)).world
+  manager_keeps : (given : Input) → Arrives w given → Goes w (kept w events (moves_kind w kind.Manager 0 given)).world
   manager_keeps given comes =
       let r : Moved ManagerState = manager_input w.manager given in
       let adopted : Option Attempted = adoption w.manager given in
       let good = manager_good n given (message_comes given comes) in
       let after = good.1 adopted events in
-      keeps r adopted good.0 after.0 after.1
+      record { both = keeps r adopted good.0 after.0 after.1; later = after.1 }
     where
       keeps : (r : Moved ManagerState) (adopted : Option Attempted) → Each IsManagers r.messages → Names (manager_moved w adopted events r) → Later w (manager_moved w adopted events r) → Both (manager_moved w adopted events r)
       keeps r adopted from names g =
@@ -129,7 +129,7 @@ module _ (w : World) (both : Both w) (events : List Event) where
 
   -- ---- the others
 
-  by_one : {S : Type 0} (move : S → Moved World) (o : Option S) → ((x : S) → o ≡ Some x → Both (kept w events (move x)).world) → Both (kept w events (moves_one w move o)).world
+  by_one : {S : Type 0} (move : S → Moved World) (o : Option S) → ((x : S) → o ≡ Some x → Goes w (kept w events (move x)).world) → Goes w (kept w events (moves_one w move o)).world
   by_one move None keeps = nothing_keeps w both events (quiet w) (record { manager = refl; clients = refl; masters = refl; backups = refl; witnesses = refl; came = all_of-kept w.sent [] }) refl refl refl refl
   by_one move (Some x) keeps = keeps x refl
 
@@ -138,7 +138,7 @@ module _ (w : World) (both : Both w) (events : List Event) where
   for_master i (input.Message m) here = here
 
   -- an input comes to a node
-  moves_keep : (k : NodeKind) (i : ℕ) (given : Input) → Arrives w given → IsFor k i given → Both (kept w events (moves_kind w k i given)).world
+  moves_keep : (k : NodeKind) (i : ℕ) (given : Input) → Arrives w given → IsFor k i given → Goes w (kept w events (moves_kind w k i given)).world
   moves_keep kind.Manager i given comes here = manager_keeps given comes
   moves_keep kind.Client i given comes here = by_one _ (numbered w.clients i) (λ c at.
       let r = client_fits w n i (number_within w.clients i c at) c (both.nodes.clients i c at) given comes in
@@ -156,14 +156,14 @@ module _ (w : World) (both : Both w) (events : List Event) where
 -- ---- steps
 
 module _ (w : World) (both : Both w) where
-  delivery_keeps : (number : ℕ) (o : Option Message) → numbered (messages w) number ≡ o → (events : List Event) → Both (kept w events (effect w (delivery o))).world
+  delivery_keeps : (number : ℕ) (o : Option Message) → numbered (messages w) number ≡ o → (events : List Event) → Goes w (kept w events (effect w (delivery o))).world
   delivery_keeps number None at events = by_one w both events {S = Message} (λ m. quiet w) None (λ m e. absurd cc)
   delivery_keeps number (Some m) at events =
       let p = place (messages w) number m at in
       let sent : IsAmong m (messages w) = record { place = p.0; stands = p.2 } in
       moves_keep w both events m.to.kind m.to.number (input.Message m) (among_each (MessageFits w) (messages w) both.nodes.said m sent, record { place = p.0; stands = p.2 }) refl
 
-  deed_keeps : (x : Step) (events : List Event) → Both (kept w events (effect w (deed_of w x))).world
+  deed_keeps : (x : Step) (events : List Event) → Goes w (kept w events (effect w (deed_of w x))).world
   deed_keeps (steps.Deliver number) events = delivery_keeps number (numbered (messages w) number) refl events
   deed_keeps (steps.Stop node) events =
       nothing_keeps w both events (quiet (record w { stopped = w.stopped ++ node ∷ [] })) (record { manager = refl; clients = refl; masters = refl; backups = refl; witnesses = refl; came = all_of-kept w.sent [] }) refl refl refl refl
@@ -178,19 +178,22 @@ module _ (w : World) (both : Both w) where
   deed_keeps steps.Nudge events = moves_keep w both events kind.Manager 0 (input.Local local.Nudge) tt tt
   deed_keeps (steps.Expire client) events = moves_keep w both events kind.Manager 0 (input.Local (local.Expire client)) tt tt
 
-  by_result : (x : Step) (why : StepResult) → Both (steps_by w (deed_of w x) why).world
+  by_result : (x : Step) (why : StepResult) → Goes w (steps_by w (deed_of w x) why).world
   by_result x result.Done = deed_keeps x (events_of w (deed_of w x))
-  by_result x _ = both
+  by_result x _ = record { both = both; later = later_self w }
 
-  -- each step keeps both
-  pub step_keeps : (x : Step) → Both (step w x).world
+  -- each step leads to a later world with both
+  pub step_goes : (x : Step) → Goes w (step w x).world
   unfolding step
-  step_keeps x = by_result x (result_of w x)
+  step_goes x = by_result x (result_of w x)
 
-run_keeps : (w : World) (xs : List Step) → Both w → Both (run w xs)
-run_keeps w [] both = both
-run_keeps w (x ∷ xs) both = run_keeps (step w x).world xs (step_keeps w both x)
+run_goes : (w : World) (xs : List Step) → Both w → Goes w (run w xs)
+run_goes w [] both = record { both = both; later = later_self w }
+run_goes w (x ∷ xs) both =
+    let first = step_goes w both x in
+    let rest = run_goes (step w x).world xs first.both in
+    record { both = rest.both; later = later_then first.later rest.later }
 
--- every run has both
-pub always : (h : Header) (xs : List Step) → IsRun h xs → Both (world h xs)
-always h xs is = run_keeps (opening h) xs (record { names = opening_names h is.header; nodes = opening_nodes h is.header })
+-- every run leads from the opening to a later world with both
+pub always : (h : Header) (xs : List Step) → IsRun h xs → Goes (opening h) (world h xs)
+always h xs is = run_goes (opening h) xs (record { names = opening_names h is.header; nodes = opening_nodes h is.header })

@@ -215,6 +215,8 @@ pub record Names (w : World) : Type 0 where
   pub versions_apart : (node other : NodeId) (o : Recover) (p : Prepare) → WasSent w (says manager_node node (body.Recover o))
       → WasSent w (says manager_node other (body.Prepare p)) → o.version ≢ p.version
   pub top : (c : PartConfig) → IsAdoptedNow w c → Top w (lists_of_part c)
+  -- of the adopted lists of a partition, those of a larger version have no smaller epoch
+  pub chain : (l k : Lists) → WasAdopted w l → WasAdopted w k → l.part ≡ k.part → l.version ≤ k.version → l.epoch ≤ k.epoch
   pub doing : (c : PartConfig) (d : Doing) → IsAdoptedNow w c → numbered w.manager.doing c.part ≡ Some d → DoingOk w (lists_of_part c) d
   -- who is gone is a client of the header
   pub gone : Each (IsClientNumber w) w.manager.gone
