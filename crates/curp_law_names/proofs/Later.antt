@@ -20,7 +20,7 @@ use Rattle.curp_model.specs.Named.{IsNodeOf}
 use Rattle.curp_model.specs.Ranges.{opening_range}
 use Rattle.curp_model.specs.World.{World}
 use Rattle.curp_facts.specs.Facts.{AtOpening, ByRecovery, ByReplacement, IsGiven, Lists, WasAdopted, WasSent, lists_of_part}
-use Rattle.curp_law_names.specs.Names.{AdoptedOk, ConfigurationOk, DoingOk, GivenOk, InstallOk, IsClientNumber, IsMasterOf, IsOf, IsServer, ManagerSays, OrderOk, PrepareOk, StartOk}
+use Rattle.curp_law_names.specs.Names.{AdoptedOk, ConfigurationOk, DoingOk, GivenOk, InstallOk, IsClientNumber, IsMasterOf, IsOf, IsAdoptedMaster, ManagerSays, OrderOk, PrepareOk, StartOk}
 
 -- a world after a step: the header's numbers stay, nodes and numbers grow, and what was sent was sent
 pub record Later (w v : World) : Type 0 where
@@ -110,7 +110,7 @@ module _ {w v : World} (g : Later w v) where
     its_version = ok.its_version;
   }
 
-  abbrev pub server_later : (node : NodeId) → IsServer w node → IsServer v node
+  abbrev pub server_later : (node : NodeId) → IsAdoptedMaster w node → IsAdoptedMaster v node
   server_later node ok = record { lists = ok.lists; was = adopted_later ok.lists ok.was; its_master = ok.its_master }
 
   pub client_later : (n : ℕ) → IsClientNumber w n → IsClientNumber v n

@@ -19,3 +19,4 @@ pub mod Recoverings
 pub mod Others
 pub mod Opened
 pub mod Runs
+pub mod Laws

@@ -30,7 +30,7 @@ use Rattle.curp_model.specs.Witness.{WitnessState, fresh_witness, started_witnes
 use Rattle.curp_model.specs.World.{Deed, Gives, Nothing, Stops, World, deed_of, delivery, effect, events_of, grown, kept, messages, moves_kind, moves_one, opening, opening_master, result_of, run, shape_of, step, steps_by, with_backup, with_client, with_master, with_witness, world}
 use Rattle.curp_facts.specs.Facts.{AtOpening, ByRecovery, IsAmong, WasAdopted, WasSent, lists_of_order, lists_of_part}
 use Rattle.curp_facts.specs.Run.{IsHeader, IsRun}
-use Rattle.curp_law_names.specs.Names.{AdoptedOk, ConfigurationOk, IsOf, IsServer, ManagerSays, Names, PrepareOk}
+use Rattle.curp_law_names.specs.Names.{AdoptedOk, ConfigurationOk, IsOf, IsAdoptedMaster, ManagerSays, Names, PrepareOk}
 use Rattle.curp_law_names.specs.Nodes.{BackupFits, BodyFits, ClientFits, MasterFits, MessageFits, Nodes, WitnessFits}
 use Rattle.curp_law_names.proofs.Clients.{Arrives, client_fits}
 use Rattle.curp_law_names.proofs.Fits.{backup_later, client_fits_later, master_later, message_later, witness_later}
@@ -48,7 +48,7 @@ use Rattle.curp_law_names.proofs.Steps.{manager_moved, moved_messages, sent_now}
 -- ---- the manager's messages
 
 module _ (v : World) (n : Names v) where
-  server : (node : NodeId) → IsServer v node → IsOf v kind.Master node
+  server : (node : NodeId) → IsAdoptedMaster v node → IsOf v kind.Master node
   server node s = subst (IsOf v kind.Master) s.its_master (n.given s.lists s.was.given).master
 
   -- what the manager has said goes to a node of the kind that it is for

@@ -19,7 +19,7 @@ use Rattle.curp_msg.specs.declared.message.Message.{Message}
 use Rattle.curp_model.specs.Manager.{Doing, Migration, Recovering, Replacing, Steady, adopted_message, expire_messages, fresh_keeper, give_message, install_on, nudge_give, nudge_moving, nudge_part, recover_messages, replace_messages, start_on, take_message}
 use Rattle.curp_model.specs.World.{World}
 use Rattle.curp_facts.specs.Facts.{ByRecovery, ByReplacement, IsAdoptedNow, IsAmong, IsGiven, Lists, WasAdopted, WasSent, lists_of_order, lists_of_part, lists_of_prepare}
-use Rattle.curp_law_names.specs.Names.{AdoptedOk, ConfigurationOk, DoingOk, IsClientNumber, IsPlaced, IsServer, ManagerSays, Names, RecoveringOk, ReplacingOk}
+use Rattle.curp_law_names.specs.Names.{AdoptedOk, ConfigurationOk, DoingOk, IsClientNumber, IsPlaced, IsAdoptedMaster, ManagerSays, Names, RecoveringOk, ReplacingOk}
 use Rattle.curp_law_names.proofs.Keeps.{entry_now}
 use Rattle.curp_law_names.proofs.Lists.{each_among, among_each}
 use Rattle.curp_law_names.proofs.Quiet.{Again, AllAgain}
@@ -33,7 +33,7 @@ module _ {w : World} (n : Names w) where
   adopted_entry c a = (n.top c (entry_now n c a)).was
 
   -- the master of a present entry
-  pub serves_now : (c : PartConfig) → IsAmong c w.manager.config.parts → IsServer w c.master
+  pub serves_now : (c : PartConfig) → IsAmong c w.manager.config.parts → IsAdoptedMaster w c.master
   serves_now c a = record { lists = lists_of_part c; was = adopted_entry c a; its_master = refl }
 
   adopted_now : (c : PartConfig) → IsAmong c w.manager.config.parts → AdoptedOk w c.master (record { part = c.part; epoch = c.epoch; version = c.version })

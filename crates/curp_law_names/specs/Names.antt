@@ -132,7 +132,7 @@ pub record AdoptedOk (w : World) (node : NodeId) (a : Adopted) : Type 0 where
   pub its_version : a.version ≡ lists.version
 
 -- a master that was adopted
-pub record IsServer (w : World) (node : NodeId) : Type 0 where
+pub record IsAdoptedMaster (w : World) (node : NodeId) : Type 0 where
   pub lists : Lists
   pub was : WasAdopted w lists
   pub its_master : lists.master ≡ node
@@ -154,9 +154,9 @@ ManagerSays w node (body.Start s) = StartOk w node s
 ManagerSays w node (body.Recover o) = OrderOk w node o
 ManagerSays w node (body.Prepare p) = PrepareOk w node p
 ManagerSays w node (body.Adopted a) = AdoptedOk w node a
-ManagerSays w node (body.TakeOut t) = IsServer w node
-ManagerSays w node (body.GiveIn g) = IsServer w node
-ManagerSays w node (body.ExpireClient client) = IsServer w node × IsClientNumber w client
+ManagerSays w node (body.TakeOut t) = IsAdoptedMaster w node
+ManagerSays w node (body.GiveIn g) = IsAdoptedMaster w node
+ManagerSays w node (body.ExpireClient client) = IsAdoptedMaster w node × IsClientNumber w client
 ManagerSays w node (body.Configuration config) = IsOf w kind.Client node × ConfigurationOk w config
 ManagerSays w node _ = ⊥
 
