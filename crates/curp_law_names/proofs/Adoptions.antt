@@ -11,7 +11,7 @@ use Rattle.curp_msg.specs.Moved.{Moved}
 use Rattle.curp_model.specs.World.{World}
 use Rattle.curp_facts.specs.Facts.{IsAdoptedNow, IsGiven, Lists, WasAdopted, lists_of_part}
 use Rattle.curp_law_names.specs.Names.{DoingOk, IsClientNumber, Names, Top}
-use Rattle.curp_law_names.proofs.Keeps.{entry_numbered, names_moved, numbered_now, top_adopted, top_stays}
+use Rattle.curp_law_names.proofs.Keeps.{chain_adopted, entry_numbered, names_moved, numbered_now, top_adopted, top_stays}
 use Rattle.curp_law_names.proofs.Later.{Later, client_later, doing_later, given_later}
 use Rattle.curp_law_names.proofs.Lists.{number_within, numbered_set_cases}
 use Rattle.curp_law_names.proofs.Moves.{Adoption, Fresh, Move, Utters}
@@ -94,6 +94,7 @@ module _ {w : World} (n : Names w) (p : ℕ) (now new : PartConfig)
     numbers = moved_numbers w n adopted events move rises;
     entries = entries_adopted;
     top = top_now;
+    chain = chain_adopted n its moves given (lists_of_part now) (n.top now (numbered_now n p now here)) (sym part) epoch version;
     doing = doing_now;
     gone = Each-weaker (IsClientNumber w) (IsClientNumber after) (client_later later) w.manager.gone n.gone;
   })
@@ -101,4 +102,4 @@ module _ {w : World} (n : Names w) (p : ℕ) (now new : PartConfig)
 -- lists that are adopted keep all
 pub adopts_good : {w : World} (n : Names w) (p : ℕ) (now new : PartConfig) → numbered w.manager.config.parts p ≡ Some now → IsGiven w (lists_of_part new)
     → new.part ≡ now.part → now.epoch ≤ new.epoch → now.version < new.version → Good w (adopts w.manager p new)
-adopts_good n p now new here given part epoch version adopted events = adoption_keeps n p now new here given part epoch version adopted events
+adopts_good n p now new here given part epoch version = ((refl, tt), λ adopted events. (adoption_keeps n p now new here given part epoch version adopted events, later n p now new here given part epoch version adopted events))

@@ -190,7 +190,7 @@ module _ (w : World) (n : Names w) (k : ℕ) (me : IsNodeOf w kind.Client k) whe
     client_hears from to (body.Worth v) sender sent = valued_goes from v (with_id v.id c.pending)
     client_hears from to (body.Rejected r) sender sent = rejected_goes r.id (with_id r.id c.pending) refl
     client_hears from to (body.Configuration config) sender sent =
-        configured_goes config (n.manager_says to (body.Configuration config) (subst (λ (x : NodeId). WasSent w (says x to (body.Configuration config))) (is_manager w from sender) sent))
+        configured_goes config (n.manager_says to (body.Configuration config) (subst (λ (x : NodeId). WasSent w (says x to (body.Configuration config))) (is_manager w from sender) sent)).1
     client_hears from to _ sender sent = rests
 
     client_told : (order : Local) → Goes (client_ordered k c order)

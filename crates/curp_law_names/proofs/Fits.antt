@@ -28,7 +28,7 @@ use Rattle.curp_model.specs.World.{World}
 use Rattle.curp_facts.specs.Facts.{AttemptWas, Lists}
 use Rattle.curp_law_names.specs.Names.{ConfigurationOk}
 use Rattle.curp_law_names.specs.Nodes.{BackupFits, BodyFits, ClientFits, EntryAsked, IsAsked, LogThere, MasterFits, MessageFits, NextGiven, PendingFits, PhaseFits, RecoveringFits, ReplyAsked, RequestsThere, ServesBy, SuspectsAsked, WitnessFits, addressee_kind, sender_kind}
-use Rattle.curp_law_names.proofs.Later.{Later, adopted_later, given_later, node_later, of_later, says_later}
+use Rattle.curp_law_names.proofs.Later.{Later, adopted_later, configuration_later, given_later, node_later, of_later}
 
 module _ {w v : World} (g : Later w v) where
   pub asked_later : (r : Request) → IsAsked w r → IsAsked v r
@@ -81,11 +81,8 @@ module _ {w v : World} (g : Later w v) where
   pending_later : (n : ℕ) (p : Pending) → PendingFits w n p → PendingFits v n p
   pending_later n p ok = record { own = ok.own; attempts = Each-weaker (AttemptWas w) (AttemptWas v) attempt_later p.attempts ok.attempts }
 
-  configuration_later : (config : Config) → ConfigurationOk w config → ConfigurationOk v config
-  configuration_later config ok = says_later g (record { kind = kind.Manager; number = 0 }) (body.Configuration config) ok
-
   pub client_fits_later : (n : ℕ) (c : ClientState) → ClientFits w n c → ClientFits v n c
-  client_fits_later n c ok = record { config = configuration_later c.config ok.config; pending = Each-weaker (PendingFits w n) (PendingFits v n) (pending_later n) c.pending ok.pending }
+  client_fits_later n c ok = record { config = configuration_later g c.config ok.config; pending = Each-weaker (PendingFits w n) (PendingFits v n) (pending_later n) c.pending ok.pending }
 
   next_later : (l : Lists) (p : Phase) → NextGiven w l p → NextGiven v l p
   next_later l Open is = tt

@@ -16,6 +16,7 @@ pub record Holds (v : World) : Type 0 where
   pub numbers : NumbersOk v
   pub entries : (k : ℕ) (c : PartConfig) → At v.manager.config.parts k c → c.part ≡ k + 1
   pub top : (c : PartConfig) → IsAdoptedNow v c → Top v (lists_of_part c)
+  pub chain : (l k : Lists) → WasAdopted v l → WasAdopted v k → l.part ≡ k.part → l.version ≤ k.version → l.epoch ≤ k.epoch
   pub doing : (c : PartConfig) (d : Doing) → IsAdoptedNow v c → numbered v.manager.doing c.part ≡ Some d → DoingOk v (lists_of_part c) d
   pub gone : Each (IsClientNumber v) v.manager.gone
 
@@ -32,6 +33,7 @@ module _ {w v : World} (n : Names w) (f : Fresh) (m : Move w v f) (fresh : Fresh
     one_order = one_order_kept n f m fresh;
     versions_apart = versions_kept n f m fresh;
     top = h.top;
+    chain = h.chain;
     doing = h.doing;
     gone = h.gone;
   }
@@ -47,6 +49,10 @@ module _ {w v : World} (n : Names w) (f : Fresh) (m : Move w v f) (fresh : Fresh
     versions = λ l was same. t.versions l (was_adopted l now other was same) same;
     last = λ l was same version. t.last l (was_adopted l now other was same) same version;
   }
+
+  -- where nothing is newly adopted, the chains stay
+  pub chain_stays : ((k : Lists) → IsNewlyAdopted f k → ⊥) → (l k : Lists) → WasAdopted v l → WasAdopted v k → l.part ≡ k.part → l.version ≤ k.version → l.epoch ≤ k.epoch
+  chain_stays none l k al ak = n.chain l k (was_adopted l l (λ x new same. none x new) al refl) (was_adopted k k (λ x new same. none x new) ak refl)
 
 -- what is newly adopted is on top, where its numbers are above
 module _ {w v : World} (n : Names w) (l : Lists) (m : Move w v (Adoption l)) (given : IsGiven w l) where
@@ -80,3 +86,18 @@ module _ {w : World} (n : Names w) where
 
   pub numbered_now : (p : ℕ) (c : PartConfig) → numbered w.manager.config.parts p ≡ Some c → IsAdoptedNow w c
   numbered_now p c here = subst (λ (i : ℕ). numbered w.manager.config.parts i ≡ Some c) (sym (entry_numbered p c here)) here
+
+-- what is newly adopted comes behind its partition's chain
+module _ {w v : World} (n : Names w) (l : Lists) (m : Move w v (Adoption l)) (given : IsGiven w l) where
+  pub chain_adopted : (now : Lists) → Top w now → now.part ≡ l.part → now.epoch ≤ l.epoch → now.version < l.version
+      → (x y : Lists) → WasAdopted v x → WasAdopted v y → x.part ≡ y.part → x.version ≤ y.version → x.epoch ≤ y.epoch
+  chain_adopted now t part epoch version x y ax ay same versions = elim (adopted_back n (Adoption l) m given x ax) [
+    | inl oldx ↦ elim (adopted_back n (Adoption l) m given y ay) [
+      | inl oldy ↦ n.chain x y oldx oldy same versions
+      | inr newy ↦ omega (arith, t.epochs x oldx (same ∙ ap (λ (z : Lists). z.part) newy ∙ sym part), epoch, ap (λ (z : Lists). z.epoch) newy)
+    ]
+    | inr newx ↦ elim (adopted_back n (Adoption l) m given y ay) [
+      | inl oldy ↦ absurd (omega (arith, t.versions y oldy (sym same ∙ ap (λ (z : Lists). z.part) newx ∙ sym part), version, versions, ap (λ (z : Lists). z.version) newx))
+      | inr newy ↦ omega (arith, ap (λ (z : Lists). z.epoch) newx, ap (λ (z : Lists). z.epoch) newy)
+    ]
+  ]

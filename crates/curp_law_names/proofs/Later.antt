@@ -1,5 +1,5 @@
 -- What was said of a world holds of a later one.
-use Rattle.std.proofs.Common.{◌≡◌, ◌≤◌, ◌<◌, ◌⊎◌, inl, inr, ℕ, ◌+◌, List, length, refl, sym, subst, arith}
+use Rattle.std.proofs.Common.{◌≡◌, ◌≤◌, ◌<◌, ◌⊎◌, inl, inr, ℕ, ◌+◌, List, length, refl, sym, ◌∙◌, subst, arith}
 use Rattle.curp_base.specs.Words.{At, Each}
 use Rattle.curp_base.proofs.Lists.{Each-weaker}
 use Rattle.curp_cmd.specs.Node.{manager_node}
@@ -12,6 +12,7 @@ use Rattle.curp_msg.specs.declared.body.Body.{Body}
 use Rattle.curp_msg.specs.declared.body.Body.TheVariants as body
 use Rattle.curp_msg.specs.declared.body.Prepare.{Prepare}
 use Rattle.curp_msg.specs.declared.body.Recover.{Recover}
+use Rattle.curp_msg.specs.declared.config.Config.{Config}
 use Rattle.curp_msg.specs.declared.config.PartConfig.{PartConfig}
 use Rattle.curp_msg.specs.declared.message.Message.{Message}
 use Rattle.curp_model.specs.Manager.{Doing, Recovering, Replacing, Shape, Steady, opening_config}
@@ -19,7 +20,7 @@ use Rattle.curp_model.specs.Named.{IsNodeOf}
 use Rattle.curp_model.specs.Ranges.{opening_range}
 use Rattle.curp_model.specs.World.{World}
 use Rattle.curp_facts.specs.Facts.{AtOpening, ByRecovery, ByReplacement, IsGiven, Lists, WasAdopted, WasSent, lists_of_part}
-use Rattle.curp_law_names.specs.Names.{AdoptedOk, ConfigurationOk, DoingOk, GivenOk, InstallOk, IsClientNumber, IsMasterOf, IsOf, IsServer, ManagerSays, OrderOk, PrepareOk, StartOk}
+use Rattle.curp_law_names.specs.Names.{AdoptedOk, ConfigurationOk, DoingOk, GivenOk, InstallOk, IsClientNumber, IsMasterOf, IsOf, IsAdoptedMaster, ManagerSays, OrderOk, PrepareOk, StartOk}
 
 -- a world after a step: the header's numbers stay, nodes and numbers grow, and what was sent was sent
 pub record Later (w v : World) : Type 0 where
@@ -31,6 +32,23 @@ pub record Later (w v : World) : Type 0 where
   pub backups : length w.backups ≤ length v.backups
   pub witnesses : length w.witnesses ≤ length v.witnesses
   pub sent : (m : Message) → WasSent w m → WasSent v m
+
+-- nothing happens
+pub later_self : (w : World) → Later w w
+later_self w = record { shape = refl; epoch = omega arith; version = omega arith; clients = omega arith; masters = omega arith; backups = omega arith; witnesses = omega arith; sent = λ m was. was }
+
+-- and then more happens
+pub later_then : {w v u : World} → Later w v → Later v u → Later w u
+later_then g k = record {
+  shape = k.shape ∙ g.shape;
+  epoch = omega (arith, g.epoch, k.epoch);
+  version = omega (arith, g.version, k.version);
+  clients = omega (arith, g.clients, k.clients);
+  masters = omega (arith, g.masters, k.masters);
+  backups = omega (arith, g.backups, k.backups);
+  witnesses = omega (arith, g.witnesses, k.witnesses);
+  sent = λ m was. k.sent m (g.sent m was);
+}
 
 module _ {w v : World} (g : Later w v) where
   pub node_later : (k : NodeKind) (n : ℕ) → IsNodeOf w k n → IsNodeOf v k n
@@ -92,11 +110,18 @@ module _ {w v : World} (g : Later w v) where
     its_version = ok.its_version;
   }
 
-  abbrev pub server_later : (node : NodeId) → IsServer w node → IsServer v node
+  abbrev pub server_later : (node : NodeId) → IsAdoptedMaster w node → IsAdoptedMaster v node
   server_later node ok = record { lists = ok.lists; was = adopted_later ok.lists ok.was; its_master = ok.its_master }
 
   pub client_later : (n : ℕ) → IsClientNumber w n → IsClientNumber v n
   client_later n is = (is.0, subst (λ (s : Shape). n ≤ s.clients) (sym g.shape) is.1)
+
+  pub configuration_later : (config : Config) → ConfigurationOk w config → ConfigurationOk v config
+  configuration_later config ok = record {
+    parts = subst (λ (s : Shape). length config.parts ≡ s.parts) (sym g.shape) ok.parts;
+    numbers = ok.numbers;
+    adopted = Each-weaker (λ (c : PartConfig). WasAdopted w (lists_of_part c)) (λ (c : PartConfig). WasAdopted v (lists_of_part c)) (λ (c : PartConfig). adopted_later (lists_of_part c)) config.parts ok.adopted;
+  }
 
   -- what the manager said stays so
   pub says_later : (node : NodeId) (b : Body) → ManagerSays w node b → ManagerSays v node b
@@ -109,11 +134,7 @@ module _ {w v : World} (g : Later w v) where
   says_later node (body.TakeOut t) ok = server_later node ok
   says_later node (body.GiveIn t) ok = server_later node ok
   says_later node (body.ExpireClient client) ok = (server_later node ok.0, client_later client ok.1)
-  says_later node (body.Configuration config) ok = record {
-    parts = subst (λ (s : Shape). length config.parts ≡ s.parts) (sym g.shape) ok.parts;
-    numbers = ok.numbers;
-    adopted = Each-weaker (λ (c : PartConfig). WasAdopted w (lists_of_part c)) (λ (c : PartConfig). WasAdopted v (lists_of_part c)) (λ (c : PartConfig). adopted_later (lists_of_part c)) config.parts ok.adopted;
-  }
+  says_later node (body.Configuration config) ok = (of_later kind.Client node ok.0, configuration_later config ok.1)
   says_later node _ ok = absurd ok
 
   -- what is being done was ordered

@@ -16,3 +16,7 @@ pub mod Keepers
 pub mod Clients
 pub mod Servings
 pub mod Recoverings
+pub mod Others
+pub mod Opened
+pub mod Runs
+pub mod Laws

@@ -29,7 +29,9 @@ use Rattle.curp_model.specs.Manager.{Attempted, Doing, ManagerState, Migration, 
 use Rattle.curp_model.specs.Ranges.{Range, range_of}
 use Rattle.curp_model.specs.World.{World}
 use Rattle.curp_facts.specs.Facts.{ByRecovery, ByReplacement, IsAdoptedNow, IsAmong, IsGiven, Lists, lists_of_order, lists_of_part}
-use Rattle.curp_law_names.specs.Names.{IsClientNumber, Names, RecoveringOk, ReplacingOk}
+use Rattle.curp_law_names.specs.Nodes.{sender_kind}
+use Rattle.curp_law_names.proofs.Keepers.{InputFits}
+use Rattle.curp_law_names.specs.Names.{IsClientNumber, IsOf, Names, RecoveringOk, ReplacingOk}
 use Rattle.curp_law_names.proofs.Adoptions.{adopts_good}
 use Rattle.curp_law_names.proofs.Keeps.{entry_now, entry_numbered, numbered_now}
 use Rattle.curp_law_names.proofs.Lists.{at_mapped, filter_among, first_among, place}
@@ -138,7 +140,7 @@ module _ {w : World} (n : Names w) where
   owner_among lo hi c is = filter_among (owns_range lo hi) w.manager.config.parts c (first_among _ c is)
 
   migrates_good : (m : Move) → IsAmong m.owner w.manager.config.parts → Good w (migrates w.manager m)
-  migrates_good m a = quietly w n (migrates w.manager m) (stays_beside w.manager _ _ _) n.gone (record { repeats = tt; is_so = serves_now n m.owner a }, tt)
+  migrates_good m a = quietly w n (migrates w.manager m) (stays_beside w.manager _ _ _) n.gone (record { from = refl; repeats = tt; is_so = serves_now n m.owner a }, tt)
 
   by_moving : (r : Range) (target owner : PartConfig) → IsAmong owner w.manager.config.parts → (busy : Bool)
       → Good w (unless_refused w.manager (migrates w.manager) (refuse_if busy 5 >>= λ _. Ok (record { range = r; owner = owner; target = target })))
@@ -173,7 +175,7 @@ module _ {w : World} (n : Names w) where
   gives_good m carried None found = rests
   gives_good m carried (Some target) found =
       let k = place w.manager.config.parts m.target target found in
-      quietly w n (gives w.manager m carried (Some target)) (stays_beside w.manager _ _ _) n.gone (record { repeats = tt; is_so = serves_now n target (record { place = k.0; stands = k.2 }) }, tt)
+      quietly w n (gives w.manager m carried (Some target)) (stays_beside w.manager _ _ _) n.gone (record { from = refl; repeats = tt; is_so = serves_now n target (record { place = k.0; stands = k.2 }) }, tt)
 
   taken_good : (t : Parcel) → Good w (on_taken w.manager t)
   unfolding on_taken
@@ -233,13 +235,13 @@ module _ {w : World} (n : Names w) where
 
   -- ---- inputs
 
-  heard_good : (from : NodeId) (b : Body) → Good w (heard w.manager from b)
-  heard_good from body.Fetch = quietly w n (heard w.manager from body.Fetch) (stays_self w.manager) n.gone (record { repeats = tt; is_so = configuration_again n }, tt)
-  heard_good from (body.Recovered r) = recovered_good r
-  heard_good from (body.Prepared version) = prepared_good version
-  heard_good from (body.Taken t) = taken_good t
-  heard_good from (body.Given number) = given_good number
-  heard_good from _ = rests
+  heard_good : (from : NodeId) (b : Body) → IsOf w (sender_kind b) from → Good w (heard w.manager from b)
+  heard_good from body.Fetch sender = quietly w n (heard w.manager from body.Fetch) (stays_self w.manager) n.gone (record { from = refl; repeats = tt; is_so = (sender, configuration_again n) }, tt)
+  heard_good from (body.Recovered r) sender = recovered_good r
+  heard_good from (body.Prepared version) sender = prepared_good version
+  heard_good from (body.Taken t) sender = taken_good t
+  heard_good from (body.Given number) sender = given_good number
+  heard_good from _ sender = rests
 
   told_good : (order : Local) → Good w (told w.manager order)
   told_good (local.Recover part backup witness) = recover_good n part backup witness
@@ -252,15 +254,15 @@ module _ {w : World} (n : Names w) where
   unless_ended : (r : Moved ManagerState) → Good w r → Good w (unless_numbers_end w.manager r)
   unless_ended r good = cond_both _ _ _ (Good w) (λ y. rests) (λ y. good)
 
-  message_good : (from : NodeId) (b : Body) → Good w (on_manager w.manager from b)
+  message_good : (from : NodeId) (b : Body) → IsOf w (sender_kind b) from → Good w (on_manager w.manager from b)
   unfolding on_manager
-  message_good from b = unless_ended (heard w.manager from b) (heard_good from b)
+  message_good from b sender = unless_ended (heard w.manager from b) (heard_good from b sender)
 
   order_good : (order : Local) → Good w (manager_ordered w.manager order)
   unfolding manager_ordered
   order_good order = unless_ended (told w.manager order) (told_good order)
 
   -- whatever comes to the manager keeps the facts of names
-  pub manager_good : (given : Input) → Good w (manager_input w.manager given)
-  manager_good (input.Local order) = order_good order
-  manager_good (input.Message m) = message_good m.from m.body
+  pub manager_good : (given : Input) → InputFits w given → Good w (manager_input w.manager given)
+  manager_good (input.Local order) fits = order_good order
+  manager_good (input.Message m) fits = message_good m.from m.body fits.sender

@@ -3,6 +3,7 @@ use Rattle.std.proofs.Common.{◌≡◌, ◌≢◌, ◌≤◌, ◌<◌, ◌⊎�
 use Rattle.std.proofs.lemmas.List.{length-map}
 use Rattle.curp_base.specs.Words.{At, Each, numbered}
 use Rattle.curp_base.proofs.Lists.{at_map, Each-weaker}
+use Rattle.curp_cmd.specs.Node.{manager_node}
 use Rattle.curp_cmd.specs.declared.node.NodeId.{NodeId}
 use Rattle.curp_msg.specs.Moved.{Moved}
 use Rattle.curp_msg.specs.declared.body.Body.{Body}
@@ -13,24 +14,29 @@ use Rattle.curp_model.specs.Manager.{Attempted, Doing, ManagerState, Migration}
 use Rattle.curp_model.specs.World.{World}
 use Rattle.curp_facts.specs.Facts.{IsAdoptedNow, IsAmong, Lists, lists_of_part}
 use Rattle.curp_law_names.specs.Names.{DoingOk, IsClientNumber, ManagerSays, Names, NumbersOk, Top}
-use Rattle.curp_law_names.proofs.Keeps.{Holds, names_moved, top_stays}
+use Rattle.curp_law_names.proofs.Keeps.{Holds, chain_stays, names_moved, top_stays}
 use Rattle.curp_law_names.proofs.Later.{Later, client_later, doing_later, says_later}
 use Rattle.curp_law_names.proofs.Lists.{at_mapped, at_place, place}
 use Rattle.curp_law_names.proofs.Moves.{Move, Nothing, Repeats, Utters}
 use Rattle.curp_law_names.proofs.Steps.{Rises, manager_moved, moved_later, moved_move, moved_numbers}
 
--- the input keeps all facts of names, whatever it adopts and whatever happens besides
-abbrev pub Good : World → Moved ManagerState → Type 0
-Good w r = (adopted : Option Attempted) (events : List Event) → Names (manager_moved w adopted events r)
+-- a message is the manager's
+abbrev pub IsManagers : Message → Type 0
+IsManagers m = m.from ≡ manager_node
 
--- what may be said without any change
-pub record Again (w : World) (node : NodeId) (b : Body) : Type 0 where
-  pub repeats : Repeats w Nothing node b
-  pub is_so : ManagerSays w node b
+-- the manager alone speaks, and the input keeps all facts of names, whatever it adopts and whatever happens besides
+abbrev pub Good : World → Moved ManagerState → Type 0
+Good w r = Each IsManagers r.messages × ((adopted : Option Attempted) (events : List Event) → Names (manager_moved w adopted events r) × Later w (manager_moved w adopted events r))
+
+-- what the manager may say without any change
+pub record Again (w : World) (m : Message) : Type 0 where
+  pub from : IsManagers m
+  pub repeats : Repeats w Nothing m.to m.body
+  pub is_so : ManagerSays w m.to m.body
 
 -- each of these messages may be said
 abbrev pub AllAgain : World → List Message → Type 0
-AllAgain w out = Each (λ (m : Message). Again w m.to m.body) out
+AllAgain w out = Each (Again w) out
 
 -- the entries have the lists that they had, nothing else is done, and no number was taken
 pub record Stays (g k : ManagerState) : Type 0 where
@@ -75,7 +81,7 @@ module _ {w v : World} (n : Names w) (m : Move w v Nothing) (numbers : NumbersOk
 
   -- nothing is new
   pub names_stay : Names v
-  names_stay = names_moved n Nothing m tt (record { numbers = numbers; entries = entries_stay; top = top_now; doing = doing_now; gone = gone })
+  names_stay = names_moved n Nothing m tt (record { numbers = numbers; entries = entries_stay; top = top_now; chain = chain_stays n Nothing m tt (λ k new. new); doing = doing_now; gone = gone })
 
 -- ---- inputs to the manager
 
@@ -98,15 +104,15 @@ module _ (w : World) (n : Names w) (r : Moved ManagerState) where
 
   -- an input that changes no name, and says what may be said, keeps all
   pub quietly : Stays w.manager r.state → Each (IsClientNumber w) r.state.gone → AllAgain w r.messages → Good w r
-  quietly s gone says adopted events =
+  quietly s gone says = (Each-weaker (Again w) IsManagers (λ (m : Message) a. a.from) r.messages says, λ adopted events.
       let v : World = manager_moved w adopted events r in
       let up : Rises w.manager r.state = stays_rises s in
       let later : Later w v = moved_later w n adopted events r up in
-      names_stay n
-          (moved_move w n adopted events r up Nothing (Each-weaker (λ (m : Message). Again w m.to m.body) (λ (m : Message). Utters w v Nothing m.to m.body)
+      (names_stay n
+          (moved_move w n adopted events r up Nothing (Each-weaker (Again w) (λ (m : Message). Utters w v Nothing m.to m.body)
               (λ (m : Message) a. record { repeats = a.repeats; is_so = says_later later m.to m.body a.is_so }) r.messages says))
           (moved_numbers w n adopted events r up) s.lists s.doing
-          (Each-weaker (IsClientNumber w) (IsClientNumber v) (client_later later) r.state.gone gone)
+          (Each-weaker (IsClientNumber w) (IsClientNumber v) (client_later later) r.state.gone gone), later))
 
 -- the state itself stays
 pub stays_self : (g : ManagerState) → Stays g g

@@ -8,7 +8,8 @@ use Rattle.curp_cmd.specs.Node.{manager_node, master_node}
 use Rattle.curp_cmd.specs.declared.node.NodeId.{NodeId}
 use Rattle.curp_cmd.specs.declared.node.NodeKind.{NodeKind}
 use Rattle.curp_cmd.specs.declared.node.NodeKind.TheVariants as kind
-use Rattle.curp_msg.specs.Moved.{refuses, says, unless_refused}
+use Rattle.curp_msg.specs.Moved.{refuses, says, says_each, unless_refused}
+use Rattle.curp_msg.specs.declared.body.Body.{Body}
 use Rattle.curp_msg.specs.declared.body.Body.TheVariants as body
 use Rattle.curp_msg.specs.declared.body.Recover.{Recover}
 use Rattle.curp_msg.specs.declared.config.PartConfig.{PartConfig}
@@ -24,7 +25,7 @@ use Rattle.curp_law_names.proofs.Lists.{among_each, each_among, place as place_o
 use Rattle.curp_law_names.proofs.Moves.{Fresh, FreshLists, FreshRecovery, Recovery, Utters}
 use Rattle.curp_law_names.proofs.Named.{in_row, row_differs, row_each, row_length}
 use Rattle.curp_law_names.proofs.Orders.{NumbersRise, ordered_keeps, orders, orders_rises}
-use Rattle.curp_law_names.proofs.Quiet.{Good, quietly, stays_self}
+use Rattle.curp_law_names.proofs.Quiet.{Good, IsManagers, quietly, stays_self}
 use Rattle.curp_law_names.proofs.Steps.{Rises, manager_moved, moved_later, moved_messages, moved_numbers, sent_now}
 
 module _ {w : World} (n : Names w) (p : ℕ) (c : PartConfig) (here : numbered w.manager.config.parts p ≡ Some c)
@@ -136,6 +137,14 @@ module _ {w : World} (n : Names w) (p : ℕ) (c : PartConfig) (here : numbered w
 
 -- ---- the order, or its refusal
 
+-- the manager says the same to each
+pub each_from : (nodes : List NodeId) (b : Body) → Each IsManagers (says_each manager_node nodes b)
+each_from nodes b = Each-map IsManagers (λ (to : NodeId). says manager_node to b) nodes (each_among (λ (to : NodeId). IsManagers (says manager_node to b)) nodes (λ to a. refl))
+
+recover_from : (master : ℕ) (o : Recover) → Each IsManagers (recover_messages (master_node master) o)
+recover_from master o = Each-append IsManagers (install_on o.epoch o.backups ++ start_on o.part o.epoch o.witnesses) _
+    (Each-append IsManagers (install_on o.epoch o.backups) (start_on o.part o.epoch o.witnesses) (each_from o.backups (body.Install o.epoch)) (each_from o.witnesses (body.Start (record { part = o.part; epoch = o.epoch })))) (refl, tt)
+
 module _ {w : World} (n : Names w) where
   -- a refusal changes nothing
   pub refused_good : (number : ℕ) → Good w (refuses w.manager number)
@@ -147,7 +156,7 @@ module _ {w : World} (n : Names w) where
   by_witness p c here from named place None found = refused_good 3
   by_witness p c here from named place (Some other) found =
       let at = place_of c.witnesses place other found in
-      λ adopted events. recovery_keeps n p c here from other named (record { place = at.0; stands = at.2 }) adopted events
+      (recover_from w.manager.next.master (recover_order w.manager c from other), λ adopted events. (recovery_keeps n p c here from other named (record { place = at.0; stands = at.2 }) adopted events, later n p c here from other named (record { place = at.0; stands = at.2 }) adopted events))
 
   by_backup : (p : ℕ) (c : PartConfig) → numbered w.manager.config.parts p ≡ Some c → (backup witness : ℕ) (o : Option NodeId) → numbered c.backups backup ≡ o
       → Good w (unless_refused w.manager (recovers w.manager p)

@@ -47,6 +47,11 @@ replay_fits w lo hi (r ∷ rs) log ok all = cond_both (replays (meaning lo hi lo
     (λ y. replay_fits w lo hi rs (log ++ Op r 0 ∷ []) (Each-append (EntryAsked w) log _ ok (all.0, tt)) all.1)
     (λ y. replay_fits w lo hi rs log ok all.1)
 
+-- a message that comes to master k is for it
+abbrev pub IsForMaster : ℕ → Input → Type 0
+IsForMaster k (input.Local order) = ⊤
+IsForMaster k (input.Message m) = m.to ≡ master_node k
+
 module _ (w : World) (n : Names w) (k : ℕ) (me : IsNodeOf w kind.Master k) where
   abbrev Goes : Moved RecoveryState → Type 0
   Goes r = RecoveringFits w k r.state × AllSaid w (master_node k) r.messages
@@ -187,12 +192,7 @@ module _ (w : World) (n : Names w) (k : ℕ) (me : IsNodeOf w kind.Master k) whe
   master_told (Recovering s) ok order = recovery_told s ok order
   master_told (Serving m) ok order = serving_told w n k me m ok order
 
-  -- a message that comes to the master is for it
-  abbrev pub IsForMaster : Input → Type 0
-  IsForMaster (input.Local order) = ⊤
-  IsForMaster (input.Message m) = m.to ≡ master_node k
-
   -- what comes to a master
-  pub master_fits : (m : MasterStage) → MasterFits w k m → (given : Input) → Arrives w given → IsForMaster given → MasterFits w k (master_input k m given).state × AllSaid w (master_node k) (master_input k m given).messages
+  pub master_fits : (m : MasterStage) → MasterFits w k m → (given : Input) → Arrives w given → IsForMaster k given → MasterFits w k (master_input k m given).state × AllSaid w (master_node k) (master_input k m given).messages
   master_fits m ok (input.Local order) comes here = master_told m ok order
   master_fits m ok (input.Message x) comes here = master_hears m ok x.from x.to x.body comes.0.sender comes.0.fits here comes.1

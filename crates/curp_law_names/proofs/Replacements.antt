@@ -26,7 +26,7 @@ use Rattle.curp_law_names.proofs.Lists.{among_each, place as place_of}
 use Rattle.curp_law_names.proofs.Moves.{FreshLists, FreshReplacement, Replacement, Utters}
 use Rattle.curp_law_names.proofs.Named.{Renewed, renewed_self, renewed_set}
 use Rattle.curp_law_names.proofs.Orders.{NumbersRise, ordered_keeps, orders_rises}
-use Rattle.curp_law_names.proofs.Quiet.{Good}
+use Rattle.curp_law_names.proofs.Quiet.{Good, IsManagers}
 use Rattle.curp_law_names.proofs.Recoveries.{refused_good}
 use Rattle.curp_law_names.proofs.Steps.{Rises, manager_moved, moved_later, moved_messages, moved_numbers, sent_now}
 
@@ -160,13 +160,17 @@ module _ {w : World} (n : Names w) (p : ℕ) (c : PartConfig) (here : numbered w
 
 -- ---- the order, or its refusal
 
+replace_from : (c : PartConfig) (k : Keeper) (fresh : NodeId) (p : Prepare) → Each IsManagers (replace_messages c k fresh p.version p.backups p.witnesses)
+replace_from c keeper.Backup fresh p = (refl, (refl, tt))
+replace_from c keeper.Witness fresh p = (refl, (refl, tt))
+
 module _ {w : World} (n : Names w) where
   by_doing : (p : ℕ) (k : Keeper) (place : ℕ) (c : PartConfig) → numbered w.manager.config.parts p ≡ Some c → (old : NodeId) → numbered (keepers_of c k) place ≡ Some old
       → (recovering replacing : Bool)
       → Good w (unless_refused w.manager (replaces w.manager p k place) (refuse_if recovering 3 >>= λ _. refuse_if replacing 4 >>= λ _. Ok c))
   by_doing p k place c here old found true replacing = refused_good n 3
   by_doing p k place c here old found false true = refused_good n 4
-  by_doing p k place c here old found false false = λ adopted events. replacement_keeps n p c here k place old found adopted events
+  by_doing p k place c here old found false false = (replace_from c k (fresh_node w.manager k) (record { version = w.manager.next.version; backups = new_backups c k place (fresh_node w.manager k); witnesses = new_witnesses c k place (fresh_node w.manager k) }), λ adopted events. (replacement_keeps n p c here k place old found adopted events, later n p c here k place old found adopted events k))
 
   by_place : (p : ℕ) (k : Keeper) (place : ℕ) (c : PartConfig) → numbered w.manager.config.parts p ≡ Some c → (o : Option NodeId) → numbered (keepers_of c k) place ≡ o
       → Good w (unless_refused w.manager (replaces w.manager p k place)

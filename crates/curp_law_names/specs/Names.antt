@@ -132,7 +132,7 @@ pub record AdoptedOk (w : World) (node : NodeId) (a : Adopted) : Type 0 where
   pub its_version : a.version ≡ lists.version
 
 -- a master that was adopted
-pub record IsServer (w : World) (node : NodeId) : Type 0 where
+pub record IsAdoptedMaster (w : World) (node : NodeId) : Type 0 where
   pub lists : Lists
   pub was : WasAdopted w lists
   pub its_master : lists.master ≡ node
@@ -154,10 +154,10 @@ ManagerSays w node (body.Start s) = StartOk w node s
 ManagerSays w node (body.Recover o) = OrderOk w node o
 ManagerSays w node (body.Prepare p) = PrepareOk w node p
 ManagerSays w node (body.Adopted a) = AdoptedOk w node a
-ManagerSays w node (body.TakeOut t) = IsServer w node
-ManagerSays w node (body.GiveIn g) = IsServer w node
-ManagerSays w node (body.ExpireClient client) = IsServer w node × IsClientNumber w client
-ManagerSays w node (body.Configuration config) = ConfigurationOk w config
+ManagerSays w node (body.TakeOut t) = IsAdoptedMaster w node
+ManagerSays w node (body.GiveIn g) = IsAdoptedMaster w node
+ManagerSays w node (body.ExpireClient client) = IsAdoptedMaster w node × IsClientNumber w client
+ManagerSays w node (body.Configuration config) = IsOf w kind.Client node × ConfigurationOk w config
 ManagerSays w node _ = ⊥
 
 -- ---- the top, and what is being done
@@ -215,6 +215,8 @@ pub record Names (w : World) : Type 0 where
   pub versions_apart : (node other : NodeId) (o : Recover) (p : Prepare) → WasSent w (says manager_node node (body.Recover o))
       → WasSent w (says manager_node other (body.Prepare p)) → o.version ≢ p.version
   pub top : (c : PartConfig) → IsAdoptedNow w c → Top w (lists_of_part c)
+  -- of the adopted lists of a partition, those of a larger version have no smaller epoch
+  pub chain : (l k : Lists) → WasAdopted w l → WasAdopted w k → l.part ≡ k.part → l.version ≤ k.version → l.epoch ≤ k.epoch
   pub doing : (c : PartConfig) (d : Doing) → IsAdoptedNow w c → numbered w.manager.doing c.part ≡ Some d → DoingOk w (lists_of_part c) d
   -- who is gone is a client of the header
   pub gone : Each (IsClientNumber w) w.manager.gone

@@ -20,7 +20,7 @@ use Rattle.curp_msg.specs.declared.message.Message.{Message}
 use Rattle.curp_model.specs.Backup.{BackupState}
 use Rattle.curp_model.specs.Client.{ClientState, Pending}
 use Rattle.curp_model.specs.Master.{Captured, MasterState, Open, Phase, Switching}
-use Rattle.curp_model.specs.Named.{IsNodeOf}
+use Rattle.curp_model.specs.Named.{IsNode, IsNodeOf}
 use Rattle.curp_model.specs.Recovery.{Asking, Fresh, MasterStage, Recovering, RecoveryPhase, RecoveryState, Serving, Storing, Waiting}
 use Rattle.curp_model.specs.Witness.{HeldRequest, WitnessState}
 use Rattle.curp_model.specs.World.{World, messages}
@@ -216,3 +216,17 @@ pub record Nodes (w : World) : Type 0 where
   pub masters : (n : ℕ) (m : MasterStage) → numbered w.masters n ≡ Some m → MasterFits w n m
   pub backups : (n : ℕ) (b : BackupState) → numbered w.backups n ≡ Some b → BackupFits w b
   pub witnesses : (n : ℕ) (x : WitnessState) → numbered w.witnesses n ≡ Some x → WitnessFits w x
+
+-- a message goes from a node of the world to a node of the world
+pub record IsBetweenNodes (w : World) (m : Message) : Type 0 where
+  pub sender : IsNode w m.from
+  pub addressee : IsNode w m.to
+
+-- an answer to a client goes to the client whose request it is about
+abbrev pub GoesHome : NodeId → Body → Type 0
+GoesHome to (body.Reply r) = to ≡ client_node r.id.client
+GoesHome to (body.Worth v) = to ≡ client_node v.id.client
+GoesHome to (body.Refuse r) = to ≡ client_node r.id.client
+GoesHome to (body.Accepted a) = to ≡ client_node a.id.client
+GoesHome to (body.Rejected r) = to ≡ client_node r.id.client
+GoesHome to _ = ⊤
