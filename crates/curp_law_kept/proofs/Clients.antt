@@ -1,0 +1,216 @@
+-- An input to a client keeps what nodes and messages keep.
+use Rattle.std.proofs.Common.{◌≡◌, ◌≢◌, ◌⊎◌, inl, inr, ℕ, zero, suc, ◌+◌, ◌<◌, ◌≤◌, true, false, List, [], ◌∷◌, ◌++◌, length, refl, ap, sym, ◌∙◌, subst, arith, Option, Some, None}
+use Rattle.std.specs.Bool.{⊤}
+use Rattle.curp_base.specs.Words.{At, Each, numbered}
+use Rattle.curp_base.proofs.Lists.{Each-at, Each-weaker, at_append_cases, at_one, at_same}
+use Rattle.curp_cmd.specs.Node.{client_node}
+use Rattle.curp_cmd.specs.Store.{is_update}
+use Rattle.curp_cmd.specs.declared.command.Answer.{Answer}
+use Rattle.curp_cmd.specs.declared.command.Command.{Command}
+use Rattle.curp_cmd.specs.declared.command.Request.{Request}
+use Rattle.curp_cmd.specs.declared.command.RequestId.{RequestId}
+use Rattle.curp_cmd.specs.declared.node.NodeId.{NodeId}
+use Rattle.curp_msg.specs.Moved.{Moved, says}
+use Rattle.curp_msg.specs.declared.body.Body.{Body}
+use Rattle.curp_msg.specs.declared.body.Body.TheVariants as body
+use Rattle.curp_msg.specs.declared.body.Rejected.{Rejected}
+use Rattle.curp_msg.specs.declared.body.Reply.{Reply}
+use Rattle.curp_msg.specs.declared.config.PartConfig.{PartConfig}
+use Rattle.curp_msg.specs.declared.machine.Completed.{Completed}
+use Rattle.curp_msg.specs.declared.machine.Input.{Input}
+use Rattle.curp_msg.specs.declared.machine.Input.TheVariants as input
+use Rattle.curp_msg.specs.declared.machine.Local.TheVariants as local
+use Rattle.curp_msg.specs.declared.message.Message.{Message}
+use Rattle.curp_order.specs.Order.{IsHistory}
+use Rattle.curp_order.specs.declared.Event.{Event}
+use Rattle.curp_order.specs.declared.Event.TheVariants.{Invoke, Complete}
+use Rattle.curp_model.specs.Client.{ClientState, client_input}
+use Rattle.curp_model.specs.World.{World, completion, invocation_of}
+use Rattle.curp_facts.specs.ClientNumbers.{CompletedBelow, IsAsked, IsInvoked, NumbersOk}
+use Rattle.curp_facts.specs.Entries.{RequestOk}
+use Rattle.curp_facts.specs.Facts.{Completable, EntryWas, WasSent, lists_of_part}
+use Rattle.curp_facts.specs.Nodes.{ClientOk, CompletedBy, MayCome}
+use Rattle.curp_facts.specs.Said.{AskSaid, RejectedSaid, ReplySaid, Says, WorthSaid}
+use Rattle.curp_law_growth.proofs.Deeds.{IsFor}
+use Rattle.curp_law_keepers.specs.ClientEffect.{BySynced, ByAccepts, ByValue, ClientAsks, ClientEffect, ClientSays, CompletionOk, InputSuitsClient, MayComplete, ReadCompletes, SuitsClient, UpdateCompletes, events_after}
+use Rattle.curp_law_keepers.proofs.ClientLater.{others_stay}
+use Rattle.curp_law_keepers.proofs.Clients.{client_effect}
+use Rattle.curp_law_kept.proofs.Known.{Known, knows_later, said}
+use Rattle.curp_law_stays.proofs.Nodes.{completable_later, completed_by_later}
+use Rattle.curp_law_stays.proofs.Words.{Follows, sent_later}
+
+module _ {w : World} (known : Known w) (n : ℕ) (given : Input) (for : IsFor w (client_node n) given) (c : ClientState)
+    (was : numbered w.clients n ≡ Some c) (made : (client_input n c given).refused ≡ 0) where
+  abbrev Came : NodeId → Body → Type 0
+  Came = MayCome w n
+
+  before : ClientOk w n c
+  before = known.inv.clients n c was
+
+  -- ---- what comes to it suits
+
+  one_command : {events : List Event} → IsHistory events → (i j : ℕ) (id : RequestId) (x y : Command) → At events i (Invoke id x) → At events j (Invoke id y) → x ≡ y
+  one_command {events} h i j id x y a b = same (at_same events i (Invoke id x) (Invoke id y) a (subst (λ (k : ℕ). At events k (Invoke id y)) (sym (h.invoked_once i j id x y a b)) b))
+    where
+      same : Invoke id x ≡ Invoke id y → x ≡ y
+      same e = cc
+
+  suits : (given : Input) → IsFor w (client_node n) given → InputSuitsClient Came (EntryWas w) w.history given
+  suits (input.Local order) meant = tt
+  suits (input.Message m) meant = (came, body_suits m.body came)
+    where
+      came : Came m.from m.body
+      came = subst (λ (to : NodeId). WasSent w (says m.from to m.body)) meant.0 meant.1
+
+      body_suits : (b : Body) → Came m.from b → SuitsClient (EntryWas w) w.history b
+      body_suits (body.Configuration config) sent = said known m.from (client_node n) (body.Configuration config) sent
+      body_suits (body.Rejected r) sent =
+          let ok : RejectedSaid w (client_node n) r = said known m.from (client_node n) (body.Rejected r) sent in
+          λ q its asked. subst (λ (x : Command). is_update x ≡ true)
+            (one_command known.inv.history ok.place asked.0 r.id ok.command q.command ok.invoked (subst (λ (id : RequestId). At w.history asked.0 (Invoke id q.command)) its asked.1)) ok.updates
+      body_suits _ sent = tt
+
+  -- what the input does to it
+  pub effect : ClientEffect (MayCome w n) (EntryWas w) n (events_after n w.history c given (client_input n c given)) c (client_input n c given)
+  effect = client_effect Came (EntryWas w) n w.history c known.inv.history before.numbers before.knows given (suits given for) made
+
+  -- each of its messages is its own
+  pub client_messages : Each (λ (m : Message). m.from ≡ client_node n) (client_input n c given).messages
+  client_messages = Each-weaker (ClientSays (EntryWas w) n (events_after n w.history c given (client_input n c given))) (λ (m : Message). m.from ≡ client_node n) (λ m k. k.sender) (client_input n c given).messages effect.says
+
+module _ {w v : World} (known : Known w) (n : ℕ) (given : Input) (for : IsFor w (client_node n) given) (c : ClientState)
+    (was : numbered w.clients n ≡ Some c) (made : (client_input n c given).refused ≡ 0) (s : Follows w v) (later : v.history ≡ events_after n w.history c given (client_input n c given)) where
+  its : ClientEffect (MayCome w n) (EntryWas w) n (events_after n w.history c given (client_input n c given)) c (client_input n c given)
+  its = effect known n given for c was made
+
+  -- ---- its state, and those of the others
+
+  pub client_keeps : ClientOk v n (client_input n c given).state
+  client_keeps = record {
+    numbers = subst (λ (h : List Event). NumbersOk n h (client_input n c given).state) (sym later) its.numbers;
+    knows = knows_later w v s n (client_input n c given).state its.knows;
+  }
+
+  pub other_client_keeps : (m : ℕ) → m ≢ n → (d : ClientState) → numbered w.clients m ≡ Some d → ClientOk v m d
+  other_client_keeps m other d here =
+      let ok = known.inv.clients m d here in
+      record {
+        numbers = subst (λ (h : List Event). NumbersOk m h d) (sym later) (others_stay (MayCome w n) (EntryWas w) n w.history c (known.inv.clients n c was).numbers given (client_input n c given) its.completes m other d ok.numbers);
+        knows = knows_later w v s m d ok.knows;
+      }
+
+  -- ---- the history
+
+  pub history_keeps : IsHistory v.history
+  history_keeps = subst IsHistory (sym later) its.history
+
+  synced_completes : (done : Completed) → BySynced (MayCome w n) done.id done.answer → CompletedBy w done.id done.answer
+  synced_completes done e =
+      let ok : ReplySaid w e.from (client_node n) e.reply = said known e.from (client_node n) (body.Reply e.reply) e.came in
+      inl (ok.speaks.lists.part, inl (record {
+        lists = ok.speaks.lists;
+        given = ok.speaks.adopted.given;
+        its_part = refl;
+        reply = e.reply;
+        sent = subst (λ (from : NodeId). WasSent w (says from (client_node e.reply.id.client) (body.Reply e.reply))) (sym ok.speaks.its_master)
+            (subst (λ (to : NodeId). WasSent w (says e.from to (body.Reply e.reply))) ok.addressee e.came);
+        its_id = e.its_id;
+        its_answer = e.its_answer;
+        is_synced = e.is_synced;
+      }))
+
+  accepts_complete : (done : Completed) → ByAccepts (MayCome w n) (EntryWas w) done.id done.answer → CompletedBy w done.id done.answer
+  accepts_complete done e =
+      let ok : ReplySaid w e.part.master (client_node n) e.reply = said known e.part.master (client_node n) (body.Reply e.reply) e.came in
+      let client : client_node n ≡ client_node done.id.client = ok.addressee ∙ ap (λ (id : RequestId). client_node id.client) e.its_id in
+      inl (e.part.part, inr (record {
+        lists = lists_of_part e.part;
+        given = e.adopted.adopted.given;
+        its_part = refl;
+        reply = e.reply;
+        sent = subst (λ (to : NodeId). WasSent w (says e.part.master to (body.Reply e.reply))) ok.addressee e.came;
+        its_id = e.its_id;
+        its_answer = e.its_answer;
+        is_early = e.unsynced;
+        its_epoch = e.epoch;
+        its_version = e.version;
+        accepts = Each-weaker (Accepts (client_node n)) (Accepts (client_node done.id.client)) (λ x sent. subst (λ (to : NodeId). Accepts to x) client sent) e.part.witnesses e.accepts;
+      }))
+    where
+      Accepts : NodeId → NodeId → Type 0
+      Accepts to x = WasSent w (says x to (body.Accepted (record { id = done.id; epoch = e.part.epoch })))
+
+  value_completes : (done : Completed) → ByValue (MayCome w n) done.id done.answer done.by → CompletedBy w done.id done.answer
+  value_completes done e =
+      let ok : WorthSaid w e.from (client_node n) e.value = said known e.from (client_node n) (body.Worth e.value) e.came in
+      let client : client_node n ≡ client_node done.id.client = ok.addressee ∙ ap (λ (id : RequestId). client_node id.client) e.its_id in
+      inr (e.from, e.value, subst (λ (to : NodeId). WasSent w (says e.from to (body.Worth e.value))) client e.came, e.its_id, e.its_answer)
+
+  completes : (done : Completed) → CompletionOk (MayCome w n) (EntryWas w) c done → CompletedBy w done.id done.answer
+  completes done ok = elim ok.evidence [
+    | inl u ↦ elim u.evidence [ inl e ↦ synced_completes done e | inr e ↦ accepts_complete done e ]
+    | inr r ↦ value_completes done r.evidence
+  ]
+
+  pub completed_keeps : (i : ℕ) (id : RequestId) (a : Answer) → At v.history i (Complete id a) → CompletedBy v id a
+  completed_keeps i id a at = elim (at_append_cases (w.history ++ invoked) (completion done) i (Complete id a) (subst (λ (h : List Event). At h i (Complete id a)) later at)) [
+    | inl old ↦ elim (at_append_cases w.history invoked i (Complete id a) old) [
+      | inl h ↦ completed_by_later s id a (known.inv.completed i id a h)
+      | inr h ↦ absurd (no_completion given h.0 h.2)
+    ]
+    | inr new ↦ completed_by_later s id a (now done its.completes new.0 new.2)
+  ]
+    where
+      invoked : List Event
+      invoked = invocation_of (client_node n) (Some c) given
+
+      done : Option Completed
+      done = (client_input n c given).completed
+
+      no_completion : (g : Input) (j : ℕ) → At (invocation_of (client_node n) (Some c) g) j (Complete id a) → ⊥
+      no_completion (input.Local (local.Invoke command)) j h = let o = at_one _ j (Complete id a) h in other o.1
+        where
+          other : {x : RequestId} {y : Command} → Invoke x y ≡ Complete id a → ⊥
+          other e = cc
+      no_completion (input.Local _) j h = absurd cc
+      no_completion (input.Message m) j h = absurd cc
+
+      now : (o : Option Completed) → MayComplete (MayCome w n) (EntryWas w) c o → (j : ℕ) → At (completion o) j (Complete id a) → CompletedBy w id a
+      now None ok j h = absurd cc
+      now (Some d) ok j h =
+          let e = (at_one (Complete d.id d.answer) j (Complete id a) h).1 in
+          subst (CompletedBy w id) (answers e) (subst (λ (x : RequestId). CompletedBy w x d.answer) (ids e) (completes d ok))
+        where
+          ids : {x : RequestId} {y : Answer} → Complete x y ≡ Complete id a → x ≡ id
+          ids e = cc
+
+          answers : {x : RequestId} {y : Answer} → Complete x y ≡ Complete id a → y ≡ a
+          answers e = cc
+
+  -- ---- what it says
+
+  asked_now : (r : Request) → IsAsked n (events_after n w.history c given (client_input n c given)) r → AskSaid v (client_node n) r
+  asked_now r ok = record {
+    request = record {
+      place = ok.invoked.0;
+      invoked = subst (λ (h : List Event). At h ok.invoked.0 (Invoke r.id r.command)) (sym later) ok.invoked.1;
+      first = ok.own_first;
+      completed = subst (λ (h : List Event). CompletedBelow h r.id.client r.first) (sym later) (subst (λ (k : ℕ). CompletedBelow (events_after n w.history c given (client_input n c given)) k r.first) (sym ok.client) ok.below);
+    };
+    sender = ap client_node (sym ok.client);
+  }
+
+  pub client_says : (place : ℕ) (m : Message) → ClientSays (EntryWas w) n (events_after n w.history c given (client_input n c given)) m → Says v place m.from m.to m.body
+  client_says place m ok = subst (λ (from : NodeId). Says v place from m.to m.body) (sym ok.sender) (go m.to m.body ok.says_so)
+    where
+      go : (to : NodeId) (b : Body) → ClientAsks (EntryWas w) n (events_after n w.history c given (client_input n c given)) to b → Says v place (client_node n) to b
+      go to (body.Update ask) k = record { asked = asked_now ask.request k.0.asked; updates = k.1 }
+      go to (body.Sync ask) k = record { asked = asked_now ask.request k.0.asked; updates = k.1 }
+      go to (body.Read ask) k = record { asked = asked_now ask.request k.0.asked; reads = k.1 }
+      go to (body.Record r) k = record { asked = asked_now r.request k.0.asked; updates = k.1 }
+      go to body.Fetch k = tt
+      go to _ k = absurd k
+
+  -- each of its messages says so
+  pub client_said : (j : ℕ) (m : Message) → At (client_input n c given).messages j m → (place : ℕ) → Says v place m.from m.to m.body
+  client_said j m at place = client_says place m (Each-at (ClientSays (EntryWas w) n (events_after n w.history c given (client_input n c given))) (client_input n c given).messages its.says j m at)
