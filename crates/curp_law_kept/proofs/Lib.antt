@@ -5,3 +5,4 @@ pub mod Witnesses
 pub mod Clients
 pub mod Others
 pub mod ClientSteps
+pub mod KeeperSteps
