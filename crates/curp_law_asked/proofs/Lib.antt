@@ -1,3 +1,4 @@
 pub mod MasterSpeaks
 pub mod RecoverySpeaks
 pub mod ManagerSpeaks
+pub mod AskedStays
