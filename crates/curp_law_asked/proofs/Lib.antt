@@ -2,3 +2,4 @@ pub mod MasterSpeaks
 pub mod RecoverySpeaks
 pub mod ManagerSpeaks
 pub mod AskedStays
+pub mod AskedSaid
