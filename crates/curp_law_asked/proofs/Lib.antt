@@ -3,3 +3,4 @@ pub mod RecoverySpeaks
 pub mod ManagerSpeaks
 pub mod AskedStays
 pub mod AskedSaid
+pub mod AskedSteps
