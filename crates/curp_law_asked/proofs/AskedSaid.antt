@@ -1,9 +1,8 @@
 -- What each node says was asked for.
-use Rattle.std.proofs.Common.{◌≡◌, ◌⊎◌, inl, inr, ℕ, true, List, Some, refl, ap, sym, ◌∙◌, subst}
-use Rattle.std.specs.Bool.{⊤}
+use Rattle.std.proofs.Common.{◌≡◌, inl, inr, ℕ, true, List, ap, sym, ◌∙◌, subst}
 use Rattle.curp_base.specs.Words.{At, Each}
-use Rattle.curp_base.proofs.Lists.{Each-at, Each-from_at, Each-weaker, at_same}
-use Rattle.curp_cmd.specs.Node.{client_node, witness_node}
+use Rattle.curp_base.proofs.Lists.{Each-from_at, Each-weaker, at_same}
+use Rattle.curp_cmd.specs.Node.{client_node}
 use Rattle.curp_cmd.specs.Store.{is_update}
 use Rattle.curp_cmd.specs.declared.command.Command.{Command}
 use Rattle.curp_cmd.specs.declared.command.Request.{Request}

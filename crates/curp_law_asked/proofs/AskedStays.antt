@@ -1,7 +1,6 @@
 -- What was asked for stays so, as the history grows, more is sent and more is adopted.
-use Rattle.std.proofs.Common.{◌≡◌, ◌⊎◌, inl, inr, ℕ, List, Some, refl, subst}
-use Rattle.std.specs.Bool.{⊤}
-use Rattle.curp_base.specs.Words.{At, Each, IsPrefix}
+use Rattle.std.proofs.Common.{inl, inr, ℕ, List, subst}
+use Rattle.curp_base.specs.Words.{IsPrefix}
 use Rattle.curp_base.proofs.Lists.{Each-weaker}
 use Rattle.curp_cmd.specs.declared.command.Answer.{Answer}
 use Rattle.curp_cmd.specs.declared.command.Request.{Request}
@@ -15,7 +14,7 @@ use Rattle.curp_msg.specs.declared.config.PartConfig.{PartConfig}
 use Rattle.curp_msg.specs.declared.machine.Completed.{Completed}
 use Rattle.curp_order.specs.declared.Event.{Event}
 use Rattle.curp_model.specs.Witness.{WitnessState}
-use Rattle.curp_law_keepers.specs.ClientEffect.{ByAccepts, BySynced, ByValue, ReadCompletes, UpdateCompletes}
+use Rattle.curp_law_keepers.specs.ClientEffect.{ByAccepts, BySynced, ReadCompletes, UpdateCompletes}
 use Rattle.curp_law_keepers.specs.ClientNumbers.{IsAsked}
 use Rattle.curp_law_keepers.proofs.Histories.{asked_later}
 use Rattle.curp_law_asked.specs.Asked.{BodyAsked, CompletedBy, HoldsAsked, IdAsked, ReadAsked, SuspectsAsked, UpdateAsked}

@@ -1,17 +1,13 @@
 -- Each step of any world keeps what was asked for.
-use Rattle.std.proofs.Common.{◌≡◌, ◌≢◌, ◌⊎◌, inl, inr, ℕ, zero, suc, ◌+◌, ◌-◌, ◌==◌, Bool, true, false, not, List, [], ◌∷◌, ◌++◌, set, append-nil, Option, Some, None, refl, ap, sym, ◌∙◌, subst, arith}
+use Rattle.std.proofs.Common.{◌≡◌, ◌⊎◌, inl, inr, ℕ, List, [], ◌++◌, append-nil, Option, Some, None, refl, ap, sym, ◌∙◌, subst}
 use Rattle.std.specs.Bool.{⊤}
 use Rattle.std.specs.List.{IsDistinct}
-use Rattle.std.proofs.lemmas.Bool.Decides.{nat_tests}
-use Rattle.curp_base.specs.Cases.{first_case, only_if}
-use Rattle.curp_base.specs.Words.{At, Each, IsPrefix, all_of, numbered}
+use Rattle.curp_base.specs.Words.{At, Each, IsPrefix, numbered}
 use Rattle.curp_base.proofs.Lists.{Each-append, Each-at, Each-weaker, at_append_cases, at_one, prefix_at, prefix_push, prefix_trans}
 use Rattle.curp_cmd.specs.Node.{client_node}
 use Rattle.curp_cmd.specs.declared.command.Answer.{Answer}
 use Rattle.curp_cmd.specs.declared.command.RequestId.{RequestId}
 use Rattle.curp_cmd.specs.declared.node.NodeId.{NodeId}
-use Rattle.curp_cmd.specs.declared.node.NodeKind.{NodeKind}
-use Rattle.curp_cmd.specs.declared.node.NodeKind.TheVariants as kind
 use Rattle.curp_msg.specs.Moved.{Moved, quiet, says, within}
 use Rattle.curp_msg.specs.declared.body.Body.{Body}
 use Rattle.curp_msg.specs.declared.body.Body.TheVariants as body
@@ -23,35 +19,25 @@ use Rattle.curp_msg.specs.declared.machine.Local.TheVariants as local
 use Rattle.curp_msg.specs.declared.message.Message.{Message}
 use Rattle.curp_order.specs.Order.{IsHistory}
 use Rattle.curp_order.specs.declared.Event.{Event}
-use Rattle.curp_order.specs.declared.Event.TheVariants.{Complete, Invoke}
-use Rattle.curp_model.specs.Backup.{BackupState, backup_input}
+use Rattle.curp_order.specs.declared.Event.TheVariants.{Complete}
 use Rattle.curp_model.specs.Client.{ClientState, client_input}
-use Rattle.curp_model.specs.Manager.{ManagerState, adoption, manager_input}
-use Rattle.curp_model.specs.Recovery.{MasterStage, master_input}
-use Rattle.curp_model.specs.Witness.{WitnessState, fresh_witness, witness_input}
-use Rattle.curp_model.specs.World.{World, completion, grown, invocation_of, kept, messages, moves_kind, moves_one, with_backup, with_batch, with_client, with_manager, with_master, with_witness}
-use Rattle.curp_facts.specs.Facts.{IsAmong, WasSent}
+use Rattle.curp_model.specs.Witness.{WitnessState, fresh_witness}
+use Rattle.curp_model.specs.World.{World, completion, invocation_of, kept, messages, with_client}
+use Rattle.curp_facts.specs.Facts.{WasSent}
 use Rattle.curp_facts.specs.Growth.{Grows}
 use Rattle.curp_law_growth.proofs.Deeds.{IsFor}
-use Rattle.curp_law_growth.proofs.Numbered.{all_of-kept, numbered_same, numbered_set_cases, place}
-use Rattle.curp_law_keepers.specs.Brought.{Brings}
+use Rattle.curp_law_growth.proofs.Numbered.{all_of-kept, numbered_set_cases}
 use Rattle.curp_law_keepers.specs.ClientEffect.{ClientEffect, CompletionOk, InputSuitsClient, KnowledgeOk, MayComplete, ReadCompletes, SuitsClient, UpdateCompletes, events_after}
 use Rattle.curp_law_keepers.specs.ClientNumbers.{IsAsked, NumbersOk}
-use Rattle.curp_law_keepers.specs.WitnessEffect.{held_requests}
-use Rattle.curp_law_keepers.proofs.Backups.{backup_effect}
-use Rattle.curp_law_keepers.proofs.Brought.{brought_sent}
 use Rattle.curp_law_keepers.proofs.ClientLater.{knowledge_grows, others_stay}
 use Rattle.curp_law_keepers.proofs.Clients.{client_effect}
 use Rattle.curp_law_keepers.proofs.Numbers.{waiting}
-use Rattle.curp_law_keepers.proofs.Witnesses.{witness_effect}
-use Rattle.curp_law_asked.specs.Asked.{AskedOk, BodyAsked, CameTo, CompletedBy, HoldsAsked, IdAsked, MessageAsked}
-use Rattle.curp_law_asked.proofs.AskedSaid.{backup_asked, client_asked, manager_asked, master_asked, update_of_id, witness_asked, witness_holds}
+use Rattle.curp_law_asked.specs.Asked.{AskedOk, BodyAsked, CameTo, CompletedBy, HoldsAsked, MessageAsked}
+use Rattle.curp_law_asked.proofs.AskedSaid.{client_asked, update_of_id}
 use Rattle.curp_law_asked.proofs.AskedStays.{asked_stays, body_stays, completed_stays, holds_stays}
-use Rattle.curp_law_asked.proofs.ManagerSpeaks.{manager_says}
-use Rattle.curp_law_asked.proofs.RecoverySpeaks.{master_says}
 
 -- a fresh witness holds nothing
-fresh_holds : (events : List Event) (sets ways : ℕ) → HoldsAsked events (fresh_witness sets ways)
+pub fresh_holds : (events : List Event) (sets ways : ℕ) → HoldsAsked events (fresh_witness sets ways)
 unfolding IsDistinct
 fresh_holds events sets ways = record { asked = λ q a. absurd (cc (a.stands)); apart = tt }
 
@@ -60,7 +46,7 @@ abbrev pub InvokesNothing : Input → Type 0
 InvokesNothing (input.Local (local.Invoke command)) = ⊥
 InvokesNothing _ = ⊤
 
-no_invocation : (to : NodeId) (o : Option ClientState) (given : Input) → InvokesNothing given → invocation_of to o given ≡ []
+pub no_invocation : (to : NodeId) (o : Option ClientState) (given : Input) → InvokesNothing given → invocation_of to o given ≡ []
 no_invocation to None given none = refl
 no_invocation to (Some c) (input.Local (local.Invoke command)) none = absurd none
 no_invocation to (Some c) (input.Local _) none = refl
@@ -102,7 +88,7 @@ module _ (Adopted : World → PartConfig → Type 0) (stays : (w v : World) → 
     }
 
     -- where nothing is invoked or completes
-    silent_asked : events ≡ [] → moved.completed ≡ None → moved.state.clients ≡ w.clients
+    pub silent_asked : events ≡ [] → moved.completed ≡ None → moved.state.clients ≡ w.clients
         → ((n : ℕ) (x : WitnessState) → numbered moved.state.witnesses n ≡ Some x → HoldsAsked w.history x) → Each (MessageAsked (Adopted w) w.history) moved.messages → AskedOk Adopted v
     silent_asked none idle clients holds said = kept_asked (subst (λ (later : List Event). After later moved) (sym same) (record {
       history = ok.history;
@@ -119,13 +105,13 @@ module _ (Adopted : World → PartConfig → Type 0) (stays : (w v : World) → 
 
   -- ---- a message that comes was sent, and so what it says was asked for
 
-  sent_asked : (m : Message) → WasSent w m → MessageAsked (Adopted w) w.history m
+  pub sent_asked : (m : Message) → WasSent w m → MessageAsked (Adopted w) w.history m
   sent_asked m s = Each-at (MessageAsked (Adopted w) w.history) (messages w) ok.messages s.place m s.stands
 
-  abbrev Keeps : List Event → Moved World → Type 0
+  abbrev pub Keeps : List Event → Moved World → Type 0
   Keeps events moved = Grows w (kept w events moved).world → AskedOk Adopted (kept w events moved).world
 
-  rests : (events : List Event) → events ≡ [] → Keeps events (quiet w)
+  pub rests : (events : List Event) → events ≡ [] → Keeps events (quiet w)
   rests events none g = silent_asked events (quiet w) g none refl refl ok.witnesses tt
 
   -- ---- a client
@@ -204,5 +190,5 @@ module _ (Adopted : World → PartConfig → Type 0) (stays : (w v : World) → 
       completed = old_or_now;
     }
 
-    client_keeps : Keeps (invocation_of (client_node n) (Some c) given) (within (with_client w n) r)
+    pub client_keeps : Keeps (invocation_of (client_node n) (Some c) given) (within (with_client w n) r)
     client_keeps g = kept_asked (invocation_of (client_node n) (Some c) given) (within (with_client w n) r) g client_after

@@ -4,3 +4,4 @@ pub mod ManagerSpeaks
 pub mod AskedStays
 pub mod AskedSaid
 pub mod AskedSteps
+pub mod AskedRuns
