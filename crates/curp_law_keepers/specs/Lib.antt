@@ -3,3 +3,4 @@ pub mod BackupEffect
 pub mod WitnessEffect
 pub mod ClientNumbers
 pub mod ClientEffect
+pub mod RecoveryEffect
