@@ -1,9 +1,7 @@
 -- Every world that scripts reach keeps what was asked for.
-use Rattle.std.proofs.Common.{◌≡◌, ◌⊎◌, inl, inr, ℕ, zero, suc, ◌-◌, ◌*◌, ◌==◌, Bool, true, false, not, List, [], ◌∷◌, length, replicate, Option, Some, None, refl, subst, arith}
+use Rattle.std.proofs.Common.{◌≡◌, ◌⊎◌, inl, inr, ℕ, zero, suc, ◌-◌, ◌*◌, List, [], ◌∷◌, length, replicate, Option, Some, None, refl, subst}
 use Rattle.std.specs.Bool.{⊤}
 use Rattle.std.specs.List.{IsDistinct}
-use Rattle.std.proofs.lemmas.Bool.Decides.{nat_tests}
-use Rattle.curp_base.specs.Cases.{first_case, only_if}
 use Rattle.curp_base.specs.Words.{Each, numbered}
 use Rattle.curp_base.proofs.Lists.{at_append_cases, at_replicate}
 use Rattle.curp_cmd.specs.Node.{backup_node, client_node, master_node, witness_node}
@@ -26,9 +24,10 @@ use Rattle.curp_model.specs.Client.{ClientState, client_input, fresh_client}
 use Rattle.curp_model.specs.Manager.{adoption, manager_input, opening_config}
 use Rattle.curp_model.specs.Recovery.{MasterStage, master_input}
 use Rattle.curp_model.specs.Witness.{WitnessState, fresh_witness, started_witness, witness_input}
-use Rattle.curp_model.specs.World.{Deed, Nothing, Gives, Stops, World, deed_of, delivery, effect, events_of, grown, invocation_of, is_lost, is_too_much, messages, moves_kind, moves_one, names_nobody, names_stopped, opening, refusal, result_of, run, shape_of, step, steps_by, stops_manager, weight, with_backup, with_client, with_manager, with_master, with_witness, world}
+use Rattle.curp_model.specs.World.{Deed, Nothing, Gives, Stops, World, deed_of, delivery, effect, events_of, grown, invocation_of, messages, moves_kind, moves_one, opening, result_of, run, shape_of, step, steps_by, weight, with_backup, with_client, with_manager, with_master, with_witness, world}
 use Rattle.curp_facts.specs.Growth.{Grows}
-use Rattle.curp_law_growth.proofs.Deeds.{IsFor, IsMeant, deed_meant}
+use Rattle.curp_law_growth.specs.Deeds.{IsFor, IsMeant}
+use Rattle.curp_law_growth.proofs.Deeds.{deed_meant, done_taken}
 use Rattle.curp_law_growth.proofs.Numbered.{numbered_replicate, numbered_set_cases}
 use Rattle.curp_law_growth.proofs.Worlds.{step_grows}
 use Rattle.curp_law_keepers.specs.Brought.{Brings}
@@ -66,27 +65,6 @@ tells_clients w (steps.Migrate lo hi to) = inr tt
 tells_clients w steps.Nudge = inr tt
 tells_clients w (steps.Expire n) = inr tt
 tells_clients w (steps.Stop node) = tt
-
-not_full : (weighs : ℕ) → result.Full weighs ≡ result.Done → ⊥
-not_full weighs e = cc
-
-not_refused : (number : ℕ) → result.Refused number ≡ result.Done → ⊥
-not_refused number e = cc
-
--- what is done isn't refused
-unrefused : (lost nobody manager stopped much : Bool) (weighs number : ℕ)
-    → first_case (only_if lost result.NoMessage ∷ only_if nobody result.NoNode ∷ only_if manager result.Manager ∷ only_if stopped result.Gone ∷ only_if much (result.Full weighs) ∷ only_if (not (number == 0)) (result.Refused number) ∷ []) result.Done ≡ result.Done
-    → number ≡ 0
-unrefused true nobody manager stopped much weighs number e = absurd cc
-unrefused false true manager stopped much weighs number e = absurd cc
-unrefused false false true stopped much weighs number e = absurd cc
-unrefused false false false true much weighs number e = absurd cc
-unrefused false false false false true weighs number e = absurd (not_full weighs e)
-unrefused false false false false false weighs number e = go (number == 0) refl e
-  where
-    go : (b : Bool) → (number == 0) ≡ b → first_case (only_if (not b) (result.Refused number) ∷ []) result.Done ≡ result.Done → number ≡ 0
-    go true is e = grind (arith, nat_tests)
-    go false is e = absurd (not_refused number e)
 
 module _ (Adopted : World → PartConfig → Type 0) (stays : (w v : World) → Grows w v → (part : PartConfig) → Adopted w part → Adopted v part) where
   module _ (w : World) (ok : AskedOk Adopted w) (now : Each (Adopted w) w.manager.config.parts) where
@@ -159,7 +137,7 @@ module _ (Adopted : World → PartConfig → Type 0) (stays : (w v : World) → 
     by_result : (s : Step) (r : StepResult) → result_of w s ≡ r → Grows w (steps_by w (deed_of w s) r).world → AskedOk Adopted (steps_by w (deed_of w s) r).world
     by_result s result.Done is g =
         deed_asked (deed_of w s) (deed_meant w s) (tells_clients w s)
-        (unrefused (is_lost w s) (names_nobody w s) (stops_manager s) (names_stopped w s) (is_too_much w (deed_of w s)) (weight w) (refusal w s) is) g
+        (done_taken w s is) g
     by_result s result.NoMessage is g = ok
     by_result s result.NoNode is g = ok
     by_result s result.Manager is g = ok

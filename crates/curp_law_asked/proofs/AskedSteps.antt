@@ -25,7 +25,7 @@ use Rattle.curp_model.specs.Witness.{WitnessState, fresh_witness}
 use Rattle.curp_model.specs.World.{World, completion, invocation_of, kept, messages, with_client}
 use Rattle.curp_facts.specs.Facts.{WasSent}
 use Rattle.curp_facts.specs.Growth.{Grows}
-use Rattle.curp_law_growth.proofs.Deeds.{IsFor}
+use Rattle.curp_law_growth.specs.Deeds.{IsFor}
 use Rattle.curp_law_growth.proofs.Numbered.{all_of-kept, numbered_set_cases}
 use Rattle.curp_law_keepers.specs.ClientEffect.{ClientEffect, CompletionOk, InputSuitsClient, KnowledgeOk, MayComplete, ReadCompletes, SuitsClient, UpdateCompletes, events_after}
 use Rattle.curp_law_keepers.specs.ClientNumbers.{IsAsked, NumbersOk}

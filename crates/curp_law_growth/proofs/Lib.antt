@@ -5,6 +5,7 @@ pub mod Masters
 pub mod Recoveries
 pub mod Managers
 pub mod Worlds
+pub mod After
 pub mod Reached
 pub mod Prepared
 pub mod Recovered
