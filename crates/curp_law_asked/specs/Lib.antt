@@ -1,1 +1,2 @@
 pub mod Speakers
+pub mod Asked

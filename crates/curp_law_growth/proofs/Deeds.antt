@@ -1,27 +1,15 @@
--- A message that a step gives a node was sent to that node.
-use Rattle.std.proofs.Common.{◌≡◌, refl, Option, Some, None}
-use Rattle.std.specs.Bool.{⊤}
+-- A message that a step gives a node was sent to that node, and what is done isn't refused.
+use Rattle.std.proofs.Common.{◌≡◌, ℕ, ◌==◌, Bool, true, false, not, [], ◌∷◌, refl, arith, Option, Some, None}
+use Rattle.std.proofs.lemmas.Bool.Decides.{nat_tests}
+use Rattle.curp_base.specs.Cases.{first_case, only_if}
 use Rattle.curp_base.specs.Words.{numbered}
-use Rattle.curp_cmd.specs.declared.node.NodeId.{NodeId}
-use Rattle.curp_msg.specs.declared.machine.Input.{Input}
-use Rattle.curp_msg.specs.declared.machine.Input.TheVariants as input
 use Rattle.curp_msg.specs.declared.message.Message.{Message}
+use Rattle.curp_msg.specs.declared.outcome.StepResult.TheVariants as result
 use Rattle.curp_msg.specs.declared.script.Step.{Step}
 use Rattle.curp_msg.specs.declared.script.Step.TheVariants as steps
-use Rattle.curp_facts.specs.Facts.{WasSent}
-use Rattle.curp_model.specs.World.{Deed, Nothing, Gives, Stops, World, deed_of, delivery, messages}
+use Rattle.curp_model.specs.World.{World, deed_of, delivery, is_lost, is_too_much, messages, names_nobody, names_stopped, refusal, result_of, stops_manager, weight}
+use Rattle.curp_law_growth.specs.Deeds.{IsMeant}
 use Rattle.curp_law_growth.proofs.Numbered.{place}
-
--- the input is an order, or a message that was sent to the node
-abbrev pub IsFor : World → NodeId → Input → Type 0
-IsFor w to (input.Local order) = ⊤
-IsFor w to (input.Message m) = (m.to ≡ to) × WasSent w m
-
--- what the deed gives is for the node that gets it
-abbrev pub IsMeant : World → Deed → Type 0
-IsMeant w Nothing = ⊤
-IsMeant w (Gives to given) = IsFor w to given
-IsMeant w (Stops node) = ⊤
 
 module _ (w : World) where
   delivery_meant : (number : _) (o : Option Message) → numbered (messages w) number ≡ o → IsMeant w (delivery o)
@@ -42,3 +30,29 @@ module _ (w : World) where
   deed_meant steps.Nudge = tt
   deed_meant (steps.Expire n) = tt
   deed_meant (steps.Stop node) = tt
+
+-- ---- what is done isn't refused
+
+not_full : (weighs : ℕ) → result.Full weighs ≡ result.Done → ⊥
+not_full weighs e = cc
+
+not_refused : (number : ℕ) → result.Refused number ≡ result.Done → ⊥
+not_refused number e = cc
+
+unrefused : (lost nobody manager stopped much : Bool) (weighs number : ℕ)
+    → first_case (only_if lost result.NoMessage ∷ only_if nobody result.NoNode ∷ only_if manager result.Manager ∷ only_if stopped result.Gone ∷ only_if much (result.Full weighs) ∷ only_if (not (number == 0)) (result.Refused number) ∷ []) result.Done ≡ result.Done
+    → number ≡ 0
+unrefused true nobody manager stopped much weighs number e = absurd cc
+unrefused false true manager stopped much weighs number e = absurd cc
+unrefused false false true stopped much weighs number e = absurd cc
+unrefused false false false true much weighs number e = absurd cc
+unrefused false false false false true weighs number e = absurd (not_full weighs e)
+unrefused false false false false false weighs number e = go (number == 0) refl e
+  where
+    go : (b : Bool) → (number == 0) ≡ b → first_case (only_if (not b) (result.Refused number) ∷ []) result.Done ≡ result.Done → number ≡ 0
+    go true is e = grind (arith, nat_tests)
+    go false is e = absurd (not_refused number e)
+
+-- a step that is done isn't refused
+pub done_taken : (w : World) (s : Step) → result_of w s ≡ result.Done → refusal w s ≡ 0
+done_taken w s is = unrefused (is_lost w s) (names_nobody w s) (stops_manager s) (names_stopped w s) (is_too_much w (deed_of w s)) (weight w) (refusal w s) is

@@ -29,7 +29,8 @@ use Rattle.curp_model.specs.Witness.{WitnessState, fresh_witness, witness_input}
 use Rattle.curp_model.specs.World.{Deed, Nothing, Gives, Stops, World, completion, deed_of, effect, events_of, kept, messages, moves_kind, moves_one, result_of, step, steps_by, with_backup, with_batch, with_client, with_manager, with_master, with_witness}
 use Rattle.curp_facts.specs.Facts.{WasSent}
 use Rattle.curp_facts.specs.Growth.{AllNew, NewFresh, AllGrow, BackupGrows, Dropped, Grows, ManagerGrows, MasterGrows, WitnessGrows}
-use Rattle.curp_law_growth.proofs.Deeds.{IsFor, IsMeant, deed_meant}
+use Rattle.curp_law_growth.specs.Deeds.{IsFor, IsMeant}
+use Rattle.curp_law_growth.proofs.Deeds.{deed_meant}
 use Rattle.curp_law_growth.proofs.Keepers.{Drops, Lets, backup_input_grows, backup_self, witness_input_grows, witness_self, witness_weaker}
 use Rattle.curp_law_growth.proofs.Managers.{manager_input_grows, manager_self}
 use Rattle.curp_law_growth.proofs.Numbered.{any_at, all_of-kept, numbered_same, numbered_set_cases, numbered_set_other, numbered_set_same}

@@ -6,7 +6,7 @@ use Rattle.curp_msg.specs.declared.body.Body.{Body}
 use Rattle.curp_msg.specs.declared.machine.Input.{Input}
 use Rattle.curp_facts.specs.Facts.{WasSent}
 use Rattle.curp_model.specs.World.{World}
-use Rattle.curp_law_growth.proofs.Deeds.{IsFor}
+use Rattle.curp_law_growth.specs.Deeds.{IsFor}
 use Rattle.curp_law_keepers.specs.Brought.{Brings}
 
 -- to the node that gets the input

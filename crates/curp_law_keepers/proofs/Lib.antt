@@ -9,3 +9,4 @@ pub mod Numbers
 pub mod Evidence
 pub mod Clients
 pub mod ClientLater
+pub mod RecoveryEffects

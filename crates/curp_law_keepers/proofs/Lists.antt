@@ -1,5 +1,5 @@
 -- What stands in images, in filters and at the ends of lists.
-use Rattle.std.proofs.Common.{◌≡◌, inl, inr, ℕ, zero, suc, Bool, true, false, List, [], ◌∷◌, cond, map, Some, None, refl, ap, sym, ◌∙◌}
+use Rattle.std.proofs.Common.{◌≡◌, inl, inr, ℕ, zero, suc, Bool, true, false, List, [], ◌∷◌, cond, map, Some, refl, ap, sym, ◌∙◌}
 use Rattle.std.specs.List.{filter, list_all}
 use Rattle.std.proofs.lemmas.Bool.{and_parts, cases_Bool}
 use Rattle.curp_base.specs.Words.{At, Each, first_of, last_of}
@@ -8,11 +8,6 @@ use Rattle.curp_base.specs.Words.{At, Each, first_of, last_of}
 pub first_at : {A : Type 0} (xs : List A) (x : A) → first_of xs ≡ Some x → At xs 0 x
 first_at [] x e = absurd cc
 first_at (y ∷ xs) x e = e
-
--- where there is no first there is nothing
-pub first_none : {A : Type 0} (xs : List A) → first_of xs ≡ None → xs ≡ []
-first_none [] e = refl
-first_none (x ∷ xs) e = absurd cc
 
 -- the last stands somewhere
 pub last_at : {A : Type 0} (xs : List A) (x : A) → last_of xs ≡ Some x → (k : ℕ) × At xs k x

@@ -2,3 +2,4 @@ pub mod Brought
 pub mod BackupEffect
 pub mod WitnessEffect
 pub mod ClientEffect
+pub mod RecoveryEffect

@@ -1,2 +1,2 @@
-//! What one input does to a backup, to a witness and to a client, for every input of every world.
+//! What one input does to a backup, to a witness, to a client and to a recovering master, for every input of every world.
 #![tactic(auto)]
