@@ -1,7 +1,0 @@
-pub mod MasterSpeaks
-pub mod RecoverySpeaks
-pub mod ManagerSpeaks
-pub mod AskedStays
-pub mod AskedSaid
-pub mod AskedSteps
-pub mod AskedRuns
