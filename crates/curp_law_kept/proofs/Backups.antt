@@ -28,7 +28,7 @@ use Rattle.curp_facts.specs.Facts.{FenceReplyOk, HasLog, IsAmong, IsGiven, Lists
 use Rattle.curp_facts.specs.Kept.{FollowsLog}
 use Rattle.curp_facts.specs.Nodes.{BackupOk}
 use Rattle.curp_facts.specs.Said.{AppendHolds, AppendSaid, AppendedSaid, IsOrderedTo, Says}
-use Rattle.curp_law_growth.proofs.Deeds.{IsFor}
+use Rattle.curp_law_growth.specs.Deeds.{IsFor}
 use Rattle.curp_law_keepers.specs.BackupEffect.{AppendAnswerSays, AppendedSays, BackupAnswers, BackupEffect, BackupMove, BackupSays, ByAppend, ByFence, ByInstall, Extends, FenceAnswerSays, FenceReplySays, Installs, RaisesFence, Rests}
 use Rattle.curp_law_keepers.specs.Brought.{Brings}
 use Rattle.curp_law_keepers.proofs.Brought.{brought_sent}

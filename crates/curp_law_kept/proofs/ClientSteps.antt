@@ -18,7 +18,7 @@ use Rattle.curp_facts.specs.Growth.{Grows}
 use Rattle.curp_facts.specs.Invariant.{Invariant, PresentOk}
 use Rattle.curp_facts.specs.Nodes.{ClientOk}
 use Rattle.curp_facts.specs.Said.{Says}
-use Rattle.curp_law_growth.proofs.Deeds.{IsFor}
+use Rattle.curp_law_growth.specs.Deeds.{IsFor}
 use Rattle.curp_law_keepers.specs.ClientEffect.{ClientSays, events_after}
 use Rattle.curp_law_kept.proofs.Clients.{client_keeps, client_messages, client_said, completed_keeps, history_keeps, other_client_keeps}
 use Rattle.curp_law_kept.proofs.Known.{Known}

@@ -31,7 +31,7 @@ use Rattle.curp_facts.specs.Entries.{RequestOk}
 use Rattle.curp_facts.specs.Facts.{Completable, EntryWas, WasSent, lists_of_part}
 use Rattle.curp_facts.specs.Nodes.{ClientOk, CompletedBy, MayCome}
 use Rattle.curp_facts.specs.Said.{AskSaid, RejectedSaid, ReplySaid, Says, WorthSaid}
-use Rattle.curp_law_growth.proofs.Deeds.{IsFor}
+use Rattle.curp_law_growth.specs.Deeds.{IsFor}
 use Rattle.curp_law_keepers.specs.ClientEffect.{BySynced, ByAccepts, ByValue, ClientAsks, ClientEffect, ClientSays, CompletionOk, InputSuitsClient, MayComplete, ReadCompletes, SuitsClient, UpdateCompletes, events_after}
 use Rattle.curp_law_keepers.proofs.ClientLater.{others_stay}
 use Rattle.curp_law_keepers.proofs.Clients.{client_effect}

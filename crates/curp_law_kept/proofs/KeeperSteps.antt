@@ -17,7 +17,7 @@ use Rattle.curp_facts.specs.Facts.{IsAmong, IsGiven, Lists}
 use Rattle.curp_facts.specs.Growth.{Grows}
 use Rattle.curp_facts.specs.Invariant.{Invariant}
 use Rattle.curp_facts.specs.Nodes.{BackupOk, StartedAt, WitnessOk}
-use Rattle.curp_law_growth.proofs.Deeds.{IsFor}
+use Rattle.curp_law_growth.specs.Deeds.{IsFor}
 use Rattle.curp_law_keepers.specs.BackupEffect.{BackupEffect, BackupSays}
 use Rattle.curp_law_keepers.specs.WitnessEffect.{WitnessEffect, WitnessSays}
 use Rattle.curp_law_keepers.proofs.Backups.{backup_effect}

@@ -27,7 +27,7 @@ use Rattle.curp_facts.specs.Entries.{UpdateOk}
 use Rattle.curp_facts.specs.Facts.{IsAmong, IsGiven, Lists, WasSent}
 use Rattle.curp_facts.specs.Nodes.{StartedAt, WitnessOk}
 use Rattle.curp_facts.specs.Said.{Says, SuspectsHold, UpdateSaid}
-use Rattle.curp_law_growth.proofs.Deeds.{IsFor}
+use Rattle.curp_law_growth.specs.Deeds.{IsFor}
 use Rattle.curp_law_keepers.specs.Brought.{Brings}
 use Rattle.curp_law_keepers.specs.WitnessEffect.{AcceptedSays, ByFreeze, ByStart, Freezes, GcAnswerSays, GoesOn, IsRecorded, RejectedSays, Starts, Stays, WitnessAnswers, WitnessEffect, WitnessLife, WitnessSays, held_requests}
 use Rattle.curp_law_keepers.proofs.Brought.{brought_sent}

@@ -44,6 +44,7 @@ module _ (w : World) (n : ℕ) (m : MasterState) (ok : ServingOk w (master_node 
     since = λ s switches. absurd (open_switches k.phase s serves switches);
     says = settle_says w m.part n k p serves;
     refused = refl;
+    idle = refl;
   }
 
   lists_stay : (k : MasterState) → k.version ≡ m.version → k.backups ≡ m.backups → k.witnesses ≡ m.witnesses → k.phase ≡ m.phase → ListsMove n m from heard (settle n k).state (settle n k).messages
@@ -105,6 +106,7 @@ module _ (w : World) (n : ℕ) (m : MasterState) (ok : ServingOk w (master_node 
     ];
     says = tt;
     refused = refl;
+    idle = refl;
   }
 
   -- it is, and the manager is told
@@ -139,6 +141,7 @@ module _ (w : World) (n : ℕ) (m : MasterState) (ok : ServingOk w (master_node 
             (Each-weaker (HasAcknowledged (ready s) (length m.log)) (λ b. k < (from_backup (raised m.acknowledged from long round) b).length) (λ b l. omega (arith, l, at_within m.log k e at)) s.backups told));
         says = (record { sender = refl; says_so = (record { s = record s { prepared = true }; switches = refl; its_version = refl; prepared = refl }, refl) }, tt);
         refused = refl;
+        idle = refl;
       }
 
   not_prepared : (b : Bool) → not b ≡ true → b ≡ false

@@ -108,10 +108,10 @@ module _ (w : World) (n : ℕ) (o : Recover) where
   Says p x = IsSaidBy n (RecoverySays w (at o p)) x
 
   stays : (p q : RecoveryPhase) → (IsWaiting p → IsWaiting q) → StageOk w (at o q) q → Goes p (quiet (at o q))
-  stays p q waits ok = record { order = refl; stage = ok; waits = waits; says = tt; refused = refl }
+  stays p q waits ok = record { order = refl; stage = ok; waits = waits; says = tt; refused = refl; idle = refl }
 
   tells : (p q : RecoveryPhase) (xs : List Message) → (IsWaiting p → IsWaiting q) → StageOk w (at o q) q → Each (Says q) xs → Goes p (sends (at o q) xs)
-  tells p q xs waits ok said = record { order = refl; stage = ok; waits = waits; says = said; refused = refl }
+  tells p q xs waits ok said = record { order = refl; stage = ok; waits = waits; says = said; refused = refl; idle = refl }
 
   fences : (p : RecoveryPhase) → Each (Says p) (fence_of n o)
   fences p = (record { sender = refl; says_so = (refl, refl) }, tt)

@@ -56,6 +56,7 @@ module _ (w : World) (n : ℕ) (m : MasterState) (ok : ServingOk w (master_node 
         since = λ s switches prepared j e at. absurd (unprepared (switch_to m p) s refl (one_switch k.phase (switch_to m p) s refl switches) prepared);
         says = appends_say w m.part n k parts;
         refused = refl;
+        idle = refl;
       }
     where
       unprepared : (s t : Switch) → s.prepared ≡ false → s ≡ t → t.prepared ≡ true → ⊥

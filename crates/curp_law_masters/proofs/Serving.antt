@@ -116,6 +116,7 @@ module _ (w : World) (n : ℕ) (m : MasterState) (ok : ServingOk w (master_node 
     since = since_kept k same moves;
     says = says;
     refused = refl;
+    idle = refl;
   }
 
   -- ---- the log stays

@@ -222,6 +222,7 @@ pub record ServingMove (w : World) (n : ℕ) (m : MasterState) (from : NodeId) (
       → IsOnlyExpire e ⊎ IsOnEach r.state s.backups k
   pub says : Each (IsSaidBy n (ServingSays w r.state)) r.messages
   pub refused : r.refused ≡ 0
+  pub idle : r.completed ≡ None
 
 -- ---- masters that don't serve yet
 
@@ -263,3 +264,4 @@ pub record RecoveryMove (w : World) (n : ℕ) (s : RecoveryState) (r : Moved Rec
   pub waits : IsWaiting s.phase → IsWaiting r.state.phase
   pub says : Each (IsSaidBy n (RecoverySays w r.state)) r.messages
   pub refused : r.refused ≡ 0
+  pub idle : r.completed ≡ None
