@@ -1,6 +1,6 @@
 -- What one input leaves of a master, and what the master says then. The world is that before the input; what is said of the
 -- master is said of it as it is afterwards.
-use Rattle.std.specs.Prelude.{◌≡◌, ◌≤◌, ◌<◌, ◌⊎◌, ℕ, ◌+◌, Bool, true, false, List, length, take, drop, Option, Some, ⊤}
+use Rattle.std.specs.Prelude.{◌≡◌, ◌≤◌, ◌<◌, ◌⊎◌, ℕ, ◌+◌, Bool, true, false, List, length, take, drop, Option, Some, None, ⊤}
 use Rattle.curp_base.specs.Words.{At, Each}
 use Rattle.curp_cmd.specs.Node.{client_node, manager_node, master_node}
 use Rattle.curp_cmd.specs.Store as cmd
