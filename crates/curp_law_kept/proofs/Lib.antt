@@ -6,3 +6,4 @@ pub mod Clients
 pub mod Others
 pub mod ClientSteps
 pub mod KeeperSteps
+pub mod Worlds
