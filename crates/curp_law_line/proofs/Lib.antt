@@ -32,6 +32,7 @@ pub mod Owners
 pub mod AdoptedOwners
 pub mod UpdatesKept
 pub mod Keeps
+pub mod Openings
 pub mod Histories
 pub mod ToldTakes
 pub mod Looks
