@@ -1,10 +1,9 @@
 -- The manager adopts lists that were given, with numbers above those of the present entry.
-use Rattle.std.proofs.Common.{◌≡◌, ◌≢◌, ◌≤◌, ◌<◌, ◌⊎◌, inl, inr, ℕ, ◌+◌, ◌-◌, List, [], ◌∷◌, length, refl, sym, ◌∙◌, ap, subst, arith, Option, Some}
+use Rattle.std.proofs.Common.{◌≡◌, ◌≤◌, ◌<◌, inl, inr, ℕ, ◌+◌, ◌-◌, List, refl, sym, ◌∙◌, ap, subst, arith, Option, Some}
 use Rattle.std.proofs.lemmas.List.{length-set}
-use Rattle.curp_base.specs.Words.{At, Each, numbered}
+use Rattle.curp_base.specs.Words.{At, numbered}
 use Rattle.curp_base.proofs.Lists.{at_set_cases, Each-weaker}
 use Rattle.curp_msg.specs.declared.config.PartConfig.{PartConfig}
-use Rattle.curp_msg.specs.declared.message.Message.{Message}
 use Rattle.curp_order.specs.declared.Event.{Event}
 use Rattle.curp_model.specs.Manager.{Attempted, Doing, ManagerState, Steady, adopted_message, adopts}
 use Rattle.curp_msg.specs.Moved.{Moved}
@@ -14,7 +13,7 @@ use Rattle.curp_law_names.specs.Names.{DoingOk, IsClientNumber, Names, Top}
 use Rattle.curp_law_names.proofs.Keeps.{chain_adopted, entry_numbered, names_moved, numbered_now, top_adopted, top_stays}
 use Rattle.curp_law_names.proofs.Later.{Later, client_later, doing_later, given_later}
 use Rattle.curp_law_names.proofs.Lists.{number_within, numbered_set_cases}
-use Rattle.curp_law_names.proofs.Moves.{Adoption, Fresh, Move, Utters}
+use Rattle.curp_law_names.proofs.Moves.{Adoption, Move}
 use Rattle.curp_law_names.proofs.Quiet.{Good}
 use Rattle.curp_law_names.proofs.Steps.{Rises, manager_moved, moved_later, moved_messages, moved_move, moved_numbers, sent_now}
 

@@ -1,7 +1,6 @@
 -- What fits a world fits a later one.
-use Rattle.std.proofs.Common.{◌≡◌, ◌≤◌, ℕ, List, Option, Some, None, refl, sym, subst, arith}
-use Rattle.std.specs.Prelude.{⊤}
-use Rattle.curp_base.specs.Words.{Each, numbered}
+use Rattle.std.proofs.Common.{◌≡◌, ℕ, List, Option, Some, None, sym, subst}
+use Rattle.curp_base.specs.Words.{Each}
 use Rattle.curp_base.proofs.Lists.{Each-weaker}
 use Rattle.curp_cmd.specs.declared.command.Request.{Request}
 use Rattle.curp_cmd.specs.declared.entry.Entry.{Entry}
@@ -14,20 +13,18 @@ use Rattle.curp_msg.specs.declared.answer.GcAnswer.{GcAnswer}
 use Rattle.curp_msg.specs.declared.answer.GcAnswer.TheVariants.{Suspects}
 use Rattle.curp_msg.specs.declared.body.Body.{Body}
 use Rattle.curp_msg.specs.declared.body.Body.TheVariants as body
-use Rattle.curp_msg.specs.declared.config.Config.{Config}
 use Rattle.curp_msg.specs.declared.message.Message.{Message}
 use Rattle.curp_model.specs.Backup.{BackupState}
 use Rattle.curp_model.specs.Client.{Attempt, ClientState, Pending}
 use Rattle.curp_model.specs.Manager.{Shape}
-use Rattle.curp_model.specs.Master.{Captured, MasterState, Open, Phase, Switching}
+use Rattle.curp_model.specs.Master.{Captured, Open, Phase, Switching}
 use Rattle.curp_model.specs.Named.{IsNodeOf}
 use Rattle.curp_model.specs.Ranges.{opening_range}
-use Rattle.curp_model.specs.Recovery.{Asking, Fresh, MasterStage, Recovering, RecoveryPhase, RecoveryState, Serving, Storing, Waiting}
+use Rattle.curp_model.specs.Recovery.{Asking, Fresh, MasterStage, Recovering, RecoveryPhase, Serving, Storing, Waiting}
 use Rattle.curp_model.specs.Witness.{HeldRequest, WitnessState}
 use Rattle.curp_model.specs.World.{World}
 use Rattle.curp_facts.specs.Facts.{AttemptWas, Lists}
-use Rattle.curp_law_names.specs.Names.{ConfigurationOk}
-use Rattle.curp_law_names.specs.Nodes.{BackupFits, BodyFits, ClientFits, EntryAsked, IsAsked, LogThere, MasterFits, MessageFits, NextGiven, PendingFits, PhaseFits, RecoveringFits, ReplyAsked, RequestsThere, ServesBy, SuspectsAsked, WitnessFits, addressee_kind, sender_kind}
+use Rattle.curp_law_names.specs.Nodes.{BackupFits, BodyFits, ClientFits, EntryAsked, IsAsked, LogThere, MasterFits, MessageFits, NextGiven, PendingFits, PhaseFits, ReplyAsked, RequestsThere, ServesBy, SuspectsAsked, WitnessFits, addressee_kind, sender_kind}
 use Rattle.curp_law_names.proofs.Later.{Later, adopted_later, configuration_later, given_later, node_later, of_later}
 
 module _ {w v : World} (g : Later w v) where

@@ -1,9 +1,8 @@
 -- A move keeps the facts of shape and names; what is left to each kind of move are its numbers, entries and what is being done.
-use Rattle.std.proofs.Common.{◌≡◌, ◌≢◌, ◌≤◌, ◌<◌, ◌⊎◌, inl, inr, ℕ, ◌+◌, List, length, refl, sym, ◌∙◌, ap, subst, arith, Some}
+use Rattle.std.proofs.Common.{◌≡◌, ◌≤◌, ◌<◌, inl, inr, ℕ, ◌+◌, refl, sym, ◌∙◌, ap, subst, arith, Some}
 use Rattle.curp_base.specs.Words.{At, Each, numbered}
-use Rattle.curp_base.proofs.Lists.{at_same}
 use Rattle.curp_msg.specs.declared.config.PartConfig.{PartConfig}
-use Rattle.curp_model.specs.Manager.{Doing, Shape}
+use Rattle.curp_model.specs.Manager.{Doing}
 use Rattle.curp_model.specs.World.{World}
 use Rattle.curp_facts.specs.Facts.{IsAdoptedNow, IsAmong, IsGiven, Lists, WasAdopted, lists_of_part}
 use Rattle.curp_law_names.specs.Names.{DoingOk, IsClientNumber, Names, NumbersOk, ShapeOk, Top}

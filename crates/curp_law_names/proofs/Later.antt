@@ -1,16 +1,13 @@
 -- What was said of a world holds of a later one.
-use Rattle.std.proofs.Common.{◌≡◌, ◌≤◌, ◌<◌, ◌⊎◌, inl, inr, ℕ, ◌+◌, List, length, refl, sym, ◌∙◌, subst, arith}
-use Rattle.curp_base.specs.Words.{At, Each}
+use Rattle.std.proofs.Common.{◌≡◌, ◌≤◌, inl, inr, ℕ, length, refl, sym, ◌∙◌, subst, arith}
+use Rattle.curp_base.specs.Words.{At}
 use Rattle.curp_base.proofs.Lists.{Each-weaker}
-use Rattle.curp_cmd.specs.Node.{manager_node}
 use Rattle.curp_cmd.specs.declared.node.NodeId.{NodeId}
 use Rattle.curp_cmd.specs.declared.node.NodeKind.{NodeKind}
 use Rattle.curp_cmd.specs.declared.node.NodeKind.TheVariants as kind
-use Rattle.curp_msg.specs.Moved.{says}
 use Rattle.curp_msg.specs.declared.body.Adopted.{Adopted}
 use Rattle.curp_msg.specs.declared.body.Body.{Body}
 use Rattle.curp_msg.specs.declared.body.Body.TheVariants as body
-use Rattle.curp_msg.specs.declared.body.Prepare.{Prepare}
 use Rattle.curp_msg.specs.declared.body.Recover.{Recover}
 use Rattle.curp_msg.specs.declared.config.Config.{Config}
 use Rattle.curp_msg.specs.declared.config.PartConfig.{PartConfig}
@@ -20,7 +17,7 @@ use Rattle.curp_model.specs.Named.{IsNodeOf}
 use Rattle.curp_model.specs.Ranges.{opening_range}
 use Rattle.curp_model.specs.World.{World}
 use Rattle.curp_facts.specs.Facts.{AtOpening, ByRecovery, ByReplacement, IsGiven, Lists, WasAdopted, WasSent, lists_of_part}
-use Rattle.curp_law_names.specs.Names.{AdoptedOk, ConfigurationOk, DoingOk, GivenOk, InstallOk, IsClientNumber, IsMasterOf, IsOf, IsAdoptedMaster, ManagerSays, OrderOk, PrepareOk, StartOk}
+use Rattle.curp_law_names.specs.Names.{AdoptedOk, ConfigurationOk, DoingOk, GivenOk, IsClientNumber, IsMasterOf, IsOf, IsAdoptedMaster, ManagerSays, OrderOk}
 
 -- a world after a step: the header's numbers stay, nodes and numbers grow, and what was sent was sent
 pub record Later (w v : World) : Type 0 where

@@ -1,9 +1,9 @@
 -- Lists that are numbered from 1, what is among lists, and lists whose items differ.
-use Rattle.std.proofs.Common.{◌≡◌, ◌≢◌, ◌⊎◌, inl, inr, ℕ, zero, suc, ◌+◌, ◌-◌, ◌<◌, ◌≤◌, Bool, true, List, [], ◌∷◌, ◌++◌, length, map, set, refl, ap, sym, ◌∙◌, subst, arith, append-nil, append_assoc, Some}
+use Rattle.std.proofs.Common.{◌≡◌, ◌≢◌, ◌⊎◌, inl, inr, ℕ, zero, suc, ◌+◌, ◌-◌, ◌<◌, ◌≤◌, Bool, List, [], ◌∷◌, ◌++◌, length, map, set, refl, ap, sym, ◌∙◌, subst, arith, append-nil, append_assoc, Some}
 use Rattle.std.specs.List.{filter}
 use Rattle.std.proofs.lemmas.Bool.{cases_Bool}
 use Rattle.curp_base.specs.Words.{At, Each, all_of, first_of, last_of, numbered, numbers_from}
-use Rattle.curp_base.proofs.Lists.{at_append, at_append_cases, at_append_right, at_map, at_within, at_set_cases, at_set_same, at_set_other, Each-at, Each-from_at}
+use Rattle.curp_base.proofs.Lists.{at_append, at_append_cases, at_append_right, at_map, at_within, at_set_cases, at_set_other, Each-at, Each-from_at}
 use Rattle.curp_msg.specs.declared.message.Message.{Message}
 use Rattle.curp_model.specs.World.{with_batch}
 use Rattle.curp_facts.specs.Facts.{IsAmong}

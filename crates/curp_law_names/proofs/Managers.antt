@@ -1,41 +1,38 @@
 -- Each input to the manager keeps the facts of names.
-use Rattle.std.proofs.Common.{◌≡◌, ◌≢◌, ◌≤◌, ◌<◌, ◌⊎◌, inl, inr, ℕ, zero, suc, ◌+◌, ◌==◌, ◌&&◌, Bool, true, false, not, nat_lt, nat_le, List, [], ◌∷◌, length, map, refl, sym, ◌∙◌, ap, subst, arith, Option, Some, None, Ok}
-use Rattle.std.specs.Prelude.{is_some, option_and_then, Result}
+use Rattle.std.proofs.Common.{◌≡◌, ◌≤◌, ℕ, suc, ◌==◌, ◌&&◌, Bool, true, false, not, nat_lt, nat_le, List, [], ◌∷◌, map, refl, sym, ap, subst, arith, Option, Some, None, Ok}
+use Rattle.std.specs.Prelude.{is_some, option_and_then}
 use Rattle.std.specs.BTreeSet.{insert_key}
-use Rattle.std.specs.List.{filter}
 use Rattle.std.specs.Option.{ok_or}
 use Rattle.std.specs.Ordering.{nat_cmp, match_ordering}
 use Rattle.std.specs.declared.cmp.Ordering.{Ordering}
 use Rattle.std.specs.declared.cmp.Ordering.TheVariants.{Less, Equal, Greater}
-use Rattle.std.proofs.lemmas.Bool.{cases_Bool, cond_both, eqb-true}
+use Rattle.std.proofs.lemmas.Bool.{cond_both}
 use Rattle.std.proofs.lemmas.Bool.Decides.{nat_tests}
 use Rattle.curp_base.specs.Cases.{◌>>=◌, first_there, only_if, refuse_if}
-use Rattle.curp_base.specs.Words.{At, Each, first_of, numbered}
+use Rattle.curp_base.specs.Words.{At, Each, numbered}
 use Rattle.curp_cmd.specs.declared.migration.Package.{Package}
 use Rattle.curp_cmd.specs.declared.node.NodeId.{NodeId}
-use Rattle.curp_msg.specs.Moved.{Moved, quiet, refuses, sends, unless_refused}
+use Rattle.curp_msg.specs.Moved.{Moved, quiet, unless_refused}
 use Rattle.curp_msg.specs.declared.body.Body.{Body}
 use Rattle.curp_msg.specs.declared.body.Body.TheVariants as body
 use Rattle.curp_msg.specs.declared.body.Parcel.{Parcel}
-use Rattle.curp_msg.specs.declared.body.Prepare.{Prepare}
 use Rattle.curp_msg.specs.declared.body.Recovered.{Recovered}
 use Rattle.curp_msg.specs.declared.config.PartConfig.{PartConfig}
 use Rattle.curp_msg.specs.declared.machine.Input.{Input}
 use Rattle.curp_msg.specs.declared.machine.Input.TheVariants as input
 use Rattle.curp_msg.specs.declared.machine.Local.{Local}
 use Rattle.curp_msg.specs.declared.machine.Local.TheVariants as local
-use Rattle.curp_msg.specs.declared.message.Message.{Message}
-use Rattle.curp_model.specs.Manager.{Attempted, Doing, ManagerState, Migration, Move, NewLists, Recovering, Replacing, Steady, adopted_at, adopts, attempt_at, expire, expires, finished, given_in, gives, heard, lists_in_work, manager_input, manager_ordered, migrate, migrates, move_for, moved_part, nudge, on_given, on_manager, on_prepared, on_recovered, on_taken, owner_of_range, owns_range, part_at, prepared_in, recovered_in, recovered_part, taken_in, tells_again, told, unless_numbers_end, version_adopted, version_in_work}
+use Rattle.curp_model.specs.Manager.{Doing, ManagerState, Migration, Move, NewLists, Recovering, Replacing, Steady, adopted_at, adopts, attempt_at, expire, expires, given_in, gives, heard, lists_in_work, manager_input, manager_ordered, migrate, migrates, moved_part, nudge, on_given, on_manager, on_prepared, on_recovered, on_taken, owner_of_range, owns_range, part_at, prepared_in, recovered_in, recovered_part, taken_in, tells_again, told, unless_numbers_end, version_adopted, version_in_work}
 use Rattle.curp_model.specs.Ranges.{Range, range_of}
 use Rattle.curp_model.specs.World.{World}
-use Rattle.curp_facts.specs.Facts.{ByRecovery, ByReplacement, IsAdoptedNow, IsAmong, IsGiven, Lists, lists_of_order, lists_of_part}
+use Rattle.curp_facts.specs.Facts.{ByRecovery, ByReplacement, IsAdoptedNow, IsAmong, IsGiven, lists_of_order, lists_of_part}
 use Rattle.curp_law_names.specs.Nodes.{sender_kind}
 use Rattle.curp_law_names.proofs.Keepers.{InputFits}
 use Rattle.curp_law_names.specs.Names.{IsClientNumber, IsOf, Names, RecoveringOk, ReplacingOk}
 use Rattle.curp_law_names.proofs.Adoptions.{adopts_good}
 use Rattle.curp_law_names.proofs.Keeps.{entry_now, entry_numbered, numbered_now}
 use Rattle.curp_law_names.proofs.Lists.{at_mapped, filter_among, first_among, place}
-use Rattle.curp_law_names.proofs.Quiet.{AllAgain, Good, Stays, quietly, stays_beside, stays_self}
+use Rattle.curp_law_names.proofs.Quiet.{Good, Stays, quietly, stays_beside, stays_self}
 use Rattle.curp_law_names.proofs.Recoveries.{recover_good, refused_good}
 use Rattle.curp_law_names.proofs.Replacements.{replace_good}
 use Rattle.curp_law_names.proofs.Says.{adopted_again, configuration_again, expire_again, nudge_again, serves_now}

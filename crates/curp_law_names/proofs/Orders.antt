@@ -1,7 +1,7 @@
 -- The manager orders something for a partition: the entries stay, and something else is being done.
-use Rattle.std.proofs.Common.{◌≡◌, ◌≢◌, ◌≤◌, ◌<◌, ◌⊎◌, inl, inr, ℕ, ◌+◌, ◌-◌, List, length, refl, sym, ap, subst, arith, Option, Some}
+use Rattle.std.proofs.Common.{◌≡◌, ◌≤◌, inl, inr, ℕ, ◌+◌, ◌-◌, List, refl, subst, Option, Some}
 use Rattle.std.proofs.lemmas.List.{length-set}
-use Rattle.curp_base.specs.Words.{At, Each, numbered}
+use Rattle.curp_base.specs.Words.{Each, numbered}
 use Rattle.curp_base.proofs.Lists.{Each-weaker}
 use Rattle.curp_msg.specs.Moved.{Moved, sends}
 use Rattle.curp_msg.specs.declared.config.PartConfig.{PartConfig}
@@ -11,7 +11,7 @@ use Rattle.curp_model.specs.Manager.{Attempted, Doing, ManagerState, Next, with_
 use Rattle.curp_model.specs.World.{World}
 use Rattle.curp_facts.specs.Facts.{IsAdoptedNow, Lists, lists_of_part}
 use Rattle.curp_law_names.specs.Names.{DoingOk, IsClientNumber, Names}
-use Rattle.curp_law_names.proofs.Keeps.{chain_stays, entry_numbered, names_moved, numbered_now, top_stays}
+use Rattle.curp_law_names.proofs.Keeps.{chain_stays, names_moved, top_stays}
 use Rattle.curp_law_names.proofs.Later.{Later, client_later, doing_later}
 use Rattle.curp_law_names.proofs.Lists.{number_within, numbered_set_cases}
 use Rattle.curp_law_names.proofs.Moves.{Fresh, FreshOk, IsNewlyAdopted, Move, Utters}

@@ -1,13 +1,12 @@
 -- What a serving master says fits, from itself, and it goes by given lists.
-use Rattle.std.proofs.Common.{◌≡◌, ℕ, ◌-◌, ◌+◌, ◌==◌, ◌&&◌, nat_lt, nat_le, not, Bool, true, false, List, [], ◌∷◌, ◌++◌, length, map, drop, take, Option, Some, None, refl, sym, ◌∙◌, ap, subst, arith, slice_get}
-use Rattle.std.specs.Prelude.{⊤, flat_map}
+use Rattle.std.proofs.Common.{◌≡◌, ℕ, ◌+◌, ◌==◌, ◌&&◌, nat_lt, nat_le, not, Bool, true, false, List, [], ◌∷◌, ◌++◌, length, map, Option, Some, None, refl, subst, slice_get}
 use Rattle.std.specs.BTreeSet.{insert_key}
 use Rattle.std.specs.FinMap as store
 use Rattle.std.specs.Ordering.{nat_cmp}
 use Rattle.std.specs.List.{filter}
 use Rattle.std.proofs.lemmas.Bool.{cond_both}
-use Rattle.curp_base.specs.Words.{At, Each, rises_past}
-use Rattle.curp_base.proofs.Lists.{Each-append, Each-at, Each-drop, Each-map, Each-take}
+use Rattle.curp_base.specs.Words.{Each}
+use Rattle.curp_base.proofs.Lists.{Each-append, Each-at, Each-drop, Each-map}
 use Rattle.curp_cmd.specs.Hash.{hashes}
 use Rattle.curp_cmd.specs.Node.{client_node, is_among, manager_node, master_node}
 use Rattle.curp_cmd.specs.declared.command.Answer.{Answer}
@@ -34,19 +33,18 @@ use Rattle.curp_msg.specs.declared.body.Prepare.{Prepare}
 use Rattle.curp_msg.specs.declared.body.TakeOut.{TakeOut}
 use Rattle.curp_msg.specs.declared.machine.Local.{Local}
 use Rattle.curp_msg.specs.declared.machine.Local.TheVariants as local
-use Rattle.curp_msg.specs.declared.message.Message.{Message}
 use Rattle.curp_range.specs.Spans.{is_covered}
 use Rattle.curp_model.specs.declared.Check.{Check}
 use Rattle.curp_model.specs.declared.Check.TheVariants.{Expired, Known, New, Stale}
 use Rattle.curp_model.specs.Log.{LastGive, LastTake, package_of}
-use Rattle.curp_model.specs.Master.{AtOnce, Captured, Deny, Execute, HoldBack, MasterState, Open, Phase, Switch, Switching, Tell, TellAgain, Verdict, WhenSynced, Wish, adopted_in, all_have, append_to, appends, begins_round, between, by_message, captures_read, carries_out, collect_in, collects, executes, fresh_backups, give_after, goes_on, holds_back, is_clean, is_open, is_ready, marked_free, moved_entry, on_appended, on_collected, on_expire, on_give, on_read, on_serving, on_stored, on_take, on_update, prepare_in, prepares, pushed, push_give, push_take, raised, read_command, read_of, read_refusal, refuse, reply, serving_ordered, settle, state_of, stored_on, switch_to, sync_in, synced, synced_replies, synced_reply, take_after, told_again, treat, treated, treats, unless_it_ends, value_of, verdict}
+use Rattle.curp_model.specs.Master.{AtOnce, Captured, Deny, Execute, HoldBack, MasterState, Open, Phase, Switch, Switching, Tell, TellAgain, Verdict, WhenSynced, Wish, adopted_in, all_have, append_to, appends, begins_round, between, by_message, captures_read, carries_out, collect_in, collects, executes, fresh_backups, give_after, goes_on, holds_back, is_clean, is_open, is_ready, marked_free, moved_entry, on_appended, on_collected, on_expire, on_read, on_serving, on_update, prepare_in, prepares, pushed, push_take, raised, read_command, read_of, read_refusal, refuse, reply, serving_ordered, settle, state_of, stored_on, switch_to, sync_in, synced, synced_replies, synced_reply, take_after, told_again, treat, treated, unless_it_ends, value_of, verdict}
 use Rattle.curp_model.specs.Named.{IsNodeOf}
 use Rattle.curp_model.specs.Ranges.{owns_all}
 use Rattle.curp_model.specs.Table.{check, is_gone}
 use Rattle.curp_model.specs.World.{World}
-use Rattle.curp_facts.specs.Facts.{ByReplacement, IsAmong, IsGiven, Lists, WasSent, lists_of_part}
+use Rattle.curp_facts.specs.Facts.{ByReplacement, Lists, WasSent}
 use Rattle.curp_facts.specs.Kept.{lists_of_master}
-use Rattle.curp_law_names.specs.Names.{GivenOk, IsOf, Names}
+use Rattle.curp_law_names.specs.Names.{IsOf, Names}
 use Rattle.curp_law_names.specs.Nodes.{BodyFits, EntryAsked, IsAsked, MessageFits, NextGiven, ServesBy, ServingFits, SuspectsAsked, sender_kind}
 use Rattle.curp_law_names.proofs.Clients.{is_manager}
 use Rattle.curp_law_names.proofs.Keepers.{AllSaid, Said, each_filter}
@@ -91,7 +89,7 @@ module _ (w : World) (n : Names w) (k : ℕ) (me : IsNodeOf w kind.Master k) whe
     appends_said : AllSaid w (master_node k) (appends k m)
     appends_said = Each-map (Said w (master_node k)) (append_to k m) (stored_on m)
         (each_among (λ (b : NodeId). Said w (master_node k) (append_to k m b)) (stored_on m) (λ b a.
-            master_said w k b _ (record { sender = (refl, me); addressee = among_each (IsOf w kind.Backup) (stored_on m) nodes b a; fits = Each-drop (EntryAsked w) _ m.log ok.entries })))
+        master_said w k b _ (record { sender = (refl, me); addressee = among_each (IsOf w kind.Backup) (stored_on m) nodes b a; fits = Each-drop (EntryAsked w) _ m.log ok.entries })))
       where
         nodes : Each (IsOf w kind.Backup) (stored_on m)
         nodes = Each-append (IsOf w kind.Backup) m.backups _ (n.given its ok.given).backups (fresh_are m.phase ok.next)
@@ -119,18 +117,22 @@ module _ (w : World) (n : Names w) (k : ℕ) (me : IsNodeOf w kind.Master k) whe
     settle_goes =
         let due : List ℕ = filter (λ index. nat_lt index (synced m)) m.held in
         let values : List Captured = filter (is_ready m) m.captures in
-        let reads : Each (λ (c : Captured). IsNodeOf w kind.Client c.id.client) values = each_filter _ (is_ready m) m.captures ok.reads in
-        (record { given = ok.given; next = ok.next; its_lo = ok.its_lo; its_hi = ok.its_hi; entries = ok.entries; reads = each_filter _ (λ c. not (is_ready m c)) m.captures ok.reads },
-        Each-append (Said w (master_node k)) (synced_replies k m due ++ map (value_of k m) values) _
-            (Each-append (Said w (master_node k)) (synced_replies k m due) _
-                (each_flat (Said w (master_node k)) _ due (λ index a. synced_said index (slice_get m.log index) refl))
-                (Each-map (Said w (master_node k)) (value_of k m) values (each_among (λ (c : Captured). Said w (master_node k) (value_of k m c)) values (λ c a.
-                    value_said c (among_each (λ (x : Captured). IsNodeOf w kind.Client x.id.client) values reads c a)))))
-            (each_flat (Said w (master_node k)) (moved_entry k) (between m.settled (synced m) m.log) (λ e a. moved_said e)))
+        let reads : Each (λ (c : Captured). IsNodeOf w kind.Client c.id.client) values = each_filter _ (is_ready m) m.captures ok.reads in (
+          record { given = ok.given; next = ok.next; its_lo = ok.its_lo; its_hi = ok.its_hi; entries = ok.entries; reads = each_filter _ (λ c. not (is_ready m c)) m.captures ok.reads },
+          Each-append (Said w (master_node k)) (synced_replies k m due ++ map (value_of k m) values) _
+              (Each-append (Said w (master_node k)) (synced_replies k m due) _
+              (each_flat (Said w (master_node k)) _ due (λ index a. synced_said index (slice_get m.log index) refl))
+              (Each-map (Said w (master_node k)) (value_of k m) values (each_among (λ (c : Captured). Said w (master_node k) (value_of k m c)) values (λ c a.
+              value_said c (among_each (λ (x : Captured). IsNodeOf w kind.Client x.id.client) values reads c a)))))
+              (each_flat (Said w (master_node k)) (moved_entry k) (between m.settled (synced m) m.log) (λ e a. moved_said e)),
+        )
 
     collects_goes : Goes (collects k m)
-    collects_goes = (ok, Each-map (Said w (master_node k)) _ m.witnesses (each_among _ m.witnesses (λ to a.
-        master_said w k to _ (record { sender = (refl, me); addressee = among_each (IsOf w kind.Witness) m.witnesses (n.given its ok.given).witnesses to a; fits = tt }))))
+    collects_goes = (
+      ok,
+      Each-map (Said w (master_node k)) _ m.witnesses (each_among _ m.witnesses (λ to a.
+          master_said w k to _ (record { sender = (refl, me); addressee = among_each (IsOf w kind.Witness) m.witnesses (n.given its ok.given).witnesses to a; fits = tt }))),
+    )
 
   -- a round begins
   round_goes : (m : MasterState) → ServingFits w k m → Goes (begins_round k m)

@@ -1,6 +1,6 @@
 -- The shape of a world and the names in it: what holds of the manager's numbers, of the lists that it gave, of those that it
 -- adopted, of what it is doing, and of whatever it has said.
-use Rattle.std.specs.Prelude.{◌≡◌, ◌≢◌, ◌≤◌, ◌<◌, ◌⊎◌, ℕ, ◌+◌, List, length, Option, Some, ⊤}
+use Rattle.std.specs.Prelude.{◌≡◌, ◌≢◌, ◌≤◌, ◌<◌, ◌⊎◌, ℕ, ◌+◌, List, length, Some, ⊤}
 use Rattle.curp_base.specs.Words.{At, Each, numbered}
 use Rattle.curp_cmd.specs.Node.{manager_node, master_node}
 use Rattle.curp_cmd.specs.declared.node.Keeper.{Keeper}
@@ -17,10 +17,10 @@ use Rattle.curp_msg.specs.declared.body.Recover.{Recover}
 use Rattle.curp_msg.specs.declared.body.Start.{Start}
 use Rattle.curp_msg.specs.declared.config.Config.{Config}
 use Rattle.curp_msg.specs.declared.config.PartConfig.{PartConfig}
-use Rattle.curp_model.specs.Manager.{Doing, Next, Recovering, Replacing, Shape, Steady}
+use Rattle.curp_model.specs.Manager.{Doing, Recovering, Replacing, Shape, Steady}
 use Rattle.curp_model.specs.Named.{IsNodeOf}
 use Rattle.curp_model.specs.World.{World}
-use Rattle.curp_facts.specs.Facts.{IsAdoptedNow, IsAmong, IsGiven, Lists, WasAdopted, WasSent, hi_of, lists_of_order, lists_of_part, lo_of}
+use Rattle.curp_facts.specs.Facts.{IsAdoptedNow, IsAmong, IsGiven, Lists, WasAdopted, WasSent, hi_of, lists_of_part, lo_of}
 
 -- ---- numbers
 
