@@ -17,7 +17,7 @@ use Rattle.curp_model.specs.Named.{IsNodeOf}
 use Rattle.curp_model.specs.Ranges.{opening_range}
 use Rattle.curp_model.specs.World.{World}
 use Rattle.curp_facts.specs.Facts.{AtOpening, ByRecovery, ByReplacement, IsGiven, Lists, WasAdopted, WasSent, lists_of_part}
-use Rattle.curp_law_names.specs.Names.{AdoptedOk, ConfigurationOk, DoingOk, GivenOk, IsClientNumber, IsMasterOf, IsOf, IsAdoptedMaster, ManagerSays, OrderOk}
+use Rattle.curp_law_names.specs.Names.{AdoptedOk, ConfigurationOk, DoingOk, GivenOk, IsClientNumber, IsMasterOf, IsOf, IsAdoptedMaster, IsToldOf, ManagerSays, OrderOk}
 
 -- a world after a step: the header's numbers stay, nodes and numbers grow, and what was sent was sent
 pub record Later (w v : World) : Type 0 where
@@ -146,3 +146,13 @@ module _ {w v : World} (g : Later w v) where
     its_witness = ok.its_witness;
     sent = g.sent _ ok.sent;
   }
+
+  -- why lists are adopted stays so
+  pub told_later : (l : Lists) → IsToldOf w l → IsToldOf v l
+  told_later l why = elim why [
+    | inl one ↦ inl one
+    | inr told ↦ inr (elim told [
+      | inl r ↦ inl (record { order = r.order; ordered = g.sent _ r.ordered; its_lists = r.its_lists; from = r.from; told = g.sent _ r.told })
+      | inr p ↦ inr (record { prepare = p.prepare; sent = g.sent _ p.sent; its_version = p.its_version; from = p.from; told = g.sent _ p.told })
+    ])
+  ]

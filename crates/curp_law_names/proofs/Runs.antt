@@ -89,7 +89,7 @@ module _ (w : World) (both : Both w) (events : List Event) where
   manager_keeps given comes =
       let r : Moved ManagerState = manager_input w.manager given in
       let adopted : Option Attempted = adoption w.manager given in
-      let good = manager_good n given (message_comes given comes) in
+      let good = manager_good n given comes in
       let after = good.1 adopted events in
       record { both = keeps r adopted good.0 after.0 after.1; later = after.1 }
     where

@@ -20,7 +20,7 @@ use Rattle.curp_msg.specs.declared.config.PartConfig.{PartConfig}
 use Rattle.curp_model.specs.Manager.{Doing, Recovering, Replacing, Shape, Steady}
 use Rattle.curp_model.specs.Named.{IsNodeOf}
 use Rattle.curp_model.specs.World.{World}
-use Rattle.curp_facts.specs.Facts.{IsAdoptedNow, IsAmong, IsGiven, Lists, WasAdopted, WasSent, hi_of, lists_of_part, lo_of}
+use Rattle.curp_facts.specs.Facts.{IsAdoptedNow, IsAmong, IsGiven, Lists, WasAdopted, WasSent, hi_of, lists_of_order, lists_of_part, lo_of}
 
 -- ---- numbers
 
@@ -169,6 +169,26 @@ pub record Top (w : World) (now : Lists) : Type 0 where
   pub versions : (l : Lists) → WasAdopted w l → l.part ≡ now.part → l.version ≤ now.version
   pub last : (l : Lists) → WasAdopted w l → l.part ≡ now.part → l.version ≡ now.version → l ≡ now
 
+-- lists of an order to recover, of which the manager was told that they are recovered
+pub record RecoveredFor (w : World) (l : Lists) : Type 0 where
+  pub order : Recover
+  pub ordered : WasSent w (says manager_node l.master (body.Recover order))
+  pub its_lists : lists_of_order l.master order ≡ l
+  pub from : NodeId
+  pub told : WasSent w (says from manager_node (body.Recovered (record { part = l.part; epoch = l.epoch })))
+
+-- new lists that were sent to their master, of which the manager was told that they are prepared
+pub record PreparedFor (w : World) (l : Lists) : Type 0 where
+  pub prepare : Prepare
+  pub sent : WasSent w (says manager_node l.master (body.Prepare prepare))
+  pub its_version : prepare.version ≡ l.version
+  pub from : NodeId
+  pub told : WasSent w (says from manager_node (body.Prepared l.version))
+
+-- why lists are adopted: they are of the opening, or somebody told the manager that they are recovered or prepared
+abbrev pub IsToldOf : World → Lists → Type 0
+IsToldOf w l = (l.version ≡ 1) ⊎ (RecoveredFor w l ⊎ PreparedFor w l)
+
 -- the fresh node of a replacement stands in its new lists
 abbrev pub IsPlaced : Keeper → NodeId → Prepare → Type 0
 IsPlaced keeper.Backup fresh p = IsAmong fresh p.backups
@@ -217,6 +237,7 @@ pub record Names (w : World) : Type 0 where
   pub top : (c : PartConfig) → IsAdoptedNow w c → Top w (lists_of_part c)
   -- of the adopted lists of a partition, those of a larger version have no smaller epoch
   pub chain : (l k : Lists) → WasAdopted w l → WasAdopted w k → l.part ≡ k.part → l.version ≤ k.version → l.epoch ≤ k.epoch
+  pub adopted_for : (l : Lists) → WasAdopted w l → IsToldOf w l
   pub doing : (c : PartConfig) (d : Doing) → IsAdoptedNow w c → numbered w.manager.doing c.part ≡ Some d → DoingOk w (lists_of_part c) d
   -- who is gone is a client of the header
   pub gone : Each (IsClientNumber w) w.manager.gone
