@@ -11,7 +11,7 @@ use Rattle.curp_model.specs.World.{World}
 use Rattle.curp_facts.specs.Facts.{IsAdoptedNow, IsGiven, Lists, WasAdopted, lists_of_part}
 use Rattle.curp_law_names.specs.Names.{DoingOk, IsClientNumber, IsToldOf, Names, Top}
 use Rattle.curp_law_names.proofs.Keeps.{chain_adopted, entry_numbered, names_moved, numbered_now, told_adopted, top_adopted, top_stays}
-use Rattle.curp_law_names.proofs.Later.{Later, client_later, doing_later, given_later}
+use Rattle.curp_law_names.proofs.Later.{Later, client_later, doing_later, moving_later, given_later}
 use Rattle.curp_law_names.proofs.Lists.{number_within, numbered_set_cases}
 use Rattle.curp_law_names.proofs.Moves.{Adoption, Move}
 use Rattle.curp_law_names.proofs.Quiet.{Good}
@@ -98,6 +98,7 @@ module _ {w : World} (n : Names w) (p : ℕ) (now new : PartConfig)
     chain = chain_adopted n its moves given (lists_of_part now) (n.top now (numbered_now n p now here)) (sym part) epoch version;
     doing = doing_now;
     gone = Each-weaker (IsClientNumber w) (IsClientNumber after) (client_later later) w.manager.gone n.gone;
+    moving = moving_later later w.manager.moving n.moving;
   })
 
 -- lists that are adopted keep all

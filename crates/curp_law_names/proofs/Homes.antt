@@ -1,7 +1,7 @@
 -- Homes of backups and witnesses, nodes by their names, and the order of each master that recovered.
-use Rattle.std.proofs.Common.{◌≡◌, ◌≤◌, ◌<◌, ◌⊎◌, inl, inr, ℕ, zero, suc, ◌+◌, List, length, refl, sym, ◌∙◌, ap, subst, arith, Some}
+use Rattle.std.proofs.Common.{◌≡◌, ◌≤◌, ◌<◌, inl, inr, ℕ, zero, suc, List, length, refl, sym, ◌∙◌, ap, subst, arith, Some}
 use Rattle.std.proofs.lemmas.Bool.{cases_eq}
-use Rattle.curp_base.specs.Words.{At, Each, numbered, numbers_from}
+use Rattle.curp_base.specs.Words.{numbered, numbers_from}
 use Rattle.curp_base.proofs.Lists.{at_some}
 use Rattle.curp_cmd.specs.Node.{manager_node}
 use Rattle.curp_cmd.specs.declared.node.NodeId.{NodeId}

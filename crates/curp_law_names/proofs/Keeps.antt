@@ -5,7 +5,7 @@ use Rattle.curp_msg.specs.declared.config.PartConfig.{PartConfig}
 use Rattle.curp_model.specs.Manager.{Doing}
 use Rattle.curp_model.specs.World.{World}
 use Rattle.curp_facts.specs.Facts.{IsAdoptedNow, IsAmong, IsGiven, Lists, WasAdopted, lists_of_part}
-use Rattle.curp_law_names.specs.Names.{DoingOk, IsClientNumber, IsToldOf, Names, NumbersOk, ShapeOk, Top}
+use Rattle.curp_law_names.specs.Names.{DoingOk, IsClientNumber, IsToldOf, MovingOk, Names, NumbersOk, ShapeOk, Top}
 use Rattle.curp_law_names.proofs.Later.{adopted_later, told_later}
 use Rattle.curp_law_names.proofs.Lists.{at_place, place}
 use Rattle.curp_law_names.proofs.Moves.{Adoption, Fresh, FreshOk, IsNewlyAdopted, Move, adopted_back, agree_kept, given_kept, one_order_kept, says_kept, versions_kept}
@@ -19,6 +19,7 @@ pub record Holds (v : World) : Type 0 where
   pub adopted_for : (l : Lists) → WasAdopted v l → IsToldOf v l
   pub doing : (c : PartConfig) (d : Doing) → IsAdoptedNow v c → numbered v.manager.doing c.part ≡ Some d → DoingOk v (lists_of_part c) d
   pub gone : Each (IsClientNumber v) v.manager.gone
+  pub moving : MovingOk v v.manager.moving
 
 module _ {w v : World} (n : Names w) (f : Fresh) (m : Move w v f) (fresh : FreshOk w v f) where
   -- a move keeps all
@@ -37,6 +38,7 @@ module _ {w v : World} (n : Names w) (f : Fresh) (m : Move w v f) (fresh : Fresh
     adopted_for = h.adopted_for;
     doing = h.doing;
     gone = h.gone;
+    moving = h.moving;
   }
 
   was_adopted : (l now : Lists) → ((k : Lists) → IsNewlyAdopted f k → k.part ≡ now.part → ⊥) → WasAdopted v l → l.part ≡ now.part → WasAdopted w l

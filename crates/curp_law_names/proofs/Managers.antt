@@ -26,10 +26,10 @@ use Rattle.curp_msg.specs.declared.machine.Local.TheVariants as local
 use Rattle.curp_model.specs.Manager.{Doing, ManagerState, Migration, Move, NewLists, Recovering, Replacing, Steady, adopted_at, adopts, attempt_at, expire, expires, given_in, gives, heard, lists_in_work, manager_input, manager_ordered, migrate, migrates, moved_part, nudge, on_given, on_manager, on_prepared, on_recovered, on_taken, owner_of_range, owns_range, part_at, prepared_in, recovered_in, recovered_part, taken_in, tells_again, told, unless_numbers_end, version_adopted, version_in_work}
 use Rattle.curp_model.specs.Ranges.{Range, range_of}
 use Rattle.curp_model.specs.World.{World}
-use Rattle.curp_facts.specs.Facts.{ByRecovery, ByReplacement, IsAdoptedNow, IsAmong, IsGiven, WasSent, lists_of_order, lists_of_part}
+use Rattle.curp_facts.specs.Facts.{ByRecovery, ByReplacement, IsAdoptedNow, IsAmong, IsGiven, WasSent, WasTaken, lists_of_order, lists_of_part}
 use Rattle.curp_law_names.specs.Nodes.{MessageFits}
 use Rattle.curp_law_names.proofs.Clients.{Arrives, is_manager}
-use Rattle.curp_law_names.specs.Names.{IsClientNumber, IsOf, Names, RecoveringOk, ReplacingOk}
+use Rattle.curp_law_names.specs.Names.{IsClientNumber, MovingOk, Names, RecoveringOk, ReplacingOk}
 use Rattle.curp_law_names.proofs.Adoptions.{adopts_good}
 use Rattle.curp_law_names.proofs.Keeps.{entry_now, entry_numbered, numbered_now}
 use Rattle.curp_law_names.proofs.Lists.{at_mapped, filter_among, first_among, place}
@@ -47,17 +47,17 @@ there_among (None ∷ xs) x e = let r = there_among xs x e in record { place = s
 
 module _ {w : World} (n : Names w) where
   -- what says nothing and changes no name
-  silent : (g : ManagerState) → Stays w.manager g → g.gone ≡ w.manager.gone → Good w (quiet g)
-  silent g s gone = quietly w n (quiet g) s (subst (Each (IsClientNumber w)) (sym gone) n.gone) tt
+  silent : (g : ManagerState) → Stays w.manager g → g.gone ≡ w.manager.gone → MovingOk w g.moving → Good w (quiet g)
+  silent g s gone moving = quietly w n (quiet g) s (subst (Each (IsClientNumber w)) (sym gone) n.gone) moving tt
 
   rests : Good w (quiet w.manager)
-  rests = silent w.manager (stays_self w.manager) refl
+  rests = silent w.manager (stays_self w.manager) refl n.moving
 
   -- ---- recoveries and replacements that are done
 
   again_good : (o : Option PartConfig) → ((c : PartConfig) → o ≡ Some c → IsAmong c w.manager.config.parts) → Good w (tells_again w.manager o)
   again_good None its = rests
-  again_good (Some c) its = quietly w n (tells_again w.manager (Some c)) (stays_self w.manager) n.gone (adopted_again n c (its c refl))
+  again_good (Some c) its = quietly w n (tells_again w.manager (Some c)) (stays_self w.manager) n.gone n.moving (adopted_again n c (its c refl))
 
   -- what is said to be adopted is a present entry
   adopted_at_among : (r : Recovered) (c : PartConfig) → adopted_at w.manager r ≡ Some c → IsAmong c w.manager.config.parts
@@ -145,7 +145,7 @@ module _ {w : World} (n : Names w) where
   owner_among lo hi c is = filter_among (owns_range lo hi) w.manager.config.parts c (first_among _ c is)
 
   migrates_good : (m : Move) → IsAmong m.owner w.manager.config.parts → Good w (migrates w.manager m)
-  migrates_good m a = quietly w n (migrates w.manager m) (stays_beside w.manager _ _ _) n.gone (record { from = refl; repeats = tt; is_so = serves_now n m.owner a }, tt)
+  migrates_good m a = quietly w n (migrates w.manager m) (stays_beside w.manager _ _ _) n.gone tt (record { from = refl; repeats = tt; is_so = serves_now n m.owner a }, tt)
 
   by_moving : (r : Range) (target owner : PartConfig) → IsAmong owner w.manager.config.parts → (busy : Bool)
       → Good w (unless_refused w.manager (migrates w.manager) (refuse_if busy 5 >>= λ _. Ok (record { range = r; owner = owner; target = target })))
@@ -176,19 +176,22 @@ module _ {w : World} (n : Names w) where
   unfolding migrate
   migrate_good lo hi to = by_ends to (range_of lo hi)
 
-  gives_good : (m : Migration) (carried : Package) (o : Option PartConfig) → numbered w.manager.config.parts m.target ≡ o → Good w (gives w.manager m carried o)
-  gives_good m carried None found = rests
-  gives_good m carried (Some target) found =
+  gives_good : (m : Migration) (carried : Package) → WasTaken w (record { migration = m.number; «package» = carried }) → (o : Option PartConfig) → numbered w.manager.config.parts m.target ≡ o → Good w (gives w.manager m carried o)
+  gives_good m carried told None found = rests
+  gives_good m carried told (Some target) found =
       let k = place w.manager.config.parts m.target target found in
-      quietly w n (gives w.manager m carried (Some target)) (stays_beside w.manager _ _ _) n.gone (record { from = refl; repeats = tt; is_so = serves_now n target (record { place = k.0; stands = k.2 }) }, tt)
+      quietly w n (gives w.manager m carried (Some target)) (stays_beside w.manager _ _ _) n.gone told (record { from = refl; repeats = tt; is_so = (serves_now n target (record { place = k.0; stands = k.2 }), told) }, tt)
 
-  taken_good : (t : Parcel) → Good w (on_taken w.manager t)
+  taken_good : (t : Parcel) → WasTaken w t → Good w (on_taken w.manager t)
   unfolding on_taken
-  taken_good t = by_migration w.manager.moving
+  taken_good t told = by_migration w.manager.moving
     where
+      taken_as : (m : Migration) → (m.number == t.migration) ≡ true → WasTaken w (record { migration = m.number; «package» = t.package })
+      taken_as m e = subst (λ (k : ℕ). WasTaken w (record { migration = k; «package» = t.package })) (sym (eqb-true m.number t.migration e)) told
+
       by_migration : (o : Option Migration) → Good w (taken_in w.manager t o)
       by_migration None = rests
-      by_migration (Some m) = cond_both (m.number == t.migration) _ _ (Good w) (λ y. gives_good m t.package (part_at w.manager m.target) refl) (λ y. rests)
+      by_migration (Some m) = cond_both (m.number == t.migration) _ _ (Good w) (λ y. gives_good m t.package (taken_as m y) (part_at w.manager m.target) refl) (λ y. rests)
 
   -- a migration that is done changes ranges alone
   moved_lists : (m : Migration) (xs : List PartConfig) → map lists_of_part (map (moved_part m) xs) ≡ map lists_of_part xs
@@ -206,7 +209,7 @@ module _ {w : World} (n : Names w) where
       by_migration : (o : Option Migration) → Good w (given_in w.manager number o)
       by_migration None = rests
       by_migration (Some m) = cond_both (m.number == number) _ _ (Good w)
-          (λ y. silent _ (record { shape = refl; epoch = refl; version = refl; master = refl; backup = refl; witness = refl; lists = moved_lists m w.manager.config.parts; doing = refl }) refl) (λ y. rests)
+          (λ y. silent _ (record { shape = refl; epoch = refl; version = refl; master = refl; backup = refl; witness = refl; lists = moved_lists m w.manager.config.parts; doing = refl }) refl tt) (λ y. rests)
 
   -- ---- clients that are gone, and nudges
 
@@ -220,7 +223,7 @@ module _ {w : World} (n : Names w) where
       go Greater more = (all.0, more)
 
   expires_good : (client : ℕ) → IsClientNumber w client → Good w (expires w.manager client)
-  expires_good client is = quietly w n (expires w.manager client) (stays_beside w.manager _ _ _) (inserted client is w.manager.gone n.gone) (expire_again n client is)
+  expires_good client is = quietly w n (expires w.manager client) (stays_beside w.manager _ _ _) (inserted client is w.manager.gone n.gone) n.moving (expire_again n client is)
 
   is_client : (client : ℕ) (a b : Bool) → nat_lt 0 client ≡ a → nat_le client w.manager.shape.clients ≡ b → Good w (unless_refused w.manager (expires w.manager) (refuse_if (not (a && b)) 1 >>= λ _. Ok client))
   is_client client true true low high = expires_good client (within client w.manager.shape.clients low high)
@@ -236,15 +239,15 @@ module _ {w : World} (n : Names w) where
 
   nudge_good : Good w (nudge w.manager)
   unfolding nudge
-  nudge_good = quietly w n (nudge w.manager) (stays_self w.manager) n.gone (nudge_again n)
+  nudge_good = quietly w n (nudge w.manager) (stays_self w.manager) n.gone n.moving (nudge_again n)
 
   -- ---- inputs
 
   heard_good : (from to : NodeId) (b : Body) → MessageFits w (says from to b) → WasSent w (says from to b) → Good w (heard w.manager from b)
-  heard_good from to body.Fetch fits sent = quietly w n (heard w.manager from body.Fetch) (stays_self w.manager) n.gone (record { from = refl; repeats = tt; is_so = (fits.sender, configuration_again n) }, tt)
+  heard_good from to body.Fetch fits sent = quietly w n (heard w.manager from body.Fetch) (stays_self w.manager) n.gone n.moving (record { from = refl; repeats = tt; is_so = (fits.sender, configuration_again n) }, tt)
   heard_good from to (body.Recovered r) fits sent = recovered_good from r (subst (λ (x : NodeId). WasSent w (says from x (body.Recovered r))) (is_manager w to fits.addressee) sent)
   heard_good from to (body.Prepared version) fits sent = prepared_good from version (subst (λ (x : NodeId). WasSent w (says from x (body.Prepared version))) (is_manager w to fits.addressee) sent)
-  heard_good from to (body.Taken t) fits sent = taken_good t
+  heard_good from to (body.Taken t) fits sent = taken_good t (record { node = from; told = subst (λ (x : NodeId). WasSent w (says from x (body.Taken t))) (is_manager w to fits.addressee) sent })
   heard_good from to (body.Given number) fits sent = given_good number
   heard_good from to _ fits sent = rests
 

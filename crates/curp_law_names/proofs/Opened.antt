@@ -176,6 +176,7 @@ module _ (h : Header) (its : IsHeader h) where
     adopted_for = λ l was. inl (ap (λ (x : Lists). x.version) (given_opening l was.given).2);
     doing = λ c d now at. steady c d at;
     gone = tt;
+    moving = tt;
   }
 
   -- ---- nodes

@@ -12,7 +12,7 @@ use Rattle.curp_model.specs.World.{World}
 use Rattle.curp_facts.specs.Facts.{IsAdoptedNow, Lists, lists_of_part}
 use Rattle.curp_law_names.specs.Names.{DoingOk, IsClientNumber, Names}
 use Rattle.curp_law_names.proofs.Keeps.{chain_stays, names_moved, told_stays, top_stays}
-use Rattle.curp_law_names.proofs.Later.{Later, client_later, doing_later}
+use Rattle.curp_law_names.proofs.Later.{Later, client_later, doing_later, moving_later}
 use Rattle.curp_law_names.proofs.Lists.{number_within, numbered_set_cases}
 use Rattle.curp_law_names.proofs.Moves.{Fresh, FreshOk, IsNewlyAdopted, Move, Utters}
 use Rattle.curp_law_names.proofs.Steps.{Rises, manager_moved, moved_later, moved_move, moved_numbers}
@@ -76,4 +76,5 @@ module _ {w : World} (n : Names w) (p : ℕ) (c : PartConfig) (here : numbered w
         adopted_for = told_stays n f m fresh none;
         doing = doing_now ok;
         gone = Each-weaker (IsClientNumber w) (IsClientNumber after) (client_later later) w.manager.gone n.gone;
+        moving = moving_later later w.manager.moving n.moving;
       })

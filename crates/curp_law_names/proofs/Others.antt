@@ -16,11 +16,11 @@ use Rattle.curp_model.specs.Recovery.{MasterStage}
 use Rattle.curp_model.specs.Witness.{WitnessState}
 use Rattle.curp_model.specs.World.{World, kept, messages, with_backup, with_client, with_master, with_witness}
 use Rattle.curp_facts.specs.Facts.{lists_of_part}
-use Rattle.curp_law_names.specs.Names.{IsClientNumber, Names, NumbersOk}
+use Rattle.curp_law_names.specs.Names.{IsClientNumber, MovingOk, Names, NumbersOk}
 use Rattle.curp_law_names.specs.Nodes.{BackupFits, ClientFits, MasterFits, MessageFits, Nodes, WitnessFits}
 use Rattle.curp_law_names.proofs.Fits.{backup_later, client_fits_later, master_later, message_later, witness_later}
 use Rattle.curp_law_names.proofs.Keepers.{AllSaid, Said}
-use Rattle.curp_law_names.proofs.Later.{Later, client_later}
+use Rattle.curp_law_names.proofs.Later.{Later, client_later, moving_later}
 use Rattle.curp_law_names.proofs.Lists.{all_of-kept, among_each, number_within, numbered_set_cases}
 use Rattle.curp_law_names.proofs.Moves.{Move, Nothing}
 use Rattle.curp_law_names.proofs.Quiet.{names_stay}
@@ -85,6 +85,7 @@ module _ {w v : World} (n : Names w) (out : List Message) (b : Beside w v out) w
   beside_names me other all = names_stay n (beside_moves me other all) beside_numbers
       (ap (λ (g : ManagerState). map lists_of_part g.config.parts) b.manager) (ap (λ (g : ManagerState). g.doing) b.manager)
       (subst (λ (g : ManagerState). Each (IsClientNumber v) g.gone) (sym b.manager) (Each-weaker (IsClientNumber w) (IsClientNumber v) (client_later beside_later) w.manager.gone n.gone))
+      (subst (λ (g : ManagerState). MovingOk v g.moving) (sym b.manager) (moving_later beside_later w.manager.moving n.moving))
 
   pub beside_said : (me : NodeId) → AllSaid w me out → Each (MessageFits w) (messages w) → Each (MessageFits v) (messages v)
   beside_said me all was = subst (Each (MessageFits v)) (sym b.came) (Each-append (MessageFits v) (messages w) out

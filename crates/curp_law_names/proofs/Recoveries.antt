@@ -147,7 +147,7 @@ recover_from master o = Each-append IsManagers (install_on o.epoch o.backups ++ 
 module _ {w : World} (n : Names w) where
   -- a refusal changes nothing
   pub refused_good : (number : ℕ) → Good w (refuses w.manager number)
-  refused_good number = quietly w n (refuses w.manager number) (stays_self w.manager) n.gone tt
+  refused_good number = quietly w n (refuses w.manager number) (stays_self w.manager) n.gone n.moving tt
 
   by_witness : (p : ℕ) (c : PartConfig) → numbered w.manager.config.parts p ≡ Some c → (from : NodeId) → IsAmong from c.backups
       → (place : ℕ) (o : Option NodeId) → numbered c.witnesses place ≡ o

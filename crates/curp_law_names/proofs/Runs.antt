@@ -57,7 +57,7 @@ module _ (v : World) (n : Names v) where
   manager_fits node (body.Prepare p) sent ok = record { sender = (refl, refl); addressee = subst (IsOf v kind.Master) ok.its_master (n.given ok.before ok.was.given).master; fits = tt }
   manager_fits node (body.Adopted a) sent ok = record { sender = (refl, refl); addressee = subst (IsOf v kind.Master) ok.its_master (n.given ok.lists ok.was.given).master; fits = tt }
   manager_fits node (body.TakeOut t) sent ok = record { sender = (refl, refl); addressee = server node ok; fits = tt }
-  manager_fits node (body.GiveIn g) sent ok = record { sender = (refl, refl); addressee = server node ok; fits = tt }
+  manager_fits node (body.GiveIn g) sent ok = record { sender = (refl, refl); addressee = server node ok.0; fits = tt }
   manager_fits node (body.ExpireClient client) sent ok = record { sender = (refl, refl); addressee = server node ok.0; fits = tt }
   manager_fits node (body.Configuration config) sent ok = record { sender = (refl, refl); addressee = ok.0; fits = tt }
   manager_fits node _ sent ok = absurd ok

@@ -17,7 +17,7 @@ use Rattle.curp_msg.specs.declared.message.Message.{Message}
 use Rattle.curp_model.specs.Manager.{Doing, Migration, Recovering, Replacing, Steady, adopted_message, expire_messages, fresh_keeper, give_message, install_on, nudge_give, nudge_moving, nudge_part, recover_messages, replace_messages, start_on, take_message}
 use Rattle.curp_model.specs.World.{World}
 use Rattle.curp_facts.specs.Facts.{ByRecovery, ByReplacement, IsAmong, IsGiven, Lists, WasAdopted, WasSent, lists_of_order, lists_of_part, lists_of_prepare}
-use Rattle.curp_law_names.specs.Names.{AdoptedOk, ConfigurationOk, IsClientNumber, IsPlaced, IsAdoptedMaster, Names, RecoveringOk, ReplacingOk}
+use Rattle.curp_law_names.specs.Names.{IsCarried, MovingOk, AdoptedOk, ConfigurationOk, IsClientNumber, IsPlaced, IsAdoptedMaster, Names, RecoveringOk, ReplacingOk}
 use Rattle.curp_law_names.proofs.Keeps.{entry_now}
 use Rattle.curp_law_names.proofs.Lists.{each_among, among_each}
 use Rattle.curp_law_names.proofs.Quiet.{Again, AllAgain}
@@ -95,15 +95,15 @@ module _ {w : World} (n : Names w) where
   part_again c (Some Steady) a its = steady_again c a
   part_again c None a its = steady_again c a
 
-  give_again : (m : Migration) (o : Option Package) → AllAgain w (nudge_give w.manager m o)
-  give_again m None = each_flat (Again w) _ w.manager.config.parts (λ c a.
+  give_again : (m : Migration) (o : Option Package) → IsCarried w m.number o → AllAgain w (nudge_give w.manager m o)
+  give_again m None is = each_flat (Again w) _ w.manager.config.parts (λ c a.
       cond_both (c.part == m.source) (take_message c m.number m.range ∷ []) [] (AllAgain w) (λ y. (record { from = refl; repeats = tt; is_so = serves_now c a }, tt)) (λ y. tt))
-  give_again m (Some carried) = each_flat (Again w) _ w.manager.config.parts (λ c a.
-      cond_both (c.part == m.target) (give_message c m.number carried ∷ []) [] (AllAgain w) (λ y. (record { from = refl; repeats = tt; is_so = serves_now c a }, tt)) (λ y. tt))
+  give_again m (Some carried) is = each_flat (Again w) _ w.manager.config.parts (λ c a.
+      cond_both (c.part == m.target) (give_message c m.number carried ∷ []) [] (AllAgain w) (λ y. (record { from = refl; repeats = tt; is_so = (serves_now c a, is) }, tt)) (λ y. tt))
 
-  moving_again : (o : Option Migration) → AllAgain w (nudge_moving w.manager o)
-  moving_again None = tt
-  moving_again (Some m) = give_again m m.moved
+  moving_again : (o : Option Migration) → MovingOk w o → AllAgain w (nudge_moving w.manager o)
+  moving_again None is = tt
+  moving_again (Some m) is = give_again m m.moved is
 
   -- each master is told of a client of the header
   pub expire_again : (client : ℕ) → IsClientNumber w client → AllAgain w (expire_messages w.manager client)
@@ -118,7 +118,7 @@ module _ {w : World} (n : Names w) where
       Each-append (Again w) (parts ++ nudge_moving w.manager w.manager.moving) _
       (Each-append (Again w) parts _
       (each_flat (Again w) _ w.manager.config.parts (λ c a. part_again c (numbered w.manager.doing c.part) a refl))
-      (moving_again w.manager.moving))
+      (moving_again w.manager.moving n.moving))
       (each_flat (Again w) (expire_messages w.manager) w.manager.gone (λ client a. expire_again client (among_each (IsClientNumber w) w.manager.gone n.gone client a)))
 
   -- the configuration may be told

@@ -1,8 +1,9 @@
 -- The shape of a world and the names in it: what holds of the manager's numbers, of the lists that it gave, of those that it
 -- adopted, of what it is doing, and of whatever it has said.
-use Rattle.std.specs.Prelude.{◌≡◌, ◌≢◌, ◌≤◌, ◌<◌, ◌⊎◌, ℕ, ◌+◌, List, length, Some, ⊤}
+use Rattle.std.specs.Prelude.{◌≡◌, ◌≢◌, ◌≤◌, ◌<◌, ◌⊎◌, ℕ, ◌+◌, List, length, Option, Some, None, ⊤}
 use Rattle.curp_base.specs.Words.{At, Each, numbered}
 use Rattle.curp_cmd.specs.Node.{manager_node, master_node}
+use Rattle.curp_cmd.specs.declared.migration.Package.{Package}
 use Rattle.curp_cmd.specs.declared.node.Keeper.{Keeper}
 use Rattle.curp_cmd.specs.declared.node.Keeper.TheVariants as keeper
 use Rattle.curp_cmd.specs.declared.node.NodeId.{NodeId}
@@ -17,10 +18,10 @@ use Rattle.curp_msg.specs.declared.body.Recover.{Recover}
 use Rattle.curp_msg.specs.declared.body.Start.{Start}
 use Rattle.curp_msg.specs.declared.config.Config.{Config}
 use Rattle.curp_msg.specs.declared.config.PartConfig.{PartConfig}
-use Rattle.curp_model.specs.Manager.{Doing, Recovering, Replacing, Shape, Steady}
+use Rattle.curp_model.specs.Manager.{Doing, Migration, Recovering, Replacing, Shape, Steady}
 use Rattle.curp_model.specs.Named.{IsNodeOf}
 use Rattle.curp_model.specs.World.{World}
-use Rattle.curp_facts.specs.Facts.{IsAdoptedNow, IsAmong, IsGiven, Lists, WasAdopted, WasSent, hi_of, lists_of_order, lists_of_part, lo_of}
+use Rattle.curp_facts.specs.Facts.{IsAdoptedNow, IsAmong, IsGiven, Lists, WasAdopted, WasSent, WasTaken, hi_of, lists_of_order, lists_of_part, lo_of}
 
 -- ---- numbers
 
@@ -147,6 +148,16 @@ pub record ConfigurationOk (w : World) (config : Config) : Type 0 where
 abbrev pub IsClientNumber : World → ℕ → Type 0
 IsClientNumber w n = (1 ≤ n) × (n ≤ w.manager.shape.clients)
 
+-- a package that the manager keeps, or gives on, was told to it as that of the migration
+abbrev pub IsCarried : World → ℕ → Option Package → Type 0
+IsCarried w number None = ⊤
+IsCarried w number (Some carried) = WasTaken w (record { migration = number; «package» = carried })
+
+-- the package of the migration in work
+abbrev pub MovingOk : World → Option Migration → Type 0
+MovingOk w None = ⊤
+MovingOk w (Some m) = IsCarried w m.number m.moved
+
 -- what the manager has said to a node, by the kind of the message. It says nothing else
 abbrev pub ManagerSays : World → NodeId → Body → Type 0
 ManagerSays w node (body.Install epoch) = InstallOk w node epoch
@@ -155,7 +166,7 @@ ManagerSays w node (body.Recover o) = OrderOk w node o
 ManagerSays w node (body.Prepare p) = PrepareOk w node p
 ManagerSays w node (body.Adopted a) = AdoptedOk w node a
 ManagerSays w node (body.TakeOut t) = IsAdoptedMaster w node
-ManagerSays w node (body.GiveIn g) = IsAdoptedMaster w node
+ManagerSays w node (body.GiveIn g) = IsAdoptedMaster w node × WasTaken w g
 ManagerSays w node (body.ExpireClient client) = IsAdoptedMaster w node × IsClientNumber w client
 ManagerSays w node (body.Configuration config) = IsOf w kind.Client node × ConfigurationOk w config
 ManagerSays w node _ = ⊥
@@ -241,3 +252,4 @@ pub record Names (w : World) : Type 0 where
   pub doing : (c : PartConfig) (d : Doing) → IsAdoptedNow w c → numbered w.manager.doing c.part ≡ Some d → DoingOk w (lists_of_part c) d
   -- who is gone is a client of the header
   pub gone : Each (IsClientNumber w) w.manager.gone
+  pub moving : MovingOk w w.manager.moving
