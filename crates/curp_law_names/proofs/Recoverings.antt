@@ -66,13 +66,13 @@ module _ (w : World) (n : Names w) (k : ℕ) (me : IsNodeOf w kind.Master k) whe
     given = ByRecovery (master_node k) o sent
 
     fence_said : AllSaid w (master_node k) (fence_of k o)
-    fence_said = (master_said w k o.backup _ (record { sender = (refl, me); addressee = among_each (IsOf w kind.Backup) order_ok.before.backups (n.given order_ok.before order_ok.was.given).backups o.backup order_ok.its_backup; fits = tt }), tt)
+    fence_said = (master_said w k o.backup (body.Fence o.epoch) (record { sender = (refl, me); addressee = among_each (IsOf w kind.Backup) order_ok.before.backups (n.given order_ok.before order_ok.was.given).backups o.backup order_ok.its_backup; fits = record { order = o; ordered = sent; its_epoch = refl; its_backup = refl } }), tt)
 
     freeze_said : AllSaid w (master_node k) (freeze_of k o)
-    freeze_said = (master_said w k o.witness _ (record { sender = (refl, me); addressee = among_each (IsOf w kind.Witness) order_ok.before.witnesses (n.given order_ok.before order_ok.was.given).witnesses o.witness order_ok.its_witness; fits = tt }), tt)
+    freeze_said = (master_said w k o.witness (body.Freeze o.epoch) (record { sender = (refl, me); addressee = among_each (IsOf w kind.Witness) order_ok.before.witnesses (n.given order_ok.before order_ok.was.given).witnesses o.witness order_ok.its_witness; fits = record { order = o; ordered = sent; its_epoch = refl; its_witness = refl } }), tt)
 
     recovered_said : AllSaid w (master_node k) (recovered_message k o)
-    recovered_said = (master_said w k manager_node _ (record { sender = (refl, me); addressee = (refl, refl); fits = tt }), tt)
+    recovered_said = (master_said w k manager_node (body.Recovered (record { part = o.part; epoch = o.epoch })) (record { sender = (refl, me); addressee = (refl, refl); fits = record { order = o; ordered = sent; its_part = refl; its_epoch = refl } }), tt)
 
     whole_said : (r : Replayed) → Each (EntryAsked w) r.log → (backups : List NodeId) → Each (IsOf w kind.Backup) backups → AllSaid w (master_node k) (appends_whole k o r backups)
     whole_said r log backups nodes = Each-map (Said w (master_node k)) _ backups (each_among _ backups (λ to a.

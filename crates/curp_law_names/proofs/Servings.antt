@@ -45,7 +45,7 @@ use Rattle.curp_model.specs.World.{World}
 use Rattle.curp_facts.specs.Facts.{ByReplacement, Lists, WasSent}
 use Rattle.curp_facts.specs.Kept.{lists_of_master}
 use Rattle.curp_law_names.specs.Names.{IsOf, Names}
-use Rattle.curp_law_names.specs.Nodes.{BodyFits, EntryAsked, IsAsked, MessageFits, NextGiven, ServesBy, ServingFits, SuspectsAsked, sender_kind}
+use Rattle.curp_law_names.specs.Nodes.{BodyFits, EntryAsked, IsAsked, MessageFits, NextSent, ServesBy, ServingFits, SuspectsAsked, sender_kind}
 use Rattle.curp_law_names.proofs.Clients.{is_manager}
 use Rattle.curp_law_names.proofs.Keepers.{AllSaid, Said, each_filter}
 use Rattle.curp_law_names.proofs.Lists.{among_each, each_among}
@@ -62,6 +62,10 @@ master_said w k to b fits = record { from = refl; fits = fits }
 -- a refusal goes to its client
 pub refuse_said : (w : World) (k : ℕ) → IsNodeOf w kind.Master k → (id : RequestId) (why : Refusal) → IsNodeOf w kind.Client id.client → Said w (master_node k) (refuse k id why)
 refuse_said w k me id why asked = master_said w k (client_node id.client) _ (record { sender = (refl, me); addressee = (refl, asked); fits = refl })
+
+-- the lists of a switch, as they were sent
+abbrev list_of : Switch → Prepare
+list_of s = record { version = s.version; backups = s.backups; witnesses = s.witnesses }
 
 module _ (w : World) (n : Names w) (k : ℕ) (me : IsNodeOf w kind.Master k) where
   abbrev Goes : Moved MasterState → Type 0
@@ -82,9 +86,9 @@ module _ (w : World) (n : Names w) (k : ℕ) (me : IsNodeOf w kind.Master k) whe
     push_fits : (e : Entry) → EntryAsked w e → ServesBy w its m.lo m.hi (m.log ++ e ∷ []) m.captures m.phase
     push_fits e asked = record { given = ok.given; next = ok.next; its_lo = ok.its_lo; its_hi = ok.its_hi; entries = Each-append (EntryAsked w) m.log _ ok.entries (asked, tt); reads = ok.reads }
 
-    fresh_are : (p : Phase) → NextGiven w its p → Each (IsOf w kind.Backup) (fresh_backups p m.backups)
+    fresh_are : (p : Phase) → NextSent w its p → Each (IsOf w kind.Backup) (fresh_backups p m.backups)
     fresh_are Open next = tt
-    fresh_are (Switching s) next = each_filter (IsOf w kind.Backup) _ s.backups (n.given _ next).backups
+    fresh_are (Switching s) next = each_filter (IsOf w kind.Backup) _ s.backups (n.given _ (ByReplacement its (list_of s) ok.given next)).backups
 
     appends_said : AllSaid w (master_node k) (appends k m)
     appends_said = Each-map (Said w (master_node k)) (append_to k m) (stored_on m)
@@ -193,12 +197,16 @@ module _ (w : World) (n : Names w) (k : ℕ) (me : IsNodeOf w kind.Master k) whe
 
   -- ---- what backups say
 
-  prepares_goes : (m : MasterState) → ServingFits w k m → (s : Switch) → NextGiven w (lists_of_master (master_node k) m) (Switching s) → Goes (prepares k m s)
+  -- the version that is prepared is that of lists that were sent
+  prepared_fits : (s : Switch) → WasSent w (says manager_node (master_node k) (body.Prepare (list_of s))) → MessageFits w (says (master_node k) manager_node (body.Prepared s.version))
+  prepared_fits s next = record { sender = (refl, me); addressee = (refl, refl); fits = record { prepare = list_of s; sent = next; its_version = refl } }
+
+  prepares_goes : (m : MasterState) → ServingFits w k m → (s : Switch) → NextSent w (lists_of_master (master_node k) m) (Switching s) → Goes (prepares k m s)
   prepares_goes m ok s next = cond_both (not s.prepared && all_have m.acknowledged s.backups (length m.log) s.round) _ _ Goes
-      (λ y. (record { given = ok.given; next = next; its_lo = ok.its_lo; its_hi = ok.its_hi; entries = ok.entries; reads = ok.reads }, manager_told _ (record { sender = (refl, me); addressee = (refl, refl); fits = tt })))
+      (λ y. (record { given = ok.given; next = next; its_lo = ok.its_lo; its_hi = ok.its_hi; entries = ok.entries; reads = ok.reads }, manager_told (body.Prepared s.version) (prepared_fits s next)))
       (λ y. (ok, tt))
 
-  goes_goes : (m : MasterState) → ServingFits w k m → (p : Phase) → NextGiven w (lists_of_master (master_node k) m) p → Goes (goes_on k m p)
+  goes_goes : (m : MasterState) → ServingFits w k m → (p : Phase) → NextSent w (lists_of_master (master_node k) m) p → Goes (goes_on k m p)
   goes_goes m ok Open next = settle_goes m ok
   goes_goes m ok (Switching s) next = prepares_goes m ok s next
 
@@ -230,14 +238,14 @@ module _ (w : World) (n : Names w) (k : ℕ) (me : IsNodeOf w kind.Master k) whe
 
   prepare_goes : (m : MasterState) → ServingFits w k m → (q : Prepare) → WasSent w (says manager_node (master_node k) (body.Prepare q)) → (p : Phase) → Goes (prepare_in k m q p)
   prepare_goes m ok q sent Open = cond_both (nat_lt m.version q.version) _ _ Goes
-      (λ y. round_goes (record m { phase = Switching (switch_to m q) }) (record { given = ok.given; next = ByReplacement (lists_of_master (master_node k) m) q ok.given sent; its_lo = ok.its_lo; its_hi = ok.its_hi; entries = ok.entries; reads = ok.reads }))
+      (λ y. round_goes (record m { phase = Switching (switch_to m q) }) (record { given = ok.given; next = sent; its_lo = ok.its_lo; its_hi = ok.its_hi; entries = ok.entries; reads = ok.reads }))
       (λ y. (ok, tt))
   prepare_goes m ok q sent (Switching s) = cond_both (s.version == q.version) _ _ Goes (λ y. round_goes m ok) (λ y. (ok, tt))
 
-  adopted_goes : (m : MasterState) → ServingFits w k m → (version : ℕ) (p : Phase) → NextGiven w (lists_of_master (master_node k) m) p → Goes (adopted_in k m version p)
+  adopted_goes : (m : MasterState) → ServingFits w k m → (version : ℕ) (p : Phase) → NextSent w (lists_of_master (master_node k) m) p → Goes (adopted_in k m version p)
   adopted_goes m ok version Open next = (ok, tt)
   adopted_goes m ok version (Switching s) next = cond_both (s.version == version) _ _ Goes
-      (λ y. settle_goes (record m { version = s.version; backups = s.backups; witnesses = s.witnesses; phase = Open }) (record { given = next; next = tt; its_lo = ok.its_lo; its_hi = ok.its_hi; entries = ok.entries; reads = ok.reads })) (λ y. (ok, tt))
+      (λ y. settle_goes (record m { version = s.version; backups = s.backups; witnesses = s.witnesses; phase = Open }) (record { given = ByReplacement (lists_of_master (master_node k) m) (list_of s) ok.given next; next = tt; its_lo = ok.its_lo; its_hi = ok.its_hi; entries = ok.entries; reads = ok.reads })) (λ y. (ok, tt))
 
   -- ---- migrations and clients that are gone
 
@@ -288,10 +296,10 @@ module _ (w : World) (n : Names w) (k : ℕ) (me : IsNodeOf w kind.Master k) whe
   unfolding on_serving
   serving_hears m ok from to b sender fits here sent = unless_ended m ok (by_message k m from b) (by_message_goes m ok from to b sender fits here sent)
 
-  sync_goes : (m : MasterState) → ServingFits w k m → (p : Phase) → Goes (sync_in k m p)
-  sync_goes m ok Open = round_goes m ok
-  sync_goes m ok (Switching s) = let r = round_goes m ok in cond_both s.prepared _ _ Goes
-      (λ y. (r.0, (master_said w k manager_node _ (record { sender = (refl, me); addressee = (refl, refl); fits = tt }), r.1))) (λ y. r)
+  sync_goes : (m : MasterState) → ServingFits w k m → (p : Phase) → NextSent w (lists_of_master (master_node k) m) p → Goes (sync_in k m p)
+  sync_goes m ok Open next = round_goes m ok
+  sync_goes m ok (Switching s) next = let r = round_goes m ok in cond_both s.prepared _ _ Goes
+      (λ y. (r.0, (master_said w k manager_node (body.Prepared s.version) (prepared_fits s next), r.1))) (λ y. r)
 
   collect_goes : (m : MasterState) → ServingFits w k m → (p : Phase) → Goes (collect_in k m p)
   collect_goes m ok Open = collects_goes m ok
@@ -300,6 +308,6 @@ module _ (w : World) (n : Names w) (k : ℕ) (me : IsNodeOf w kind.Master k) whe
   -- an order comes to a serving master
   pub serving_told : (m : MasterState) → ServingFits w k m → (order : Local) → ServingFits w k (serving_ordered k m order).state × AllSaid w (master_node k) (serving_ordered k m order).messages
   unfolding serving_ordered
-  serving_told m ok local.Sync = unless_ended m ok (sync_in k m m.phase) (sync_goes m ok m.phase)
+  serving_told m ok local.Sync = unless_ended m ok (sync_in k m m.phase) (sync_goes m ok m.phase ok.next)
   serving_told m ok local.Collect = collect_goes m ok m.phase
   serving_told m ok _ = (ok, tt)
