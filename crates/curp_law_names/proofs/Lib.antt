@@ -21,3 +21,4 @@ pub mod Opened
 pub mod Runs
 pub mod Laws
 pub mod Homes
+pub mod Ready

@@ -3,7 +3,7 @@ use Rattle.std.proofs.Common.{◌≡◌, ◌≢◌, ◌⊎◌, inl, inr, ℕ, ze
 use Rattle.std.specs.List.{filter}
 use Rattle.std.proofs.lemmas.Bool.{cases_Bool}
 use Rattle.curp_base.specs.Words.{At, Each, all_of, first_of, last_of, numbered, numbers_from}
-use Rattle.curp_base.proofs.Lists.{at_append, at_append_cases, at_append_right, at_map, at_within, at_set_cases, at_set_other, Each-at, Each-from_at}
+use Rattle.curp_base.proofs.Lists.{at_append_right, at_within, at_set_cases, Each-at, Each-from_at}
 use Rattle.curp_msg.specs.declared.message.Message.{Message}
 use Rattle.curp_model.specs.World.{with_batch}
 use Rattle.curp_facts.specs.Facts.{IsAmong}
