@@ -1,5 +1,5 @@
 -- What was said of a world holds of a later one.
-use Rattle.std.proofs.Common.{◌≡◌, ◌≤◌, inl, inr, ℕ, length, refl, sym, ◌∙◌, subst, arith, Option, Some, None}
+use Rattle.std.proofs.Common.{◌≡◌, ◌<◌, ◌≤◌, inl, inr, ℕ, length, refl, sym, ◌∙◌, subst, arith, Option, Some, None}
 use Rattle.curp_base.specs.Words.{At}
 use Rattle.curp_base.proofs.Lists.{Each-weaker}
 use Rattle.curp_cmd.specs.declared.migration.Package.{Package}
@@ -19,7 +19,7 @@ use Rattle.curp_model.specs.Named.{IsNodeOf}
 use Rattle.curp_model.specs.Ranges.{opening_range}
 use Rattle.curp_model.specs.World.{World}
 use Rattle.curp_facts.specs.Facts.{AtOpening, ByRecovery, ByReplacement, IsGiven, Lists, WasAdopted, WasSent, WasTaken, lists_of_part}
-use Rattle.curp_law_names.specs.Names.{AdoptedOk, ConfigurationOk, DoingOk, GivenOk, IsClientNumber, IsMasterOf, IsOf, IsAdoptedMaster, IsCarried, IsToldOf, MovingOk, ManagerSays, OrderOk}
+use Rattle.curp_law_names.specs.Names.{AdoptedOk, ConfigurationOk, DoingOk, GivenOk, IsClientNumber, IsMasterOf, IsOf, IsAdoptedMaster, IsCarried, IsToldOf, MovingOk, NextAfter, ManagerSays, OrderOk}
 
 -- a world after a step: the header's numbers stay, nodes and numbers grow, and what was sent was sent
 pub record Later (w v : World) : Type 0 where
@@ -169,3 +169,17 @@ module _ {w v : World} (g : Later w v) where
       | inr p ↦ inr (record { prepare = p.prepare; sent = g.sent _ p.sent; its_version = p.its_version; from = p.from; told = g.sent _ p.told })
     ])
   ]
+
+  -- a link stays, where no adopted list came between
+  pub link_later : (l : Lists) → ((k : Lists) → WasAdopted v k → k.part ≡ l.part → k.version < l.version → WasAdopted w k) → NextAfter w l → NextAfter v l
+  link_later l back link = record {
+    before = link.before;
+    was = adopted_later link.before link.was;
+    its_part = link.its_part;
+    older = link.older;
+    last = λ k was part version. link.last k (back k was part version) part version;
+    how = elim link.how [
+      | inl same ↦ inl same
+      | inr r ↦ inr (record { order = r.order; ordered = g.sent _ r.ordered; its_lists = r.its_lists; its_backup = r.its_backup; its_witness = r.its_witness; earlier = r.earlier })
+    ];
+  }

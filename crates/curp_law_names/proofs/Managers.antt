@@ -88,6 +88,7 @@ module _ {w : World} (n : Names w) where
       by_epoch true e = adopts_good n r.part c (recovered_part c (record { master = node; order = o })) here
           (subst (λ (p : ℕ). IsGiven w (record (lists_of_order node o) { part = p })) ok.its_part (ByRecovery node o ok.sent)) refl (omega (arith, ok.later)) ok.newer
           (inr (inl (record { order = o; ordered = ok.sent; its_lists = λ i. record (lists_of_order node o) { part = ok.its_part i }; from = from; told = said (eqb-true o.epoch r.epoch e) })))
+          (inr (record { order = o; ordered = ok.sent; its_lists = λ i. record (lists_of_order node o) { part = ok.its_part i }; its_backup = ok.its_backup; its_witness = ok.its_witness; earlier = ok.later }))
       by_epoch false e = again_good (adopted_at w.manager r) (adopted_at_among r)
   attempt_good from r told c here (Some (Replacing kind fresh version backups witnesses)) its = again_good (adopted_at w.manager r) (adopted_at_among r)
   attempt_good from r told c here (Some Steady) its = again_good (adopted_at w.manager r) (adopted_at_among r)
@@ -120,6 +121,7 @@ module _ {w : World} (n : Names w) where
       good same = adopts_good n c.part c (record c { version = own; backups = backups; witnesses = witnesses }) now
           (ByReplacement (lists_of_part c) (record { version = own; backups = backups; witnesses = witnesses }) (n.top c now).was.given ok.sent) refl (omega arith) ok.newer
           (inr (inr (record { prepare = record { version = own; backups = backups; witnesses = witnesses }; sent = ok.sent; its_version = refl; from = from; told = subst (λ (k : ℕ). WasSent w (says from manager_node (body.Prepared k))) (sym same) told })))
+          (inl refl)
 
       by_version : (b : Bool) → (own == version) ≡ b → only_if b new ≡ Some x → Good w (adopts w.manager x.part.part (record x.part { version = x.version; backups = x.backups; witnesses = x.witnesses }))
       by_version true t e = let same : new ≡ x = cc e in subst (λ (y : NewLists). Good w (adopts w.manager y.part.part (record y.part { version = y.version; backups = y.backups; witnesses = y.witnesses }))) same (good (eqb-true own version t))

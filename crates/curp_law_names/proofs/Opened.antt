@@ -173,6 +173,7 @@ module _ (h : Header) (its : IsHeader h) where
     top = opening_top;
     chain = λ l k al ak same versions. let a = given_opening l al.given in let b = given_opening k ak.given in
         omega (arith, ap (λ (x : Lists). x.epoch) a.2, ap (λ (x : Lists). x.epoch) b.2);
+    next_after = λ l was late. absurd (omega (arith, late, ap (λ (x : Lists). x.version) (given_opening l was.given).2));
     adopted_for = λ l was. inl (ap (λ (x : Lists). x.version) (given_opening l was.given).2);
     doing = λ c d now at. steady c d at;
     gone = tt;

@@ -11,7 +11,7 @@ use Rattle.curp_model.specs.Manager.{Attempted, Doing, ManagerState, Next, with_
 use Rattle.curp_model.specs.World.{World}
 use Rattle.curp_facts.specs.Facts.{IsAdoptedNow, Lists, lists_of_part}
 use Rattle.curp_law_names.specs.Names.{DoingOk, IsClientNumber, Names}
-use Rattle.curp_law_names.proofs.Keeps.{chain_stays, names_moved, told_stays, top_stays}
+use Rattle.curp_law_names.proofs.Keeps.{chain_stays, links_stay, names_moved, told_stays, top_stays}
 use Rattle.curp_law_names.proofs.Later.{Later, client_later, doing_later, moving_later}
 use Rattle.curp_law_names.proofs.Lists.{number_within, numbered_set_cases}
 use Rattle.curp_law_names.proofs.Moves.{Fresh, FreshOk, IsNewlyAdopted, Move, Utters}
@@ -73,6 +73,7 @@ module _ {w : World} (n : Names w) (p : ℕ) (c : PartConfig) (here : numbered w
         entries = n.entries;
         top = λ e now. top_stays n f m fresh (lists_of_part e) (n.top e now) (λ k is same. none k is);
         chain = chain_stays n f m fresh none;
+        next_after = links_stay n f m fresh none;
         adopted_for = told_stays n f m fresh none;
         doing = doing_now ok;
         gone = Each-weaker (IsClientNumber w) (IsClientNumber after) (client_later later) w.manager.gone n.gone;

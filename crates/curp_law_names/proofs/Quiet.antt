@@ -12,7 +12,7 @@ use Rattle.curp_model.specs.Manager.{Attempted, Doing, ManagerState, Migration}
 use Rattle.curp_model.specs.World.{World}
 use Rattle.curp_facts.specs.Facts.{IsAdoptedNow, Lists, lists_of_part}
 use Rattle.curp_law_names.specs.Names.{DoingOk, IsClientNumber, ManagerSays, MovingOk, Names, NumbersOk, Top}
-use Rattle.curp_law_names.proofs.Keeps.{chain_stays, names_moved, told_stays, top_stays}
+use Rattle.curp_law_names.proofs.Keeps.{chain_stays, links_stay, names_moved, told_stays, top_stays}
 use Rattle.curp_law_names.proofs.Later.{Later, client_later, doing_later, moving_later, says_later}
 use Rattle.curp_law_names.proofs.Lists.{at_mapped, at_place, place}
 use Rattle.curp_law_names.proofs.Moves.{Move, Nothing, Repeats, Utters}
@@ -80,7 +80,7 @@ module _ {w v : World} (n : Names w) (m : Move w v Nothing) (numbers : NumbersOk
 
   -- nothing is new
   pub names_stay : Names v
-  names_stay = names_moved n Nothing m tt (record { numbers = numbers; entries = entries_stay; top = top_now; chain = chain_stays n Nothing m tt (λ k new. new); adopted_for = told_stays n Nothing m tt (λ k new. new); doing = doing_now; gone = gone; moving = moving })
+  names_stay = names_moved n Nothing m tt (record { numbers = numbers; entries = entries_stay; top = top_now; chain = chain_stays n Nothing m tt (λ k new. new); next_after = links_stay n Nothing m tt (λ k new. new); adopted_for = told_stays n Nothing m tt (λ k new. new); doing = doing_now; gone = gone; moving = moving })
 
 -- ---- inputs to the manager
 

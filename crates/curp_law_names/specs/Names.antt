@@ -54,7 +54,7 @@ IsOf w k node = (node.kind ≡ k) × IsNodeOf w k node.number
 abbrev pub AllDiffer : {A : Type 0} → List A → Type 0
 AllDiffer {A} xs = (i j : ℕ) (x : A) → At xs i x → At xs j x → i ≡ j
 
--- the master of a partition and an epoch has the number of its partition at opening, and later the number of its epoch
+-- at opening a partition's master has the number of the partition; behind these, each epoch above the first has the next number
 abbrev pub IsMasterOf : ℕ → Lists → Type 0
 IsMasterOf parts l = ((l.epoch ≡ 1) × (l.master ≡ master_node l.part))
     ⊎ ((n : ℕ) × (1 < l.epoch) × (l.master ≡ master_node n) × (l.epoch + parts ≡ n + 1))
@@ -200,6 +200,25 @@ pub record PreparedFor (w : World) (l : Lists) : Type 0 where
 abbrev pub IsToldOf : World → Lists → Type 0
 IsToldOf w l = (l.version ≡ 1) ⊎ (RecoveredFor w l ⊎ PreparedFor w l)
 
+-- lists of an order to recover, which names a backup and a witness of those before, of a smaller epoch
+pub record RecoveredFrom (w : World) (before l : Lists) : Type 0 where
+  pub order : Recover
+  pub ordered : WasSent w (says manager_node l.master (body.Recover order))
+  pub its_lists : lists_of_order l.master order ≡ l
+  pub its_backup : IsAmong order.backup before.backups
+  pub its_witness : IsAmong order.witness before.witnesses
+  pub earlier : before.epoch < l.epoch
+
+-- Behind the opening, adopted lists come next after other adopted lists of their partition. Either their master is the same, or it
+-- recovered from a backup and a witness of those
+pub record NextAfter (w : World) (l : Lists) : Type 0 where
+  pub before : Lists
+  pub was : WasAdopted w before
+  pub its_part : before.part ≡ l.part
+  pub older : before.version < l.version
+  pub last : (k : Lists) → WasAdopted w k → k.part ≡ l.part → k.version < l.version → k.version ≤ before.version
+  pub how : (before.master ≡ l.master) ⊎ RecoveredFrom w before l
+
 -- the fresh node of a replacement stands in its new lists
 abbrev pub IsPlaced : Keeper → NodeId → Prepare → Type 0
 IsPlaced keeper.Backup fresh p = IsAmong fresh p.backups
@@ -248,6 +267,7 @@ pub record Names (w : World) : Type 0 where
   pub top : (c : PartConfig) → IsAdoptedNow w c → Top w (lists_of_part c)
   -- of the adopted lists of a partition, those of a larger version have no smaller epoch
   pub chain : (l k : Lists) → WasAdopted w l → WasAdopted w k → l.part ≡ k.part → l.version ≤ k.version → l.epoch ≤ k.epoch
+  pub next_after : (l : Lists) → WasAdopted w l → 1 < l.version → NextAfter w l
   pub adopted_for : (l : Lists) → WasAdopted w l → IsToldOf w l
   pub doing : (c : PartConfig) (d : Doing) → IsAdoptedNow w c → numbered w.manager.doing c.part ≡ Some d → DoingOk w (lists_of_part c) d
   -- who is gone is a client of the header
