@@ -31,16 +31,19 @@ pub record ShapeOk (s : Shape) : Type 0 where
   pub parts : 1 ≤ s.parts
   pub clients : 1 ≤ s.clients
 
--- Nodes of each kind are as many as were named. The next numbers are above those of the opening. Each recovery takes one
--- epoch and one master, so that the two rise together
+-- the numbers of a world
 pub record NumbersOk (w : World) : Type 0 where
+  -- nodes of each kind are as many as were named
   pub clients : length w.clients ≡ w.manager.shape.clients
   pub masters : length w.masters + 1 ≡ w.manager.next.master
   pub backups : length w.backups + 1 ≡ w.manager.next.backup
   pub witnesses : length w.witnesses + 1 ≡ w.manager.next.witness
+  -- each partition has an entry, and something that is being done with it
   pub parts : length w.manager.config.parts ≡ w.manager.shape.parts
   pub doing : length w.manager.doing ≡ w.manager.shape.parts
+  -- each recovery takes one epoch and one master
   pub epoch : w.manager.next.epoch + w.manager.shape.parts ≡ w.manager.next.master + 1
+  -- the next numbers are above those of the opening
   pub above : 1 < w.manager.next.epoch
   pub version : 1 < w.manager.next.version
 
@@ -74,16 +77,21 @@ pub record GivenOk (w : World) (l : Lists) : Type 0 where
   pub backups_differ : AllDiffer l.backups
   pub witnesses_differ : AllDiffer l.witnesses
 
--- Of two lists that were given: a master has one partition and one epoch, and these have one master; an epoch above the first
--- has one partition; lists that share a backup or a witness have one master, which is the home of these; and a master's lists
--- of one version are the same, as are any two of one version above the first
+-- of two lists that were given
 pub record Agree (l k : Lists) : Type 0 where
+  -- a master has one partition and one epoch
   pub by_master : l.master ≡ k.master → (l.part ≡ k.part) × (l.epoch ≡ k.epoch)
+  -- a partition has one master an epoch
   pub by_epoch : l.part ≡ k.part → l.epoch ≡ k.epoch → l.master ≡ k.master
+  -- an epoch above the first is of one master of all partitions
   pub by_late_epoch : 1 < l.epoch → l.epoch ≡ k.epoch → l.master ≡ k.master
+  -- a backup is at home with one master
   pub by_backup : (node : NodeId) → IsAmong node l.backups → IsAmong node k.backups → l.master ≡ k.master
+  -- and so is a witness
   pub by_witness : (node : NodeId) → IsAmong node l.witnesses → IsAmong node k.witnesses → l.master ≡ k.master
+  -- a master has one list a version
   pub by_version : l.master ≡ k.master → l.version ≡ k.version → l ≡ k
+  -- and a version above the first is of one list of all
   pub by_late_version : 1 < l.version → l.version ≡ k.version → l ≡ k
 
 -- ---- what the manager has said
@@ -251,12 +259,17 @@ DoingOk w now (Recovering node o) = RecoveringOk w now node o
 
 -- what holds of shape and names after every step
 pub record Names (w : World) : Type 0 where
+  -- the header's numbers are in range
   pub shape : ShapeOk w.manager.shape
+  -- nodes are as many as were named
   pub numbers : NumbersOk w
   -- the entries stand in the order of their partitions
   pub entries : (k : ℕ) (c : PartConfig) → At w.manager.config.parts k c → c.part ≡ k + 1
+  -- lists that were given have used numbers and nodes of the world
   pub given : (l : Lists) → IsGiven w l → GivenOk w l
+  -- a node has one home, and a version above the first one list
   pub agree : (l k : Lists) → IsGiven w l → IsGiven w k → Agree l k
+  -- what the manager has said names nodes of the world, and is true
   pub manager_says : (node : NodeId) (b : Body) → WasSent w (says manager_node node b) → ManagerSays w node b
   -- a node has one order to recover
   pub one_order : (node : NodeId) (o q : Recover) → WasSent w (says manager_node node (body.Recover o))
@@ -264,12 +277,17 @@ pub record Names (w : World) : Type 0 where
   -- new lists have no version of a recovery
   pub versions_apart : (node other : NodeId) (o : Recover) (p : Prepare) → WasSent w (says manager_node node (body.Recover o))
       → WasSent w (says manager_node other (body.Prepare p)) → o.version ≢ p.version
+  -- the present lists of a partition are above all that were adopted
   pub top : (c : PartConfig) → IsAdoptedNow w c → Top w (lists_of_part c)
   -- of the adopted lists of a partition, those of a larger version have no smaller epoch
   pub chain : (l k : Lists) → WasAdopted w l → WasAdopted w k → l.part ≡ k.part → l.version ≤ k.version → l.epoch ≤ k.epoch
+  -- adopted lists come after one another
   pub next_after : (l : Lists) → WasAdopted w l → 1 < l.version → NextAfter w l
+  -- and they were told to be complete
   pub adopted_for : (l : Lists) → WasAdopted w l → IsToldOf w l
+  -- what is being done was ordered, with numbers above the present ones
   pub doing : (c : PartConfig) (d : Doing) → IsAdoptedNow w c → numbered w.manager.doing c.part ≡ Some d → DoingOk w (lists_of_part c) d
   -- who is gone is a client of the header
   pub gone : Each (IsClientNumber w) w.manager.gone
+  -- the package of the migration in work was told
   pub moving : MovingOk w w.manager.moving
