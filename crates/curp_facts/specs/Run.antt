@@ -1,5 +1,5 @@
 -- What the laws of every script ask of its header and its steps.
-use Rattle.std.specs.Prelude.{◌≡◌, ◌≤◌, ℕ, ◌^◌, ◌<◌, List, length, ⊤}
+use Rattle.std.specs.Prelude.{◌≡◌, ◌≤◌, List, length, ⊤}
 use Rattle.curp_base.specs.Words.{Each}
 use Rattle.curp_cmd.specs.Store.{keys_of}
 use Rattle.curp_cmd.specs.declared.command.Command.{Command}

@@ -1,20 +1,19 @@
 -- The manager adopts lists that were given, with numbers above those of the present entry.
-use Rattle.std.proofs.Common.{◌≡◌, ◌≢◌, ◌≤◌, ◌<◌, ◌⊎◌, inl, inr, ℕ, ◌+◌, ◌-◌, List, [], ◌∷◌, length, refl, sym, ◌∙◌, ap, subst, arith, Option, Some}
+use Rattle.std.proofs.Common.{◌≡◌, ◌⊎◌, ◌≤◌, ◌<◌, inl, inr, ℕ, ◌+◌, ◌-◌, List, refl, sym, ◌∙◌, ap, subst, arith, Option, Some}
 use Rattle.std.proofs.lemmas.List.{length-set}
-use Rattle.curp_base.specs.Words.{At, Each, numbered}
+use Rattle.curp_base.specs.Words.{At, numbered}
 use Rattle.curp_base.proofs.Lists.{at_set_cases, Each-weaker}
 use Rattle.curp_msg.specs.declared.config.PartConfig.{PartConfig}
-use Rattle.curp_msg.specs.declared.message.Message.{Message}
 use Rattle.curp_order.specs.declared.Event.{Event}
 use Rattle.curp_model.specs.Manager.{Attempted, Doing, ManagerState, Steady, adopted_message, adopts}
 use Rattle.curp_msg.specs.Moved.{Moved}
 use Rattle.curp_model.specs.World.{World}
 use Rattle.curp_facts.specs.Facts.{IsAdoptedNow, IsGiven, Lists, WasAdopted, lists_of_part}
-use Rattle.curp_law_names.specs.Names.{DoingOk, IsClientNumber, Names, Top}
-use Rattle.curp_law_names.proofs.Keeps.{chain_adopted, entry_numbered, names_moved, numbered_now, top_adopted, top_stays}
-use Rattle.curp_law_names.proofs.Later.{Later, client_later, doing_later, given_later}
+use Rattle.curp_law_names.specs.Names.{DoingOk, IsClientNumber, IsToldOf, RecoveredFrom, Names, Top}
+use Rattle.curp_law_names.proofs.Keeps.{chain_adopted, entry_numbered, links_adopted, names_moved, numbered_now, told_adopted, top_adopted, top_stays}
+use Rattle.curp_law_names.proofs.Later.{Later, client_later, doing_later, moving_later, given_later}
 use Rattle.curp_law_names.proofs.Lists.{number_within, numbered_set_cases}
-use Rattle.curp_law_names.proofs.Moves.{Adoption, Fresh, Move, Utters}
+use Rattle.curp_law_names.proofs.Moves.{Adoption, Move}
 use Rattle.curp_law_names.proofs.Quiet.{Good}
 use Rattle.curp_law_names.proofs.Steps.{Rises, manager_moved, moved_later, moved_messages, moved_move, moved_numbers, sent_now}
 
@@ -22,6 +21,8 @@ module _ {w : World} (n : Names w) (p : ℕ) (now new : PartConfig)
     (here : numbered w.manager.config.parts p ≡ Some now)
     (given : IsGiven w (lists_of_part new))
     (part : new.part ≡ now.part) (epoch : now.epoch ≤ new.epoch) (version : now.version < new.version)
+    (why : IsToldOf w (lists_of_part new))
+    (how : (now.master ≡ new.master) ⊎ RecoveredFrom w (lists_of_part now) (lists_of_part new))
     (adopted : Option Attempted) (events : List Event) where
   abbrev move : Moved ManagerState
   move = adopts w.manager p new
@@ -94,12 +95,15 @@ module _ {w : World} (n : Names w) (p : ℕ) (now new : PartConfig)
     numbers = moved_numbers w n adopted events move rises;
     entries = entries_adopted;
     top = top_now;
+    next_after = links_adopted n its moves given (lists_of_part now) (n.top now (numbered_now n p now here)) (sym part) version how;
+    adopted_for = told_adopted n its moves given why;
     chain = chain_adopted n its moves given (lists_of_part now) (n.top now (numbered_now n p now here)) (sym part) epoch version;
     doing = doing_now;
     gone = Each-weaker (IsClientNumber w) (IsClientNumber after) (client_later later) w.manager.gone n.gone;
+    moving = moving_later later w.manager.moving n.moving;
   })
 
 -- lists that are adopted keep all
 pub adopts_good : {w : World} (n : Names w) (p : ℕ) (now new : PartConfig) → numbered w.manager.config.parts p ≡ Some now → IsGiven w (lists_of_part new)
-    → new.part ≡ now.part → now.epoch ≤ new.epoch → now.version < new.version → Good w (adopts w.manager p new)
-adopts_good n p now new here given part epoch version = ((refl, tt), λ adopted events. (adoption_keeps n p now new here given part epoch version adopted events, later n p now new here given part epoch version adopted events))
+    → new.part ≡ now.part → now.epoch ≤ new.epoch → now.version < new.version → IsToldOf w (lists_of_part new) → (now.master ≡ new.master) ⊎ RecoveredFrom w (lists_of_part now) (lists_of_part new) → Good w (adopts w.manager p new)
+adopts_good n p now new here given part epoch version why how = ((refl, tt), λ adopted events. (adoption_keeps n p now new here given part epoch version why how adopted events, later n p now new here given part epoch version why how adopted events))

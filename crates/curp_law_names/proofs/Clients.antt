@@ -1,7 +1,6 @@
 -- What clients say fits, from themselves, and they go by adopted lists.
-use Rattle.std.proofs.Common.{◌≡◌, ℕ, ◌-◌, ◌+◌, ◌^◌, ◌==◌, ◌&&◌, nat_lt, nat_le, not, Bool, true, false, List, [], ◌∷◌, ◌++◌, length, map, Option, Some, None, Ok, refl, sym, ◌∙◌, ap, subst, arith}
+use Rattle.std.proofs.Common.{◌≡◌, ℕ, ◌-◌, ◌^◌, nat_lt, nat_le, not, Bool, true, false, List, [], ◌∷◌, length, Option, Some, None, Ok, refl, sym, ap, subst}
 use Rattle.std.specs.Prelude.{⊤}
-use Rattle.std.specs.List.{filter}
 use Rattle.std.specs.Option.{ok_or}
 use Rattle.std.proofs.lemmas.Bool.{cond_both}
 use Rattle.curp_base.specs.Cases.{◌>>=◌, refuse_if}
@@ -30,14 +29,13 @@ use Rattle.curp_msg.specs.declared.machine.Input.{Input}
 use Rattle.curp_msg.specs.declared.machine.Input.TheVariants as input
 use Rattle.curp_msg.specs.declared.machine.Local.{Local}
 use Rattle.curp_msg.specs.declared.machine.Local.TheVariants as local
-use Rattle.curp_msg.specs.declared.message.Message.{Message}
-use Rattle.curp_model.specs.Client.{Attempt, ClientState, Early, Pending, Resent, accepted, asks, attempt_at, client_input, client_ordered, completes_with, configured, early_reply, fetch, if_proved, invoke, most_pending, next_request, on_client, owner_of, proved_answer, rejected, replaced, replied, retry, sends_again, sends_first, sent_by, valued, with_accept, with_early, with_evidence, with_id, with_pending, without_id}
+use Rattle.curp_model.specs.Client.{Attempt, ClientState, Early, Pending, accepted, asks, attempt_at, client_input, client_ordered, completes_with, configured, early_reply, fetch, if_proved, invoke, most_pending, next_request, on_client, owner_of, proved_answer, rejected, replaced, replied, retry, sends_again, sends_first, sent_by, valued, with_accept, with_early, with_evidence, with_id, with_pending}
 use Rattle.curp_model.specs.Named.{IsNodeOf}
 use Rattle.curp_model.specs.Ranges.{owns_all}
 use Rattle.curp_model.specs.World.{World}
-use Rattle.curp_facts.specs.Facts.{AttemptWas, IsAmong, WasAdopted, WasSent, lists_of_part}
+use Rattle.curp_facts.specs.Facts.{AttemptWas, WasAdopted, WasSent, lists_of_part}
 use Rattle.curp_law_names.specs.Names.{ConfigurationOk, GivenOk, IsOf, Names}
-use Rattle.curp_law_names.specs.Nodes.{BodyFits, ClientFits, MessageFits, PendingFits, sender_kind}
+use Rattle.curp_law_names.specs.Nodes.{ClientFits, MessageFits, PendingFits, sender_kind}
 use Rattle.curp_law_names.proofs.Keepers.{AllSaid, Said, each_filter}
 use Rattle.curp_law_names.proofs.Lists.{among_each, each_among, filter_among, first_among, last_among}
 
@@ -62,11 +60,12 @@ module _ (w : World) (n : Names w) (k : ℕ) (me : IsNodeOf w kind.Client k) whe
 
   sent_fits : (fast update : Bool) (r : Request) (p : PartConfig) → r.id.client ≡ k → WasAdopted w (lists_of_part p) → AllSaid w (client_node k) (sent_by k fast update r p)
   sent_fits true true r p own was =
-      let ok : GivenOk w (lists_of_part p) = n.given (lists_of_part p) was.given in
-      (own_said p.master _ (record { sender = (refl, me); addressee = ok.master; fits = ap client_node (sym own) }),
-      Each-map (Said w (client_node k)) (λ (to : NodeId). says (client_node k) to (body.Record (record { request = r; epoch = p.epoch }))) p.witnesses
-          (each_among (λ (to : NodeId). Said w (client_node k) (says (client_node k) to (body.Record (record { request = r; epoch = p.epoch })))) p.witnesses (λ to a.
-              own_said to _ (record { sender = (refl, me); addressee = among_each (IsOf w kind.Witness) p.witnesses ok.witnesses to a; fits = ap client_node (sym own) }))))
+      let ok : GivenOk w (lists_of_part p) = n.given (lists_of_part p) was.given in (
+        own_said p.master _ (record { sender = (refl, me); addressee = ok.master; fits = ap client_node (sym own) }),
+        Each-map (Said w (client_node k)) (λ (to : NodeId). says (client_node k) to (body.Record (record { request = r; epoch = p.epoch }))) p.witnesses
+            (each_among (λ (to : NodeId). Said w (client_node k) (says (client_node k) to (body.Record (record { request = r; epoch = p.epoch })))) p.witnesses (λ to a.
+            own_said to _ (record { sender = (refl, me); addressee = among_each (IsOf w kind.Witness) p.witnesses ok.witnesses to a; fits = ap client_node (sym own) }))),
+      )
   sent_fits false true r p own was =
       (own_said p.master _ (record { sender = (refl, me); addressee = (n.given (lists_of_part p) was.given).master; fits = ap client_node (sym own) }), tt)
   sent_fits fast false r p own was =
@@ -94,9 +93,10 @@ module _ (w : World) (n : Names w) (k : ℕ) (me : IsNodeOf w kind.Client k) whe
     first_goes : (command : Command) (o : Option PartConfig) → owner_of c.config command ≡ o → Goes (unless_refused c (sends_first k c (next_request k c command)) (ok_or o 3))
     first_goes command None e = rests
     first_goes command (Some p) e =
-        let was = owner_was command p e in
-        (record { config = ok.config; pending = Each-append (PendingFits w k) c.pending _ ok.pending (record { own = refl; attempts = (attempt_was p was, tt) }, tt) },
-        sent_fits c.fast (is_update command) (next_request k c command) p refl was)
+        let was = owner_was command p e in (
+          record { config = ok.config; pending = Each-append (PendingFits w k) c.pending _ ok.pending (record { own = refl; attempts = (attempt_was p was, tt) }, tt) },
+          sent_fits c.fast (is_update command) (next_request k c command) p refl was,
+        )
 
     invoke_goes : (command : Command) → Goes (invoke k c command)
     unfolding invoke
@@ -120,9 +120,10 @@ module _ (w : World) (n : Names w) (k : ℕ) (me : IsNodeOf w kind.Client k) whe
         → Goes (unless_refused c (sends_again k c) (ok_or o 2 >>= λ (part : PartConfig). Ok (p, part)))
     again_goes p one None e = rests
     again_goes p one (Some part) e =
-        let was = owner_was p.request.command part e in
-        (with_fits _ (record { own = one.own; attempts = Each-append (AttemptWas w) p.attempts _ one.attempts (attempt_was part was, tt) }),
-        sent_fits c.fast (is_update p.request.command) p.request part one.own was)
+        let was = owner_was p.request.command part e in (
+          with_fits _ (record { own = one.own; attempts = Each-append (AttemptWas w) p.attempts _ one.attempts (attempt_was part was, tt) }),
+          sent_fits c.fast (is_update p.request.command) p.request part one.own was,
+        )
 
     retry_goes : (seq : ℕ) → Goes (retry k c seq)
     unfolding retry
@@ -153,16 +154,16 @@ module _ (w : World) (n : Names w) (k : ℕ) (me : IsNodeOf w kind.Client k) whe
     replied_goes from r (Some p) e =
         let one = pending_fits r.id p e in
         cond_both (not (is_update p.request.command)) _ _ Goes (λ y. rests) (λ y.
-            cond_both r.synced _ _ Goes (λ z. completes_goes r.id r.answer None) (λ z.
-                evidence_goes (record p { early = with_early p.early (early_reply from r) }) (record { own = one.own; attempts = one.attempts })))
+        cond_both r.synced _ _ Goes (λ z. completes_goes r.id r.answer None) (λ z.
+        evidence_goes (record p { early = with_early p.early (early_reply from r) }) (record { own = one.own; attempts = one.attempts })))
 
     accepted_goes : (from : NodeId) (a : Accepted) (o : Option Pending) → with_id a.id c.pending ≡ o → Goes (accepted c from a o)
     accepted_goes from a None e = rests
     accepted_goes from a (Some p) e =
         let one = pending_fits a.id p e in
         cond_both (is_update p.request.command) _ _ Goes
-            (λ y. evidence_goes (record p { accepts = with_accept p.accepts (record { witness = from; epoch = a.epoch }) }) (record { own = one.own; attempts = one.attempts }))
-            (λ y. rests)
+        (λ y. evidence_goes (record p { accepts = with_accept p.accepts (record { witness = from; epoch = a.epoch }) }) (record { own = one.own; attempts = one.attempts }))
+        (λ y. rests)
 
     valued_goes : (from : NodeId) (v : Worth) (o : Option Pending) → Goes (valued c from v o)
     valued_goes from v None = rests
@@ -172,9 +173,10 @@ module _ (w : World) (n : Names w) (k : ℕ) (me : IsNodeOf w kind.Client k) whe
     asks_goes p one None e = rests
     asks_goes p one (Some a) e =
         let was : AttemptWas w a = among_each (AttemptWas w) p.attempts one.attempts a (last_among p.attempts a e) in
-        let master : IsOf w kind.Master a.master = subst (IsOf w kind.Master) (sym was.its_master) (n.given was.lists was.adopted.given).master in
-        (with_fits _ (record { own = one.own; attempts = one.attempts }),
-        (own_said a.master _ (record { sender = (refl, me); addressee = master; fits = ap client_node (sym one.own) }), tt))
+        let master : IsOf w kind.Master a.master = subst (IsOf w kind.Master) (sym was.its_master) (n.given was.lists was.adopted.given).master in (
+          with_fits _ (record { own = one.own; attempts = one.attempts }),
+          (own_said a.master _ (record { sender = (refl, me); addressee = master; fits = ap client_node (sym one.own) }), tt),
+        )
 
     rejected_goes : (id : RequestId) (o : Option Pending) → with_id id c.pending ≡ o → Goes (rejected k c o)
     rejected_goes id None e = rests

@@ -1,7 +1,6 @@
 -- What fits a world fits a later one.
-use Rattle.std.proofs.Common.{◌≡◌, ◌≤◌, ℕ, List, Option, Some, None, refl, sym, subst, arith}
-use Rattle.std.specs.Prelude.{⊤}
-use Rattle.curp_base.specs.Words.{Each, numbered}
+use Rattle.std.proofs.Common.{◌≡◌, ℕ, List, Option, Some, None, sym, subst}
+use Rattle.curp_base.specs.Words.{Each}
 use Rattle.curp_base.proofs.Lists.{Each-weaker}
 use Rattle.curp_cmd.specs.declared.command.Request.{Request}
 use Rattle.curp_cmd.specs.declared.entry.Entry.{Entry}
@@ -14,20 +13,18 @@ use Rattle.curp_msg.specs.declared.answer.GcAnswer.{GcAnswer}
 use Rattle.curp_msg.specs.declared.answer.GcAnswer.TheVariants.{Suspects}
 use Rattle.curp_msg.specs.declared.body.Body.{Body}
 use Rattle.curp_msg.specs.declared.body.Body.TheVariants as body
-use Rattle.curp_msg.specs.declared.config.Config.{Config}
 use Rattle.curp_msg.specs.declared.message.Message.{Message}
 use Rattle.curp_model.specs.Backup.{BackupState}
 use Rattle.curp_model.specs.Client.{Attempt, ClientState, Pending}
 use Rattle.curp_model.specs.Manager.{Shape}
-use Rattle.curp_model.specs.Master.{Captured, MasterState, Open, Phase, Switching}
+use Rattle.curp_model.specs.Master.{Captured, Open, Phase, Switching}
 use Rattle.curp_model.specs.Named.{IsNodeOf}
 use Rattle.curp_model.specs.Ranges.{opening_range}
-use Rattle.curp_model.specs.Recovery.{Asking, Fresh, MasterStage, Recovering, RecoveryPhase, RecoveryState, Serving, Storing, Waiting}
+use Rattle.curp_model.specs.Recovery.{Asking, Fresh, MasterStage, Recovering, RecoveryPhase, Serving, Storing, Waiting}
 use Rattle.curp_model.specs.Witness.{HeldRequest, WitnessState}
 use Rattle.curp_model.specs.World.{World}
 use Rattle.curp_facts.specs.Facts.{AttemptWas, Lists}
-use Rattle.curp_law_names.specs.Names.{ConfigurationOk}
-use Rattle.curp_law_names.specs.Nodes.{BackupFits, BodyFits, ClientFits, EntryAsked, IsAsked, LogThere, MasterFits, MessageFits, NextGiven, PendingFits, PhaseFits, RecoveringFits, ReplyAsked, RequestsThere, ServesBy, SuspectsAsked, WitnessFits, addressee_kind, sender_kind}
+use Rattle.curp_law_names.specs.Nodes.{BackupFits, BodyFits, ClientFits, EntryAsked, IsAsked, LogThere, MasterFits, MessageFits, NextSent, PendingFits, PhaseFits, ReplyAsked, RequestsThere, ServesBy, SuspectsAsked, WitnessFits, addressee_kind, sender_kind}
 use Rattle.curp_law_names.proofs.Later.{Later, adopted_later, configuration_later, given_later, node_later, of_later}
 
 module _ {w v : World} (g : Later w v) where
@@ -66,6 +63,10 @@ module _ {w v : World} (g : Later w v) where
   body_later from to (body.FenceAnswer a) is = reply_later a.answer is
   body_later from to (body.FrozenAnswer requests) is = requests_later requests is
   body_later from to (body.Collected c) is = suspects_later c.answer is
+  body_later from to (body.Fence epoch) is = record { order = is.order; ordered = g.sent _ is.ordered; its_epoch = is.its_epoch; its_backup = is.its_backup }
+  body_later from to (body.Freeze epoch) is = record { order = is.order; ordered = g.sent _ is.ordered; its_epoch = is.its_epoch; its_witness = is.its_witness }
+  body_later from to (body.Recovered r) is = record { order = is.order; ordered = g.sent _ is.ordered; its_part = is.its_part; its_epoch = is.its_epoch }
+  body_later from to (body.Prepared version) is = record { prepare = is.prepare; sent = g.sent _ is.sent; its_version = is.its_version }
   body_later from to _ is = tt
 
   pub message_later : (m : Message) → MessageFits w m → MessageFits v m
@@ -84,9 +85,9 @@ module _ {w v : World} (g : Later w v) where
   pub client_fits_later : (n : ℕ) (c : ClientState) → ClientFits w n c → ClientFits v n c
   client_fits_later n c ok = record { config = configuration_later g c.config ok.config; pending = Each-weaker (PendingFits w n) (PendingFits v n) (pending_later n) c.pending ok.pending }
 
-  next_later : (l : Lists) (p : Phase) → NextGiven w l p → NextGiven v l p
+  next_later : (l : Lists) (p : Phase) → NextSent w l p → NextSent v l p
   next_later l Open is = tt
-  next_later l (Switching s) is = given_later g _ is
+  next_later l (Switching s) is = g.sent _ is
 
   pub serves_later : (l : Lists) (lo hi : ℕ) (log : List Entry) (captures : List Captured) (p : Phase) → ServesBy w l lo hi log captures p → ServesBy v l lo hi log captures p
   serves_later l lo hi log captures p ok = record {

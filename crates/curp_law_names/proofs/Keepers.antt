@@ -1,5 +1,5 @@
 -- What backups and witnesses say fits, from themselves.
-use Rattle.std.proofs.Common.{◌≡◌, ℕ, ◌-◌, ◌+◌, ◌==◌, ◌&&◌, nat_lt, nat_le, not, Bool, true, false, List, [], ◌∷◌, ◌++◌, length, map, drop, fold, Option, Some, None, refl, sym, subst, arith}
+use Rattle.std.proofs.Common.{◌≡◌, ℕ, ◌-◌, ◌==◌, nat_lt, not, Bool, List, [], ◌∷◌, length, map, fold, Option, Some, None, refl, subst}
 use Rattle.std.specs.Prelude.{⊤}
 use Rattle.std.specs.List.{filter}
 use Rattle.std.specs.FinMap.Entries.{by_order}
@@ -7,19 +7,17 @@ use Rattle.std.specs.declared.cmp.Ordering.{Ordering}
 use Rattle.std.specs.declared.cmp.Ordering.TheVariants.{Less, Equal, Greater}
 use Rattle.std.proofs.lemmas.Bool.{cond_both}
 use Rattle.curp_base.specs.Words.{Each}
-use Rattle.curp_base.proofs.Lists.{Each-append, Each-drop, Each-map, Each-weaker}
-use Rattle.curp_cmd.specs.Hash.{conflicts}
+use Rattle.curp_base.proofs.Lists.{Each-append, Each-drop}
 use Rattle.curp_cmd.specs.Node.{backup_node, client_node, witness_node}
-use Rattle.curp_cmd.specs.RequestId.{has_id, id_cmp}
+use Rattle.curp_cmd.specs.RequestId.{id_cmp}
 use Rattle.curp_cmd.specs.declared.command.Request.{Request}
 use Rattle.curp_cmd.specs.declared.command.RequestId.{RequestId}
 use Rattle.curp_cmd.specs.declared.entry.Entry.{Entry}
 use Rattle.curp_cmd.specs.declared.node.NodeId.{NodeId}
 use Rattle.curp_cmd.specs.declared.node.NodeKind.TheVariants as kind
-use Rattle.curp_msg.specs.Moved.{Moved, says}
+use Rattle.curp_msg.specs.Moved.{says}
 use Rattle.curp_msg.specs.declared.answer.AppendAnswer.TheVariants.{Fenced, Gap, NotInstalled}
 use Rattle.curp_msg.specs.declared.answer.FenceReply.TheVariants as reply
-use Rattle.curp_msg.specs.declared.answer.GcAnswer.{GcAnswer}
 use Rattle.curp_msg.specs.declared.answer.Reason.{Reason}
 use Rattle.curp_msg.specs.declared.body.Body.{Body}
 use Rattle.curp_msg.specs.declared.body.Body.TheVariants as body
@@ -30,10 +28,10 @@ use Rattle.curp_model.specs.declared.Mode.{Mode}
 use Rattle.curp_model.specs.declared.Mode.TheVariants.{Idle, Normal, Frozen}
 use Rattle.curp_model.specs.Backup.{AfterAppend, AfterFence, BackupState, append, is_installed_at, refuses_entries, stores, backup_input, fence, install, installed_once, longer, on_backup}
 use Rattle.curp_model.specs.Named.{IsNodeOf}
-use Rattle.curp_model.specs.Witness.{AfterCollection, AfterRecord, HeldRequest, WitnessState, by_least_hash, by_room, collect, collected_at, collected_in, conflict, frozen_requests, full_set, gc, hold, holds, least_hash, newly_held, on_witness, placed, sorted_in, started, stranger_to, survives, suspect, suspects, turned_away, unless_turned_away, verdict_body, witness_input}
+use Rattle.curp_model.specs.Witness.{AfterCollection, AfterRecord, HeldRequest, WitnessState, by_room, collect, collected_at, collected_in, conflict, full_set, gc, hold, holds, least_hash, newly_held, on_witness, placed, sorted_in, started, stranger_to, survives, suspect, turned_away, unless_turned_away, verdict_body, witness_input}
 use Rattle.curp_model.specs.World.{World}
 use Rattle.curp_law_names.specs.Names.{IsOf}
-use Rattle.curp_law_names.specs.Nodes.{BackupFits, BodyFits, EntryAsked, IsAsked, MessageFits, ReplyAsked, SuspectsAsked, WitnessFits, addressee_kind, sender_kind}
+use Rattle.curp_law_names.specs.Nodes.{BackupFits, BodyFits, EntryAsked, IsAsked, MessageFits, ReplyAsked, SuspectsAsked, WitnessFits, sender_kind}
 
 -- a node says what fits, in its own name
 pub record Said (w : World) (me : NodeId) (m : Message) : Type 0 where
@@ -64,9 +62,9 @@ module _ (w : World) where
     unfolding append
     append_fits epoch base entries all =
         cond_both (nat_lt epoch b.fence) (refuses_entries b (Fenced b.fence)) _ StateFits (λ y. ok) (λ y.
-            cond_both (not (is_installed_at b.installed epoch)) (refuses_entries b NotInstalled) _ StateFits (λ y. ok) (λ y.
-                cond_both (nat_lt (length b.log) base) (refuses_entries b (Gap (length b.log))) (stores b (longer b.log base entries)) StateFits (λ y. ok) (λ y.
-                    Each-append (EntryAsked w) b.log _ ok (Each-drop (EntryAsked w) (length b.log - base) entries all))))
+        cond_both (not (is_installed_at b.installed epoch)) (refuses_entries b NotInstalled) _ StateFits (λ y. ok) (λ y.
+        cond_both (nat_lt (length b.log) base) (refuses_entries b (Gap (length b.log))) (stores b (longer b.log base entries)) StateFits (λ y. ok) (λ y.
+        Each-append (EntryAsked w) b.log _ ok (Each-drop (EntryAsked w) (length b.log - base) entries all))))
 
     install_fits : (epoch : ℕ) → BackupFits w (install b epoch)
     install_fits epoch = cond_both _ _ _ (BackupFits w) (λ y. ok) (λ y. once b.installed)

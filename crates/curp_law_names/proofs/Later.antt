@@ -1,26 +1,25 @@
 -- What was said of a world holds of a later one.
-use Rattle.std.proofs.Common.{◌≡◌, ◌≤◌, ◌<◌, ◌⊎◌, inl, inr, ℕ, ◌+◌, List, length, refl, sym, ◌∙◌, subst, arith}
-use Rattle.curp_base.specs.Words.{At, Each}
+use Rattle.std.proofs.Common.{◌≡◌, ◌<◌, ◌≤◌, inl, inr, ℕ, length, refl, sym, ◌∙◌, subst, arith, Option, Some, None}
+use Rattle.curp_base.specs.Words.{At}
 use Rattle.curp_base.proofs.Lists.{Each-weaker}
-use Rattle.curp_cmd.specs.Node.{manager_node}
+use Rattle.curp_cmd.specs.declared.migration.Package.{Package}
 use Rattle.curp_cmd.specs.declared.node.NodeId.{NodeId}
+use Rattle.curp_msg.specs.declared.body.Parcel.{Parcel}
 use Rattle.curp_cmd.specs.declared.node.NodeKind.{NodeKind}
 use Rattle.curp_cmd.specs.declared.node.NodeKind.TheVariants as kind
-use Rattle.curp_msg.specs.Moved.{says}
 use Rattle.curp_msg.specs.declared.body.Adopted.{Adopted}
 use Rattle.curp_msg.specs.declared.body.Body.{Body}
 use Rattle.curp_msg.specs.declared.body.Body.TheVariants as body
-use Rattle.curp_msg.specs.declared.body.Prepare.{Prepare}
 use Rattle.curp_msg.specs.declared.body.Recover.{Recover}
 use Rattle.curp_msg.specs.declared.config.Config.{Config}
 use Rattle.curp_msg.specs.declared.config.PartConfig.{PartConfig}
 use Rattle.curp_msg.specs.declared.message.Message.{Message}
-use Rattle.curp_model.specs.Manager.{Doing, Recovering, Replacing, Shape, Steady, opening_config}
+use Rattle.curp_model.specs.Manager.{Migration, Doing, Recovering, Replacing, Shape, Steady, opening_config}
 use Rattle.curp_model.specs.Named.{IsNodeOf}
 use Rattle.curp_model.specs.Ranges.{opening_range}
 use Rattle.curp_model.specs.World.{World}
-use Rattle.curp_facts.specs.Facts.{AtOpening, ByRecovery, ByReplacement, IsGiven, Lists, WasAdopted, WasSent, lists_of_part}
-use Rattle.curp_law_names.specs.Names.{AdoptedOk, ConfigurationOk, DoingOk, GivenOk, InstallOk, IsClientNumber, IsMasterOf, IsOf, IsAdoptedMaster, ManagerSays, OrderOk, PrepareOk, StartOk}
+use Rattle.curp_facts.specs.Facts.{AtOpening, ByRecovery, ByReplacement, IsGiven, Lists, WasAdopted, WasSent, WasTaken, lists_of_part}
+use Rattle.curp_law_names.specs.Names.{AdoptedOk, ConfigurationOk, DoingOk, GivenOk, IsClientNumber, IsMasterOf, IsOf, IsAdoptedMaster, IsCarried, IsToldOf, MovingOk, NextAfter, ManagerSays, OrderOk}
 
 -- a world after a step: the header's numbers stay, nodes and numbers grow, and what was sent was sent
 pub record Later (w v : World) : Type 0 where
@@ -123,6 +122,17 @@ module _ {w v : World} (g : Later w v) where
     adopted = Each-weaker (λ (c : PartConfig). WasAdopted w (lists_of_part c)) (λ (c : PartConfig). WasAdopted v (lists_of_part c)) (λ (c : PartConfig). adopted_later (lists_of_part c)) config.parts ok.adopted;
   }
 
+  abbrev pub taken_later : (t : Parcel) → WasTaken w t → WasTaken v t
+  taken_later t was = record { node = was.node; told = g.sent _ was.told }
+
+  carried_later : (number : ℕ) (o : Option Package) → IsCarried w number o → IsCarried v number o
+  carried_later number None is = tt
+  carried_later number (Some carried) is = taken_later _ is
+
+  pub moving_later : (o : Option Migration) → MovingOk w o → MovingOk v o
+  moving_later None is = tt
+  moving_later (Some m) is = carried_later m.number m.moved is
+
   -- what the manager said stays so
   pub says_later : (node : NodeId) (b : Body) → ManagerSays w node b → ManagerSays v node b
   says_later node (body.Install epoch) ok = record { lists = ok.lists; given = given_later ok.lists ok.given; named = ok.named; its_epoch = ok.its_epoch }
@@ -132,7 +142,7 @@ module _ {w v : World} (g : Later w v) where
   says_later node (body.Prepare p) ok = record { before = ok.before; was = adopted_later ok.before ok.was; its_master = ok.its_master; older = ok.older }
   says_later node (body.Adopted a) ok = adopted_ok_later node a ok
   says_later node (body.TakeOut t) ok = server_later node ok
-  says_later node (body.GiveIn t) ok = server_later node ok
+  says_later node (body.GiveIn t) ok = (server_later node ok.0, taken_later t ok.1)
   says_later node (body.ExpireClient client) ok = (server_later node ok.0, client_later client ok.1)
   says_later node (body.Configuration config) ok = (of_later kind.Client node ok.0, configuration_later config ok.1)
   says_later node _ ok = absurd ok
@@ -148,4 +158,28 @@ module _ {w v : World} (g : Later w v) where
     its_backup = ok.its_backup;
     its_witness = ok.its_witness;
     sent = g.sent _ ok.sent;
+  }
+
+  -- why lists are adopted stays so
+  pub told_later : (l : Lists) → IsToldOf w l → IsToldOf v l
+  told_later l why = elim why [
+    | inl one ↦ inl one
+    | inr told ↦ inr (elim told [
+      | inl r ↦ inl (record { order = r.order; ordered = g.sent _ r.ordered; its_lists = r.its_lists; from = r.from; told = g.sent _ r.told })
+      | inr p ↦ inr (record { prepare = p.prepare; sent = g.sent _ p.sent; its_version = p.its_version; from = p.from; told = g.sent _ p.told })
+    ])
+  ]
+
+  -- a link stays, where no adopted list came between
+  pub link_later : (l : Lists) → ((k : Lists) → WasAdopted v k → k.part ≡ l.part → k.version < l.version → WasAdopted w k) → NextAfter w l → NextAfter v l
+  link_later l back link = record {
+    before = link.before;
+    was = adopted_later link.before link.was;
+    its_part = link.its_part;
+    older = link.older;
+    last = λ k was part version. link.last k (back k was part version) part version;
+    how = elim link.how [
+      | inl same ↦ inl same
+      | inr r ↦ inr (record { order = r.order; ordered = g.sent _ r.ordered; its_lists = r.its_lists; its_backup = r.its_backup; its_witness = r.its_witness; earlier = r.earlier })
+    ];
   }

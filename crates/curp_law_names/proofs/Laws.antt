@@ -1,7 +1,7 @@
 -- What follows for every run, as others cite it.
-use Rattle.std.proofs.Common.{◌≡◌, ◌≢◌, ◌≤◌, ◌<◌, ◌⊎◌, inl, inr, ℕ, suc, ◌+◌, List, length, refl, sym, ◌∙◌, ap, subst, arith, Option, Some, None}
+use Rattle.std.proofs.Common.{◌≡◌, ◌<◌, inl, inr, ℕ, suc, List, refl, sym, ◌∙◌, ap, subst, arith, Option, Some, None}
 use Rattle.std.proofs.lemmas.Bool.{cases_eq}
-use Rattle.curp_base.specs.Words.{At, Each, numbered, numbers_from}
+use Rattle.curp_base.specs.Words.{Each, numbered, numbers_from}
 use Rattle.curp_base.proofs.Lists.{Each-from_at, Each-weaker}
 use Rattle.curp_cmd.specs.Node.{manager_node, master_node}
 use Rattle.curp_cmd.specs.declared.node.NodeId.{NodeId}
@@ -16,20 +16,19 @@ use Rattle.curp_msg.specs.declared.message.Message.{Message}
 use Rattle.curp_msg.specs.declared.script.Header.{Header}
 use Rattle.curp_msg.specs.declared.script.Step.{Step}
 use Rattle.curp_model.specs.Client.{ClientState, Pending}
-use Rattle.curp_model.specs.Manager.{Doing, Recovering, Replacing, Steady, opening_config, opening_part}
+use Rattle.curp_model.specs.Manager.{Doing, Recovering, Replacing, Steady, opening_part}
 use Rattle.curp_model.specs.Master.{MasterState}
 use Rattle.curp_model.specs.Named.{IsNode, IsNodeOf}
 use Rattle.curp_model.specs.Recovery as recovery
 use Rattle.curp_model.specs.Recovery.{RecoveryState, Serving}
 use Rattle.curp_model.specs.World.{World, messages, opening, shape_of, world}
-use Rattle.curp_facts.specs.Facts.{AtOpening, AttemptOk, AttemptWas, ByRecovery, ByReplacement, IsAdoptedNow, IsGiven, Lists, WasAdopted, WasSent, lists_of_order, lists_of_part, lists_of_prepare}
+use Rattle.curp_facts.specs.Facts.{AtOpening, AttemptOk, AttemptWas, ByRecovery, ByReplacement, IsAdoptedNow, IsGiven, Lists, WasAdopted, WasSent, lists_of_order, lists_of_prepare}
 use Rattle.curp_facts.specs.Kept.{lists_of_master}
 use Rattle.curp_facts.specs.Run.{IsRun}
 use Rattle.curp_law_names.specs.Names.{IsMasterOf, IsOf, Names, OrderOk, PrepareOk}
 use Rattle.curp_law_names.specs.Nodes.{BodyFits, GoesHome, IsBetweenNodes, MessageFits, Nodes, PendingFits, addressee_kind, sender_kind}
 use Rattle.curp_law_names.proofs.Lists.{among_each, at_mapped, each_among}
 use Rattle.curp_law_names.proofs.Keeps.{entry_now}
-use Rattle.curp_law_names.proofs.Later.{Later}
 use Rattle.curp_law_names.proofs.Runs.{always}
 
 -- ---- every run

@@ -20,3 +20,5 @@ pub mod Others
 pub mod Opened
 pub mod Runs
 pub mod Laws
+pub mod Homes
+pub mod Ready

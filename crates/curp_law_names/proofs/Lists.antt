@@ -1,9 +1,9 @@
 -- Lists that are numbered from 1, what is among lists, and lists whose items differ.
-use Rattle.std.proofs.Common.{◌≡◌, ◌≢◌, ◌⊎◌, inl, inr, ℕ, zero, suc, ◌+◌, ◌-◌, ◌<◌, ◌≤◌, Bool, true, List, [], ◌∷◌, ◌++◌, length, map, set, refl, ap, sym, ◌∙◌, subst, arith, append-nil, append_assoc, Some}
+use Rattle.std.proofs.Common.{◌≡◌, ◌≢◌, ◌⊎◌, inl, inr, ℕ, zero, suc, ◌+◌, ◌-◌, ◌<◌, ◌≤◌, Bool, List, [], ◌∷◌, ◌++◌, length, map, set, refl, ap, sym, ◌∙◌, subst, arith, append-nil, append_assoc, Some}
 use Rattle.std.specs.List.{filter}
 use Rattle.std.proofs.lemmas.Bool.{cases_Bool}
 use Rattle.curp_base.specs.Words.{At, Each, all_of, first_of, last_of, numbered, numbers_from}
-use Rattle.curp_base.proofs.Lists.{at_append, at_append_cases, at_append_right, at_map, at_within, at_set_cases, at_set_same, at_set_other, Each-at, Each-from_at}
+use Rattle.curp_base.proofs.Lists.{at_append_right, at_within, at_set_cases, Each-at, Each-from_at}
 use Rattle.curp_msg.specs.declared.message.Message.{Message}
 use Rattle.curp_model.specs.World.{with_batch}
 use Rattle.curp_facts.specs.Facts.{IsAmong}
@@ -20,9 +20,6 @@ pub at_place : {A : Type 0} (xs : List A) (k n : ℕ) (x : A) → n ≡ k + 1 �
 at_place xs k zero x e h = absurd (omega arith)
 at_place xs k (suc n) x e h = let same : k ≡ n = omega arith in subst (λ (i : ℕ). At xs i x) same h
 
-set_at : {A : Type 0} (xs : List A) (n k : ℕ) (y : A) → n ≡ k + 1 → set xs (n - 1) y ≡ set xs k y
-set_at xs n k y e = let same : n - 1 ≡ k = omega arith in ap (λ (i : ℕ). set xs i y) same
-
 -- after one item was set, another stands as before, and that one is the new one
 pub numbered_set_cases : {A : Type 0} (xs : List A) (n : ℕ) (y : A) → 1 ≤ n → (m : ℕ) (x : A) → numbered (set xs (n - 1) y) m ≡ Some x
     → ((m ≢ n) × (numbered xs m ≡ Some x)) ⊎ ((m ≡ n) × (y ≡ x))
@@ -32,11 +29,6 @@ numbered_set_cases {A} xs n y low m x h =
       | inl o ↦ inl (omega (arith, q.1, o.0), at_place xs q.0 m x q.1 o.1)
       | inr o ↦ inr (omega (arith, q.1, o.0), o.1)
     ]
-
-pub numbered_set_other : {A : Type 0} (xs : List A) (n : ℕ) (y : A) (m : ℕ) (x : A) → 1 ≤ n → m ≢ n → numbered xs m ≡ Some x → numbered (set xs (n - 1) y) m ≡ Some x
-numbered_set_other {A} xs n y m x low ne h =
-    let q = place xs m x h in
-    at_place (set xs (n - 1) y) q.0 m x q.1 (at_set_other xs (n - 1) q.0 x y (omega (arith, q.1)) q.2)
 
 -- what has a number is one of as many
 pub number_within : {A : Type 0} (xs : List A) (n : ℕ) (x : A) → numbered xs n ≡ Some x → (1 ≤ n) × (n ≤ length xs)
@@ -66,20 +58,8 @@ among_each P xs all x a = Each-at P xs all a.place x a.stands
 pub each_among : {A : Type 0} (P : A → Type 0) (xs : List A) → ((x : A) → IsAmong x xs → P x) → Each P xs
 each_among P xs f = Each-from_at P xs (λ k x at. f x (record { place = k; stands = at }))
 
-abbrev pub among_left : {A : Type 0} (xs ys : List A) (x : A) → IsAmong x xs → IsAmong x (xs ++ ys)
-among_left xs ys x a = record { place = a.place; stands = at_append xs ys a.place x a.stands }
-
 abbrev pub among_right : {A : Type 0} (xs ys : List A) (x : A) → IsAmong x ys → IsAmong x (xs ++ ys)
 among_right xs ys x a = record { place = length xs + a.place; stands = at_append_right xs ys a.place _ x refl a.stands }
-
-pub among_cases : {A : Type 0} (xs ys : List A) (x : A) → IsAmong x (xs ++ ys) → IsAmong x xs ⊎ IsAmong x ys
-among_cases xs ys x a = elim (at_append_cases xs ys a.place x a.stands) [
-  | inl h ↦ inl (record { place = a.place; stands = h })
-  | inr h ↦ inr (record { place = h.0; stands = h.2 })
-]
-
-abbrev pub among_map : {A B : Type 0} (f : A → B) (xs : List A) (x : A) → IsAmong x xs → IsAmong (f x) (map f xs)
-among_map f xs x a = record { place = a.place; stands = at_map f xs a.place x a.stands }
 
 -- what is among a list of which one item was set is the new one, or was there
 pub among_set : {A : Type 0} (xs : List A) (i : ℕ) (y x : A) → IsAmong x (set xs i y) → (x ≡ y) ⊎ IsAmong x xs

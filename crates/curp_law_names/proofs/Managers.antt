@@ -1,41 +1,39 @@
 -- Each input to the manager keeps the facts of names.
-use Rattle.std.proofs.Common.{◌≡◌, ◌≢◌, ◌≤◌, ◌<◌, ◌⊎◌, inl, inr, ℕ, zero, suc, ◌+◌, ◌==◌, ◌&&◌, Bool, true, false, not, nat_lt, nat_le, List, [], ◌∷◌, length, map, refl, sym, ◌∙◌, ap, subst, arith, Option, Some, None, Ok}
-use Rattle.std.specs.Prelude.{is_some, option_and_then, Result}
+use Rattle.std.proofs.Common.{◌≡◌, inl, inr, ◌≤◌, ℕ, suc, ◌==◌, ◌&&◌, Bool, true, false, not, nat_lt, nat_le, List, [], ◌∷◌, map, refl, sym, ap, subst, arith, Option, Some, None, Ok}
+use Rattle.std.specs.Prelude.{is_some, option_and_then}
 use Rattle.std.specs.BTreeSet.{insert_key}
-use Rattle.std.specs.List.{filter}
 use Rattle.std.specs.Option.{ok_or}
 use Rattle.std.specs.Ordering.{nat_cmp, match_ordering}
 use Rattle.std.specs.declared.cmp.Ordering.{Ordering}
 use Rattle.std.specs.declared.cmp.Ordering.TheVariants.{Less, Equal, Greater}
-use Rattle.std.proofs.lemmas.Bool.{cases_Bool, cond_both, eqb-true}
+use Rattle.std.proofs.lemmas.Bool.{cond_both, eqb-true}
 use Rattle.std.proofs.lemmas.Bool.Decides.{nat_tests}
 use Rattle.curp_base.specs.Cases.{◌>>=◌, first_there, only_if, refuse_if}
-use Rattle.curp_base.specs.Words.{At, Each, first_of, numbered}
+use Rattle.curp_base.specs.Words.{At, Each, numbered}
+use Rattle.curp_cmd.specs.Node.{manager_node}
 use Rattle.curp_cmd.specs.declared.migration.Package.{Package}
 use Rattle.curp_cmd.specs.declared.node.NodeId.{NodeId}
-use Rattle.curp_msg.specs.Moved.{Moved, quiet, refuses, sends, unless_refused}
+use Rattle.curp_msg.specs.Moved.{Moved, quiet, says, unless_refused}
 use Rattle.curp_msg.specs.declared.body.Body.{Body}
 use Rattle.curp_msg.specs.declared.body.Body.TheVariants as body
 use Rattle.curp_msg.specs.declared.body.Parcel.{Parcel}
-use Rattle.curp_msg.specs.declared.body.Prepare.{Prepare}
 use Rattle.curp_msg.specs.declared.body.Recovered.{Recovered}
 use Rattle.curp_msg.specs.declared.config.PartConfig.{PartConfig}
 use Rattle.curp_msg.specs.declared.machine.Input.{Input}
 use Rattle.curp_msg.specs.declared.machine.Input.TheVariants as input
 use Rattle.curp_msg.specs.declared.machine.Local.{Local}
 use Rattle.curp_msg.specs.declared.machine.Local.TheVariants as local
-use Rattle.curp_msg.specs.declared.message.Message.{Message}
-use Rattle.curp_model.specs.Manager.{Attempted, Doing, ManagerState, Migration, Move, NewLists, Recovering, Replacing, Steady, adopted_at, adopts, attempt_at, expire, expires, finished, given_in, gives, heard, lists_in_work, manager_input, manager_ordered, migrate, migrates, move_for, moved_part, nudge, on_given, on_manager, on_prepared, on_recovered, on_taken, owner_of_range, owns_range, part_at, prepared_in, recovered_in, recovered_part, taken_in, tells_again, told, unless_numbers_end, version_adopted, version_in_work}
+use Rattle.curp_model.specs.Manager.{Doing, ManagerState, Migration, Move, NewLists, Recovering, Replacing, Steady, adopted_at, adopts, attempt_at, expire, expires, given_in, gives, heard, lists_in_work, manager_input, manager_ordered, migrate, migrates, moved_part, nudge, on_given, on_manager, on_prepared, on_recovered, on_taken, owner_of_range, owns_range, part_at, prepared_in, recovered_in, recovered_part, taken_in, tells_again, told, unless_numbers_end, version_adopted, version_in_work}
 use Rattle.curp_model.specs.Ranges.{Range, range_of}
 use Rattle.curp_model.specs.World.{World}
-use Rattle.curp_facts.specs.Facts.{ByRecovery, ByReplacement, IsAdoptedNow, IsAmong, IsGiven, Lists, lists_of_order, lists_of_part}
-use Rattle.curp_law_names.specs.Nodes.{sender_kind}
-use Rattle.curp_law_names.proofs.Keepers.{InputFits}
-use Rattle.curp_law_names.specs.Names.{IsClientNumber, IsOf, Names, RecoveringOk, ReplacingOk}
+use Rattle.curp_facts.specs.Facts.{ByRecovery, ByReplacement, IsAdoptedNow, IsAmong, IsGiven, WasSent, WasTaken, lists_of_order, lists_of_part}
+use Rattle.curp_law_names.specs.Nodes.{MessageFits}
+use Rattle.curp_law_names.proofs.Clients.{Arrives, is_manager}
+use Rattle.curp_law_names.specs.Names.{IsClientNumber, MovingOk, Names, RecoveringOk, ReplacingOk}
 use Rattle.curp_law_names.proofs.Adoptions.{adopts_good}
 use Rattle.curp_law_names.proofs.Keeps.{entry_now, entry_numbered, numbered_now}
 use Rattle.curp_law_names.proofs.Lists.{at_mapped, filter_among, first_among, place}
-use Rattle.curp_law_names.proofs.Quiet.{AllAgain, Good, Stays, quietly, stays_beside, stays_self}
+use Rattle.curp_law_names.proofs.Quiet.{Good, Stays, quietly, stays_beside, stays_self}
 use Rattle.curp_law_names.proofs.Recoveries.{recover_good, refused_good}
 use Rattle.curp_law_names.proofs.Replacements.{replace_good}
 use Rattle.curp_law_names.proofs.Says.{adopted_again, configuration_again, expire_again, nudge_again, serves_now}
@@ -49,17 +47,17 @@ there_among (None ∷ xs) x e = let r = there_among xs x e in record { place = s
 
 module _ {w : World} (n : Names w) where
   -- what says nothing and changes no name
-  silent : (g : ManagerState) → Stays w.manager g → g.gone ≡ w.manager.gone → Good w (quiet g)
-  silent g s gone = quietly w n (quiet g) s (subst (Each (IsClientNumber w)) (sym gone) n.gone) tt
+  silent : (g : ManagerState) → Stays w.manager g → g.gone ≡ w.manager.gone → MovingOk w g.moving → Good w (quiet g)
+  silent g s gone moving = quietly w n (quiet g) s (subst (Each (IsClientNumber w)) (sym gone) n.gone) moving tt
 
   rests : Good w (quiet w.manager)
-  rests = silent w.manager (stays_self w.manager) refl
+  rests = silent w.manager (stays_self w.manager) refl n.moving
 
   -- ---- recoveries and replacements that are done
 
   again_good : (o : Option PartConfig) → ((c : PartConfig) → o ≡ Some c → IsAmong c w.manager.config.parts) → Good w (tells_again w.manager o)
   again_good None its = rests
-  again_good (Some c) its = quietly w n (tells_again w.manager (Some c)) (stays_self w.manager) n.gone (adopted_again n c (its c refl))
+  again_good (Some c) its = quietly w n (tells_again w.manager (Some c)) (stays_self w.manager) n.gone n.moving (adopted_again n c (its c refl))
 
   -- what is said to be adopted is a present entry
   adopted_at_among : (r : Recovered) (c : PartConfig) → adopted_at w.manager r ≡ Some c → IsAmong c w.manager.config.parts
@@ -74,34 +72,41 @@ module _ {w : World} (n : Names w) where
       by_entry (Some d) at e = by_epoch (d.epoch == r.epoch) d at e
 
   -- the attempt that is finished is the one that is being made
-  attempt_good : (r : Recovered) (c : PartConfig) → numbered w.manager.config.parts r.part ≡ Some c → (d : Option Doing) → numbered w.manager.doing r.part ≡ d
+  attempt_good : (from : NodeId) (r : Recovered) → WasSent w (says from manager_node (body.Recovered r)) → (c : PartConfig) → numbered w.manager.config.parts r.part ≡ Some c → (d : Option Doing) → numbered w.manager.doing r.part ≡ d
       → Good w (recovered_in w.manager r (attempt_at r.epoch d) (Some c))
-  attempt_good r c here (Some (Recovering node o)) its = by_epoch (o.epoch == r.epoch)
+  attempt_good from r told c here (Some (Recovering node o)) its = by_epoch (o.epoch == r.epoch) refl
     where
       ok : RecoveringOk w (lists_of_part c) node o
       ok = n.doing c (Recovering node o) (numbered_now n r.part c here) (subst (λ (i : ℕ). numbered w.manager.doing i ≡ Some (Recovering node o)) (sym (entry_numbered n r.part c here)) its)
 
-      by_epoch : (b : Bool) → Good w (recovered_in w.manager r (only_if b (record { master = node; order = o })) (Some c))
-      by_epoch true = adopts_good n r.part c (recovered_part c (record { master = node; order = o })) here
-          (subst (λ (p : ℕ). IsGiven w (record (lists_of_order node o) { part = p })) ok.its_part (ByRecovery node o ok.sent)) refl (omega (arith, ok.later)) ok.newer
-      by_epoch false = again_good (adopted_at w.manager r) (adopted_at_among r)
-  attempt_good r c here (Some (Replacing kind fresh version backups witnesses)) its = again_good (adopted_at w.manager r) (adopted_at_among r)
-  attempt_good r c here (Some Steady) its = again_good (adopted_at w.manager r) (adopted_at_among r)
-  attempt_good r c here None its = again_good (adopted_at w.manager r) (adopted_at_among r)
+      said : o.epoch ≡ r.epoch → WasSent w (says from manager_node (body.Recovered (record { part = c.part; epoch = o.epoch })))
+      said e =
+          let same : r ≡ record { part = c.part; epoch = o.epoch } = λ i. record { part = sym (entry_numbered n r.part c here) i; epoch = sym e i } in
+          subst (λ (x : Recovered). WasSent w (says from manager_node (body.Recovered x))) same told
 
-  recovered_good : (r : Recovered) → Good w (on_recovered w.manager r)
+      by_epoch : (b : Bool) → (o.epoch == r.epoch) ≡ b → Good w (recovered_in w.manager r (only_if b (record { master = node; order = o })) (Some c))
+      by_epoch true e = adopts_good n r.part c (recovered_part c (record { master = node; order = o })) here
+          (subst (λ (p : ℕ). IsGiven w (record (lists_of_order node o) { part = p })) ok.its_part (ByRecovery node o ok.sent)) refl (omega (arith, ok.later)) ok.newer
+          (inr (inl (record { order = o; ordered = ok.sent; its_lists = λ i. record (lists_of_order node o) { part = ok.its_part i }; from = from; told = said (eqb-true o.epoch r.epoch e) })))
+          (inr (record { order = o; ordered = ok.sent; its_lists = λ i. record (lists_of_order node o) { part = ok.its_part i }; its_backup = ok.its_backup; its_witness = ok.its_witness; earlier = ok.later }))
+      by_epoch false e = again_good (adopted_at w.manager r) (adopted_at_among r)
+  attempt_good from r told c here (Some (Replacing kind fresh version backups witnesses)) its = again_good (adopted_at w.manager r) (adopted_at_among r)
+  attempt_good from r told c here (Some Steady) its = again_good (adopted_at w.manager r) (adopted_at_among r)
+  attempt_good from r told c here None its = again_good (adopted_at w.manager r) (adopted_at_among r)
+
+  recovered_good : (from : NodeId) (r : Recovered) → WasSent w (says from manager_node (body.Recovered r)) → Good w (on_recovered w.manager r)
   unfolding on_recovered
-  recovered_good r = by_entry (part_at w.manager r.part) refl
+  recovered_good from r told = by_entry (part_at w.manager r.part) refl
     where
       by_entry : (o : Option PartConfig) → numbered w.manager.config.parts r.part ≡ o
           → Good w (recovered_in w.manager r (option_and_then (λ (c : PartConfig). attempt_at r.epoch (numbered w.manager.doing r.part)) o) o)
       by_entry None at = again_good (adopted_at w.manager r) (adopted_at_among r)
-      by_entry (Some c) at = attempt_good r c at (numbered w.manager.doing r.part) refl
+      by_entry (Some c) at = attempt_good from r told c at (numbered w.manager.doing r.part) refl
 
   -- the new lists that are prepared are those that are being given
-  work_good : (version : ℕ) (x : NewLists) (c : PartConfig) → IsAmong c w.manager.config.parts → (d : Option Doing) → numbered w.manager.doing c.part ≡ d → lists_in_work version c d ≡ Some x
+  work_good : (from : NodeId) (version : ℕ) → WasSent w (says from manager_node (body.Prepared version)) → (x : NewLists) (c : PartConfig) → IsAmong c w.manager.config.parts → (d : Option Doing) → numbered w.manager.doing c.part ≡ d → lists_in_work version c d ≡ Some x
       → Good w (adopts w.manager x.part.part (record x.part { version = x.version; backups = x.backups; witnesses = x.witnesses }))
-  work_good version x c a (Some (Replacing kind fresh own backups witnesses)) its e = by_version (own == version) e
+  work_good from version told x c a (Some (Replacing kind fresh own backups witnesses)) its e = by_version (own == version) refl e
     where
       now : IsAdoptedNow w c
       now = entry_now n c a
@@ -112,27 +117,29 @@ module _ {w : World} (n : Names w) where
       new : NewLists
       new = record { part = c; version = own; backups = backups; witnesses = witnesses }
 
-      good : Good w (adopts w.manager c.part (record c { version = own; backups = backups; witnesses = witnesses }))
-      good = adopts_good n c.part c (record c { version = own; backups = backups; witnesses = witnesses }) now
+      good : own ≡ version → Good w (adopts w.manager c.part (record c { version = own; backups = backups; witnesses = witnesses }))
+      good same = adopts_good n c.part c (record c { version = own; backups = backups; witnesses = witnesses }) now
           (ByReplacement (lists_of_part c) (record { version = own; backups = backups; witnesses = witnesses }) (n.top c now).was.given ok.sent) refl (omega arith) ok.newer
+          (inr (inr (record { prepare = record { version = own; backups = backups; witnesses = witnesses }; sent = ok.sent; its_version = refl; from = from; told = subst (λ (k : ℕ). WasSent w (says from manager_node (body.Prepared k))) (sym same) told })))
+          (inl refl)
 
-      by_version : (b : Bool) → only_if b new ≡ Some x → Good w (adopts w.manager x.part.part (record x.part { version = x.version; backups = x.backups; witnesses = x.witnesses }))
-      by_version true e = let same : new ≡ x = cc e in subst (λ (y : NewLists). Good w (adopts w.manager y.part.part (record y.part { version = y.version; backups = y.backups; witnesses = y.witnesses }))) same good
-      by_version false e = absurd cc
-  work_good version x c a (Some (Recovering node o)) its e = absurd cc
-  work_good version x c a (Some Steady) its e = absurd cc
-  work_good version x c a None its e = absurd cc
+      by_version : (b : Bool) → (own == version) ≡ b → only_if b new ≡ Some x → Good w (adopts w.manager x.part.part (record x.part { version = x.version; backups = x.backups; witnesses = x.witnesses }))
+      by_version true t e = let same : new ≡ x = cc e in subst (λ (y : NewLists). Good w (adopts w.manager y.part.part (record y.part { version = y.version; backups = y.backups; witnesses = y.witnesses }))) same (good (eqb-true own version t))
+      by_version false t e = absurd cc
+  work_good from version told x c a (Some (Recovering node o)) its e = absurd cc
+  work_good from version told x c a (Some Steady) its e = absurd cc
+  work_good from version told x c a None its e = absurd cc
 
-  prepared_good : (version : ℕ) → Good w (on_prepared w.manager version)
+  prepared_good : (from : NodeId) (version : ℕ) → WasSent w (says from manager_node (body.Prepared version)) → Good w (on_prepared w.manager version)
   unfolding on_prepared
-  prepared_good version = by_work (version_in_work w.manager version) refl
+  prepared_good from version told = by_work (version_in_work w.manager version) refl
     where
       by_work : (o : Option NewLists) → version_in_work w.manager version ≡ o → Good w (prepared_in w.manager version o)
       by_work None e = again_good (version_adopted w.manager version) (λ c is. filter_among (λ (d : PartConfig). d.version == version) w.manager.config.parts c (first_among _ c is))
       by_work (Some x) e =
           let t = there_among _ x e in
           let m = at_mapped (λ (c : PartConfig). lists_in_work version c (numbered w.manager.doing c.part)) w.manager.config.parts t.place (Some x) t.stands in
-          work_good version x m.0 (record { place = t.place; stands = m.1 }) (numbered w.manager.doing m.0.part) refl m.2
+          work_good from version told x m.0 (record { place = t.place; stands = m.1 }) (numbered w.manager.doing m.0.part) refl m.2
 
   -- ---- migrations
 
@@ -140,7 +147,7 @@ module _ {w : World} (n : Names w) where
   owner_among lo hi c is = filter_among (owns_range lo hi) w.manager.config.parts c (first_among _ c is)
 
   migrates_good : (m : Move) → IsAmong m.owner w.manager.config.parts → Good w (migrates w.manager m)
-  migrates_good m a = quietly w n (migrates w.manager m) (stays_beside w.manager _ _ _) n.gone (record { from = refl; repeats = tt; is_so = serves_now n m.owner a }, tt)
+  migrates_good m a = quietly w n (migrates w.manager m) (stays_beside w.manager _ _ _) n.gone tt (record { from = refl; repeats = tt; is_so = serves_now n m.owner a }, tt)
 
   by_moving : (r : Range) (target owner : PartConfig) → IsAmong owner w.manager.config.parts → (busy : Bool)
       → Good w (unless_refused w.manager (migrates w.manager) (refuse_if busy 5 >>= λ _. Ok (record { range = r; owner = owner; target = target })))
@@ -171,19 +178,22 @@ module _ {w : World} (n : Names w) where
   unfolding migrate
   migrate_good lo hi to = by_ends to (range_of lo hi)
 
-  gives_good : (m : Migration) (carried : Package) (o : Option PartConfig) → numbered w.manager.config.parts m.target ≡ o → Good w (gives w.manager m carried o)
-  gives_good m carried None found = rests
-  gives_good m carried (Some target) found =
+  gives_good : (m : Migration) (carried : Package) → WasTaken w (record { migration = m.number; «package» = carried }) → (o : Option PartConfig) → numbered w.manager.config.parts m.target ≡ o → Good w (gives w.manager m carried o)
+  gives_good m carried told None found = rests
+  gives_good m carried told (Some target) found =
       let k = place w.manager.config.parts m.target target found in
-      quietly w n (gives w.manager m carried (Some target)) (stays_beside w.manager _ _ _) n.gone (record { from = refl; repeats = tt; is_so = serves_now n target (record { place = k.0; stands = k.2 }) }, tt)
+      quietly w n (gives w.manager m carried (Some target)) (stays_beside w.manager _ _ _) n.gone told (record { from = refl; repeats = tt; is_so = (serves_now n target (record { place = k.0; stands = k.2 }), told) }, tt)
 
-  taken_good : (t : Parcel) → Good w (on_taken w.manager t)
+  taken_good : (t : Parcel) → WasTaken w t → Good w (on_taken w.manager t)
   unfolding on_taken
-  taken_good t = by_migration w.manager.moving
+  taken_good t told = by_migration w.manager.moving
     where
+      taken_as : (m : Migration) → (m.number == t.migration) ≡ true → WasTaken w (record { migration = m.number; «package» = t.package })
+      taken_as m e = subst (λ (k : ℕ). WasTaken w (record { migration = k; «package» = t.package })) (sym (eqb-true m.number t.migration e)) told
+
       by_migration : (o : Option Migration) → Good w (taken_in w.manager t o)
       by_migration None = rests
-      by_migration (Some m) = cond_both (m.number == t.migration) _ _ (Good w) (λ y. gives_good m t.package (part_at w.manager m.target) refl) (λ y. rests)
+      by_migration (Some m) = cond_both (m.number == t.migration) _ _ (Good w) (λ y. gives_good m t.package (taken_as m y) (part_at w.manager m.target) refl) (λ y. rests)
 
   -- a migration that is done changes ranges alone
   moved_lists : (m : Migration) (xs : List PartConfig) → map lists_of_part (map (moved_part m) xs) ≡ map lists_of_part xs
@@ -201,7 +211,7 @@ module _ {w : World} (n : Names w) where
       by_migration : (o : Option Migration) → Good w (given_in w.manager number o)
       by_migration None = rests
       by_migration (Some m) = cond_both (m.number == number) _ _ (Good w)
-          (λ y. silent _ (record { shape = refl; epoch = refl; version = refl; master = refl; backup = refl; witness = refl; lists = moved_lists m w.manager.config.parts; doing = refl }) refl) (λ y. rests)
+          (λ y. silent _ (record { shape = refl; epoch = refl; version = refl; master = refl; backup = refl; witness = refl; lists = moved_lists m w.manager.config.parts; doing = refl }) refl tt) (λ y. rests)
 
   -- ---- clients that are gone, and nudges
 
@@ -215,7 +225,7 @@ module _ {w : World} (n : Names w) where
       go Greater more = (all.0, more)
 
   expires_good : (client : ℕ) → IsClientNumber w client → Good w (expires w.manager client)
-  expires_good client is = quietly w n (expires w.manager client) (stays_beside w.manager _ _ _) (inserted client is w.manager.gone n.gone) (expire_again n client is)
+  expires_good client is = quietly w n (expires w.manager client) (stays_beside w.manager _ _ _) (inserted client is w.manager.gone n.gone) n.moving (expire_again n client is)
 
   is_client : (client : ℕ) (a b : Bool) → nat_lt 0 client ≡ a → nat_le client w.manager.shape.clients ≡ b → Good w (unless_refused w.manager (expires w.manager) (refuse_if (not (a && b)) 1 >>= λ _. Ok client))
   is_client client true true low high = expires_good client (within client w.manager.shape.clients low high)
@@ -231,17 +241,17 @@ module _ {w : World} (n : Names w) where
 
   nudge_good : Good w (nudge w.manager)
   unfolding nudge
-  nudge_good = quietly w n (nudge w.manager) (stays_self w.manager) n.gone (nudge_again n)
+  nudge_good = quietly w n (nudge w.manager) (stays_self w.manager) n.gone n.moving (nudge_again n)
 
   -- ---- inputs
 
-  heard_good : (from : NodeId) (b : Body) → IsOf w (sender_kind b) from → Good w (heard w.manager from b)
-  heard_good from body.Fetch sender = quietly w n (heard w.manager from body.Fetch) (stays_self w.manager) n.gone (record { from = refl; repeats = tt; is_so = (sender, configuration_again n) }, tt)
-  heard_good from (body.Recovered r) sender = recovered_good r
-  heard_good from (body.Prepared version) sender = prepared_good version
-  heard_good from (body.Taken t) sender = taken_good t
-  heard_good from (body.Given number) sender = given_good number
-  heard_good from _ sender = rests
+  heard_good : (from to : NodeId) (b : Body) → MessageFits w (says from to b) → WasSent w (says from to b) → Good w (heard w.manager from b)
+  heard_good from to body.Fetch fits sent = quietly w n (heard w.manager from body.Fetch) (stays_self w.manager) n.gone n.moving (record { from = refl; repeats = tt; is_so = (fits.sender, configuration_again n) }, tt)
+  heard_good from to (body.Recovered r) fits sent = recovered_good from r (subst (λ (x : NodeId). WasSent w (says from x (body.Recovered r))) (is_manager w to fits.addressee) sent)
+  heard_good from to (body.Prepared version) fits sent = prepared_good from version (subst (λ (x : NodeId). WasSent w (says from x (body.Prepared version))) (is_manager w to fits.addressee) sent)
+  heard_good from to (body.Taken t) fits sent = taken_good t (record { node = from; told = subst (λ (x : NodeId). WasSent w (says from x (body.Taken t))) (is_manager w to fits.addressee) sent })
+  heard_good from to (body.Given number) fits sent = given_good number
+  heard_good from to _ fits sent = rests
 
   told_good : (order : Local) → Good w (told w.manager order)
   told_good (local.Recover part backup witness) = recover_good n part backup witness
@@ -254,15 +264,15 @@ module _ {w : World} (n : Names w) where
   unless_ended : (r : Moved ManagerState) → Good w r → Good w (unless_numbers_end w.manager r)
   unless_ended r good = cond_both _ _ _ (Good w) (λ y. rests) (λ y. good)
 
-  message_good : (from : NodeId) (b : Body) → IsOf w (sender_kind b) from → Good w (on_manager w.manager from b)
+  message_good : (from to : NodeId) (b : Body) → MessageFits w (says from to b) → WasSent w (says from to b) → Good w (on_manager w.manager from b)
   unfolding on_manager
-  message_good from b sender = unless_ended (heard w.manager from b) (heard_good from b sender)
+  message_good from to b fits sent = unless_ended (heard w.manager from b) (heard_good from to b fits sent)
 
   order_good : (order : Local) → Good w (manager_ordered w.manager order)
   unfolding manager_ordered
   order_good order = unless_ended (told w.manager order) (told_good order)
 
   -- whatever comes to the manager keeps the facts of names
-  pub manager_good : (given : Input) → InputFits w given → Good w (manager_input w.manager given)
-  manager_good (input.Local order) fits = order_good order
-  manager_good (input.Message m) fits = message_good m.from m.body fits.sender
+  pub manager_good : (given : Input) → Arrives w given → Good w (manager_input w.manager given)
+  manager_good (input.Local order) comes = order_good order
+  manager_good (input.Message m) comes = message_good m.from m.to m.body comes.0 comes.1

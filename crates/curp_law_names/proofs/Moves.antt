@@ -1,5 +1,5 @@
 -- What one step of the manager adds to the names, and what of the facts it keeps whichever it is.
-use Rattle.std.proofs.Common.{◌≡◌, ◌≢◌, ◌≤◌, ◌<◌, ◌⊎◌, inl, inr, ℕ, ◌+◌, List, length, refl, sym, ◌∙◌, ap, subst, arith}
+use Rattle.std.proofs.Common.{◌≡◌, ◌≢◌, ◌≤◌, ◌<◌, ◌⊎◌, inl, inr, refl, sym, ◌∙◌, ap, subst, arith}
 use Rattle.std.specs.Prelude.{⊤}
 use Rattle.curp_base.specs.Words.{At}
 use Rattle.curp_cmd.specs.Node.{manager_node}
@@ -11,12 +11,11 @@ use Rattle.curp_msg.specs.declared.body.Body.{Body}
 use Rattle.curp_msg.specs.declared.body.Body.TheVariants as body
 use Rattle.curp_msg.specs.declared.body.Prepare.{Prepare}
 use Rattle.curp_msg.specs.declared.body.Recover.{Recover}
-use Rattle.curp_msg.specs.declared.config.PartConfig.{PartConfig}
 use Rattle.curp_model.specs.Manager.{Shape, opening_config}
 use Rattle.curp_model.specs.World.{World}
-use Rattle.curp_facts.specs.Facts.{AtOpening, ByRecovery, ByReplacement, IsAdoptedNow, IsAmong, IsGiven, Lists, WasAdopted, WasSent, lists_of_order, lists_of_part, lists_of_prepare}
-use Rattle.curp_law_names.specs.Names.{AdoptedOk, Agree, GivenOk, IsOf, ManagerSays, Names, PrepareOk, Top}
-use Rattle.curp_law_names.proofs.Later.{Later, adopted_later, adopted_ok_later, given_later, given_ok_later, says_later}
+use Rattle.curp_facts.specs.Facts.{AtOpening, ByRecovery, ByReplacement, IsGiven, Lists, WasAdopted, WasSent, lists_of_order, lists_of_prepare}
+use Rattle.curp_law_names.specs.Names.{AdoptedOk, Agree, GivenOk, IsOf, ManagerSays, Names, PrepareOk}
+use Rattle.curp_law_names.proofs.Later.{Later, given_ok_later, says_later}
 
 -- ---- agreement
 

@@ -1,10 +1,10 @@
 -- The opening world of a header.
-use Rattle.std.proofs.Common.{◌≡◌, ◌≢◌, ◌≤◌, ◌<◌, ◌⊎◌, inl, inr, ℕ, zero, suc, ◌+◌, ◌-◌, ◌*◌, List, [], ◌∷◌, length, map, replicate, refl, sym, ◌∙◌, ap, subst, arith, Some}
+use Rattle.std.proofs.Common.{◌≡◌, ◌≤◌, ◌<◌, inl, inr, ℕ, zero, suc, ◌+◌, ◌-◌, ◌*◌, refl, sym, ◌∙◌, ap, subst, arith, Some}
 use Rattle.std.proofs.lemmas.Bool.{cases_lt, cases_eq}
 use Rattle.std.proofs.lemmas.List.{length-map, length-replicate}
-use Rattle.curp_base.specs.Words.{At, Each, numbered, numbers_from}
+use Rattle.curp_base.specs.Words.{At, numbered, numbers_from}
 use Rattle.curp_base.proofs.Lists.{at_map, at_replicate}
-use Rattle.curp_cmd.specs.Node.{backup_node, master_node, witness_node}
+use Rattle.curp_cmd.specs.Node.{master_node}
 use Rattle.curp_cmd.specs.declared.node.NodeId.{NodeId}
 use Rattle.curp_cmd.specs.declared.node.NodeKind.TheVariants as kind
 use Rattle.curp_msg.specs.declared.config.PartConfig.{PartConfig}
@@ -16,14 +16,12 @@ use Rattle.curp_model.specs.Manager.{Doing, Shape, Steady, opening_config, openi
 use Rattle.curp_model.specs.Recovery.{MasterStage}
 use Rattle.curp_model.specs.Witness.{WitnessState, started_witness}
 use Rattle.curp_model.specs.World.{World, messages, opening, opening_master, shape_of}
-use Rattle.curp_facts.specs.Facts.{AtOpening, ByRecovery, ByReplacement, IsAdoptedNow, IsAmong, IsGiven, Lists, WasAdopted, WasSent, lists_of_part}
+use Rattle.curp_facts.specs.Facts.{AtOpening, ByRecovery, ByReplacement, IsAdoptedNow, IsGiven, Lists, WasAdopted, lists_of_part}
 use Rattle.curp_facts.specs.Run.{IsHeader}
 use Rattle.curp_law_names.specs.Names.{Agree, ConfigurationOk, DoingOk, GivenOk, IsOf, Names, NumbersOk, Top}
 use Rattle.curp_law_names.specs.Nodes.{BackupFits, ClientFits, MasterFits, Nodes, WitnessFits}
 use Rattle.curp_law_names.proofs.Lists.{at_mapped, each_among, length-numbers, numbers_back, place}
-use Rattle.curp_law_names.proofs.Moves.{agree_self}
 use Rattle.curp_law_names.proofs.Named.{in_row, row_differs, row_each, row_length}
-use Rattle.curp_law_names.proofs.Others.{Both}
 
 -- ---- products
 
@@ -175,8 +173,11 @@ module _ (h : Header) (its : IsHeader h) where
     top = opening_top;
     chain = λ l k al ak same versions. let a = given_opening l al.given in let b = given_opening k ak.given in
         omega (arith, ap (λ (x : Lists). x.epoch) a.2, ap (λ (x : Lists). x.epoch) b.2);
+    next_after = λ l was late. absurd (omega (arith, late, ap (λ (x : Lists). x.version) (given_opening l was.given).2));
+    adopted_for = λ l was. inl (ap (λ (x : Lists). x.version) (given_opening l was.given).2);
     doing = λ c d now at. steady c d at;
     gone = tt;
+    moving = tt;
   }
 
   -- ---- nodes

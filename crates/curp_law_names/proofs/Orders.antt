@@ -1,7 +1,7 @@
 -- The manager orders something for a partition: the entries stay, and something else is being done.
-use Rattle.std.proofs.Common.{◌≡◌, ◌≢◌, ◌≤◌, ◌<◌, ◌⊎◌, inl, inr, ℕ, ◌+◌, ◌-◌, List, length, refl, sym, ap, subst, arith, Option, Some}
+use Rattle.std.proofs.Common.{◌≡◌, ◌≤◌, inl, inr, ℕ, ◌+◌, ◌-◌, List, refl, subst, Option, Some}
 use Rattle.std.proofs.lemmas.List.{length-set}
-use Rattle.curp_base.specs.Words.{At, Each, numbered}
+use Rattle.curp_base.specs.Words.{Each, numbered}
 use Rattle.curp_base.proofs.Lists.{Each-weaker}
 use Rattle.curp_msg.specs.Moved.{Moved, sends}
 use Rattle.curp_msg.specs.declared.config.PartConfig.{PartConfig}
@@ -11,8 +11,8 @@ use Rattle.curp_model.specs.Manager.{Attempted, Doing, ManagerState, Next, with_
 use Rattle.curp_model.specs.World.{World}
 use Rattle.curp_facts.specs.Facts.{IsAdoptedNow, Lists, lists_of_part}
 use Rattle.curp_law_names.specs.Names.{DoingOk, IsClientNumber, Names}
-use Rattle.curp_law_names.proofs.Keeps.{chain_stays, entry_numbered, names_moved, numbered_now, top_stays}
-use Rattle.curp_law_names.proofs.Later.{Later, client_later, doing_later}
+use Rattle.curp_law_names.proofs.Keeps.{chain_stays, links_stay, names_moved, told_stays, top_stays}
+use Rattle.curp_law_names.proofs.Later.{Later, client_later, doing_later, moving_later}
 use Rattle.curp_law_names.proofs.Lists.{number_within, numbered_set_cases}
 use Rattle.curp_law_names.proofs.Moves.{Fresh, FreshOk, IsNewlyAdopted, Move, Utters}
 use Rattle.curp_law_names.proofs.Steps.{Rises, manager_moved, moved_later, moved_move, moved_numbers}
@@ -73,6 +73,9 @@ module _ {w : World} (n : Names w) (p : ℕ) (c : PartConfig) (here : numbered w
         entries = n.entries;
         top = λ e now. top_stays n f m fresh (lists_of_part e) (n.top e now) (λ k is same. none k is);
         chain = chain_stays n f m fresh none;
+        next_after = links_stay n f m fresh none;
+        adopted_for = told_stays n f m fresh none;
         doing = doing_now ok;
         gone = Each-weaker (IsClientNumber w) (IsClientNumber after) (client_later later) w.manager.gone n.gone;
+        moving = moving_later later w.manager.moving n.moving;
       })

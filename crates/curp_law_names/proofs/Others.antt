@@ -1,5 +1,5 @@
 -- What another node than the manager does changes no name, and what was so of messages and of other nodes stays.
-use Rattle.std.proofs.Common.{◌≡◌, ◌≢◌, ◌≤◌, ◌⊎◌, inl, inr, ℕ, ◌+◌, ◌-◌, ◌<◌, List, [], ◌∷◌, ◌++◌, length, map, set, refl, sym, ◌∙◌, ap, subst, arith, Some}
+use Rattle.std.proofs.Common.{◌≡◌, ◌≢◌, inl, inr, ℕ, ◌+◌, ◌-◌, ◌<◌, List, [], ◌++◌, length, map, set, refl, sym, ◌∙◌, ap, subst, arith, Some}
 use Rattle.std.proofs.lemmas.List.{length-set}
 use Rattle.curp_base.specs.Words.{Each, numbered}
 use Rattle.curp_base.proofs.Lists.{Each-append, Each-weaker}
@@ -7,23 +7,22 @@ use Rattle.curp_cmd.specs.Node.{backup_node, client_node, manager_node, master_n
 use Rattle.curp_cmd.specs.declared.node.NodeId.{NodeId}
 use Rattle.curp_cmd.specs.declared.node.NodeKind.TheVariants as kind
 use Rattle.curp_msg.specs.Moved.{Moved, says, within}
-use Rattle.curp_msg.specs.declared.body.Body.{Body}
 use Rattle.curp_msg.specs.declared.message.Message.{Message}
 use Rattle.curp_order.specs.declared.Event.{Event}
 use Rattle.curp_model.specs.Backup.{BackupState}
 use Rattle.curp_model.specs.Client.{ClientState}
-use Rattle.curp_model.specs.Manager.{ManagerState, Shape}
+use Rattle.curp_model.specs.Manager.{ManagerState}
 use Rattle.curp_model.specs.Recovery.{MasterStage}
 use Rattle.curp_model.specs.Witness.{WitnessState}
 use Rattle.curp_model.specs.World.{World, kept, messages, with_backup, with_client, with_master, with_witness}
-use Rattle.curp_facts.specs.Facts.{IsAmong, WasSent, lists_of_part}
-use Rattle.curp_law_names.specs.Names.{IsClientNumber, Names, NumbersOk}
+use Rattle.curp_facts.specs.Facts.{lists_of_part}
+use Rattle.curp_law_names.specs.Names.{IsClientNumber, MovingOk, Names, NumbersOk}
 use Rattle.curp_law_names.specs.Nodes.{BackupFits, ClientFits, MasterFits, MessageFits, Nodes, WitnessFits}
 use Rattle.curp_law_names.proofs.Fits.{backup_later, client_fits_later, master_later, message_later, witness_later}
 use Rattle.curp_law_names.proofs.Keepers.{AllSaid, Said}
-use Rattle.curp_law_names.proofs.Later.{Later, client_later}
+use Rattle.curp_law_names.proofs.Later.{Later, client_later, moving_later}
 use Rattle.curp_law_names.proofs.Lists.{all_of-kept, among_each, number_within, numbered_set_cases}
-use Rattle.curp_law_names.proofs.Moves.{Move, Nothing, Utters}
+use Rattle.curp_law_names.proofs.Moves.{Move, Nothing}
 use Rattle.curp_law_names.proofs.Quiet.{names_stay}
 use Rattle.curp_law_names.proofs.Steps.{sent_cases, sent_later}
 
@@ -86,6 +85,7 @@ module _ {w v : World} (n : Names w) (out : List Message) (b : Beside w v out) w
   beside_names me other all = names_stay n (beside_moves me other all) beside_numbers
       (ap (λ (g : ManagerState). map lists_of_part g.config.parts) b.manager) (ap (λ (g : ManagerState). g.doing) b.manager)
       (subst (λ (g : ManagerState). Each (IsClientNumber v) g.gone) (sym b.manager) (Each-weaker (IsClientNumber w) (IsClientNumber v) (client_later beside_later) w.manager.gone n.gone))
+      (subst (λ (g : ManagerState). MovingOk v g.moving) (sym b.manager) (moving_later beside_later w.manager.moving n.moving))
 
   pub beside_said : (me : NodeId) → AllSaid w me out → Each (MessageFits w) (messages w) → Each (MessageFits v) (messages v)
   beside_said me all was = subst (Each (MessageFits v)) (sym b.came) (Each-append (MessageFits v) (messages w) out
@@ -106,77 +106,92 @@ module _ (w : World) (both : Both w) (events : List Event) where
       → (kept w events r).world.backups ≡ w.backups → (kept w events r).world.witnesses ≡ w.witnesses → Goes w (kept w events r).world
   nothing_keeps r b clients masters backups witnesses =
       let g = beside_later both.names [] b in
-      record { later = g; both = record {
-        names = beside_names both.names [] b (client_node 0) (λ e. absurd cc) tt;
-        nodes = record {
-          said = beside_said both.names [] b (client_node 0) tt both.nodes.said;
-          clients = λ i c at. client_fits_later g i c (both.nodes.clients i c (subst (λ (xs : List ClientState). numbered xs i ≡ Some c) clients at));
-          masters = λ i m at. master_later g i m (both.nodes.masters i m (subst (λ (xs : List MasterStage). numbered xs i ≡ Some m) masters at));
-          backups = λ i x at. backup_later g x (both.nodes.backups i x (subst (λ (xs : List BackupState). numbered xs i ≡ Some x) backups at));
-          witnesses = λ i x at. witness_later g x (both.nodes.witnesses i x (subst (λ (xs : List WitnessState). numbered xs i ≡ Some x) witnesses at));
+      record {
+        later = g;
+        both = record {
+          names = beside_names both.names [] b (client_node 0) (λ e. absurd cc) tt;
+          nodes = record {
+            said = beside_said both.names [] b (client_node 0) tt both.nodes.said;
+            clients = λ i c at. client_fits_later g i c (both.nodes.clients i c (subst (λ (xs : List ClientState). numbered xs i ≡ Some c) clients at));
+            masters = λ i m at. master_later g i m (both.nodes.masters i m (subst (λ (xs : List MasterStage). numbered xs i ≡ Some m) masters at));
+            backups = λ i x at. backup_later g x (both.nodes.backups i x (subst (λ (xs : List BackupState). numbered xs i ≡ Some x) backups at));
+            witnesses = λ i x at. witness_later g x (both.nodes.witnesses i x (subst (λ (xs : List WitnessState). numbered xs i ≡ Some x) witnesses at));
+          };
         };
-      } }
+      }
 
   pub client_keeps : (k : ℕ) (c : ClientState) → numbered w.clients k ≡ Some c → (r : Moved ClientState) → ClientFits w k r.state → AllSaid w (client_node k) r.messages → Goes w (kept w events (within (with_client w k) r)).world
   client_keeps k c here r ok all =
       let b : Beside w (kept w events (within (with_client w k) r)).world r.messages =
-          record { manager = refl; clients = length-set w.clients (k - 1) r.state; masters = refl; backups = refl; witnesses = refl; came = all_of-kept w.sent r.messages } in
+      record { manager = refl; clients = length-set w.clients (k - 1) r.state; masters = refl; backups = refl; witnesses = refl; came = all_of-kept w.sent r.messages } in
       let g = beside_later both.names r.messages b in
-      record { later = g; both = record {
-        names = beside_names both.names r.messages b (client_node k) (λ e. absurd cc) all;
-        nodes = record {
-          said = beside_said both.names r.messages b (client_node k) all both.nodes.said;
-          clients = set_all (ClientFits w) (ClientFits (kept w events (within (with_client w k) r)).world) w.clients k c r.state here (client_fits_later g) (client_fits_later g k r.state ok) both.nodes.clients;
-          masters = λ i m at. master_later g i m (both.nodes.masters i m at);
-          backups = λ i x at. backup_later g x (both.nodes.backups i x at);
-          witnesses = λ i x at. witness_later g x (both.nodes.witnesses i x at);
+      record {
+        later = g;
+        both = record {
+          names = beside_names both.names r.messages b (client_node k) (λ e. absurd cc) all;
+          nodes = record {
+            said = beside_said both.names r.messages b (client_node k) all both.nodes.said;
+            clients = set_all (ClientFits w) (ClientFits (kept w events (within (with_client w k) r)).world) w.clients k c r.state here (client_fits_later g) (client_fits_later g k r.state ok) both.nodes.clients;
+            masters = λ i m at. master_later g i m (both.nodes.masters i m at);
+            backups = λ i x at. backup_later g x (both.nodes.backups i x at);
+            witnesses = λ i x at. witness_later g x (both.nodes.witnesses i x at);
+          };
         };
-      } }
+      }
 
   pub master_keeps : (k : ℕ) (m : MasterStage) → numbered w.masters k ≡ Some m → (r : Moved MasterStage) → MasterFits w k r.state → AllSaid w (master_node k) r.messages → Goes w (kept w events (within (with_master w k m) r)).world
   master_keeps k m here r ok all =
       let b : Beside w (kept w events (within (with_master w k m) r)).world r.messages =
-          record { manager = refl; clients = refl; masters = length-set w.masters (k - 1) r.state; backups = refl; witnesses = refl; came = all_of-kept w.sent r.messages } in
+      record { manager = refl; clients = refl; masters = length-set w.masters (k - 1) r.state; backups = refl; witnesses = refl; came = all_of-kept w.sent r.messages } in
       let g = beside_later both.names r.messages b in
-      record { later = g; both = record {
-        names = beside_names both.names r.messages b (master_node k) (λ e. absurd cc) all;
-        nodes = record {
-          said = beside_said both.names r.messages b (master_node k) all both.nodes.said;
-          clients = λ i c at. client_fits_later g i c (both.nodes.clients i c at);
-          masters = set_all (MasterFits w) (MasterFits (kept w events (within (with_master w k m) r)).world) w.masters k m r.state here (master_later g) (master_later g k r.state ok) both.nodes.masters;
-          backups = λ i x at. backup_later g x (both.nodes.backups i x at);
-          witnesses = λ i x at. witness_later g x (both.nodes.witnesses i x at);
+      record {
+        later = g;
+        both = record {
+          names = beside_names both.names r.messages b (master_node k) (λ e. absurd cc) all;
+          nodes = record {
+            said = beside_said both.names r.messages b (master_node k) all both.nodes.said;
+            clients = λ i c at. client_fits_later g i c (both.nodes.clients i c at);
+            masters = set_all (MasterFits w) (MasterFits (kept w events (within (with_master w k m) r)).world) w.masters k m r.state here (master_later g) (master_later g k r.state ok) both.nodes.masters;
+            backups = λ i x at. backup_later g x (both.nodes.backups i x at);
+            witnesses = λ i x at. witness_later g x (both.nodes.witnesses i x at);
+          };
         };
-      } }
+      }
 
   pub backup_keeps : (k : ℕ) (x : BackupState) → numbered w.backups k ≡ Some x → (r : Moved BackupState) → BackupFits w r.state → AllSaid w (backup_node k) r.messages → Goes w (kept w events (within (with_backup w k) r)).world
   backup_keeps k x here r ok all =
       let b : Beside w (kept w events (within (with_backup w k) r)).world r.messages =
-          record { manager = refl; clients = refl; masters = refl; backups = length-set w.backups (k - 1) r.state; witnesses = refl; came = all_of-kept w.sent r.messages } in
+      record { manager = refl; clients = refl; masters = refl; backups = length-set w.backups (k - 1) r.state; witnesses = refl; came = all_of-kept w.sent r.messages } in
       let g = beside_later both.names r.messages b in
-      record { later = g; both = record {
-        names = beside_names both.names r.messages b (backup_node k) (λ e. absurd cc) all;
-        nodes = record {
-          said = beside_said both.names r.messages b (backup_node k) all both.nodes.said;
-          clients = λ i c at. client_fits_later g i c (both.nodes.clients i c at);
-          masters = λ i m at. master_later g i m (both.nodes.masters i m at);
-          backups = set_all (λ i. BackupFits w) (λ i. BackupFits (kept w events (within (with_backup w k) r)).world) w.backups k x r.state here (λ i. backup_later g) (backup_later g r.state ok) both.nodes.backups;
-          witnesses = λ i y at. witness_later g y (both.nodes.witnesses i y at);
+      record {
+        later = g;
+        both = record {
+          names = beside_names both.names r.messages b (backup_node k) (λ e. absurd cc) all;
+          nodes = record {
+            said = beside_said both.names r.messages b (backup_node k) all both.nodes.said;
+            clients = λ i c at. client_fits_later g i c (both.nodes.clients i c at);
+            masters = λ i m at. master_later g i m (both.nodes.masters i m at);
+            backups = set_all (λ i. BackupFits w) (λ i. BackupFits (kept w events (within (with_backup w k) r)).world) w.backups k x r.state here (λ i. backup_later g) (backup_later g r.state ok) both.nodes.backups;
+            witnesses = λ i y at. witness_later g y (both.nodes.witnesses i y at);
+          };
         };
-      } }
+      }
 
   pub witness_keeps : (k : ℕ) (x : WitnessState) → numbered w.witnesses k ≡ Some x → (r : Moved WitnessState) → WitnessFits w r.state → AllSaid w (witness_node k) r.messages → Goes w (kept w events (within (with_witness w k) r)).world
   witness_keeps k x here r ok all =
       let b : Beside w (kept w events (within (with_witness w k) r)).world r.messages =
-          record { manager = refl; clients = refl; masters = refl; backups = refl; witnesses = length-set w.witnesses (k - 1) r.state; came = all_of-kept w.sent r.messages } in
+      record { manager = refl; clients = refl; masters = refl; backups = refl; witnesses = length-set w.witnesses (k - 1) r.state; came = all_of-kept w.sent r.messages } in
       let g = beside_later both.names r.messages b in
-      record { later = g; both = record {
-        names = beside_names both.names r.messages b (witness_node k) (λ e. absurd cc) all;
-        nodes = record {
-          said = beside_said both.names r.messages b (witness_node k) all both.nodes.said;
-          clients = λ i c at. client_fits_later g i c (both.nodes.clients i c at);
-          masters = λ i m at. master_later g i m (both.nodes.masters i m at);
-          backups = λ i y at. backup_later g y (both.nodes.backups i y at);
-          witnesses = set_all (λ i. WitnessFits w) (λ i. WitnessFits (kept w events (within (with_witness w k) r)).world) w.witnesses k x r.state here (λ i. witness_later g) (witness_later g r.state ok) both.nodes.witnesses;
+      record {
+        later = g;
+        both = record {
+          names = beside_names both.names r.messages b (witness_node k) (λ e. absurd cc) all;
+          nodes = record {
+            said = beside_said both.names r.messages b (witness_node k) all both.nodes.said;
+            clients = λ i c at. client_fits_later g i c (both.nodes.clients i c at);
+            masters = λ i m at. master_later g i m (both.nodes.masters i m at);
+            backups = λ i y at. backup_later g y (both.nodes.backups i y at);
+            witnesses = set_all (λ i. WitnessFits w) (λ i. WitnessFits (kept w events (within (with_witness w k) r)).world) w.witnesses k x r.state here (λ i. witness_later g) (witness_later g r.state ok) both.nodes.witnesses;
+          };
         };
-      } }
+      }

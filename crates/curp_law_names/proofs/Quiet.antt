@@ -1,21 +1,19 @@
 -- Inputs to the manager by which no name changes: what it says was said before, or is of the present entries.
-use Rattle.std.proofs.Common.{◌≡◌, ◌≢◌, ◌≤◌, ◌<◌, ◌⊎◌, inl, inr, ℕ, ◌+◌, List, [], ◌∷◌, ◌++◌, length, map, refl, sym, ◌∙◌, ap, subst, arith, Option, Some, None}
+use Rattle.std.proofs.Common.{◌≡◌, ℕ, ◌+◌, List, length, map, refl, sym, ◌∙◌, ap, subst, arith, Option, Some}
 use Rattle.std.proofs.lemmas.List.{length-map}
 use Rattle.curp_base.specs.Words.{At, Each, numbered}
 use Rattle.curp_base.proofs.Lists.{at_map, Each-weaker}
 use Rattle.curp_cmd.specs.Node.{manager_node}
-use Rattle.curp_cmd.specs.declared.node.NodeId.{NodeId}
 use Rattle.curp_msg.specs.Moved.{Moved}
-use Rattle.curp_msg.specs.declared.body.Body.{Body}
 use Rattle.curp_msg.specs.declared.config.PartConfig.{PartConfig}
 use Rattle.curp_msg.specs.declared.message.Message.{Message}
 use Rattle.curp_order.specs.declared.Event.{Event}
 use Rattle.curp_model.specs.Manager.{Attempted, Doing, ManagerState, Migration}
 use Rattle.curp_model.specs.World.{World}
-use Rattle.curp_facts.specs.Facts.{IsAdoptedNow, IsAmong, Lists, lists_of_part}
-use Rattle.curp_law_names.specs.Names.{DoingOk, IsClientNumber, ManagerSays, Names, NumbersOk, Top}
-use Rattle.curp_law_names.proofs.Keeps.{Holds, chain_stays, names_moved, top_stays}
-use Rattle.curp_law_names.proofs.Later.{Later, client_later, doing_later, says_later}
+use Rattle.curp_facts.specs.Facts.{IsAdoptedNow, Lists, lists_of_part}
+use Rattle.curp_law_names.specs.Names.{DoingOk, IsClientNumber, ManagerSays, MovingOk, Names, NumbersOk, Top}
+use Rattle.curp_law_names.proofs.Keeps.{chain_stays, links_stay, names_moved, told_stays, top_stays}
+use Rattle.curp_law_names.proofs.Later.{Later, client_later, doing_later, moving_later, says_later}
 use Rattle.curp_law_names.proofs.Lists.{at_mapped, at_place, place}
 use Rattle.curp_law_names.proofs.Moves.{Move, Nothing, Repeats, Utters}
 use Rattle.curp_law_names.proofs.Steps.{Rises, manager_moved, moved_later, moved_move, moved_numbers}
@@ -58,7 +56,8 @@ was_entry g k same i c at =
 module _ {w v : World} (n : Names w) (m : Move w v Nothing) (numbers : NumbersOk v)
     (lists : map lists_of_part v.manager.config.parts ≡ map lists_of_part w.manager.config.parts)
     (doing : v.manager.doing ≡ w.manager.doing)
-    (gone : Each (IsClientNumber v) v.manager.gone) where
+    (gone : Each (IsClientNumber v) v.manager.gone)
+    (moving : MovingOk v v.manager.moving) where
   entries_stay : (k : ℕ) (c : PartConfig) → At v.manager.config.parts k c → c.part ≡ k + 1
   entries_stay k c at = let d = was_entry w.manager v.manager lists k c at in sym (ap (λ (l : Lists). l.part) d.2) ∙ n.entries k d.0 d.1
 
@@ -76,12 +75,12 @@ module _ {w v : World} (n : Names w) (m : Move w v Nothing) (numbers : NumbersOk
   doing_now c d now its =
       let e = now_was c now in
       let there : numbered w.manager.doing e.0.part ≡ Some d =
-          subst (λ (ds : List Doing). numbered ds e.0.part ≡ Some d) doing (subst (λ (i : ℕ). numbered v.manager.doing i ≡ Some d) (sym (ap (λ (l : Lists). l.part) e.2)) its) in
+      subst (λ (ds : List Doing). numbered ds e.0.part ≡ Some d) doing (subst (λ (i : ℕ). numbered v.manager.doing i ≡ Some d) (sym (ap (λ (l : Lists). l.part) e.2)) its) in
       subst (λ (l : Lists). DoingOk v l d) e.2 (doing_later m.later (lists_of_part e.0) d (n.doing e.0 d e.1 there))
 
   -- nothing is new
   pub names_stay : Names v
-  names_stay = names_moved n Nothing m tt (record { numbers = numbers; entries = entries_stay; top = top_now; chain = chain_stays n Nothing m tt (λ k new. new); doing = doing_now; gone = gone })
+  names_stay = names_moved n Nothing m tt (record { numbers = numbers; entries = entries_stay; top = top_now; chain = chain_stays n Nothing m tt (λ k new. new); next_after = links_stay n Nothing m tt (λ k new. new); adopted_for = told_stays n Nothing m tt (λ k new. new); doing = doing_now; gone = gone; moving = moving })
 
 -- ---- inputs to the manager
 
@@ -103,16 +102,22 @@ module _ (w : World) (n : Names w) (r : Moved ManagerState) where
   }
 
   -- an input that changes no name, and says what may be said, keeps all
-  pub quietly : Stays w.manager r.state → Each (IsClientNumber w) r.state.gone → AllAgain w r.messages → Good w r
-  quietly s gone says = (Each-weaker (Again w) IsManagers (λ (m : Message) a. a.from) r.messages says, λ adopted events.
-      let v : World = manager_moved w adopted events r in
-      let up : Rises w.manager r.state = stays_rises s in
-      let later : Later w v = moved_later w n adopted events r up in
-      (names_stay n
-          (moved_move w n adopted events r up Nothing (Each-weaker (Again w) (λ (m : Message). Utters w v Nothing m.to m.body)
+  pub quietly : Stays w.manager r.state → Each (IsClientNumber w) r.state.gone → MovingOk w r.state.moving → AllAgain w r.messages → Good w r
+  quietly s gone moving says = (
+    Each-weaker (Again w) IsManagers (λ (m : Message) a. a.from) r.messages says,
+    λ adopted events.
+        let v : World = manager_moved w adopted events r in
+        let up : Rises w.manager r.state = stays_rises s in
+        let later : Later w v = moved_later w n adopted events r up in (
+          names_stay n
+              (moved_move w n adopted events r up Nothing (Each-weaker (Again w) (λ (m : Message). Utters w v Nothing m.to m.body)
               (λ (m : Message) a. record { repeats = a.repeats; is_so = says_later later m.to m.body a.is_so }) r.messages says))
-          (moved_numbers w n adopted events r up) s.lists s.doing
-          (Each-weaker (IsClientNumber w) (IsClientNumber v) (client_later later) r.state.gone gone), later))
+              (moved_numbers w n adopted events r up) s.lists s.doing
+              (Each-weaker (IsClientNumber w) (IsClientNumber v) (client_later later) r.state.gone gone)
+              (moving_later later r.state.moving moving),
+          later,
+        ),
+  )
 
 -- the state itself stays
 pub stays_self : (g : ManagerState) → Stays g g

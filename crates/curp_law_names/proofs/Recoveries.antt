@@ -1,12 +1,11 @@
 -- The manager orders a recovery: a fresh master with fresh lists.
-use Rattle.std.proofs.Common.{◌≡◌, ◌≢◌, ◌≤◌, ◌<◌, ◌⊎◌, inl, inr, ℕ, ◌+◌, ◌-◌, List, [], ◌∷◌, ◌++◌, length, refl, sym, ◌∙◌, ap, subst, arith, Option, Some, None, Ok}
+use Rattle.std.proofs.Common.{◌≡◌, inr, ℕ, ◌+◌, List, ◌++◌, length, refl, subst, arith, Option, Some, None, Ok}
 use Rattle.curp_base.specs.Cases.{◌>>=◌}
 use Rattle.std.specs.Option.{ok_or}
-use Rattle.curp_base.specs.Words.{At, Each, numbered}
+use Rattle.curp_base.specs.Words.{Each, numbered}
 use Rattle.curp_base.proofs.Lists.{at_append_right, Each-append, Each-map}
 use Rattle.curp_cmd.specs.Node.{manager_node, master_node}
 use Rattle.curp_cmd.specs.declared.node.NodeId.{NodeId}
-use Rattle.curp_cmd.specs.declared.node.NodeKind.{NodeKind}
 use Rattle.curp_cmd.specs.declared.node.NodeKind.TheVariants as kind
 use Rattle.curp_msg.specs.Moved.{refuses, says, says_each, unless_refused}
 use Rattle.curp_msg.specs.declared.body.Body.{Body}
@@ -19,12 +18,12 @@ use Rattle.curp_model.specs.Manager.{Attempted, Recovering, after_recover_number
 use Rattle.curp_model.specs.World.{World}
 use Rattle.curp_facts.specs.Facts.{ByRecovery, IsAmong, IsGiven, Lists, WasSent, lists_of_order, lists_of_part}
 use Rattle.curp_law_names.specs.Names.{Agree, GivenOk, IsOf, Names, OrderOk}
-use Rattle.curp_law_names.proofs.Keeps.{entry_numbered, numbered_now}
-use Rattle.curp_law_names.proofs.Later.{Later, adopted_later, given_later}
+use Rattle.curp_law_names.proofs.Keeps.{numbered_now}
+use Rattle.curp_law_names.proofs.Later.{Later, adopted_later}
 use Rattle.curp_law_names.proofs.Lists.{among_each, each_among, place as place_of}
-use Rattle.curp_law_names.proofs.Moves.{Fresh, FreshLists, FreshRecovery, Recovery, Utters}
+use Rattle.curp_law_names.proofs.Moves.{FreshRecovery, Recovery, Utters}
 use Rattle.curp_law_names.proofs.Named.{in_row, row_differs, row_each, row_length}
-use Rattle.curp_law_names.proofs.Orders.{NumbersRise, ordered_keeps, orders, orders_rises}
+use Rattle.curp_law_names.proofs.Orders.{NumbersRise, ordered_keeps, orders_rises}
 use Rattle.curp_law_names.proofs.Quiet.{Good, IsManagers, quietly, stays_self}
 use Rattle.curp_law_names.proofs.Steps.{Rises, manager_moved, moved_later, moved_messages, moved_numbers, sent_now}
 
@@ -122,12 +121,12 @@ module _ {w : World} (n : Names w) (p : ℕ) (c : PartConfig) (here : numbered w
   utters : Each (λ (m : Message). Utters w after (Recovery node o) m.to m.body) (recover_messages node o)
   utters = Each-append (λ (m : Message). Utters w after (Recovery node o) m.to m.body) (install_on o.epoch o.backups ++ start_on o.part o.epoch o.witnesses) _
       (Each-append (λ (m : Message). Utters w after (Recovery node o) m.to m.body) (install_on o.epoch o.backups) (start_on o.part o.epoch o.witnesses)
-          (Each-map (λ (m : Message). Utters w after (Recovery node o) m.to m.body) (λ (to : NodeId). says manager_node to (body.Install o.epoch)) o.backups
-              (each_among (λ (to : NodeId). Utters w after (Recovery node o) to (body.Install o.epoch)) o.backups (λ to a.
-                  record { repeats = tt; is_so = record { lists = its; given = given; named = a; its_epoch = refl } })))
-          (Each-map (λ (m : Message). Utters w after (Recovery node o) m.to m.body) (λ (to : NodeId). says manager_node to (body.Start (record { part = o.part; epoch = o.epoch }))) o.witnesses
-              (each_among (λ (to : NodeId). Utters w after (Recovery node o) to (body.Start (record { part = o.part; epoch = o.epoch }))) o.witnesses (λ to a.
-                  record { repeats = tt; is_so = record { lists = its; given = given; named = a; its_part = refl; its_epoch = refl } }))))
+      (Each-map (λ (m : Message). Utters w after (Recovery node o) m.to m.body) (λ (to : NodeId). says manager_node to (body.Install o.epoch)) o.backups
+      (each_among (λ (to : NodeId). Utters w after (Recovery node o) to (body.Install o.epoch)) o.backups (λ to a.
+      record { repeats = tt; is_so = record { lists = its; given = given; named = a; its_epoch = refl } })))
+      (Each-map (λ (m : Message). Utters w after (Recovery node o) m.to m.body) (λ (to : NodeId). says manager_node to (body.Start (record { part = o.part; epoch = o.epoch }))) o.witnesses
+      (each_among (λ (to : NodeId). Utters w after (Recovery node o) to (body.Start (record { part = o.part; epoch = o.epoch }))) o.witnesses (λ to a.
+      record { repeats = tt; is_so = record { lists = its; given = given; named = a; its_part = refl; its_epoch = refl } }))))
       (record { repeats = inr (refl, refl); is_so = order_ok }, tt)
 
   recovery_keeps : Names after
@@ -148,7 +147,7 @@ recover_from master o = Each-append IsManagers (install_on o.epoch o.backups ++ 
 module _ {w : World} (n : Names w) where
   -- a refusal changes nothing
   pub refused_good : (number : ℕ) → Good w (refuses w.manager number)
-  refused_good number = quietly w n (refuses w.manager number) (stays_self w.manager) n.gone tt
+  refused_good number = quietly w n (refuses w.manager number) (stays_self w.manager) n.gone n.moving tt
 
   by_witness : (p : ℕ) (c : PartConfig) → numbered w.manager.config.parts p ≡ Some c → (from : NodeId) → IsAmong from c.backups
       → (place : ℕ) (o : Option NodeId) → numbered c.witnesses place ≡ o
@@ -160,7 +159,7 @@ module _ {w : World} (n : Names w) where
 
   by_backup : (p : ℕ) (c : PartConfig) → numbered w.manager.config.parts p ≡ Some c → (backup witness : ℕ) (o : Option NodeId) → numbered c.backups backup ≡ o
       → Good w (unless_refused w.manager (recovers w.manager p)
-          (ok_or o 2 >>= λ (from : NodeId). ok_or (numbered c.witnesses witness) 3 >>= λ (other : NodeId). Ok (recover_order w.manager c from other)))
+      (ok_or o 2 >>= λ (from : NodeId). ok_or (numbered c.witnesses witness) 3 >>= λ (other : NodeId). Ok (recover_order w.manager c from other)))
   by_backup p c here backup witness None found = refused_good 2
   by_backup p c here backup witness (Some from) found =
       let at = place_of c.backups backup from found in
@@ -168,7 +167,7 @@ module _ {w : World} (n : Names w) where
 
   by_part : (p backup witness : ℕ) (o : Option PartConfig) → numbered w.manager.config.parts p ≡ o
       → Good w (unless_refused w.manager (recovers w.manager p)
-          (ok_or o 1 >>= λ (c : PartConfig). ok_or (numbered c.backups backup) 2 >>= λ (from : NodeId). ok_or (numbered c.witnesses witness) 3 >>= λ (other : NodeId). Ok (recover_order w.manager c from other)))
+      (ok_or o 1 >>= λ (c : PartConfig). ok_or (numbered c.backups backup) 2 >>= λ (from : NodeId). ok_or (numbered c.witnesses witness) 3 >>= λ (other : NodeId). Ok (recover_order w.manager c from other)))
   by_part p backup witness None found = refused_good 1
   by_part p backup witness (Some c) found = by_backup p c found backup witness (numbered c.backups backup) refl
 

@@ -1,11 +1,11 @@
 -- What fresh and recovering masters say fits, from themselves, and they go by the manager's order.
-use Rattle.std.proofs.Common.{◌≡◌, ℕ, ◌+◌, ◌==◌, ◌&&◌, nat_le, not, Bool, true, false, List, [], ◌∷◌, ◌++◌, length, map, Option, Some, None, refl, sym, ◌∙◌, ap, subst, arith}
+use Rattle.std.proofs.Common.{◌≡◌, ℕ, ◌+◌, ◌&&◌, nat_le, not, List, [], ◌∷◌, ◌++◌, length, Option, Some, None, refl, subst}
 use Rattle.std.specs.Prelude.{⊤}
 use Rattle.std.specs.List.{filter}
 use Rattle.std.proofs.lemmas.Bool.{cond_both}
 use Rattle.curp_base.specs.Words.{Each, rises_past}
 use Rattle.curp_base.proofs.Lists.{Each-append, Each-map}
-use Rattle.curp_cmd.specs.Node.{client_node, is_among, manager_node, master_node, same_node}
+use Rattle.curp_cmd.specs.Node.{is_among, manager_node, master_node, same_node}
 use Rattle.curp_cmd.specs.Store.{is_update}
 use Rattle.curp_cmd.specs.declared.command.Request.{Request}
 use Rattle.curp_cmd.specs.declared.command.RequestId.{RequestId}
@@ -13,7 +13,7 @@ use Rattle.curp_cmd.specs.declared.entry.Entry.{Entry}
 use Rattle.curp_cmd.specs.declared.entry.Entry.TheVariants.{Op}
 use Rattle.curp_cmd.specs.declared.node.NodeId.{NodeId}
 use Rattle.curp_cmd.specs.declared.node.NodeKind.TheVariants as kind
-use Rattle.curp_msg.specs.Moved.{Moved, quiet, says, within}
+use Rattle.curp_msg.specs.Moved.{Moved, says}
 use Rattle.curp_msg.specs.declared.answer.AppendAnswer.{AppendAnswer}
 use Rattle.curp_msg.specs.declared.answer.AppendAnswer.TheVariants.{Stored}
 use Rattle.curp_msg.specs.declared.answer.FenceReply.{FenceReply}
@@ -26,15 +26,14 @@ use Rattle.curp_msg.specs.declared.machine.Input.{Input}
 use Rattle.curp_msg.specs.declared.machine.Input.TheVariants as input
 use Rattle.curp_msg.specs.declared.machine.Local.{Local}
 use Rattle.curp_msg.specs.declared.machine.Local.TheVariants as local
-use Rattle.curp_msg.specs.declared.message.Message.{Message}
 use Rattle.curp_model.specs.Log.{is_log, meaning}
-use Rattle.curp_model.specs.Master.{last_round, refuse}
+use Rattle.curp_model.specs.Master.{last_round}
 use Rattle.curp_model.specs.Named.{IsNodeOf}
 use Rattle.curp_model.specs.Recovery.{Asking, Fresh, MasterStage, RecoveryPhase, RecoveryState, Recovering, Replayed, Serving, Storing, Waiting, again_in, all_complete, append_answered, appends_whole, both_there, completed_by, fence_answered, fence_of, freeze_of, log_comes, master_input, master_ordered, next_storing, on_fresh, on_master, on_recover, on_recovering, recovered_message, recovery_ordered, replay, replays, requests_come, serves, stored_comes, turns_away, turns_read_away, unanswered_log, unanswered_requests, with_complete}
 use Rattle.curp_model.specs.World.{World}
-use Rattle.curp_facts.specs.Facts.{ByRecovery, IsAmong, IsGiven, Lists, WasSent, lists_of_order}
-use Rattle.curp_law_names.specs.Names.{GivenOk, IsOf, Names, OrderOk}
-use Rattle.curp_law_names.specs.Nodes.{BodyFits, EntryAsked, IsAsked, LogThere, MasterFits, MessageFits, PhaseFits, RecoveringFits, ReplyAsked, RequestsThere, sender_kind}
+use Rattle.curp_facts.specs.Facts.{ByRecovery, IsGiven, WasSent, lists_of_order}
+use Rattle.curp_law_names.specs.Names.{IsOf, Names, OrderOk}
+use Rattle.curp_law_names.specs.Nodes.{BodyFits, EntryAsked, IsAsked, LogThere, MasterFits, PhaseFits, RecoveringFits, ReplyAsked, RequestsThere, sender_kind}
 use Rattle.curp_law_names.proofs.Clients.{Arrives, is_manager}
 use Rattle.curp_law_names.proofs.Keepers.{AllSaid, Said, each_filter}
 use Rattle.curp_law_names.proofs.Lists.{among_each, each_among}
@@ -67,13 +66,13 @@ module _ (w : World) (n : Names w) (k : ℕ) (me : IsNodeOf w kind.Master k) whe
     given = ByRecovery (master_node k) o sent
 
     fence_said : AllSaid w (master_node k) (fence_of k o)
-    fence_said = (master_said w k o.backup _ (record { sender = (refl, me); addressee = among_each (IsOf w kind.Backup) order_ok.before.backups (n.given order_ok.before order_ok.was.given).backups o.backup order_ok.its_backup; fits = tt }), tt)
+    fence_said = (master_said w k o.backup (body.Fence o.epoch) (record { sender = (refl, me); addressee = among_each (IsOf w kind.Backup) order_ok.before.backups (n.given order_ok.before order_ok.was.given).backups o.backup order_ok.its_backup; fits = record { order = o; ordered = sent; its_epoch = refl; its_backup = refl } }), tt)
 
     freeze_said : AllSaid w (master_node k) (freeze_of k o)
-    freeze_said = (master_said w k o.witness _ (record { sender = (refl, me); addressee = among_each (IsOf w kind.Witness) order_ok.before.witnesses (n.given order_ok.before order_ok.was.given).witnesses o.witness order_ok.its_witness; fits = tt }), tt)
+    freeze_said = (master_said w k o.witness (body.Freeze o.epoch) (record { sender = (refl, me); addressee = among_each (IsOf w kind.Witness) order_ok.before.witnesses (n.given order_ok.before order_ok.was.given).witnesses o.witness order_ok.its_witness; fits = record { order = o; ordered = sent; its_epoch = refl; its_witness = refl } }), tt)
 
     recovered_said : AllSaid w (master_node k) (recovered_message k o)
-    recovered_said = (master_said w k manager_node _ (record { sender = (refl, me); addressee = (refl, refl); fits = tt }), tt)
+    recovered_said = (master_said w k manager_node (body.Recovered (record { part = o.part; epoch = o.epoch })) (record { sender = (refl, me); addressee = (refl, refl); fits = record { order = o; ordered = sent; its_part = refl; its_epoch = refl } }), tt)
 
     whole_said : (r : Replayed) → Each (EntryAsked w) r.log → (backups : List NodeId) → Each (IsOf w kind.Backup) backups → AllSaid w (master_node k) (appends_whole k o r backups)
     whole_said r log backups nodes = Each-map (Said w (master_node k)) _ backups (each_among _ backups (λ to a.

@@ -1,29 +1,28 @@
 -- The manager orders new lists for the present master of a partition, with one fresh node.
-use Rattle.std.proofs.Common.{◌≡◌, ◌≢◌, ◌≤◌, ◌<◌, ◌⊎◌, inl, inr, ℕ, ◌+◌, ◌-◌, Bool, true, false, List, [], ◌∷◌, ◌++◌, length, refl, sym, ◌∙◌, ap, subst, arith, Option, Some, None, Ok, set}
+use Rattle.std.proofs.Common.{◌≡◌, inl, inr, ℕ, ◌+◌, ◌-◌, Bool, true, false, List, length, refl, sym, ◌∙◌, subst, arith, Option, Some, None, Ok, set}
 use Rattle.curp_base.specs.Cases.{◌>>=◌, refuse_if}
 use Rattle.std.specs.Option.{ok_or}
 use Rattle.curp_base.specs.Words.{At, Each, numbered}
-use Rattle.curp_base.proofs.Lists.{at_append_right, at_set_same, at_some, Each-append, Each-map}
+use Rattle.curp_base.proofs.Lists.{at_append_right, at_set_same, Each-append}
 use Rattle.curp_cmd.specs.Node.{backup_node, manager_node, witness_node}
 use Rattle.curp_cmd.specs.declared.node.Keeper.{Keeper}
 use Rattle.curp_cmd.specs.declared.node.Keeper.TheVariants as keeper
 use Rattle.curp_cmd.specs.declared.node.NodeId.{NodeId}
-use Rattle.curp_cmd.specs.declared.node.NodeKind.{NodeKind}
 use Rattle.curp_cmd.specs.declared.node.NodeKind.TheVariants as kind
-use Rattle.curp_msg.specs.Moved.{Moved, refuses, says, unless_refused}
+use Rattle.curp_msg.specs.Moved.{says, unless_refused}
 use Rattle.curp_msg.specs.declared.body.Body.TheVariants as body
 use Rattle.curp_msg.specs.declared.body.Prepare.{Prepare}
 use Rattle.curp_msg.specs.declared.config.PartConfig.{PartConfig}
 use Rattle.curp_msg.specs.declared.message.Message.{Message}
 use Rattle.curp_order.specs.declared.Event.{Event}
-use Rattle.curp_model.specs.Manager.{Attempted, ManagerState, Replacing, after_replace_numbers, fresh_keeper, fresh_node, is_recovering, is_replacing, keepers_of, new_backups, new_witnesses, part_at, replace, replace_messages, replaces}
+use Rattle.curp_model.specs.Manager.{Attempted, Replacing, after_replace_numbers, fresh_keeper, fresh_node, is_recovering, is_replacing, keepers_of, new_backups, new_witnesses, part_at, replace, replace_messages, replaces}
 use Rattle.curp_model.specs.World.{World}
 use Rattle.curp_facts.specs.Facts.{ByReplacement, IsAmong, IsGiven, Lists, WasAdopted, WasSent, lists_of_part, lists_of_prepare}
 use Rattle.curp_law_names.specs.Names.{Agree, GivenOk, IsOf, IsPlaced, Names, PrepareOk}
 use Rattle.curp_law_names.proofs.Keeps.{numbered_now}
 use Rattle.curp_law_names.proofs.Later.{Later, adopted_later, given_later, given_ok_later}
 use Rattle.curp_law_names.proofs.Lists.{among_each, place as place_of}
-use Rattle.curp_law_names.proofs.Moves.{FreshLists, FreshReplacement, Replacement, Utters}
+use Rattle.curp_law_names.proofs.Moves.{FreshReplacement, Replacement, Utters}
 use Rattle.curp_law_names.proofs.Named.{Renewed, renewed_self, renewed_set}
 use Rattle.curp_law_names.proofs.Orders.{NumbersRise, ordered_keeps, orders_rises}
 use Rattle.curp_law_names.proofs.Quiet.{Good, IsManagers}
@@ -155,7 +154,7 @@ module _ {w : World} (n : Names w) (p : ℕ) (c : PartConfig) (here : numbered w
       (Replacement (lists_of_part c) (prepare which)) (λ k is. is)
       (fresh_lists n c was.given (later which) (prepare which) refl (version_rises w which) (backups_renewed which) (witnesses_renewed which))
       (Each-append (λ (m : Message). Utters w (after which) (Replacement (lists_of_part c) (prepare which)) m.to m.body) (fresh_keeper c which (fresh_node w.manager which)) _
-          (keeper_utters which its) (record { repeats = inr (refl, refl); is_so = prepare_ok which }, tt))
+      (keeper_utters which its) (record { repeats = inr (refl, refl); is_so = prepare_ok which }, tt))
       (record { newer = given_now.version.1; placed = its; sent = sent which })
 
 -- ---- the order, or its refusal
@@ -174,13 +173,13 @@ module _ {w : World} (n : Names w) where
 
   by_place : (p : ℕ) (k : Keeper) (place : ℕ) (c : PartConfig) → numbered w.manager.config.parts p ≡ Some c → (o : Option NodeId) → numbered (keepers_of c k) place ≡ o
       → Good w (unless_refused w.manager (replaces w.manager p k place)
-          (ok_or o 2 >>= λ _. refuse_if (is_recovering (numbered w.manager.doing p)) 3 >>= λ _. refuse_if (is_replacing (numbered w.manager.doing p)) 4 >>= λ _. Ok c))
+      (ok_or o 2 >>= λ _. refuse_if (is_recovering (numbered w.manager.doing p)) 3 >>= λ _. refuse_if (is_replacing (numbered w.manager.doing p)) 4 >>= λ _. Ok c))
   by_place p k place c here None found = refused_good n 2
   by_place p k place c here (Some old) found = by_doing p k place c here old found (is_recovering (numbered w.manager.doing p)) (is_replacing (numbered w.manager.doing p))
 
   by_part : (p : ℕ) (k : Keeper) (place : ℕ) (o : Option PartConfig) → numbered w.manager.config.parts p ≡ o
       → Good w (unless_refused w.manager (replaces w.manager p k place)
-          (ok_or o 1 >>= λ (c : PartConfig). ok_or (numbered (keepers_of c k) place) 2 >>= λ _. refuse_if (is_recovering (numbered w.manager.doing p)) 3 >>= λ _. refuse_if (is_replacing (numbered w.manager.doing p)) 4 >>= λ _. Ok c))
+      (ok_or o 1 >>= λ (c : PartConfig). ok_or (numbered (keepers_of c k) place) 2 >>= λ _. refuse_if (is_recovering (numbered w.manager.doing p)) 3 >>= λ _. refuse_if (is_replacing (numbered w.manager.doing p)) 4 >>= λ _. Ok c))
   by_part p k place None found = refused_good n 1
   by_part p k place (Some c) found = by_place p k place c found (numbered (keepers_of c k) place) refl
 

@@ -1,17 +1,15 @@
 -- Every step keeps the facts of names, and of who says what to whom; so does every run.
-use Rattle.std.proofs.Common.{replicate, ◌≡◌, ◌≢◌, ◌≤◌, ◌⊎◌, inl, inr, ℕ, zero, suc, ◌+◌, ◌-◌, List, [], ◌∷◌, ◌++◌, length, map, refl, sym, ◌∙◌, ap, subst, arith, Option, Some, None}
+use Rattle.std.proofs.Common.{replicate, ◌≡◌, ◌⊎◌, inl, inr, ℕ, zero, suc, ◌-◌, List, [], ◌∷◌, ◌++◌, length, refl, sym, ap, subst, Option, Some, None}
 use Rattle.std.specs.Prelude.{⊤}
-use Rattle.std.proofs.lemmas.List.{length-map}
-use Rattle.curp_base.specs.Words.{At, Each, numbered, numbers_from}
-use Rattle.curp_base.proofs.Lists.{at_append_cases, at_map, at_replicate, Each-append, Each-weaker}
-use Rattle.curp_cmd.specs.Node.{manager_node, master_node}
+use Rattle.curp_base.specs.Words.{Each, numbered}
+use Rattle.curp_base.proofs.Lists.{at_append_cases, at_replicate, Each-append, Each-weaker}
+use Rattle.curp_cmd.specs.Node.{manager_node}
 use Rattle.curp_cmd.specs.declared.node.NodeId.{NodeId}
 use Rattle.curp_cmd.specs.declared.node.NodeKind.{NodeKind}
 use Rattle.curp_cmd.specs.declared.node.NodeKind.TheVariants as kind
-use Rattle.curp_msg.specs.Moved.{Moved, quiet, says, within}
+use Rattle.curp_msg.specs.Moved.{Moved, quiet, says}
 use Rattle.curp_msg.specs.declared.body.Body.{Body}
 use Rattle.curp_msg.specs.declared.body.Body.TheVariants as body
-use Rattle.curp_msg.specs.declared.config.PartConfig.{PartConfig}
 use Rattle.curp_msg.specs.declared.machine.Input.{Input}
 use Rattle.curp_msg.specs.declared.machine.Input.TheVariants as input
 use Rattle.curp_msg.specs.declared.machine.Local.TheVariants as local
@@ -22,21 +20,21 @@ use Rattle.curp_msg.specs.declared.script.Header.{Header}
 use Rattle.curp_msg.specs.declared.script.Step.{Step}
 use Rattle.curp_msg.specs.declared.script.Step.TheVariants as steps
 use Rattle.curp_order.specs.declared.Event.{Event}
-use Rattle.curp_model.specs.Backup.{BackupState, backup_input, fresh_backup, installed_backup}
-use Rattle.curp_model.specs.Client.{ClientState, client_input, fresh_client}
-use Rattle.curp_model.specs.Manager.{Attempted, ManagerState, adoption, manager_input, opening_config, opening_part}
-use Rattle.curp_model.specs.Recovery.{Fresh, MasterStage, master_input}
-use Rattle.curp_model.specs.Witness.{WitnessState, fresh_witness, started_witness, witness_input}
-use Rattle.curp_model.specs.World.{Deed, Gives, Nothing, Stops, World, deed_of, delivery, effect, events_of, grown, kept, messages, moves_kind, moves_one, opening, opening_master, result_of, run, shape_of, step, steps_by, with_backup, with_client, with_master, with_witness, world}
-use Rattle.curp_facts.specs.Facts.{AtOpening, ByRecovery, IsAmong, WasAdopted, WasSent, lists_of_order, lists_of_part}
-use Rattle.curp_facts.specs.Run.{IsHeader, IsRun}
-use Rattle.curp_law_names.specs.Names.{AdoptedOk, ConfigurationOk, IsOf, IsAdoptedMaster, ManagerSays, Names, PrepareOk}
-use Rattle.curp_law_names.specs.Nodes.{BackupFits, BodyFits, ClientFits, MasterFits, MessageFits, Nodes, WitnessFits}
+use Rattle.curp_model.specs.Backup.{backup_input, fresh_backup}
+use Rattle.curp_model.specs.Client.{client_input}
+use Rattle.curp_model.specs.Manager.{Attempted, ManagerState, adoption, manager_input}
+use Rattle.curp_model.specs.Recovery.{Fresh, master_input}
+use Rattle.curp_model.specs.Witness.{fresh_witness, witness_input}
+use Rattle.curp_model.specs.World.{World, deed_of, delivery, effect, events_of, grown, kept, messages, moves_kind, moves_one, opening, result_of, run, step, steps_by, world}
+use Rattle.curp_facts.specs.Facts.{ByRecovery, IsAmong, WasSent, lists_of_order}
+use Rattle.curp_facts.specs.Run.{IsRun, IsStep}
+use Rattle.curp_law_names.specs.Names.{IsOf, IsAdoptedMaster, ManagerSays, Names}
+use Rattle.curp_law_names.specs.Nodes.{BackupFits, MasterFits, MessageFits, WitnessFits}
 use Rattle.curp_law_names.proofs.Clients.{Arrives, client_fits}
 use Rattle.curp_law_names.proofs.Fits.{backup_later, client_fits_later, master_later, message_later, witness_later}
 use Rattle.curp_law_names.proofs.Keepers.{InputFits, backup_fits, witness_fits}
 use Rattle.curp_law_names.proofs.Later.{Later, later_self, later_then}
-use Rattle.curp_law_names.proofs.Lists.{all_of-kept, among_each, at_mapped, each_among, length-numbers, number_within, place}
+use Rattle.curp_law_names.proofs.Lists.{all_of-kept, among_each, each_among, number_within, place}
 use Rattle.curp_law_names.proofs.Managers.{manager_good}
 use Rattle.curp_law_names.proofs.Named.{named}
 use Rattle.curp_law_names.proofs.Opened.{opening_names, opening_nodes}
@@ -59,7 +57,7 @@ module _ (v : World) (n : Names v) where
   manager_fits node (body.Prepare p) sent ok = record { sender = (refl, refl); addressee = subst (IsOf v kind.Master) ok.its_master (n.given ok.before ok.was.given).master; fits = tt }
   manager_fits node (body.Adopted a) sent ok = record { sender = (refl, refl); addressee = subst (IsOf v kind.Master) ok.its_master (n.given ok.lists ok.was.given).master; fits = tt }
   manager_fits node (body.TakeOut t) sent ok = record { sender = (refl, refl); addressee = server node ok; fits = tt }
-  manager_fits node (body.GiveIn g) sent ok = record { sender = (refl, refl); addressee = server node ok; fits = tt }
+  manager_fits node (body.GiveIn g) sent ok = record { sender = (refl, refl); addressee = server node ok.0; fits = tt }
   manager_fits node (body.ExpireClient client) sent ok = record { sender = (refl, refl); addressee = server node ok.0; fits = tt }
   manager_fits node (body.Configuration config) sent ok = record { sender = (refl, refl); addressee = ok.0; fits = tt }
   manager_fits node _ sent ok = absurd ok
@@ -91,7 +89,7 @@ module _ (w : World) (both : Both w) (events : List Event) where
   manager_keeps given comes =
       let r : Moved ManagerState = manager_input w.manager given in
       let adopted : Option Attempted = adoption w.manager given in
-      let good = manager_good n given (message_comes given comes) in
+      let good = manager_good n given comes in
       let after = good.1 adopted events in
       record { both = keeps r adopted good.0 after.0 after.1; later = after.1 }
     where
@@ -197,3 +195,11 @@ run_goes w (x ∷ xs) both =
 -- every run leads from the opening to a later world with both
 pub always : (h : Header) (xs : List Step) → IsRun h xs → Goes (opening h) (world h xs)
 always h xs is = run_goes (opening h) xs (record { names = opening_names h is.header; nodes = opening_nodes h is.header })
+
+-- a property that holds of the opening, and that each step from a world with both keeps, holds along every run
+pub along : (P : World → Type 0) → ((w : World) → Both w → (x : Step) → IsStep x → P w → P (step w x).world) → (h : Header) (xs : List Step) → IsRun h xs → P (opening h) → P (world h xs)
+along P keeps h xs is first = go (opening h) xs (record { names = opening_names h is.header; nodes = opening_nodes h is.header }) is.steps_are first
+  where
+    go : (w : World) (ys : List Step) → Both w → Each IsStep ys → P w → P (run w ys)
+    go w [] both are p = p
+    go w (y ∷ ys) both are p = go (step w y).world ys (step_goes w both y).both are.1 (keeps w both y are.0 p)

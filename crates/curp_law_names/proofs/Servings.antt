@@ -1,13 +1,12 @@
 -- What a serving master says fits, from itself, and it goes by given lists.
-use Rattle.std.proofs.Common.{◌≡◌, ℕ, ◌-◌, ◌+◌, ◌==◌, ◌&&◌, nat_lt, nat_le, not, Bool, true, false, List, [], ◌∷◌, ◌++◌, length, map, drop, take, Option, Some, None, refl, sym, ◌∙◌, ap, subst, arith, slice_get}
-use Rattle.std.specs.Prelude.{⊤, flat_map}
+use Rattle.std.proofs.Common.{◌≡◌, ℕ, ◌+◌, ◌==◌, ◌&&◌, nat_lt, nat_le, not, Bool, true, false, List, [], ◌∷◌, ◌++◌, length, map, Option, Some, None, refl, subst, slice_get}
 use Rattle.std.specs.BTreeSet.{insert_key}
 use Rattle.std.specs.FinMap as store
 use Rattle.std.specs.Ordering.{nat_cmp}
 use Rattle.std.specs.List.{filter}
 use Rattle.std.proofs.lemmas.Bool.{cond_both}
-use Rattle.curp_base.specs.Words.{At, Each, rises_past}
-use Rattle.curp_base.proofs.Lists.{Each-append, Each-at, Each-drop, Each-map, Each-take}
+use Rattle.curp_base.specs.Words.{Each}
+use Rattle.curp_base.proofs.Lists.{Each-append, Each-at, Each-drop, Each-map}
 use Rattle.curp_cmd.specs.Hash.{hashes}
 use Rattle.curp_cmd.specs.Node.{client_node, is_among, manager_node, master_node}
 use Rattle.curp_cmd.specs.declared.command.Answer.{Answer}
@@ -34,20 +33,19 @@ use Rattle.curp_msg.specs.declared.body.Prepare.{Prepare}
 use Rattle.curp_msg.specs.declared.body.TakeOut.{TakeOut}
 use Rattle.curp_msg.specs.declared.machine.Local.{Local}
 use Rattle.curp_msg.specs.declared.machine.Local.TheVariants as local
-use Rattle.curp_msg.specs.declared.message.Message.{Message}
 use Rattle.curp_range.specs.Spans.{is_covered}
 use Rattle.curp_model.specs.declared.Check.{Check}
 use Rattle.curp_model.specs.declared.Check.TheVariants.{Expired, Known, New, Stale}
 use Rattle.curp_model.specs.Log.{LastGive, LastTake, package_of}
-use Rattle.curp_model.specs.Master.{AtOnce, Captured, Deny, Execute, HoldBack, MasterState, Open, Phase, Switch, Switching, Tell, TellAgain, Verdict, WhenSynced, Wish, adopted_in, all_have, append_to, appends, begins_round, between, by_message, captures_read, carries_out, collect_in, collects, executes, fresh_backups, give_after, goes_on, holds_back, is_clean, is_open, is_ready, marked_free, moved_entry, on_appended, on_collected, on_expire, on_give, on_read, on_serving, on_stored, on_take, on_update, prepare_in, prepares, pushed, push_give, push_take, raised, read_command, read_of, read_refusal, refuse, reply, serving_ordered, settle, state_of, stored_on, switch_to, sync_in, synced, synced_replies, synced_reply, take_after, told_again, treat, treated, treats, unless_it_ends, value_of, verdict}
+use Rattle.curp_model.specs.Master.{AtOnce, Captured, Deny, Execute, HoldBack, MasterState, Open, Phase, Switch, Switching, Tell, TellAgain, Verdict, WhenSynced, Wish, adopted_in, all_have, append_to, appends, begins_round, between, by_message, captures_read, carries_out, collect_in, collects, executes, fresh_backups, give_after, goes_on, holds_back, is_clean, is_open, is_ready, marked_free, moved_entry, on_appended, on_collected, on_expire, on_read, on_serving, on_update, prepare_in, prepares, pushed, push_take, raised, read_command, read_of, read_refusal, refuse, reply, serving_ordered, settle, state_of, stored_on, switch_to, sync_in, synced, synced_replies, synced_reply, take_after, told_again, treat, treated, unless_it_ends, value_of, verdict}
 use Rattle.curp_model.specs.Named.{IsNodeOf}
 use Rattle.curp_model.specs.Ranges.{owns_all}
 use Rattle.curp_model.specs.Table.{check, is_gone}
 use Rattle.curp_model.specs.World.{World}
-use Rattle.curp_facts.specs.Facts.{ByReplacement, IsAmong, IsGiven, Lists, WasSent, lists_of_part}
+use Rattle.curp_facts.specs.Facts.{ByReplacement, Lists, WasSent}
 use Rattle.curp_facts.specs.Kept.{lists_of_master}
-use Rattle.curp_law_names.specs.Names.{GivenOk, IsOf, Names}
-use Rattle.curp_law_names.specs.Nodes.{BodyFits, EntryAsked, IsAsked, MessageFits, NextGiven, ServesBy, ServingFits, SuspectsAsked, sender_kind}
+use Rattle.curp_law_names.specs.Names.{IsOf, Names}
+use Rattle.curp_law_names.specs.Nodes.{BodyFits, EntryAsked, IsAsked, MessageFits, NextSent, ServesBy, ServingFits, SuspectsAsked, sender_kind}
 use Rattle.curp_law_names.proofs.Clients.{is_manager}
 use Rattle.curp_law_names.proofs.Keepers.{AllSaid, Said, each_filter}
 use Rattle.curp_law_names.proofs.Lists.{among_each, each_among}
@@ -64,6 +62,10 @@ master_said w k to b fits = record { from = refl; fits = fits }
 -- a refusal goes to its client
 pub refuse_said : (w : World) (k : ℕ) → IsNodeOf w kind.Master k → (id : RequestId) (why : Refusal) → IsNodeOf w kind.Client id.client → Said w (master_node k) (refuse k id why)
 refuse_said w k me id why asked = master_said w k (client_node id.client) _ (record { sender = (refl, me); addressee = (refl, asked); fits = refl })
+
+-- the lists of a switch, as they were sent
+abbrev list_of : Switch → Prepare
+list_of s = record { version = s.version; backups = s.backups; witnesses = s.witnesses }
 
 module _ (w : World) (n : Names w) (k : ℕ) (me : IsNodeOf w kind.Master k) where
   abbrev Goes : Moved MasterState → Type 0
@@ -84,14 +86,14 @@ module _ (w : World) (n : Names w) (k : ℕ) (me : IsNodeOf w kind.Master k) whe
     push_fits : (e : Entry) → EntryAsked w e → ServesBy w its m.lo m.hi (m.log ++ e ∷ []) m.captures m.phase
     push_fits e asked = record { given = ok.given; next = ok.next; its_lo = ok.its_lo; its_hi = ok.its_hi; entries = Each-append (EntryAsked w) m.log _ ok.entries (asked, tt); reads = ok.reads }
 
-    fresh_are : (p : Phase) → NextGiven w its p → Each (IsOf w kind.Backup) (fresh_backups p m.backups)
+    fresh_are : (p : Phase) → NextSent w its p → Each (IsOf w kind.Backup) (fresh_backups p m.backups)
     fresh_are Open next = tt
-    fresh_are (Switching s) next = each_filter (IsOf w kind.Backup) _ s.backups (n.given _ next).backups
+    fresh_are (Switching s) next = each_filter (IsOf w kind.Backup) _ s.backups (n.given _ (ByReplacement its (list_of s) ok.given next)).backups
 
     appends_said : AllSaid w (master_node k) (appends k m)
     appends_said = Each-map (Said w (master_node k)) (append_to k m) (stored_on m)
         (each_among (λ (b : NodeId). Said w (master_node k) (append_to k m b)) (stored_on m) (λ b a.
-            master_said w k b _ (record { sender = (refl, me); addressee = among_each (IsOf w kind.Backup) (stored_on m) nodes b a; fits = Each-drop (EntryAsked w) _ m.log ok.entries })))
+        master_said w k b _ (record { sender = (refl, me); addressee = among_each (IsOf w kind.Backup) (stored_on m) nodes b a; fits = Each-drop (EntryAsked w) _ m.log ok.entries })))
       where
         nodes : Each (IsOf w kind.Backup) (stored_on m)
         nodes = Each-append (IsOf w kind.Backup) m.backups _ (n.given its ok.given).backups (fresh_are m.phase ok.next)
@@ -119,18 +121,22 @@ module _ (w : World) (n : Names w) (k : ℕ) (me : IsNodeOf w kind.Master k) whe
     settle_goes =
         let due : List ℕ = filter (λ index. nat_lt index (synced m)) m.held in
         let values : List Captured = filter (is_ready m) m.captures in
-        let reads : Each (λ (c : Captured). IsNodeOf w kind.Client c.id.client) values = each_filter _ (is_ready m) m.captures ok.reads in
-        (record { given = ok.given; next = ok.next; its_lo = ok.its_lo; its_hi = ok.its_hi; entries = ok.entries; reads = each_filter _ (λ c. not (is_ready m c)) m.captures ok.reads },
-        Each-append (Said w (master_node k)) (synced_replies k m due ++ map (value_of k m) values) _
-            (Each-append (Said w (master_node k)) (synced_replies k m due) _
-                (each_flat (Said w (master_node k)) _ due (λ index a. synced_said index (slice_get m.log index) refl))
-                (Each-map (Said w (master_node k)) (value_of k m) values (each_among (λ (c : Captured). Said w (master_node k) (value_of k m c)) values (λ c a.
-                    value_said c (among_each (λ (x : Captured). IsNodeOf w kind.Client x.id.client) values reads c a)))))
-            (each_flat (Said w (master_node k)) (moved_entry k) (between m.settled (synced m) m.log) (λ e a. moved_said e)))
+        let reads : Each (λ (c : Captured). IsNodeOf w kind.Client c.id.client) values = each_filter _ (is_ready m) m.captures ok.reads in (
+          record { given = ok.given; next = ok.next; its_lo = ok.its_lo; its_hi = ok.its_hi; entries = ok.entries; reads = each_filter _ (λ c. not (is_ready m c)) m.captures ok.reads },
+          Each-append (Said w (master_node k)) (synced_replies k m due ++ map (value_of k m) values) _
+              (Each-append (Said w (master_node k)) (synced_replies k m due) _
+              (each_flat (Said w (master_node k)) _ due (λ index a. synced_said index (slice_get m.log index) refl))
+              (Each-map (Said w (master_node k)) (value_of k m) values (each_among (λ (c : Captured). Said w (master_node k) (value_of k m c)) values (λ c a.
+              value_said c (among_each (λ (x : Captured). IsNodeOf w kind.Client x.id.client) values reads c a)))))
+              (each_flat (Said w (master_node k)) (moved_entry k) (between m.settled (synced m) m.log) (λ e a. moved_said e)),
+        )
 
     collects_goes : Goes (collects k m)
-    collects_goes = (ok, Each-map (Said w (master_node k)) _ m.witnesses (each_among _ m.witnesses (λ to a.
-        master_said w k to _ (record { sender = (refl, me); addressee = among_each (IsOf w kind.Witness) m.witnesses (n.given its ok.given).witnesses to a; fits = tt }))))
+    collects_goes = (
+      ok,
+      Each-map (Said w (master_node k)) _ m.witnesses (each_among _ m.witnesses (λ to a.
+          master_said w k to _ (record { sender = (refl, me); addressee = among_each (IsOf w kind.Witness) m.witnesses (n.given its ok.given).witnesses to a; fits = tt }))),
+    )
 
   -- a round begins
   round_goes : (m : MasterState) → ServingFits w k m → Goes (begins_round k m)
@@ -191,12 +197,16 @@ module _ (w : World) (n : Names w) (k : ℕ) (me : IsNodeOf w kind.Master k) whe
 
   -- ---- what backups say
 
-  prepares_goes : (m : MasterState) → ServingFits w k m → (s : Switch) → NextGiven w (lists_of_master (master_node k) m) (Switching s) → Goes (prepares k m s)
+  -- the version that is prepared is that of lists that were sent
+  prepared_fits : (s : Switch) → WasSent w (says manager_node (master_node k) (body.Prepare (list_of s))) → MessageFits w (says (master_node k) manager_node (body.Prepared s.version))
+  prepared_fits s next = record { sender = (refl, me); addressee = (refl, refl); fits = record { prepare = list_of s; sent = next; its_version = refl } }
+
+  prepares_goes : (m : MasterState) → ServingFits w k m → (s : Switch) → NextSent w (lists_of_master (master_node k) m) (Switching s) → Goes (prepares k m s)
   prepares_goes m ok s next = cond_both (not s.prepared && all_have m.acknowledged s.backups (length m.log) s.round) _ _ Goes
-      (λ y. (record { given = ok.given; next = next; its_lo = ok.its_lo; its_hi = ok.its_hi; entries = ok.entries; reads = ok.reads }, manager_told _ (record { sender = (refl, me); addressee = (refl, refl); fits = tt })))
+      (λ y. (record { given = ok.given; next = next; its_lo = ok.its_lo; its_hi = ok.its_hi; entries = ok.entries; reads = ok.reads }, manager_told (body.Prepared s.version) (prepared_fits s next)))
       (λ y. (ok, tt))
 
-  goes_goes : (m : MasterState) → ServingFits w k m → (p : Phase) → NextGiven w (lists_of_master (master_node k) m) p → Goes (goes_on k m p)
+  goes_goes : (m : MasterState) → ServingFits w k m → (p : Phase) → NextSent w (lists_of_master (master_node k) m) p → Goes (goes_on k m p)
   goes_goes m ok Open next = settle_goes m ok
   goes_goes m ok (Switching s) next = prepares_goes m ok s next
 
@@ -228,14 +238,14 @@ module _ (w : World) (n : Names w) (k : ℕ) (me : IsNodeOf w kind.Master k) whe
 
   prepare_goes : (m : MasterState) → ServingFits w k m → (q : Prepare) → WasSent w (says manager_node (master_node k) (body.Prepare q)) → (p : Phase) → Goes (prepare_in k m q p)
   prepare_goes m ok q sent Open = cond_both (nat_lt m.version q.version) _ _ Goes
-      (λ y. round_goes (record m { phase = Switching (switch_to m q) }) (record { given = ok.given; next = ByReplacement (lists_of_master (master_node k) m) q ok.given sent; its_lo = ok.its_lo; its_hi = ok.its_hi; entries = ok.entries; reads = ok.reads }))
+      (λ y. round_goes (record m { phase = Switching (switch_to m q) }) (record { given = ok.given; next = sent; its_lo = ok.its_lo; its_hi = ok.its_hi; entries = ok.entries; reads = ok.reads }))
       (λ y. (ok, tt))
   prepare_goes m ok q sent (Switching s) = cond_both (s.version == q.version) _ _ Goes (λ y. round_goes m ok) (λ y. (ok, tt))
 
-  adopted_goes : (m : MasterState) → ServingFits w k m → (version : ℕ) (p : Phase) → NextGiven w (lists_of_master (master_node k) m) p → Goes (adopted_in k m version p)
+  adopted_goes : (m : MasterState) → ServingFits w k m → (version : ℕ) (p : Phase) → NextSent w (lists_of_master (master_node k) m) p → Goes (adopted_in k m version p)
   adopted_goes m ok version Open next = (ok, tt)
   adopted_goes m ok version (Switching s) next = cond_both (s.version == version) _ _ Goes
-      (λ y. settle_goes (record m { version = s.version; backups = s.backups; witnesses = s.witnesses; phase = Open }) (record { given = next; next = tt; its_lo = ok.its_lo; its_hi = ok.its_hi; entries = ok.entries; reads = ok.reads })) (λ y. (ok, tt))
+      (λ y. settle_goes (record m { version = s.version; backups = s.backups; witnesses = s.witnesses; phase = Open }) (record { given = ByReplacement (lists_of_master (master_node k) m) (list_of s) ok.given next; next = tt; its_lo = ok.its_lo; its_hi = ok.its_hi; entries = ok.entries; reads = ok.reads })) (λ y. (ok, tt))
 
   -- ---- migrations and clients that are gone
 
@@ -286,10 +296,10 @@ module _ (w : World) (n : Names w) (k : ℕ) (me : IsNodeOf w kind.Master k) whe
   unfolding on_serving
   serving_hears m ok from to b sender fits here sent = unless_ended m ok (by_message k m from b) (by_message_goes m ok from to b sender fits here sent)
 
-  sync_goes : (m : MasterState) → ServingFits w k m → (p : Phase) → Goes (sync_in k m p)
-  sync_goes m ok Open = round_goes m ok
-  sync_goes m ok (Switching s) = let r = round_goes m ok in cond_both s.prepared _ _ Goes
-      (λ y. (r.0, (master_said w k manager_node _ (record { sender = (refl, me); addressee = (refl, refl); fits = tt }), r.1))) (λ y. r)
+  sync_goes : (m : MasterState) → ServingFits w k m → (p : Phase) → NextSent w (lists_of_master (master_node k) m) p → Goes (sync_in k m p)
+  sync_goes m ok Open next = round_goes m ok
+  sync_goes m ok (Switching s) next = let r = round_goes m ok in cond_both s.prepared _ _ Goes
+      (λ y. (r.0, (master_said w k manager_node (body.Prepared s.version) (prepared_fits s next), r.1))) (λ y. r)
 
   collect_goes : (m : MasterState) → ServingFits w k m → (p : Phase) → Goes (collect_in k m p)
   collect_goes m ok Open = collects_goes m ok
@@ -298,6 +308,6 @@ module _ (w : World) (n : Names w) (k : ℕ) (me : IsNodeOf w kind.Master k) whe
   -- an order comes to a serving master
   pub serving_told : (m : MasterState) → ServingFits w k m → (order : Local) → ServingFits w k (serving_ordered k m order).state × AllSaid w (master_node k) (serving_ordered k m order).messages
   unfolding serving_ordered
-  serving_told m ok local.Sync = unless_ended m ok (sync_in k m m.phase) (sync_goes m ok m.phase)
+  serving_told m ok local.Sync = unless_ended m ok (sync_in k m m.phase) (sync_goes m ok m.phase ok.next)
   serving_told m ok local.Collect = collect_goes m ok m.phase
   serving_told m ok _ = (ok, tt)

@@ -1,5 +1,5 @@
 -- The world after an input to the manager.
-use Rattle.std.proofs.Common.{replicate, ◌≡◌, ◌≢◌, ◌≤◌, ◌<◌, ◌⊎◌, inl, inr, ℕ, ◌+◌, ◌-◌, List, [], ◌∷◌, ◌++◌, length, refl, sym, ◌∙◌, ap, subst, arith, length-append, Option, Some}
+use Rattle.std.proofs.Common.{replicate, ◌≡◌, ◌≤◌, ◌⊎◌, inl, inr, ℕ, ◌+◌, ◌-◌, List, ◌++◌, length, sym, ◌∙◌, ap, subst, arith, length-append, Option}
 use Rattle.std.proofs.lemmas.List.{length-replicate}
 use Rattle.curp_base.specs.Words.{At, Each}
 use Rattle.curp_base.proofs.Lists.{at_append, at_append_cases, Each-at}

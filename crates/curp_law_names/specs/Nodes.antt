@@ -16,6 +16,8 @@ use Rattle.curp_msg.specs.declared.answer.GcAnswer.{GcAnswer}
 use Rattle.curp_msg.specs.declared.answer.GcAnswer.TheVariants.{Suspects}
 use Rattle.curp_msg.specs.declared.body.Body.{Body}
 use Rattle.curp_msg.specs.declared.body.Body.TheVariants as body
+use Rattle.curp_msg.specs.declared.body.Prepare.{Prepare}
+use Rattle.curp_msg.specs.declared.body.Recover.{Recover}
 use Rattle.curp_msg.specs.declared.message.Message.{Message}
 use Rattle.curp_model.specs.Backup.{BackupState}
 use Rattle.curp_model.specs.Client.{ClientState, Pending}
@@ -119,9 +121,39 @@ abbrev pub SuspectsAsked : World → GcAnswer → Type 0
 SuspectsAsked w (Suspects requests) = Each (IsAsked w) requests
 SuspectsAsked w _ = ⊤
 
+-- ---- what masters say of their orders
+
+-- a partition and an epoch are those of an order to recover that was sent to the master
+pub record OrderedTo (w : World) (node : NodeId) (part epoch : ℕ) : Type 0 where
+  pub order : Recover
+  pub ordered : WasSent w (says manager_node node (body.Recover order))
+  pub its_part : part ≡ order.part
+  pub its_epoch : epoch ≡ order.epoch
+
+-- a fence goes to the backup that the sender's order names, at the order's epoch
+pub record FencesBackup (w : World) (from to : NodeId) (epoch : ℕ) : Type 0 where
+  pub order : Recover
+  pub ordered : WasSent w (says manager_node from (body.Recover order))
+  pub its_epoch : epoch ≡ order.epoch
+  pub its_backup : to ≡ order.backup
+
+-- a freeze goes to the witness that the sender's order names, at the order's epoch
+pub record FreezesWitness (w : World) (from to : NodeId) (epoch : ℕ) : Type 0 where
+  pub order : Recover
+  pub ordered : WasSent w (says manager_node from (body.Recover order))
+  pub its_epoch : epoch ≡ order.epoch
+  pub its_witness : to ≡ order.witness
+
+-- a version is that of new lists that were sent to the master
+pub record PreparedTo (w : World) (node : NodeId) (version : ℕ) : Type 0 where
+  pub prepare : Prepare
+  pub sent : WasSent w (says manager_node node (body.Prepare prepare))
+  pub its_version : version ≡ prepare.version
+
 -- ---- messages
 
--- a client asks for its own requests alone, answers go to the client that asked, and other requests that are told are of clients
+-- a client asks for its own requests alone, answers go to the client that asked, other requests that are told are of clients, and
+-- masters speak of orders and new lists that were sent to them
 abbrev pub BodyFits : World → NodeId → NodeId → Body → Type 0
 BodyFits w from to (body.Update ask) = from ≡ client_node ask.request.id.client
 BodyFits w from to (body.Sync ask) = from ≡ client_node ask.request.id.client
@@ -136,6 +168,10 @@ BodyFits w from to (body.Append a) = Each (EntryAsked w) a.entries
 BodyFits w from to (body.FenceAnswer a) = ReplyAsked w a.answer
 BodyFits w from to (body.FrozenAnswer requests) = Each (IsAsked w) requests
 BodyFits w from to (body.Collected c) = SuspectsAsked w c.answer
+BodyFits w from to (body.Fence epoch) = FencesBackup w from to epoch
+BodyFits w from to (body.Freeze epoch) = FreezesWitness w from to epoch
+BodyFits w from to (body.Recovered r) = OrderedTo w from r.part r.epoch
+BodyFits w from to (body.Prepared version) = PreparedTo w from version
 BodyFits w from to _ = ⊤
 
 -- sender and addressee are nodes of the world, of the kinds that the message is from and for
@@ -156,15 +192,16 @@ pub record ClientFits (w : World) (n : ℕ) (c : ClientState) : Type 0 where
   pub config : ConfigurationOk w c.config
   pub pending : Each (PendingFits w n) c.pending
 
--- the lists that a master takes up next were given
-abbrev pub NextGiven : World → Lists → Phase → Type 0
-NextGiven w l Open = ⊤
-NextGiven w l (Switching s) = IsGiven w (record l { version = s.version; backups = s.backups; witnesses = s.witnesses })
+-- the lists that a master takes up next were sent to it
+abbrev pub NextSent : World → Lists → Phase → Type 0
+NextSent w l Open = ⊤
+NextSent w l (Switching s) =
+    WasSent w (says manager_node l.master (body.Prepare (record { version = s.version; backups = s.backups; witnesses = s.witnesses })))
 
 -- the lists, the range, the log and the captures of a serving master: the lists were given, and the range is that of the opening
 pub record ServesBy (w : World) (l : Lists) (lo hi : ℕ) (log : List Entry) (captures : List Captured) (phase : Phase) : Type 0 where
   pub given : IsGiven w l
-  pub next : NextGiven w l phase
+  pub next : NextSent w l phase
   pub its_lo : lo ≡ lo_of w l.part
   pub its_hi : hi ≡ hi_of w l.part
   pub entries : Each (EntryAsked w) log

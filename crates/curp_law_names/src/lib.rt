@@ -5,6 +5,8 @@
 
 ghost use Rattle.std.specs.Prelude.{◌≡◌, List};
 ghost use Rattle.curp_base.specs.Words.{Each};
+ghost use Rattle.curp_facts.specs.Facts.{Lists, WasAdopted};
+ghost use Rattle.curp_facts.specs.Reach.{IsReady};
 ghost use Rattle.curp_facts.specs.Run.{IsRun};
 ghost use Rattle.curp_law_names.specs.Names.{Names};
 ghost use Rattle.curp_law_names.specs.Nodes.{GoesHome, IsBetweenNodes, Nodes};
@@ -27,4 +29,10 @@ pub fn messages_reach_nodes()
         → Each (IsBetweenNodes (world h steps)) (messages (world h steps)) }
     ensures home { (h : Header) (steps : List Step) → IsRun h steps
         → Each (λ m. GoesHome m.to m.body) (messages (world h steps)) }
+{}
+
+/// The manager adopts what its own master has told it to be complete, and nothing else.
+pub fn adopted_lists_are_ready()
+    ensures ready { (h : Header) (steps : List Step) → IsRun h steps
+        → (l : Lists) → WasAdopted (world h steps) l → IsReady (world h steps) l }
 {}
