@@ -1,3 +1,5 @@
 pub mod Words
 pub mod Lists
 pub mod Logs
+pub mod Prefixes
+pub mod Adoptions
