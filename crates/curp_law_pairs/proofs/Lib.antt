@@ -3,3 +3,4 @@ pub mod Lists
 pub mod Logs
 pub mod Prefixes
 pub mod Adoptions
+pub mod Along
