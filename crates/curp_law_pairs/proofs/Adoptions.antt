@@ -1,23 +1,19 @@
 -- Each adopted recovery began as the replay of a fenced backup and a frozen witness of the lists before it.
-use Rattle.std.proofs.Common.{◌≡◌, ℕ, ◌+◌, ◌<◌, ◌≤◌, List, length, refl, ap, sym, ◌∙◌, subst, arith}
-use Rattle.curp_base.specs.Words.{Each, IsPrefix}
-use Rattle.curp_base.proofs.Lists.{prefix_length}
+use Rattle.std.proofs.Common.{◌≡◌, ℕ, List, length, refl, ap, sym, ◌∙◌, subst}
+use Rattle.curp_base.specs.Words.{IsPrefix}
 use Rattle.curp_cmd.specs.Node.{manager_node}
 use Rattle.curp_cmd.specs.declared.entry.Entry.{Entry}
 use Rattle.curp_cmd.specs.declared.node.NodeId.{NodeId}
-use Rattle.curp_msg.specs.Moved.{says}
 use Rattle.curp_msg.specs.declared.body.Body.TheVariants as body
 use Rattle.curp_msg.specs.declared.body.Recover.{Recover}
-use Rattle.curp_msg.specs.declared.body.Recovered.{Recovered}
 use Rattle.curp_model.specs.Backup.{BackupState}
 use Rattle.curp_model.specs.Named.{IsBackup, IsWitness}
 use Rattle.curp_model.specs.Recovery.{replay}
 use Rattle.curp_model.specs.Witness.{frozen_requests}
 use Rattle.curp_model.specs.World.{World}
-use Rattle.curp_facts.specs.Facts.{ByRecovery, IsAmong, IsGiven, Lists, WasAdopted, WasSent, hi_of, lists_of_order, lo_of}
+use Rattle.curp_facts.specs.Facts.{IsAmong, Lists, WasAdopted, hi_of, lo_of}
 use Rattle.curp_facts.specs.Invariant.{Invariant}
 use Rattle.curp_facts.specs.Kept.{AdoptionOk, AdoptionsOk}
-use Rattle.curp_facts.specs.Reach.{Reach}
 use Rattle.curp_facts.specs.Said.{RecoveredSaid}
 use Rattle.curp_law_names.specs.Names.{Names, OrderOk}
 use Rattle.curp_law_names.proofs.Lists.{each_among}

@@ -1,15 +1,15 @@
 -- What stands in the logs of a partition's master stands in the logs of all its later masters and of their backups.
-use Rattle.std.proofs.Common.{◌≡◌, ◌⊎◌, inl, inr, ℕ, zero, suc, ◌+◌, ◌<◌, ◌≤◌, List, length, take, refl, ap, sym, ◌∙◌, subst, arith}
+use Rattle.std.proofs.Common.{◌≡◌, inl, inr, ℕ, zero, suc, ◌+◌, ◌<◌, ◌≤◌, List, length, take, sym, ◌∙◌, subst, arith}
 use Rattle.std.proofs.lemmas.Bool.{cases_lt}
 use Rattle.std.proofs.lemmas.List.{length-take-le}
-use Rattle.curp_base.specs.Words.{Each, IsPrefix}
-use Rattle.curp_base.proofs.Lists.{Each-at, Each-weaker, prefix_length, prefix_trans}
+use Rattle.curp_base.specs.Words.{IsPrefix}
+use Rattle.curp_base.proofs.Lists.{Each-at, Each-weaker, prefix_trans}
 use Rattle.curp_cmd.specs.declared.entry.Entry.{Entry}
 use Rattle.curp_cmd.specs.declared.node.NodeId.{NodeId}
 use Rattle.curp_model.specs.Backup.{BackupState}
-use Rattle.curp_model.specs.Named.{IsBackup, IsWitness}
+use Rattle.curp_model.specs.Named.{IsBackup}
 use Rattle.curp_model.specs.Recovery.{replay}
-use Rattle.curp_model.specs.Witness.{WitnessState, frozen_requests}
+use Rattle.curp_model.specs.Witness.{frozen_requests}
 use Rattle.curp_model.specs.World.{World}
 use Rattle.curp_facts.specs.Facts.{HasLog, IsAmong, Lists, Logged, WasAdopted, hi_of, lo_of}
 use Rattle.curp_facts.specs.Invariant.{Invariant}

@@ -4,3 +4,7 @@ pub mod Logs
 pub mod Prefixes
 pub mod Adoptions
 pub mod Along
+pub mod Requests
+pub mod Synced
+pub mod Witnessed
+pub mod Pairs

@@ -1,23 +1,21 @@
 -- Lists that were given and that were adopted: their versions, and that adopted ones are ready.
-use Rattle.std.proofs.Common.{◌≡◌, ◌⊎◌, inl, inr, ℕ, zero, suc, ◌+◌, ◌<◌, ◌≤◌, refl, ap, sym, ◌∙◌, subst, arith}
+use Rattle.std.proofs.Common.{◌≡◌, inl, inr, ℕ, zero, suc, ◌+◌, ◌<◌, ◌≤◌, refl, ap, sym, subst, arith}
 use Rattle.curp_base.specs.Words.{At, numbers_from}
 use Rattle.curp_cmd.specs.Node.{manager_node}
 use Rattle.curp_cmd.specs.declared.node.NodeId.{NodeId}
 use Rattle.curp_msg.specs.Moved.{says}
-use Rattle.curp_msg.specs.declared.body.Adopted.{Adopted}
 use Rattle.curp_msg.specs.declared.body.Body.TheVariants as body
-use Rattle.curp_msg.specs.declared.body.Prepare.{Prepare}
 use Rattle.curp_msg.specs.declared.body.Recover.{Recover}
 use Rattle.curp_msg.specs.declared.config.PartConfig.{PartConfig}
 use Rattle.curp_model.specs.Manager.{opening_config, opening_part}
 use Rattle.curp_model.specs.World.{World}
-use Rattle.curp_facts.specs.Facts.{AtOpening, ByRecovery, ByReplacement, IsGiven, Lists, WasAdopted, WasSent, lists_of_order, lists_of_part, lists_of_prepare}
+use Rattle.curp_facts.specs.Facts.{AtOpening, ByRecovery, ByReplacement, IsGiven, Lists, WasAdopted, WasSent, lists_of_order, lists_of_part}
 use Rattle.curp_facts.specs.Invariant.{Invariant}
 use Rattle.curp_facts.specs.Reach.{IsReady}
 use Rattle.curp_facts.specs.Said.{AdoptedSaid}
 use Rattle.curp_law_names.specs.Names.{Names, OrderOk, PrepareOk}
 use Rattle.curp_law_names.proofs.Lists.{at_mapped}
-use Rattle.curp_law_pairs.specs.Predecessors.{Predecessor, Predecessors}
+use Rattle.curp_law_pairs.specs.Predecessors.{Predecessors}
 use Rattle.curp_law_pairs.proofs.Words.{said}
 
 module _ {w : World} (names : Names w) where
@@ -62,7 +60,7 @@ module _ {w : World} (names : Names w) where
     | inl one ↦ record { given = was.given; told = inl one }
     | inr sent ↦
         let ok : AdoptedSaid w l.master (record { part = l.part; epoch = l.epoch; version = l.version })
-              = said inv manager_node l.master (body.Adopted (record { part = l.part; epoch = l.epoch; version = l.version })) sent in
+        = said inv manager_node l.master (body.Adopted (record { part = l.part; epoch = l.epoch; version = l.version })) sent in
         subst (IsReady w) ((names.agree ok.lists l ok.ready.given was.given).by_version ok.its_master ok.its_version) ok.ready
   ]
 

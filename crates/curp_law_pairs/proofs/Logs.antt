@@ -1,7 +1,7 @@
 -- The logs of masters and of backups are logs of their partition, whose gives bring what lies in their ranges.
-use Rattle.std.proofs.Common.{◌≡◌, ◌⊎◌, inl, inr, ℕ, ◌+◌, ◌<◌, ◌≤◌, true, List, [], ◌∷◌, ◌++◌, length, take, refl, ap, sym, ◌∙◌, subst, arith, Option, Some, None}
-use Rattle.curp_base.specs.Words.{At, Each, IsPrefix}
-use Rattle.curp_base.proofs.Lists.{Each-at, prefix_length}
+use Rattle.std.proofs.Common.{◌≡◌, inl, inr, ℕ, ◌≤◌, List, ◌++◌, take, refl, ap, sym, subst, Some}
+use Rattle.curp_base.specs.Words.{At, IsPrefix}
+use Rattle.curp_base.proofs.Lists.{Each-at}
 use Rattle.curp_cmd.specs.Node.{manager_node}
 use Rattle.curp_cmd.specs.declared.entry.Entry.{Entry}
 use Rattle.curp_cmd.specs.declared.entry.Entry.TheVariants.{Take, Give}
@@ -9,19 +9,17 @@ use Rattle.curp_cmd.specs.declared.migration.Package.{Package}
 use Rattle.curp_cmd.specs.declared.node.NodeId.{NodeId}
 use Rattle.curp_msg.specs.Moved.{says}
 use Rattle.curp_msg.specs.declared.body.Body.TheVariants as body
-use Rattle.curp_msg.specs.declared.body.Parcel.{Parcel}
 use Rattle.curp_model.specs.Backup.{BackupState}
-use Rattle.curp_model.specs.Log.{IsLog, package_of, meaning}
-use Rattle.curp_model.specs.Master.{MasterState}
-use Rattle.curp_model.specs.Named.{IsBackup, IsMaster}
+use Rattle.curp_model.specs.Log.{meaning}
+use Rattle.curp_model.specs.Named.{IsBackup}
 use Rattle.curp_model.specs.Ranges.{opening_range}
 use Rattle.curp_model.specs.Recovery.{Asking, Fresh, MasterStage, Recovering, RecoveryPhase, RecoveryState, Serving, Storing, Waiting}
 use Rattle.curp_model.specs.World.{World}
 use Rattle.curp_facts.specs.Entries.{EntryOk, LogOk}
 use Rattle.curp_facts.specs.Facts.{ByRecovery, HasLog, IsAmong, IsGiven, Lists, Logged, WasAdopted, WasSent, WasTaken, hi_of, lists_of_order, lo_of, node_log, phase_log}
-use Rattle.curp_facts.specs.Kept.{FollowsLog, lists_of_master}
+use Rattle.curp_facts.specs.Kept.{lists_of_master}
 use Rattle.curp_facts.specs.Invariant.{Invariant}
-use Rattle.curp_facts.specs.Nodes.{MasterOk, RecoveringOk, ServingOk, StageOk}
+use Rattle.curp_facts.specs.Nodes.{MasterOk, StageOk}
 use Rattle.curp_facts.specs.Reach.{HasMany, Reach}
 use Rattle.curp_facts.specs.Said.{IsTakeOf, StoredEntry}
 use Rattle.curp_law_logs.specs.Gives.{GivesWithin, PairsWithin}
@@ -61,9 +59,9 @@ module _ {w : World} (inv : Invariant w) where
   pub given_within : (part migration : ℕ) (p : Package) → EntryOk w part (Give migration p) → PairsWithin p.lo p.hi p.pairs
   given_within part migration p ok =
       let taken : WasTaken w (record { migration = migration; «package» = p })
-            = said inv manager_node ok.0.node (body.GiveIn (record { migration = migration; «package» = p })) ok.0.sent in
+      = said inv manager_node ok.0.node (body.GiveIn (record { migration = migration; «package» = p })) ok.0.sent in
       let stored : StoredEntry w taken.node (IsTakeOf migration p)
-            = said inv taken.node manager_node (body.Taken (record { migration = migration; «package» = p })) taken.told in
+      = said inv taken.node manager_node (body.Taken (record { migration = migration; «package» = p })) taken.told in
       let home = has_home taken.node stored.l stored.its_log in
       let lo = lo_of w home.0.part in
       let hi = hi_of w home.0.part in

@@ -1,5 +1,5 @@
 -- Two beginnings of one list.
-use Rattle.std.proofs.Common.{◌≡◌, ◌≤◌, List, [], ◌∷◌, ◌++◌, length, refl, ap, sym, ◌∙◌, arith, append-nil}
+use Rattle.std.proofs.Common.{◌≡◌, ◌≤◌, List, [], ◌∷◌, length, refl, ap, ◌∙◌, arith, append-nil}
 use Rattle.curp_base.specs.Words.{IsPrefix}
 
 -- the shorter one begins the longer one

@@ -1,5 +1,5 @@
 -- Nodes and messages of one world.
-use Rattle.std.proofs.Common.{◌≡◌, ℕ, Some}
+use Rattle.std.proofs.Common.{◌≡◌}
 use Rattle.curp_cmd.specs.declared.node.NodeId.{NodeId}
 use Rattle.curp_msg.specs.Moved.{says}
 use Rattle.curp_msg.specs.declared.body.Body.{Body}

@@ -1,2 +1,3 @@
 pub mod Predecessors
 pub mod Along
+pub mod Answered
