@@ -8,3 +8,7 @@ pub mod Requests
 pub mod Synced
 pub mod Witnessed
 pub mod Pairs
+pub mod BackupsFollow
+pub mod MastersFollow
+pub mod EarlyReplies
+pub mod Collections
