@@ -12,3 +12,4 @@ pub mod BackupsFollow
 pub mod MastersFollow
 pub mod EarlyReplies
 pub mod Collections
+pub mod FirstNumbers
