@@ -1,0 +1,15 @@
+pub mod Words
+pub mod Lists
+pub mod Logs
+pub mod Prefixes
+pub mod Adoptions
+pub mod Along
+pub mod Requests
+pub mod Synced
+pub mod Witnessed
+pub mod Pairs
+pub mod BackupsFollow
+pub mod MastersFollow
+pub mod EarlyReplies
+pub mod Collections
+pub mod FirstNumbers

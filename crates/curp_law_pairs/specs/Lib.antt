@@ -1,0 +1,3 @@
+pub mod Predecessors
+pub mod Along
+pub mod Answered
