@@ -13,3 +13,6 @@ pub mod MastersFollow
 pub mod EarlyReplies
 pub mod Collections
 pub mod FirstNumbers
+pub mod Told
+pub mod Messages
+pub mod Said

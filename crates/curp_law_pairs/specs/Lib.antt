@@ -1,3 +1,4 @@
 pub mod Predecessors
 pub mod Along
 pub mod Answered
+pub mod EarlierGives
