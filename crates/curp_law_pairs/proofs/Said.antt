@@ -1,18 +1,19 @@
 -- What was said, and what recoveries and clients go by.
-use Rattle.std.proofs.Common.{◌≡◌, ℕ, suc, refl, Option, Some, None}
+use Rattle.std.proofs.Common.{◌≡◌, ℕ, suc, refl, ap, Option, Some, None}
 use Rattle.curp_base.specs.Words.{At, Each, numbered}
 use Rattle.curp_base.proofs.Lists.{Each-from_at, Each-weaker}
 use Rattle.curp_cmd.specs.declared.node.NodeId.{NodeId}
 use Rattle.curp_msg.specs.declared.config.PartConfig.{PartConfig}
-use Rattle.curp_model.specs.Client.{ClientState, Pending}
+use Rattle.curp_model.specs.Client.{Attempt, ClientState, Pending}
 use Rattle.curp_model.specs.Manager.{Doing, Recovering, Replacing, Steady}
 use Rattle.curp_model.specs.Named.{IsMaster}
 use Rattle.curp_model.specs.Recovery as recovery
 use Rattle.curp_model.specs.Recovery.{Asking, RecoveryPhase, RecoveryState, Storing, Waiting}
 use Rattle.curp_model.specs.World.{World}
-use Rattle.curp_facts.specs.Facts.{AttemptOk, AttemptWas, IsAdoptedNow, PhaseOk, SaidOk}
+use Rattle.curp_facts.specs.Facts.{AttemptOk, AttemptWas, EntryWas, IsAdoptedNow, PhaseOk, SaidOk, lists_of_part}
+use Rattle.curp_facts.specs.Evidence.{EvidenceOk, IsAttempt}
 use Rattle.curp_facts.specs.Invariant.{Invariant}
-use Rattle.curp_facts.specs.Nodes.{PendingOk, RecoveringOk, StageOk}
+use Rattle.curp_facts.specs.Nodes.{MayCome, RecoveringOk, StageOk}
 use Rattle.curp_law_names.specs.Names.{Names}
 use Rattle.curp_law_names.specs.Nodes.{Nodes}
 use Rattle.curp_law_names.proofs.Lists.{at_place}
@@ -47,7 +48,18 @@ module _ {w : World} (names : Names w) (inv : Invariant w) where
   sendings : (k : ℕ) (c : ClientState) → At w.clients k c → Each (λ (p : Pending). Each (AttemptWas w) p.attempts) c.pending
   sendings k c at =
       let ok = inv.clients (suc k) c at in
-      Each-weaker (PendingOk w (suc k) c) (λ (p : Pending). Each (AttemptWas w) p.attempts) (λ p own. own.attempts) c.pending ok.pending
+      Each-weaker (EvidenceOk (MayCome w (suc k)) (EntryWas w)) (λ (p : Pending). Each (AttemptWas w) p.attempts)
+      (λ p own. Each-weaker (IsAttempt (EntryWas w)) (AttemptWas w) (λ a k. attempted a k) p.attempts own.attempts) c.pending ok.knows.pending
+    where
+      attempted : (a : Attempt) → IsAttempt (EntryWas w) a → AttemptWas w a
+      attempted a k = record {
+        lists = lists_of_part k.part;
+        adopted = k.adopted.adopted;
+        its_master = ap (λ (x : Attempt). x.master) k.is;
+        its_epoch = ap (λ (x : Attempt). x.epoch) k.is;
+        its_version = ap (λ (x : Attempt). x.version) k.is;
+        its_witnesses = ap (λ (x : Attempt). x.witnesses) k.is;
+      }
 
   pub said_ok : Nodes w → Predecessors w → EarlierGives w → SaidOk w
   said_ok nodes chain earlier = record {

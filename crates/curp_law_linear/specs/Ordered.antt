@@ -1,0 +1,87 @@
+-- What a world keeps of the order: the facts of the small machine, of the adopted logs, and of reads.
+use Rattle.std.specs.Prelude.{◌≡◌, ◌≤◌, ◌<◌, ◌⊎◌, ℕ, true, List, Option, Some, None}
+use Rattle.curp_base.specs.Words.{At, Each}
+use Rattle.curp_cmd.specs.Node.{client_node}
+use Rattle.curp_cmd.specs.declared.command.Command.{Command}
+use Rattle.curp_cmd.specs.declared.command.RequestId.{RequestId}
+use Rattle.curp_cmd.specs.declared.entry.Entry.{Entry}
+use Rattle.curp_cmd.specs.declared.entry.Entry.TheVariants.{Op, Take, Give, Expire}
+use Rattle.curp_cmd.specs.declared.node.NodeId.{NodeId}
+use Rattle.curp_msg.specs.Moved.{says}
+use Rattle.curp_msg.specs.declared.body.Body.TheVariants as body
+use Rattle.curp_msg.specs.declared.body.Worth.{Worth}
+use Rattle.curp_msg.specs.declared.config.PartConfig.{PartConfig}
+use Rattle.curp_order.specs.declared.Event.TheVariants.{Invoke}
+use Rattle.curp_model.specs.Log.{log_opening}
+use Rattle.curp_model.specs.Marks.{Mark, Looked}
+use Rattle.curp_model.specs.Master.{Captured, MasterState}
+use Rattle.curp_model.specs.Named.{IsMaster}
+use Rattle.curp_model.specs.Recovery.{Serving}
+use Rattle.curp_model.specs.World.{World}
+use Rattle.curp_facts.specs.Facts.{IsAdoptedNow, Lists, WasAdopted, WasSent, hi_of, lo_of}
+use Rattle.curp_facts.specs.Kept.{AdoptedLog, PassedBy, lists_of_master}
+use Rattle.curp_facts.specs.Reach.{Reach}
+use Rattle.curp_facts.specs.Run.{NamesKey}
+use Rattle.curp_law_line.specs.Line.{LineOk, LookGives}
+use Rattle.curp_law_line.specs.OfWorld.{line_of}
+use Rattle.curp_law_logs.specs.Gives.{GivesFit}
+use Rattle.curp_law_routes.specs.Migrated.{AllStored}
+
+-- the number of the migration that an entry takes or gives
+abbrev pub moved_number : Entry → Option ℕ
+moved_number (Op r acknowledged) = None
+moved_number (Take migration taken) = Some migration
+moved_number (Give migration given) = Some migration
+moved_number (Expire client) = None
+
+-- takes and gives stand in the order of their numbers, each once
+abbrev pub MigrationsRise : List Entry → Type 0
+MigrationsRise log = (j k m n : ℕ) (d e : Entry) → j < k → At log j d → At log k e → moved_number d ≡ Some m → moved_number e ≡ Some n → m < n
+
+-- an adopted log: its takes and gives rise together, and each give fits at its place
+pub record AdoptedOk (w : World) (c : PartConfig) (l : AdoptedLog w c) : Type 0 where
+  pub rise : MigrationsRise l.its.log
+  pub fit : GivesFit (log_opening (lo_of w c.part) (hi_of w c.part)) 0 l.its.log
+
+-- ---- reads
+
+-- The mark of a look is that of a capture which its master has made, of its own partition and epoch, and of no other look of
+-- that master
+pub record LooksNumbered (w : World) : Type 0 where
+  pub made : (k number long : ℕ) (m : Mark) → At w.marks k m → m.place ≡ Looked number long
+      → (x : MasterState) × IsMaster w m.master (Serving x) × (number ≤ x.captured) × (x.part ≡ m.part) × (x.epoch ≡ m.epoch)
+  pub once : (j k number long other : ℕ) (m o : Mark) → At w.marks j m → At w.marks k o → m.place ≡ Looked number long → o.place ≡ Looked number other
+      → m.master ≡ o.master → j ≡ k
+
+-- a value that was sent is what its look gives, and each backup of each ready list, from one that was adopted on, has as many
+-- entries as the look saw
+pub record WorthOk (w : World) (node : NodeId) (v : Worth) : Type 0 where
+  pub lists : Lists
+  pub adopted : WasAdopted w lists
+  pub its_master : lists.master ≡ node
+  pub its_epoch : lists.epoch ≡ v.epoch
+  pub long : ℕ
+  pub look : LookGives w.marks (record { master = node; epoch = v.epoch; number = v.capture }) lists.part long v.id v.answer
+  pub reach : Reach w node lists.version long
+
+-- a capture that waits is that of a look, or it was passed by
+abbrev pub CaptureOk : World → NodeId → MasterState → Captured → Type 0
+CaptureOk w node m c =
+    LookGives w.marks (record { master = node; epoch = m.epoch; number = c.number }) m.part c.length c.id c.answer
+    ⊎ PassedBy w (lists_of_master node m) m c
+
+-- a look that is completed, or of an epoch before the present one, saw no more than each backup of the present list has
+abbrev pub LooksStored : World → Type 0
+LooksStored w = (k number long : ℕ) (m : Mark) (c : PartConfig) → At w.marks k m → m.place ≡ Looked number long → IsAdoptedNow w c → c.part ≡ m.part
+    → (m.completed ≡ true) ⊎ (m.epoch < c.epoch) → AllStored w c long
+
+-- ---- all together
+
+pub record Ordered (w : World) : Type 0 where
+  pub line : LineOk (line_of w)
+  pub commands : (i : ℕ) (id : RequestId) (command : Command) → At w.history i (Invoke id command) → NamesKey command
+  pub logs : (c : PartConfig) (l : AdoptedLog w c) → AdoptedOk w c l
+  pub numbered_looks : LooksNumbered w
+  pub worths : (node : NodeId) (v : Worth) → WasSent w (says node (client_node v.id.client) (body.Worth v)) → WorthOk w node v
+  pub captures : (node : NodeId) (m : MasterState) → IsMaster w node (Serving m) → Each (CaptureOk w node m) m.captures
+  pub stored : LooksStored w
