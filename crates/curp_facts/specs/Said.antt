@@ -21,6 +21,7 @@ use Rattle.curp_msg.specs.declared.body.Appended.{Appended}
 use Rattle.curp_msg.specs.declared.body.Body.{Body}
 use Rattle.curp_msg.specs.declared.body.Body.TheVariants as body
 use Rattle.curp_msg.specs.declared.body.Gc.{Gc}
+use Rattle.curp_msg.specs.declared.body.Parcel.{Parcel}
 use Rattle.curp_msg.specs.declared.body.Recover.{Recover}
 use Rattle.curp_msg.specs.declared.body.Recovered.{Recovered}
 use Rattle.curp_msg.specs.declared.body.Rejected.{Rejected}
@@ -32,7 +33,7 @@ use Rattle.curp_model.specs.Recovery.{replay}
 use Rattle.curp_model.specs.Witness.{WitnessState, frozen_requests, holds}
 use Rattle.curp_model.specs.World.{World}
 use Rattle.curp_facts.specs.Entries.{RequestOk, UpdateOk}
-use Rattle.curp_facts.specs.Facts.{AdoptedBefore, AppendOk, Collected, ConfigOk, FenceReplyOk, FrozenOk, HasLog, IsAmong, IsGiven, Lists, Logged, PreparedOk, RecoveredOk, Speaks, StoredOk, WasAdopted, WasSent, WasTaken}
+use Rattle.curp_facts.specs.Facts.{AdoptedBefore, AppendOk, Collected, ConfigOk, FenceReplyOk, FrozenOk, HasLog, IsAmong, IsGiven, Lists, Logged, PreparedOk, RecoveredOk, Speaks, StoredOk, WasAdopted, WasSent, WasTaken, IsMasterOf, WasOrdered}
 use Rattle.curp_facts.specs.Kept.{RefusalFirstOk}
 use Rattle.curp_facts.specs.Reach.{EarlySaid, GcSaid, IsReady, Reach, SyncedSaid}
 
@@ -114,6 +115,14 @@ IsTakeOf migration taken e = e ≡ Take migration taken
 -- the Give of a migration, or of a later one
 abbrev pub IsGiveFrom : ℕ → Entry → Type 0
 IsGiveFrom migration e = (number : ℕ) × (given : Package) × (migration ≤ number) × (e ≡ Give number given)
+
+-- the migration was ordered to be given to a master of the sender's partition
+pub record GiveWasOrdered (w : World) (from : NodeId) (migration : ℕ) : Type 0 where
+  pub part : ℕ
+  pub its_part : IsMasterOf w part from
+  pub parcel : Parcel
+  pub ordered : WasOrdered w part (body.GiveIn parcel)
+  pub its_number : parcel.migration ≡ migration
 
 -- the master was ordered to recover, by an order of which something holds
 abbrev pub IsOrderedTo : World → NodeId → (Recover → Type 0) → Type 0
@@ -205,5 +214,5 @@ Says w place from to (body.Adopted a) = AdoptedSaid w to a
 Says w place from to (body.Prepared version) = PreparedOk w from version
 Says w place from to (body.Taken t) = StoredEntry w from (IsTakeOf t.migration t.package)
 Says w place from to (body.GiveIn t) = WasTaken w t
-Says w place from to (body.Given migration) = StoredEntry w from (IsGiveFrom migration)
+Says w place from to (body.Given migration) = StoredEntry w from (IsGiveFrom migration) × GiveWasOrdered w from migration
 Says w place from to _ = ⊤

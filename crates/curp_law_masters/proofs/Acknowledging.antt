@@ -30,9 +30,9 @@ one_switch p s t first second = let same : Switching s ≡ Switching t = sym fir
 
 module _ (w : World) (n : ℕ) (m : MasterState) (ok : ServingOk w (master_node n) m) (from : NodeId) (heard : Option Body) where
   -- an open master settles
-  pub settles : (k : MasterState) → Parts w m.part k → k.phase ≡ Open → ListsMove n m from heard (settle n k).state (settle n k).messages → Move w n m ok from heard (settle n k)
+  pub settles : (k : MasterState) → k.part ≡ m.part → Parts w m.part k → k.phase ≡ Open → ListsMove n m from heard (settle n k).state (settle n k).messages → Move w n m ok from heard (settle n k)
   unfolding settle
-  settles k p serves lists = record {
+  settles k its p serves lists = record {
     log = (settle_parts w m.part n k p serves).log;
     acknowledged = (settle_parts w m.part n k p serves).acknowledged;
     free = (settle_parts w m.part n k p serves).free;
@@ -42,7 +42,7 @@ module _ (w : World) (n : ℕ) (m : MasterState) (ok : ServingOk w (master_node 
     lists = lists;
     reaches = λ s switches. absurd (open_switches k.phase s serves switches);
     since = λ s switches. absurd (open_switches k.phase s serves switches);
-    says = settle_says w m.part n k p serves;
+    says = settle_says w m.part n k p serves its;
     refused = refl;
     idle = refl;
   }
@@ -149,7 +149,7 @@ module _ (w : World) (n : ℕ) (m : MasterState) (ok : ServingOk w (master_node 
   not_prepared false e = refl
 
   goes : (at : Phase) → m.phase ≡ at → Move w n m ok from heard (goes_on n (learnt m from long round) at)
-  goes Open is = settles w n m ok from heard (learnt m from long round) parts_learnt is (lists_stay w n m ok from heard (learnt m from long round) refl refl refl refl)
+  goes Open is = settles w n m ok from heard (learnt m from long round) refl parts_learnt is (lists_stay w n m ok from heard (learnt m from long round) refl refl refl refl)
   goes (Switching s) is = cond_both (not s.prepared && all_have (raised m.acknowledged from long round) s.backups (length m.log) s.round) _ _ (Move w n m ok from heard)
       (λ y. let both = and_parts (not s.prepared) (all_have (raised m.acknowledged from long round) s.backups (length m.log) s.round) y in is_ready s is (not_prepared s.prepared both.0) both.1)
       (λ y. waits s is)

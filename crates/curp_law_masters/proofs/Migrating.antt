@@ -95,7 +95,7 @@ module _ (w : World) (n : ℕ) (m : MasterState) (ok : ServingOk w (master_node 
   give_moves g ordered firsts (Some last) is = cond_both (nat_le g.migration last.migration) _ _ Goes
       (λ y. told_moves last.index (says (master_node n) manager_node (body.Given g.migration)) (λ low. record {
         sender = refl;
-        says_so = (record { serves = serves; index = last.index; entry = Give last.migration is.0.0; stands = is.0.1; is = (last.migration, is.0.0, leb-true g.migration last.migration y, refl); below = low }, refl);
+        says_so = (record { serves = serves; index = last.index; entry = Give last.migration is.0.0; stands = is.0.1; is = (last.migration, is.0.0, leb-true g.migration last.migration y, refl); below = low }, refl, record { parcel = g; ordered = ordered; its_number = refl });
       }))
       (λ y. push_give_moves g ordered firsts (above_gives w m.part m.log ok.log last is g.migration (leb-false g.migration last.migration y)))
 

@@ -112,7 +112,7 @@ module _ (w : World) (n : ℕ) (m : MasterState) (ok : ServingOk w (master_node 
   lists_up = TakesUp s a refl same is prepared refl refl refl refl
 
   takes_up : Move w n m ok from (Some (body.Adopted a)) (settle n (taken_up m s))
-  takes_up = settles w n m ok from (Some (body.Adopted a)) (taken_up m s) parts_up refl lists_up
+  takes_up = settles w n m ok from (Some (body.Adopted a)) (taken_up m s) refl parts_up refl lists_up
 
 -- lists are adopted that it has said to be prepared: those to which it switches
 pub adopted_moves : (w : World) (n : ℕ) (m : MasterState) (ok : ServingOk w (master_node n) m) (from : NodeId) → ((s : Switch) → m.phase ≡ Switching s → 1 ≤ length s.backups)

@@ -1,14 +1,17 @@
 -- What a master says as it settles: each reply, value and migration is of entries that are synced.
-use Rattle.std.proofs.Common.{◌≡◌, ◌<◌, ℕ, ◌-◌, true, not, List, [], ◌∷◌, ◌++◌, map, nat_lt, slice_get, Option, Some, None, refl, arith}
+use Rattle.std.proofs.Common.{◌≡◌, ◌<◌, ℕ, ◌-◌, true, not, List, [], ◌∷◌, ◌++◌, map, nat_lt, slice_get, Option, Some, None, refl, arith, sym, subst}
 use Rattle.std.specs.List.{filter, flat_map}
 use Rattle.std.proofs.lemmas.Bool.{ltb-true}
 use Rattle.curp_base.specs.Words.{At, Each}
-use Rattle.curp_base.proofs.Lists.{Each-append, Each-map, Each-weaker, at_drop, at_take, prefix_self}
+use Rattle.curp_base.proofs.Lists.{Each-append, Each-at, Each-map, Each-weaker, at_drop, at_take, prefix_self}
 use Rattle.curp_cmd.specs.declared.entry.Entry.{Entry}
 use Rattle.curp_cmd.specs.declared.entry.Entry.TheVariants.{Op, Take, Give, Expire}
+use Rattle.curp_msg.specs.declared.body.Body.TheVariants as body
 use Rattle.curp_msg.specs.declared.message.Message.{Message}
 use Rattle.curp_model.specs.Master.{Captured, MasterState, Open, between, is_ready, moved_entry, settle, synced, synced_replies, synced_reply, value_of}
 use Rattle.curp_model.specs.World.{World}
+use Rattle.curp_facts.specs.Entries.{EntryOk}
+use Rattle.curp_facts.specs.Facts.{WasOrdered}
 use Rattle.curp_facts.specs.Nodes.{CapturedOk, IsOpAt}
 use Rattle.curp_law_masters.specs.Moves.{IsSaidBy, ServingSays}
 use Rattle.curp_law_masters.proofs.Among.{each_left}
@@ -79,29 +82,29 @@ module _ (w : World) (part n : ℕ) (k : MasterState) (p : Parts w part k) (serv
     says_so = record { serves = serves; its_epoch = refl; addressee = refl; place = ok.place; command = c.command; invoked = ok.invoked; reads = ok.reads };
   }
 
-  moved_said : (index : ℕ) (e : Entry) → At k.log index e → index < synced k → Each Said (moved_entry n e)
-  moved_said index (Take migration taken) at low = (
+  moved_said : k.part ≡ part → (index : ℕ) (e : Entry) → At k.log index e → index < synced k → Each Said (moved_entry n e)
+  moved_said its index (Take migration taken) at low = (
     record {
       sender = refl;
       says_so = (record { serves = serves; index = index; entry = Take migration taken; stands = at; is = refl; below = low }, refl);
     },
     tt,
   )
-  moved_said index (Give migration given) at low = (
+  moved_said its index (Give migration given) at low = (
     record {
       sender = refl;
-      says_so = (record { serves = serves; index = index; entry = Give migration given; stands = at; is = (migration, given, omega arith, refl); below = low }, refl);
+      says_so = (record { serves = serves; index = index; entry = Give migration given; stands = at; is = (migration, given, omega arith, refl); below = low }, refl, record { parcel = record { migration = migration; «package» = given }; ordered = subst (λ (q : ℕ). WasOrdered w q (body.GiveIn (record { migration = migration; «package» = given }))) (sym its) (Each-at (EntryOk w part) k.log p.log.entries index (Give migration given) at).0; its_number = refl });
     },
     tt,
   )
-  moved_said index (Op r acknowledged) at low = tt
-  moved_said index (Expire client) at low = tt
+  moved_said its index (Op r acknowledged) at low = tt
+  moved_said its index (Expire client) at low = tt
 
-  all_moved_said : Each Said (flat_map (moved_entry n) (between k.settled (synced k) k.log))
-  all_moved_said = each_flat Said (moved_entry n) (between k.settled (synced k) k.log) (each_among (λ e. Each Said (moved_entry n e)) (between k.settled (synced k) k.log) (λ e m.
+  all_moved_said : k.part ≡ part → Each Said (flat_map (moved_entry n) (between k.settled (synced k) k.log))
+  all_moved_said its = each_flat Said (moved_entry n) (between k.settled (synced k) k.log) (each_among (λ e. Each Said (moved_entry n e)) (between k.settled (synced k) k.log) (λ e m.
       let t = at_take (synced k - k.settled) _ m.place e m.stands in
       let d = at_drop k.settled k.log m.place e t.1 in
-      moved_said d.0 e d.2 (omega (arith, t.0, d.1))))
+      moved_said its d.0 e d.2 (omega (arith, t.0, d.1))))
 
   -- settling keeps what the master keeps
   pub settle_parts : Parts w part (settle n k).state
@@ -109,12 +112,12 @@ module _ (w : World) (part n : ℕ) (k : MasterState) (p : Parts w part k) (serv
   settle_parts = parts_settled
 
   -- and says what is synced
-  pub settle_says : AllSaid w n (settle n k).state (settle n k).messages
+  pub settle_says : k.part ≡ part → AllSaid w n (settle n k).state (settle n k).messages
   unfolding settle
-  settle_says =
+  settle_says its =
       let due : List ℕ = filter (λ index. nat_lt index (synced k)) k.held in
       let low : Each (λ (index : ℕ). index < synced k) due = Each-weaker (λ (x : ℕ). IsOpAt k.log x × (nat_lt x (synced k) ≡ true)) (λ (index : ℕ). index < synced k) (λ x y. ltb-true x (synced k) y.1) due (each_filtered (IsOpAt k.log) (λ index. nat_lt index (synced k)) k.held p.held) in
       let values : List Captured = filter (is_ready k) k.captures in
       Each-append Said (synced_replies n k due ++ map (value_of n k) values) (flat_map (moved_entry n) (between k.settled (synced k) k.log))
       (Each-append Said (synced_replies n k due) (map (value_of n k) values) (replies_said due low)
-      (Each-map Said (value_of n k) values (Each-weaker (CapturedOk w k) (λ c. Said (value_of n k c)) value_said values (each_left (CapturedOk w k) (is_ready k) k.captures p.captures)))) all_moved_said
+      (Each-map Said (value_of n k) values (Each-weaker (CapturedOk w k) (λ c. Said (value_of n k c)) value_said values (each_left (CapturedOk w k) (is_ready k) k.captures p.captures)))) (all_moved_said its)

@@ -21,6 +21,7 @@ use Rattle.curp_msg.specs.declared.body.Append.{Append}
 use Rattle.curp_msg.specs.declared.body.Body.{Body}
 use Rattle.curp_msg.specs.declared.body.Body.TheVariants as body
 use Rattle.curp_msg.specs.declared.body.Gc.{Gc}
+use Rattle.curp_msg.specs.declared.body.Parcel.{Parcel}
 use Rattle.curp_msg.specs.declared.body.Refuse.{Refuse}
 use Rattle.curp_msg.specs.declared.body.Reply.{Reply}
 use Rattle.curp_msg.specs.declared.body.Worth.{Worth}
@@ -146,6 +147,12 @@ pub record PreparedSays (m : MasterState) (version : ℕ) : Type 0 where
   pub its_version : s.version ≡ version
   pub prepared : s.prepared ≡ true
 
+-- the migration was ordered to be given to a master of the partition
+pub record GiveOrdered (w : World) (part migration : ℕ) : Type 0 where
+  pub parcel : Parcel
+  pub ordered : WasOrdered w part (body.GiveIn parcel)
+  pub its_number : parcel.migration ≡ migration
+
 -- what a serving master says, by the kind of the message. It says nothing else
 abbrev pub ServingSays : World → MasterState → NodeId → Body → Type 0
 ServingSays w m to (body.Reply r) = ReplySays m to r
@@ -155,7 +162,7 @@ ServingSays w m to (body.Append a) = AppendSays m to a
 ServingSays w m to (body.Gc g) = GcSays m to g
 ServingSays w m to (body.Prepared version) = PreparedSays m version × (to ≡ manager_node)
 ServingSays w m to (body.Taken t) = StoredSays m (IsTakeOf t.migration t.package) × (to ≡ manager_node)
-ServingSays w m to (body.Given migration) = StoredSays m (IsGiveFrom migration) × (to ≡ manager_node)
+ServingSays w m to (body.Given migration) = StoredSays m (IsGiveFrom migration) × (to ≡ manager_node) × GiveOrdered w m.part migration
 ServingSays w m to _ = ⊥
 
 -- a message of master n, of which something holds

@@ -23,7 +23,7 @@ use Rattle.curp_law_stays.proofs.Entries.{ordered_later, refusal_later, request_
 use Rattle.curp_law_stays.proofs.Keepers.{accepted_later, append_holds_later, append_later, appended_later, fence_reply_later, frozen_later}
 use Rattle.curp_law_stays.proofs.Prepared.{prepared_later, recovered_said_later}
 use Rattle.curp_law_stays.proofs.Replies.{entry_stored_later, gc_later, reply_later, worth_later}
-use Rattle.curp_law_stays.proofs.Words.{Follows, adopted_later, event_at, ready_later, sent_later}
+use Rattle.curp_law_stays.proofs.Words.{Follows, adopted_later, event_at, given_later, ready_later, sent_later}
 
 module _ {w v : World} (s : Follows w v) where
   pub ranges_later : (part : ℕ) (spans : List Span) → WereRanges w part spans → WereRanges v part spans
@@ -76,5 +76,14 @@ module _ {w v : World} (s : Follows w v) where
   says_later inv place from to (body.Prepared version) ok = prepared_later s inv from version ok
   says_later inv place from to (body.Taken t) ok = entry_stored_later s from (IsTakeOf t.migration t.package) ok
   says_later inv place from to (body.GiveIn t) ok = record { node = ok.node; told = sent_later s ok.told }
-  says_later inv place from to (body.Given migration) ok = entry_stored_later s from (IsGiveFrom migration) ok
+  says_later inv place from to (body.Given migration) ok = (
+    entry_stored_later s from (IsGiveFrom migration) ok.0,
+    record {
+      part = ok.1.part;
+      its_part = record { lists = ok.1.its_part.lists; given = given_later s ok.1.its_part.given; its_master = ok.1.its_part.its_master; its_part = ok.1.its_part.its_part };
+      parcel = ok.1.parcel;
+      ordered = ordered_later s ok.1.ordered;
+      its_number = ok.1.its_number;
+    },
+  )
   says_later inv place from to _ ok = tt
