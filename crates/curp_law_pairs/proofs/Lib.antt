@@ -16,3 +16,4 @@ pub mod FirstNumbers
 pub mod Told
 pub mod Messages
 pub mod Said
+pub mod Completed

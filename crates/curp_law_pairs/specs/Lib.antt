@@ -2,3 +2,4 @@ pub mod Predecessors
 pub mod Along
 pub mod Answered
 pub mod EarlierGives
+pub mod Updates
