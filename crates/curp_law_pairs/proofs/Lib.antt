@@ -17,3 +17,4 @@ pub mod Told
 pub mod Messages
 pub mod Said
 pub mod Completed
+pub mod Chain

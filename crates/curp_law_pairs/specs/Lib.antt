@@ -3,3 +3,4 @@ pub mod Along
 pub mod Answered
 pub mod EarlierGives
 pub mod Updates
+pub mod Adopting
