@@ -21,18 +21,18 @@ use Rattle.curp_model.specs.World.{World, messages}
 use Rattle.curp_facts.specs.Facts.{AcceptedOk, AppendAnswerOk, BodyOk, HasLog, IsAmong, MessageOk, ReplyOk, Served, SyncedOk, WasAdopted, hi_of, lo_of}
 use Rattle.curp_facts.specs.Invariant.{Invariant}
 use Rattle.curp_facts.specs.Reach.{Reach, SyncedSaid}
-use Rattle.curp_facts.specs.Said.{AcceptedSaid, AppendHolds, GcHolds, IsTakeOf, ReplyHolds, ReplySaid, Says}
+use Rattle.curp_facts.specs.Said.{AcceptedSaid, AppendHolds, GcHolds, IsGiveFrom, IsTakeOf, ReplyHolds, ReplySaid, Says}
 use Rattle.curp_law_logs.proofs.Early.{synced_stands}
 use Rattle.curp_law_logs.proofs.Frozen.{held_kept}
 use Rattle.curp_law_logs.proofs.Noted.{stands_here}
 use Rattle.curp_law_names.specs.Names.{IsOf, Names}
 use Rattle.curp_law_names.specs.Nodes.{MessageFits, Nodes}
 use Rattle.curp_law_names.proofs.Lists.{each_among}
-use Rattle.curp_law_pairs.specs.EarlierGives.{EarlierGives}
+use Rattle.curp_law_pairs.specs.GivenStand.{GivenStand}
 use Rattle.curp_law_pairs.specs.Predecessors.{Predecessors}
 use Rattle.curp_law_pairs.proofs.Logs.{begins, reached}
 use Rattle.curp_law_pairs.proofs.Requests.{held_there}
-use Rattle.curp_law_pairs.proofs.Told.{given_on_adopted, is_server, package_ok, taken_on_adopted}
+use Rattle.curp_law_pairs.proofs.Told.{is_server, package_ok, taken_on_adopted}
 use Rattle.curp_law_pairs.proofs.Words.{said}
 
 -- a node of a kind is a node
@@ -84,7 +84,7 @@ module _ {w : World} (names : Names w) (inv : Invariant w) where
       go true s = (ok.speaks, synced_ok from r s)
       go false e = ok.speaks
 
-  module _ (chain : Predecessors w) (earlier : EarlierGives w) where
+  module _ (chain : Predecessors w) (earlier : GivenStand w) where
     body_ok : (place : ℕ) (from to : NodeId) (b : Body) → At (messages w) place (says from to b) → Says w place from to b → BodyOk w from to b
     body_ok place from to (body.Append a) at ok = ok.holds
     body_ok place from to (body.Appended a) at ok = append_answer w from to a a.answer ok.1
@@ -98,7 +98,7 @@ module _ {w : World} (names : Names w) (inv : Invariant w) where
         (is_server from (IsTakeOf t.migration t.package) ok, package_ok from t.migration t.package ok, taken_on_adopted names inv chain from t.migration t.package ok)
     body_ok place from to (body.GiveIn t) at ok = (ok, package_ok ok.node t.migration t.package (said inv ok.node manager_node (body.Taken t) ok.told))
     body_ok place from to (body.Given migration) at ok =
-        (is_server from _ ok, given_on_adopted names inv chain earlier from to migration (record { place = place; stands = at }) ok)
+        (is_server from (IsGiveFrom migration) ok.0, earlier.stand from to migration (record { place = place; stands = at }))
     body_ok place from to (body.Recovered r) at ok = ok.holds
     body_ok place from to (body.Prepared version) at ok = ok
     body_ok place from to (body.Configuration config) at ok = ok

@@ -17,7 +17,7 @@ use Rattle.curp_facts.specs.Nodes.{MayCome, RecoveringOk, StageOk}
 use Rattle.curp_law_names.specs.Names.{Names}
 use Rattle.curp_law_names.specs.Nodes.{Nodes}
 use Rattle.curp_law_names.proofs.Lists.{at_place}
-use Rattle.curp_law_pairs.specs.EarlierGives.{EarlierGives}
+use Rattle.curp_law_pairs.specs.GivenStand.{GivenStand}
 use Rattle.curp_law_pairs.specs.Predecessors.{Predecessors}
 use Rattle.curp_law_pairs.proofs.Messages.{messages_ok}
 
@@ -61,7 +61,7 @@ module _ {w : World} (names : Names w) (inv : Invariant w) where
         its_witnesses = ap (λ (x : Attempt). x.witnesses) k.is;
       }
 
-  pub said_ok : Nodes w → Predecessors w → EarlierGives w → SaidOk w
+  pub said_ok : Nodes w → Predecessors w → GivenStand w → SaidOk w
   said_ok nodes chain earlier = record {
     messages_ok = messages_ok names inv chain earlier nodes;
     recoveries = recoveries;

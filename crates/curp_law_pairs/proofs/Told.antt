@@ -18,7 +18,6 @@ use Rattle.curp_facts.specs.Reach.{Reach}
 use Rattle.curp_facts.specs.Said.{IsGiveFrom, IsTakeOf, StoredEntry}
 use Rattle.curp_law_logs.proofs.Logs.{prefix_take}
 use Rattle.curp_law_names.specs.Names.{Names}
-use Rattle.curp_law_pairs.specs.EarlierGives.{EarlierGives}
 use Rattle.curp_law_pairs.specs.Predecessors.{Predecessors}
 use Rattle.curp_law_pairs.proofs.Along.{reach_along}
 
@@ -62,11 +61,3 @@ module _ {w : World} (names : Names w) (inv : Invariant w) (chain : Predecessors
   taken_on_adopted from migration p s =
       on_adopted from (IsTakeOf migration p) s s.index (Take migration p) (omega arith) (subst (At s.l.log s.index) s.is s.stands) (TakeStands migration p)
       (λ log at. record { place = s.index; stands = at })
-
-  -- and what was given does, where its give stands before a later one
-  pub given_on_adopted : EarlierGives w → (from to : NodeId) (migration : ℕ) → WasSent w (says from to (body.Given migration)) → StoredEntry w from (IsGiveFrom migration)
-      → FromPart w from (λ n. OnAdopted w n (GiveStands migration))
-  given_on_adopted earlier from to migration sent s =
-      let later : At s.l.log s.index (Give s.is.0 s.is.1) = subst (At s.l.log s.index) s.is.3 s.stands in
-      let g = earlier.stands from to migration sent s.l s.its_log s.index s.is.0 s.is.1 later s.is.2 in
-      on_adopted from (IsGiveFrom migration) s g.0 (Give migration g.1) g.2 g.3 (GiveStands migration) (λ log at. (g.1, record { place = g.0; stands = at }))

@@ -1,6 +1,6 @@
 pub mod Predecessors
 pub mod Along
 pub mod Answered
-pub mod EarlierGives
+pub mod GivenStand
 pub mod Updates
 pub mod Adopting
