@@ -41,3 +41,4 @@ pub mod Values
 pub mod ReadsKept
 pub mod Growing
 pub mod Stores
+pub mod Discharged
