@@ -1,0 +1,165 @@
+-- An input to a client is at most one move: a request is invoked, or completes.
+use Rattle.std.proofs.Common.{◌≡◌, ◌≢◌, ◌⊎◌, inl, inr, ℕ, zero, suc, ◌+◌, ◌<◌, ◌≤◌, ◌&&◌, ◌==◌, Bool, true, false, List, [], ◌∷◌, ◌++◌, append-nil, append_assoc, map, flat_map, length, refl, ap, sym, ◌∙◌, subst, arith, Option, Some, None}
+use Rattle.std.specs.Bool.{⊤}
+use Rattle.std.proofs.lemmas.Bool.Decides.{nat_tests}
+use Rattle.curp_base.specs.Words.{At, Each, numbered}
+use Rattle.curp_base.proofs.Lists.{Each-at, at_some}
+use Rattle.curp_cmd.specs.Node.{client_node, same_node}
+use Rattle.curp_cmd.specs.RequestId.{same_id}
+use Rattle.curp_cmd.specs.Store.{is_update}
+use Rattle.curp_cmd.specs.declared.command.Answer.{Answer}
+use Rattle.curp_cmd.specs.declared.command.Command.{Command}
+use Rattle.curp_cmd.specs.declared.command.Request.{Request}
+use Rattle.curp_cmd.specs.declared.command.RequestId.{RequestId}
+use Rattle.curp_cmd.specs.declared.node.NodeId.{NodeId}
+use Rattle.curp_cmd.proofs.Ids.{same_id-self}
+use Rattle.curp_cmd.proofs.Nodes.{same_node-self, same_node-true}
+use Rattle.curp_msg.specs.Moved.{Moved, says}
+use Rattle.curp_msg.specs.declared.body.Body.{Body}
+use Rattle.curp_msg.specs.declared.body.Body.TheVariants as body
+use Rattle.curp_msg.specs.declared.body.Worth.{Worth}
+use Rattle.curp_msg.specs.declared.config.PartConfig.{PartConfig}
+use Rattle.curp_msg.specs.declared.machine.Capture.{Capture}
+use Rattle.curp_msg.specs.declared.machine.Completed.{Completed}
+use Rattle.curp_msg.specs.declared.message.Message.{Message}
+use Rattle.curp_order.specs.declared.Event.{Event}
+use Rattle.curp_order.specs.declared.Event.TheVariants.{Invoke, Complete}
+use Rattle.curp_model.specs.Log.{IsDone}
+use Rattle.curp_model.specs.Manager.{ManagerState, Shape}
+use Rattle.curp_model.specs.Marks.{Mark, Place, Executed, Looked, flagged, is_capture, is_flagged, is_update_mark}
+use Rattle.curp_model.specs.Ranges.{opening_range}
+use Rattle.curp_model.specs.Recovery.{MasterStage}
+use Rattle.curp_model.specs.World.{World, messages, with_completion}
+use Rattle.curp_facts.specs.Facts.{Completable, HasLog, IsAdoptedNow, IsGiven, Lists, WasSent, hi_of, lists_of_part, lo_of}
+use Rattle.curp_facts.specs.Kept.{AdoptedLog}
+use Rattle.curp_law_kept.proofs.Known.{Known}
+use Rattle.curp_law_line.specs.Hashes.{Part}
+use Rattle.curp_law_line.specs.Line as line
+use Rattle.curp_law_line.specs.Line.{Line, LineOk, LookGives}
+use Rattle.curp_law_line.proofs.Given.{LogsOk}
+use Rattle.curp_law_line.specs.Moves.{AllFit, CompleteFits, Completes, FlagFits, Flags, InvokeFits, Invokes, Move, flags_mark}
+use Rattle.curp_law_line.specs.OfWorld.{entries_at, line_of, moving_of, part_of, told_by}
+use Rattle.curp_law_linear.specs.Ordered.{LooksNumbered, Ordered, WorthOk}
+use Rattle.curp_law_linear.specs.Refined.{Refines}
+use Rattle.curp_law_linear.proofs.Parts.{adopted_or_none, entry_part, line_logs, part_log}
+use Rattle.curp_law_routes.specs.Migrated.{Migrated, OpStored}
+use Rattle.curp_law_pairs.specs.Predecessors.{Predecessors}
+use Rattle.curp_law_pairs.specs.Answered.{AnsweredBy}
+use Rattle.curp_law_pairs.proofs.Pairs.{completable_at, completable_stands, stands_along}
+
+module _ {w : World} (known : Known w) (chain : Predecessors w) (migrated : Migrated w) (ordered : Ordered w) where
+  logs : LogsOk (line_of w).parts
+  logs = line_logs known ordered
+
+  -- ---- updates
+
+  -- an op that stands in an adopted log stands in that partition of the machine
+  done_part : (c : PartConfig) (l : AdoptedLog w c) (id : RequestId) (a : Answer) → IsDone (lo_of w c.part) (hi_of w c.part) l.its.log id a
+      → (p : Part) × (numbered (line_of w).parts c.part ≡ Some p) × IsDone p.lo p.hi p.log id a
+  done_part c l id a done = (
+    part_of w c,
+    entry_part known c l.now,
+    subst (λ (es : List Entry). IsDone (lo_of w c.part) (hi_of w c.part) es id a) (sym (part_log known c l)) done,
+  )
+
+  stored_part : (id : RequestId) (a : Answer) → OpStored w id a → (n : ℕ) × (p : Part) × (numbered (line_of w).parts n ≡ Some p) × IsDone p.lo p.hi p.log id a
+  stored_part id a o = let d = done_part o.part o.its id a o.done in (o.part.part, d.0, d.1, d.2)
+
+  -- the entry of a partition, and its adopted log where something of the partition was answered
+  entry_of : (l : Lists) → IsGiven w l → (c : PartConfig) × IsAdoptedNow w c × (c.part ≡ l.part)
+  entry_of l given = go l.part (known.names.given l given).part.0 (known.names.given l given).part.1
+    where
+      go : (n : ℕ) → 1 ≤ n → n ≤ w.manager.shape.parts → (c : PartConfig) × IsAdoptedNow w c × (c.part ≡ n)
+      go zero low high = absurd (omega (arith, low))
+      go (suc k) low high =
+          let found = at_some w.manager.config.parts k (omega (arith, high, known.names.numbers.parts)) in
+          let its : found.0.part ≡ suc k = omega (arith, known.names.entries k found.0 found.1) in
+          (found.0, subst (λ (n : ℕ). numbered w.manager.config.parts n ≡ Some found.0) (sym its) found.1, its)
+
+  answered_log : (c : PartConfig) → IsAdoptedNow w c → (id : RequestId) (a : Answer) → AnsweredBy w c.part id a → AdoptedLog w c
+  answered_log c now id a k =
+      let top = known.names.top c now in
+      elim (cases_lt k.lists.epoch c.epoch) [
+        | inl later ↦ let h = stands_along known.names known.inv chain c.part id a k (lists_of_part c) top.was refl later in record { now = now; its = h.its; its_log = h.its_log }
+        | inr not_later ↦
+          let low = top.epochs k.lists k.adopted k.its_part in
+          let master : c.master ≡ k.lists.master = (known.names.agree (lists_of_part c) k.lists top.was.given k.adopted.given).by_epoch (sym k.its_part) (omega (arith, low, not_later)) in
+          record { now = now; its = k.its; its_log = subst (λ (node : NodeId). HasLog w node k.its) (sym master) k.its_log }
+      ]
+
+  -- what can complete stands as an op in some adopted log
+  pub completable_done : (part : ℕ) (id : RequestId) (a : Answer) → Completable w part id a → (n : ℕ) × (p : Part) × (numbered (line_of w).parts n ≡ Some p) × IsDone p.lo p.hi p.log id a
+  completable_done part id a can =
+      let k : AnsweredBy w part id a = completable_at known.names known.inv part id a can in
+      let e = entry_of k.lists k.adopted.given in
+      let same : part ≡ e.0.part = sym k.its_part ∙ sym e.2 in
+      let l : AdoptedLog w e.0 = answered_log e.0 e.1 id a (subst (λ (n : ℕ). AnsweredBy w n id a) same k) in
+      elim (completable_stands known.names known.inv chain e.0 e.1 id a (subst (λ (n : ℕ). Completable w n id a) same can) l.its l.its_log) [
+        | inl done ↦ let d = done_part e.0 l id a done in (e.0.part, d.0, d.1, d.2)
+        | inr brought ↦ stored_part id a (migrated.brought e.0 l brought.index brought.migration brought.brought id a brought.stands (record { place = brought.place; stands = brought.its_record }))
+      ]
+
+  -- ---- completions
+
+  -- an update completes by an op in an adopted log
+  pub update_fits : (id : RequestId) (a : Answer) → (part : ℕ) → Completable w part id a → (i : ℕ) (c : Command) → At w.history i (Invoke id c) → (line.IsCompleted w.history id → ⊥) → CompleteFits (line_of w) id a
+  update_fits id a part can i c invoked waits =
+      let d = completable_done part id a can in
+      record { part = d.0; p = d.1; here = d.2; done = d.3; was_invoked = (i, c, invoked); waits = waits }
+
+  -- a read completes by the mark of the look whose value it was sent
+  pub read_fits : (node : NodeId) (v : Worth) → WasSent w (says node (client_node v.id.client) (body.Worth v)) → (line.IsCompleted w.history v.id → ⊥)
+      → FlagFits (line_of w) (record { master = node; epoch = v.epoch; number = v.capture }) v.id v.answer
+  read_fits node v sent waits =
+      let ok : WorthOk w node v = ordered.worths node v sent in
+      record {
+        place = ok.look.place;
+        m = ok.look.mark;
+        stands = ok.look.stands;
+        looks = ap is_update_mark ok.look.is_look;
+        hits = hits ok.look.mark ok.look.its_id ok.look.its_master ok.look.its_epoch ok.long ok.look.is_look;
+        only = λ k o at flags. let f = flags_look o flags in ordered.numbered_looks.once k ok.look.place v.capture f.1.0 ok.long o ok.look.mark at ok.look.stands f.1.1 ok.look.is_look (f.0 ∙ sym ok.look.its_master);
+        waits = waits;
+        gives = ok.look.gives;
+      }
+    where
+      by : Capture
+      by = record { master = node; epoch = v.epoch; number = v.capture }
+
+      hits : (m : Mark) → m.id ≡ v.id → m.master ≡ node → m.epoch ≡ v.epoch → (long : ℕ) → m.place ≡ Looked v.capture long → flags_mark by v.id v.answer m ≡ true
+      hits m id master epoch long place = go (same_id-true_of id) (same_node-true_of master) (eqb_of epoch) (capture_of place)
+        where
+          same_id-true_of : m.id ≡ v.id → same_id m.id v.id ≡ true
+          same_id-true_of e = subst (λ (x : RequestId). same_id x v.id ≡ true) (sym e) (same_id-self v.id)
+
+          same_node-true_of : m.master ≡ node → same_node m.master node ≡ true
+          same_node-true_of e = subst (λ (x : NodeId). same_node x node ≡ true) (sym e) (same_node-self node)
+
+          eqb_of : m.epoch ≡ v.epoch → (m.epoch == v.epoch) ≡ true
+          eqb_of e = grind (arith, nat_tests)
+
+          capture_of : m.place ≡ Looked v.capture long → is_capture v.capture m.place ≡ true
+          capture_of e = subst (λ (x : Place). is_capture v.capture x ≡ true) (sym e) (eqb_self v.capture)
+            where
+              eqb_self : (n : ℕ) → (n == n) ≡ true
+              eqb_self n = grind (arith, nat_tests)
+
+          go : {a b c d : Bool} → a ≡ true → b ≡ true → c ≡ true → d ≡ true → (a && b && c && d) ≡ true
+          go p q r s = cc
+
+      -- a mark that the completion flags is of that capture
+      flags_look : (o : Mark) → flags_mark by v.id v.answer o ≡ true → (o.master ≡ node) × ((long : ℕ) × (o.place ≡ Looked v.capture long))
+      flags_look o flags =
+          let t = all_true (same_id o.id v.id) (same_node o.master node) (o.epoch == v.epoch) (is_capture v.capture o.place) flags in
+          (same_node-true o.master node t.0, capture_is o.place t.1)
+        where
+          all_true : (a b c d : Bool) → (a && b && c && d) ≡ true → (b ≡ true) × (d ≡ true)
+          all_true true true true true e = (refl, refl)
+          all_true true true true false e = absurd cc
+          all_true true true false d e = absurd cc
+          all_true true false c d e = absurd cc
+          all_true false b c d e = absurd cc
+
+          capture_is : (x : Place) → is_capture v.capture x ≡ true → (long : ℕ) × (x ≡ Looked v.capture long)
+          capture_is (Executed index) e = absurd cc
+          capture_is (Looked number long) e = let same : number ≡ v.capture = grind (arith, nat_tests) in (long, ap (λ (n : ℕ). Looked n long) same)
