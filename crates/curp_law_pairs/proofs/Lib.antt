@@ -18,3 +18,4 @@ pub mod Messages
 pub mod Said
 pub mod Completed
 pub mod Chain
+pub mod Adopted
