@@ -1,5 +1,5 @@
 -- What an input adopts: lists that were adopted, or those that the manager's word of adoption names.
-use Rattle.std.proofs.Common.{◌≡◌, ◌⊎◌, inl, inr, ℕ, ◌+◌, ◌<◌, ◌≤◌, List, [], refl, ap, sym, ◌∙◌, subst, arith}
+use Rattle.std.proofs.Common.{◌≡◌, ◌⊎◌, inl, inr, ◌<◌, List, [], sym, subst, arith}
 use Rattle.curp_base.specs.Words.{At}
 use Rattle.curp_cmd.specs.Node.{manager_node}
 use Rattle.curp_cmd.specs.declared.node.NodeId.{NodeId}
@@ -8,14 +8,13 @@ use Rattle.curp_msg.specs.declared.body.Adopted.{Adopted}
 use Rattle.curp_msg.specs.declared.body.Body.{Body}
 use Rattle.curp_msg.specs.declared.body.Body.TheVariants as body
 use Rattle.curp_msg.specs.declared.message.Message.{Message}
-use Rattle.curp_msg.specs.declared.config.PartConfig.{PartConfig}
 use Rattle.curp_model.specs.Manager.{Shape, opening_config}
 use Rattle.curp_model.specs.World.{World, messages}
 use Rattle.curp_facts.specs.Facts.{AtOpening, ByRecovery, ByReplacement, IsGiven, Lists, WasAdopted, WasSent}
 use Rattle.curp_facts.specs.Invariant.{Invariant}
 use Rattle.curp_law_names.specs.Names.{AdoptedOk, Names, OrderOk, PrepareOk}
 use Rattle.curp_law_names.proofs.Later.{Later, adopted_later}
-use Rattle.curp_law_pairs.specs.Adopting.{Adopts, Comes}
+use Rattle.curp_law_pairs.specs.Adopting.{Adopts}
 use Rattle.curp_law_pairs.specs.Predecessors.{Predecessor, Predecessors}
 use Rattle.curp_law_pairs.proofs.Chain.{chain_later}
 use Rattle.curp_law_pairs.proofs.Lists.{opening_epoch}
@@ -46,11 +45,11 @@ module _ {w v : World} (names : Names w) (later_names : Names v) (s : Later w v)
       same = (later_names.agree ok.lists l there.given was.given).by_version ok.its_master (sym ok.its_version)
 
   -- so an input adopts what its words of adoption name
-  pub adopted_back : (IsNew : Lists → Type 0) → ((l : Lists) → WasSent v (says manager_node l.master (body.Adopted (adopted_word l))) → AdoptedOk w l.master (adopted_word l) ⊎ IsNew l)
+  pub adopted_back : (IsNew : Lists → Type 0) → ((l : Lists) → IsGiven v l → WasSent v (says manager_node l.master (body.Adopted (adopted_word l))) → AdoptedOk w l.master (adopted_word l) ⊎ IsNew l)
       → (l : Lists) → WasAdopted v l → WasAdopted w l ⊎ IsNew l
   adopted_back IsNew told l was = elim was.told [
     | inl one ↦ inl (record { given = first_given l was.given one; told = inl one })
-    | inr sent ↦ elim (told l sent) [
+    | inr sent ↦ elim (told l was.given sent) [
       | inl ok ↦ inl (old_adopted l was ok)
       | inr new ↦ inr new
     ]
@@ -59,7 +58,7 @@ module _ {w v : World} (names : Names w) (later_names : Names v) (s : Later w v)
   -- where the manager says no more, nothing is adopted
   pub nothing_adopted : ((node : NodeId) (b : Body) → WasSent v (says manager_node node b) → WasSent w (says manager_node node b)) → Adopts w v (λ l. ⊥)
   nothing_adopted no_more = record {
-    back = adopted_back (λ l. ⊥) (λ l sent. inl (names.manager_says l.master (body.Adopted (adopted_word l)) (no_more l.master _ sent)));
+    back = adopted_back (λ l. ⊥) (λ l given sent. inl (names.manager_says l.master (body.Adopted (adopted_word l)) (no_more l.master _ sent)));
     comes = λ l new. absurd new;
     one = λ l k new too. absurd new;
   }

@@ -19,3 +19,5 @@ pub mod Said
 pub mod Completed
 pub mod Chain
 pub mod Adopted
+pub mod Uttered
+pub mod ManagerChain
