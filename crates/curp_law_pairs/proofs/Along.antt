@@ -2,8 +2,8 @@
 use Rattle.std.proofs.Common.{◌≡◌, inl, inr, ℕ, zero, suc, ◌+◌, ◌<◌, ◌≤◌, List, length, take, sym, ◌∙◌, subst, arith}
 use Rattle.std.proofs.lemmas.Bool.{cases_lt}
 use Rattle.std.proofs.lemmas.List.{length-take-le}
-use Rattle.curp_base.specs.Words.{IsPrefix}
-use Rattle.curp_base.proofs.Lists.{Each-at, Each-weaker, prefix_trans}
+use Rattle.curp_base.specs.Words.{At, IsPrefix}
+use Rattle.curp_base.proofs.Lists.{Each-at, Each-weaker, prefix_at, prefix_back, prefix_trans}
 use Rattle.curp_cmd.specs.declared.entry.Entry.{Entry}
 use Rattle.curp_cmd.specs.declared.node.NodeId.{NodeId}
 use Rattle.curp_model.specs.Backup.{BackupState}
@@ -25,6 +25,20 @@ use Rattle.curp_law_pairs.proofs.Adoptions.{adoptions_ok}
 use Rattle.curp_law_pairs.proofs.Lists.{versions_rise}
 use Rattle.curp_law_pairs.proofs.Logs.{begins, reached}
 use Rattle.curp_law_pairs.proofs.Prefixes.{prefix_shorter}
+
+-- what stands below a number stands among the first so many
+at_front : {A : Type 0} (n : ℕ) (xs : List A) (k : ℕ) (x : A) → n ≤ length xs → k < n → At xs k x → At (take n xs) k x
+at_front n xs k x low within at = prefix_back (prefix_take n xs) k x (omega (arith, within, length-take-le n xs low)) at
+
+-- what follows of each log holds too
+pub holds_weaker : {w : World} (l : Lists) (P Q : List Entry → Type 0) → ((log : List Entry) → P log → Q log) → HoldsOn w l P → HoldsOn w l Q
+holds_weaker {w} l P Q f h = record {
+  its = h.its;
+  its_log = h.its_log;
+  in_log = f h.its.log h.in_log;
+  on_all = Each-weaker (λ node. (b : BackupState) → IsBackup w node b → P b.log) (λ node. (b : BackupState) → IsBackup w node b → Q b.log)
+      (λ node p b is. f b.log (p b is)) l.backups h.on_all;
+}
 
 module _ {w : World} (names : Names w) (inv : Invariant w) (chain : Predecessors w) where
   -- what any pair of a master's last lists gives stands in each later epoch
@@ -98,3 +112,10 @@ module _ {w : World} (names : Names w) (inv : Invariant w) (chain : Predecessors
       start j adopted master last node other named named_too b x is its_witness =
           let agree = (names.agree k j first.given adopted.given).by_master (sym master) in
           prefix_trans (on_backup j adopted master (last k first agree.0 (omega (arith, agree.1))) node named b is) (replay_prefix (lo_of w j.part) (hi_of w j.part) (frozen_requests x) b.log)
+
+  -- so each entry below that number stands there
+  pub entry_along : (k : Lists) → WasAdopted w k → (its : Logged) → HasLog w k.master its → (n : ℕ) → n ≤ length its.log → Reach w k.master k.version n
+      → (i : ℕ) (e : Entry) → i < n → At its.log i e → (l : Lists) → WasAdopted w l → l.part ≡ k.part → k.version ≤ l.version → HoldsOn w l (λ log. At log i e)
+  entry_along k first its has n low reach i e within at l was part above =
+      holds_weaker l (IsPrefix (take n its.log)) (λ log. At log i e) (λ log front. prefix_at front i e (at_front n its.log i e low within at))
+      (reach_along k first its has n low reach l was part above)

@@ -18,3 +18,6 @@ pub mod Messages
 pub mod Said
 pub mod Completed
 pub mod Chain
+pub mod Adopted
+pub mod Uttered
+pub mod ManagerChain

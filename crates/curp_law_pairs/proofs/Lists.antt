@@ -18,12 +18,13 @@ use Rattle.curp_law_names.proofs.Lists.{at_mapped}
 use Rattle.curp_law_pairs.specs.Predecessors.{Predecessors}
 use Rattle.curp_law_pairs.proofs.Words.{said}
 
-module _ {w : World} (names : Names w) where
-  opening_epoch : (k : ℕ) (c : PartConfig) → At (opening_config w.manager.shape).parts k c → c.epoch ≡ 1
-  opening_epoch k c at =
-      let o = at_mapped (opening_part w.manager.shape) (numbers_from 1 w.manager.shape.parts) k c at in
-      sym (ap (λ (x : PartConfig). x.epoch) o.2)
+-- lists of the opening have the first epoch
+pub opening_epoch : (w : World) (k : ℕ) (c : PartConfig) → At (opening_config w.manager.shape).parts k c → c.epoch ≡ 1
+opening_epoch w k c at =
+    let o = at_mapped (opening_part w.manager.shape) (numbers_from 1 w.manager.shape.parts) k c at in
+    sym (ap (λ (x : PartConfig). x.epoch) o.2)
 
+module _ {w : World} (names : Names w) where
   -- an order to recover is the first of its master's lists
   pub order_first : (l : Lists) → IsGiven w l → (o : Recover) → WasSent w (says manager_node l.master (body.Recover o)) → o.version ≤ l.version
   order_first l given o sent = go (l.version + 1) l given sent (omega arith)
@@ -35,7 +36,7 @@ module _ {w : World} (names : Names w) where
           let home : OrderOk w c.master o = names.manager_says c.master (body.Recover o) sent in
           let agree = names.agree (lists_of_part c) (lists_of_order c.master o) (AtOpening k c at) (ByRecovery c.master o sent) in
           let ok = names.given home.before home.was.given in
-          absurd (omega (arith, opening_epoch k c at, (agree.by_master refl).1, home.earlier, ok.epoch.0))
+          absurd (omega (arith, opening_epoch w k c at, (agree.by_master refl).1, home.earlier, ok.epoch.0))
       go (suc n) _ (ByRecovery node q ordered) sent low = let same : o ≡ q = names.one_order node o q sent ordered in omega (arith, ap (λ (x : Recover). x.version) same)
       go (suc n) _ (ByReplacement old p before ordered) sent low =
           let ok : PrepareOk w old.master p = names.manager_says old.master (body.Prepare p) ordered in

@@ -1,29 +1,21 @@
 -- What was told of a migration stands on each backup of the adopted list of the sender's partition.
-use Rattle.std.proofs.Common.{◌≡◌, ℕ, ◌+◌, ◌<◌, ◌≤◌, List, length, take, refl, sym, ◌∙◌, subst, arith}
-use Rattle.curp_base.specs.Words.{At, IsPrefix}
-use Rattle.curp_base.proofs.Lists.{Each-weaker, at_within, prefix_at, prefix_back}
-use Rattle.std.proofs.lemmas.List.{length-take-le}
+use Rattle.std.proofs.Common.{◌≡◌, ℕ, ◌+◌, ◌≤◌, List, refl, sym, ◌∙◌, subst, arith}
+use Rattle.curp_base.specs.Words.{At}
+use Rattle.curp_base.proofs.Lists.{at_within}
 use Rattle.curp_cmd.specs.declared.entry.Entry.{Entry}
 use Rattle.curp_cmd.specs.declared.entry.Entry.TheVariants.{Take, Give}
 use Rattle.curp_cmd.specs.declared.migration.Package.{Package}
 use Rattle.curp_cmd.specs.declared.node.NodeId.{NodeId}
 use Rattle.curp_msg.specs.Moved.{says}
 use Rattle.curp_msg.specs.declared.body.Body.TheVariants as body
-use Rattle.curp_model.specs.Backup.{BackupState}
-use Rattle.curp_model.specs.Named.{IsBackup}
 use Rattle.curp_model.specs.World.{World}
 use Rattle.curp_facts.specs.Facts.{FromPart, GiveStands, HasLog, IsServer, OnAdopted, PackageOk, TakeStands, WasSent, lists_of_part}
 use Rattle.curp_facts.specs.Invariant.{Invariant}
 use Rattle.curp_facts.specs.Reach.{Reach}
 use Rattle.curp_facts.specs.Said.{IsGiveFrom, IsTakeOf, StoredEntry}
-use Rattle.curp_law_logs.proofs.Logs.{prefix_take}
 use Rattle.curp_law_names.specs.Names.{Names}
 use Rattle.curp_law_pairs.specs.Predecessors.{Predecessors}
-use Rattle.curp_law_pairs.proofs.Along.{reach_along}
-
--- what stands below a number stands among the first so many
-at_front : {A : Type 0} (n : ℕ) (xs : List A) (k : ℕ) (x : A) → n ≤ length xs → k < n → At xs k x → At (take n xs) k x
-at_front n xs k x low within at = prefix_back (prefix_take n xs) k x (omega (arith, within, length-take-le n xs low)) at
+use Rattle.curp_law_pairs.proofs.Along.{entry_along, holds_weaker}
 
 -- its sender has served
 pub is_server : {w : World} (from : NodeId) (Is : Entry → Type 0) → StoredEntry w from Is → IsServer w from
@@ -51,10 +43,8 @@ module _ {w : World} (names : Names w) (inv : Invariant w) (chain : Predecessors
       let within = at_within s.l.log s.index s.entry s.stands in
       let top = names.top c now in
       let its_part : c.part ≡ s.lists.part = part ∙ ((names.agree l s.lists given s.adopted.given).by_master (master ∙ sym s.its_master)).0 in
-      let o = reach_along names inv chain s.lists s.adopted s.l has_log (s.index + 1) (omega (arith, within)) reach (lists_of_part c) top.was its_part (top.versions s.lists s.adopted (sym its_part)) in
-      Each-weaker (λ node. (b : BackupState) → IsBackup w node b → IsPrefix (take (s.index + 1) s.l.log) b.log) (λ node. (b : BackupState) → IsBackup w node b → Has b.log)
-      (λ node front b is. has b.log (prefix_at (front b is) k e (at_front (s.index + 1) s.l.log k e (omega (arith, within)) (omega (arith, low)) at)))
-      c.backups o.on_all
+      let o = entry_along names inv chain s.lists s.adopted s.l has_log (s.index + 1) (omega (arith, within)) reach k e (omega (arith, low)) at (lists_of_part c) top.was its_part (top.versions s.lists s.adopted (sym its_part)) in
+      (holds_weaker (lists_of_part c) (λ log. At log k e) Has has o).on_all
 
   -- what was taken does
   pub taken_on_adopted : (from : NodeId) (migration : ℕ) (p : Package) → StoredEntry w from (IsTakeOf migration p) → FromPart w from (λ n. OnAdopted w n (TakeStands migration p))
