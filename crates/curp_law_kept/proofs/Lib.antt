@@ -5,3 +5,4 @@ pub mod Witnesses
 pub mod MastersHeard
 pub mod MastersMoves
 pub mod MastersReady
+pub mod MastersKept
