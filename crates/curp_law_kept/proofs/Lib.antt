@@ -6,3 +6,6 @@ pub mod MastersHeard
 pub mod MastersMoves
 pub mod MastersReady
 pub mod MastersKept
+pub mod MastersSay
+pub mod MastersPrepared
+pub mod MastersRecovering

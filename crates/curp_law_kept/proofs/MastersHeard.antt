@@ -30,7 +30,7 @@ use Rattle.curp_model.specs.Recovery.{Asking, Fresh, MasterStage, Recovering, Re
 use Rattle.curp_model.specs.Witness.{HeldRequest}
 use Rattle.curp_model.specs.World.{World}
 use Rattle.curp_facts.specs.Entries.{EntryOk, LogOk, UpdateOk}
-use Rattle.curp_facts.specs.Facts.{AtOpening, ByRecovery, ByReplacement, FencedLogOk, FrozenOk, HasLog, IsAmong, IsGiven, Lists, Logged, WasOrdered, WasSent, WasTaken, hi_of, lo_of, lists_of_order, node_log}
+use Rattle.curp_facts.specs.Facts.{AtOpening, ByRecovery, ByReplacement, FencedLogOk, FrozenOk, HasLog, IsGiven, Lists, Logged, WasOrdered, WasSent, WasTaken, hi_of, lo_of, lists_of_order, node_log}
 use Rattle.curp_facts.specs.Kept.{AllCompletedBelow, lists_of_master}
 use Rattle.curp_facts.specs.Nodes.{BackupOk, MasterOk, RecoveringOk, ReplayedOk, ServingOk, StageOk, WasPrepared}
 use Rattle.curp_facts.specs.Reach.{RecoveredTo}
@@ -68,6 +68,13 @@ log_ok_none w part xs none = subst (LogOk w part) (sym none) (record { is_log = 
     nothing : (j : ℕ) {e : Entry} → At [] j e → ⊥
     nothing j at = cc
 
+-- the log of a backup of given lists is a beginning of their master's
+pub backup_front : (u : World) (l : Lists) (its : Logged) → HasLog u l.master its → (b : BackupState) → BackupOk u l b → IsPrefix b.log its.log
+backup_front u l its has b ok = elim ok.follows [
+  | inl none ↦ record { rest = its.log; is = ap (λ (es : List Entry). es ++ its.log) none }
+  | inr f ↦ subst (λ (k : Logged). IsPrefix b.log k.log) (one_log u l.master f.its its f.its_log has) f.front
+]
+
 module _ {w : World} (known : Known w) where
   -- ---- masters and backups by their lists
 
@@ -100,14 +107,6 @@ module _ {w : World} (known : Known w) where
   -- each list has a backup
   pub filled : (l : Lists) → IsGiven w l → 1 ≤ length l.backups
   filled l given = let many = (known.names.given l given).many_backups in omega (arith, many, known.names.shape.f)
-
-  -- a backup of given lists has no more entries than their master
-  pub backup_within : (l : Lists) → IsGiven w l → (its : Logged) → HasLog w l.master its → (node : NodeId) → IsAmong node l.backups → (b : BackupState) → BackupOk w l b
-      → IsPrefix b.log its.log
-  backup_within l given its has node named b ok = elim ok.follows [
-    | inl none ↦ record { rest = its.log; is = ap (λ (es : List Entry). es ++ its.log) none }
-    | inr f ↦ subst (λ (k : Logged). IsPrefix b.log k.log) (one_log w l.master f.its its f.its_log has) f.front
-  ]
 
   -- the log of a backup of given lists is one of their partition
   pub backup_log_ok : (l : Lists) → IsGiven w l → (b : BackupState) → BackupOk w l b → LogOk w l.part b.log
@@ -158,7 +157,7 @@ module _ {w : World} (known : Known w) where
       answered from a home (Stored long) k =
           let its : AppendSaid w (master_node n) from k.append = said known (master_node n) from (body.Append k.append) k.sent in
           let log : HasLog w home.lists.master (record { log = m.log; round = m.round }) = subst (λ (x : NodeId). HasLog w x (record { log = m.log; round = m.round })) (sym home.its_master) its_log in
-          let within = prefix_length (backup_within home.lists home.given _ log from home.its_backup k.b (known.inv.backups home.lists home.given from home.its_backup k.b k.is)) in
+          let within = prefix_length (backup_front w home.lists _ log k.b (known.inv.backups home.lists home.given from home.its_backup k.b k.is)) in
           let round : its.holds.l.round ≡ m.round = ap (λ (x : Logged). x.round) (one_log w (master_node n) its.holds.l _ its.holds.its_log its_log) in
           (record { b = k.b; is = k.is; low = k.low }, omega (arith, within, k.low), omega (arith, its.holds.begun, k.its_round, round))
       answered from a home _ k = tt

@@ -1,8 +1,6 @@
 -- An input to a master keeps what masters keep.
-use Rattle.std.proofs.Common.{◌≡◌, ◌≢◌, ◌⊎◌, inl, inr, ℕ, ◌+◌, ◌<◌, ◌≤◌, true, false, List, [], ◌∷◌, length, refl, ap, sym, ◌∙◌, subst, arith, Option, Some, None}
-use Rattle.std.specs.Bool.{⊤}
+use Rattle.std.proofs.Common.{◌≡◌, ◌⊎◌, inl, inr, ℕ, ◌≤◌, true, false, List, [], length, refl, ap, sym, ◌∙◌, subst, arith, Option}
 use Rattle.curp_base.specs.Words.{At, Each}
-use Rattle.curp_base.proofs.Lists.{Each-at}
 use Rattle.curp_cmd.specs.Node.{manager_node, master_node}
 use Rattle.curp_cmd.specs.declared.entry.Entry.{Entry}
 use Rattle.curp_cmd.specs.declared.node.NodeId.{NodeId}
@@ -14,20 +12,20 @@ use Rattle.curp_msg.specs.declared.body.Prepare.{Prepare}
 use Rattle.curp_msg.specs.declared.body.Recover.{Recover}
 use Rattle.curp_msg.specs.declared.body.Recovered.{Recovered}
 use Rattle.curp_msg.specs.declared.message.Message.{Message}
-use Rattle.curp_model.specs.Master.{MasterState, Open, Phase, Queued, Switch, Switching, has}
-use Rattle.curp_model.specs.Recovery.{Asking, Fresh, MasterStage, Recovering, RecoveryState, Serving}
+use Rattle.curp_model.specs.Master.{MasterState, Switch, Switching, has}
+use Rattle.curp_model.specs.Recovery.{Fresh, MasterStage, Recovering, RecoveryState, Serving}
 use Rattle.curp_model.specs.World.{World}
 use Rattle.curp_facts.specs.Entries.{LogOk}
-use Rattle.curp_facts.specs.Facts.{ByRecovery, HasLog, IsAmong, IsGiven, Lists, WasAdopted, WasSent, hi_of, lists_of_order, lo_of}
+use Rattle.curp_facts.specs.Facts.{ByRecovery, IsAmong, IsGiven, Lists, WasAdopted, WasSent, hi_of, lists_of_order, lo_of}
 use Rattle.curp_facts.specs.Growth.{MasterGrows, ServesByOrder, ServesOn}
 use Rattle.curp_facts.specs.Kept.{lists_of_master}
-use Rattle.curp_facts.specs.Nodes.{CapturedOk, FreeOp, FreshOk, HasSentAll, IsOpAt, IsWaiting, MasterOk, NeverPrepared, QueuedOk, RecoveringOk, ServingOk, StageOk, SwitchOk, WasPrepared}
+use Rattle.curp_facts.specs.Nodes.{CapturedOk, FreshOk, HasSentAll, IsOpAt, IsWaiting, MasterOk, NeverPrepared, QueuedOk, RecoveringOk, ServingOk, StageOk, SwitchOk, WasPrepared}
 use Rattle.curp_facts.specs.Reach.{RecoveredTo}
 use Rattle.curp_facts.specs.Said.{AdoptedSaid}
 use Rattle.curp_law_kept.proofs.Known.{Known, from_manager, said}
 use Rattle.curp_law_kept.proofs.MastersHeard.{order_lowest}
 use Rattle.curp_law_kept.proofs.MastersMoves.{GetsOrder, MasterStep, StageMove, StartsToServe}
-use Rattle.curp_law_kept.proofs.MastersReady.{next_given, no_switch, one_some, one_switch, step_follows}
+use Rattle.curp_law_kept.proofs.MastersReady.{next_given, no_switch, one_switch, step_follows}
 use Rattle.curp_law_kept.proofs.Moved.{sent_cases, sent_now}
 use Rattle.curp_law_masters.specs.Moves.{Begins, IsSaidBy, ListsMove, Prepares, RecoveryMove, RecoverySays, SaysAll, SaysPrepared, ServingMove, ServingSays, Stays, TakesUp}
 use Rattle.curp_law_masters.specs.Stages.{FreshSays}
@@ -118,9 +116,9 @@ module _ {w v : World} (known : Known w) {n : ℕ} {from : NodeId} {heard : Opti
     order_version : (a : Adopted) → AdoptedSaid w (master_node n) a → a.version ≡ y.version
     order_version a its = elim its.ready.told [
       | inl one ↦
-        let low = order_lowest known (master_node n) x.order ok.ordered its.lists its.ready.given its.its_master in
-        let first = (known.names.given order_home.before order_home.was.given).version.0 in
-        absurd (omega (arith, low, one, order_home.older, first))
+          let low = order_lowest known (master_node n) x.order ok.ordered its.lists its.ready.given its.its_master in
+          let first = (known.names.given order_home.before order_home.was.given).version.0 in
+          absurd (omega (arith, low, one, order_home.older, first))
       | inr told ↦ elim told [
         | inl sent ↦ absurd (ok.unprepared its.lists.version (subst (λ (z : NodeId). WasSent w (says z manager_node (body.Prepared its.lists.version))) its.its_master sent))
         | inr r ↦ recovered r
@@ -188,7 +186,7 @@ module _ {w v : World} (known : Known w) {n : ℕ} {from : NodeId} {heard : Opti
         go (TakesUp t a came number switches prepared version backups witnesses phase) =
             let its : WasSent w (says from (master_node n) (body.Adopted a)) = s.came (body.Adopted a) came in
             let sent : WasSent w (says manager_node (master_node n) (body.Adopted a))
-                  = subst (λ (z : NodeId). WasSent w (says z (master_node n) (body.Adopted a))) (from_manager known from (master_node n) (body.Adopted a) refl its) its in
+            = subst (λ (z : NodeId). WasSent w (says z (master_node n) (body.Adopted a))) (from_manager known from (master_node n) (body.Adopted a) refl its) its in
             told_adopted a sent (lists_of_master (master_node n) y) (subst (IsGiven w) (next version backups witnesses) (next_given known s x t ok (ok.switching t switches))) refl (sym number ∙ sym version)
           where
             next : y.version ≡ t.version → y.backups ≡ t.backups → y.witnesses ≡ t.witnesses
