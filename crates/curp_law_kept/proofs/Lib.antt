@@ -9,3 +9,4 @@ pub mod MastersKept
 pub mod MastersSay
 pub mod MastersPrepared
 pub mod MastersRecovering
+pub mod MastersSaid

@@ -182,14 +182,14 @@ module _ {w v : World} (known : Known w) {n : ℕ} {from : NodeId} {heard : Opti
       go true e = said (synced y) (grind (arith, nat_tests)) (omega arith) apart
       go false e = said k.index (omega arith) (grind (arith, nat_tests)) (λ j e above under at. absurd (omega (arith, above, under)))
 
-  reply_says : (to : NodeId) (r : Reply) → ReplySays y to r → ReplySaid v (master_node n) to r
+  pub reply_says : (to : NodeId) (r : Reply) → ReplySays y to r → ReplySaid v (master_node n) to r
   reply_says to r k = record { speaks = speaks r.epoch r.version k.its_epoch k.its_version; addressee = k.addressee; holds = go r.synced k.kind }
     where
       go : (b : Bool) → ReplyKind y r b → ReplyHolds v (master_node n) r b
       go true z = synced_says r k.serves k.its_version z
       go false z = early_says r k.serves k.its_version z
 
-  worth_says : (to : NodeId) (r : Worth) → WorthSays w y to r → WorthSaid v (master_node n) to r
+  pub worth_says : (to : NodeId) (r : Worth) → WorthSays w y to r → WorthSaid v (master_node n) to r
   worth_says to r k = record {
     version = y.version;
     speaks = speaks r.epoch y.version k.its_epoch refl;
@@ -220,7 +220,7 @@ module _ {w v : World} (known : Known w) {n : ℕ} {from : NodeId} {heard : Opti
             filter_among (λ b. not (is_among b y.backups)) t.backups to fresh,
           )
 
-  append_says : (to : NodeId) (a : Append) → AppendSays y to a → AppendSaid v (master_node n) to a
+  pub append_says : (to : NodeId) (a : Append) → AppendSays y to a → AppendSaid v (master_node n) to a
   append_says to a k =
       let home = stores_on to k.its_backup in
       let long : length a.entries ≡ length y.log - a.base = ap (λ (es : List Entry). length es) k.entries ∙ length-drop a.base y.log in
@@ -239,7 +239,7 @@ module _ {w v : World} (known : Known w) {n : ℕ} {from : NodeId} {heard : Opti
         within = omega (arith, long, k.within);
       }
 
-  gc_says : (place : ℕ) → length (messages w) ≤ place → (to : NodeId) (g : Gc) → GcSays y to g → GcHolds v place (master_node n) to g
+  pub gc_says : (place : ℕ) → length (messages w) ≤ place → (to : NodeId) (g : Gc) → GcSays y to g → GcHolds v place (master_node n) to g
   gc_says place late to g k = record {
     lists = lists_of_master (master_node n) y;
     adopted = record { given = given_later f was_adopted.given; told = told };
@@ -265,7 +265,7 @@ module _ {w v : World} (known : Known w) {n : ℕ} {from : NodeId} {heard : Opti
         reach = reach_open k.serves y.version c.count refl c.low;
       }
 
-  entry_says : (Is : Entry → Type 0) → StoredSays y Is → StoredEntry v (master_node n) Is
+  pub entry_says : (Is : Entry → Type 0) → StoredSays y Is → StoredEntry v (master_node n) Is
   entry_says Is k = record {
     lists = lists_of_master (master_node n) y;
     adopted = adopted_later f was_adopted;
