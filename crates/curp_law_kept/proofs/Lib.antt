@@ -10,3 +10,4 @@ pub mod MastersSay
 pub mod MastersPrepared
 pub mod MastersRecovering
 pub mod MastersSaid
+pub mod Keepers
