@@ -1,12 +1,10 @@
 -- A step in which one backup, one witness or one master alone has moved keeps what nodes and messages keep.
-use Rattle.std.proofs.Common.{◌≡◌, ◌≢◌, ◌⊎◌, inl, inr, ℕ, ◌+◌, Bool, true, false, List, ◌++◌, length, refl, ap, sym, ◌∙◌, subst, Option, Some}
-use Rattle.curp_base.specs.Words.{At, Each, numbered}
+use Rattle.std.proofs.Common.{◌≡◌, ◌≢◌, ◌⊎◌, inl, inr, ℕ, ◌+◌, List, length, ap, sym, ◌∙◌, subst, Option, Some}
+use Rattle.curp_base.specs.Words.{At, numbered}
 use Rattle.curp_base.proofs.Lists.{Each-at}
-use Rattle.curp_cmd.specs.Node.{backup_node, manager_node, master_node, same_node, witness_node}
+use Rattle.curp_cmd.specs.Node.{backup_node, master_node, witness_node}
 use Rattle.curp_cmd.specs.declared.node.NodeId.{NodeId}
-use Rattle.curp_cmd.specs.declared.node.NodeKind.{NodeKind}
 use Rattle.curp_cmd.specs.declared.node.NodeKind.TheVariants as kind
-use Rattle.curp_cmd.proofs.Nodes.{same_node-self, same_node-true}
 use Rattle.curp_msg.specs.Moved.{Moved}
 use Rattle.curp_msg.specs.declared.body.Body.{Body}
 use Rattle.curp_msg.specs.declared.machine.Input.{Input}
@@ -14,7 +12,7 @@ use Rattle.curp_msg.specs.declared.message.Message.{Message}
 use Rattle.curp_model.specs.Backup.{BackupState}
 use Rattle.curp_model.specs.Manager.{ManagerState}
 use Rattle.curp_model.specs.Named.{IsBackup, IsMaster, IsWitness}
-use Rattle.curp_model.specs.Recovery.{MasterStage}
+use Rattle.curp_model.specs.Recovery.{MasterStage, master_input}
 use Rattle.curp_model.specs.Witness.{WitnessState}
 use Rattle.curp_model.specs.World.{World, messages}
 use Rattle.curp_facts.specs.Facts.{IsAmong, IsGiven, Lists}
@@ -26,10 +24,11 @@ use Rattle.curp_facts.specs.Said.{Says}
 use Rattle.curp_law_growth.proofs.Deeds.{IsFor}
 use Rattle.curp_law_keepers.specs.BackupEffect.{BackupEffect, BackupSays}
 use Rattle.curp_law_keepers.specs.WitnessEffect.{WitnessEffect, WitnessSays}
+use Rattle.curp_law_kept.proofs.Apart.{either_node}
 use Rattle.curp_law_kept.proofs.Backups.{backup_keeps, backup_says}
 use Rattle.curp_law_kept.proofs.Known.{Frame, Known, all_say, clients_stay, completed_stays, given_before, history_stays, present_stays}
 use Rattle.curp_law_kept.proofs.MastersKept.{master_keeps}
-use Rattle.curp_law_kept.proofs.MastersMoves.{MasterStep}
+use Rattle.curp_law_kept.proofs.MastersMoves.{MasterStep, input_step}
 use Rattle.curp_law_kept.proofs.MastersReady.{step_follows}
 use Rattle.curp_law_kept.proofs.MastersSaid.{master_says}
 use Rattle.curp_law_kept.proofs.Moved.{given_back, ready_back, says_no_more}
@@ -38,17 +37,6 @@ use Rattle.curp_law_names.proofs.Later.{Later}
 use Rattle.curp_law_stays.proofs.Masters.{master_ok_later}
 use Rattle.curp_law_stays.proofs.Nodes.{backup_ok_later, witness_ok_later}
 use Rattle.curp_law_stays.proofs.Words.{Follows, one_state}
-
--- two names are one or differ
-either_node : (a b : NodeId) → (a ≡ b) ⊎ (a ≢ b)
-either_node a b = go (same_node a b) refl
-  where
-    go : (t : Bool) → same_node a b ≡ t → (a ≡ b) ⊎ (a ≢ b)
-    go true e = inl (same_node-true a b e)
-    go false e = inr (λ same. apart (sym e ∙ subst (λ (x : NodeId). same_node a x ≡ true) same (same_node-self a)))
-      where
-        apart : false ≡ true → ⊥
-        apart f = cc
 
 module _ {w v : World} (known : Known w) where
   -- ---- all together
@@ -125,6 +113,12 @@ module _ {w v : World} (known : Known w) where
           | inr other ↦ master_stays (step_follows known s) s.frame node x other (s.others node x other is)
         ]
 
+  -- what comes to a master keeps all
+  pub master_input_keeps : (n : ℕ) (m : MasterStage) (given : Input) → numbered w.masters n ≡ Some m → IsFor w (master_node n) given → Grows w v → Later w v
+      → Frame w v (master_input n m given).messages (master_node n) → IsMaster v (master_node n) (master_input n m given).state
+      → ((node : NodeId) (x : MasterStage) → node ≢ master_node n → IsMaster v node x → IsMaster w node x) → v.backups ≡ w.backups → v.witnesses ≡ w.witnesses → Invariant v
+  master_input_keeps n m given here for grows later frame is others backups witnesses = master_step_keeps (input_step known n v m given here for grows later frame is others backups witnesses)
+
   -- ---- keepers
 
   -- no lists become ready where no master has moved
@@ -175,7 +169,7 @@ module _ {w v : World} (known : Known w) {n : ℕ} {given : Input} where
     backup_kind : (backup_node n).kind ≢ kind.Master
     backup_kind e = cc
 
-    backup_follows : Follows w v
+    pub backup_follows : Follows w v
     backup_follows = keeper_follows known s.grows s.later s.frame backup_kind
 
     pub backup_step_keeps : Invariant v
@@ -201,7 +195,7 @@ module _ {w v : World} (known : Known w) {n : ℕ} {given : Input} where
     witness_kind : (witness_node n).kind ≢ kind.Master
     witness_kind e = cc
 
-    witness_follows : Follows w v
+    pub witness_follows : Follows w v
     witness_follows = keeper_follows known s.grows s.later s.frame witness_kind
 
     pub witness_step_keeps : Invariant v
@@ -221,7 +215,7 @@ module _ {w v : World} (known : Known w) {n : ℕ} {given : Input} where
         started : (l : Lists) → IsGiven v l → (node : NodeId) → IsAmong node l.witnesses → (y : WitnessState) → IsWitness v node y → StartedAt l y
         started l here node named y is = elim (either_node node (witness_node n)) [
           | inl e ↦
-            subst (StartedAt l) (one node y e is)
-            (started_keeps known witness_follows n given s.for x r s.effect s.was s.is l (given_before known witness_follows s.frame l here) (subst (λ (z : NodeId). IsAmong z l.witnesses) e named))
+              subst (StartedAt l) (one node y e is)
+              (started_keeps known witness_follows n given s.for x r s.effect s.was s.is l (given_before known witness_follows s.frame l here) (subst (λ (z : NodeId). IsAmong z l.witnesses) e named))
           | inr other ↦ started_stays known witness_follows s.frame l here node named y (s.others node y other is)
         ]

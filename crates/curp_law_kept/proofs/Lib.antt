@@ -1,3 +1,4 @@
+pub mod Apart
 pub mod Moved
 pub mod Known
 pub mod Backups

@@ -35,6 +35,7 @@ use Rattle.curp_facts.specs.Kept.{AllCompletedBelow, lists_of_master}
 use Rattle.curp_facts.specs.Nodes.{BackupOk, MasterOk, RecoveringOk, ReplayedOk, ServingOk, StageOk, WasPrepared}
 use Rattle.curp_facts.specs.Reach.{RecoveredTo}
 use Rattle.curp_facts.specs.Said.{AdoptedSaid, AppendHolds, AppendSaid, AppendedSaid, Says, StoredEntry, IsTakeOf, SuspectsHold}
+use Rattle.curp_law_kept.proofs.Apart.{one_some}
 use Rattle.curp_law_kept.proofs.Known.{Known, from_manager, said}
 use Rattle.curp_law_logs.proofs.Frozen.{kept_held}
 use Rattle.curp_law_logs.proofs.Logs.{log_prefix}
@@ -86,10 +87,7 @@ module _ {w : World} (known : Known w) where
       same_part k here same log ok e = subst (λ (p : ℕ). LogOk w p its.log) ((known.names.agree k l here given).by_master same).0 (subst (LogOk w k.part) e ok)
 
       replayed : (s : RecoveryState) (ok : RecoveringOk w l.master s) (r : Replayed) → ReplayedOk w s r → Some (record { log = r.log; round = r.round }) ≡ Some its → LogOk w l.part its.log
-      replayed s ok r k e = same_part (lists_of_order l.master s.order) (ByRecovery l.master s.order ok.ordered) refl r.log k.log (ap (λ (x : Logged). x.log) (one e))
-        where
-          one : {a b : Logged} → Some a ≡ Some b → a ≡ b
-          one e = cc
+      replayed s ok r k e = same_part (lists_of_order l.master s.order) (ByRecovery l.master s.order ok.ordered) refl r.log k.log (ap (λ (x : Logged). x.log) (one_some e))
 
       staged : (s : RecoveryState) (ok : RecoveringOk w l.master s) (p : RecoveryPhase) → StageOk w s p → node_log (Recovering (record { order = s.order; phase = p })) ≡ Some its → LogOk w l.part its.log
       staged s ok (Asking log requests) k e = absurd cc
@@ -99,10 +97,7 @@ module _ {w : World} (known : Known w) where
       go : (m : MasterStage) → IsMaster w l.master m → MasterOk w l.master m → node_log m ≡ Some its → LogOk w l.part its.log
       go Fresh is ok e = absurd cc
       go (Recovering s) is ok e = staged s ok s.phase ok.stage e
-      go (Serving m) is ok e = same_part (lists_of_master l.master m) ok.adopted.given refl m.log ok.log (ap (λ (x : Logged). x.log) (one e))
-        where
-          one : {a b : Logged} → Some a ≡ Some b → a ≡ b
-          one e = cc
+      go (Serving m) is ok e = same_part (lists_of_master l.master m) ok.adopted.given refl m.log ok.log (ap (λ (x : Logged). x.log) (one_some e))
 
   -- each list has a backup
   pub filled : (l : Lists) → IsGiven w l → 1 ≤ length l.backups

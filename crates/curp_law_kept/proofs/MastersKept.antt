@@ -22,6 +22,7 @@ use Rattle.curp_facts.specs.Kept.{lists_of_master}
 use Rattle.curp_facts.specs.Nodes.{CapturedOk, FreshOk, HasSentAll, IsOpAt, IsWaiting, MasterOk, NeverPrepared, QueuedOk, RecoveringOk, ServingOk, StageOk, SwitchOk, WasPrepared}
 use Rattle.curp_facts.specs.Reach.{RecoveredTo}
 use Rattle.curp_facts.specs.Said.{AdoptedSaid}
+use Rattle.curp_law_kept.proofs.Apart.{not_both}
 use Rattle.curp_law_kept.proofs.Known.{Known, from_manager, said}
 use Rattle.curp_law_kept.proofs.MastersHeard.{order_lowest}
 use Rattle.curp_law_kept.proofs.MastersMoves.{GetsOrder, MasterStep, StageMove, StartsToServe}
@@ -143,14 +144,11 @@ module _ {w v : World} (known : Known w) {n : ℕ} {from : NodeId} {heard : Opti
         acknowledged = acknowledged_later f y y.acknowledged move.begins.acknowledged;
         prepared = λ version sent. elim (sent_by manager_node (body.Prepared version) sent) [ inl was ↦ absurd (ok.unprepared version was) | inr now ↦ absurd (none_said move.silent _ now) ];
         switching = λ t is. absurd (no_switch by.phase is);
-        free = λ index is. absurd (nothing_free (subst (λ (xs : List ℕ). has index xs ≡ true) move.begins.free is));
+        free = λ index is. absurd (not_both (subst (λ (xs : List ℕ). has index xs ≡ true) move.begins.free is));
         held = subst (Each (IsOpAt y.log)) (sym move.begins.held) tt;
         queue = subst (Each (QueuedOk y)) (sym move.begins.queue) tt;
         captures = subst (Each (CapturedOk v y)) (sym move.begins.captures) tt;
       }
-    where
-      nothing_free : false ≡ true → ⊥
-      nothing_free e = cc
 
   -- ---- a serving master
 
@@ -161,9 +159,6 @@ module _ {w v : World} (known : Known w) {n : ℕ} {from : NodeId} {heard : Opti
         let same : o.0 ≡ Serving y = one_state _ o.0 k o.1 s.is.its_state ∙ is in
         let grows : MasterGrows (Serving x) (Serving y) = subst (λ (z : MasterStage). MasterGrows z (Serving y)) was (subst (MasterGrows m) same o.2) in
         grows.life
-
-    part_same : y.part ≡ x.part
-    part_same = goes_on.part
 
     same_lists : y.version ≡ x.version → y.backups ≡ x.backups → y.witnesses ≡ x.witnesses → lists_of_master (master_node n) x ≡ lists_of_master (master_node n) y
     same_lists version backups witnesses = λ i. record {
@@ -212,7 +207,7 @@ module _ {w v : World} (known : Known w) {n : ℕ} {from : NodeId} {heard : Opti
     prepared_stays number (inr p) = go move.lists
       where
         unprepared_now : (t : Switch) → x.phase ≡ Switching t → t.prepared ≡ false → ⊥
-        unprepared_now t is e = let one = one_switch x.phase t p.0 is p.1 in let y : false ≡ true = sym e ∙ ap (λ (u : Switch). u.prepared) one ∙ p.3 in cc
+        unprepared_now t is e = not_both (sym e ∙ ap (λ (u : Switch). u.prepared) (one_switch x.phase t p.0 is p.1) ∙ p.3)
 
         go : ListsMove n x from heard y out → WasPrepared y number
         go (Stays version backups witnesses phase) = inr (p.0, phase ∙ p.1, p.2, p.3)
@@ -262,13 +257,10 @@ module _ {w v : World} (known : Known w) {n : ℕ} {from : NodeId} {heard : Opti
               ordered = sent_later f sent;
               above = omega (arith, above, version);
               begun = round;
-              prepared = λ z. absurd (unprepared z);
-              since = λ z. absurd (unprepared z);
+              prepared = λ z. absurd (not_both z);
+              since = λ z. absurd (not_both z);
               reached = reached_by t now;
             })
-          where
-            unprepared : false ≡ true → ⊥
-            unprepared e = cc
         go (Prepares u switches unprepared log all version backups witnesses phase says_so) =
             let one = one_switch y.phase t _ now phase in
             let old = ok.switching u switches in

@@ -1,6 +1,6 @@
 -- How one input leaves a master, by how far it is, in a world that a script reaches.
 use Rattle.std.proofs.Common.{◌≡◌, ◌≢◌, ℕ, ◌≤◌, List, [], length, refl, subst, Option, Some, None}
-use Rattle.curp_base.specs.Words.{Each}
+use Rattle.curp_base.specs.Words.{Each, numbered}
 use Rattle.curp_cmd.specs.Node.{manager_node, master_node}
 use Rattle.curp_cmd.specs.declared.node.NodeId.{NodeId}
 use Rattle.curp_msg.specs.Moved.{Moved, says, sends}
@@ -22,6 +22,7 @@ use Rattle.curp_facts.specs.Growth.{Grows}
 use Rattle.curp_facts.specs.Kept.{lists_of_master}
 use Rattle.curp_facts.specs.Nodes.{RecoveringOk, ServingOk}
 use Rattle.curp_law_growth.proofs.Deeds.{IsFor}
+use Rattle.curp_law_kept.proofs.Apart.{one_some}
 use Rattle.curp_law_kept.proofs.Known.{Frame, Known, from_manager}
 use Rattle.curp_law_kept.proofs.MastersHeard.{filled, recovery_hears, serving_hears}
 use Rattle.curp_law_masters.specs.Moves.{IsSaidBy, RecoveryMove, ServingMove}
@@ -158,11 +159,8 @@ module _ {w : World} (known : Known w) (n : ℕ) where
 
   pub input_came : (given : Input) → IsFor w (master_node n) given → CameTo w (master_node n) (speaker given) (heard_in given)
   input_came (input.Local order) for b e = absurd cc
-  input_came (input.Message x) for b e = came x.body b (one e) (subst (λ (to : NodeId). WasSent w (says x.from to x.body)) for.0 for.1)
+  input_came (input.Message x) for b e = came x.body b (one_some e) (subst (λ (to : NodeId). WasSent w (says x.from to x.body)) for.0 for.1)
     where
-      one : {a b : Body} → Some a ≡ Some b → a ≡ b
-      one e = cc
-
       came : (c b : Body) → c ≡ b → WasSent w (says x.from (master_node n) c) → WasSent w (says x.from (master_node n) b)
       came c b e sent = subst (λ (y : Body). WasSent w (says x.from (master_node n) y)) e sent
 
@@ -170,3 +168,21 @@ module _ {w : World} (known : Known w) (n : ℕ) where
   pub input_moves : (m : MasterStage) → IsMaster w (master_node n) m → (given : Input) → IsFor w (master_node n) given → Goal (speaker given) (heard_in given) m (master_input n m given)
   input_moves m is (input.Local order) for = order_move m is order
   input_moves m is (input.Message x) for = message_move m is x.from x.body (input_came (input.Message x) for x.body refl)
+
+  -- in which it alone moves
+  abbrev pub input_step : (v : World) (m : MasterStage) (given : Input) → numbered w.masters n ≡ Some m → IsFor w (master_node n) given → Grows w v → Later w v
+      → Frame w v (master_input n m given).messages (master_node n) → IsMaster v (master_node n) (master_input n m given).state
+      → ((node : NodeId) (x : MasterStage) → node ≢ master_node n → IsMaster v node x → IsMaster w node x) → v.backups ≡ w.backups → v.witnesses ≡ w.witnesses
+      → MasterStep w v n (speaker given) (heard_in given) m (master_input n m given).state (master_input n m given).messages
+  input_step v m given here for grows later frame is others backups witnesses = record {
+    grows = grows;
+    later = later;
+    frame = frame;
+    came = input_came given for;
+    was = record { its_kind = refl; its_state = here };
+    is = is;
+    others = others;
+    backups = backups;
+    witnesses = witnesses;
+    move = input_moves m (record { its_kind = refl; its_state = here }) given for;
+  }

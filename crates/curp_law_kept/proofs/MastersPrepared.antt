@@ -20,6 +20,7 @@ use Rattle.curp_facts.specs.Facts.{FirstPrepared, IsAmong, IsGiven, IsOnlyExpire
 use Rattle.curp_facts.specs.Nodes.{HasSentAll, ServingOk}
 use Rattle.curp_facts.specs.Reach.{HasMany}
 use Rattle.curp_facts.specs.Said.{AppendSaid}
+use Rattle.curp_law_kept.proofs.Apart.{not_both}
 use Rattle.curp_law_kept.proofs.Known.{Known, said}
 use Rattle.curp_law_kept.proofs.MastersHeard.{backup_front, one_log, serving_log}
 use Rattle.curp_law_kept.proofs.MastersMoves.{MasterStep}
@@ -70,7 +71,7 @@ first_at {A} test (z ∷ xs) k x at holds = go (test z) refl (λ j is. first_at 
     go : (b : Bool) → test z ≡ b → ((j : ℕ) → At xs j x → FirstAt test xs) → (k : ℕ) → At (z ∷ xs) k x → FirstAt test (z ∷ xs)
     go true e rest k is = here e
     go false e rest (suc j) is = later e (rest j is)
-    go false e rest zero is = let same : z ≡ x = cc in let y : false ≡ true = sym e ∙ ap test same ∙ holds in absurd cc
+    go false e rest zero is = let same : z ≡ x = cc in absurd (not_both (sym e ∙ ap test same ∙ holds))
 
 -- it says that lists of that version are prepared
 abbrev pub says_prepared : ℕ → Body → Bool
@@ -134,10 +135,7 @@ module _ {w v : World} (known : Known w) {n : ℕ} {from : NodeId} {heard : Opti
     }
       where
         no_earlier : (j : ℕ) → At out j (says (master_node n) manager_node (body.Prepared version)) → (b : Bool) → nat_lt j earliest.place ≡ b → earliest.place ≤ j
-        no_earlier j at true e = let no = earliest.first j (says (master_node n) manager_node (body.Prepared version)) (grind (arith, nat_tests)) at in absurd (apart (sym no ∙ own_version))
-          where
-            apart : false ≡ true → ⊥
-            apart e = cc
+        no_earlier j at true e = let no = earliest.first j (says (master_node n) manager_node (body.Prepared version)) (grind (arith, nat_tests)) at in absurd (not_both (sym no ∙ own_version))
         no_earlier j at false e = grind (arith, nat_tests)
 
     same_long : length x.log ≡ length y.log
@@ -206,12 +204,9 @@ module _ {w v : World} (known : Known w) {n : ℕ} {from : NodeId} {heard : Opti
       again : WasSent w (says (master_node n) manager_node (body.Prepared version)) → PreparedOk v (master_node n) version
       again sent = prepared_later f known.inv (master_node n) version (said known (master_node n) manager_node (body.Prepared version) sent)
 
-      apart : false ≡ true → ⊥
-      apart e = cc
-
       go : ListsMove n x from heard y out → PreparedOk v (master_node n) version
       go (Stays same backups witnesses phase) = again (subst (λ (number : ℕ). WasSent w (says (master_node n) manager_node (body.Prepared number))) k.its_version ((before.switching k.s (sym phase ∙ k.switches)).prepared k.prepared))
-      go (Begins number bs ws came is_open above same backups witnesses phase round) = absurd (apart (ap (λ (u : Switch). u.prepared) (one_switch y.phase _ k.s phase k.switches) ∙ k.prepared))
+      go (Begins number bs ws came is_open above same backups witnesses phase round) = absurd (not_both (ap (λ (u : Switch). u.prepared) (one_switch y.phase _ k.s phase k.switches) ∙ k.prepared))
       go (TakesUp t a came number switches prepared same backups witnesses phase) = absurd (no_switch phase k.switches)
       go (Prepares t switches unprepared log all same backups witnesses phase says_so) = first_says t switches its_version log all unsaid now
         where
@@ -221,5 +216,5 @@ module _ {w v : World} (known : Known w) {n : ℕ} {from : NodeId} {heard : Opti
           unsaid : WasSent w (says (master_node n) manager_node (body.Prepared version)) → ⊥
           unsaid sent = elim (before.prepared version sent) [
             | inl low ↦ absurd (omega (arith, low, its_version, (before.switching t switches).above))
-            | inr p ↦ absurd (apart (sym unprepared ∙ ap (λ (u : Switch). u.prepared) (one_switch x.phase t p.0 switches p.1) ∙ p.3))
+            | inr p ↦ absurd (not_both (sym unprepared ∙ ap (λ (u : Switch). u.prepared) (one_switch x.phase t p.0 switches p.1) ∙ p.3))
           ]

@@ -1,5 +1,5 @@
 -- Lists that become ready by an input to their master have its whole log on each of their backups.
-use Rattle.std.proofs.Common.{◌≡◌, ◌⊎◌, inl, inr, ℕ, ◌≤◌, true, false, List, [], length, refl, ap, sym, ◌∙◌, subst, Option, Some}
+use Rattle.std.proofs.Common.{◌≡◌, ◌⊎◌, inl, inr, ℕ, ◌≤◌, true, List, [], length, refl, ap, sym, ◌∙◌, subst, Option, Some}
 use Rattle.curp_base.specs.Words.{At, Each, numbered}
 use Rattle.curp_base.proofs.Lists.{Each-at, Each-weaker}
 use Rattle.curp_cmd.specs.Node.{is_among, manager_node, master_node}
@@ -20,6 +20,7 @@ use Rattle.curp_facts.specs.Facts.{ByRecovery, ByReplacement, HasLog, IsAmong, I
 use Rattle.curp_facts.specs.Kept.{lists_of_master}
 use Rattle.curp_facts.specs.Nodes.{IsWaiting, MasterOk, ServingOk, StageOk, SwitchOk}
 use Rattle.curp_facts.specs.Reach.{HasMany, HasStored, IsReady, Whole}
+use Rattle.curp_law_kept.proofs.Apart.{not_both}
 use Rattle.curp_law_kept.proofs.Known.{Known}
 use Rattle.curp_law_kept.proofs.MastersHeard.{one_log}
 use Rattle.curp_law_kept.proofs.MastersMoves.{MasterStep, StageMove}
@@ -30,10 +31,6 @@ use Rattle.curp_law_masters.proofs.Among.{each_tested, found_among}
 use Rattle.curp_law_masters.proofs.Synced.{acknowledged_many}
 use Rattle.curp_law_names.proofs.Lists.{among_each}
 use Rattle.curp_law_stays.proofs.Words.{Follows, one_state}
-
--- one item
-pub one_some : {A : Type 0} {x y : A} → Some x ≡ Some y → x ≡ y
-one_some e = cc
 
 -- the switch of a phase is one
 pub one_switch : (p : Phase) (s t : Switch) → p ≡ Switching s → p ≡ Switching t → s ≡ t
@@ -99,10 +96,7 @@ module _ {w v : World} (known : Known w) {n : ℕ} {from : NodeId} {heard : Opti
             })
         go (Begins version backups witnesses came is_open above same_version same_backups same_witnesses phase round) =
             let one = one_switch y.phase said.s _ said.switches phase in
-            absurd (unprepared (sym (ap (λ (t : Switch). t.prepared) one) ∙ said.prepared))
-          where
-            unprepared : false ≡ true → ⊥
-            unprepared e = cc
+            absurd (not_both (sym (ap (λ (t : Switch). t.prepared) one) ∙ said.prepared))
         go (Prepares t switches unprepared log all version backups witnesses phase says_so) =
             let one = one_switch y.phase said.s _ said.switches phase in
             let its_version : l.version ≡ t.version = sym said.its_version ∙ ap (λ (u : Switch). u.version) one in

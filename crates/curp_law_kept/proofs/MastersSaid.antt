@@ -1,11 +1,10 @@
 -- Each message that a master sends by an input says what it has to.
-use Rattle.std.proofs.Common.{◌≡◌, ◌⊎◌, inl, inr, ℕ, ◌+◌, ◌≤◌, List, length, refl, sym, subst, arith, Option}
-use Rattle.std.specs.Bool.{⊤}
+use Rattle.std.proofs.Common.{◌≡◌, ℕ, ◌+◌, ◌≤◌, List, length, sym, subst, arith, Option}
 use Rattle.curp_base.specs.Words.{At, Each}
 use Rattle.curp_base.proofs.Lists.{Each-at}
 use Rattle.curp_cmd.specs.Node.{manager_node, master_node}
 use Rattle.curp_cmd.specs.declared.node.NodeId.{NodeId}
-use Rattle.curp_msg.specs.Moved.{says, sends}
+use Rattle.curp_msg.specs.Moved.{says}
 use Rattle.curp_msg.specs.declared.body.Body.{Body}
 use Rattle.curp_msg.specs.declared.body.Body.TheVariants as body
 use Rattle.curp_msg.specs.declared.message.Message.{Message}
@@ -22,10 +21,9 @@ use Rattle.curp_law_kept.proofs.MastersPrepared.{prepared_says}
 use Rattle.curp_law_kept.proofs.MastersReady.{step_follows}
 use Rattle.curp_law_kept.proofs.MastersRecovering.{recovering_says}
 use Rattle.curp_law_kept.proofs.MastersSay.{append_says, entry_says, gc_says, reply_says, worth_says}
-use Rattle.curp_law_masters.specs.Moves.{IsSaidBy, PreparedSays, RecoveryMove, RecoverySays, ServingMove, ServingSays}
+use Rattle.curp_law_masters.specs.Moves.{IsSaidBy, PreparedSays, RecoverySays, ServingSays}
 use Rattle.curp_law_masters.specs.Stages.{FreshSays}
 use Rattle.curp_law_stays.proofs.Entries.{refusal_later}
-use Rattle.curp_law_stays.proofs.Words.{Follows}
 
 module _ {w v : World} (known : Known w) {n : ℕ} {from : NodeId} {heard : Option Body} where
   -- ---- by how far it is

@@ -65,9 +65,6 @@ module _ {w v : World} (known : Known w) {n : ℕ} {from : NodeId} {heard : Opti
   f : Follows w v
   f = step_follows known s
 
-  node : NodeId
-  node = master_node n
-
   move : ServingMove w n x from heard (sends y out)
   move = s.move
 
@@ -76,9 +73,6 @@ module _ {w v : World} (known : Known w) {n : ℕ} {from : NodeId} {heard : Opti
 
   ok : ServingOk v (master_node n) y
   ok = master_keeps known s
-
-  its : Lists
-  its = lists_of_master (master_node n) y
 
   was_adopted : WasAdopted w (lists_of_master (master_node n) y)
   was_adopted = lists_adopted known s x y refl refl before move
