@@ -77,7 +77,7 @@ pub record WorthSaid (w : World) (from to : NodeId) (v : Worth) : Type 0 where
   pub invoked : At w.history place (Invoke v.id command)
   pub reads : cmd.is_update command ≡ false
 
--- an append goes to a backup of given lists of its sender, in their epoch
+-- an append goes to a backup of given lists of its sender, in their epoch, and reaches no further than its sender's log
 pub record AppendSaid (w : World) (from to : NodeId) (a : Append) : Type 0 where
   pub lists : Lists
   pub given : IsGiven w lists
@@ -85,6 +85,7 @@ pub record AppendSaid (w : World) (from to : NodeId) (a : Append) : Type 0 where
   pub its_epoch : lists.epoch ≡ a.epoch
   pub its_backup : IsAmong to lists.backups
   pub holds : AppendOk w from a
+  pub within : a.base + length a.entries ≤ length holds.l.log
 
 -- a collection goes to a witness of lists that were adopted before it was sent, and says so of each id that it lists
 pub record GcHolds (w : World) (place : ℕ) (from to : NodeId) (g : Gc) : Type 0 where

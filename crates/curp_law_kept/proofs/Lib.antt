@@ -1,3 +1,4 @@
+pub mod Apart
 pub mod Moved
 pub mod Known
 pub mod Backups
@@ -7,3 +8,12 @@ pub mod Others
 pub mod ClientSteps
 pub mod KeeperSteps
 pub mod Worlds
+pub mod MastersHeard
+pub mod MastersMoves
+pub mod MastersReady
+pub mod MastersKept
+pub mod MastersSay
+pub mod MastersPrepared
+pub mod MastersRecovering
+pub mod MastersSaid
+pub mod Keepers

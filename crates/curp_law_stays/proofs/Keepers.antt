@@ -46,6 +46,7 @@ module _ {w v : World} (s : Follows w v) where
         its_epoch = ok.its_epoch;
         its_backup = ok.its_backup;
         holds = record { l = o.0; its_log = o.1; part = prefix_trans ok.holds.part (prefix_drop a.base o.2); begun = omega (arith, ok.holds.begun, o.3) };
+        within = omega (arith, ok.within, prefix_length o.2);
       }
 
   abbrev pub appended_later : (from to : NodeId) (a : Appended) → AppendedSaid w from to a → AppendedSaid v from to a

@@ -1,0 +1,221 @@
+-- A step in which one backup, one witness or one master alone has moved keeps what nodes and messages keep.
+use Rattle.std.proofs.Common.{◌≡◌, ◌≢◌, ◌⊎◌, inl, inr, ℕ, ◌+◌, List, length, ap, sym, ◌∙◌, subst, Option, Some}
+use Rattle.curp_base.specs.Words.{At, numbered}
+use Rattle.curp_base.proofs.Lists.{Each-at}
+use Rattle.curp_cmd.specs.Node.{backup_node, master_node, witness_node}
+use Rattle.curp_cmd.specs.declared.node.NodeId.{NodeId}
+use Rattle.curp_cmd.specs.declared.node.NodeKind.TheVariants as kind
+use Rattle.curp_msg.specs.Moved.{Moved}
+use Rattle.curp_msg.specs.declared.body.Body.{Body}
+use Rattle.curp_msg.specs.declared.machine.Input.{Input}
+use Rattle.curp_msg.specs.declared.message.Message.{Message}
+use Rattle.curp_model.specs.Backup.{BackupState}
+use Rattle.curp_model.specs.Manager.{ManagerState}
+use Rattle.curp_model.specs.Named.{IsBackup, IsMaster, IsWitness}
+use Rattle.curp_model.specs.Recovery.{MasterStage, master_input}
+use Rattle.curp_model.specs.Witness.{WitnessState}
+use Rattle.curp_model.specs.World.{World, messages}
+use Rattle.curp_facts.specs.Facts.{IsAmong, IsGiven, Lists}
+use Rattle.curp_facts.specs.Growth.{Grows}
+use Rattle.curp_facts.specs.Invariant.{Invariant}
+use Rattle.curp_facts.specs.Nodes.{BackupOk, MasterOk, StartedAt, WitnessOk}
+use Rattle.curp_facts.specs.Reach.{IsReady, Whole}
+use Rattle.curp_facts.specs.Said.{Says}
+use Rattle.curp_law_growth.proofs.Deeds.{IsFor}
+use Rattle.curp_law_keepers.specs.BackupEffect.{BackupEffect, BackupSays}
+use Rattle.curp_law_keepers.specs.WitnessEffect.{WitnessEffect, WitnessSays}
+use Rattle.curp_law_kept.proofs.Apart.{either_node}
+use Rattle.curp_law_kept.proofs.Backups.{backup_keeps, backup_says}
+use Rattle.curp_law_kept.proofs.Known.{Frame, Known, all_say, clients_stay, completed_stays, given_before, history_stays, present_stays}
+use Rattle.curp_law_kept.proofs.MastersKept.{master_keeps}
+use Rattle.curp_law_kept.proofs.MastersMoves.{MasterStep, input_step}
+use Rattle.curp_law_kept.proofs.MastersReady.{step_follows}
+use Rattle.curp_law_kept.proofs.MastersSaid.{master_says}
+use Rattle.curp_law_kept.proofs.Moved.{given_back, ready_back, says_no_more}
+use Rattle.curp_law_kept.proofs.Witnesses.{started_keeps, witness_keeps, witness_says}
+use Rattle.curp_law_names.proofs.Later.{Later}
+use Rattle.curp_law_stays.proofs.Masters.{master_ok_later}
+use Rattle.curp_law_stays.proofs.Nodes.{backup_ok_later, witness_ok_later}
+use Rattle.curp_law_stays.proofs.Words.{Follows, one_state}
+
+module _ {w v : World} (known : Known w) where
+  -- ---- all together
+
+  -- the mover aside, what is kept is kept
+  module _ (s : Follows w v) {out : List Message} {mover : NodeId} (f : Frame w v out mover) where
+    shape : v.manager.shape ≡ w.manager.shape
+    shape = ap (λ (g : ManagerState). g.shape) f.manager
+
+    -- a master that hasn't moved
+    master_stays : (node : NodeId) (m : MasterStage) → node ≢ mover → IsMaster w node m → MasterOk v node m
+    master_stays node m other was = master_ok_later s known.inv node m (says_no_more w v out f.sent mover f.all node other) (known.inv.masters node m was)
+
+    -- a backup that hasn't moved
+    backup_stays : (l : Lists) → IsGiven v l → (node : NodeId) → IsAmong node l.backups → (b : BackupState) → IsBackup w node b → BackupOk v l b
+    backup_stays l given node named b was = backup_ok_later s l b (known.inv.backups l (given_before known s f l given) node named b was)
+
+    -- a witness that hasn't moved
+    witness_stays : (node : NodeId) (x : WitnessState) → IsWitness w node x → WitnessOk v x
+    witness_stays node x was = witness_ok_later s x (known.inv.witnesses node x was)
+
+    started_stays : (l : Lists) → IsGiven v l → (node : NodeId) → IsAmong node l.witnesses → (x : WitnessState) → IsWitness w node x → StartedAt l x
+    started_stays l given node named x was = known.inv.started l (given_before known s f l given) node named x was
+
+    -- the invariant, where masters, backups and witnesses keep theirs, and what is said now is so
+    assembled : ((node : NodeId) (m : MasterStage) → IsMaster v node m → MasterOk v node m)
+        → ((l : Lists) → IsGiven v l → (node : NodeId) → IsAmong node l.backups → (b : BackupState) → IsBackup v node b → BackupOk v l b)
+        → ((node : NodeId) (x : WitnessState) → IsWitness v node x → WitnessOk v x)
+        → ((l : Lists) → IsGiven v l → (node : NodeId) → IsAmong node l.witnesses → (x : WitnessState) → IsWitness v node x → StartedAt l x)
+        → ((j : ℕ) (m : Message) → At out j m → Says v (length (messages w) + j) m.from m.to m.body) → Invariant v
+    assembled masters backups witnesses started say = record {
+      masters = masters;
+      backups = backups;
+      witnesses = witnesses;
+      started = started;
+      clients = clients_stay known s f;
+      history = history_stays known s f;
+      completed = completed_stays known s f;
+      messages = all_say known s f say;
+      present = present_stays known s f;
+    }
+
+  -- ---- nodes that are as they were
+
+  masters_same : v.masters ≡ w.masters → (node : NodeId) (m : MasterStage) → IsMaster v node m → IsMaster w node m
+  masters_same same node m is = record { its_kind = is.its_kind; its_state = subst (λ (xs : List MasterStage). numbered xs node.number ≡ Some m) same is.its_state }
+
+  backups_same : v.backups ≡ w.backups → (node : NodeId) (b : BackupState) → IsBackup v node b → IsBackup w node b
+  backups_same same node b is = record { its_kind = is.its_kind; its_state = subst (λ (xs : List BackupState). numbered xs node.number ≡ Some b) same is.its_state }
+
+  witnesses_same : v.witnesses ≡ w.witnesses → (node : NodeId) (x : WitnessState) → IsWitness v node x → IsWitness w node x
+  witnesses_same same node x is = record { its_kind = is.its_kind; its_state = subst (λ (xs : List WitnessState). numbered xs node.number ≡ Some x) same is.its_state }
+
+  -- ---- a master
+
+  -- an input to a master keeps all
+  module _ {n : ℕ} {from : NodeId} {heard : Option Body} {m k : MasterStage} {out : List Message} (s : MasterStep w v n from heard m k out) where
+    pub master_step_keeps : Invariant v
+    master_step_keeps = assembled (step_follows known s) s.frame masters
+        (λ l given node named b is. backup_stays (step_follows known s) s.frame l given node named b (backups_same s.backups node b is))
+        (λ node x is. witness_stays (step_follows known s) s.frame node x (witnesses_same s.witnesses node x is))
+        (λ l given node named x is. started_stays (step_follows known s) s.frame l given node named x (witnesses_same s.witnesses node x is))
+        (master_says known m k out s)
+      where
+        own : (node : NodeId) (x : MasterStage) → node ≡ master_node n → IsMaster v node x → MasterOk v node x
+        own node x e is =
+            let here : IsMaster v (master_node n) x = subst (λ (z : NodeId). IsMaster v z x) e is in
+            let same : k ≡ x = one_state _ k x s.is.its_state here.its_state in
+            subst (λ (z : NodeId). MasterOk v z x) (sym e) (subst (MasterOk v (master_node n)) same (master_keeps known s))
+
+        masters : (node : NodeId) (x : MasterStage) → IsMaster v node x → MasterOk v node x
+        masters node x is = elim (either_node node (master_node n)) [
+          | inl e ↦ own node x e is
+          | inr other ↦ master_stays (step_follows known s) s.frame node x other (s.others node x other is)
+        ]
+
+  -- what comes to a master keeps all
+  pub master_input_keeps : (n : ℕ) (m : MasterStage) (given : Input) → numbered w.masters n ≡ Some m → IsFor w (master_node n) given → Grows w v → Later w v
+      → Frame w v (master_input n m given).messages (master_node n) → IsMaster v (master_node n) (master_input n m given).state
+      → ((node : NodeId) (x : MasterStage) → node ≢ master_node n → IsMaster v node x → IsMaster w node x) → v.backups ≡ w.backups → v.witnesses ≡ w.witnesses → Invariant v
+  master_input_keeps n m given here for grows later frame is others backups witnesses = master_step_keeps (input_step known n v m given here for grows later frame is others backups witnesses)
+
+  -- ---- keepers
+
+  -- no lists become ready where no master has moved
+  module _ {out : List Message} {mover : NodeId} (grows : Grows w v) (later : Later w v) (f : Frame w v out mover) (not_master : mover.kind ≢ kind.Master) where
+    other_kind : (node : NodeId) → node.kind ≡ kind.Master → node ≢ mover
+    other_kind node is same = not_master (ap (λ (x : NodeId). x.kind) (sym same) ∙ is)
+
+    keeper_ready : (l : Lists) → IsReady v l → IsReady w l ⊎ Whole v l
+    keeper_ready l ready =
+        let given = given_back w v out f.sent mover f.all (ap (λ (g : ManagerState). g.shape) f.manager) f.not_manager l ready.given in
+        inl (ready_back w v out f.sent mover f.all (ap (λ (g : ManagerState). g.shape) f.manager) f.not_manager l (other_kind l.master (known.names.given l given).master.0) ready)
+
+    keeper_follows : Follows w v
+    keeper_follows = record { grows = grows; later = later; names = known.names; steady = known.steady; ready = keeper_ready }
+
+    keeper_masters : v.masters ≡ w.masters → (node : NodeId) (m : MasterStage) → IsMaster v node m → MasterOk v node m
+    keeper_masters same node m is = master_stays keeper_follows f node m (other_kind node is.its_kind) (masters_same same node m is)
+
+-- backup n has moved, and it alone
+pub record BackupStep (w v : World) (n : ℕ) (given : Input) (b : BackupState) (r : Moved BackupState) : Type 0 where
+  pub grows : Grows w v
+  pub later : Later w v
+  pub frame : Frame w v r.messages (backup_node n)
+  pub for : IsFor w (backup_node n) given
+  pub was : IsBackup w (backup_node n) b
+  pub is : IsBackup v (backup_node n) r.state
+  pub others : (node : NodeId) (x : BackupState) → node ≢ backup_node n → IsBackup v node x → IsBackup w node x
+  pub masters : v.masters ≡ w.masters
+  pub witnesses : v.witnesses ≡ w.witnesses
+  pub effect : BackupEffect n given b r
+
+-- witness n has moved, and it alone
+pub record WitnessStep (w v : World) (n : ℕ) (given : Input) (x : WitnessState) (r : Moved WitnessState) : Type 0 where
+  pub grows : Grows w v
+  pub later : Later w v
+  pub frame : Frame w v r.messages (witness_node n)
+  pub for : IsFor w (witness_node n) given
+  pub was : IsWitness w (witness_node n) x
+  pub is : IsWitness v (witness_node n) r.state
+  pub others : (node : NodeId) (y : WitnessState) → node ≢ witness_node n → IsWitness v node y → IsWitness w node y
+  pub masters : v.masters ≡ w.masters
+  pub backups : v.backups ≡ w.backups
+  pub effect : WitnessEffect n given x r
+
+module _ {w v : World} (known : Known w) {n : ℕ} {given : Input} where
+  -- an input to a backup keeps all
+  module _ {b : BackupState} {r : Moved BackupState} (s : BackupStep w v n given b r) where
+    backup_kind : (backup_node n).kind ≢ kind.Master
+    backup_kind e = cc
+
+    pub backup_follows : Follows w v
+    backup_follows = keeper_follows known s.grows s.later s.frame backup_kind
+
+    pub backup_step_keeps : Invariant v
+    backup_step_keeps = assembled known backup_follows s.frame (keeper_masters known s.grows s.later s.frame backup_kind s.masters) backups
+        (λ node x is. witness_stays known backup_follows s.frame node x (witnesses_same known s.witnesses node x is))
+        (λ l here node named x is. started_stays known backup_follows s.frame l here node named x (witnesses_same known s.witnesses node x is))
+        (λ j m at. backup_says known backup_follows n given s.for b r.state s.was s.is (length (messages w) + j) m (Each-at (BackupSays n given r.state) r.messages s.effect.says j m at))
+      where
+        own : (l : Lists) → IsGiven v l → (node : NodeId) → node ≡ backup_node n → IsAmong node l.backups → (x : BackupState) → IsBackup v node x → BackupOk v l x
+        own l here node e named x is =
+            let same : r.state ≡ x = one_state _ r.state x s.is.its_state (subst (λ (z : NodeId). IsBackup v z x) e is).its_state in
+            subst (BackupOk v l) same
+            (backup_keeps known backup_follows n given s.for b r.state s.was s.is l (given_before known backup_follows s.frame l here) (subst (λ (z : NodeId). IsAmong z l.backups) e named) s.effect.move)
+
+        backups : (l : Lists) → IsGiven v l → (node : NodeId) → IsAmong node l.backups → (x : BackupState) → IsBackup v node x → BackupOk v l x
+        backups l here node named x is = elim (either_node node (backup_node n)) [
+          | inl e ↦ own l here node e named x is
+          | inr other ↦ backup_stays known backup_follows s.frame l here node named x (s.others node x other is)
+        ]
+
+  -- an input to a witness keeps all
+  module _ {x : WitnessState} {r : Moved WitnessState} (s : WitnessStep w v n given x r) where
+    witness_kind : (witness_node n).kind ≢ kind.Master
+    witness_kind e = cc
+
+    pub witness_follows : Follows w v
+    witness_follows = keeper_follows known s.grows s.later s.frame witness_kind
+
+    pub witness_step_keeps : Invariant v
+    witness_step_keeps = assembled known witness_follows s.frame (keeper_masters known s.grows s.later s.frame witness_kind s.masters)
+        (λ l here node named b is. backup_stays known witness_follows s.frame l here node named b (backups_same known s.backups node b is)) witnesses started
+        (λ j m at. witness_says known witness_follows n given s.for x r s.effect s.was s.is (length (messages w) + j) m (Each-at (WitnessSays n given r.state) r.messages s.effect.says j m at))
+      where
+        one : (node : NodeId) (y : WitnessState) → node ≡ witness_node n → IsWitness v node y → r.state ≡ y
+        one node y e is = one_state _ r.state y s.is.its_state (subst (λ (z : NodeId). IsWitness v z y) e is).its_state
+
+        witnesses : (node : NodeId) (y : WitnessState) → IsWitness v node y → WitnessOk v y
+        witnesses node y is = elim (either_node node (witness_node n)) [
+          | inl e ↦ subst (WitnessOk v) (one node y e is) (witness_keeps known witness_follows n given s.for x r s.effect s.was s.is)
+          | inr other ↦ witness_stays known witness_follows s.frame node y (s.others node y other is)
+        ]
+
+        started : (l : Lists) → IsGiven v l → (node : NodeId) → IsAmong node l.witnesses → (y : WitnessState) → IsWitness v node y → StartedAt l y
+        started l here node named y is = elim (either_node node (witness_node n)) [
+          | inl e ↦
+              subst (StartedAt l) (one node y e is)
+              (started_keeps known witness_follows n given s.for x r s.effect s.was s.is l (given_before known witness_follows s.frame l here) (subst (λ (z : NodeId). IsAmong z l.witnesses) e named))
+          | inr other ↦ started_stays known witness_follows s.frame l here node named y (s.others node y other is)
+        ]
