@@ -21,7 +21,7 @@ use Rattle.curp_facts.specs.Invariant.{Invariant}
 use Rattle.curp_facts.specs.Nodes.{BackupOk, MasterOk, StartedAt, WitnessOk}
 use Rattle.curp_facts.specs.Reach.{IsReady, Whole}
 use Rattle.curp_facts.specs.Said.{Says}
-use Rattle.curp_law_growth.proofs.Deeds.{IsFor}
+use Rattle.curp_law_growth.specs.Deeds.{IsFor}
 use Rattle.curp_law_keepers.specs.BackupEffect.{BackupEffect, BackupSays}
 use Rattle.curp_law_keepers.specs.WitnessEffect.{WitnessEffect, WitnessSays}
 use Rattle.curp_law_kept.proofs.Apart.{either_node}

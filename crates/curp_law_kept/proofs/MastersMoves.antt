@@ -21,7 +21,7 @@ use Rattle.curp_facts.specs.Facts.{ByReplacement, WasSent, lists_of_prepare}
 use Rattle.curp_facts.specs.Growth.{Grows}
 use Rattle.curp_facts.specs.Kept.{lists_of_master}
 use Rattle.curp_facts.specs.Nodes.{RecoveringOk, ServingOk}
-use Rattle.curp_law_growth.proofs.Deeds.{IsFor}
+use Rattle.curp_law_growth.specs.Deeds.{IsFor}
 use Rattle.curp_law_kept.proofs.Apart.{one_some}
 use Rattle.curp_law_kept.proofs.Known.{Frame, Known, from_manager}
 use Rattle.curp_law_kept.proofs.MastersHeard.{filled, recovery_hears, serving_hears}
