@@ -4,3 +4,4 @@ pub mod Backups
 pub mod Witnesses
 pub mod ManagersSay
 pub mod ManagersAdopt
+pub mod ManagersDo
