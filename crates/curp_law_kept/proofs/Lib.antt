@@ -5,3 +5,5 @@ pub mod Witnesses
 pub mod ManagersSay
 pub mod ManagersAdopt
 pub mod ManagersDo
+pub mod ManagersReady
+pub mod ManagersKeep
