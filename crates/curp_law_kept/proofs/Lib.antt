@@ -7,3 +7,4 @@ pub mod ManagersAdopt
 pub mod ManagersDo
 pub mod ManagersReady
 pub mod ManagersKeep
+pub mod Opened
