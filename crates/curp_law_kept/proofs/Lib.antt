@@ -8,3 +8,4 @@ pub mod ManagersDo
 pub mod ManagersReady
 pub mod ManagersKeep
 pub mod Opened
+pub mod Predecessors

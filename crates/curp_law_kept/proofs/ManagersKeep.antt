@@ -22,7 +22,7 @@ use Rattle.curp_model.specs.Manager.{Attempted, ManagerState, Migration, manager
 use Rattle.curp_model.specs.Named.{IsBackup, IsMaster, IsWitness}
 use Rattle.curp_model.specs.Recovery.{Fresh, MasterStage}
 use Rattle.curp_model.specs.Witness.{WitnessState, fresh_witness}
-use Rattle.curp_model.specs.World.{World, completion, grown, messages}
+use Rattle.curp_model.specs.World.{Gives, World, completion, events_of, grown, messages}
 use Rattle.curp_facts.specs.ClientNumbers.{NumbersOk}
 use Rattle.curp_facts.specs.Facts.{IsAdoptedNow, IsAmong, IsGiven, HasLog, Lists, WasOrdered, WasSent}
 use Rattle.curp_facts.specs.Growth.{Grows}
@@ -76,6 +76,10 @@ fresh_backup_ok v l = record { installed = λ e some. absurd (no_epoch some); em
 fresh_witness_ok : (v : World) (sets ways : ℕ) → WitnessOk v (fresh_witness sets ways)
 unfolding IsDistinct
 fresh_witness_ok v sets ways = record { started = λ normal. absurd cc; held = tt; apart = tt }
+
+-- what is given to the manager is no order to invoke
+pub nothing_invoked : (w : World) (to : NodeId) (given : Input) → to ≡ manager_node → events_of w (Gives to given) ≡ []
+nothing_invoked w to given is = subst (λ (node : NodeId). events_of w (Gives node given) ≡ []) (sym is) refl
 
 module _ {w : World} (known : Known w) (given : Input) (for : IsFor w manager_node given) (adopted : Option Attempted) (events : List Event) (none : events ≡ []) where
   abbrev r : Moved ManagerState

@@ -88,7 +88,7 @@ module _ {w v : World} (known : Known w) (after : Names v) (later : Later w v) (
 
   -- ---- lists that are given
 
-  pub orders_back : (node : NodeId) (b : Body) → WasSent v (says manager_node node b) → WasSent w (says manager_node node b) ⊎ Orders w node b
+  orders_back : (node : NodeId) (b : Body) → WasSent v (says manager_node node b) → WasSent w (says manager_node node b) ⊎ Orders w node b
   orders_back node b sent = elim (sent_cases w v out e (says manager_node node b) sent) [
     | inl was ↦ inl was
     | inr now ↦ inr (Each-at (Uttered w) out all now.place (says manager_node node b) now.stands).orders
