@@ -1,10 +1,12 @@
 -- An input to a backup keeps what nodes and messages keep.
-use Rattle.std.proofs.Common.{◌≡◌, inl, inr, ℕ, ◌-◌, List, [], ◌++◌, length, refl, ap, sym, ◌∙◌, subst, arith, Option, Some, None}
-use Rattle.curp_base.specs.Words.{IsPrefix}
-use Rattle.curp_base.proofs.Lists.{overlap, prefix_trans}
-use Rattle.curp_cmd.specs.Node.{backup_node}
+use Rattle.std.proofs.Common.{◌≡◌, ◌≢◌, ◌⊎◌, inl, inr, ℕ, ◌+◌, ◌-◌, ◌<◌, ◌≤◌, List, [], ◌∷◌, ◌++◌, length, drop, refl, ap, sym, ◌∙◌, subst, arith, Option, Some, None}
+use Rattle.std.specs.Bool.{⊤}
+use Rattle.curp_base.specs.Words.{At, Each, IsPrefix}
+use Rattle.curp_base.proofs.Lists.{Each-at, overlap, prefix_trans}
+use Rattle.curp_cmd.specs.Node.{backup_node, manager_node}
 use Rattle.curp_cmd.specs.declared.entry.Entry.{Entry}
 use Rattle.curp_cmd.specs.declared.node.NodeId.{NodeId}
+use Rattle.curp_cmd.specs.declared.node.NodeKind.TheVariants as kind
 use Rattle.curp_msg.specs.Moved.{says}
 use Rattle.curp_msg.specs.declared.answer.AppendAnswer.{AppendAnswer}
 use Rattle.curp_msg.specs.declared.answer.AppendAnswer.TheVariants.{Stored}
@@ -19,16 +21,19 @@ use Rattle.curp_msg.specs.declared.machine.Input.{Input}
 use Rattle.curp_msg.specs.declared.message.Message.{Message}
 use Rattle.curp_model.specs.Backup.{BackupState, longer}
 use Rattle.curp_model.specs.Named.{IsBackup}
-use Rattle.curp_model.specs.World.{World}
+use Rattle.curp_model.specs.Recovery.{MasterStage}
+use Rattle.curp_model.specs.Witness.{WitnessState}
+use Rattle.curp_model.specs.World.{World, messages}
 use Rattle.curp_facts.specs.Facts.{FenceReplyOk, HasLog, IsAmong, IsGiven, Lists, Logged, WasSent}
+use Rattle.curp_facts.specs.Kept.{FollowsLog}
 use Rattle.curp_facts.specs.Nodes.{BackupOk}
-use Rattle.curp_facts.specs.Said.{AppendHolds, AppendSaid, IsOrderedTo, Says}
+use Rattle.curp_facts.specs.Said.{AppendHolds, AppendSaid, AppendedSaid, IsOrderedTo, Says}
 use Rattle.curp_law_growth.proofs.Deeds.{IsFor}
-use Rattle.curp_law_keepers.specs.BackupEffect.{AppendAnswerSays, AppendedSays, BackupAnswers, BackupMove, BackupSays, ByAppend, ByFence, ByInstall, Extends, FenceAnswerSays, FenceReplySays, Rests}
+use Rattle.curp_law_keepers.specs.BackupEffect.{AppendAnswerSays, AppendedSays, BackupAnswers, BackupEffect, BackupMove, BackupSays, ByAppend, ByFence, ByInstall, Extends, FenceAnswerSays, FenceReplySays, Installs, RaisesFence, Rests}
 use Rattle.curp_law_keepers.specs.Brought.{Brings}
 use Rattle.curp_law_keepers.proofs.Brought.{brought_sent}
 use Rattle.curp_law_kept.proofs.Known.{Known, from_manager, said}
-use Rattle.curp_law_names.specs.Names.{InstallOk, OrderOk}
+use Rattle.curp_law_names.specs.Names.{Agree, InstallOk, OrderOk}
 use Rattle.curp_law_stays.proofs.Nodes.{backup_ok_later}
 use Rattle.curp_law_stays.proofs.Words.{Follows, given_later, log_later, sent_later}
 
@@ -48,15 +53,14 @@ module _ {w v : World} (known : Known w) (s : Follows w v) (n : ℕ) (given : In
   appended_says : (place : ℕ) (to : NodeId) (a : Appended) → AppendedSays given c to a → Says v place (backup_node n) to (body.Appended a)
   appended_says place to a ok =
       let sent = append_came to ok.append ok.came in
-      let its : AppendSaid w to (backup_node n) ok.append = said known to (backup_node n) (body.Append ok.append) sent in (
-        record { lists = its.lists; given = given_later s its.given; its_master = its.its_master; its_epoch = its.its_epoch ∙ sym ok.epoch; its_backup = its.its_backup },
-        stored_says to a ok.append sent ok.epoch ok.round a.answer ok.answer,
-      )
+      let its : AppendSaid w to (backup_node n) ok.append = said known to (backup_node n) (body.Append ok.append) sent in
+      (record { lists = its.lists; given = given_later s its.given; its_master = its.its_master; its_epoch = its.its_epoch ∙ sym ok.epoch; its_backup = its.its_backup },
+        stored_says to a ok.append sent ok.epoch ok.round a.answer ok.answer)
 
   fence_says : (place : ℕ) (to : NodeId) (a : FenceAnswer) → FenceAnswerSays given c to a → Says v place (backup_node n) to (body.FenceAnswer a)
   fence_says place to a ok =
       let o : IsOrderedTo w to (λ o. (o.epoch ≡ a.epoch) × (o.backup ≡ backup_node n))
-      = said known to (backup_node n) (body.Fence a.epoch) (brought_sent w (backup_node n) given to (body.Fence a.epoch) for ok.came) in
+            = said known to (backup_node n) (body.Fence a.epoch) (brought_sent w (backup_node n) given to (body.Fence a.epoch) for ok.came) in
       let home : OrderOk w to o.0 = known.names.manager_says to (body.Recover o.0) o.1 in
       ((o.0, sent_later s o.1, o.2), reply a.answer ok.answer home o.2.0 o.2.1)
     where
@@ -100,7 +104,7 @@ module _ {w v : World} (known : Known w) (s : Follows w v) (n : ℕ) (given : In
         let o = log_later s l.master its.holds.l has in
         let front : IsPrefix b.log its.holds.l.log = begins has in
         let longer_front : IsPrefix (longer b.log x.append.base x.append.entries) its.holds.l.log
-        = overlap x.append.base (length b.log - x.append.base) b.log x.append.entries its.holds.l.log (omega (arith, x.no_gap)) front its.holds.part in
+              = overlap x.append.base (length b.log - x.append.base) b.log x.append.entries its.holds.l.log (omega (arith, x.no_gap)) front its.holds.part in
         subst (BackupOk v l) (sym x.after)
         (record {
           installed = before.installed;

@@ -1,5 +1,5 @@
 -- All that is known of a world before a step, and what stays where one backup, witness or master alone has moved.
-use Rattle.std.proofs.Common.{◌≡◌, ◌≢◌, ℕ, ◌+◌, List, ◌++◌, length, ap, sym, ◌∙◌, subst, Some}
+use Rattle.std.proofs.Common.{◌≡◌, ◌≢◌, ◌⊎◌, inl, inr, ℕ, ◌+◌, ◌<◌, ◌≤◌, List, [], ◌∷◌, ◌++◌, length, refl, ap, sym, ◌∙◌, subst, arith, Some}
 use Rattle.curp_base.specs.Words.{At, Each, numbered}
 use Rattle.curp_base.proofs.Lists.{Each-at}
 use Rattle.curp_cmd.specs.Node.{manager_node}
@@ -14,11 +14,11 @@ use Rattle.curp_msg.specs.declared.config.PartConfig.{PartConfig}
 use Rattle.curp_msg.specs.declared.message.Message.{Message}
 use Rattle.curp_order.specs.Order.{IsHistory}
 use Rattle.curp_order.specs.declared.Event.{Event}
-use Rattle.curp_order.specs.declared.Event.TheVariants.{Complete}
+use Rattle.curp_order.specs.declared.Event.TheVariants.{Invoke, Complete}
 use Rattle.curp_model.specs.Client.{ClientState}
 use Rattle.curp_model.specs.Manager.{ManagerState, Migration}
 use Rattle.curp_model.specs.World.{World, messages}
-use Rattle.curp_facts.specs.Facts.{EntryWas, IsAdoptedNow, IsGiven, Lists, WasSent}
+use Rattle.curp_facts.specs.Facts.{EntryWas, IsAdoptedNow, IsGiven, Lists, WasSent, lists_of_part}
 use Rattle.curp_facts.specs.ClientNumbers.{NumbersOk}
 use Rattle.curp_facts.specs.Evidence.{KnowledgeOk}
 use Rattle.curp_facts.specs.Growth.{Steady}

@@ -1,14 +1,16 @@
 -- Where one node has said more: what was said by others was said before.
-use Rattle.std.proofs.Common.{◌≡◌, ◌≢◌, ◌⊎◌, inl, inr, ℕ, ◌+◌, List, ◌++◌, length, refl, sym, subst}
+use Rattle.std.proofs.Common.{◌≡◌, ◌≢◌, ◌⊎◌, inl, inr, ℕ, ◌+◌, ◌<◌, ◌≤◌, List, [], ◌∷◌, ◌++◌, length, refl, ap, sym, ◌∙◌, subst, arith, Some}
 use Rattle.curp_base.specs.Words.{At, Each}
-use Rattle.curp_base.proofs.Lists.{Each-at, at_append_cases, at_append_right}
+use Rattle.curp_base.proofs.Lists.{Each-at, at_append, at_append_cases, at_append_right}
 use Rattle.curp_cmd.specs.Node.{manager_node}
 use Rattle.curp_cmd.specs.declared.node.NodeId.{NodeId}
+use Rattle.curp_cmd.specs.declared.node.NodeKind.{NodeKind}
+use Rattle.curp_cmd.specs.declared.node.NodeKind.TheVariants as kind
 use Rattle.curp_msg.specs.declared.message.Message.{Message}
 use Rattle.curp_model.specs.Manager.{Shape, opening_config}
 use Rattle.curp_model.specs.World.{World, messages}
 use Rattle.curp_facts.specs.Facts.{AtOpening, ByRecovery, ByReplacement, IsAmong, IsGiven, Lists, WasAdopted, WasSent}
-use Rattle.curp_facts.specs.Reach.{IsReady}
+use Rattle.curp_facts.specs.Reach.{IsReady, RecoveredTo}
 use Rattle.curp_facts.specs.Said.{Says}
 use Rattle.curp_law_stays.proofs.Masters.{SaysNoMore}
 

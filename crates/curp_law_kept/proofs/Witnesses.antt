@@ -1,8 +1,9 @@
 -- An input to a witness keeps what nodes and messages keep.
-use Rattle.std.proofs.Common.{◌≡◌, inl, inr, ℕ, zero, suc, List, [], ◌∷◌, map, refl, ap, sym, ◌∙◌, subst, Option, Some}
+use Rattle.std.proofs.Common.{◌≡◌, ◌≢◌, ◌⊎◌, inl, inr, ℕ, zero, suc, ◌+◌, ◌<◌, ◌≤◌, true, List, [], ◌∷◌, ◌++◌, length, map, refl, ap, sym, ◌∙◌, subst, arith, Option, Some, None}
+use Rattle.std.specs.Bool.{⊤}
 use Rattle.curp_base.specs.Words.{At, Each}
 use Rattle.curp_base.proofs.Lists.{Each-at, Each-from_at, at_map}
-use Rattle.curp_cmd.specs.Node.{client_node, witness_node}
+use Rattle.curp_cmd.specs.Node.{client_node, manager_node, witness_node}
 use Rattle.curp_cmd.specs.declared.command.Request.{Request}
 use Rattle.curp_cmd.specs.declared.command.RequestId.{RequestId}
 use Rattle.curp_cmd.specs.declared.node.NodeId.{NodeId}
@@ -20,7 +21,7 @@ use Rattle.curp_order.specs.declared.Event.TheVariants.{Invoke}
 use Rattle.curp_model.specs.declared.Mode.{Mode}
 use Rattle.curp_model.specs.declared.Mode.TheVariants.{Normal, Frozen}
 use Rattle.curp_model.specs.Named.{IsWitness}
-use Rattle.curp_model.specs.Witness.{HeldRequest, WitnessState}
+use Rattle.curp_model.specs.Witness.{HeldRequest, WitnessState, frozen_requests}
 use Rattle.curp_model.specs.World.{World}
 use Rattle.curp_facts.specs.Entries.{UpdateOk}
 use Rattle.curp_facts.specs.Facts.{IsAmong, IsGiven, Lists, WasSent}
@@ -28,7 +29,7 @@ use Rattle.curp_facts.specs.Nodes.{StartedAt, WitnessOk}
 use Rattle.curp_facts.specs.Said.{Says, SuspectsHold, UpdateSaid}
 use Rattle.curp_law_growth.proofs.Deeds.{IsFor}
 use Rattle.curp_law_keepers.specs.Brought.{Brings}
-use Rattle.curp_law_keepers.specs.WitnessEffect.{AcceptedSays, ByFreeze, ByStart, GcAnswerSays, RejectedSays, Stays, WitnessAnswers, WitnessEffect, WitnessLife, WitnessSays, held_requests}
+use Rattle.curp_law_keepers.specs.WitnessEffect.{AcceptedSays, ByFreeze, ByStart, Freezes, GcAnswerSays, GoesOn, IsRecorded, RejectedSays, Starts, Stays, WitnessAnswers, WitnessEffect, WitnessLife, WitnessSays, held_requests}
 use Rattle.curp_law_keepers.proofs.Brought.{brought_sent}
 use Rattle.curp_law_kept.proofs.Known.{Known, from_manager, said}
 use Rattle.curp_law_names.specs.Names.{StartOk}
@@ -92,7 +93,7 @@ module _ {w v : World} (known : Known w) (s : Follows w v) (n : ℕ) (given : In
           let sent = brought_sent w (witness_node n) given g.from (body.Start g.start) for g.came in
           let from = from_manager known g.from (witness_node n) (body.Start g.start) refl sent in
           let ok : StartOk w (witness_node n) g.start
-          = known.names.manager_says (witness_node n) (body.Start g.start) (subst (λ (from : NodeId). WasSent w (says from (witness_node n) (body.Start g.start))) from sent) in
+                = known.names.manager_says (witness_node n) (body.Start g.start) (subst (λ (from : NodeId). WasSent w (says from (witness_node n) (body.Start g.start))) from sent) in
           let agree = known.names.agree l ok.lists here ok.given in
           one g.epoch e ∙ ok.its_epoch ∙ sym (agree.by_master (agree.by_witness (witness_node n) named ok.named)).1
 
