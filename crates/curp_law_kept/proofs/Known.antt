@@ -16,19 +16,20 @@ use Rattle.curp_order.specs.Order.{IsHistory}
 use Rattle.curp_order.specs.declared.Event.{Event}
 use Rattle.curp_order.specs.declared.Event.TheVariants.{Complete}
 use Rattle.curp_model.specs.Client.{ClientState}
-use Rattle.curp_model.specs.Manager.{ManagerState}
+use Rattle.curp_model.specs.Manager.{ManagerState, Migration}
 use Rattle.curp_model.specs.World.{World, messages}
 use Rattle.curp_facts.specs.Facts.{EntryWas, IsAdoptedNow, IsGiven, Lists, WasSent}
 use Rattle.curp_facts.specs.ClientNumbers.{NumbersOk}
 use Rattle.curp_facts.specs.Evidence.{KnowledgeOk}
 use Rattle.curp_facts.specs.Growth.{Steady}
-use Rattle.curp_facts.specs.Invariant.{Invariant, PresentOk}
+use Rattle.curp_facts.specs.Invariant.{Invariant, MovingOk, PresentOk}
 use Rattle.curp_facts.specs.Nodes.{ClientOk, CompletedBy, MayCome}
 use Rattle.curp_facts.specs.Said.{Says}
 use Rattle.curp_law_names.specs.Names.{IsOf, Names}
 use Rattle.curp_law_names.specs.Nodes.{MessageFits, Nodes, sender_kind}
 use Rattle.curp_law_keepers.proofs.ClientLater.{knowledge_grows}
 use Rattle.curp_law_kept.proofs.Moved.{given_back, messages_say}
+use Rattle.curp_law_stays.proofs.Entries.{ordered_later}
 use Rattle.curp_law_stays.proofs.Nodes.{completed_by_later}
 use Rattle.curp_law_stays.proofs.Said.{entry_was_later, says_later}
 use Rattle.curp_law_stays.proofs.Words.{Follows, ready_later, sent_later}
@@ -78,6 +79,11 @@ module _ {w v : World} (known : Known w) (s : Follows w v) {out : List Message} 
       let before : IsAdoptedNow w c = subst (λ (g : ManagerState). numbered g.config.parts c.part ≡ Some c) f.manager now in
       let ok = known.inv.present c before in
       record { entry = entry_was_later s c ok.entry; ready = ready_later s ok.ready }
+
+  pub moving_stays : (m : Migration) → v.manager.moving ≡ Some m → MovingOk v m
+  moving_stays m its =
+      let ok = known.inv.moving m (subst (λ (g : ManagerState). g.moving ≡ Some m) f.manager its) in
+      record { ordered = ordered_later s ok.ordered; told = λ p is. let t = ok.told p is in record { node = t.node; told = sent_later s t.told } }
 
   pub clients_stay : (n : ℕ) (c : ClientState) → numbered v.clients n ≡ Some c → ClientOk v n c
   clients_stay n c here =

@@ -17,3 +17,10 @@ pub mod MastersPrepared
 pub mod MastersRecovering
 pub mod MastersSaid
 pub mod Keepers
+pub mod ManagersSay
+pub mod ManagersAdopt
+pub mod ManagersDo
+pub mod ManagersReady
+pub mod ManagersKeep
+pub mod Opened
+pub mod Predecessors

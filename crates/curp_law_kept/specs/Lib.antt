@@ -1,0 +1,2 @@
+pub mod ManagerEffect
+pub mod Predecessors
