@@ -25,8 +25,9 @@ use Rattle.curp_law_kept.proofs.Known.{Known}
 use Rattle.curp_law_kept.proofs.Moved.{messages_say}
 use Rattle.curp_law_kept.proofs.Others.{SaysMore, backups_stay, masters_stay, nothing_ready, started_stay, witnesses_stay}
 use Rattle.curp_law_names.proofs.Later.{Later}
+use Rattle.curp_law_stays.proofs.Entries.{ordered_later}
 use Rattle.curp_law_stays.proofs.Said.{entry_was_later, says_later}
-use Rattle.curp_law_stays.proofs.Words.{Follows, one_state, ready_later}
+use Rattle.curp_law_stays.proofs.Words.{Follows, one_state, ready_later, sent_later}
 
 -- the world after an input to client n that isn't refused
 pub record ClientMoved (w v : World) (n : ℕ) (given : Input) (c : ClientState) : Type 0 where
@@ -88,4 +89,7 @@ module _ {w v : World} (known : Known w) (n : ℕ) (given : Input) (c : ClientSt
     messages = messages_say w v (client_input n c given).messages moved.sent (λ k m at. says_later follows known.inv k m.from m.to m.body (known.inv.messages k m at))
         (λ j m at. client_said known n given moved.for c moved.was moved.made follows moved.history j m at (length (messages w) + j));
     present = present;
+    moving = λ m its.
+        let ok = known.inv.moving m (subst (λ (g : ManagerState). g.moving ≡ Some m) moved.manager its) in
+        record { ordered = ordered_later follows ok.ordered; told = λ p is. let t = ok.told p is in record { node = t.node; told = sent_later follows t.told } };
   }

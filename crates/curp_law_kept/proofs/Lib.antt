@@ -16,11 +16,10 @@ pub mod MastersSay
 pub mod MastersPrepared
 pub mod MastersRecovering
 pub mod MastersSaid
-pub mod Keepers
+pub mod MasterSteps
 pub mod ManagersSay
 pub mod ManagersAdopt
 pub mod ManagersDo
 pub mod ManagersReady
 pub mod ManagersKeep
 pub mod Opened
-pub mod Predecessors

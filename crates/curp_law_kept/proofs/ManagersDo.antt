@@ -22,7 +22,7 @@ use Rattle.curp_model.specs.Ranges.{Range, range_of}
 use Rattle.curp_model.specs.World.{World}
 use Rattle.curp_facts.specs.Facts.{IsMasterOf, WasTaken, GivenTo, IsAmong, TakenFrom, WasOrdered, WasSent, lists_of_part}
 use Rattle.curp_facts.specs.Invariant.{take_order}
-use Rattle.curp_law_growth.proofs.Deeds.{IsFor}
+use Rattle.curp_law_growth.specs.Deeds.{IsFor}
 use Rattle.curp_law_kept.specs.ManagerEffect.{EntryKeeps, ManagerEffect, MovingKeeps}
 use Rattle.curp_law_kept.proofs.Known.{Known}
 use Rattle.curp_law_kept.proofs.ManagersAdopt.{prepared_does, recover_does, recovered_does, replace_does}

@@ -28,7 +28,7 @@ use Rattle.curp_facts.specs.Facts.{IsAdoptedNow, IsAmong, IsGiven, HasLog, Lists
 use Rattle.curp_facts.specs.Growth.{Grows}
 use Rattle.curp_facts.specs.Invariant.{Invariant, MovingOk, PresentOk}
 use Rattle.curp_facts.specs.Nodes.{BackupOk, ClientOk, FreshOk, MasterOk, StartedAt, WitnessOk}
-use Rattle.curp_law_growth.proofs.Deeds.{IsFor}
+use Rattle.curp_law_growth.specs.Deeds.{IsFor}
 use Rattle.curp_law_kept.specs.ManagerEffect.{EntryKeeps, IsOrdered, ManagerEffect, Uttered}
 use Rattle.curp_law_kept.proofs.Known.{Known, fits, knows_later}
 use Rattle.curp_law_kept.proofs.ManagersDo.{manager_does}

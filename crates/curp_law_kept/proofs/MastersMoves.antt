@@ -82,7 +82,7 @@ module _ {w : World} (known : Known w) (n : ℕ) where
   Goal from heard m r = StageMove w n from heard m r.state r.messages
 
   recovery_move : (s : RecoveryState) (r : Moved RecoveryState) → RecoveryMove w n s r → RecoveryMove w n s (sends r.state r.messages)
-  recovery_move s r k = record { order = k.order; stage = k.stage; waits = k.waits; says = k.says; refused = refl }
+  recovery_move s r k = record { order = k.order; stage = k.stage; waits = k.waits; says = k.says; refused = refl; idle = refl }
 
   serving_move : (m : MasterState) (from : NodeId) (heard : Option Body) (r : Moved MasterState) → ServingMove w n m from heard r → ServingMove w n m from heard (sends r.state r.messages)
   serving_move m from heard r k = record {
@@ -97,6 +97,7 @@ module _ {w : World} (known : Known w) (n : ℕ) where
     since = k.since;
     says = k.says;
     refused = refl;
+    idle = refl;
   }
 
   module _ (m : MasterState) (is : IsMaster w (master_node n) (Serving m)) where

@@ -20,7 +20,7 @@ use Rattle.curp_law_kept.proofs.MastersMoves.{MasterStep}
 use Rattle.curp_law_kept.proofs.MastersPrepared.{prepared_says}
 use Rattle.curp_law_kept.proofs.MastersReady.{step_follows}
 use Rattle.curp_law_kept.proofs.MastersRecovering.{recovering_says}
-use Rattle.curp_law_kept.proofs.MastersSay.{append_says, entry_says, gc_says, reply_says, worth_says}
+use Rattle.curp_law_kept.proofs.MastersSay.{append_says, entry_says, gc_says, give_ordered, reply_says, worth_says}
 use Rattle.curp_law_masters.specs.Moves.{IsSaidBy, PreparedSays, RecoverySays, ServingSays}
 use Rattle.curp_law_masters.specs.Stages.{FreshSays}
 use Rattle.curp_law_stays.proofs.Entries.{refusal_later}
@@ -44,7 +44,7 @@ module _ {w v : World} (known : Known w) {n : ℕ} {from : NodeId} {heard : Opti
     serving_says place late to (body.Gc g) now k = gc_says known s place late to g k
     serving_says place late to (body.Prepared version) now k = serving_prepared to version k.1 k.0 now place
     serving_says place late to (body.Taken t) now k = entry_says known s (IsTakeOf t.migration t.package) k.0
-    serving_says place late to (body.Given migration) now k = entry_says known s (IsGiveFrom migration) k.0
+    serving_says place late to (body.Given migration) now k = (entry_says known s (IsGiveFrom migration) k.0, give_ordered known s migration k.2)
     serving_says place late to _ now k = absurd k
 
   -- ---- each message

@@ -28,7 +28,7 @@ use Rattle.curp_facts.specs.Facts.{ByReplacement, HasLog, IsAmong, IsGiven, List
 use Rattle.curp_facts.specs.Kept.{IsCollectable, lists_of_master}
 use Rattle.curp_facts.specs.Nodes.{AcknowledgedOk, FreeOp, ServingOk}
 use Rattle.curp_facts.specs.Reach.{EarlySaid, GcSaid, HasMany, IsReady, Reach, RecoveredTo, SyncedSaid}
-use Rattle.curp_facts.specs.Said.{AppendSaid, GcHolds, ReplyHolds, ReplySaid, StoredEntry, WorthSaid}
+use Rattle.curp_facts.specs.Said.{GiveWasOrdered, AppendSaid, GcHolds, ReplyHolds, ReplySaid, StoredEntry, WorthSaid}
 use Rattle.curp_law_kept.proofs.Known.{Known}
 use Rattle.curp_law_kept.proofs.MastersHeard.{order_lowest}
 use Rattle.curp_law_kept.proofs.MastersKept.{lists_adopted, master_keeps}
@@ -36,9 +36,11 @@ use Rattle.curp_law_kept.proofs.MastersMoves.{MasterStep}
 use Rattle.curp_law_kept.proofs.MastersReady.{given_was, manager_was, many_now, no_switch, step_follows}
 use Rattle.curp_law_logs.specs.Standing.{StandsHere}
 use Rattle.curp_law_logs.proofs.Noted.{stands_at, stands_here}
-use Rattle.curp_law_masters.specs.Moves.{AppendSays, CollectableIn, EarlySays, GcSays, ReplyKind, ReplySays, ServingMove, StoredSays, SyncedSays, WorthSays}
+use Rattle.curp_law_masters.specs.Moves.{GiveOrdered, AppendSays, CollectableIn, EarlySays, GcSays, ReplyKind, ReplySays, ServingMove, StoredSays, SyncedSays, WorthSays}
 use Rattle.curp_law_masters.proofs.Synced.{synced_many}
-use Rattle.curp_law_names.proofs.Lists.{among_cases, filter_among}
+use Rattle.curp_law_kept.proofs.Apart.{among_cases}
+use Rattle.curp_law_names.proofs.Lists.{filter_among}
+use Rattle.curp_law_stays.proofs.Entries.{ordered_later}
 use Rattle.curp_law_stays.proofs.Words.{Follows, adopted_later, event_at, given_later, message_at}
 
 -- ---- what is synced lies in the log
@@ -271,4 +273,14 @@ module _ {w v : World} (known : Known w) {n : ℕ} {from : NodeId} {heard : Opti
     stands = k.stands;
     is = k.is;
     reach = reach_open k.serves y.version (k.index + 1) refl (omega (arith, k.below));
+  }
+
+  -- a give that it tells was ordered of its partition
+  pub give_ordered : (migration : ℕ) → GiveOrdered w y.part migration → GiveWasOrdered v (master_node n) migration
+  give_ordered migration k = record {
+    part = y.part;
+    its_part = record { lists = lists_of_master (master_node n) y; given = given_later f was_adopted.given; its_master = refl; its_part = refl };
+    parcel = k.parcel;
+    ordered = ordered_later f k.ordered;
+    its_number = k.its_number;
   }

@@ -25,7 +25,6 @@ use Rattle.curp_facts.specs.Nodes.{BackupOk, ClientOk, MasterOk, StartedAt, Witn
 use Rattle.curp_facts.specs.Reach.{HasStored}
 use Rattle.curp_facts.specs.Run.{IsHeader}
 use Rattle.curp_law_keepers.proofs.ClientLater.{fresh_knows, fresh_numbers, no_history}
-use Rattle.curp_law_kept.specs.Predecessors.{Predecessors}
 use Rattle.curp_law_names.specs.Names.{IsOf}
 use Rattle.curp_law_names.proofs.Lists.{among_each, at_mapped, each_among, numbers_back, place as place_of}
 use Rattle.curp_law_names.proofs.Opened.{opening_names}
@@ -178,7 +177,3 @@ module _ (h : Header) (its : IsHeader h) where
     present = present_first;
     moving = moving_first;
   }
-
-  -- no lists are of a later epoch
-  pub opening_predecessors : Predecessors start
-  opening_predecessors = record { of = λ l was later. absurd (omega (arith, first_epoch l was.given, later)) }

@@ -1,2 +1,1 @@
 pub mod ManagerEffect
-pub mod Predecessors

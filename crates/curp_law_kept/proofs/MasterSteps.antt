@@ -26,7 +26,7 @@ use Rattle.curp_law_keepers.specs.BackupEffect.{BackupEffect, BackupSays}
 use Rattle.curp_law_keepers.specs.WitnessEffect.{WitnessEffect, WitnessSays}
 use Rattle.curp_law_kept.proofs.Apart.{either_node}
 use Rattle.curp_law_kept.proofs.Backups.{backup_keeps, backup_says}
-use Rattle.curp_law_kept.proofs.Known.{Frame, Known, all_say, clients_stay, completed_stays, given_before, history_stays, present_stays}
+use Rattle.curp_law_kept.proofs.Known.{Frame, Known, all_say, clients_stay, completed_stays, given_before, history_stays, present_stays, moving_stays}
 use Rattle.curp_law_kept.proofs.MastersKept.{master_keeps}
 use Rattle.curp_law_kept.proofs.MastersMoves.{MasterStep, input_step}
 use Rattle.curp_law_kept.proofs.MastersReady.{step_follows}
@@ -77,6 +77,7 @@ module _ {w v : World} (known : Known w) where
       completed = completed_stays known s f;
       messages = all_say known s f say;
       present = present_stays known s f;
+      moving = moving_stays known s f;
     }
 
   -- ---- nodes that are as they were
@@ -118,104 +119,3 @@ module _ {w v : World} (known : Known w) where
       → Frame w v (master_input n m given).messages (master_node n) → IsMaster v (master_node n) (master_input n m given).state
       → ((node : NodeId) (x : MasterStage) → node ≢ master_node n → IsMaster v node x → IsMaster w node x) → v.backups ≡ w.backups → v.witnesses ≡ w.witnesses → Invariant v
   master_input_keeps n m given here for grows later frame is others backups witnesses = master_step_keeps (input_step known n v m given here for grows later frame is others backups witnesses)
-
-  -- ---- keepers
-
-  -- no lists become ready where no master has moved
-  module _ {out : List Message} {mover : NodeId} (grows : Grows w v) (later : Later w v) (f : Frame w v out mover) (not_master : mover.kind ≢ kind.Master) where
-    other_kind : (node : NodeId) → node.kind ≡ kind.Master → node ≢ mover
-    other_kind node is same = not_master (ap (λ (x : NodeId). x.kind) (sym same) ∙ is)
-
-    keeper_ready : (l : Lists) → IsReady v l → IsReady w l ⊎ Whole v l
-    keeper_ready l ready =
-        let given = given_back w v out f.sent mover f.all (ap (λ (g : ManagerState). g.shape) f.manager) f.not_manager l ready.given in
-        inl (ready_back w v out f.sent mover f.all (ap (λ (g : ManagerState). g.shape) f.manager) f.not_manager l (other_kind l.master (known.names.given l given).master.0) ready)
-
-    keeper_follows : Follows w v
-    keeper_follows = record { grows = grows; later = later; names = known.names; steady = known.steady; ready = keeper_ready }
-
-    keeper_masters : v.masters ≡ w.masters → (node : NodeId) (m : MasterStage) → IsMaster v node m → MasterOk v node m
-    keeper_masters same node m is = master_stays keeper_follows f node m (other_kind node is.its_kind) (masters_same same node m is)
-
--- backup n has moved, and it alone
-pub record BackupStep (w v : World) (n : ℕ) (given : Input) (b : BackupState) (r : Moved BackupState) : Type 0 where
-  pub grows : Grows w v
-  pub later : Later w v
-  pub frame : Frame w v r.messages (backup_node n)
-  pub for : IsFor w (backup_node n) given
-  pub was : IsBackup w (backup_node n) b
-  pub is : IsBackup v (backup_node n) r.state
-  pub others : (node : NodeId) (x : BackupState) → node ≢ backup_node n → IsBackup v node x → IsBackup w node x
-  pub masters : v.masters ≡ w.masters
-  pub witnesses : v.witnesses ≡ w.witnesses
-  pub effect : BackupEffect n given b r
-
--- witness n has moved, and it alone
-pub record WitnessStep (w v : World) (n : ℕ) (given : Input) (x : WitnessState) (r : Moved WitnessState) : Type 0 where
-  pub grows : Grows w v
-  pub later : Later w v
-  pub frame : Frame w v r.messages (witness_node n)
-  pub for : IsFor w (witness_node n) given
-  pub was : IsWitness w (witness_node n) x
-  pub is : IsWitness v (witness_node n) r.state
-  pub others : (node : NodeId) (y : WitnessState) → node ≢ witness_node n → IsWitness v node y → IsWitness w node y
-  pub masters : v.masters ≡ w.masters
-  pub backups : v.backups ≡ w.backups
-  pub effect : WitnessEffect n given x r
-
-module _ {w v : World} (known : Known w) {n : ℕ} {given : Input} where
-  -- an input to a backup keeps all
-  module _ {b : BackupState} {r : Moved BackupState} (s : BackupStep w v n given b r) where
-    backup_kind : (backup_node n).kind ≢ kind.Master
-    backup_kind e = cc
-
-    pub backup_follows : Follows w v
-    backup_follows = keeper_follows known s.grows s.later s.frame backup_kind
-
-    pub backup_step_keeps : Invariant v
-    backup_step_keeps = assembled known backup_follows s.frame (keeper_masters known s.grows s.later s.frame backup_kind s.masters) backups
-        (λ node x is. witness_stays known backup_follows s.frame node x (witnesses_same known s.witnesses node x is))
-        (λ l here node named x is. started_stays known backup_follows s.frame l here node named x (witnesses_same known s.witnesses node x is))
-        (λ j m at. backup_says known backup_follows n given s.for b r.state s.was s.is (length (messages w) + j) m (Each-at (BackupSays n given r.state) r.messages s.effect.says j m at))
-      where
-        own : (l : Lists) → IsGiven v l → (node : NodeId) → node ≡ backup_node n → IsAmong node l.backups → (x : BackupState) → IsBackup v node x → BackupOk v l x
-        own l here node e named x is =
-            let same : r.state ≡ x = one_state _ r.state x s.is.its_state (subst (λ (z : NodeId). IsBackup v z x) e is).its_state in
-            subst (BackupOk v l) same
-            (backup_keeps known backup_follows n given s.for b r.state s.was s.is l (given_before known backup_follows s.frame l here) (subst (λ (z : NodeId). IsAmong z l.backups) e named) s.effect.move)
-
-        backups : (l : Lists) → IsGiven v l → (node : NodeId) → IsAmong node l.backups → (x : BackupState) → IsBackup v node x → BackupOk v l x
-        backups l here node named x is = elim (either_node node (backup_node n)) [
-          | inl e ↦ own l here node e named x is
-          | inr other ↦ backup_stays known backup_follows s.frame l here node named x (s.others node x other is)
-        ]
-
-  -- an input to a witness keeps all
-  module _ {x : WitnessState} {r : Moved WitnessState} (s : WitnessStep w v n given x r) where
-    witness_kind : (witness_node n).kind ≢ kind.Master
-    witness_kind e = cc
-
-    pub witness_follows : Follows w v
-    witness_follows = keeper_follows known s.grows s.later s.frame witness_kind
-
-    pub witness_step_keeps : Invariant v
-    witness_step_keeps = assembled known witness_follows s.frame (keeper_masters known s.grows s.later s.frame witness_kind s.masters)
-        (λ l here node named b is. backup_stays known witness_follows s.frame l here node named b (backups_same known s.backups node b is)) witnesses started
-        (λ j m at. witness_says known witness_follows n given s.for x r s.effect s.was s.is (length (messages w) + j) m (Each-at (WitnessSays n given r.state) r.messages s.effect.says j m at))
-      where
-        one : (node : NodeId) (y : WitnessState) → node ≡ witness_node n → IsWitness v node y → r.state ≡ y
-        one node y e is = one_state _ r.state y s.is.its_state (subst (λ (z : NodeId). IsWitness v z y) e is).its_state
-
-        witnesses : (node : NodeId) (y : WitnessState) → IsWitness v node y → WitnessOk v y
-        witnesses node y is = elim (either_node node (witness_node n)) [
-          | inl e ↦ subst (WitnessOk v) (one node y e is) (witness_keeps known witness_follows n given s.for x r s.effect s.was s.is)
-          | inr other ↦ witness_stays known witness_follows s.frame node y (s.others node y other is)
-        ]
-
-        started : (l : Lists) → IsGiven v l → (node : NodeId) → IsAmong node l.witnesses → (y : WitnessState) → IsWitness v node y → StartedAt l y
-        started l here node named y is = elim (either_node node (witness_node n)) [
-          | inl e ↦
-              subst (StartedAt l) (one node y e is)
-              (started_keeps known witness_follows n given s.for x r s.effect s.was s.is l (given_before known witness_follows s.frame l here) (subst (λ (z : NodeId). IsAmong z l.witnesses) e named))
-          | inr other ↦ started_stays known witness_follows s.frame l here node named y (s.others node y other is)
-        ]
