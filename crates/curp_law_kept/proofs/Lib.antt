@@ -23,3 +23,4 @@ pub mod ManagersDo
 pub mod ManagersReady
 pub mod ManagersKeep
 pub mod Opened
+pub mod Steps

@@ -1,8 +1,8 @@
--- A step in which one backup, one witness or one master alone has moved keeps what nodes and messages keep.
-use Rattle.std.proofs.Common.{◌≡◌, ◌≢◌, ◌⊎◌, inl, inr, ℕ, ◌+◌, List, length, ap, sym, ◌∙◌, subst, Option, Some}
+-- A step in which a master has moved, or nothing, keeps what nodes and messages keep.
+use Rattle.std.proofs.Common.{◌≡◌, ◌≢◌, ◌⊎◌, inl, inr, ℕ, ◌+◌, List, [], ◌++◌, length, ap, sym, ◌∙◌, subst, Option, Some}
 use Rattle.curp_base.specs.Words.{At, numbered}
 use Rattle.curp_base.proofs.Lists.{Each-at}
-use Rattle.curp_cmd.specs.Node.{backup_node, master_node, witness_node}
+use Rattle.curp_cmd.specs.Node.{backup_node, client_node, manager_node, master_node, witness_node}
 use Rattle.curp_cmd.specs.declared.node.NodeId.{NodeId}
 use Rattle.curp_cmd.specs.declared.node.NodeKind.TheVariants as kind
 use Rattle.curp_msg.specs.Moved.{Moved}
@@ -119,3 +119,39 @@ module _ {w v : World} (known : Known w) where
       → Frame w v (master_input n m given).messages (master_node n) → IsMaster v (master_node n) (master_input n m given).state
       → ((node : NodeId) (x : MasterStage) → node ≢ master_node n → IsMaster v node x → IsMaster w node x) → v.backups ≡ w.backups → v.witnesses ≡ w.witnesses → Invariant v
   master_input_keeps n m given here for grows later frame is others backups witnesses = master_step_keeps (input_step known n v m given here for grows later frame is others backups witnesses)
+
+-- where nothing moves, nothing changes
+pub nothing_keeps : {w v : World} → Known w → messages v ≡ messages w ++ [] → v.manager ≡ w.manager → v.masters ≡ w.masters → v.backups ≡ w.backups → v.witnesses ≡ w.witnesses
+    → v.clients ≡ w.clients → v.history ≡ w.history → Grows w v → Later w v → Invariant v
+nothing_keeps {w} {v} known sent manager masters backups witnesses clients history grows later =
+    assembled known s f
+    (λ node m is. master_stays known s f node m (apart node is.its_kind) (masters_same known masters node m is))
+    (λ l given node named b is. backup_stays known s f l given node named b (backups_same known backups node b is))
+    (λ node x is. witness_stays known s f node x (witnesses_same known witnesses node x is))
+    (λ l given node named x is. started_stays known s f l given node named x (witnesses_same known witnesses node x is))
+    (λ j m at. absurd cc)
+  where
+    apart : (node : NodeId) → node.kind ≡ kind.Master → node ≢ client_node 0
+    apart node k e = kinds (sym k ∙ ap (λ (x : NodeId). x.kind) e)
+      where
+        kinds : kind.Master ≡ kind.Client → ⊥
+        kinds e = cc
+
+    not_manager : manager_node ≢ client_node 0
+    not_manager e = kinds (ap (λ (x : NodeId). x.kind) e)
+      where
+        kinds : kind.Manager ≡ kind.Client → ⊥
+        kinds e = cc
+
+    f : Frame w v [] (client_node 0)
+    f = record { sent = sent; all = tt; not_manager = not_manager; manager = manager; clients = clients; history = history }
+
+    s : Follows w v
+    s = record {
+      grows = grows;
+      later = later;
+      names = known.names;
+      steady = known.steady;
+      ready = λ l ready. inl (ready_back w v [] sent (client_node 0) tt (ap (λ (g : ManagerState). g.shape) manager) not_manager l
+          (apart l.master (known.names.given l (given_back w v [] sent (client_node 0) tt (ap (λ (g : ManagerState). g.shape) manager) not_manager l ready.given)).master.0) ready);
+    }

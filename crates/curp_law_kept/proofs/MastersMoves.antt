@@ -1,6 +1,7 @@
 -- How one input leaves a master, by how far it is, in a world that a script reaches.
-use Rattle.std.proofs.Common.{◌≡◌, ◌≢◌, ℕ, ◌≤◌, List, [], length, refl, subst, Option, Some, None}
+use Rattle.std.proofs.Common.{◌≡◌, ◌≢◌, ℕ, ◌≤◌, List, [], length, refl, subst, sym, Option, Some, None}
 use Rattle.curp_base.specs.Words.{Each, numbered}
+use Rattle.curp_base.proofs.Lists.{Each-weaker}
 use Rattle.curp_cmd.specs.Node.{manager_node, master_node}
 use Rattle.curp_cmd.specs.declared.node.NodeId.{NodeId}
 use Rattle.curp_msg.specs.Moved.{Moved, says, sends}
@@ -25,7 +26,7 @@ use Rattle.curp_law_growth.specs.Deeds.{IsFor}
 use Rattle.curp_law_kept.proofs.Apart.{one_some}
 use Rattle.curp_law_kept.proofs.Known.{Frame, Known, from_manager}
 use Rattle.curp_law_kept.proofs.MastersHeard.{filled, recovery_hears, serving_hears}
-use Rattle.curp_law_masters.specs.Moves.{IsSaidBy, RecoveryMove, ServingMove}
+use Rattle.curp_law_masters.specs.Moves.{IsSaidBy, RecoveryMove, RecoverySays, ServingMove, ServingSays}
 use Rattle.curp_law_masters.specs.Stages.{BeginningOk, FreshSays}
 use Rattle.curp_law_masters.proofs.Inputs.{serving_moves}
 use Rattle.curp_law_masters.proofs.Ordered.{serving_ordered_moves}
@@ -149,6 +150,24 @@ module _ {w : World} (known : Known w) (n : ℕ) where
   order_move (Serving m) is order =
       serving_move m (master_node n) None (serving_ordered n m order) (serving_ordered_moves w n m (ok m is) (master_node n) None (own_filled m is) order)
 
+  -- nothing completes at a master
+  message_idle : (m : MasterStage) → IsMaster w (master_node n) m → (from : NodeId) (b : Body) → WasSent w (says from (master_node n) b) → (on_master n m from b).completed ≡ None
+  unfolding on_master
+  message_idle Fresh is from b sent = fresh_moves w n b (λ (r : Moved MasterStage). r.completed ≡ None) (λ o r it asks k. k.idle) (λ xs k. refl)
+  message_idle (Recovering s) is from b sent =
+      let recovering : RecoveringOk w (master_node n) s = known.inv.masters (master_node n) (Recovering s) is in
+      let home : OrderOk w (master_node n) s.order = known.names.manager_says (master_node n) (body.Recover s.order) recovering.ordered in
+      recovering_moves w n s home.its_lo home.its_hi recovering.stage from b (recovery_hears known n s is from b sent) (λ (r : Moved MasterStage). r.completed ≡ None) (λ r k. k.idle) (λ a r k it waits log begins. refl)
+  message_idle (Serving m) is from b sent = (serving_moves w n m (ok m is) (own_filled m is) (next_filled m is) from b (serving_hears known n m is from b sent)).idle
+
+  order_idle : (m : MasterStage) → IsMaster w (master_node n) m → (order : Local) → (master_ordered n m order).completed ≡ None
+  unfolding master_ordered
+  order_idle Fresh is order = refl
+  order_idle (Recovering s) is order =
+      let recovering : RecoveringOk w (master_node n) s = known.inv.masters (master_node n) (Recovering s) is in
+      (recovery_ordered_moves w n s recovering.stage order).idle
+  order_idle (Serving m) is order = (serving_ordered_moves w n m (ok m is) (master_node n) None (own_filled m is) order).idle
+
   -- who is heard, and what
   abbrev pub speaker : Input → NodeId
   speaker (input.Local order) = master_node n
@@ -187,3 +206,23 @@ module _ {w : World} (known : Known w) (n : ℕ) where
     witnesses = witnesses;
     move = input_moves m (record { its_kind = refl; its_state = here }) given for;
   }
+
+  own : (Says : NodeId → Body → Type 0) (out : List Message) → Each (IsSaidBy n Says) out → Each (λ (x : Message). x.from ≡ master_node n) out
+  own Says out all = Each-weaker (IsSaidBy n Says) (λ (x : Message). x.from ≡ master_node n) (λ x k. k.sender) out all
+
+  -- nothing completes by an input
+  pub input_idle : (m : MasterStage) → IsMaster w (master_node n) m → (given : Input) → IsFor w (master_node n) given → (master_input n m given).completed ≡ None
+  input_idle m is (input.Local order) for = order_idle m is order
+  input_idle m is (input.Message x) for = message_idle m is x.from x.body (input_came (input.Message x) for x.body refl)
+
+  -- and it says all in its own name
+  pub stage_from : (from : NodeId) (heard : Option Body) (m k : MasterStage) (out : List Message) → StageMove w n from heard m k out → Each (λ (x : Message). x.from ≡ master_node n) out
+  stage_from from heard Fresh Fresh out move = own (FreshSays w) out move
+  stage_from from heard Fresh (Recovering t) out move = own (RecoverySays w t) out move.move.says
+  stage_from from heard Fresh (Serving k) out move = absurd move
+  stage_from from heard (Recovering s) (Recovering t) out move = own (RecoverySays w t) out move.says
+  stage_from from heard (Recovering s) (Serving k) out move = subst (Each (λ (x : Message). x.from ≡ master_node n)) (sym move.silent) tt
+  stage_from from heard (Recovering s) Fresh out move = absurd move
+  stage_from from heard (Serving m) (Serving k) out move = own (ServingSays w k) out move.says
+  stage_from from heard (Serving m) Fresh out move = absurd move
+  stage_from from heard (Serving m) (Recovering t) out move = absurd move
