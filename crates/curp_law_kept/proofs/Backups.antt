@@ -53,14 +53,15 @@ module _ {w v : World} (known : Known w) (s : Follows w v) (n : ℕ) (given : In
   appended_says : (place : ℕ) (to : NodeId) (a : Appended) → AppendedSays given c to a → Says v place (backup_node n) to (body.Appended a)
   appended_says place to a ok =
       let sent = append_came to ok.append ok.came in
-      let its : AppendSaid w to (backup_node n) ok.append = said known to (backup_node n) (body.Append ok.append) sent in
-      (record { lists = its.lists; given = given_later s its.given; its_master = its.its_master; its_epoch = its.its_epoch ∙ sym ok.epoch; its_backup = its.its_backup },
-        stored_says to a ok.append sent ok.epoch ok.round a.answer ok.answer)
+      let its : AppendSaid w to (backup_node n) ok.append = said known to (backup_node n) (body.Append ok.append) sent in (
+        record { lists = its.lists; given = given_later s its.given; its_master = its.its_master; its_epoch = its.its_epoch ∙ sym ok.epoch; its_backup = its.its_backup },
+        stored_says to a ok.append sent ok.epoch ok.round a.answer ok.answer,
+      )
 
   fence_says : (place : ℕ) (to : NodeId) (a : FenceAnswer) → FenceAnswerSays given c to a → Says v place (backup_node n) to (body.FenceAnswer a)
   fence_says place to a ok =
       let o : IsOrderedTo w to (λ o. (o.epoch ≡ a.epoch) × (o.backup ≡ backup_node n))
-            = said known to (backup_node n) (body.Fence a.epoch) (brought_sent w (backup_node n) given to (body.Fence a.epoch) for ok.came) in
+      = said known to (backup_node n) (body.Fence a.epoch) (brought_sent w (backup_node n) given to (body.Fence a.epoch) for ok.came) in
       let home : OrderOk w to o.0 = known.names.manager_says to (body.Recover o.0) o.1 in
       ((o.0, sent_later s o.1, o.2), reply a.answer ok.answer home o.2.0 o.2.1)
     where
@@ -104,7 +105,7 @@ module _ {w v : World} (known : Known w) (s : Follows w v) (n : ℕ) (given : In
         let o = log_later s l.master its.holds.l has in
         let front : IsPrefix b.log its.holds.l.log = begins has in
         let longer_front : IsPrefix (longer b.log x.append.base x.append.entries) its.holds.l.log
-              = overlap x.append.base (length b.log - x.append.base) b.log x.append.entries its.holds.l.log (omega (arith, x.no_gap)) front its.holds.part in
+        = overlap x.append.base (length b.log - x.append.base) b.log x.append.entries its.holds.l.log (omega (arith, x.no_gap)) front its.holds.part in
         subst (BackupOk v l) (sym x.after)
         (record {
           installed = before.installed;

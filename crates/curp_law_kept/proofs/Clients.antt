@@ -67,7 +67,7 @@ module _ {w : World} (known : Known w) (n : ℕ) (given : Input) (for : IsFor w 
       body_suits (body.Rejected r) sent =
           let ok : RejectedSaid w (client_node n) r = said known m.from (client_node n) (body.Rejected r) sent in
           λ q its asked. subst (λ (x : Command). is_update x ≡ true)
-            (one_command known.inv.history ok.place asked.0 r.id ok.command q.command ok.invoked (subst (λ (id : RequestId). At w.history asked.0 (Invoke id q.command)) its asked.1)) ok.updates
+          (one_command known.inv.history ok.place asked.0 r.id ok.command q.command ok.invoked (subst (λ (id : RequestId). At w.history asked.0 (Invoke id q.command)) its asked.1)) ok.updates
       body_suits _ sent = tt
 
   -- what the input does to it
@@ -107,35 +107,41 @@ module _ {w v : World} (known : Known w) (n : ℕ) (given : Input) (for : IsFor 
   synced_completes : (done : Completed) → BySynced (MayCome w n) done.id done.answer → CompletedBy w done.id done.answer
   synced_completes done e =
       let ok : ReplySaid w e.from (client_node n) e.reply = said known e.from (client_node n) (body.Reply e.reply) e.came in
-      inl (ok.speaks.lists.part, inl (record {
-        lists = ok.speaks.lists;
-        given = ok.speaks.adopted.given;
-        its_part = refl;
-        reply = e.reply;
-        sent = subst (λ (from : NodeId). WasSent w (says from (client_node e.reply.id.client) (body.Reply e.reply))) (sym ok.speaks.its_master)
-            (subst (λ (to : NodeId). WasSent w (says e.from to (body.Reply e.reply))) ok.addressee e.came);
-        its_id = e.its_id;
-        its_answer = e.its_answer;
-        is_synced = e.is_synced;
-      }))
+      inl (
+        ok.speaks.lists.part,
+        inl (record {
+          lists = ok.speaks.lists;
+          given = ok.speaks.adopted.given;
+          its_part = refl;
+          reply = e.reply;
+          sent = subst (λ (from : NodeId). WasSent w (says from (client_node e.reply.id.client) (body.Reply e.reply))) (sym ok.speaks.its_master)
+              (subst (λ (to : NodeId). WasSent w (says e.from to (body.Reply e.reply))) ok.addressee e.came);
+          its_id = e.its_id;
+          its_answer = e.its_answer;
+          is_synced = e.is_synced;
+        }),
+      )
 
   accepts_complete : (done : Completed) → ByAccepts (MayCome w n) (EntryWas w) done.id done.answer → CompletedBy w done.id done.answer
   accepts_complete done e =
       let ok : ReplySaid w e.part.master (client_node n) e.reply = said known e.part.master (client_node n) (body.Reply e.reply) e.came in
       let client : client_node n ≡ client_node done.id.client = ok.addressee ∙ ap (λ (id : RequestId). client_node id.client) e.its_id in
-      inl (e.part.part, inr (record {
-        lists = lists_of_part e.part;
-        given = e.adopted.adopted.given;
-        its_part = refl;
-        reply = e.reply;
-        sent = subst (λ (to : NodeId). WasSent w (says e.part.master to (body.Reply e.reply))) ok.addressee e.came;
-        its_id = e.its_id;
-        its_answer = e.its_answer;
-        is_early = e.unsynced;
-        its_epoch = e.epoch;
-        its_version = e.version;
-        accepts = Each-weaker (Accepts (client_node n)) (Accepts (client_node done.id.client)) (λ x sent. subst (λ (to : NodeId). Accepts to x) client sent) e.part.witnesses e.accepts;
-      }))
+      inl (
+        e.part.part,
+        inr (record {
+          lists = lists_of_part e.part;
+          given = e.adopted.adopted.given;
+          its_part = refl;
+          reply = e.reply;
+          sent = subst (λ (to : NodeId). WasSent w (says e.part.master to (body.Reply e.reply))) ok.addressee e.came;
+          its_id = e.its_id;
+          its_answer = e.its_answer;
+          is_early = e.unsynced;
+          its_epoch = e.epoch;
+          its_version = e.version;
+          accepts = Each-weaker (Accepts (client_node n)) (Accepts (client_node done.id.client)) (λ x sent. subst (λ (to : NodeId). Accepts to x) client sent) e.part.witnesses e.accepts;
+        }),
+      )
     where
       Accepts : NodeId → NodeId → Type 0
       Accepts to x = WasSent w (says x to (body.Accepted (record { id = done.id; epoch = e.part.epoch })))

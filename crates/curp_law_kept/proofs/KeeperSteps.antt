@@ -104,10 +104,10 @@ module _ {w v : World} (known : Known w) (n : ℕ) (given : Input) (b : BackupSt
       backups : (l : Lists) → IsGiven v l → (node : NodeId) → IsAmong node l.backups → (d : BackupState) → IsBackup v node d → BackupOk v l d
       backups l here node named d is = elim (eqb_tells node.number n) [
         | inl same ↦
-          subst (BackupOk v l) (one_state _ (backup_input n b given).state d now (subst (λ (k : ℕ). numbered v.backups k ≡ Some d) same.1 is.its_state))
-          (backup_keeps known s n given for b (backup_input n b given).state is_was is_now l (same_given more l here) (subst (λ (x : NodeId). IsAmong x l.backups) (named_apart is.its_kind same.1) named) effect.move)
+            subst (BackupOk v l) (one_state _ (backup_input n b given).state d now (subst (λ (k : ℕ). numbered v.backups k ≡ Some d) same.1 is.its_state))
+            (backup_keeps known s n given for b (backup_input n b given).state is_was is_now l (same_given more l here) (subst (λ (x : NodeId). IsAmong x l.backups) (named_apart is.its_kind same.1) named) effect.move)
         | inr other ↦
-          backup_ok_later s l d (known.inv.backups l (same_given more l here) node named d (record { its_kind = is.its_kind; its_state = others node.number d other.1 is.its_state }))
+            backup_ok_later s l d (known.inv.backups l (same_given more l here) node named d (record { its_kind = is.its_kind; its_state = others node.number d other.1 is.its_state }))
       ]
 
 module _ {w v : World} (known : Known w) (n : ℕ) (given : Input) (x : WitnessState) (was : numbered w.witnesses n ≡ Some x) (for : IsFor w (witness_node n) given)
@@ -152,13 +152,13 @@ module _ {w v : World} (known : Known w) (n : ℕ) (given : Input) (x : WitnessS
       witnesses : (node : NodeId) (d : WitnessState) → IsWitness v node d → WitnessOk v d
       witnesses node d is = elim (eqb_tells node.number n) [
         | inl same ↦ subst (WitnessOk v) (one_state _ (witness_input n x given).state d now (subst (λ (k : ℕ). numbered v.witnesses k ≡ Some d) same.1 is.its_state))
-          (witness_keeps known s n given for x (witness_input n x given) effect is_was is_now)
+            (witness_keeps known s n given for x (witness_input n x given) effect is_was is_now)
         | inr other ↦ witness_ok_later s d (known.inv.witnesses node d (record { its_kind = is.its_kind; its_state = others node.number d other.1 is.its_state }))
       ]
 
       started : (l : Lists) → IsGiven v l → (node : NodeId) → IsAmong node l.witnesses → (d : WitnessState) → IsWitness v node d → StartedAt l d
       started l here node named d is = elim (eqb_tells node.number n) [
         | inl same ↦ subst (StartedAt l) (one_state _ (witness_input n x given).state d now (subst (λ (k : ℕ). numbered v.witnesses k ≡ Some d) same.1 is.its_state))
-          (started_keeps known s n given for x (witness_input n x given) effect is_was is_now l (same_given more l here) (subst (λ (y : NodeId). IsAmong y l.witnesses) (named_apart is.its_kind same.1) named))
+            (started_keeps known s n given for x (witness_input n x given) effect is_was is_now l (same_given more l here) (subst (λ (y : NodeId). IsAmong y l.witnesses) (named_apart is.its_kind same.1) named))
         | inr other ↦ known.inv.started l (same_given more l here) node named d (record { its_kind = is.its_kind; its_state = others node.number d other.1 is.its_state })
       ]

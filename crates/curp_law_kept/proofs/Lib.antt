@@ -24,3 +24,5 @@ pub mod ManagersReady
 pub mod ManagersKeep
 pub mod Opened
 pub mod Steps
+pub mod Cases
+pub mod Movers

@@ -131,7 +131,7 @@ module _ (w : World) (known : Known w) where
   abbrev invoked_at : NodeKind → ℕ → Input → List Event
   invoked_at k n given = invocation_of (record { kind = k; number = n }) (numbered w.clients n) given
 
-  none_at : (k : NodeKind) (n : ℕ) (given : Input) → Suits k given → (k ≡ kind.Client → ⊥) → invoked_at k n given ≡ []
+  pub none_at : (k : NodeKind) (n : ℕ) (given : Input) → Suits k given → (k ≡ kind.Client → ⊥) → invoked_at k n given ≡ []
   none_at k n given suits other = not_invoked (record { kind = k; number = n }) (numbered w.clients n) given (plain k given suits other)
 
   -- an input comes to a node
@@ -147,7 +147,7 @@ module _ (w : World) (known : Known w) where
 
   -- ---- each of the twelve kinds of step
 
-  message_suits : (k : NodeKind) (m : Message) → Suits k (input.Message m)
+  pub message_suits : (k : NodeKind) (m : Message) → Suits k (input.Message m)
   message_suits kind.Client m = tt
   message_suits kind.Manager m = tt
   message_suits kind.Master m = tt
@@ -160,7 +160,7 @@ module _ (w : World) (known : Known w) where
       let p = place (messages w) number m is in
       let sent : WasSent w m = record { place = p.0; stands = p.2 } in
       gives_after m.to.kind m.to.number (input.Message m) (message_suits m.to.kind m) (refl, sent) taken (λ e.
-          let a = (fits known m sent).addressee in subst (λ (k : NodeKind). IsNodeOf w k m.to.number) (sym a.0 ∙ e) a.1)
+      let a = (fits known m sent).addressee in subst (λ (k : NodeKind). IsNodeOf w k m.to.number) (sym a.0 ∙ e) a.1)
 
   deed_after : (x : Step) → (effect w (deed_of w x)).refused ≡ 0 → After (events_of w (deed_of w x)) (effect w (deed_of w x))
   deed_after (steps.Deliver number) taken = delivery_after number (numbered (messages w) number) refl taken

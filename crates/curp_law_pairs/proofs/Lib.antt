@@ -21,3 +21,4 @@ pub mod Chain
 pub mod Adopted
 pub mod Uttered
 pub mod ManagerChain
+pub mod Chained
