@@ -21,7 +21,7 @@ use Rattle.curp_law_pairs.proofs.Prefixes.{prefix_whole}
 use Rattle.curp_law_pairs.proofs.Words.{one_backup}
 
 -- what holds of each node of a list holds of one that is found there
-pub found_each : (P : NodeId → Type 0) (nodes : List NodeId) (node : NodeId) → Each P nodes → is_among node nodes ≡ true → P node
+found_each : (P : NodeId → Type 0) (nodes : List NodeId) (node : NodeId) → Each P nodes → is_among node nodes ≡ true → P node
 found_each P [] node all e = absurd cc
 found_each P (x ∷ xs) node all e = go (same_node node x) refl e (found_each P xs node all.1)
   where

@@ -29,14 +29,14 @@ use Rattle.curp_law_pairs.proofs.Logs.{has_home, log_ok}
 use Rattle.curp_law_pairs.proofs.Words.{said}
 
 -- the first numbers of an entry that may stand in a log
-pub entry_first : (w : World) (part : ℕ) (e : Entry) → EntryOk w part e → EntryFirstOk w e
+entry_first : (w : World) (part : ℕ) (e : Entry) → EntryOk w part e → EntryFirstOk w e
 entry_first w part (Op r acknowledged) ok = (ok.0.request.completed, ok.2)
 entry_first w part (Take migration taken) ok = ok.1
 entry_first w part (Give migration given) ok = ok.1
 entry_first w part (Expire client) ok = tt
 
 -- and of a log's
-pub log_first : (w : World) (part : ℕ) (log : List Entry) → LogOk w part log → Each (EntryFirstOk w) log
+log_first : (w : World) (part : ℕ) (log : List Entry) → LogOk w part log → Each (EntryFirstOk w) log
 log_first w part log ok = Each-weaker (EntryOk w part) (EntryFirstOk w) (entry_first w part) log ok.entries
 
 -- what holds of each item holds of each of a beginning

@@ -16,3 +16,5 @@ pub mod FirstNumbers
 pub mod Told
 pub mod Messages
 pub mod Said
+pub mod Completed
+pub mod Chain

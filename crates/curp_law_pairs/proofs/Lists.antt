@@ -42,18 +42,6 @@ module _ {w : World} (names : Names w) where
           let first = go n ok.before ok.was.given (subst (λ (m : NodeId). WasSent w (says manager_node m (body.Recover o))) (sym ok.its_master) sent) (omega (arith, ok.older, low)) in
           omega (arith, first, ok.older)
 
-  -- lists of an epoch behind the first have a version behind the first
-  pub late_version : (l : Lists) → IsGiven w l → 1 < l.epoch → 1 < l.version
-  late_version _ (AtOpening k c at) late = absurd (omega (arith, late, opening_epoch k c at))
-  late_version _ (ByRecovery node o sent) late =
-      let home : OrderOk w node o = names.manager_says node (body.Recover o) sent in
-      let ok = names.given home.before home.was.given in
-      omega (arith, home.older, ok.version.0)
-  late_version _ (ByReplacement old p before sent) late =
-      let home : PrepareOk w old.master p = names.manager_says old.master (body.Prepare p) sent in
-      let ok = names.given home.before home.was.given in
-      omega (arith, home.older, ok.version.0)
-
   -- what is adopted is ready
   abbrev pub ready : Invariant w → (l : Lists) → WasAdopted w l → IsReady w l
   ready inv l was = elim was.told [

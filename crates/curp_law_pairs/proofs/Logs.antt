@@ -56,7 +56,7 @@ module _ {w : World} (inv : Invariant w) where
           (lists_of_master node m, ok.adopted.given, refl, subst (LogOk w m.part) same ok.log)
 
   -- the package of a give lies in its range: it was taken out of another log
-  pub given_within : (part migration : ℕ) (p : Package) → EntryOk w part (Give migration p) → PairsWithin p.lo p.hi p.pairs
+  given_within : (part migration : ℕ) (p : Package) → EntryOk w part (Give migration p) → PairsWithin p.lo p.hi p.pairs
   given_within part migration p ok =
       let taken : WasTaken w (record { migration = migration; «package» = p })
       = said inv manager_node ok.0.node (body.GiveIn (record { migration = migration; «package» = p })) ok.0.sent in

@@ -23,7 +23,7 @@ use Rattle.curp_law_pairs.specs.Predecessors.{Predecessors}
 use Rattle.curp_law_pairs.proofs.Along.{reach_along}
 
 -- what stands below a number stands among the first so many
-pub at_front : {A : Type 0} (n : ℕ) (xs : List A) (k : ℕ) (x : A) → n ≤ length xs → k < n → At xs k x → At (take n xs) k x
+at_front : {A : Type 0} (n : ℕ) (xs : List A) (k : ℕ) (x : A) → n ≤ length xs → k < n → At xs k x → At (take n xs) k x
 at_front n xs k x low within at = prefix_back (prefix_take n xs) k x (omega (arith, within, length-take-le n xs low)) at
 
 -- its sender has served
