@@ -1,20 +1,20 @@
 -- What was said, and what recoveries and clients go by.
-use Rattle.std.proofs.Common.{◌≡◌, ℕ, suc, refl, Option, Some, None}
-use Rattle.curp_base.specs.Words.{At, Each, numbered}
-use Rattle.curp_base.proofs.Lists.{Each-from_at, Each-weaker}
+use Rattle.std.proofs.Common.{◌≡◌, ℕ, refl, Option, Some, None}
+use Rattle.curp_base.specs.Words.{At, numbered}
+use Rattle.curp_base.proofs.Lists.{Each-from_at}
 use Rattle.curp_cmd.specs.declared.node.NodeId.{NodeId}
 use Rattle.curp_msg.specs.declared.config.PartConfig.{PartConfig}
-use Rattle.curp_model.specs.Client.{ClientState, Pending}
 use Rattle.curp_model.specs.Manager.{Doing, Recovering, Replacing, Steady}
 use Rattle.curp_model.specs.Named.{IsMaster}
 use Rattle.curp_model.specs.Recovery as recovery
 use Rattle.curp_model.specs.Recovery.{Asking, RecoveryPhase, RecoveryState, Storing, Waiting}
 use Rattle.curp_model.specs.World.{World}
-use Rattle.curp_facts.specs.Facts.{AttemptOk, AttemptWas, IsAdoptedNow, PhaseOk, SaidOk}
+use Rattle.curp_facts.specs.Facts.{AttemptOk, IsAdoptedNow, PhaseOk, SaidOk}
 use Rattle.curp_facts.specs.Invariant.{Invariant}
-use Rattle.curp_facts.specs.Nodes.{PendingOk, RecoveringOk, StageOk}
+use Rattle.curp_facts.specs.Nodes.{RecoveringOk, StageOk}
 use Rattle.curp_law_names.specs.Names.{Names}
 use Rattle.curp_law_names.specs.Nodes.{Nodes}
+use Rattle.curp_law_names.proofs.Laws.{sendings_kept}
 use Rattle.curp_law_names.proofs.Lists.{at_place}
 use Rattle.curp_law_pairs.specs.EarlierGives.{EarlierGives}
 use Rattle.curp_law_pairs.specs.Predecessors.{Predecessors}
@@ -43,16 +43,10 @@ module _ {w : World} (names : Names w) (inv : Invariant w) where
       go (Some (Replacing kind fresh version backups witnesses)) e = tt
       go (Some (Recovering node o)) e = let ok = names.doing c (Recovering node o) now e in (ok.its_backup, ok.its_witness)
 
-  -- clients send by adopted lists
-  sendings : (k : ℕ) (c : ClientState) → At w.clients k c → Each (λ (p : Pending). Each (AttemptWas w) p.attempts) c.pending
-  sendings k c at =
-      let ok = inv.clients (suc k) c at in
-      Each-weaker (PendingOk w (suc k) c) (λ (p : Pending). Each (AttemptWas w) p.attempts) (λ p own. own.attempts) c.pending ok.pending
-
   pub said_ok : Nodes w → Predecessors w → EarlierGives w → SaidOk w
   said_ok nodes chain earlier = record {
     messages_ok = messages_ok names inv chain earlier nodes;
     recoveries = recoveries;
     attempts = Each-from_at (λ (c : PartConfig). AttemptOk c (numbered w.manager.doing c.part)) w.manager.config.parts attempts;
-    sendings = Each-from_at (λ (c : ClientState). Each (λ (p : Pending). Each (AttemptWas w) p.attempts) c.pending) w.clients sendings;
+    sendings = sendings_kept w nodes;
   }
