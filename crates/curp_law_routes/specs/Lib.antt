@@ -1,3 +1,5 @@
 pub mod Routes
 pub mod Orders
 pub mod Migrated
+pub mod Stored
+pub mod Before
