@@ -1,3 +1,4 @@
+pub mod Moves
 pub mod Orders
 pub mod Routes
 pub mod Steps
@@ -5,3 +6,4 @@ pub mod Stored
 pub mod Records
 pub mod Migrated
 pub mod Before
+pub mod Kept
