@@ -83,6 +83,7 @@ module _ {w : World} (names : Names w) (inv : Invariant w) (chain : Predecessors
       let one = one_take c.part l.its.log (adopted_ok names inv c l) t.index index number p q there at in
       (one_entry names t.source c t.its.now l.now part, one.0, one.1)
 
+  -- one package was told of each
   one_package : (node other : NodeId) (g k : Parcel) → WasSent w (says node manager_node (body.Taken g)) → WasSent w (says other manager_node (body.Taken k))
       → g.migration ≡ k.migration → g.package ≡ k.package
   one_package node other g k a b same =
@@ -111,6 +112,7 @@ module _ {w : World} (names : Names w) (inv : Invariant w) (chain : Predecessors
   in_work_unless number low below undone = elim (work_or_done number low below) [ inl moving ↦ moving | inr done ↦ absurd (undone done) ]
 
   module _ (c : PartConfig) (l : AdoptedLog w c) (node : NodeId) (b : BackupState) (named : IsAmong node c.backups) (is : IsBackup w node b) where
+    -- a take there wasn't told
     untold : (index number : ℕ) (p : Package) → length b.log ≤ index → At l.its.log index (Take number p) → WasTold w number → ⊥
     untold index number p long at told =
         let t : TakeStored w number told.1 = told_stored told.0 (record { migration = number; «package» = told.1 }) told.2 in
@@ -118,6 +120,7 @@ module _ {w : World} (names : Names w) (inv : Invariant w) (chain : Predecessors
         let stored : AllStored w c (t.index + 1) = subst (λ (x : PartConfig). AllStored w x (t.index + 1)) one.0 t.stored in
         absurd (omega (arith, stored node named b is, one.1, long))
 
+    -- and a give there isn't done
     ungiven : (index number : ℕ) (p : Package) → length b.log ≤ index → At l.its.log index (Give number p) → IsDone w number → ⊥
     ungiven index number p long at d =
         let s : StoredEntry w d.target (IsGiveOf number) = d.given in
