@@ -1,0 +1,9 @@
+pub mod Moves
+pub mod Orders
+pub mod Routes
+pub mod Steps
+pub mod Stored
+pub mod Records
+pub mod Migrated
+pub mod Before
+pub mod Kept

@@ -44,8 +44,9 @@ pub record IsDone (w : World) (number : ℕ) : Type 0 where
 abbrev pub IsMoving : World → ℕ → Type 0
 IsMoving w number = (m : Migration) × (w.manager.moving ≡ Some m) × (m.number ≡ number)
 
--- each number names one range, one source and one target, and they differ; what isn't in work is done
+-- numbers begin with 1; each names one range, one source and one target, and they differ; what isn't in work is done
 pub record Routes (w : World) : Type 0 where
+  pub first : 1 ≤ w.manager.next.migration
   pub takes_given : (part : ℕ) (t : TakeOut) → WasOrdered w part (body.TakeOut t) → (1 ≤ t.migration) × (t.migration < w.manager.next.migration)
   pub gives_given : (part : ℕ) (g : Parcel) → WasOrdered w part (body.GiveIn g) → (1 ≤ g.migration) × (g.migration < w.manager.next.migration)
   pub one_source : (part other : ℕ) (t u : TakeOut) → WasOrdered w part (body.TakeOut t) → WasOrdered w other (body.TakeOut u) → t.migration ≡ u.migration
