@@ -26,3 +26,4 @@ pub mod Opened
 pub mod Steps
 pub mod Cases
 pub mod Movers
+pub mod Followed

@@ -273,7 +273,7 @@ module _ {w : World} (names : Names w) where
   module _ (inv : Invariant w) (routes : Routes w) where
     -- what is said to be given is the migration in work, where it is of that number
     given_done : (from : NodeId) (m : Migration) → w.manager.moving ≡ Some m → WasSent w (says from manager_node (body.Given m.number)) → IsDone w m.number
-    given_done from m is sent = go (said inv from manager_node (body.Given m.number) sent)
+    given_done from m is sent = go (said inv from manager_node (body.Given m.number) sent).0
       where
         go : StoredEntry w from (IsGiveFrom m.number) → IsDone w m.number
         go s =
