@@ -7,3 +7,4 @@ pub mod Records
 pub mod Migrated
 pub mod Before
 pub mod Kept
+pub mod Always
