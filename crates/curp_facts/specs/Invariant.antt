@@ -1,7 +1,9 @@
 -- What nodes and messages keep, all together.
-use Rattle.std.specs.Prelude.{◌≡◌, ℕ, Some}
+use Rattle.std.specs.Prelude.{◌≡◌, ℕ, Some, false}
 use Rattle.curp_base.specs.Words.{At, numbered}
 use Rattle.curp_cmd.specs.declared.command.Answer.{Answer}
+use Rattle.curp_cmd.specs.Store as cmd
+use Rattle.curp_cmd.specs.declared.command.Command.{Command}
 use Rattle.curp_cmd.specs.declared.command.RequestId.{RequestId}
 use Rattle.curp_cmd.specs.declared.migration.Package.{Package}
 use Rattle.curp_cmd.specs.declared.node.NodeId.{NodeId}
@@ -10,7 +12,7 @@ use Rattle.curp_msg.specs.declared.body.TakeOut.{TakeOut}
 use Rattle.curp_msg.specs.declared.config.PartConfig.{PartConfig}
 use Rattle.curp_msg.specs.declared.message.Message.{Message}
 use Rattle.curp_order.specs.Order.{IsHistory}
-use Rattle.curp_order.specs.declared.Event.TheVariants.{Complete}
+use Rattle.curp_order.specs.declared.Event.TheVariants.{Invoke, Complete}
 use Rattle.curp_model.specs.Backup.{BackupState}
 use Rattle.curp_model.specs.Client.{ClientState}
 use Rattle.curp_model.specs.Manager.{Migration}
@@ -19,7 +21,7 @@ use Rattle.curp_model.specs.Recovery.{MasterStage}
 use Rattle.curp_model.specs.Witness.{WitnessState}
 use Rattle.curp_model.specs.World.{World, messages}
 use Rattle.curp_facts.specs.Facts.{EntryWas, IsAdoptedNow, IsAmong, IsGiven, Lists, WasOrdered, WasTaken, lists_of_part}
-use Rattle.curp_facts.specs.Nodes.{BackupOk, ClientOk, CompletedBy, MasterOk, StartedAt, WitnessOk}
+use Rattle.curp_facts.specs.Nodes.{BackupOk, ClientOk, CompletedBy, MasterOk, StartedAt, ValueWasSent, WitnessOk}
 use Rattle.curp_facts.specs.Reach.{IsReady}
 use Rattle.curp_facts.specs.Said.{Says}
 
@@ -46,6 +48,8 @@ pub record Invariant (w : World) : Type 0 where
   pub clients : (n : ℕ) (c : ClientState) → numbered w.clients n ≡ Some c → ClientOk w n c
   pub history : IsHistory w.history
   pub completed : (i : ℕ) (id : RequestId) (a : Answer) → At w.history i (Complete id a) → CompletedBy w id a
+  pub reads : (i j : ℕ) (id : RequestId) (command : Command) (a : Answer) → At w.history i (Invoke id command) → cmd.is_update command ≡ false
+      → At w.history j (Complete id a) → ValueWasSent w id a
   pub messages : (k : ℕ) (m : Message) → At (messages w) k m → Says w k m.from m.to m.body
   pub present : (c : PartConfig) → IsAdoptedNow w c → PresentOk w c
   pub moving : (m : Migration) → w.manager.moving ≡ Some m → MovingOk w m

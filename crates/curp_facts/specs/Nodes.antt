@@ -191,8 +191,10 @@ pub record ClientOk (w : World) (n : ℕ) (c : ClientState) : Type 0 where
 
 -- ---- the history
 
--- a completed update was completable with its answer; the value of a completed read was sent
+-- a value with that answer was sent for the request
+abbrev pub ValueWasSent : World → RequestId → Answer → Type 0
+ValueWasSent w id a = (node : NodeId) × (v : Worth) × WasSent w (says node (client_node id.client) (body.Worth v)) × (v.id ≡ id) × (v.answer ≡ a)
+
+-- what is completed was completable with its answer, or its value was sent
 abbrev pub CompletedBy : World → RequestId → Answer → Type 0
-CompletedBy w id a =
-    ((part : ℕ) × Completable w part id a)
-    ⊎ ((node : NodeId) × (v : Worth) × WasSent w (says node (client_node id.client) (body.Worth v)) × (v.id ≡ id) × (v.answer ≡ a))
+CompletedBy w id a = ((part : ℕ) × Completable w part id a) ⊎ ValueWasSent w id a

@@ -20,7 +20,7 @@ use Rattle.curp_facts.specs.Nodes.{ClientOk}
 use Rattle.curp_facts.specs.Said.{Says}
 use Rattle.curp_law_growth.specs.Deeds.{IsFor}
 use Rattle.curp_law_keepers.specs.ClientEffect.{ClientSays, events_after}
-use Rattle.curp_law_kept.proofs.Clients.{client_keeps, client_messages, client_said, completed_keeps, history_keeps, other_client_keeps}
+use Rattle.curp_law_kept.proofs.Clients.{client_keeps, client_messages, client_said, completed_keeps, history_keeps, other_client_keeps, reads_keep}
 use Rattle.curp_law_kept.proofs.Known.{Known}
 use Rattle.curp_law_kept.proofs.Moved.{messages_say}
 use Rattle.curp_law_kept.proofs.Others.{SaysMore, backups_stay, masters_stay, nothing_ready, started_stay, witnesses_stay}
@@ -86,6 +86,7 @@ module _ {w v : World} (known : Known w) (n : ℕ) (given : Input) (c : ClientSt
     clients = clients;
     history = history_keeps known n given moved.for c moved.was moved.made follows moved.history;
     completed = completed_keeps known n given moved.for c moved.was moved.made follows moved.history;
+    reads = reads_keep known n given moved.for c moved.was moved.made follows moved.history;
     messages = messages_say w v (client_input n c given).messages moved.sent (λ k m at. says_later follows known.inv k m.from m.to m.body (known.inv.messages k m at))
         (λ j m at. client_said known n given moved.for c moved.was moved.made follows moved.history j m at (length (messages w) + j));
     present = present;

@@ -2,7 +2,7 @@
 use Rattle.std.proofs.Common.{◌≡◌, ◌≢◌, ◌⊎◌, inl, inr, ℕ, zero, suc, ◌+◌, ◌<◌, ◌≤◌, true, false, List, [], ◌∷◌, ◌++◌, length, refl, ap, sym, ◌∙◌, subst, arith, Option, Some, None}
 use Rattle.std.specs.Bool.{⊤}
 use Rattle.curp_base.specs.Words.{At, Each, numbered}
-use Rattle.curp_base.proofs.Lists.{Each-at, Each-weaker, at_append_cases, at_one, at_same}
+use Rattle.curp_base.proofs.Lists.{Each-at, Each-weaker, at_append_cases, at_one, at_same, at_within, prefix_back}
 use Rattle.curp_cmd.specs.Node.{client_node}
 use Rattle.curp_cmd.specs.Store.{is_update}
 use Rattle.curp_cmd.specs.declared.command.Answer.{Answer}
@@ -29,15 +29,23 @@ use Rattle.curp_model.specs.World.{World, completion, invocation_of}
 use Rattle.curp_facts.specs.ClientNumbers.{CompletedBelow, IsAsked, IsInvoked, NumbersOk}
 use Rattle.curp_facts.specs.Entries.{RequestOk}
 use Rattle.curp_facts.specs.Facts.{Completable, EntryWas, WasSent, lists_of_part}
-use Rattle.curp_facts.specs.Nodes.{ClientOk, CompletedBy, MayCome}
+use Rattle.curp_facts.specs.Nodes.{ClientOk, CompletedBy, MayCome, ValueWasSent}
 use Rattle.curp_facts.specs.Said.{AskSaid, RejectedSaid, ReplySaid, Says, WorthSaid}
 use Rattle.curp_law_growth.specs.Deeds.{IsFor}
 use Rattle.curp_law_keepers.specs.ClientEffect.{BySynced, ByAccepts, ByValue, ClientAsks, ClientEffect, ClientSays, CompletionOk, InputSuitsClient, MayComplete, ReadCompletes, SuitsClient, UpdateCompletes, events_after}
 use Rattle.curp_law_keepers.proofs.ClientLater.{others_stay}
 use Rattle.curp_law_keepers.proofs.Clients.{client_effect}
+use Rattle.curp_law_keepers.proofs.Numbers.{waiting}
 use Rattle.curp_law_kept.proofs.Known.{Known, knows_later, said}
-use Rattle.curp_law_stays.proofs.Nodes.{completable_later, completed_by_later}
-use Rattle.curp_law_stays.proofs.Words.{Follows, sent_later}
+use Rattle.curp_law_stays.proofs.Nodes.{completable_later, completed_by_later, value_later}
+use Rattle.curp_law_stays.proofs.Words.{Follows, event_at, sent_later}
+
+-- an id is invoked with one command
+one_command_at : {events : List Event} → IsHistory events → (i j : ℕ) (id : RequestId) (x y : Command) → At events i (Invoke id x) → At events j (Invoke id y) → x ≡ y
+one_command_at {events} h i j id x y a b = same (at_same events i (Invoke id x) (Invoke id y) a (subst (λ (k : ℕ). At events k (Invoke id y)) (sym (h.invoked_once i j id x y a b)) b))
+  where
+    same : Invoke id x ≡ Invoke id y → x ≡ y
+    same e = cc
 
 module _ {w : World} (known : Known w) (n : ℕ) (given : Input) (for : IsFor w (client_node n) given) (c : ClientState)
     (was : numbered w.clients n ≡ Some c) (made : (client_input n c given).refused ≡ 0) where
@@ -48,12 +56,6 @@ module _ {w : World} (known : Known w) (n : ℕ) (given : Input) (for : IsFor w 
   before = known.inv.clients n c was
 
   -- ---- what comes to it suits
-
-  one_command : {events : List Event} → IsHistory events → (i j : ℕ) (id : RequestId) (x y : Command) → At events i (Invoke id x) → At events j (Invoke id y) → x ≡ y
-  one_command {events} h i j id x y a b = same (at_same events i (Invoke id x) (Invoke id y) a (subst (λ (k : ℕ). At events k (Invoke id y)) (sym (h.invoked_once i j id x y a b)) b))
-    where
-      same : Invoke id x ≡ Invoke id y → x ≡ y
-      same e = cc
 
   suits : (given : Input) → IsFor w (client_node n) given → InputSuitsClient Came (EntryWas w) w.history given
   suits (input.Local order) meant = tt
@@ -67,7 +69,7 @@ module _ {w : World} (known : Known w) (n : ℕ) (given : Input) (for : IsFor w 
       body_suits (body.Rejected r) sent =
           let ok : RejectedSaid w (client_node n) r = said known m.from (client_node n) (body.Rejected r) sent in
           λ q its asked. subst (λ (x : Command). is_update x ≡ true)
-          (one_command known.inv.history ok.place asked.0 r.id ok.command q.command ok.invoked (subst (λ (id : RequestId). At w.history asked.0 (Invoke id q.command)) its asked.1)) ok.updates
+          (one_command_at known.inv.history ok.place asked.0 r.id ok.command q.command ok.invoked (subst (λ (id : RequestId). At w.history asked.0 (Invoke id q.command)) its asked.1)) ok.updates
       body_suits _ sent = tt
 
   -- what the input does to it
@@ -146,16 +148,16 @@ module _ {w v : World} (known : Known w) (n : ℕ) (given : Input) (for : IsFor 
       Accepts : NodeId → NodeId → Type 0
       Accepts to x = WasSent w (says x to (body.Accepted (record { id = done.id; epoch = e.part.epoch })))
 
-  value_completes : (done : Completed) → ByValue (MayCome w n) done.id done.answer done.by → CompletedBy w done.id done.answer
+  value_completes : (done : Completed) → ByValue (MayCome w n) done.id done.answer done.by → ValueWasSent w done.id done.answer
   value_completes done e =
       let ok : WorthSaid w e.from (client_node n) e.value = said known e.from (client_node n) (body.Worth e.value) e.came in
       let client : client_node n ≡ client_node done.id.client = ok.addressee ∙ ap (λ (id : RequestId). client_node id.client) e.its_id in
-      inr (e.from, e.value, subst (λ (to : NodeId). WasSent w (says e.from to (body.Worth e.value))) client e.came, e.its_id, e.its_answer)
+      (e.from, e.value, subst (λ (to : NodeId). WasSent w (says e.from to (body.Worth e.value))) client e.came, e.its_id, e.its_answer)
 
   completes : (done : Completed) → CompletionOk (MayCome w n) (EntryWas w) c done → CompletedBy w done.id done.answer
   completes done ok = elim ok.evidence [
     | inl u ↦ elim u.evidence [ inl e ↦ synced_completes done e | inr e ↦ accepts_complete done e ]
-    | inr r ↦ value_completes done r.evidence
+    | inr r ↦ inr (value_completes done r.evidence)
   ]
 
   pub completed_keeps : (i : ℕ) (id : RequestId) (a : Answer) → At v.history i (Complete id a) → CompletedBy v id a
@@ -192,6 +194,59 @@ module _ {w v : World} (known : Known w) (n : ℕ) (given : Input) (for : IsFor 
 
           answers : {x : RequestId} {y : Answer} → Complete x y ≡ Complete id a → y ≡ a
           answers e = cc
+
+  -- a completed read had its value sent
+  pub reads_keep : (i j : ℕ) (id : RequestId) (command : Command) (a : Answer) → At v.history i (Invoke id command) → is_update command ≡ false → At v.history j (Complete id a) → ValueWasSent v id a
+  reads_keep i j id command a invoked reads at = elim (at_append_cases (w.history ++ called) (completion done) j (Complete id a) (subst (λ (h : List Event). At h j (Complete id a)) later at)) [
+    | inl old ↦ elim (at_append_cases w.history called j (Complete id a) old) [
+      | inl h ↦ value_later s id a (known.inv.reads i j id command a (before_it h) reads h)
+      | inr h ↦ absurd (no_completion_in given h.0 h.2)
+    ]
+    | inr new ↦ value_later s id a (now done its.completes new.0 new.2)
+  ]
+    where
+      called : List Event
+      called = invocation_of (client_node n) (Some c) given
+
+      done : Option Completed
+      done = (client_input n c given).completed
+
+      -- it was invoked before it completed
+      before_it : At w.history j (Complete id a) → At w.history i (Invoke id command)
+      before_it h =
+          let o = history_keeps.after_invoked j id a at in
+          let same : i ≡ o.0 = history_keeps.invoked_once i o.0 id command o.1 invoked o.3 in
+          prefix_back s.grows.history i (Invoke id command) (omega (arith, same, o.2, at_within w.history j (Complete id a) h)) invoked
+
+      no_completion_in : (g : Input) (k : ℕ) → At (invocation_of (client_node n) (Some c) g) k (Complete id a) → ⊥
+      no_completion_in (input.Local (local.Invoke command)) k h = let o = at_one _ k (Complete id a) h in other o.1
+        where
+          other : {x : RequestId} {y : Command} → Invoke x y ≡ Complete id a → ⊥
+          other e = cc
+      no_completion_in (input.Local _) k h = absurd cc
+      no_completion_in (input.Message m) k h = absurd cc
+
+      one_event : {x : RequestId} {y : Answer} → Complete x y ≡ Complete id a → (x ≡ id) × (y ≡ a)
+      one_event e = (cc, cc)
+
+      not_update : (d : Completed) → CompletionOk (MayCome w n) (EntryWas w) c d → d.id ≡ id → ValueWasSent w d.id d.answer
+      not_update d ok same = elim ok.evidence [
+        | inl u ↦
+          let asked = (waiting n w.history c (known.inv.clients n c was).numbers ok.place ok.p ok.pending).asked in
+          let there : At v.history asked.invoked.0 (Invoke id ok.p.request.command)
+                = subst (λ (x : RequestId). At v.history asked.invoked.0 (Invoke x ok.p.request.command)) (ok.its_id ∙ same) (event_at s asked.invoked.0 _ asked.invoked.1) in
+          absurd (both (one_command_at history_keeps i asked.invoked.0 id command ok.p.request.command invoked there) reads u.is)
+        | inr r ↦ value_completes d r.evidence
+      ]
+        where
+          both : {x y : Command} → x ≡ y → is_update x ≡ false → is_update y ≡ true → ⊥
+          both e p q = cc
+
+      now : (o : Option Completed) → MayComplete (MayCome w n) (EntryWas w) c o → (k : ℕ) → At (completion o) k (Complete id a) → ValueWasSent w id a
+      now None ok k h = absurd cc
+      now (Some d) ok k h =
+          let e = one_event (at_one (Complete d.id d.answer) k (Complete id a) h).1 in
+          subst (ValueWasSent w id) e.1 (subst (λ (x : RequestId). ValueWasSent w x d.answer) e.0 (not_update d ok e.0))
 
   -- ---- what it says
 

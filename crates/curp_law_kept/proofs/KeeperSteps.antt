@@ -23,7 +23,7 @@ use Rattle.curp_law_keepers.specs.WitnessEffect.{WitnessEffect, WitnessSays}
 use Rattle.curp_law_keepers.proofs.Backups.{backup_effect}
 use Rattle.curp_law_keepers.proofs.Witnesses.{witness_effect}
 use Rattle.curp_law_kept.proofs.Backups.{backup_keeps, backup_says}
-use Rattle.curp_law_kept.proofs.Known.{Frame, Known, all_say, clients_stay, completed_stays, history_stays, moving_stays, present_stays}
+use Rattle.curp_law_kept.proofs.Known.{Frame, Known, all_say, clients_stay, completed_stays, history_stays, moving_stays, present_stays, reads_stay}
 use Rattle.curp_law_kept.proofs.Others.{SaysMore, backups_stay, masters_stay, nothing_ready, same_given, started_stay, witnesses_stay}
 use Rattle.curp_law_kept.proofs.Witnesses.{started_keeps, witness_keeps, witness_says}
 use Rattle.curp_law_names.proofs.Later.{Later}
@@ -75,6 +75,7 @@ module _ {w v : World} (known : Known w) (n : ℕ) (given : Input) (b : BackupSt
     clients = clients_stay known s f;
     history = history_stays known s f;
     completed = completed_stays known s f;
+    reads = reads_stay known s f;
     messages = all_say known s f (λ j m at. backup_says known s n given for b (backup_input n b given).state is_was is_now (length (messages w) + j) m (Each-at (BackupSays n given (backup_input n b given).state) (backup_input n b given).messages effect.says j m at));
     present = present_stays known s f;
     moving = moving_stays known s f;
@@ -123,6 +124,7 @@ module _ {w v : World} (known : Known w) (n : ℕ) (given : Input) (x : WitnessS
     clients = clients_stay known s f;
     history = history_stays known s f;
     completed = completed_stays known s f;
+    reads = reads_stay known s f;
     messages = all_say known s f (λ j m at. witness_says known s n given for x (witness_input n x given) effect is_was is_now (length (messages w) + j) m (Each-at (WitnessSays n given (witness_input n x given).state) (witness_input n x given).messages effect.says j m at));
     present = present_stays known s f;
     moving = moving_stays known s f;

@@ -1,9 +1,11 @@
 -- All that is known of a world before a step, and what stays where one backup, witness or master alone has moved.
-use Rattle.std.proofs.Common.{◌≡◌, ◌≢◌, ℕ, ◌+◌, List, ◌++◌, length, ap, sym, ◌∙◌, subst, Some}
+use Rattle.std.proofs.Common.{◌≡◌, ◌≢◌, ℕ, ◌+◌, List, ◌++◌, length, ap, sym, ◌∙◌, subst, Some, false}
 use Rattle.curp_base.specs.Words.{At, Each, numbered}
 use Rattle.curp_base.proofs.Lists.{Each-at}
 use Rattle.curp_cmd.specs.Node.{manager_node}
 use Rattle.curp_cmd.specs.declared.command.Answer.{Answer}
+use Rattle.curp_cmd.specs.Store.{is_update}
+use Rattle.curp_cmd.specs.declared.command.Command.{Command}
 use Rattle.curp_cmd.specs.declared.command.RequestId.{RequestId}
 use Rattle.curp_cmd.specs.declared.node.NodeId.{NodeId}
 use Rattle.curp_cmd.specs.declared.node.NodeKind.{NodeKind}
@@ -14,7 +16,7 @@ use Rattle.curp_msg.specs.declared.config.PartConfig.{PartConfig}
 use Rattle.curp_msg.specs.declared.message.Message.{Message}
 use Rattle.curp_order.specs.Order.{IsHistory}
 use Rattle.curp_order.specs.declared.Event.{Event}
-use Rattle.curp_order.specs.declared.Event.TheVariants.{Complete}
+use Rattle.curp_order.specs.declared.Event.TheVariants.{Invoke, Complete}
 use Rattle.curp_model.specs.Client.{ClientState}
 use Rattle.curp_model.specs.Manager.{ManagerState, Migration}
 use Rattle.curp_model.specs.World.{World, messages}
@@ -23,14 +25,14 @@ use Rattle.curp_facts.specs.ClientNumbers.{NumbersOk}
 use Rattle.curp_facts.specs.Evidence.{KnowledgeOk}
 use Rattle.curp_facts.specs.Growth.{Steady}
 use Rattle.curp_facts.specs.Invariant.{Invariant, MovingOk, PresentOk}
-use Rattle.curp_facts.specs.Nodes.{ClientOk, CompletedBy, MayCome}
+use Rattle.curp_facts.specs.Nodes.{ClientOk, CompletedBy, MayCome, ValueWasSent}
 use Rattle.curp_facts.specs.Said.{Says}
 use Rattle.curp_law_names.specs.Names.{IsOf, Names}
 use Rattle.curp_law_names.specs.Nodes.{MessageFits, Nodes, sender_kind}
 use Rattle.curp_law_keepers.proofs.ClientLater.{knowledge_grows}
 use Rattle.curp_law_kept.proofs.Moved.{given_back, messages_say}
 use Rattle.curp_law_stays.proofs.Entries.{ordered_later}
-use Rattle.curp_law_stays.proofs.Nodes.{completed_by_later}
+use Rattle.curp_law_stays.proofs.Nodes.{completed_by_later, value_later}
 use Rattle.curp_law_stays.proofs.Said.{entry_was_later, says_later}
 use Rattle.curp_law_stays.proofs.Words.{Follows, ready_later, sent_later}
 
@@ -95,6 +97,10 @@ module _ {w v : World} (known : Known w) (s : Follows w v) {out : List Message} 
 
   pub completed_stays : (i : ℕ) (id : RequestId) (a : Answer) → At v.history i (Complete id a) → CompletedBy v id a
   completed_stays i id a at = completed_by_later s id a (known.inv.completed i id a (subst (λ (h : List Event). At h i (Complete id a)) f.history at))
+
+  pub reads_stay : (i j : ℕ) (id : RequestId) (command : Command) (a : Answer) → At v.history i (Invoke id command) → is_update command ≡ false → At v.history j (Complete id a) → ValueWasSent v id a
+  reads_stay i j id command a invoked reads done =
+      value_later s id a (known.inv.reads i j id command a (subst (λ (h : List Event). At h i (Invoke id command)) f.history invoked) reads (subst (λ (h : List Event). At h j (Complete id a)) f.history done))
 
   pub all_say : ((j : ℕ) (m : Message) → At out j m → Says v (length (messages w) + j) m.from m.to m.body)
       → (k : ℕ) (m : Message) → At (messages v) k m → Says v k m.from m.to m.body

@@ -26,7 +26,7 @@ use Rattle.curp_law_keepers.specs.BackupEffect.{BackupEffect, BackupSays}
 use Rattle.curp_law_keepers.specs.WitnessEffect.{WitnessEffect, WitnessSays}
 use Rattle.curp_law_kept.proofs.Apart.{either_node}
 use Rattle.curp_law_kept.proofs.Backups.{backup_keeps, backup_says}
-use Rattle.curp_law_kept.proofs.Known.{Frame, Known, all_say, clients_stay, completed_stays, given_before, history_stays, present_stays, moving_stays}
+use Rattle.curp_law_kept.proofs.Known.{Frame, Known, all_say, clients_stay, completed_stays, given_before, history_stays, present_stays, moving_stays, reads_stay}
 use Rattle.curp_law_kept.proofs.MastersKept.{master_keeps}
 use Rattle.curp_law_kept.proofs.MastersMoves.{MasterStep, input_step}
 use Rattle.curp_law_kept.proofs.MastersReady.{step_follows}
@@ -75,6 +75,7 @@ module _ {w v : World} (known : Known w) where
       clients = clients_stay known s f;
       history = history_stays known s f;
       completed = completed_stays known s f;
+      reads = reads_stay known s f;
       messages = all_say known s f say;
       present = present_stays known s f;
       moving = moving_stays known s f;

@@ -173,6 +173,7 @@ module _ (h : Header) (its : IsHeader h) where
     clients = client_first;
     history = no_history;
     completed = λ i id a at. absurd cc;
+    reads = λ i j id command a invoked reads at. absurd cc;
     messages = λ k m at. no_message _ k m at;
     present = present_first;
     moving = moving_first;

@@ -15,8 +15,8 @@ use Rattle.curp_order.specs.declared.Event.TheVariants.{Invoke, Complete}
 use Rattle.curp_model.specs.World.{World}
 use Rattle.curp_facts.specs.Facts.{Completable, WasSent}
 use Rattle.curp_facts.specs.Invariant.{Invariant}
+use Rattle.curp_facts.specs.Nodes.{ValueWasSent}
 use Rattle.curp_facts.specs.Said.{WorthSaid}
-use Rattle.curp_law_pairs.specs.Updates.{IsUpdate, RepliesAreOfUpdates}
 use Rattle.curp_law_pairs.proofs.Words.{said}
 
 module _ {w : World} (inv : Invariant w) where
@@ -42,21 +42,6 @@ module _ {w : World} (inv : Invariant w) where
         absurd cc
   ]
 
-  -- what can complete is an update, where replies are of updates
-  completable_updates : RepliesAreOfUpdates w → (part : ℕ) (id : RequestId) (a : Answer) → Completable w part id a → IsUpdate w id
-  completable_updates of part id a completable = elim completable [
-    | inl ans ↦ subst (IsUpdate w) ans.its_id (of ans.lists.master (client_node ans.reply.id.client) ans.reply ans.sent)
-    | inr ans ↦ subst (IsUpdate w) ans.its_id (of ans.lists.master (client_node ans.reply.id.client) ans.reply ans.sent)
-  ]
-
-  -- the value of a completed read was sent, where replies are of updates
-  pub completed_read : RepliesAreOfUpdates w → (i j : ℕ) (id : RequestId) (c : Command) (a : Answer) → At w.history i (Invoke id c) → is_update c ≡ false → At w.history j (Complete id a)
-      → (node : NodeId) × (v : Worth) × WasSent w (says node (client_node id.client) (body.Worth v)) × (v.id ≡ id) × (v.answer ≡ a)
-  completed_read of i j id c a invoked reads done = elim (inv.completed j id a done) [
-    | inl completable ↦
-        let u = completable_updates of completable.0 id a completable.1 in
-        let same = invoked_with i u.place id c u.command invoked u.invoked in
-        let updates = u.updates in
-        absurd cc
-    | inr value ↦ value
-  ]
+  -- the value of a completed read was sent
+  pub completed_read : (i j : ℕ) (id : RequestId) (c : Command) (a : Answer) → At w.history i (Invoke id c) → is_update c ≡ false → At w.history j (Complete id a) → ValueWasSent w id a
+  completed_read i j id c a invoked reads done = inv.reads i j id c a invoked reads done

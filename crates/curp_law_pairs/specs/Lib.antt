@@ -2,5 +2,4 @@ pub mod Predecessors
 pub mod Along
 pub mod Answered
 pub mod GivenStand
-pub mod Updates
 pub mod Adopting

@@ -13,7 +13,7 @@ use Rattle.curp_model.specs.Witness.{HeldRequest, WitnessState}
 use Rattle.curp_model.specs.World.{World}
 use Rattle.curp_facts.specs.Facts.{Completable, IsAnswered, IsWitnessed, Lists, WasSent}
 use Rattle.curp_facts.specs.Kept.{FollowsLog}
-use Rattle.curp_facts.specs.Nodes.{BackupOk, CompletedBy, WitnessOk}
+use Rattle.curp_facts.specs.Nodes.{BackupOk, CompletedBy, ValueWasSent, WitnessOk}
 use Rattle.curp_facts.specs.Entries.{UpdateOk}
 use Rattle.curp_law_stays.proofs.Entries.{update_later}
 use Rattle.curp_law_stays.proofs.Words.{Follows, adopted_later, event_at, given_later, log_later, sent_later}
@@ -61,8 +61,11 @@ module _ {w v : World} (s : Follows w v) where
       AcceptSent : (u : World) → IsWitnessed w part id a → RequestId → NodeId → Type 0
       AcceptSent u k id x = WasSent u (says x (client_node id.client) (body.Accepted (record { id = id; epoch = k.lists.epoch })))
 
+  pub value_later : (id : RequestId) (a : Answer) → ValueWasSent w id a → ValueWasSent v id a
+  value_later id a k = (k.0, k.1, sent_later s k.2, k.3, k.4)
+
   pub completed_by_later : (id : RequestId) (a : Answer) → CompletedBy w id a → CompletedBy v id a
   completed_by_later id a ok = elim ok [
     | inl k ↦ inl (k.0, completable_later k.0 id a k.1)
-    | inr k ↦ inr (k.0, k.1, sent_later s k.2, k.3, k.4)
+    | inr k ↦ inr (value_later id a k)
   ]
