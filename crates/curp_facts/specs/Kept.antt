@@ -317,9 +317,8 @@ CapturesOk w = (l : Lists) → IsGiven w l → (m : MasterState) → IsMaster w 
 
 -- ---- all together
 
--- what holds after every step
-pub record Kept (w : World) : Type 0 where
-  pub pairs : PairsGood w
+-- what holds after every step of what was said, of logs, nodes, early replies, collections, first numbers and adoptions
+pub record FactsKept (w : World) : Type 0 where
   pub said : SaidOk w
   pub logs : LogsOk w
   pub backups : BackupsFollow w
@@ -328,6 +327,11 @@ pub record Kept (w : World) : Type 0 where
   pub collections : CollectionsOk w
   pub firsts : FirstNumbersOk w
   pub adoptions : AdoptionsOk w
+
+-- what holds after every step
+pub record Kept (w : World) : Type 0 where
+  pub pairs : PairsGood w
+  pub facts : FactsKept w
   pub owned : HashesOwned w
   pub stores : StoresTogether w
   pub values : ValuesMarked w

@@ -9,3 +9,4 @@ pub mod Evidence
 pub mod Nodes
 pub mod Invariant
 pub mod Run
+pub mod Silence

@@ -6,7 +6,6 @@ use Rattle.curp_cmd.specs.Hash.{hashes}
 use Rattle.curp_cmd.specs.Node.{client_node, manager_node}
 use Rattle.curp_cmd.specs.Store as cmd
 use Rattle.curp_cmd.specs.declared.command.Answer.{Answer}
-use Rattle.curp_cmd.specs.declared.command.Command.{Command}
 use Rattle.curp_cmd.specs.declared.command.Request.{Request}
 use Rattle.curp_cmd.specs.declared.command.RequestId.{RequestId}
 use Rattle.curp_cmd.specs.declared.entry.Entry.{Entry}
@@ -18,10 +17,10 @@ use Rattle.curp_msg.specs.declared.body.Body.{Body}
 use Rattle.curp_msg.specs.declared.body.Body.TheVariants as body
 use Rattle.curp_msg.specs.declared.body.Recovered.{Recovered}
 use Rattle.curp_msg.specs.declared.body.Worth.{Worth}
-use Rattle.curp_order.specs.declared.Event.TheVariants.{Invoke, Complete}
+use Rattle.curp_order.specs.declared.Event.TheVariants.{Invoke}
 use Rattle.curp_model.specs.declared.Mode.TheVariants as mode
 use Rattle.curp_model.specs.Backup.{BackupState}
-use Rattle.curp_model.specs.Client.{Accept, ClientState, Early, Pending}
+use Rattle.curp_model.specs.Client.{ClientState}
 use Rattle.curp_model.specs.Laws.{clash}
 use Rattle.curp_model.specs.Log.{entry_touches, meaning}
 use Rattle.curp_model.specs.Master.{Acknowledged, Captured, MasterState, Open, Queued, Switch, Switching, from_backup, has, synced}
@@ -31,7 +30,7 @@ use Rattle.curp_model.specs.Witness.{HeldRequest, WitnessState}
 use Rattle.curp_model.specs.World.{World}
 use Rattle.curp_facts.specs.ClientNumbers.{NumbersOk}
 use Rattle.curp_facts.specs.Evidence.{KnowledgeOk}
-use Rattle.curp_facts.specs.Entries.{LogOk, RequestOk, UpdateOk}
+use Rattle.curp_facts.specs.Entries.{LogOk, UpdateOk}
 use Rattle.curp_facts.specs.Facts.{Completable, EntryWas, FencedLogOk, FrozenOk, IsOnlyExpire, Lists, ReplayOk, WasAdopted, WasSent, hi_of, lo_of}
 use Rattle.curp_facts.specs.Kept.{FollowsLog, IsCollectable, lists_of_master}
 use Rattle.curp_facts.specs.Reach.{HasStored}

@@ -22,7 +22,7 @@ use Rattle.curp_msg.specs.declared.machine.Input.TheVariants as input
 use Rattle.curp_msg.specs.declared.message.Message.{Message}
 use Rattle.curp_order.specs.Order.{IsHistory}
 use Rattle.curp_order.specs.declared.Event.{Event}
-use Rattle.curp_model.specs.Client.{Accept, Attempt, ClientState, Early, Pending, attempt_at}
+use Rattle.curp_model.specs.Client.{ClientState, Pending}
 use Rattle.curp_model.specs.World.{completion, invocation_of}
 use Rattle.curp_facts.specs.Facts.{IsAmong}
 use Rattle.curp_facts.specs.ClientNumbers.{IsAsked, IsInvoked, NumbersOk}

@@ -1,12 +1,10 @@
 -- An input to a backup keeps what nodes and messages keep.
-use Rattle.std.proofs.Common.{◌≡◌, ◌≢◌, ◌⊎◌, inl, inr, ℕ, ◌+◌, ◌-◌, ◌<◌, ◌≤◌, List, [], ◌∷◌, ◌++◌, length, drop, refl, ap, sym, ◌∙◌, subst, arith, Option, Some, None}
-use Rattle.std.specs.Bool.{⊤}
-use Rattle.curp_base.specs.Words.{At, Each, IsPrefix}
-use Rattle.curp_base.proofs.Lists.{Each-at, overlap, prefix_trans}
-use Rattle.curp_cmd.specs.Node.{backup_node, manager_node}
+use Rattle.std.proofs.Common.{◌≡◌, inl, inr, ℕ, ◌-◌, List, [], ◌++◌, length, refl, ap, sym, ◌∙◌, subst, arith, Option, Some, None}
+use Rattle.curp_base.specs.Words.{IsPrefix}
+use Rattle.curp_base.proofs.Lists.{overlap, prefix_trans}
+use Rattle.curp_cmd.specs.Node.{backup_node}
 use Rattle.curp_cmd.specs.declared.entry.Entry.{Entry}
 use Rattle.curp_cmd.specs.declared.node.NodeId.{NodeId}
-use Rattle.curp_cmd.specs.declared.node.NodeKind.TheVariants as kind
 use Rattle.curp_msg.specs.Moved.{says}
 use Rattle.curp_msg.specs.declared.answer.AppendAnswer.{AppendAnswer}
 use Rattle.curp_msg.specs.declared.answer.AppendAnswer.TheVariants.{Stored}
@@ -21,19 +19,16 @@ use Rattle.curp_msg.specs.declared.machine.Input.{Input}
 use Rattle.curp_msg.specs.declared.message.Message.{Message}
 use Rattle.curp_model.specs.Backup.{BackupState, longer}
 use Rattle.curp_model.specs.Named.{IsBackup}
-use Rattle.curp_model.specs.Recovery.{MasterStage}
-use Rattle.curp_model.specs.Witness.{WitnessState}
-use Rattle.curp_model.specs.World.{World, messages}
+use Rattle.curp_model.specs.World.{World}
 use Rattle.curp_facts.specs.Facts.{FenceReplyOk, HasLog, IsAmong, IsGiven, Lists, Logged, WasSent}
-use Rattle.curp_facts.specs.Kept.{FollowsLog}
 use Rattle.curp_facts.specs.Nodes.{BackupOk}
-use Rattle.curp_facts.specs.Said.{AppendHolds, AppendSaid, AppendedSaid, IsOrderedTo, Says}
+use Rattle.curp_facts.specs.Said.{AppendHolds, AppendSaid, IsOrderedTo, Says}
 use Rattle.curp_law_growth.specs.Deeds.{IsFor}
-use Rattle.curp_law_keepers.specs.BackupEffect.{AppendAnswerSays, AppendedSays, BackupAnswers, BackupEffect, BackupMove, BackupSays, ByAppend, ByFence, ByInstall, Extends, FenceAnswerSays, FenceReplySays, Installs, RaisesFence, Rests}
+use Rattle.curp_law_keepers.specs.BackupEffect.{AppendAnswerSays, AppendedSays, BackupAnswers, BackupMove, BackupSays, ByAppend, ByFence, ByInstall, Extends, FenceAnswerSays, FenceReplySays, Rests}
 use Rattle.curp_law_keepers.specs.Brought.{Brings}
 use Rattle.curp_law_keepers.proofs.Brought.{brought_sent}
 use Rattle.curp_law_kept.proofs.Known.{Known, from_manager, said}
-use Rattle.curp_law_names.specs.Names.{Agree, InstallOk, OrderOk}
+use Rattle.curp_law_names.specs.Names.{InstallOk, OrderOk}
 use Rattle.curp_law_stays.proofs.Nodes.{backup_ok_later}
 use Rattle.curp_law_stays.proofs.Words.{Follows, given_later, log_later, sent_later}
 

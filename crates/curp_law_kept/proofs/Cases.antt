@@ -1,9 +1,8 @@
 -- What a step does, by the node that it gives an input.
-use Rattle.std.proofs.Common.{◌≡◌, ◌≢◌, ℕ, List, [], ◌∷◌, ◌++◌, refl, sym, ◌∙◌, subst, Option, Some, None}
+use Rattle.std.proofs.Common.{◌≡◌, ℕ, List, [], ◌∷◌, ◌++◌, refl, sym, ◌∙◌, subst, Option, Some, None}
 use Rattle.std.specs.Bool.{⊤}
-use Rattle.curp_base.specs.Words.{At, numbered}
+use Rattle.curp_base.specs.Words.{numbered}
 use Rattle.curp_cmd.specs.Node.{backup_node, client_node, manager_node, master_node, witness_node}
-use Rattle.curp_cmd.specs.declared.command.Command.{Command}
 use Rattle.curp_cmd.specs.declared.node.NodeId.{NodeId}
 use Rattle.curp_cmd.specs.declared.node.NodeKind.{NodeKind}
 use Rattle.curp_cmd.specs.declared.node.NodeKind.TheVariants as kind

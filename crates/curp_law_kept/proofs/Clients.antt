@@ -1,6 +1,5 @@
 -- An input to a client keeps what nodes and messages keep.
-use Rattle.std.proofs.Common.{◌≡◌, ◌≢◌, ◌⊎◌, inl, inr, ℕ, zero, suc, ◌+◌, ◌<◌, ◌≤◌, true, false, List, [], ◌∷◌, ◌++◌, length, refl, ap, sym, ◌∙◌, subst, arith, Option, Some, None}
-use Rattle.std.specs.Bool.{⊤}
+use Rattle.std.proofs.Common.{◌≡◌, ◌≢◌, inl, inr, ℕ, true, false, List, ◌++◌, refl, ap, sym, ◌∙◌, subst, arith, Option, Some, None}
 use Rattle.curp_base.specs.Words.{At, Each, numbered}
 use Rattle.curp_base.proofs.Lists.{Each-at, Each-weaker, at_append_cases, at_one, at_same, at_within, prefix_back}
 use Rattle.curp_cmd.specs.Node.{client_node}
@@ -10,12 +9,9 @@ use Rattle.curp_cmd.specs.declared.command.Command.{Command}
 use Rattle.curp_cmd.specs.declared.command.Request.{Request}
 use Rattle.curp_cmd.specs.declared.command.RequestId.{RequestId}
 use Rattle.curp_cmd.specs.declared.node.NodeId.{NodeId}
-use Rattle.curp_msg.specs.Moved.{Moved, says}
+use Rattle.curp_msg.specs.Moved.{says}
 use Rattle.curp_msg.specs.declared.body.Body.{Body}
 use Rattle.curp_msg.specs.declared.body.Body.TheVariants as body
-use Rattle.curp_msg.specs.declared.body.Rejected.{Rejected}
-use Rattle.curp_msg.specs.declared.body.Reply.{Reply}
-use Rattle.curp_msg.specs.declared.config.PartConfig.{PartConfig}
 use Rattle.curp_msg.specs.declared.machine.Completed.{Completed}
 use Rattle.curp_msg.specs.declared.machine.Input.{Input}
 use Rattle.curp_msg.specs.declared.machine.Input.TheVariants as input
@@ -26,19 +22,18 @@ use Rattle.curp_order.specs.declared.Event.{Event}
 use Rattle.curp_order.specs.declared.Event.TheVariants.{Invoke, Complete}
 use Rattle.curp_model.specs.Client.{ClientState, client_input}
 use Rattle.curp_model.specs.World.{World, completion, invocation_of}
-use Rattle.curp_facts.specs.ClientNumbers.{CompletedBelow, IsAsked, IsInvoked, NumbersOk}
-use Rattle.curp_facts.specs.Entries.{RequestOk}
-use Rattle.curp_facts.specs.Facts.{Completable, EntryWas, WasSent, lists_of_part}
+use Rattle.curp_facts.specs.ClientNumbers.{CompletedBelow, IsAsked, NumbersOk}
+use Rattle.curp_facts.specs.Facts.{EntryWas, WasSent, lists_of_part}
 use Rattle.curp_facts.specs.Nodes.{ClientOk, CompletedBy, MayCome, ValueWasSent}
 use Rattle.curp_facts.specs.Said.{AskSaid, RejectedSaid, ReplySaid, Says, WorthSaid}
 use Rattle.curp_law_growth.specs.Deeds.{IsFor}
-use Rattle.curp_law_keepers.specs.ClientEffect.{BySynced, ByAccepts, ByValue, ClientAsks, ClientEffect, ClientSays, CompletionOk, InputSuitsClient, MayComplete, ReadCompletes, SuitsClient, UpdateCompletes, events_after}
+use Rattle.curp_law_keepers.specs.ClientEffect.{BySynced, ByAccepts, ByValue, ClientAsks, ClientEffect, ClientSays, CompletionOk, InputSuitsClient, MayComplete, SuitsClient, events_after}
 use Rattle.curp_law_keepers.proofs.ClientLater.{others_stay}
 use Rattle.curp_law_keepers.proofs.Clients.{client_effect}
 use Rattle.curp_law_keepers.proofs.Numbers.{waiting}
 use Rattle.curp_law_kept.proofs.Known.{Known, knows_later, said}
-use Rattle.curp_law_stays.proofs.Nodes.{completable_later, completed_by_later, value_later}
-use Rattle.curp_law_stays.proofs.Words.{Follows, event_at, sent_later}
+use Rattle.curp_law_stays.proofs.Nodes.{completed_by_later, value_later}
+use Rattle.curp_law_stays.proofs.Words.{Follows, event_at}
 
 -- an id is invoked with one command
 one_command_at : {events : List Event} → IsHistory events → (i j : ℕ) (id : RequestId) (x y : Command) → At events i (Invoke id x) → At events j (Invoke id y) → x ≡ y
@@ -232,10 +227,10 @@ module _ {w v : World} (known : Known w) (n : ℕ) (given : Input) (for : IsFor 
       not_update : (d : Completed) → CompletionOk (MayCome w n) (EntryWas w) c d → d.id ≡ id → ValueWasSent w d.id d.answer
       not_update d ok same = elim ok.evidence [
         | inl u ↦
-          let asked = (waiting n w.history c (known.inv.clients n c was).numbers ok.place ok.p ok.pending).asked in
-          let there : At v.history asked.invoked.0 (Invoke id ok.p.request.command)
-                = subst (λ (x : RequestId). At v.history asked.invoked.0 (Invoke x ok.p.request.command)) (ok.its_id ∙ same) (event_at s asked.invoked.0 _ asked.invoked.1) in
-          absurd (both (one_command_at history_keeps i asked.invoked.0 id command ok.p.request.command invoked there) reads u.is)
+            let asked = (waiting n w.history c (known.inv.clients n c was).numbers ok.place ok.p ok.pending).asked in
+            let there : At v.history asked.invoked.0 (Invoke id ok.p.request.command)
+            = subst (λ (x : RequestId). At v.history asked.invoked.0 (Invoke x ok.p.request.command)) (ok.its_id ∙ same) (event_at s asked.invoked.0 _ asked.invoked.1) in
+            absurd (both (one_command_at history_keeps i asked.invoked.0 id command ok.p.request.command invoked there) reads u.is)
         | inr r ↦ value_completes d r.evidence
       ]
         where

@@ -1,6 +1,5 @@
 -- Each step of a run follows on its world: nothing is taken back, and lists that become ready are whole.
-use Rattle.std.proofs.Common.{◌≡◌, ◌≢◌, ◌⊎◌, inl, inr, ℕ, List, [], ◌∷◌, ◌++◌, append-nil, refl, ap, sym, ◌∙◌, subst, Some}
-use Rattle.std.specs.Bool.{⊤}
+use Rattle.std.proofs.Common.{◌≡◌, ◌≢◌, ℕ, List, [], ◌++◌, append-nil, refl, ap, sym, ◌∙◌, subst, Some}
 use Rattle.curp_base.specs.Words.{Each, numbered}
 use Rattle.curp_base.proofs.Lists.{Each-weaker}
 use Rattle.curp_cmd.specs.Node.{backup_node, client_node, manager_node, master_node, witness_node}
@@ -19,7 +18,6 @@ use Rattle.curp_model.specs.Recovery.{MasterStage, master_input}
 use Rattle.curp_model.specs.Witness.{witness_input}
 use Rattle.curp_model.specs.World.{World, kept, messages, step, with_master}
 use Rattle.curp_facts.specs.Growth.{Grows}
-use Rattle.curp_facts.specs.Reach.{IsReady}
 use Rattle.curp_facts.specs.Run.{IsStep}
 use Rattle.curp_law_growth.specs.Deeds.{IsFor}
 use Rattle.curp_law_growth.proofs.Numbered.{numbered_set_same}
@@ -28,7 +26,6 @@ use Rattle.curp_law_keepers.specs.BackupEffect.{BackupSays}
 use Rattle.curp_law_keepers.specs.WitnessEffect.{WitnessSays}
 use Rattle.curp_law_keepers.proofs.Backups.{backup_effect}
 use Rattle.curp_law_keepers.proofs.Witnesses.{witness_effect}
-use Rattle.curp_law_kept.specs.ManagerEffect.{ManagerEffect}
 use Rattle.curp_law_kept.proofs.Cases.{ByBackup, ByClient, ByManager, ByMaster, ByWitness, Rests, StepCase, Stays, step_case}
 use Rattle.curp_law_kept.proofs.Clients.{client_messages}
 use Rattle.curp_law_kept.proofs.Known.{Frame, Known}
@@ -43,7 +40,7 @@ use Rattle.curp_law_names.specs.Names.{Names}
 use Rattle.curp_law_names.proofs.Later.{Later}
 use Rattle.curp_law_names.proofs.Lists.{all_of-kept}
 use Rattle.curp_law_names.proofs.Runs.{step_goes}
-use Rattle.curp_law_names.proofs.Steps.{manager_moved, moved_messages}
+use Rattle.curp_law_names.proofs.Steps.{moved_messages}
 use Rattle.curp_law_stays.proofs.Words.{Follows}
 
 apart : {node : NodeId} → (kind.Manager ≡ node.kind → ⊥) → manager_node ≢ node

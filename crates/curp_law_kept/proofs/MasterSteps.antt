@@ -1,11 +1,9 @@
 -- A step in which a master has moved, or nothing, keeps what nodes and messages keep.
-use Rattle.std.proofs.Common.{◌≡◌, ◌≢◌, ◌⊎◌, inl, inr, ℕ, ◌+◌, List, [], ◌++◌, length, ap, sym, ◌∙◌, subst, Option, Some}
+use Rattle.std.proofs.Common.{◌≡◌, ◌≢◌, inl, inr, ℕ, ◌+◌, List, [], ◌++◌, length, ap, sym, ◌∙◌, subst, Option, Some}
 use Rattle.curp_base.specs.Words.{At, numbered}
-use Rattle.curp_base.proofs.Lists.{Each-at}
-use Rattle.curp_cmd.specs.Node.{backup_node, client_node, manager_node, master_node, witness_node}
+use Rattle.curp_cmd.specs.Node.{client_node, manager_node, master_node}
 use Rattle.curp_cmd.specs.declared.node.NodeId.{NodeId}
 use Rattle.curp_cmd.specs.declared.node.NodeKind.TheVariants as kind
-use Rattle.curp_msg.specs.Moved.{Moved}
 use Rattle.curp_msg.specs.declared.body.Body.{Body}
 use Rattle.curp_msg.specs.declared.machine.Input.{Input}
 use Rattle.curp_msg.specs.declared.message.Message.{Message}
@@ -19,20 +17,15 @@ use Rattle.curp_facts.specs.Facts.{IsAmong, IsGiven, Lists}
 use Rattle.curp_facts.specs.Growth.{Grows}
 use Rattle.curp_facts.specs.Invariant.{Invariant}
 use Rattle.curp_facts.specs.Nodes.{BackupOk, MasterOk, StartedAt, WitnessOk}
-use Rattle.curp_facts.specs.Reach.{IsReady, Whole}
 use Rattle.curp_facts.specs.Said.{Says}
 use Rattle.curp_law_growth.specs.Deeds.{IsFor}
-use Rattle.curp_law_keepers.specs.BackupEffect.{BackupEffect, BackupSays}
-use Rattle.curp_law_keepers.specs.WitnessEffect.{WitnessEffect, WitnessSays}
 use Rattle.curp_law_kept.proofs.Apart.{either_node}
-use Rattle.curp_law_kept.proofs.Backups.{backup_keeps, backup_says}
 use Rattle.curp_law_kept.proofs.Known.{Frame, Known, all_say, clients_stay, completed_stays, given_before, history_stays, present_stays, moving_stays, reads_stay}
 use Rattle.curp_law_kept.proofs.MastersKept.{master_keeps}
 use Rattle.curp_law_kept.proofs.MastersMoves.{MasterStep, input_step}
 use Rattle.curp_law_kept.proofs.MastersReady.{step_follows}
 use Rattle.curp_law_kept.proofs.MastersSaid.{master_says}
 use Rattle.curp_law_kept.proofs.Moved.{given_back, ready_back, says_no_more}
-use Rattle.curp_law_kept.proofs.Witnesses.{started_keeps, witness_keeps, witness_says}
 use Rattle.curp_law_names.proofs.Later.{Later}
 use Rattle.curp_law_stays.proofs.Masters.{master_ok_later}
 use Rattle.curp_law_stays.proofs.Nodes.{backup_ok_later, witness_ok_later}

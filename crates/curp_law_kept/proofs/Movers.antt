@@ -1,7 +1,6 @@
 -- Which node has spoken in a step.
-use Rattle.std.proofs.Common.{◌≡◌, ◌≢◌, ◌⊎◌, inl, inr, ℕ, List, [], ◌∷◌, ◌++◌, append-nil, refl, ap, sym, ◌∙◌, subst, Some}
-use Rattle.std.specs.Bool.{⊤}
-use Rattle.curp_base.specs.Words.{Each, numbered}
+use Rattle.std.proofs.Common.{◌≡◌, ◌≢◌, ◌⊎◌, inl, inr, List, [], ◌++◌, append-nil, refl, ap, sym, ◌∙◌}
+use Rattle.curp_base.specs.Words.{Each}
 use Rattle.curp_base.proofs.Lists.{Each-weaker}
 use Rattle.curp_cmd.specs.Node.{backup_node, client_node, manager_node, master_node, witness_node}
 use Rattle.curp_cmd.specs.declared.node.NodeId.{NodeId}
@@ -9,11 +8,11 @@ use Rattle.curp_cmd.specs.declared.node.NodeKind.TheVariants as kind
 use Rattle.curp_msg.specs.declared.machine.Input.{Input}
 use Rattle.curp_msg.specs.declared.message.Message.{Message}
 use Rattle.curp_order.specs.declared.Event.{Event}
-use Rattle.curp_model.specs.Backup.{BackupState, backup_input}
+use Rattle.curp_model.specs.Backup.{backup_input}
 use Rattle.curp_model.specs.Client.{client_input}
 use Rattle.curp_model.specs.Manager.{adoption, manager_input}
-use Rattle.curp_model.specs.Recovery.{MasterStage, master_input}
-use Rattle.curp_model.specs.Witness.{WitnessState, witness_input}
+use Rattle.curp_model.specs.Recovery.{master_input}
+use Rattle.curp_model.specs.Witness.{witness_input}
 use Rattle.curp_model.specs.World.{World, messages}
 use Rattle.curp_law_growth.specs.Deeds.{IsFor}
 use Rattle.curp_law_keepers.specs.BackupEffect.{BackupSays}

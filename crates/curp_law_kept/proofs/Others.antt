@@ -1,5 +1,5 @@
 -- Nodes of the kinds that haven't moved keep what they keep.
-use Rattle.std.proofs.Common.{◌≡◌, ◌≢◌, ◌⊎◌, inl, inr, ℕ, List, [], ◌∷◌, ◌++◌, refl, ap, sym, ◌∙◌, subst, Some}
+use Rattle.std.proofs.Common.{◌≡◌, ◌≢◌, ◌⊎◌, inl, List, ◌++◌, ap, sym, ◌∙◌, subst, Some}
 use Rattle.curp_base.specs.Words.{Each, numbered}
 use Rattle.curp_cmd.specs.Node.{manager_node}
 use Rattle.curp_cmd.specs.declared.node.NodeId.{NodeId}

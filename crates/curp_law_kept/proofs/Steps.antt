@@ -1,7 +1,7 @@
 -- Every step of every script keeps what nodes and messages keep.
-use Rattle.std.proofs.Common.{◌≡◌, ◌≢◌, ◌⊎◌, inl, inr, ℕ, zero, suc, ◌+◌, ◌<◌, ◌≤◌, List, [], ◌∷◌, ◌++◌, append-nil, length, refl, ap, sym, ◌∙◌, subst, Option, Some, None}
+use Rattle.std.proofs.Common.{◌≡◌, ℕ, List, [], ◌∷◌, refl, ap, sym, ◌∙◌, subst, Option, Some, None}
 use Rattle.std.specs.Bool.{⊤}
-use Rattle.curp_base.specs.Words.{At, Each, numbered}
+use Rattle.curp_base.specs.Words.{Each, numbered}
 use Rattle.curp_cmd.specs.Node.{backup_node, client_node, manager_node, master_node, witness_node}
 use Rattle.curp_cmd.specs.declared.command.Command.{Command}
 use Rattle.curp_cmd.specs.declared.node.NodeId.{NodeId}
@@ -10,7 +10,6 @@ use Rattle.curp_cmd.specs.declared.node.NodeKind.TheVariants as kind
 use Rattle.curp_msg.specs.Moved.{Moved, quiet, within}
 use Rattle.curp_msg.specs.declared.machine.Input.{Input}
 use Rattle.curp_msg.specs.declared.machine.Input.TheVariants as input
-use Rattle.curp_msg.specs.declared.machine.Local.{Local}
 use Rattle.curp_msg.specs.declared.machine.Local.TheVariants as local
 use Rattle.curp_msg.specs.declared.message.Message.{Message}
 use Rattle.curp_msg.specs.declared.outcome.StepResult.{StepResult}
@@ -21,16 +20,16 @@ use Rattle.curp_msg.specs.declared.script.Step.TheVariants as steps
 use Rattle.curp_order.specs.declared.Event.{Event}
 use Rattle.curp_model.specs.Backup.{BackupState, backup_input}
 use Rattle.curp_model.specs.Client.{ClientState, client_input}
-use Rattle.curp_model.specs.Manager.{adoption, manager_input}
+use Rattle.curp_model.specs.Manager.{adoption}
 use Rattle.curp_model.specs.Named.{IsMaster, IsNodeOf}
 use Rattle.curp_model.specs.Recovery.{MasterStage, master_input}
 use Rattle.curp_model.specs.Witness.{WitnessState, witness_input}
-use Rattle.curp_model.specs.World.{Deed, Gives, Nothing, Stops, World, deed_of, delivery, effect, events_of, invocation_of, kept, messages, moves_kind, moves_one, opening, refusal, result_of, run, step, steps_by, with_client, with_backup, with_master, with_witness, world}
+use Rattle.curp_model.specs.World.{World, deed_of, delivery, effect, events_of, invocation_of, kept, messages, moves_kind, moves_one, opening, result_of, run, step, steps_by, with_client, with_backup, with_master, with_witness, world}
 use Rattle.curp_facts.specs.Growth.{Grows}
 use Rattle.curp_facts.specs.Invariant.{Invariant}
 use Rattle.curp_facts.specs.Run.{IsHeader, IsRun, IsStep}
-use Rattle.curp_law_growth.specs.Deeds.{IsFor, IsMeant}
-use Rattle.curp_law_growth.proofs.Deeds.{deed_meant, done_taken}
+use Rattle.curp_law_growth.specs.Deeds.{IsFor}
+use Rattle.curp_law_growth.proofs.Deeds.{done_taken}
 use Rattle.curp_facts.specs.Facts.{WasSent}
 use Rattle.curp_law_growth.proofs.Numbered.{numbered_set_same, place}
 use Rattle.curp_law_growth.proofs.Reached.{grows_steady, reached_steady}

@@ -1,29 +1,23 @@
 -- The world after an input to a client, a backup, a witness or a master, as what has moved in it.
-use Rattle.std.proofs.Common.{◌≡◌, ◌≢◌, ◌⊎◌, inl, inr, ℕ, ◌+◌, ◌-◌, ◌<◌, ◌≤◌, List, [], ◌∷◌, ◌++◌, append-nil, length, set, refl, ap, sym, ◌∙◌, subst, Option, Some, None}
-use Rattle.std.specs.Bool.{⊤}
-use Rattle.curp_base.specs.Words.{At, Each, numbered}
-use Rattle.curp_cmd.specs.Node.{backup_node, client_node, master_node, witness_node}
-use Rattle.curp_cmd.specs.declared.node.NodeId.{NodeId}
-use Rattle.curp_msg.specs.Moved.{Moved, within}
+use Rattle.std.proofs.Common.{◌≡◌, ◌≢◌, inl, inr, ℕ, ◌-◌, List, [], ◌++◌, append-nil, set, refl, ap, ◌∙◌, Option, Some, None}
+use Rattle.curp_base.specs.Words.{numbered}
+use Rattle.curp_cmd.specs.Node.{backup_node, client_node, witness_node}
+use Rattle.curp_msg.specs.Moved.{within}
 use Rattle.curp_msg.specs.declared.machine.Completed.{Completed}
 use Rattle.curp_msg.specs.declared.machine.Input.{Input}
-use Rattle.curp_msg.specs.declared.machine.Input.TheVariants as input
-use Rattle.curp_msg.specs.declared.machine.Local.TheVariants as local
-use Rattle.curp_msg.specs.declared.message.Message.{Message}
 use Rattle.curp_order.specs.declared.Event.{Event}
 use Rattle.curp_model.specs.Backup.{BackupState, backup_input}
 use Rattle.curp_model.specs.Client.{ClientState, client_input}
 use Rattle.curp_model.specs.Witness.{WitnessState, witness_input}
-use Rattle.curp_model.specs.World.{World, completion, invocation_of, kept, messages, with_backup, with_client, with_witness}
+use Rattle.curp_model.specs.World.{World, completion, invocation_of, kept, with_backup, with_client, with_witness}
 use Rattle.curp_facts.specs.Growth.{Grows}
 use Rattle.curp_facts.specs.Invariant.{Invariant}
 use Rattle.curp_law_growth.specs.Deeds.{IsFor}
 use Rattle.curp_law_growth.proofs.Numbered.{numbered_set_cases, numbered_set_same}
-use Rattle.curp_law_keepers.specs.ClientEffect.{events_after}
 use Rattle.curp_law_keepers.proofs.Backups.{backup_effect}
 use Rattle.curp_law_keepers.proofs.Witnesses.{witness_effect}
-use Rattle.curp_law_kept.proofs.ClientSteps.{ClientMoved, client_step}
-use Rattle.curp_law_kept.proofs.KeeperSteps.{KeeperMoved, backup_step, witness_step}
+use Rattle.curp_law_kept.proofs.ClientSteps.{client_step}
+use Rattle.curp_law_kept.proofs.KeeperSteps.{backup_step, witness_step}
 use Rattle.curp_law_kept.proofs.Known.{Known}
 use Rattle.curp_law_names.proofs.Later.{Later}
 use Rattle.curp_law_names.proofs.Lists.{all_of-kept}

@@ -1,5 +1,5 @@
 -- What the machine takes as given is so of logs that are logs, of which each give fits at its place.
-use Rattle.std.proofs.Common.{◌≡◌, ℕ, ◌≤◌, ◌++◌, List, Some}
+use Rattle.std.proofs.Common.{◌≡◌, ℕ, ◌≤◌, List, Some}
 use Rattle.curp_base.specs.Words.{numbered}
 use Rattle.curp_model.specs.Log.{IsLog, log_opening}
 use Rattle.curp_law_line.specs.Hashes.{Part}

@@ -82,9 +82,9 @@ module _ {w : World} (known : Known w) (chain : Predecessors w) (migrated : Migr
       elim (cases_lt k.lists.epoch c.epoch) [
         | inl later ↦ let h = stands_along known.names known.inv chain c.part id a k (lists_of_part c) top.was refl later in record { now = now; its = h.its; its_log = h.its_log }
         | inr not_later ↦
-          let low = top.epochs k.lists k.adopted k.its_part in
-          let master : c.master ≡ k.lists.master = (known.names.agree (lists_of_part c) k.lists top.was.given k.adopted.given).by_epoch (sym k.its_part) (omega (arith, low, not_later)) in
-          record { now = now; its = k.its; its_log = subst (λ (node : NodeId). HasLog w node k.its) (sym master) k.its_log }
+            let low = top.epochs k.lists k.adopted k.its_part in
+            let master : c.master ≡ k.lists.master = (known.names.agree (lists_of_part c) k.lists top.was.given k.adopted.given).by_epoch (sym k.its_part) (omega (arith, low, not_later)) in
+            record { now = now; its = k.its; its_log = subst (λ (node : NodeId). HasLog w node k.its) (sym master) k.its_log }
       ]
 
   -- what can complete stands as an op in some adopted log

@@ -1,25 +1,24 @@
 -- In every run adopted masters came from the last lists before them.
-use Rattle.std.proofs.Common.{◌≡◌, inl, inr, List, refl, sym, subst}
+use Rattle.std.proofs.Common.{inl, inr, List, refl, sym, subst}
 use Rattle.curp_cmd.specs.Node.{manager_node}
 use Rattle.curp_msg.specs.Moved.{says}
 use Rattle.curp_msg.specs.declared.machine.Input.{Input}
 use Rattle.curp_msg.specs.declared.machine.Input.TheVariants as input
 use Rattle.curp_msg.specs.declared.script.Header.{Header}
 use Rattle.curp_msg.specs.declared.script.Step.{Step}
-use Rattle.curp_model.specs.Manager.{adoption, manager_input}
+use Rattle.curp_model.specs.Manager.{adoption}
 use Rattle.curp_model.specs.World.{World, opening, step, world}
 use Rattle.curp_facts.specs.Facts.{WasSent}
 use Rattle.curp_facts.specs.Run.{IsRun, IsStep}
 use Rattle.curp_law_growth.specs.Deeds.{IsFor}
 use Rattle.curp_law_kept.proofs.Cases.{step_case}
 use Rattle.curp_law_kept.proofs.Known.{Known}
-use Rattle.curp_law_kept.proofs.Movers.{ManagerSpoke, OtherSpoke, who_spoke}
+use Rattle.curp_law_kept.proofs.Movers.{ManagerSpoke, who_spoke}
 use Rattle.curp_law_kept.proofs.Moved.{sent_back}
 use Rattle.curp_law_kept.proofs.Steps.{along, known_step}
 use Rattle.curp_law_names.specs.Names.{Names}
 use Rattle.curp_law_names.proofs.Later.{Later}
 use Rattle.curp_law_names.proofs.Runs.{step_goes}
-use Rattle.curp_law_names.proofs.Steps.{manager_moved}
 use Rattle.curp_law_pairs.specs.Predecessors.{Predecessors}
 use Rattle.curp_law_pairs.proofs.Adopted.{chain_opening, chain_stays}
 use Rattle.curp_law_pairs.proofs.ManagerChain.{manager_chain}

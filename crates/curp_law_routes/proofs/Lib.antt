@@ -8,3 +8,4 @@ pub mod Migrated
 pub mod Before
 pub mod Kept
 pub mod Always
+pub mod Told

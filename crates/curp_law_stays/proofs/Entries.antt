@@ -1,19 +1,18 @@
 -- What is said of requests, entries and logs stays so.
-use Rattle.std.proofs.Common.{◌≡◌, ◌⊎◌, inl, inr, ℕ, ◌+◌, ◌<◌, ◌≤◌, true, List, [], ◌∷◌, refl, sym, subst, Some}
-use Rattle.curp_base.specs.Words.{At, Each}
+use Rattle.std.proofs.Common.{ℕ, List, sym, subst}
+use Rattle.curp_base.specs.Words.{Each}
 use Rattle.curp_base.proofs.Lists.{Each-weaker}
 use Rattle.curp_cmd.specs.declared.command.Request.{Request}
 use Rattle.curp_cmd.specs.declared.entry.Entry.{Entry}
 use Rattle.curp_cmd.specs.declared.entry.Entry.TheVariants.{Op, Take, Give, Expire}
-use Rattle.curp_cmd.specs.declared.migration.Package.{Package}
 use Rattle.curp_msg.specs.declared.answer.Refusal.{Refusal}
 use Rattle.curp_msg.specs.declared.answer.Refusal.TheVariants as refusal
 use Rattle.curp_msg.specs.declared.body.Body.{Body}
 use Rattle.curp_model.specs.Log.{IsLog}
 use Rattle.curp_model.specs.World.{World}
-use Rattle.curp_facts.specs.Entries.{EntryOk, LogOk, RequestOk, UpdateOk, WasTakenOut}
-use Rattle.curp_facts.specs.Facts.{IsMasterOf, WasOrdered, hi_of, lo_of}
-use Rattle.curp_facts.specs.Kept.{AllCompletedBelow, HasCompletedBelow, RefusalFirstOk, RequestFirstOk}
+use Rattle.curp_facts.specs.Entries.{EntryOk, LogOk, RequestOk, UpdateOk}
+use Rattle.curp_facts.specs.Facts.{WasOrdered, hi_of, lo_of}
+use Rattle.curp_facts.specs.Kept.{AllCompletedBelow, HasCompletedBelow, RefusalFirstOk}
 use Rattle.curp_law_stays.proofs.Words.{Follows, event_at, given_later, hi_later, lo_later, sent_later}
 
 module _ {w v : World} (s : Follows w v) where

@@ -1,13 +1,12 @@
 -- What backups and witnesses say stays so.
-use Rattle.std.proofs.Common.{◌≡◌, ◌⊎◌, inl, inr, ℕ, ◌+◌, ◌<◌, ◌≤◌, true, List, [], ◌∷◌, length, refl, ap, sym, ◌∙◌, subst, arith, Option, Some, None}
-use Rattle.curp_base.specs.Words.{At, Each, IsPrefix}
+use Rattle.std.proofs.Common.{◌≡◌, inl, inr, ℕ, ◌<◌, List, [], ◌∷◌, refl, ap, sym, ◌∙◌, subst, arith, Option, Some, None}
+use Rattle.curp_base.specs.Words.{Each, IsPrefix}
 use Rattle.curp_base.proofs.Lists.{prefix_drop, prefix_length, prefix_trans}
-use Rattle.curp_cmd.specs.Node.{manager_node, witness_node}
+use Rattle.curp_cmd.specs.Node.{witness_node}
 use Rattle.curp_cmd.specs.declared.command.Request.{Request}
 use Rattle.curp_cmd.specs.declared.entry.Entry.{Entry}
 use Rattle.curp_cmd.specs.declared.node.NodeId.{NodeId}
 use Rattle.curp_cmd.specs.declared.node.NodeKind.{NodeKind}
-use Rattle.curp_cmd.specs.declared.node.NodeKind.TheVariants as kind
 use Rattle.curp_msg.specs.Moved.{says}
 use Rattle.curp_msg.specs.declared.answer.AppendAnswer.{AppendAnswer}
 use Rattle.curp_msg.specs.declared.answer.AppendAnswer.TheVariants.{Stored}
@@ -17,18 +16,15 @@ use Rattle.curp_msg.specs.declared.body.Accepted.{Accepted}
 use Rattle.curp_msg.specs.declared.body.Append.{Append}
 use Rattle.curp_msg.specs.declared.body.Appended.{Appended}
 use Rattle.curp_msg.specs.declared.body.Body.TheVariants as body
-use Rattle.curp_msg.specs.declared.body.Recover.{Recover}
 use Rattle.curp_model.specs.Backup.{BackupState}
 use Rattle.curp_model.specs.Named.{IsBackup, IsWitness}
-use Rattle.curp_model.specs.Recovery.{replay}
-use Rattle.curp_model.specs.Witness.{WitnessState, frozen_requests, holds}
+use Rattle.curp_model.specs.Witness.{WitnessState}
 use Rattle.curp_model.specs.World.{World}
-use Rattle.curp_facts.specs.Facts.{AppendOk, Collected, FenceReplyOk, FencedLogOk, FrozenOk, IsAmong, IsGiven, Lists, RecoveredOk, StoredOk, WasSent}
-use Rattle.curp_facts.specs.Growth.{BackupGrows, Dropped, WitnessGrows}
+use Rattle.curp_facts.specs.Facts.{Collected, FenceReplyOk, FencedLogOk, FrozenOk, IsAmong, IsGiven, Lists, WasSent}
+use Rattle.curp_facts.specs.Growth.{BackupGrows, Dropped}
 use Rattle.curp_facts.specs.Nodes.{BackupOk}
 use Rattle.curp_facts.specs.Reach.{IsThere}
 use Rattle.curp_facts.specs.Said.{AcceptedSaid, AppendHolds, AppendSaid, AppendedSaid}
-use Rattle.curp_law_names.specs.Names.{OrderOk}
 use Rattle.curp_law_stays.proofs.Words.{Follows, backup_later, given_later, log_later, one_state, sent_later, there, witness_later}
 
 -- the backups of lists that were given are as their master has them

@@ -1,7 +1,6 @@
 -- What a master keeps that doesn't move stays so.
-use Rattle.std.proofs.Common.{◌≡◌, ◌⊎◌, inl, inr, ℕ, ◌+◌, ◌<◌, ◌≤◌, true, List, [], ◌∷◌, length, refl, sym, ◌∙◌, subst, arith, Option, Some, None}
-use Rattle.std.specs.Bool.{⊤}
-use Rattle.curp_base.specs.Words.{At, Each}
+use Rattle.std.proofs.Common.{◌≡◌, ℕ, List, length, sym, ◌∙◌, subst, arith, Option, Some, None}
+use Rattle.curp_base.specs.Words.{Each}
 use Rattle.curp_base.proofs.Lists.{Each-weaker}
 use Rattle.curp_cmd.specs.Node.{manager_node}
 use Rattle.curp_cmd.specs.declared.command.Request.{Request}
@@ -17,7 +16,7 @@ use Rattle.curp_model.specs.Witness.{WitnessState, frozen_requests}
 use Rattle.curp_model.specs.World.{World}
 use Rattle.curp_facts.specs.Facts.{ReplayOk, WasSent}
 use Rattle.curp_facts.specs.Invariant.{Invariant}
-use Rattle.curp_facts.specs.Nodes.{AcknowledgedOk, CameLog, CameRequests, CapturedOk, FreshOk, HasSentAll, MasterOk, RecoveringOk, ReplayedOk, ServingOk, StageOk, SwitchOk}
+use Rattle.curp_facts.specs.Nodes.{AcknowledgedOk, CameLog, CameRequests, CapturedOk, HasSentAll, MasterOk, RecoveringOk, ReplayedOk, ServingOk, StageOk, SwitchOk}
 use Rattle.curp_facts.specs.Reach.{HasStored}
 use Rattle.curp_law_names.specs.Names.{OrderOk}
 use Rattle.curp_law_stays.proofs.Entries.{log_ok_later, updates_later}

@@ -1,6 +1,5 @@
 -- What backups, witnesses and clients keep that don't move, and what is completed, stays so.
-use Rattle.std.proofs.Common.{◌≡◌, ◌⊎◌, inl, inr, ℕ, ◌+◌, ◌<◌, ◌≤◌, true, List, [], ◌∷◌, length, refl, sym, ◌∙◌, subst, arith, Option, Some, None}
-use Rattle.curp_base.specs.Words.{At, Each}
+use Rattle.std.proofs.Common.{inl, inr, ℕ}
 use Rattle.curp_base.proofs.Lists.{Each-weaker, prefix_trans}
 use Rattle.curp_cmd.specs.Node.{client_node}
 use Rattle.curp_cmd.specs.declared.command.Answer.{Answer}
@@ -11,12 +10,12 @@ use Rattle.curp_msg.specs.declared.body.Body.TheVariants as body
 use Rattle.curp_model.specs.Backup.{BackupState}
 use Rattle.curp_model.specs.Witness.{HeldRequest, WitnessState}
 use Rattle.curp_model.specs.World.{World}
-use Rattle.curp_facts.specs.Facts.{Completable, IsAnswered, IsWitnessed, Lists, WasSent}
+use Rattle.curp_facts.specs.Facts.{Completable, IsWitnessed, Lists, WasSent}
 use Rattle.curp_facts.specs.Kept.{FollowsLog}
 use Rattle.curp_facts.specs.Nodes.{BackupOk, CompletedBy, ValueWasSent, WitnessOk}
 use Rattle.curp_facts.specs.Entries.{UpdateOk}
 use Rattle.curp_law_stays.proofs.Entries.{update_later}
-use Rattle.curp_law_stays.proofs.Words.{Follows, adopted_later, event_at, given_later, log_later, sent_later}
+use Rattle.curp_law_stays.proofs.Words.{Follows, given_later, log_later, sent_later}
 
 module _ {w v : World} (s : Follows w v) where
   -- ---- backups and witnesses

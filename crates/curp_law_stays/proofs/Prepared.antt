@@ -1,8 +1,8 @@
 -- What Prepared and Recovered say stays so.
-use Rattle.std.proofs.Common.{◌≡◌, ◌⊎◌, inl, inr, ℕ, zero, suc, ◌+◌, ◌<◌, ◌≤◌, Bool, true, false, List, [], ◌∷◌, ◌++◌, length, drop, take, nat_lt, refl, ap, sym, ◌∙◌, subst, arith, Option, Some, None}
+use Rattle.std.proofs.Common.{◌≡◌, inl, inr, ℕ, zero, suc, ◌<◌, ◌≤◌, Bool, true, false, List, [], ◌∷◌, ◌++◌, length, drop, take, nat_lt, refl, ap, sym, subst, arith, Some}
 use Rattle.std.proofs.lemmas.Bool.Decides.{nat_tests}
 use Rattle.curp_base.specs.Words.{At, Each, IsPrefix}
-use Rattle.curp_base.proofs.Lists.{Each-append, prefix_at, prefix_back, prefix_trans, at_within, prefix_length}
+use Rattle.curp_base.proofs.Lists.{Each-append, prefix_back, prefix_trans, at_within, prefix_length}
 use Rattle.curp_cmd.specs.Node.{manager_node}
 use Rattle.curp_cmd.specs.declared.entry.Entry.{Entry}
 use Rattle.curp_cmd.specs.declared.node.NodeId.{NodeId}
@@ -10,15 +10,15 @@ use Rattle.curp_msg.specs.Moved.{says}
 use Rattle.curp_msg.specs.declared.body.Body.TheVariants as body
 use Rattle.curp_msg.specs.declared.body.Recovered.{Recovered}
 use Rattle.curp_model.specs.Backup.{BackupState}
-use Rattle.curp_model.specs.Master.{MasterState, Open, Phase, Switch, Switching}
+use Rattle.curp_model.specs.Master.{MasterState}
 use Rattle.curp_model.specs.Named.{IsBackup, IsMaster, IsWitness}
 use Rattle.curp_model.specs.Recovery.{Fresh, MasterStage, Recovering, Serving, replay}
 use Rattle.curp_model.specs.Witness.{WitnessState, frozen_requests}
 use Rattle.curp_model.specs.World.{World, messages}
-use Rattle.curp_facts.specs.Facts.{ByRecovery, FirstPrepared, HasLog, IsGiven, IsOnlyExpire, LengthAt, Lists, Logged, node_log, PreparedOk, ReachesTo, RecoveredOk, WasSent, lists_of_order}
-use Rattle.curp_facts.specs.Growth.{LifeGrows, MasterGrows}
+use Rattle.curp_facts.specs.Facts.{ByRecovery, FirstPrepared, HasLog, IsOnlyExpire, LengthAt, Logged, node_log, PreparedOk, RecoveredOk, WasSent, lists_of_order}
+use Rattle.curp_facts.specs.Growth.{MasterGrows}
 use Rattle.curp_facts.specs.Invariant.{Invariant}
-use Rattle.curp_facts.specs.Nodes.{MasterOk, RecoveringOk, ServingOk, FreshOk}
+use Rattle.curp_facts.specs.Nodes.{MasterOk}
 use Rattle.curp_facts.specs.Said.{RecoveredSaid}
 use Rattle.curp_law_logs.proofs.Logs.{take_grows}
 use Rattle.curp_law_names.specs.Names.{OrderOk}
@@ -71,8 +71,8 @@ module _ {w v : World} (s : Follows w v) where
           elim (ok.prepared version sent) [
             | inl above ↦ absurd (omega (arith, above, version_low, below))
             | inr sw ↦
-              subst (Each IsOnlyExpire) (sym (drop_prefix long m.log k.log g.life.log long_low))
-              (Each-append IsOnlyExpire (drop long m.log) (drop (length m.log) k.log) (since m here (omega (arith, version_low, below))) (g.little sw.0 sw.1))
+                subst (Each IsOnlyExpire) (sym (drop_prefix long m.log k.log g.life.log long_low))
+                (Each-append IsOnlyExpire (drop long m.log) (drop (length m.log) k.log) (since m here (omega (arith, version_low, below))) (g.little sw.0 sw.1))
           ]
         where
           log_same : (m : MasterState) → Some (record { log = m.log; round = m.round }) ≡ Some l → l.log ≡ m.log
@@ -126,7 +126,7 @@ module _ {w v : World} (s : Follows w v) where
       let b = backup_later s ok.holds.order.backup ok.holds.b ok.holds.its_backup in
       let home : OrderOk w from ok.holds.order = s.names.manager_says from (body.Recover ok.holds.order) ok.holds.sent in
       let same : b.0.log ≡ ok.holds.b.log = fenced_stays s inv.backups home.before home.was.given ok.holds.order.backup home.its_backup ok.holds.b b.0 ok.holds.its_backup b.1
-          (omega (arith, home.earlier, ok.holds.its_epoch, ok.holds.fenced)) in
+      (omega (arith, home.earlier, ok.holds.its_epoch, ok.holds.fenced)) in
       record {
         holds = recovered_later inv from r.epoch ok.holds;
         its_part = ok.its_part;

@@ -1,8 +1,6 @@
 -- What replies, collections and what is told of migrations say stays so.
-use Rattle.std.proofs.Common.{◌≡◌, ◌⊎◌, inl, inr, ℕ, ◌+◌, ◌<◌, ◌≤◌, Bool, true, false, List, [], ◌∷◌, length, take, refl, ap, sym, ◌∙◌, subst, arith, Some}
-use Rattle.curp_base.specs.Words.{At, Each}
+use Rattle.std.proofs.Common.{◌≡◌, inl, inr, ℕ, ◌+◌, Bool, true, false, List, take, refl, sym, subst, arith}
 use Rattle.curp_base.proofs.Lists.{Each-weaker, at_within, prefix_at, prefix_back, prefix_length}
-use Rattle.curp_cmd.specs.declared.command.Answer.{Answer}
 use Rattle.curp_cmd.specs.declared.command.RequestId.{RequestId}
 use Rattle.curp_cmd.specs.declared.entry.Entry.{Entry}
 use Rattle.curp_cmd.specs.declared.node.NodeId.{NodeId}
@@ -10,11 +8,10 @@ use Rattle.curp_msg.specs.declared.body.Gc.{Gc}
 use Rattle.curp_msg.specs.declared.body.Reply.{Reply}
 use Rattle.curp_msg.specs.declared.body.Worth.{Worth}
 use Rattle.curp_model.specs.Log.{answer_after, meaning}
-use Rattle.curp_model.specs.Master.{MasterState}
 use Rattle.curp_model.specs.Recovery.{Serving}
 use Rattle.curp_model.specs.Table.{check}
 use Rattle.curp_model.specs.World.{World}
-use Rattle.curp_facts.specs.Facts.{AdoptedBefore, HasLog, Lists, Logged, Speaks, hi_of, lo_of}
+use Rattle.curp_facts.specs.Facts.{AdoptedBefore, Lists, Logged, Speaks, hi_of, lo_of}
 use Rattle.curp_facts.specs.Kept.{IsCollectable}
 use Rattle.curp_facts.specs.Reach.{EarlySaid, GcSaid, SyncedSaid}
 use Rattle.curp_facts.specs.Said.{GcHolds, ReplyHolds, ReplySaid, StoredEntry, WorthSaid}
@@ -36,7 +33,7 @@ module _ {w v : World} (s : Follows w v) where
       let o = log_later s from ok.l ok.its_log in
       let part = ok.lists.part in
       let here : StandsHere (lo_of w part) (hi_of w part) o.0.log ok.stands.index r.id r.answer
-            = stands_longer (lo_of w part) (hi_of w part) ok.l.log o.0.log ok.stands.index r.id r.answer o.2 (stands_here (lo_of w part) (hi_of w part) ok.l.log r.id r.answer ok.stands) in
+      = stands_longer (lo_of w part) (hi_of w part) ok.l.log o.0.log ok.stands.index r.id r.answer o.2 (stands_here (lo_of w part) (hi_of w part) ok.l.log r.id r.answer ok.stands) in
       record {
         lists = ok.lists;
         adopted = adopted_later s ok.adopted;

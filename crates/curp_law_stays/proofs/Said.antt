@@ -1,9 +1,7 @@
 -- What a message says stays so, whatever kind it is.
-use Rattle.std.proofs.Common.{◌≡◌, ◌⊎◌, inl, inr, ℕ, ◌+◌, ◌<◌, ◌≤◌, true, List, [], ◌∷◌, refl, ap, sym, subst, Some}
-use Rattle.std.specs.Bool.{⊤}
-use Rattle.curp_base.specs.Words.{At, Each}
+use Rattle.std.proofs.Common.{ℕ, List, sym, subst}
+use Rattle.curp_base.specs.Words.{At}
 use Rattle.curp_base.proofs.Lists.{Each-weaker}
-use Rattle.curp_cmd.specs.Node.{manager_node}
 use Rattle.curp_cmd.specs.declared.command.Request.{Request}
 use Rattle.curp_cmd.specs.declared.node.NodeId.{NodeId}
 use Rattle.curp_msg.specs.declared.answer.GcAnswer.{GcAnswer}
@@ -14,11 +12,11 @@ use Rattle.curp_msg.specs.declared.body.Recover.{Recover}
 use Rattle.curp_msg.specs.declared.config.Config.{Config}
 use Rattle.curp_msg.specs.declared.config.PartConfig.{PartConfig}
 use Rattle.curp_model.specs.Manager.{Shape, opening_config}
-use Rattle.curp_model.specs.World.{World, messages}
+use Rattle.curp_model.specs.World.{World}
 use Rattle.curp_range.specs.Spans.{Span}
 use Rattle.curp_facts.specs.Facts.{ConfigOk, EntryWas, GivenTo, Opened, TakenFrom, WereRanges}
 use Rattle.curp_facts.specs.Invariant.{Invariant}
-use Rattle.curp_facts.specs.Said.{AskSaid, IsGiveFrom, IsOrderedTo, IsTakeOf, ReadSaid, Says, SuspectsHold, UpdateSaid}
+use Rattle.curp_facts.specs.Said.{AskSaid, IsGiveFrom, IsOrderedTo, IsTakeOf, Says, SuspectsHold, UpdateSaid}
 use Rattle.curp_law_stays.proofs.Entries.{ordered_later, refusal_later, request_later, updates_later}
 use Rattle.curp_law_stays.proofs.Keepers.{accepted_later, append_holds_later, append_later, appended_later, fence_reply_later, frozen_later}
 use Rattle.curp_law_stays.proofs.Prepared.{prepared_later, recovered_said_later}

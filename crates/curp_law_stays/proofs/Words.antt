@@ -1,10 +1,9 @@
 -- Nodes, logs and lists of a world, one step later.
-use Rattle.std.proofs.Common.{◌≡◌, ◌⊎◌, inl, inr, ℕ, zero, suc, ◌+◌, ◌<◌, ◌≤◌, List, [], ◌∷◌, length, drop, take, refl, ap, sym, ◌∙◌, subst, arith, Option, Some, None}
+use Rattle.std.proofs.Common.{◌≡◌, ◌⊎◌, inl, inr, ℕ, zero, suc, ◌<◌, ◌≤◌, List, [], ◌∷◌, length, refl, ap, subst, arith, Option, Some}
 use Rattle.curp_base.specs.Words.{At, Each, IsPrefix, numbered}
 use Rattle.curp_base.proofs.Lists.{Each-weaker, prefix_at, prefix_length}
 use Rattle.curp_cmd.specs.declared.node.NodeId.{NodeId}
 use Rattle.curp_cmd.specs.declared.node.NodeKind.TheVariants as kind
-use Rattle.curp_msg.specs.declared.body.Recover.{Recover}
 use Rattle.curp_msg.specs.declared.message.Message.{Message}
 use Rattle.curp_order.specs.declared.Event.{Event}
 use Rattle.curp_model.specs.Backup.{BackupState}
@@ -15,9 +14,9 @@ use Rattle.curp_model.specs.Ranges.{opening_range}
 use Rattle.curp_model.specs.Recovery.{MasterStage, Serving}
 use Rattle.curp_model.specs.Witness.{WitnessState}
 use Rattle.curp_model.specs.World.{World, messages}
-use Rattle.curp_facts.specs.Facts.{HasLog, IsAmong, IsGiven, Lists, Logged, WasAdopted, WasSent, hi_of, lo_of, node_log}
-use Rattle.curp_facts.specs.Growth.{BackupGrows, Dropped, Grows, LifeGrows, LogGrows, MasterGrows, ServesOn, Steady, WitnessGrows}
-use Rattle.curp_facts.specs.Reach.{HasMany, HasStored, IsReady, IsThere, Reach, RecoveredTo, Whole}
+use Rattle.curp_facts.specs.Facts.{HasLog, IsGiven, Lists, Logged, WasAdopted, WasSent, hi_of, lo_of, node_log}
+use Rattle.curp_facts.specs.Growth.{BackupGrows, Dropped, Grows, LogGrows, MasterGrows, Steady, WitnessGrows}
+use Rattle.curp_facts.specs.Reach.{HasMany, HasStored, IsReady, IsThere, Reach, Whole}
 use Rattle.curp_law_logs.proofs.Reaches.{many_grows, reach_grows}
 use Rattle.curp_law_names.specs.Names.{IsOf, Names}
 use Rattle.curp_law_names.proofs.Later as names

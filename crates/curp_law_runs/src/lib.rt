@@ -1,0 +1,61 @@
+//! What holds after every step of every script: recoveries, replacements, migrations, collections, expiries and reads
+//! among its steps, superseded masters that go on, and steps that are refused. There is no code here: a law is the contract
+//! of a function with nothing in it, and a caller has the law by the call.
+#![tactic(auto)]
+
+ghost use Rattle.std.specs.Prelude.{◌≡◌, ℕ, List, false, true};
+ghost use Rattle.curp_base.specs.Words.{At, Each};
+ghost use Rattle.curp_cmd.specs.Store.{is_update};
+ghost use Rattle.curp_cmd.specs.declared.command.Answer.{Answer};
+ghost use Rattle.curp_cmd.specs.declared.command.Command.{Command};
+ghost use Rattle.curp_cmd.specs.declared.command.RequestId.{RequestId};
+ghost use Rattle.curp_facts.specs.Facts.{Completable, PairsGood};
+ghost use Rattle.curp_facts.specs.Kept.{FactsKept};
+ghost use Rattle.curp_facts.specs.Nodes.{ValueWasSent};
+ghost use Rattle.curp_facts.specs.Run.{IsRun, IsStep};
+ghost use Rattle.curp_facts.specs.Silence.{IsSilentIn};
+ghost use Rattle.curp_law_names.specs.Nodes.{GoesHome, IsBetweenNodes};
+ghost use Rattle.curp_model.specs.World.{messages, step, world};
+ghost use Rattle.curp_msg.specs.declared.script.Header.{Header};
+ghost use Rattle.curp_msg.specs.declared.script.Step.{Step};
+ghost use Rattle.curp_order.specs.declared.Event.TheVariants.{Complete, Invoke};
+
+/// From any one backup and any one witness of an adopted list everything can be recovered that completed, or that may
+/// still complete: it stands in the backup's log, or the witness holds it and the replay has it with that answer. Stopped
+/// nodes count by their last state (CURP).
+pub fn pairs_good()
+    ensures pairs { (h : Header) (steps : List Step) → IsRun h steps → PairsGood (world h steps) }
+{}
+
+/// What each message says stays true, and what each node keeps: logs, backups, masters, early replies, collections, first
+/// numbers and adoptions.
+pub fn facts_kept()
+    ensures facts { (h : Header) (steps : List Step) → IsRun h steps → FactsKept (world h steps) }
+{}
+
+/// What a client has completed was completable: an update by a synced reply, or by an early one with the accepts of all
+/// witnesses of its list; a read had its value sent.
+pub fn completed_is_completable()
+    ensures update { (h : Header) (steps : List Step) → IsRun h steps → (i j : ℕ) (id : RequestId) (command : Command) (a : Answer)
+        → At (world h steps).history i (Invoke id command) → is_update command ≡ true → At (world h steps).history j (Complete id a)
+        → (part : ℕ) × Completable (world h steps) part id a }
+    ensures read { (h : Header) (steps : List Step) → IsRun h steps → (i j : ℕ) (id : RequestId) (command : Command) (a : Answer)
+        → At (world h steps).history i (Invoke id command) → is_update command ≡ false → At (world h steps).history j (Complete id a)
+        → ValueWasSent (world h steps) id a }
+{}
+
+/// Each message goes from one node of the world to another, and what is answered to a client is about a request of that
+/// client.
+pub fn only_sent_to_nodes()
+    ensures between { (h : Header) (steps : List Step) → IsRun h steps
+        → Each (IsBetweenNodes (world h steps)) (messages (world h steps)) }
+    ensures home { (h : Header) (steps : List Step) → IsRun h steps
+        → Each (λ m. GoesHome m.to m.body) (messages (world h steps)) }
+{}
+
+/// While it switches to new lists, a master sends no reply, no value, no collection and nothing of a migration, and its log
+/// gets nothing but expiries.
+pub fn silent_while_switching()
+    ensures silent { (h : Header) (steps : List Step) → IsRun h steps → (s : Step) → IsStep s
+        → IsSilentIn (world h steps) (step (world h steps) s).world }
+{}
