@@ -1,8 +1,11 @@
-//! What is proved of the nodes and of every script of what is built. Each law is the contract of a function with
-//! nothing in it, and a caller has the law by the call.
+//! What is proved of the nodes, of every script, and of every script of what is built. Each law is the contract of a
+//! function with nothing in it, and a caller has the law by the call.
 pub use curp_law_order::{
     backups_follow, completed_is_stored, history_stands, marks_tell_the_log, messages_are_built,
     order_stands, replies_are_stored, shape_stays,
+};
+pub use curp_law_runs::{
+    completed_is_completable, facts_kept, only_sent_to_nodes, pairs_good, silent_while_switching,
 };
 pub use curp_law_steps::{full_changes_nothing, only_the_named_node_moves, results_have_causes};
 pub use curp_law_trip::{one_round_trip, premises_stay, rejected_exactly, trip_can_be_met};
