@@ -28,6 +28,7 @@ use Rattle.curp_model.specs.World.{World}
 use Rattle.curp_facts.specs.Facts.{IsAdoptedNow, IsAmong, WasSent, lists_of_part}
 use Rattle.curp_law_names.specs.Names.{AdoptedOk, Names, RecoveringOk}
 use Rattle.curp_law_names.proofs.Keeps.{entry_now, entry_numbered, numbered_now}
+use Rattle.curp_law_names.proofs.Moves.{Nothing, Repeats}
 use Rattle.curp_law_names.proofs.Lists.{at_mapped, filter_among, first_among, place}
 use Rattle.curp_law_names.proofs.Quiet.{Again, AllAgain}
 use Rattle.curp_law_names.proofs.Says.{adopted_again, nudge_again}
@@ -51,12 +52,12 @@ abbrev pub WasHeard : World → Input → Type 0
 WasHeard w (input.Message m) = WasSent w (says m.from manager_node m.body)
 WasHeard w _ = ⊤
 
-again_old : (w : World) (node : NodeId) (b : Body) → Again w node b → IsOld w node b
-again_old w node (body.Adopted a) k = elim k.repeats [ inl ok ↦ ok | inr none ↦ absurd none ]
-again_old w node _ k = tt
+repeats_old : (w : World) (node : NodeId) (b : Body) → Repeats w Nothing node b → IsOld w node b
+repeats_old w node (body.Adopted a) k = elim k [ inl ok ↦ ok | inr none ↦ absurd none ]
+repeats_old w node _ k = tt
 
 all_again_old : (w : World) (out : List Message) → AllAgain w out → AllOld w out
-all_again_old w out all = Each-weaker (λ (m : Message). Again w m.to m.body) (λ (m : Message). IsOld w m.to m.body) (λ (m : Message). again_old w m.to m.body) out all
+all_again_old w out all = Each-weaker (Again w) (λ (m : Message). IsOld w m.to m.body) (λ (m : Message) k. repeats_old w m.to m.body k.repeats) out all
 
 -- what is said to each of several nodes
 said_each : (w : World) (nodes : List NodeId) (b : Body) → ((node : NodeId) → IsOld w node b) → AllOld w (says_each manager_node nodes b)
