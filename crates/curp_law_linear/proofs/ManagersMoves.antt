@@ -67,7 +67,7 @@ none_any p xs none = go (list_any p xs) refl
     go false e = e
     go true e = let o = any_at p xs e in absurd (none o.0 o.1 o.2 o.3)
 
-self_number : (n : ℕ) → (n == n) ≡ true
+pub self_number : (n : ℕ) → (n == n) ≡ true
 self_number n = grind (arith, nat_tests)
 
 module _ {w : World} (known : Known w) where
