@@ -78,7 +78,7 @@ module _ {w : World} (known : Known w) (chain : Predecessors w) (migrated : Migr
           let its : found.0.part ≡ suc k = omega (arith, known.names.entries k found.0 found.1) in
           (found.0, subst (λ (n : ℕ). numbered w.manager.config.parts n ≡ Some found.0) (sym its) found.1, its)
 
-  answered_log : (c : PartConfig) → IsAdoptedNow w c → (id : RequestId) (a : Answer) → AnsweredBy w c.part id a → AdoptedLog w c
+  pub answered_log : (c : PartConfig) → IsAdoptedNow w c → (id : RequestId) (a : Answer) → AnsweredBy w c.part id a → AdoptedLog w c
   answered_log c now id a k =
       let top = known.names.top c now in
       elim (cases_lt k.lists.epoch c.epoch) [

@@ -13,7 +13,9 @@ use Rattle.curp_cmd.specs.declared.node.NodeId.{NodeId}
 use Rattle.curp_msg.specs.Moved.{says}
 use Rattle.curp_msg.specs.declared.body.Body.TheVariants as body
 use Rattle.curp_msg.specs.declared.config.PartConfig.{PartConfig}
+use Rattle.curp_model.specs.Backup.{BackupState}
 use Rattle.curp_model.specs.Manager.{Migration}
+use Rattle.curp_model.specs.Named.{IsBackup}
 use Rattle.curp_model.specs.World.{World}
 use Rattle.curp_facts.specs.Entries.{EntryOk, LogOk}
 use Rattle.curp_facts.specs.Facts.{HasLog, IsAdoptedNow, IsGiven, Lists, WasOrdered, WasSent, hi_of, lists_of_part, lo_of}
@@ -31,7 +33,7 @@ use Rattle.curp_law_pairs.specs.Along.{HoldsOn}
 use Rattle.curp_law_pairs.specs.Predecessors.{Predecessors}
 use Rattle.curp_law_pairs.proofs.Along.{entry_along}
 use Rattle.curp_law_pairs.proofs.Logs.{log_ok}
-use Rattle.curp_law_routes.specs.Migrated.{Migrated, TakeStored}
+use Rattle.curp_law_routes.specs.Migrated.{AllStored, Migrated, TakeStored}
 use Rattle.curp_law_routes.specs.Routes.{InWork, Routes, order_of}
 
 -- ---- words
@@ -124,8 +126,8 @@ module _ {w : World} (known : Known w) where
     }
 
     module _ (chain : Predecessors w) (migrated : Migrated w) where
-      -- what a master has told that it was given stands in the adopted log of its partition
-      told_adopted : (from : NodeId) (Is : Entry → Type 0) (s : StoredEntry w from Is) → (c : PartConfig) × (l : AdoptedLog w c) × (k : ℕ) × At l.its.log k s.entry
+      -- an entry that is stored stands in the adopted log of its partition, on each of its backups
+      pub told_adopted : (from : NodeId) (Is : Entry → Type 0) (s : StoredEntry w from Is) → (c : PartConfig) × (l : AdoptedLog w c) × (k : ℕ) × At l.its.log k s.entry × AllStored w c (k + 1)
       told_adopted from Is s =
           let o = entry_here s.lists s.adopted.given in
           let top = known.names.top o.0 o.1 in
@@ -134,7 +136,10 @@ module _ {w : World} (known : Known w) where
           let within = at_within s.l.log s.index s.entry s.stands in
           let h : HoldsOn w (lists_of_part o.0) (λ (log : List Entry). At log s.index s.entry)
           = entry_along known.names known.inv chain s.lists s.adopted s.l has (s.index + 1) (omega (arith, within)) reach s.index s.entry (omega arith) s.stands (lists_of_part o.0) top.was o.2 (top.versions s.lists s.adopted (sym o.2)) in
-          (o.0, record { now = o.1; its = h.its; its_log = h.its_log }, s.index, h.in_log)
+          (
+            o.0, record { now = o.1; its = h.its; its_log = h.its_log }, s.index, h.in_log,
+            λ node named b is. let at = Each-at (λ node. (b : BackupState) → IsBackup w node b → At b.log s.index s.entry) o.0.backups h.on_all named.place node named.stands b is in omega (arith, at_within b.log s.index s.entry at),
+          )
 
       -- a migration of which its give was told is done
       pub given_fits : (m : Migration) → w.manager.moving ≡ Some m → (from : NodeId) → WasSent w (says from manager_node (body.Given m.number)) → (k : Migration) → moving_of (Some m) ≡ Some k → GivenFits (line_of w) k
