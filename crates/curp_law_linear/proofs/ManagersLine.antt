@@ -55,7 +55,7 @@ of_shown f s [] = refl
 of_shown f s (x ∷ xs) = ap (λ ys. f (s x) ∷ ys) (of_shown f s xs)
 
 -- what is made alike of each item
-map_alike : {A B : Type 0} (f g : A → B) → ((x : A) → f x ≡ g x) → (xs : List A) → map f xs ≡ map g xs
+pub map_alike : {A B : Type 0} (f g : A → B) → ((x : A) → f x ≡ g x) → (xs : List A) → map f xs ≡ map g xs
 map_alike f g e [] = refl
 map_alike f g e (x ∷ xs) = ap (λ y. y ∷ map f xs) (e x) ∙ ap (λ ys. g x ∷ ys) (map_alike f g e xs)
 
