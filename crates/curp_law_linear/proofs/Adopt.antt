@@ -100,7 +100,7 @@ module _ {w : World} (known : Known w) (chain : Predecessors w) (routes : Routes
 
     module _ (names : Names v) (later : Later w v) (parts : r.state.config.parts ≡ set w.manager.config.parts (c.part - 1) (recovered_part c a)) (moving : r.state.moving ≡ w.manager.moving) where
       -- the partition has the replayed log
-      adopted_parts : (line_of v).parts ≡ relogged (line_of w).parts c.part (part_of w c) (o.b.log ++ ops (replayed_of it))
+      pub adopted_parts : (line_of v).parts ≡ relogged (line_of w).parts c.part (part_of w c) (o.b.log ++ ops (replayed_of it))
       adopted_parts =
           seated_parts v
           ∙ ap (λ (s : Shape). map (seated s v.masters) (map seat v.manager.config.parts)) later.shape
