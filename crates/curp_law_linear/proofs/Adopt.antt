@@ -1,7 +1,7 @@
 -- An adoption is a move of the machine, and leads to what the machine has of the world behind it.
-use Rattle.std.proofs.Common.{◌≡◌, ℕ, zero, suc, ◌+◌, ◌-◌, List, [], ◌∷◌, ◌++◌, map, drop, length, refl, ap, sym, ◌∙◌, subst, Option, Some, None}
+use Rattle.std.proofs.Common.{◌≡◌, ℕ, zero, suc, ◌-◌, List, [], ◌∷◌, ◌++◌, map, drop, length, refl, ap, sym, ◌∙◌, Option, Some}
 use Rattle.std.specs.Prelude.{set}
-use Rattle.curp_base.specs.Words.{At, IsPrefix, numbered}
+use Rattle.curp_base.specs.Words.{IsPrefix, numbered}
 use Rattle.curp_cmd.specs.declared.command.Request.{Request}
 use Rattle.curp_cmd.specs.declared.entry.Entry.{Entry}
 use Rattle.curp_cmd.specs.declared.node.NodeId.{NodeId}
@@ -11,9 +11,9 @@ use Rattle.curp_order.specs.declared.Event.{Event}
 use Rattle.curp_model.specs.Manager.{Attempted, ManagerState, Shape, recovered_part}
 use Rattle.curp_model.specs.Marks.{Mark}
 use Rattle.curp_model.specs.Marks as mark
-use Rattle.curp_model.specs.Recovery.{MasterStage, RecoveryPhase, Waiting}
+use Rattle.curp_model.specs.Recovery.{MasterStage, RecoveryPhase}
 use Rattle.curp_model.specs.Witness.{frozen_requests}
-use Rattle.curp_model.specs.World.{World, grown, marks_adopted, marks_after, op_requests, replayed_in, with_adoption}
+use Rattle.curp_model.specs.World.{World, marks_adopted, marks_after, op_requests, replayed_in, with_adoption}
 use Rattle.curp_model.proofs.Replays.{replay_is}
 use Rattle.curp_facts.specs.Facts.{phase_log}
 use Rattle.curp_law_kept.specs.ManagerEffect.{ManagerEffect}

@@ -4,7 +4,7 @@ use Rattle.std.proofs.Common.{◌≡◌, ◌≢◌, ◌⊎◌, inl, inr, ℕ, ze
 use Rattle.std.specs.Bool.{⊤}
 use Rattle.std.specs.List.{list_any}
 use Rattle.std.proofs.lemmas.Bool.{cases_eq, cases_lt}
-use Rattle.curp_base.specs.Words.{At, Each, IsPrefix, numbered}
+use Rattle.curp_base.specs.Words.{At, Each, IsPrefix}
 use Rattle.curp_base.proofs.Lists.{Each-at, at_append_cases, at_same, at_take, at_within, prefix_at}
 use Rattle.curp_cmd.specs.Hash.{touches}
 use Rattle.curp_cmd.specs.Node.{client_node}
@@ -25,15 +25,14 @@ use Rattle.curp_model.specs.Witness.{frozen_requests}
 use Rattle.curp_model.specs.World.{World}
 use Rattle.curp_model.proofs.Replays.{kept, ops, replay_is}
 use Rattle.curp_facts.specs.Entries.{UpdateOk}
-use Rattle.curp_facts.specs.Facts.{Completable, HasLog, IsAdoptedNow, IsAmong, IsAnswered, IsReplayed, IsWitnessed, Lists, Logged, hi_of, lists_of_part, lo_of}
+use Rattle.curp_facts.specs.Facts.{Completable, HasLog, IsAmong, IsAnswered, IsWitnessed, Lists, Logged, hi_of, lists_of_part, lo_of}
 use Rattle.curp_facts.specs.Kept.{AdoptedLog}
 use Rattle.curp_facts.specs.Reach.{EarlySaid, HasMany, Reach, SyncedSaid, Tells}
 use Rattle.curp_facts.specs.Said.{ReplyHolds, ReplySaid, StoredEntry}
 use Rattle.curp_law_kept.proofs.Known.{Known, said}
-use Rattle.curp_law_line.specs.Hashes.{Part}
 use Rattle.curp_law_line.specs.Line.{IsCompleted}
 use Rattle.curp_law_line.specs.Moves.{Adopt, IsReplayedAs}
-use Rattle.curp_law_line.specs.OfWorld.{line_of, part_of}
+use Rattle.curp_law_line.specs.OfWorld.{part_of}
 use Rattle.curp_law_line.proofs.Lists.{from_filter}
 use Rattle.curp_law_logs.proofs.Ranges.{each_touched}
 use Rattle.curp_law_linear.specs.Ordered.{Ordered}
@@ -43,7 +42,6 @@ use Rattle.curp_law_linear.proofs.AdoptRecovery.{Recovery}
 use Rattle.curp_law_linear.proofs.Clients.{answered_log}
 use Rattle.curp_law_linear.proofs.ManagersMoves.{adopted_entry, entry_here, none_any, told_adopted}
 use Rattle.curp_law_linear.proofs.Parts.{entry_part, part_log}
-use Rattle.curp_law_pairs.specs.Answered.{AnsweredBy}
 use Rattle.curp_law_names.specs.Names.{Top}
 use Rattle.curp_law_pairs.specs.Predecessors.{Predecessors}
 use Rattle.curp_law_pairs.proofs.Completed.{completed_update}
@@ -302,8 +300,8 @@ module _ {w : World} (known : Known w) (chain : Predecessors w) (routes : Routes
         elim can.1 [
           | inl reply ↦ absurd (not_synced can.0 d.answer reply)
           | inr reply ↦
-            let its : ReplySaid w reply.lists.master (client_node reply.reply.id.client) reply.reply
-            = said known reply.lists.master (client_node reply.reply.id.client) (body.Reply reply.reply) reply.sent in
-            let e : EarlySaid w reply.lists.master reply.reply = subst (ReplyHolds w reply.lists.master reply.reply) reply.is_early its.holds in
-            (replayed_as can.0 d.answer reply e, early_quiet can.0 d.answer reply e)
+              let its : ReplySaid w reply.lists.master (client_node reply.reply.id.client) reply.reply
+              = said known reply.lists.master (client_node reply.reply.id.client) (body.Reply reply.reply) reply.sent in
+              let e : EarlySaid w reply.lists.master reply.reply = subst (ReplyHolds w reply.lists.master reply.reply) reply.is_early its.holds in
+              (replayed_as can.0 d.answer reply e, early_quiet can.0 d.answer reply e)
         ]

@@ -1,7 +1,7 @@
 -- What the witness held that an adoption replays from; and the looks that stay.
-use Rattle.std.proofs.Common.{◌≡◌, ℕ, ◌<◌, ◌≤◌, true, List, length, refl, ap, sym, ◌∙◌, subst, arith, inl, Some}
+use Rattle.std.proofs.Common.{◌≡◌, ℕ, ◌≤◌, true, length, sym, subst, arith, inl}
 use Rattle.std.specs.List.{IsDistinct}
-use Rattle.curp_base.specs.Words.{At, Each}
+use Rattle.curp_base.specs.Words.{At}
 use Rattle.curp_base.proofs.Lists.{Each-at, at_some}
 use Rattle.curp_cmd.specs.Hash.{hash_of}
 use Rattle.curp_cmd.specs.Store.{keys_of}

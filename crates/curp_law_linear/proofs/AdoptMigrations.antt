@@ -1,11 +1,11 @@
 -- What an adoption lets go of migrations: entries of the one in work alone, whose take wasn't told.
-use Rattle.std.proofs.Common.{◌≡◌, ◌≢◌, ◌⊎◌, inl, inr, ℕ, zero, suc, ◌+◌, ◌<◌, ◌≤◌, ◌==◌, Bool, true, false, List, [], ◌∷◌, ◌++◌, flat_map, length, take, refl, ap, sym, ◌∙◌, subst, arith, Option, Some, None}
+use Rattle.std.proofs.Common.{◌≡◌, inl, inr, ℕ, zero, suc, ◌+◌, ◌≤◌, Bool, true, false, List, [], ◌∷◌, ◌++◌, flat_map, length, take, refl, ap, sym, ◌∙◌, subst, arith, Some, None}
 use Rattle.std.specs.List.{list_any}
 use Rattle.std.proofs.Math.Seq.{take-append-add}
 use Rattle.std.proofs.lemmas.Bool.{eqb-true}
-use Rattle.curp_range.specs.Spans.{is_in, is_owned}
-use Rattle.curp_base.specs.Words.{At, Each, IsPrefix, numbered}
-use Rattle.curp_base.proofs.Lists.{at_append_cases, at_append_right, at_one, at_take, at_within, prefix_back}
+use Rattle.curp_range.specs.Spans.{is_owned}
+use Rattle.curp_base.specs.Words.{At, IsPrefix, numbered}
+use Rattle.curp_base.proofs.Lists.{at_append_cases, at_append_right, at_one, at_take, prefix_back}
 use Rattle.curp_cmd.specs.Node.{manager_node}
 use Rattle.curp_cmd.specs.declared.entry.Entry.{Entry}
 use Rattle.curp_cmd.specs.declared.entry.Entry.TheVariants.{Op, Take, Give, Expire}
@@ -40,7 +40,7 @@ use Rattle.curp_law_linear.proofs.Parts.{adopted_or_none, part_entry, part_log}
 use Rattle.curp_law_names.specs.Names.{IsOf}
 use Rattle.curp_law_pairs.proofs.Words.{one_log}
 use Rattle.curp_law_routes.specs.Migrated.{AllStored, Migrated, OnlyInWork, TakeStored}
-use Rattle.curp_law_routes.specs.Routes.{InWork, Routes, order_of}
+use Rattle.curp_law_routes.specs.Routes.{Routes, order_of}
 
 -- ---- words
 

@@ -1,7 +1,7 @@
 -- A recovery that is adopted: its master waits with what it replayed over the log of a backup and the requests of a witness of the
 -- present lists.
-use Rattle.std.proofs.Common.{◌≡◌, ◌≢◌, ℕ, ◌<◌, ◌≤◌, List, [], inl, inr, length, refl, ap, sym, ◌∙◌, subst, arith, Option, Some, None}
-use Rattle.curp_base.specs.Words.{At, IsPrefix, numbered}
+use Rattle.std.proofs.Common.{◌≡◌, ℕ, List, [], inl, inr, length, refl, ap, sym, ◌∙◌, subst, arith, Some, None}
+use Rattle.curp_base.specs.Words.{IsPrefix}
 use Rattle.curp_base.proofs.Lists.{prefix_push}
 use Rattle.curp_cmd.specs.Node.{manager_node}
 use Rattle.curp_cmd.specs.declared.entry.Entry.{Entry}
@@ -16,7 +16,7 @@ use Rattle.curp_model.specs.Named.{IsBackup, IsMaster, IsWitness}
 use Rattle.curp_model.specs.Recovery.{Asking, Fresh, MasterStage, Recovering, RecoveryPhase, RecoveryState, Replayed, Serving, Storing, Waiting, replay}
 use Rattle.curp_model.specs.Witness.{WitnessState, frozen_requests}
 use Rattle.curp_model.specs.World.{World}
-use Rattle.curp_facts.specs.Facts.{ByRecovery, HasLog, IsAdoptedNow, Logged, WasSent, hi_of, lists_of_order, lists_of_part, lo_of, node_log}
+use Rattle.curp_facts.specs.Facts.{ByRecovery, IsAdoptedNow, Logged, WasSent, hi_of, lists_of_order, lists_of_part, lo_of, node_log}
 use Rattle.curp_facts.specs.Kept.{lists_of_master}
 use Rattle.curp_facts.specs.Nodes.{IsWaiting, MasterOk, StageOk}
 use Rattle.curp_facts.specs.Said.{RecoveredSaid}

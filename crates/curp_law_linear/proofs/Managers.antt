@@ -1,27 +1,19 @@
 -- An input to the manager that adopts no recovery is at most one move of the machine: a migration begins, or is done.
-use Rattle.std.proofs.Common.{◌≡◌, ◌≢◌, ℕ, List, [], ◌∷◌, ◌++◌, append-nil, flat_map, refl, ap, sym, ◌∙◌, subst, Option, Some, None}
-use Rattle.curp_base.specs.Words.{Each}
-use Rattle.curp_cmd.specs.Node.{manager_node}
+use Rattle.std.proofs.Common.{◌≡◌, List, [], ◌∷◌, ◌++◌, append-nil, refl, ap, sym, ◌∙◌, Option, Some, None}
 use Rattle.curp_msg.specs.Moved.{Moved}
 use Rattle.curp_msg.specs.declared.machine.Completed.{Completed}
-use Rattle.curp_msg.specs.declared.machine.Input.{Input}
-use Rattle.curp_msg.specs.declared.message.Message.{Message}
 use Rattle.curp_order.specs.declared.Event.{Event}
-use Rattle.curp_model.specs.Manager.{Attempted, ManagerState, Migration, adoption, manager_input}
-use Rattle.curp_model.specs.Marks.{Mark}
-use Rattle.curp_model.specs.World.{World, completion, messages, with_adoption, with_completion}
-use Rattle.curp_facts.specs.Facts.{IsAmong, WasSent}
-use Rattle.curp_law_growth.specs.Deeds.{IsFor}
+use Rattle.curp_model.specs.Manager.{Attempted, ManagerState, Migration}
+use Rattle.curp_model.specs.World.{World, completion, with_adoption, with_completion}
 use Rattle.curp_law_kept.specs.ManagerEffect.{ManagerEffect}
 use Rattle.curp_law_kept.proofs.Known.{Known}
 use Rattle.curp_law_line.specs.Hashes.{Part}
-use Rattle.curp_law_line.specs.Line.{Line}
-use Rattle.curp_law_line.specs.Moves.{GivenDone, Migrates, all_after}
-use Rattle.curp_law_line.specs.OfWorld.{line_of, moving_of, told_by}
+use Rattle.curp_law_line.specs.Moves.{GivenDone, Migrates}
+use Rattle.curp_law_line.specs.OfWorld.{line_of, moving_of}
 use Rattle.curp_law_line.proofs.Given.{LogsOk}
 use Rattle.curp_law_linear.specs.Ordered.{Ordered}
 use Rattle.curp_law_linear.specs.Refined.{Refines}
-use Rattle.curp_law_linear.proofs.ManagersDeeds.{Begins, Ends, KeepsSeats, Leads, Renews, Rests}
+use Rattle.curp_law_linear.proofs.ManagersDeeds.{Begins, Ends, KeepsSeats, Leads, Rests}
 use Rattle.curp_law_linear.proofs.ManagersLine.{same_seats, same_told, tells_none}
 use Rattle.curp_law_linear.proofs.ManagersMoves.{given_fits, migrate_fits}
 use Rattle.curp_law_linear.proofs.Parts.{line_logs}

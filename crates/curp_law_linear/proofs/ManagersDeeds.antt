@@ -1,5 +1,5 @@
 -- What each input to the manager does for the machine: nothing, a migration begins or is done, or a recovery is adopted.
-use Rattle.std.proofs.Common.{◌≡◌, ℕ, zero, suc, ◌+◌, ◌-◌, ◌==◌, ◌||◌, Bool, true, false, if◌then◌else◌, List, [], ◌∷◌, ◌++◌, map, refl, ap, sym, ◌∙◌, subst, arith, Option, Some, None, Ok, Err, Result}
+use Rattle.std.proofs.Common.{◌≡◌, ℕ, zero, suc, ◌+◌, ◌-◌, ◌==◌, ◌||◌, Bool, true, false, if◌then◌else◌, List, [], ◌∷◌, map, refl, ap, sym, ◌∙◌, subst, arith, Option, Some, None, Ok, Err, Result}
 use Rattle.std.specs.Prelude.{is_some, set}
 use Rattle.std.specs.Option.{ok_or, option_and_then}
 use Rattle.std.proofs.lemmas.Bool.{cond_both, eqb-true}
@@ -7,20 +7,18 @@ use Rattle.curp_base.specs.Cases.{◌>>=◌, first_there, only_if, refuse_if}
 use Rattle.curp_base.specs.Words.{At, numbered, rises_past}
 use Rattle.curp_base.proofs.Ends.{never_rises}
 use Rattle.curp_cmd.specs.Node.{manager_node}
-use Rattle.curp_cmd.specs.declared.migration.Package.{Package}
 use Rattle.curp_cmd.specs.declared.node.NodeId.{NodeId}
 use Rattle.curp_msg.specs.Moved.{Moved, quiet, says, unless_refused}
 use Rattle.curp_msg.specs.declared.body.Body.{Body}
 use Rattle.curp_msg.specs.declared.body.Body.TheVariants as body
 use Rattle.curp_msg.specs.declared.body.Parcel.{Parcel}
-use Rattle.curp_msg.specs.declared.body.Recover.{Recover}
 use Rattle.curp_msg.specs.declared.body.Recovered.{Recovered}
 use Rattle.curp_msg.specs.declared.config.PartConfig.{PartConfig}
 use Rattle.curp_msg.specs.declared.machine.Input.{Input}
 use Rattle.curp_msg.specs.declared.machine.Input.TheVariants as input
 use Rattle.curp_msg.specs.declared.machine.Local.{Local}
 use Rattle.curp_msg.specs.declared.machine.Local.TheVariants as local
-use Rattle.curp_model.specs.Manager.{Attempted, Doing, ManagerState, Migration, Move, NewLists, Next, Recovering, Replacing, Steady, adopted_at, adoption, adopts, attempt_at, counter_ends, expire, expires, client_for, given_in, gives, heard, last_number, lists_in_work, manager_input, manager_ordered, migrate, migrates, moved_part, nudge, on_given, on_manager, on_prepared, on_recovered, on_taken, owner_of_range, owns_range, part_at, prepared_in, recover, recovered_in, recovered_part, recovers, recovery_for, replace, replacement_for, replaces, taken_in, tells_again, told, unless_numbers_end, version_adopted, version_in_work}
+use Rattle.curp_model.specs.Manager.{Attempted, Doing, ManagerState, Migration, NewLists, Next, Recovering, Replacing, Steady, adopted_at, adoption, adopts, attempt_at, counter_ends, expire, expires, client_for, given_in, gives, heard, last_number, lists_in_work, manager_input, manager_ordered, migrate, migrates, moved_part, nudge, on_given, on_manager, on_prepared, on_recovered, on_taken, owner_of_range, owns_range, part_at, prepared_in, recover, recovered_in, recovered_part, recovers, recovery_for, replace, replacement_for, replaces, taken_in, tells_again, told, unless_numbers_end, version_adopted, version_in_work}
 use Rattle.curp_model.specs.Ranges.{Range, range_of}
 use Rattle.curp_model.specs.World.{World}
 use Rattle.curp_facts.specs.Facts.{IsAdoptedNow, IsAmong, WasSent, lists_of_part}

@@ -1,23 +1,22 @@
 -- What an input to the manager leaves of the machine's state: the adopted logs, where each partition keeps its master, and what
 -- was told.
-use Rattle.std.proofs.Common.{◌≡◌, ◌⊎◌, inl, inr, ℕ, zero, suc, ◌-◌, List, [], ◌∷◌, ◌++◌, append-nil, append_assoc, map, flat_map, length, replicate, slice_get, refl, ap, sym, ◌∙◌, subst, Option, Some, None}
-use Rattle.curp_base.specs.Words.{At, Each, numbered}
+use Rattle.std.proofs.Common.{◌≡◌, inl, inr, ℕ, zero, suc, ◌-◌, List, [], ◌∷◌, ◌++◌, append-nil, map, flat_map, length, replicate, slice_get, refl, ap, sym, ◌∙◌, subst, Option, Some, None}
+use Rattle.curp_base.specs.Words.{Each, numbered}
 use Rattle.curp_base.proofs.Lists.{at_append, at_append_cases, at_replicate}
-use Rattle.curp_cmd.specs.Node.{manager_node}
 use Rattle.curp_cmd.specs.declared.node.NodeId.{NodeId}
-use Rattle.curp_msg.specs.Moved.{Moved, says}
+use Rattle.curp_msg.specs.Moved.{says}
 use Rattle.curp_msg.specs.declared.body.Body.{Body}
 use Rattle.curp_msg.specs.declared.body.Body.TheVariants as body
 use Rattle.curp_msg.specs.declared.config.PartConfig.{PartConfig}
 use Rattle.curp_msg.specs.declared.message.Message.{Message}
-use Rattle.curp_model.specs.Manager.{ManagerState, Shape}
+use Rattle.curp_model.specs.Manager.{Shape}
 use Rattle.curp_model.specs.Ranges.{opening_range}
 use Rattle.curp_model.specs.Recovery.{Fresh, MasterStage}
 use Rattle.curp_model.specs.World.{World, grown, messages}
 use Rattle.curp_facts.specs.Facts.{IsAmong, WasSent}
 use Rattle.curp_law_kept.specs.ManagerEffect.{Uttered}
 use Rattle.curp_law_line.specs.Hashes.{Part}
-use Rattle.curp_law_line.specs.OfWorld.{entries_at, line_of, moving_of, told_by}
+use Rattle.curp_law_line.specs.OfWorld.{entries_at, line_of, told_by}
 use Rattle.curp_law_linear.proofs.Same.{flat_append}
 use Rattle.curp_law_names.specs.Names.{ManagerSays, Names}
 

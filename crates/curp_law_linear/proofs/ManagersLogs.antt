@@ -1,13 +1,11 @@
 -- After an input to the manager the takes and gives of each adopted log rise together, and each give fits at its place.
-use Rattle.std.proofs.Common.{◌≡◌, ◌≢◌, ◌⊎◌, inl, inr, ℕ, zero, suc, ◌<◌, List, [], ◌∷◌, ◌++◌, refl, ap, sym, ◌∙◌, subst, Option, Some, None}
-use Rattle.std.specs.Bool.{⊤}
+use Rattle.std.proofs.Common.{◌≡◌, inl, inr, ℕ, zero, suc, List, [], ◌∷◌, ◌++◌, refl, ap, sym, ◌∙◌, subst, Option, Some, None}
 use Rattle.curp_base.specs.Words.{At, IsPrefix, numbered}
 use Rattle.curp_base.proofs.Lists.{at_append_cases, prefix_at}
 use Rattle.curp_cmd.specs.Node.{manager_node}
 use Rattle.curp_cmd.specs.declared.command.Request.{Request}
 use Rattle.curp_cmd.specs.declared.entry.Entry.{Entry}
-use Rattle.curp_cmd.specs.declared.entry.Entry.TheVariants.{Op, Take, Give, Expire}
-use Rattle.curp_cmd.specs.declared.migration.Package.{Package}
+use Rattle.curp_cmd.specs.declared.entry.Entry.TheVariants.{Op, Give}
 use Rattle.curp_msg.specs.Moved.{Moved}
 use Rattle.curp_msg.specs.declared.config.PartConfig.{PartConfig}
 use Rattle.curp_msg.specs.declared.machine.Input.{Input}
@@ -21,7 +19,7 @@ use Rattle.curp_law_kept.specs.ManagerEffect.{ManagerEffect}
 use Rattle.curp_law_kept.proofs.Known.{Known}
 use Rattle.curp_law_kept.proofs.ManagersDo.{manager_does}
 use Rattle.curp_law_line.specs.Hashes.{Part}
-use Rattle.curp_law_line.specs.Moves.{ops, relogged, replayed_of}
+use Rattle.curp_law_line.specs.Moves.{ops, replayed_of}
 use Rattle.curp_law_line.specs.OfWorld.{entries_at, line_of, logged_entries, part_of}
 use Rattle.curp_law_line.proofs.Numbered.{numbered_set_cases}
 use Rattle.curp_law_logs.specs.Gives.{GivesFit}
@@ -64,7 +62,7 @@ parts_fit {w} known ordered n p here =
 pub logs_fit : (v : World) → PartsFit (line_of v).parts → (d : PartConfig) (l : AdoptedLog v d) → AdoptedOk v d l
 logs_fit v fit d l =
     let its = subst (λ (es : List Entry). LogFits (record (part_of v d) { log = es })) (ap entries_at l.its_log.is.its_state ∙ ap logged_entries l.its_log.its_log)
-        (fit d.part (part_of v d) (numbered_mapped (part_of v) v.manager.config.parts d.part d l.now)) in
+    (fit d.part (part_of v d) (numbered_mapped (part_of v) v.manager.config.parts d.part d l.now)) in
     record { rise = its.0; fit = its.1 }
 
 -- ops are of no migration

@@ -1,9 +1,9 @@
 -- A migration begins, or is done: the moves of the machine.
-use Rattle.std.proofs.Common.{◌≡◌, ◌≢◌, ◌⊎◌, inl, inr, ℕ, zero, suc, ◌+◌, ◌<◌, ◌≤◌, ◌==◌, ◌||◌, Bool, true, false, List, [], ◌∷◌, length, refl, ap, sym, ◌∙◌, subst, arith, Option, Some, None}
+use Rattle.std.proofs.Common.{◌≡◌, ◌≢◌, inl, inr, ℕ, zero, suc, ◌+◌, ◌<◌, ◌≤◌, ◌==◌, ◌||◌, Bool, true, false, List, [], ◌∷◌, refl, ap, sym, ◌∙◌, subst, arith, Some, None}
 use Rattle.std.specs.List.{list_any}
 use Rattle.std.proofs.lemmas.Bool.{eqb-true}
 use Rattle.std.proofs.lemmas.Bool.Decides.{nat_tests}
-use Rattle.curp_base.specs.Words.{At, Each, numbered}
+use Rattle.curp_base.specs.Words.{At, numbered}
 use Rattle.curp_base.proofs.Lists.{Each-at, at_some, at_within}
 use Rattle.curp_cmd.specs.Node.{manager_node}
 use Rattle.curp_cmd.specs.declared.entry.Entry.{Entry}
@@ -18,10 +18,10 @@ use Rattle.curp_model.specs.Manager.{Migration}
 use Rattle.curp_model.specs.Named.{IsBackup}
 use Rattle.curp_model.specs.World.{World}
 use Rattle.curp_facts.specs.Entries.{EntryOk, LogOk}
-use Rattle.curp_facts.specs.Facts.{HasLog, IsAdoptedNow, IsGiven, Lists, WasOrdered, WasSent, hi_of, lists_of_part, lo_of}
+use Rattle.curp_facts.specs.Facts.{HasLog, IsAdoptedNow, IsGiven, Lists, WasSent, lists_of_part}
 use Rattle.curp_facts.specs.Kept.{AdoptedLog}
 use Rattle.curp_facts.specs.Reach.{Reach}
-use Rattle.curp_facts.specs.Said.{GiveWasOrdered, IsGiveFrom, StoredEntry}
+use Rattle.curp_facts.specs.Said.{IsGiveFrom, StoredEntry}
 use Rattle.curp_law_kept.proofs.Known.{Known, said}
 use Rattle.curp_law_line.specs.Hashes.{Part, is_give, is_take}
 use Rattle.curp_law_line.specs.Moves.{GivenFits, MigrateFits}
@@ -135,9 +135,11 @@ module _ {w : World} (known : Known w) where
           let reach : Reach w s.lists.master s.lists.version (s.index + 1) = subst (λ (node : NodeId). Reach w node s.lists.version (s.index + 1)) (sym s.its_master) s.reach in
           let within = at_within s.l.log s.index s.entry s.stands in
           let h : HoldsOn w (lists_of_part o.0) (λ (log : List Entry). At log s.index s.entry)
-          = entry_along known.names known.inv chain s.lists s.adopted s.l has (s.index + 1) (omega (arith, within)) reach s.index s.entry (omega arith) s.stands (lists_of_part o.0) top.was o.2 (top.versions s.lists s.adopted (sym o.2)) in
-          (
-            o.0, record { now = o.1; its = h.its; its_log = h.its_log }, s.index, h.in_log,
+          = entry_along known.names known.inv chain s.lists s.adopted s.l has (s.index + 1) (omega (arith, within)) reach s.index s.entry (omega arith) s.stands (lists_of_part o.0) top.was o.2 (top.versions s.lists s.adopted (sym o.2)) in (
+            o.0,
+            record { now = o.1; its = h.its; its_log = h.its_log },
+            s.index,
+            h.in_log,
             λ node named b is. let at = Each-at (λ node. (b : BackupState) → IsBackup w node b → At b.log s.index s.entry) o.0.backups h.on_all named.place node named.stands b is in omega (arith, at_within b.log s.index s.entry at),
           )
 

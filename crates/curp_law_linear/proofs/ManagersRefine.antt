@@ -1,6 +1,5 @@
 -- An input to the manager is at most one move of the machine.
-use Rattle.std.proofs.Common.{◌≡◌, List, [], ◌∷◌, refl, sym, Option, Some, None}
-use Rattle.std.specs.Bool.{⊤}
+use Rattle.std.proofs.Common.{◌≡◌, List, [], ◌∷◌, sym, Option, Some, None}
 use Rattle.curp_cmd.specs.Node.{manager_node}
 use Rattle.curp_msg.specs.Moved.{Moved}
 use Rattle.curp_msg.specs.declared.machine.Input.{Input}
