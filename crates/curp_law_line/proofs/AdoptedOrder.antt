@@ -144,7 +144,8 @@ module _ (it : Adopting) where
       let w = asked_of_in it.move.goes x m in
       let c : IsCompleted it.line.history w.1.id = subst (IsCompleted it.line.history) (ap (λ (y : Asked). y.0) (sym w.4)) (done_completed x.0 d) in
       let q = (it.fits.done w.0 w.1 w.2 w.3 c).0 in
-      subst (λ (y : Asked). In y (again it)) w.4 (in_asked_all (replayed it) q.place w.1 q.stands)
+      let same : (q.request.id, q.request.command) ≡ x = (λ i. (q.its_id i, q.its_command i)) ∙ w.4 in
+      subst (λ (y : Asked). In y (again it)) same (in_asked_all (replayed it) q.replayed.place q.request q.replayed.stands)
 
   -- ---- where the take stands
 

@@ -106,7 +106,7 @@ module _ (it : Adopting) where
               | inr g ↦
                   let c : IsCompleted it.line.history w.1.request.id = subst (IsCompleted it.line.history) (sym w.1.its_id) (it.facts.flags old.0 m old.1 y) in
                   let q = (it.fits.done g.0 w.1.request w.1.acknowledged g.2 c).0 in
-                  (length it.move.stays + q.place, op_as (parts_now it) (length it.move.stays + q.place) same (sym w.1.its_id) (sym w.1.its_command) (replayed_stands q.place w.1.request q.stands))
+                  (length it.move.stays + q.replayed.place, op_as (parts_now it) (length it.move.stays + q.replayed.place) same (sym (q.its_id ∙ w.1.its_id)) (sym (q.its_command ∙ w.1.its_command)) (replayed_stands q.replayed.place q.request q.replayed.stands))
             ]
           ]
     ]

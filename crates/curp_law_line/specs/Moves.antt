@@ -273,6 +273,13 @@ pub record IsHeld (s : Line) (r : Request) : Type 0 where
   pub hash : ℕ
   pub has_hash : touches r.command hash ≡ true
 
+-- a request of the same id and command is replayed
+pub record IsReplayedAs (o : Adopt) (r : Request) : Type 0 where
+  pub request : Request
+  pub replayed : IsAmong request (replayed_of o)
+  pub its_id : request.id ≡ r.id
+  pub its_command : request.command ≡ r.command
+
 -- What goes is of the migration in work, and where a give goes, what stays doesn't own its hashes. What was held are
 -- invoked updates of which no two clash. Each completed op that goes is replayed, and nothing before it there touches its
 -- hashes. No completed look is longer than what stays, and each take that was told stays
@@ -284,7 +291,7 @@ pub record AdoptFits (s : Line) (o : Adopt) : Type 0 where
   pub apart : IsDistinct clash o.held
   pub asked : (k : ℕ) (r : Request) → At o.held k r → IsHeld s r
   pub done : (k : ℕ) (r : Request) (a : ℕ) → At o.goes k (Op r a) → IsCompleted s.history r.id
-      → IsAmong r (replayed_of o) × ((h : ℕ) → touches r.command h ≡ true → list_any (λ (e : Entry). entry_touches e h) (take k o.goes) ≡ false)
+      → IsReplayedAs o r × ((h : ℕ) → touches r.command h ≡ true → list_any (λ (e : Entry). entry_touches e h) (take k o.goes) ≡ false)
   pub looks : (k : ℕ) (m : Mark) (number long : ℕ) → At s.marks k m → m.part ≡ o.part → m.place ≡ Looked number long → m.completed ≡ true → long ≤ length o.stays
   pub told : (number : ℕ) → IsAmong number s.told → list_any (is_take number) o.p.log ≡ true → list_any (is_take number) o.stays ≡ true
 

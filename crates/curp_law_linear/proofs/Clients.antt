@@ -1,6 +1,7 @@
 -- An input to a client is at most one move: a request is invoked, or completes.
 use Rattle.std.proofs.Common.{◌≡◌, ◌≢◌, ◌⊎◌, inl, inr, ℕ, zero, suc, ◌+◌, ◌<◌, ◌≤◌, ◌&&◌, ◌==◌, Bool, true, false, List, [], ◌∷◌, ◌++◌, append-nil, append_assoc, map, flat_map, length, refl, ap, sym, ◌∙◌, subst, arith, Option, Some, None}
 use Rattle.std.specs.Bool.{⊤}
+use Rattle.std.proofs.lemmas.Bool.{cases_lt}
 use Rattle.std.proofs.lemmas.Bool.Decides.{nat_tests}
 use Rattle.curp_base.specs.Words.{At, Each, numbered}
 use Rattle.curp_base.proofs.Lists.{Each-at, at_some}
@@ -11,6 +12,7 @@ use Rattle.curp_cmd.specs.declared.command.Answer.{Answer}
 use Rattle.curp_cmd.specs.declared.command.Command.{Command}
 use Rattle.curp_cmd.specs.declared.command.Request.{Request}
 use Rattle.curp_cmd.specs.declared.command.RequestId.{RequestId}
+use Rattle.curp_cmd.specs.declared.entry.Entry.{Entry}
 use Rattle.curp_cmd.specs.declared.node.NodeId.{NodeId}
 use Rattle.curp_cmd.proofs.Ids.{same_id-self}
 use Rattle.curp_cmd.proofs.Nodes.{same_node-self, same_node-true}
@@ -76,7 +78,7 @@ module _ {w : World} (known : Known w) (chain : Predecessors w) (migrated : Migr
           let its : found.0.part ≡ suc k = omega (arith, known.names.entries k found.0 found.1) in
           (found.0, subst (λ (n : ℕ). numbered w.manager.config.parts n ≡ Some found.0) (sym its) found.1, its)
 
-  answered_log : (c : PartConfig) → IsAdoptedNow w c → (id : RequestId) (a : Answer) → AnsweredBy w c.part id a → AdoptedLog w c
+  pub answered_log : (c : PartConfig) → IsAdoptedNow w c → (id : RequestId) (a : Answer) → AnsweredBy w c.part id a → AdoptedLog w c
   answered_log c now id a k =
       let top = known.names.top c now in
       elim (cases_lt k.lists.epoch c.epoch) [

@@ -156,18 +156,22 @@ module _ {w : World} (names : Names w) (inv : Invariant w) where
           | inr at_most ↦ at_these ((names.agree e.lists j e.adopted.given adopted.given).by_version (sym master) (omega (arith, newer, at_most)))
         ]
 
-    early : AnsweredBy w p id a
-    early = record {
-      lists = e.lists;
-      adopted = e.adopted;
-      its_part = part;
-      its = its;
-      its_log = has;
-      in_log = inl (record { index = e.index; request = e.request; acknowledged = e.acknowledged; stands = e.stands; its_id = its_id; its_answer = its_answer });
-      pairs = λ j adopted master last node other named named_too b x is its_witness. pair_has j adopted master last node named b is other named_too x its_witness;
-    }
+    -- it was answered by the sender, in the lists that the reply speaks of
+    pub early : (k : AnsweredBy w p id a) × (k.lists ≡ e.lists)
+    early = (
+      record {
+        lists = e.lists;
+        adopted = e.adopted;
+        its_part = part;
+        its = its;
+        its_log = has;
+        in_log = inl (record { index = e.index; request = e.request; acknowledged = e.acknowledged; stands = e.stands; its_id = its_id; its_answer = its_answer });
+        pairs = λ j adopted master last node other named named_too b x is its_witness. pair_has j adopted master last node named b is other named_too x its_witness;
+      },
+      refl,
+    )
 
   pub witnessed_answered : (p : ℕ) (id : RequestId) (a : Answer) → IsWitnessed w p id a → AnsweredBy w p id a
   witnessed_answered p id a ans =
       let its : ReplySaid w ans.lists.master (client_node ans.reply.id.client) ans.reply = said inv ans.lists.master (client_node ans.reply.id.client) (body.Reply ans.reply) ans.sent in
-      early p id a ans (subst (ReplyHolds w ans.lists.master ans.reply) ans.is_early its.holds)
+      (early p id a ans (subst (ReplyHolds w ans.lists.master ans.reply) ans.is_early its.holds)).0

@@ -1,0 +1,121 @@
+-- An adoption is a move of the machine, and leads to what the machine has of the world behind it.
+use Rattle.std.proofs.Common.{◌≡◌, ℕ, zero, suc, ◌-◌, List, [], ◌∷◌, ◌++◌, map, drop, length, refl, ap, sym, ◌∙◌, Option, Some}
+use Rattle.std.specs.Prelude.{set}
+use Rattle.curp_base.specs.Words.{IsPrefix, numbered}
+use Rattle.curp_cmd.specs.declared.command.Request.{Request}
+use Rattle.curp_cmd.specs.declared.entry.Entry.{Entry}
+use Rattle.curp_cmd.specs.declared.node.NodeId.{NodeId}
+use Rattle.curp_msg.specs.Moved.{Moved}
+use Rattle.curp_msg.specs.declared.config.PartConfig.{PartConfig}
+use Rattle.curp_order.specs.declared.Event.{Event}
+use Rattle.curp_model.specs.Manager.{Attempted, ManagerState, Shape, recovered_part}
+use Rattle.curp_model.specs.Marks.{Mark}
+use Rattle.curp_model.specs.Marks as mark
+use Rattle.curp_model.specs.Recovery.{MasterStage, RecoveryPhase}
+use Rattle.curp_model.specs.Witness.{frozen_requests}
+use Rattle.curp_model.specs.World.{World, marks_adopted, marks_after, op_requests, replayed_in, with_adoption}
+use Rattle.curp_model.proofs.Replays.{replay_is}
+use Rattle.curp_facts.specs.Facts.{phase_log}
+use Rattle.curp_law_kept.specs.ManagerEffect.{ManagerEffect}
+use Rattle.curp_law_kept.proofs.Known.{Known}
+use Rattle.curp_law_line.specs.Hashes.{Part}
+use Rattle.curp_law_line.specs.Moves.{Adopt, AdoptFits, adopting, ops, relogged, replayed_of}
+use Rattle.curp_law_line.specs.OfWorld.{entries_at, line_of, logged_entries, moving_of, part_of}
+use Rattle.curp_law_linear.specs.Ordered.{Ordered}
+use Rattle.curp_law_linear.proofs.AdoptDone.{adopt, done_replayed}
+use Rattle.curp_law_linear.proofs.AdoptHeld.{held_apart, held_asked, looks_short}
+use Rattle.curp_law_linear.proofs.AdoptMigrations.{only_moving, told_stays, unowned}
+use Rattle.curp_law_linear.proofs.AdoptRecovery.{Recovery}
+use Rattle.curp_law_linear.proofs.Managers.{moved_line}
+use Rattle.curp_law_linear.proofs.ManagersLine.{map_alike, seat, seated, seated_grown, seated_parts}
+use Rattle.curp_law_linear.proofs.Parts.{entry_part}
+use Rattle.curp_law_names.specs.Names.{Names}
+use Rattle.curp_law_names.proofs.Later.{Later}
+use Rattle.curp_law_names.proofs.Steps.{manager_moved}
+use Rattle.curp_law_pairs.specs.Predecessors.{Predecessors}
+use Rattle.curp_law_routes.specs.Migrated.{Migrated}
+use Rattle.curp_law_routes.specs.Routes.{Routes}
+
+-- what is made of items, one of which was replaced
+map_set : {A B : Type 0} (f : A → B) (xs : List A) (i : ℕ) (y : A) → map f (set xs i y) ≡ set (map f xs) i (f y)
+map_set f [] i y = refl
+map_set f (x ∷ xs) zero y = refl
+map_set f (x ∷ xs) (suc i) y = ap (λ ys. f x ∷ ys) (map_set f xs i y)
+
+-- the requests of ops
+requests_of_ops : (rs : List Request) → op_requests (ops rs) ≡ rs
+requests_of_ops [] = refl
+requests_of_ops (r ∷ rs) = ap (λ (qs : List Request). r ∷ qs) (requests_of_ops rs)
+
+-- what stands behind a beginning
+drop_front : {A : Type 0} (xs ys : List A) → drop (length xs) (xs ++ ys) ≡ ys
+drop_front [] ys = refl
+drop_front (x ∷ xs) ys = drop_front xs ys
+
+module _ {w : World} (known : Known w) (chain : Predecessors w) (routes : Routes w) (migrated : Migrated w) (ordered : Ordered w)
+    (c : PartConfig) (a : Attempted) (o : Recovery w c a) (front : IsPrefix o.b.log (part_of w c).log) where
+  abbrev it : Adopt
+  it = adopt known chain routes migrated ordered c a o front
+
+  -- it can be made
+  pub adopt_fits : AdoptFits (line_of w) it
+  adopt_fits = record {
+    here = entry_part known c o.now;
+    is = sym front.is;
+    moving = only_moving known routes migrated c a o front;
+    unowned = unowned known routes migrated c a o front ordered;
+    apart = held_apart known c a o;
+    asked = held_asked known c a o ordered;
+    done = λ k r acknowledged at d. done_replayed known chain routes migrated ordered c a o front k r acknowledged at d;
+    looks = λ k m number long at part place completed. looks_short known c a o ordered k m number long at part place completed;
+    told = told_stays known routes migrated c a o front;
+  }
+
+  -- the log that was replayed
+  log_is : o.r.log ≡ o.b.log ++ ops (replayed_of it)
+  log_is = o.log ∙ replay_is _ _ (frozen_requests o.x) o.b.log (held_apart known c a o)
+
+  entries_are : entries_at (numbered w.masters a.master.number) ≡ o.b.log ++ ops (replayed_of it)
+  entries_are = ap entries_at o.is.its_state ∙ ap (λ (p : RecoveryPhase). logged_entries (phase_log p)) o.phase ∙ log_is
+
+  behind_cut : op_requests (drop o.r.cut o.r.log) ≡ replayed_of it
+  behind_cut =
+      ap (λ (n : ℕ). op_requests (drop n o.r.log)) o.cut
+      ∙ ap (λ (es : List Entry). op_requests (drop (length o.b.log) es)) log_is
+      ∙ ap op_requests (drop_front o.b.log (ops (replayed_of it)))
+      ∙ requests_of_ops (replayed_of it)
+
+  -- the marks follow
+  marks_are : with_adoption w.masters (Some a) w.marks ≡ mark.adopted a.master c.part a.order.epoch (length o.b.log) (replayed_of it) w.marks
+  marks_are =
+      ap (λ (m : Option MasterStage). marks_adopted a m w.marks) o.is.its_state
+      ∙ ap (λ (p : RecoveryPhase). marks_after a (replayed_in p) w.marks) o.phase
+      ∙ ap (λ (n : ℕ). mark.adopted a.master n a.order.epoch o.r.cut (op_requests (drop o.r.cut o.r.log)) w.marks) o.ok.its_part
+      ∙ ap (λ (n : ℕ). mark.adopted a.master c.part a.order.epoch n (op_requests (drop o.r.cut o.r.log)) w.marks) o.cut
+      ∙ ap (λ (rs : List Request). mark.adopted a.master c.part a.order.epoch (length o.b.log) rs w.marks) behind_cut
+
+  module _ (events : List Event) (none : events ≡ []) (r : Moved ManagerState) (does : ManagerEffect w r) where
+    abbrev v : World
+    v = manager_moved w (Some a) events r
+
+    module _ (names : Names v) (later : Later w v) (parts : r.state.config.parts ≡ set w.manager.config.parts (c.part - 1) (recovered_part c a)) (moving : r.state.moving ≡ w.manager.moving) where
+      -- the partition has the replayed log
+      pub adopted_parts : (line_of v).parts ≡ relogged (line_of w).parts c.part (part_of w c) (o.b.log ++ ops (replayed_of it))
+      adopted_parts =
+          seated_parts v
+          ∙ ap (λ (s : Shape). map (seated s v.masters) (map seat v.manager.config.parts)) later.shape
+          ∙ ap (λ (cs : List PartConfig). map (seated w.manager.shape v.masters) (map seat cs)) parts
+          ∙ map_alike (seated w.manager.shape v.masters) here (seated_grown w.manager.shape w.masters r.state.next.master) (map seat (set w.manager.config.parts (c.part - 1) (recovered_part c a)))
+          ∙ ap (map here) (map_set seat w.manager.config.parts (c.part - 1) (recovered_part c a))
+          ∙ map_set here (map seat w.manager.config.parts) (c.part - 1) (c.part, a.master)
+          ∙ ap (λ (ps : List Part). set ps (c.part - 1) (here (c.part, a.master))) (sym (seated_parts w))
+          ∙ ap (λ (es : List Entry). set (line_of w).parts (c.part - 1) (record (part_of w c) { log = es })) entries_are
+        where
+          here : ℕ × NodeId → Part
+          here s = seated w.manager.shape w.masters s
+
+      -- so the move leads there
+      pub adopt_leads : line_of v ≡ adopting (line_of w) it
+      adopt_leads =
+          moved_line (Some a) events none r does names (relogged (line_of w).parts c.part (part_of w c) (o.b.log ++ ops (replayed_of it))) adopted_parts (line_of w).moving (ap moving_of moving)
+          ∙ ap (λ (ms : List Mark). record (line_of w) { parts = relogged (line_of w).parts c.part (part_of w c) (o.b.log ++ ops (replayed_of it)); marks = ms }) marks_are

@@ -1,0 +1,51 @@
+-- What the witness held that an adoption replays from; and the looks that stay.
+use Rattle.std.proofs.Common.{◌≡◌, ℕ, ◌≤◌, true, length, sym, subst, arith, inl}
+use Rattle.std.specs.List.{IsDistinct}
+use Rattle.curp_base.specs.Words.{At}
+use Rattle.curp_base.proofs.Lists.{Each-at, at_some}
+use Rattle.curp_cmd.specs.Hash.{hash_of}
+use Rattle.curp_cmd.specs.Store.{keys_of}
+use Rattle.curp_cmd.specs.declared.command.Request.{Request}
+use Rattle.curp_msg.specs.declared.config.PartConfig.{PartConfig}
+use Rattle.curp_model.specs.Laws.{clash}
+use Rattle.curp_model.specs.Manager.{Attempted}
+use Rattle.curp_model.specs.Marks.{Looked, Mark}
+use Rattle.curp_model.specs.Witness.{HeldRequest, frozen_requests}
+use Rattle.curp_model.specs.World.{World}
+use Rattle.curp_facts.specs.Entries.{UpdateOk}
+use Rattle.curp_facts.specs.Run.{NamesKey}
+use Rattle.curp_law_kept.proofs.Known.{Known}
+use Rattle.curp_law_line.specs.Moves.{IsHeld}
+use Rattle.curp_law_line.specs.OfWorld.{line_of}
+use Rattle.curp_law_line.proofs.Hashes.{key_touches}
+use Rattle.curp_law_logs.proofs.Frozen.{frozen_apart, kept_held}
+use Rattle.curp_law_linear.specs.Ordered.{Ordered}
+use Rattle.curp_law_linear.proofs.AdoptRecovery.{Recovery}
+
+module _ {w : World} (known : Known w) (c : PartConfig) (a : Attempted) (o : Recovery w c a) where
+  -- (c) no two of them clash
+  pub held_apart : IsDistinct clash (frozen_requests o.x)
+  held_apart = frozen_apart o.x (known.inv.witnesses a.order.witness o.x o.its_witness).apart
+
+  -- each is an update that was invoked
+  pub held_update : (k : ℕ) (r : Request) → At (frozen_requests o.x) k r → UpdateOk w r
+  held_update k r at =
+      let h = kept_held o.x r (record { place = k; stands = at }) in
+      subst (UpdateOk w) h.3 (Each-at (λ (y : HeldRequest). UpdateOk w y.request) o.x.held (known.inv.witnesses a.order.witness o.x o.its_witness).held h.0 h.1 h.2)
+
+  -- which names a key
+  pub held_asked : Ordered w → (k : ℕ) (r : Request) → At (frozen_requests o.x) k r → IsHeld (line_of w) r
+  held_asked ordered k r at =
+      let ok = held_update k r at in
+      let names : NamesKey r.command = ordered.commands ok.request.place r.id r.command ok.request.invoked in
+      let key = at_some (keys_of r.command) 0 (omega (arith, names.some)) in
+      record {
+        was_invoked = record { event = ok.request.place; stands = ok.request.invoked };
+        updates = ok.updates;
+        hash = hash_of key.0;
+        has_hash = key_touches r.command key.0 (0, key.1);
+      }
+
+  -- (e) a completed look is no longer than what stays
+  pub looks_short : Ordered w → (k : ℕ) (m : Mark) (number long : ℕ) → At w.marks k m → m.part ≡ c.part → m.place ≡ Looked number long → m.completed ≡ true → long ≤ length o.b.log
+  looks_short ordered k m number long at part place completed = ordered.stored k number long m c at place o.now (sym part) (inl completed) a.order.backup o.ok.its_backup o.b o.its_backup

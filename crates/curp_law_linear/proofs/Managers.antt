@@ -1,0 +1,87 @@
+-- An input to the manager that adopts no recovery is at most one move of the machine: a migration begins, or is done.
+use Rattle.std.proofs.Common.{◌≡◌, List, [], ◌∷◌, ◌++◌, append-nil, refl, ap, sym, ◌∙◌, Option, Some, None}
+use Rattle.curp_msg.specs.Moved.{Moved}
+use Rattle.curp_msg.specs.declared.machine.Completed.{Completed}
+use Rattle.curp_order.specs.declared.Event.{Event}
+use Rattle.curp_model.specs.Manager.{Attempted, ManagerState, Migration}
+use Rattle.curp_model.specs.World.{World, completion, with_adoption, with_completion}
+use Rattle.curp_law_kept.specs.ManagerEffect.{ManagerEffect}
+use Rattle.curp_law_kept.proofs.Known.{Known}
+use Rattle.curp_law_line.specs.Hashes.{Part}
+use Rattle.curp_law_line.specs.Moves.{GivenDone, Migrates}
+use Rattle.curp_law_line.specs.OfWorld.{line_of, moving_of}
+use Rattle.curp_law_line.proofs.Given.{LogsOk}
+use Rattle.curp_law_linear.specs.Ordered.{Ordered}
+use Rattle.curp_law_linear.specs.Refined.{Refines}
+use Rattle.curp_law_linear.proofs.ManagersDeeds.{Begins, Ends, KeepsSeats, Leads, Rests}
+use Rattle.curp_law_linear.proofs.ManagersLine.{same_seats, same_told, tells_none}
+use Rattle.curp_law_linear.proofs.ManagersMoves.{given_fits, migrate_fits}
+use Rattle.curp_law_linear.proofs.Parts.{line_logs}
+use Rattle.curp_law_names.specs.Names.{Names}
+use Rattle.curp_law_names.proofs.Later.{Later}
+use Rattle.curp_law_names.proofs.Steps.{manager_moved, moved_messages, sent_now}
+use Rattle.curp_law_pairs.specs.Predecessors.{Predecessors}
+use Rattle.curp_law_routes.specs.Migrated.{Migrated}
+use Rattle.curp_law_routes.specs.Routes.{Routes}
+
+-- ---- what is left of a world
+
+module _ {w : World} (o : Option Attempted) (events : List Event) (none : events ≡ []) (r : Moved ManagerState) (does : ManagerEffect w r) where
+  -- the manager completes nothing
+  pub moved_history : (manager_moved w o events r).history ≡ w.history
+  moved_history =
+      ap (λ (c : Option Completed). (w.history ++ events) ++ completion c) does.idle
+      ∙ append-nil (w.history ++ events)
+      ∙ ap (λ (es : List Event). w.history ++ es) none ∙ append-nil w.history
+
+  pub moved_marks : (manager_moved w o events r).marks ≡ with_adoption w.masters o w.marks
+  moved_marks = ap (λ (c : Option Completed). with_completion c (with_adoption w.masters o w.marks)) does.idle
+
+  -- and tells of no package
+  pub moved_told : Names (manager_moved w o events r) → (line_of (manager_moved w o events r)).told ≡ (line_of w).told
+  moved_told names =
+      same_told w (manager_moved w o events r) r.messages (moved_messages w o events r)
+      (tells_none w (manager_moved w o events r) names r.messages does.messages (sent_now w (manager_moved w o events r) r.messages (moved_messages w o events r)))
+
+  -- the machine's state by what changes in it
+  pub moved_line : Names (manager_moved w o events r) → (parts : List Part) → (line_of (manager_moved w o events r)).parts ≡ parts → (moving : Option Migration) → moving_of r.state.moving ≡ moving
+      → line_of (manager_moved w o events r) ≡ record { parts = parts; moving = moving; told = (line_of w).told; marks = with_adoption w.masters o w.marks; history = w.history }
+  moved_line names parts same_parts moving same_moving i = record {
+    parts = same_parts i;
+    moving = same_moving i;
+    told = moved_told names i;
+    marks = moved_marks i;
+    history = moved_history i;
+  }
+
+-- ---- moves
+
+module _ {w : World} (known : Known w) (chain : Predecessors w) (routes : Routes w) (migrated : Migrated w) (ordered : Ordered w) (events : List Event) (none : events ≡ []) (r : Moved ManagerState) (does : ManagerEffect w r) where
+  abbrev v : World
+  v = manager_moved w None events r
+
+  logs : LogsOk (line_of w).parts
+  logs = line_logs known ordered
+
+  module _ (names : Names v) (later : Later w v) (after : Routes v) where
+    -- what changes is the migration in work alone
+    steady_line : KeepsSeats w r.state → (moving : Option Migration) → moving_of r.state.moving ≡ moving → line_of v ≡ record (line_of w) { moving = moving }
+    steady_line seats moving same = moved_line None events none r does names (line_of w).parts (same_seats w v r.state.next.master later.shape refl seats) moving same
+
+    -- an input that adopts no recovery
+    pub steady_refines : Leads w r.state None → Refines w v
+    steady_refines (Rests seats same) = record { moves = []; fit = tt; leads = sym (steady_line seats (line_of w).moving same) }
+    steady_refines (Begins m seats free its number fresh) =
+        let k : Migration = record m { moved = None } in
+        record {
+          moves = Migrates k ∷ [];
+          fit = (migrate_fits known routes k free number (after.in_work m its).apart, logs, tt);
+          leads = sym (steady_line seats (Some k) (ap moving_of its));
+        }
+    steady_refines (Ends m seats its done from sent) =
+        let k : Migration = record m { moved = None } in
+        record {
+          moves = GivenDone k ∷ [];
+          fit = (given_fits known routes chain migrated m its from sent k refl, logs, tt);
+          leads = sym (steady_line seats None (ap moving_of done));
+        }
