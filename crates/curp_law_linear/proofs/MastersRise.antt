@@ -1,6 +1,6 @@
 -- An adopted log that grows: its takes and gives rise together, and each give fits at its place. What comes new is of the
 -- migration in work.
-use Rattle.std.proofs.Common.{◌≡◌, ◌≢◌, ◌⊎◌, inl, inr, ℕ, zero, suc, ◌+◌, ◌<◌, ◌≤◌, ◌==◌, ◌||◌, Bool, true, false, List, [], ◌∷◌, length, take, refl, ap, sym, ◌∙◌, ap₂, subst, subst₂, arith, Option, Some, None}
+use Rattle.std.proofs.Common.{◌≡◌, ◌≢◌, ◌⊎◌, inl, inr, ℕ, zero, suc, ◌+◌, ◌<◌, ◌≤◌, ◌==◌, ◌||◌, Bool, true, false, List, [], ◌∷◌, length, take, refl, ap, sym, ◌∙◌, ap₂, subst, arith, Option, Some, None}
 use Rattle.std.specs.List.{list_any}
 use Rattle.std.proofs.lemmas.Bool.{and_from, cases_lt, cases_order, false_from_ne_true}
 use Rattle.std.proofs.lemmas.Bool.Decides.{nat_tests}
@@ -56,14 +56,14 @@ at_any p (y ∷ xs) (suc k) x at passes = go (p y) (at_any p xs k x at passes)
     go false e = e
 
 -- the take that a test finds
-take_is : (number : ℕ) (e : Entry) → is_take number e ≡ true → (taken : Package) × (e ≡ Take number taken)
+pub take_is : (number : ℕ) (e : Entry) → is_take number e ≡ true → (taken : Package) × (e ≡ Take number taken)
 take_is number (Op r a) h = absurd cc
 take_is number (Take m taken) h = let same : m ≡ number = grind (arith, nat_tests) in (taken, ap (λ (n : ℕ). Take n taken) same)
 take_is number (Give m given) h = absurd cc
 take_is number (Expire client) h = absurd cc
 
 -- and the give
-give_is : (number : ℕ) (e : Entry) → is_give number e ≡ true → (given : Package) × (e ≡ Give number given)
+pub give_is : (number : ℕ) (e : Entry) → is_give number e ≡ true → (given : Package) × (e ≡ Give number given)
 give_is number (Op r a) h = absurd cc
 give_is number (Take m taken) h = absurd cc
 give_is number (Give m given) h = let same : m ≡ number = grind (arith, nat_tests) in (given, ap (λ (n : ℕ). Give n given) same)
@@ -139,10 +139,10 @@ module _ {w : World} (known : Known w) (chain : Predecessors w) (routes : Routes
       record { its_source = one.0; lo = ok.0.lo ∙ one.1; hi = ok.0.hi ∙ one.2 }
 
   -- the numbers of entries were given
-  take_given : (part number : ℕ) (taken : Package) → EntryOk w part (Take number taken) → (1 ≤ number) × (number < w.manager.next.migration)
+  pub take_given : (part number : ℕ) (taken : Package) → EntryOk w part (Take number taken) → (1 ≤ number) × (number < w.manager.next.migration)
   take_given part number taken ok = subst (λ (n : ℕ). (1 ≤ n) × (n < w.manager.next.migration)) ok.0.its_number (routes.takes_given part ok.0.order ok.0.ordered)
 
-  give_given : (part number : ℕ) (given : Package) → EntryOk w part (Give number given) → (1 ≤ number) × (number < w.manager.next.migration)
+  pub give_given : (part number : ℕ) (given : Package) → EntryOk w part (Give number given) → (1 ≤ number) × (number < w.manager.next.migration)
   give_given part number given ok = routes.gives_given part (record { migration = number; «package» = given }) ok.0
 
   module _ (c : PartConfig) (l : AdoptedLog w c) (new : List Entry) (front : IsPrefix l.its.log new) (ok : LogOk w c.part new) where
@@ -284,7 +284,7 @@ module _ {w : World} (known : Known w) (chain : Predecessors w) (routes : Routes
             let a = any_at (is_give b.m.number) (part_of w c).log m.1 in
             let g = give_is b.m.number a.1 a.3 in
             let here : At l.its.log a.0 (Give number g.0)
-            = subst₂ (λ (es : List Entry) (e : Entry). At es a.0 e) (part_log known c l) (g.1 ∙ ap (λ (n : ℕ). Give n g.0) b.its_number) a.2 in
+            = subst (At l.its.log a.0) (g.1 ∙ ap (λ (n : ℕ). Give n g.0) b.its_number) (subst (λ (es : List Entry). At es a.0 a.1) (part_log known c l) a.2) in
             ungiven i number given high at c l a.0 g.0 here
 
     -- so each give of the new log fits
