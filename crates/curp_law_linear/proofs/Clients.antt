@@ -68,7 +68,7 @@ module _ {w : World} (known : Known w) (chain : Predecessors w) (migrated : Migr
   stored_part id a o = let d = done_part o.part o.its id a o.done in (o.part.part, d.0, d.1, d.2)
 
   -- the entry of a partition, and its adopted log where something of the partition was answered
-  entry_of : (l : Lists) → IsGiven w l → (c : PartConfig) × IsAdoptedNow w c × (c.part ≡ l.part)
+  pub entry_of : (l : Lists) → IsGiven w l → (c : PartConfig) × IsAdoptedNow w c × (c.part ≡ l.part)
   entry_of l given = go l.part (known.names.given l given).part.0 (known.names.given l given).part.1
     where
       go : (n : ℕ) → 1 ≤ n → n ≤ w.manager.shape.parts → (c : PartConfig) × IsAdoptedNow w c × (c.part ≡ n)

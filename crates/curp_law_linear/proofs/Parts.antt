@@ -44,16 +44,16 @@ numbered_mapped {A} {B} f xs (suc k) x h = go xs k h
     go (y ∷ xs) (suc k) h = go xs k h
 
 -- numbers that ascend with those of other entries among them ascend
-rise_alone : (number : Entry → Option ℕ) → ((e : Entry) (m : ℕ) → number e ≡ Some m → moved_number e ≡ Some m) → (log : List Entry) → MigrationsRise log → NumbersAscend number log
+pub rise_alone : (number : Entry → Option ℕ) → ((e : Entry) (m : ℕ) → number e ≡ Some m → moved_number e ≡ Some m) → (log : List Entry) → MigrationsRise log → NumbersAscend number log
 rise_alone number more log rise i j m n d e low at to p q = rise i j m n d e low at to (more d m p) (more e n q)
 
-takes_move : (e : Entry) (m : ℕ) → take_number e ≡ Some m → moved_number e ≡ Some m
+pub takes_move : (e : Entry) (m : ℕ) → take_number e ≡ Some m → moved_number e ≡ Some m
 takes_move (Op r acknowledged) m h = absurd cc
 takes_move (Take migration taken) m h = h
 takes_move (Give migration given) m h = absurd cc
 takes_move (Expire client) m h = absurd cc
 
-gives_move : (e : Entry) (m : ℕ) → give_number e ≡ Some m → moved_number e ≡ Some m
+pub gives_move : (e : Entry) (m : ℕ) → give_number e ≡ Some m → moved_number e ≡ Some m
 gives_move (Op r acknowledged) m h = absurd cc
 gives_move (Take migration taken) m h = absurd cc
 gives_move (Give migration given) m h = h

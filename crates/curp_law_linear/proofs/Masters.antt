@@ -1,0 +1,198 @@
+-- An input to a master is a list of moves of the machine, and adopted logs stay what they are.
+use Rattle.std.proofs.Common.{◌≡◌, inl, inr, ℕ, ◌-◌, ◌≤◌, if◌then◌else◌, Bool, true, false, List, [], ◌++◌, append_assoc, append-nil, drop, flat_map, length, map, set, refl, ap, ap₂, sym, ◌∙◌, subst, Option}
+use Rattle.std.proofs.Math.Seq.{drop-append_seam}
+use Rattle.std.proofs.lemmas.Bool.{cases_Bool}
+use Rattle.curp_base.specs.Words.{IsPrefix}
+use Rattle.curp_base.proofs.Lists.{Each-weaker, prefix_self}
+use Rattle.curp_cmd.specs.Node.{master_node, same_node}
+use Rattle.curp_cmd.specs.declared.entry.Entry.{Entry}
+use Rattle.curp_cmd.specs.declared.node.NodeId.{NodeId}
+use Rattle.curp_cmd.proofs.Nodes.{same_node-self, same_node-true}
+use Rattle.curp_msg.specs.declared.body.Body.{Body}
+use Rattle.curp_msg.specs.declared.config.PartConfig.{PartConfig}
+use Rattle.curp_msg.specs.declared.message.Message.{Message}
+use Rattle.curp_model.specs.Log.{log_opening}
+use Rattle.curp_model.specs.Marks.{Mark}
+use Rattle.curp_model.specs.Master.{Captured, MasterState}
+use Rattle.curp_model.specs.Named.{IsMaster}
+use Rattle.curp_model.specs.Recovery.{Fresh, MasterStage, Recovering, RecoveryState, Serving}
+use Rattle.curp_model.specs.World.{World, capture_mark, is_adopted, master_marks, messages, new_captures, op_marks}
+use Rattle.curp_facts.specs.Entries.{LogOk}
+use Rattle.curp_facts.specs.Facts.{IsAdoptedNow, hi_of, lists_of_part, lo_of, node_log}
+use Rattle.curp_facts.specs.Growth.{MasterGrows, ServesOn}
+use Rattle.curp_facts.specs.Kept.{AdoptedLog, lists_of_master}
+use Rattle.curp_facts.specs.Nodes.{CapturedOk, ServingOk}
+use Rattle.curp_law_kept.proofs.Known.{Known}
+use Rattle.curp_law_kept.proofs.MastersMoves.{MasterStep}
+use Rattle.curp_law_line.specs.Hashes.{Part}
+use Rattle.curp_law_line.specs.Line.{Line}
+use Rattle.curp_law_line.specs.Moves.{relogged}
+use Rattle.curp_law_line.specs.OfWorld.{line_of, moving_of, part_of, told_by}
+use Rattle.curp_law_line.proofs.Given.{LogsOk}
+use Rattle.curp_law_line.proofs.Lists.{some_same}
+use Rattle.curp_law_linear.specs.Ordered.{MigrationsRise, Ordered}
+use Rattle.curp_law_linear.specs.Refined.{Refines}
+use Rattle.curp_law_linear.proofs.MastersCaptures.{Captures, StageCaptures}
+use Rattle.curp_law_linear.proofs.MastersLog.{Leads, leads_none, leads_on, line_at, logs_at}
+use Rattle.curp_law_linear.proofs.MastersLooks.{look_all}
+use Rattle.curp_law_linear.proofs.MastersParts.{adopted_in, adopted_out, other_part, own_after, own_before, parts_grow, parts_stay, set_self}
+use Rattle.curp_law_linear.proofs.MastersPushes.{push_all}
+use Rattle.curp_law_linear.proofs.MastersRise.{new_fit, new_rise}
+use Rattle.curp_law_linear.proofs.MastersStand.{SameLog, begins_stands, fresh_stands, recovering_stands}
+use Rattle.curp_law_linear.proofs.MastersTold.{TakeStands, all_tell, takes_stand, tell_all}
+use Rattle.curp_law_linear.proofs.Parts.{entry_part, line_logs, part_log}
+use Rattle.curp_law_linear.proofs.Same.{flat_append}
+use Rattle.curp_law_logs.specs.Gives.{GivesFit}
+use Rattle.curp_law_pairs.specs.Predecessors.{Predecessors}
+use Rattle.curp_law_routes.specs.Migrated.{Migrated}
+use Rattle.curp_law_routes.specs.Routes.{Routes}
+
+-- the log of an adopted master that serves
+abbrev pub serving_log : {w : World} (c : PartConfig) (node : NodeId) (m : MasterState) → IsAdoptedNow w c → c.master ≡ node → IsMaster w node (Serving m) → AdoptedLog w c
+serving_log {w} c node m now its is = record {
+  now = now;
+  its = record { log = m.log; round = m.round };
+  its_log = record { m = Serving m; is = subst (λ (x : NodeId). IsMaster w x (Serving m)) (sym its) is; its_log = refl };
+}
+
+module _ {w v : World} (known : Known w) (chain : Predecessors w) (routes : Routes w) (migrated : Migrated w) (ordered : Ordered w) (moved : Migrated v)
+    (n : ℕ) (from : NodeId) (heard : Option Body) (out : List Message) where
+  -- the marks after it
+  abbrev pub MarksAfter : MasterStage → MasterStage → Type 0
+  MarksAfter m k = v.marks ≡ (if is_adopted w.manager (master_node n) then w.marks ++ master_marks (master_node n) m k else w.marks)
+
+  module _ (m k : MasterStage) (step : MasterStep w v n from heard m k out) where
+    -- what the machine has before the packages are told
+    abbrev untold : List Part → List Mark → Line
+    untold parts marks = record { parts = parts; moving = moving_of w.manager.moving; told = (line_of w).told; marks = marks; history = w.history }
+
+    told_after : (line_of w).told ++ flat_map (λ (x : Message). told_by x.body) out ≡ (line_of v).told
+    told_after = sym (ap (flat_map (λ (x : Message). told_by x.body)) step.frame.sent ∙ flat_append (λ (x : Message). told_by x.body) (messages w) out)
+
+    -- then they are told
+    pub finish : (parts : List Part) (marks : List Mark) → Leads (line_of w) (untold parts marks) → (line_of v).parts ≡ parts → v.marks ≡ marks → LogsOk parts → Refines w v
+    finish parts marks on same marked logs =
+        let out_numbers : List ℕ = flat_map (λ (x : Message). told_by x.body) out in
+        let tell : Leads (untold parts marks) (record (untold parts marks) { told = (line_of w).told ++ out_numbers })
+        = tell_all out_numbers (untold parts marks) logs (λ j a. subst (λ (ps : List Part). TakeStands ps j) same
+        (takes_stand w v moved out step.frame.sent (all_tell w n from heard m k out step.move) j a)) in
+        let all = leads_on (line_of w) (untold parts marks) (record (untold parts marks) { told = (line_of w).told ++ out_numbers }) on tell in
+        record { moves = all.moves; fit = all.fit; leads = all.leads ∙ last }
+      where
+        last : record (untold parts marks) { told = (line_of w).told ++ flat_map (λ (x : Message). told_by x.body) out } ≡ line_of v
+        last i = record {
+          parts = sym same i;
+          moving = moving_of (sym step.frame.manager i).moving;
+          told = told_after i;
+          marks = sym marked i;
+          history = sym step.frame.history i;
+        }
+
+    -- where all logs stay and nothing is marked
+    pub stays : ((d : PartConfig) → IsAdoptedNow w d → d.master ≡ master_node n → SameLog m k) → master_marks (master_node n) m k ≡ [] → MarksAfter m k → Refines w v
+    stays same unmarked marked = finish (line_of w).parts w.marks (leads_none (line_of w) _ refl) parts marks (line_logs known ordered)
+      where
+        parts : (line_of v).parts ≡ (line_of w).parts
+        parts = parts_stay known n from heard m k out step (λ d now. go d now (same_node d.master (master_node n)) refl)
+          where
+            go : (d : PartConfig) → IsAdoptedNow w d → (b : Bool) → same_node d.master (master_node n) ≡ b → part_of v d ≡ part_of w d
+            go d now true e =
+                let its = same_node-true d.master (master_node n) e in
+                own_after known n from heard m k out step d its
+                ∙ ap (λ (es : List Entry). record { lo = lo_of w d.part; hi = hi_of w d.part; log = es }) (same d now its).entries
+                ∙ sym (own_before known n from heard m k out step d its)
+            go d now false e = other_part known n from heard m k out step d now
+                (λ its. let yes_same = subst (λ (x : NodeId). same_node x (master_node n) ≡ true) (sym its) (same_node-self (master_node n)) in cc (e, yes_same))
+
+        marks : v.marks ≡ w.marks
+        marks = marked ∙ go (is_adopted w.manager (master_node n))
+          where
+            go : (b : Bool) → (if b then w.marks ++ master_marks (master_node n) m k else w.marks) ≡ w.marks
+            go true = ap (λ (ms : List Mark). w.marks ++ ms) unmarked ∙ append-nil w.marks
+            go false = refl
+
+    -- a master that isn't adopted
+    pub unadopted : is_adopted w.manager (master_node n) ≡ false → MarksAfter m k → Refines w v
+    unadopted out_of marked = finish (line_of w).parts w.marks (leads_none (line_of w) _ refl)
+        (parts_stay known n from heard m k out step (λ d now. other_part known n from heard m k out step d now (adopted_out known n from heard m k out step out_of d now)))
+        (marked ∙ ap (λ (b : Bool). if b then w.marks ++ master_marks (master_node n) m k else w.marks) out_of) (line_logs known ordered)
+
+  -- ---- an adopted master that serves
+
+  module _ (m k : MasterState) (step : MasterStep w v n from heard (Serving m) (Serving k) out) (c : PartConfig) (now : IsAdoptedNow w c) (its : c.master ≡ master_node n) where
+    serves : ServingOk w (master_node n) m
+    serves = known.inv.masters (master_node n) (Serving m) step.was
+
+    its_part : c.part ≡ m.part
+    its_part = ((known.names.agree (lists_of_part c) (lists_of_master (master_node n) m) (known.names.top c now).was.given serves.adopted.given).by_master its).0
+
+    abbrev mine : AdoptedLog w c
+    mine = serving_log c (master_node n) m now its step.was
+
+    life : ServesOn m k
+    life =
+        let g = step.grows.masters n (Serving m) step.was.its_state in
+        let same : g.0 ≡ Serving k = some_same (sym g.1 ∙ step.is.its_state) in
+        (subst (MasterGrows (Serving m)) same g.2).life
+
+    new_log : LogOk w c.part k.log
+    new_log = subst (λ (p : ℕ). LogOk w p k.log) (sym its_part) step.move.log
+
+    -- its adopted log stays one
+    pub serving_rise : MigrationsRise k.log
+    serving_rise = new_rise known chain routes migrated ordered c mine k.log life.log new_log
+
+    pub serving_fit : GivesFit (log_opening (lo_of w c.part) (hi_of w c.part)) 0 k.log
+    serving_fit = new_fit known chain routes migrated ordered c mine k.log life.log new_log
+
+    -- with this front of the new log
+    module _ (front : IsPrefix m.log k.log) where
+      abbrev at : List Entry → List Mark → Line
+      at log marks = line_at known chain routes migrated ordered c mine k.log front new_log log marks
+
+      begins : line_of w ≡ at m.log w.marks
+      begins = ap (λ (parts : List Part). record (line_of w) { parts = parts })
+          (sym (ap (λ (p : Part). set (line_of w).parts (c.part - 1) p) (ap (λ (es : List Entry). record { lo = lo_of w c.part; hi = hi_of w c.part; log = es }) (sym (part_log known c mine)))
+          ∙ set_self (line_of w).parts c.part (part_of w c) (entry_part known c now)))
+
+      serving_refines : Captures m k → is_adopted w.manager (master_node n) ≡ true → MarksAfter (Serving m) (Serving k) → Refines w v
+      serving_refines captures adopted_now marked =
+          let pushed_marks : List Mark = w.marks ++ op_marks (master_node n) c.part k.epoch (length m.log) front.rest in
+          let all_marks : List Mark = pushed_marks ++ map (capture_mark (master_node n) c.part k.epoch) (new_captures m.captured k.captures) in
+          let pushes = push_all known chain routes migrated ordered c mine k.log front new_log (master_node n) k.epoch front.rest m.log w.marks front.is (prefix_self m.log) in
+          let looks = look_all known chain routes migrated ordered c mine k.log front new_log (master_node n) k.epoch m k (serves.lo ∙ ap (lo_of w) (sym its_part)) (serves.hi ∙ ap (hi_of w) (sym its_part)) refl captures
+          (Each-weaker (CapturedOk w m) (λ (x : Captured). x.number ≤ m.captured) (λ (x : Captured) o. o.number) m.captures serves.captures) step.move.captures pushed_marks in
+          let first = leads_on (line_of w) (at m.log w.marks) (at k.log pushed_marks) (leads_none (line_of w) (at m.log w.marks) begins) pushes in
+          finish (Serving m) (Serving k) step (relogged (line_of w).parts c.part (part_of w c) k.log) all_marks (leads_on (line_of w) (at k.log pushed_marks) (at k.log all_marks) first looks)
+          (parts_grow known n from heard (Serving m) (Serving k) out step c now its)
+          (marked ∙ ap (λ (b : Bool). if b then w.marks ++ master_marks (master_node n) (Serving m) (Serving k) else w.marks) adopted_now
+          ∙ ap₂ (λ (p : ℕ) (es : List Entry). w.marks ++ (op_marks (master_node n) p k.epoch (length m.log) es ++ map (capture_mark (master_node n) p k.epoch) (new_captures m.captured k.captures)))
+          (life.part ∙ sym its_part) (ap (drop (length m.log)) (sym front.is) ∙ drop-append_seam m.log front.rest)
+          ∙ sym (append_assoc w.marks (op_marks (master_node n) c.part k.epoch (length m.log) front.rest) (map (capture_mark (master_node n) c.part k.epoch) (new_captures m.captured k.captures))))
+          (logs_at known chain routes migrated ordered c mine k.log front new_log k.log all_marks (prefix_self k.log))
+
+  -- ---- all together
+
+  -- an input to a master leads the machine on
+  pub master_refines : (m k : MasterStage) → MasterStep w v n from heard m k out → StageCaptures m k → MarksAfter m k → Refines w v
+  master_refines m k step captures marked = elim (cases_Bool (is_adopted w.manager (master_node n))) [
+    | inr out_of ↦ unadopted m k step out_of marked
+    | inl adopted_now ↦
+        let a = adopted_in known n from heard m k out step adopted_now in
+        go m k step captures marked adopted_now a.0 a.1 a.2
+  ]
+    where
+      go : (m k : MasterStage) → MasterStep w v n from heard m k out → StageCaptures m k → MarksAfter m k → is_adopted w.manager (master_node n) ≡ true
+          → (c : PartConfig) → IsAdoptedNow w c → c.master ≡ master_node n → Refines w v
+      go Fresh Fresh step captures marked adopted_now c now its = stays Fresh Fresh step (λ d here mine. record { entries = refl; logged = λ y e. absurd cc }) refl marked
+      go Fresh (Recovering t) step captures marked adopted_now c now its =
+          stays Fresh (Recovering t) step (λ d here mine. fresh_stands known chain n d here mine t (ap (λ (s : RecoveryState). node_log (Recovering s)) step.move.asks)) refl marked
+      go Fresh (Serving k) step captures marked adopted_now c now its = let none = step.move in elim none [ ]
+      go (Recovering s) Fresh step captures marked adopted_now c now its = let none = step.move in elim none [ ]
+      go (Recovering s) (Recovering t) step captures marked adopted_now c now its =
+          stays (Recovering s) (Recovering t) step (λ d here mine. recovering_stands known chain n d here mine s t step.was from heard out step.move) refl marked
+      go (Recovering s) (Serving k) step captures marked adopted_now c now its =
+          stays (Recovering s) (Serving k) step (λ d here mine. begins_stands known chain n d here mine s k from heard out step.move) refl marked
+      go (Serving m) Fresh step captures marked adopted_now c now its = let none = step.move in elim none [ ]
+      go (Serving m) (Recovering t) step captures marked adopted_now c now its = let none = step.move in elim none [ ]
+      go (Serving m) (Serving k) step captures marked adopted_now c now its = serving_refines m k step c now its (life m k step c now its).log captures adopted_now marked
