@@ -3,16 +3,14 @@ use Rattle.std.proofs.Common.{◌≡◌, ℕ, ◌+◌, ◌≤◌, List, refl, sy
 use Rattle.curp_base.specs.Words.{At}
 use Rattle.curp_base.proofs.Lists.{at_within}
 use Rattle.curp_cmd.specs.declared.entry.Entry.{Entry}
-use Rattle.curp_cmd.specs.declared.entry.Entry.TheVariants.{Take, Give}
+use Rattle.curp_cmd.specs.declared.entry.Entry.TheVariants.{Take}
 use Rattle.curp_cmd.specs.declared.migration.Package.{Package}
 use Rattle.curp_cmd.specs.declared.node.NodeId.{NodeId}
-use Rattle.curp_msg.specs.Moved.{says}
-use Rattle.curp_msg.specs.declared.body.Body.TheVariants as body
 use Rattle.curp_model.specs.World.{World}
-use Rattle.curp_facts.specs.Facts.{FromPart, GiveStands, HasLog, IsServer, OnAdopted, PackageOk, TakeStands, WasSent, lists_of_part}
+use Rattle.curp_facts.specs.Facts.{FromPart, HasLog, IsServer, OnAdopted, PackageOk, TakeStands, lists_of_part}
 use Rattle.curp_facts.specs.Invariant.{Invariant}
 use Rattle.curp_facts.specs.Reach.{Reach}
-use Rattle.curp_facts.specs.Said.{IsGiveFrom, IsTakeOf, StoredEntry}
+use Rattle.curp_facts.specs.Said.{IsTakeOf, StoredEntry}
 use Rattle.curp_law_names.specs.Names.{Names}
 use Rattle.curp_law_pairs.specs.Predecessors.{Predecessors}
 use Rattle.curp_law_pairs.proofs.Along.{entry_along, holds_weaker}

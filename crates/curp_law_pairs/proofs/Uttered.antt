@@ -29,6 +29,7 @@ use Rattle.curp_facts.specs.Facts.{IsAdoptedNow, IsAmong, WasSent, lists_of_part
 use Rattle.curp_law_names.specs.Names.{AdoptedOk, Names, RecoveringOk}
 use Rattle.curp_law_names.proofs.Keeps.{entry_now, entry_numbered, numbered_now}
 use Rattle.curp_law_names.proofs.Lists.{at_mapped, filter_among, first_among, place}
+use Rattle.curp_law_names.proofs.Moves.{Nothing, Repeats}
 use Rattle.curp_law_names.proofs.Quiet.{Again, AllAgain}
 use Rattle.curp_law_names.proofs.Says.{adopted_again, nudge_again}
 use Rattle.curp_law_pairs.specs.Adopting.{Comes, FromRecovery, FromReplacement}
@@ -51,12 +52,15 @@ abbrev pub WasHeard : World → Input → Type 0
 WasHeard w (input.Message m) = WasSent w (says m.from manager_node m.body)
 WasHeard w _ = ⊤
 
-again_old : (w : World) (node : NodeId) (b : Body) → Again w node b → IsOld w node b
-again_old w node (body.Adopted a) k = elim k.repeats [ inl ok ↦ ok | inr none ↦ absurd none ]
-again_old w node _ k = tt
+again_old : (w : World) (m : Message) → Again w m → IsOld w m.to m.body
+again_old w m k = go m.body k.repeats
+  where
+    go : (b : Body) → Repeats w Nothing m.to b → IsOld w m.to b
+    go (body.Adopted a) r = elim r [ inl ok ↦ ok | inr none ↦ absurd none ]
+    go _ r = tt
 
 all_again_old : (w : World) (out : List Message) → AllAgain w out → AllOld w out
-all_again_old w out all = Each-weaker (λ (m : Message). Again w m.to m.body) (λ (m : Message). IsOld w m.to m.body) (λ (m : Message). again_old w m.to m.body) out all
+all_again_old w out all = Each-weaker (Again w) (λ (m : Message). IsOld w m.to m.body) (again_old w) out all
 
 -- what is said to each of several nodes
 said_each : (w : World) (nodes : List NodeId) (b : Body) → ((node : NodeId) → IsOld w node b) → AllOld w (says_each manager_node nodes b)
