@@ -1,5 +1,5 @@
 -- What a world keeps of reads, after a step in which no master moves.
-use Rattle.std.proofs.Common.{◌≡◌, ◌⊎◌, inl, inr, ℕ, ◌<◌, ◌≤◌, true, refl, sym, ◌∙◌, subst, arith}
+use Rattle.std.proofs.Common.{◌≡◌, ◌⊎◌, inl, inr, ℕ, ◌<◌, ◌≤◌, true, refl, sym, ◌∙◌, subst, arith, []}
 use Rattle.curp_base.specs.Words.{At, Each}
 use Rattle.curp_base.proofs.Lists.{Each-weaker}
 use Rattle.curp_cmd.specs.Node.{client_node}
@@ -121,7 +121,7 @@ pub record ReadStep (w v : World) (r : Refines w v) : Type 0 where
   pub late : NoneLate w v
   pub keeps : KeepsStored w r.moves
   pub worths : (node : NodeId) (x : Worth) → WasSent v (says node (client_node x.id.client) (body.Worth x)) → WasSent w (says node (client_node x.id.client) (body.Worth x))
-  pub masters : (node : NodeId) (m : MasterState) → IsMaster v node (Serving m) → IsMaster w node (Serving m)
+  pub masters : (node : NodeId) (m : MasterState) → IsMaster v node (Serving m) → IsMaster w node (Serving m) ⊎ (m.captures ≡ [])
   pub waits : (node : NodeId) (m : MasterState) → IsMaster w node (Serving m) → (c : Captured) → CaptureOk w node m c
       → NoneDrops r.moves m.part c.length ⊎ PassedBy v (lists_of_master node m) m c
 
@@ -130,15 +130,19 @@ pub reads_later : {w v : World} → Known w → Predecessors w → (ordered : Or
 reads_later {w} {v} known chain ordered s now later r step = record {
   numbered_looks = numbered_later s ordered.numbered_looks step.looks;
   worths = λ node x sent. worth_later ordered r known chain s step.keeps node x (ordered.worths node x (step.worths node x sent));
-  captures = λ node m is.
-      let was = step.masters node m is in
-      Each-weaker (CaptureOk w node m) (CaptureOk v node m) (λ c ok. elim (step.waits node m was c ok) [
-        | inl none ↦ capture_later known s ordered r step.newer step.late node m m refl refl c (λ b low never. low) ok none
-        | inr passed ↦ inr passed
-      ]) m.captures (ordered.captures node m was);
+  captures = λ node m is. elim (step.masters node m is) [
+    | inl was ↦ waiting node m was
+    | inr none ↦ subst (Each (CaptureOk v node m)) (sym none) tt
+  ];
   reached = reached;
   stored = looks_stored now later reached;
 }
   where
     reached : LooksReached v
     reached = reached_later s ordered.reached step.looks step.entries
+
+    waiting : (node : NodeId) (m : MasterState) → IsMaster w node (Serving m) → Each (CaptureOk v node m) m.captures
+    waiting node m was = Each-weaker (CaptureOk w node m) (CaptureOk v node m) (λ c ok. elim (step.waits node m was c ok) [
+      | inl none ↦ capture_later known s ordered r step.newer step.late node m m refl refl c (λ b low never. low) ok none
+      | inr passed ↦ inr passed
+    ]) m.captures (ordered.captures node m was)

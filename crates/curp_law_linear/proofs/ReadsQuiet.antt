@@ -164,7 +164,7 @@ module _ {w v : World} (known : Known w) (now : Known v) {out : List Message} {m
     late = late;
     keeps = λ part long stored. none_drops r.moves none part long;
     worths = worth_was;
-    masters = λ node m is. record { its_kind = is.its_kind; its_state = subst (λ (ms : List MasterStage). numbered ms node.number ≡ Some (Serving m)) masters is.its_state };
+    masters = λ node m is. inl (record { its_kind = is.its_kind; its_state = subst (λ (ms : List MasterStage). numbered ms node.number ≡ Some (Serving m)) masters is.its_state });
     waits = λ node m is c ok. inl (none_drops r.moves none m.part c.length);
   })
 
