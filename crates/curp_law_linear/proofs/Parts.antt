@@ -1,27 +1,22 @@
 -- The adopted logs of a world as partitions of the small machine.
-use Rattle.std.proofs.Common.{◌≡◌, ◌≢◌, ◌⊎◌, inl, inr, ℕ, zero, suc, ◌+◌, ◌<◌, ◌≤◌, true, List, [], ◌∷◌, map, length, refl, ap, sym, ◌∙◌, subst, arith, Option, Some, None}
-use Rattle.std.specs.Bool.{⊤}
-use Rattle.curp_base.specs.Words.{At, Each, numbered}
+use Rattle.std.proofs.Common.{◌≡◌, ◌⊎◌, inl, inr, ℕ, zero, suc, List, [], ◌∷◌, map, refl, ap, sym, ◌∙◌, subst, arith, Option, Some, None}
+use Rattle.curp_base.specs.Words.{At, numbered}
 use Rattle.curp_cmd.specs.declared.entry.Entry.{Entry}
 use Rattle.curp_cmd.specs.declared.entry.Entry.TheVariants.{Op, Take, Give, Expire}
-use Rattle.curp_cmd.specs.declared.node.NodeId.{NodeId}
 use Rattle.curp_cmd.specs.declared.node.NodeKind.TheVariants as kind
 use Rattle.curp_msg.specs.declared.config.PartConfig.{PartConfig}
-use Rattle.curp_model.specs.Log.{IsLog, log_opening}
-use Rattle.curp_model.specs.Named.{IsMaster}
 use Rattle.curp_model.specs.Recovery.{MasterStage}
 use Rattle.curp_model.specs.World.{World}
 use Rattle.curp_facts.specs.Entries.{LogOk}
-use Rattle.curp_facts.specs.Facts.{HasLog, IsAdoptedNow, Logged, hi_of, lists_of_part, lo_of, node_log}
+use Rattle.curp_facts.specs.Facts.{IsAdoptedNow, Logged, hi_of, lists_of_part, lo_of, node_log}
 use Rattle.curp_facts.specs.Kept.{AdoptedLog}
 use Rattle.curp_law_kept.proofs.Known.{Known}
 use Rattle.curp_law_line.specs.Hashes.{Part}
 use Rattle.curp_law_line.specs.OfWorld.{entries_at, line_of, logged_entries, part_of}
 use Rattle.curp_law_line.proofs.Discharged.{IsPlainLog, logs_ok}
 use Rattle.curp_law_line.proofs.Given.{LogsOk}
-use Rattle.curp_law_linear.specs.Ordered.{AdoptedOk, MigrationsRise, Ordered, moved_number}
+use Rattle.curp_law_linear.specs.Ordered.{MigrationsRise, Ordered, moved_number}
 use Rattle.curp_law_logs.specs.Migrations.{NumbersAscend, give_number, take_number}
-use Rattle.curp_law_names.specs.Names.{IsOf}
 use Rattle.curp_law_pairs.proofs.Logs.{log_ok, range_ordered}
 
 -- what stands among what a function makes of numbered items

@@ -1,5 +1,5 @@
 -- What a world keeps of the order: the facts of the small machine, of the adopted logs, and of reads.
-use Rattle.std.specs.Prelude.{◌≡◌, ◌≤◌, ◌<◌, ◌⊎◌, ℕ, true, List, Option, Some, None}
+use Rattle.std.specs.Prelude.{◌≡◌, ◌≤◌, ◌<◌, ◌⊎◌, ℕ, true, List, length, Option, Some, None}
 use Rattle.curp_base.specs.Words.{At, Each}
 use Rattle.curp_cmd.specs.Node.{client_node}
 use Rattle.curp_cmd.specs.declared.command.Command.{Command}
@@ -18,7 +18,7 @@ use Rattle.curp_model.specs.Master.{Captured, MasterState}
 use Rattle.curp_model.specs.Named.{IsMaster}
 use Rattle.curp_model.specs.Recovery.{Serving}
 use Rattle.curp_model.specs.World.{World}
-use Rattle.curp_facts.specs.Facts.{IsAdoptedNow, Lists, WasAdopted, WasSent, hi_of, lo_of}
+use Rattle.curp_facts.specs.Facts.{HasLog, IsAdoptedNow, Lists, Logged, WasAdopted, WasSent, hi_of, lo_of}
 use Rattle.curp_facts.specs.Kept.{AdoptedLog, PassedBy, lists_of_master}
 use Rattle.curp_facts.specs.Reach.{Reach}
 use Rattle.curp_facts.specs.Run.{NamesKey}
@@ -53,6 +53,13 @@ pub record LooksNumbered (w : World) : Type 0 where
   pub once : (j k number long other : ℕ) (m o : Mark) → At w.marks j m → At w.marks k o → m.place ≡ Looked number long → o.place ≡ Looked number other
       → m.master ≡ o.master → j ≡ k
 
+-- a master's log has so many entries, and so has each backup of each ready list of it, from a version on
+pub record IsStored (w : World) (node : NodeId) (version long : ℕ) : Type 0 where
+  pub its : Logged
+  pub its_log : HasLog w node its
+  pub low : long ≤ length its.log
+  pub reach : Reach w node version long
+
 -- a value that was sent is what its look gives, and each backup of each ready list, from one that was adopted on, has as many
 -- entries as the look saw
 pub record WorthOk (w : World) (node : NodeId) (v : Worth) : Type 0 where
@@ -62,7 +69,7 @@ pub record WorthOk (w : World) (node : NodeId) (v : Worth) : Type 0 where
   pub its_epoch : lists.epoch ≡ v.epoch
   pub long : ℕ
   pub look : LookGives w.marks (record { master = node; epoch = v.epoch; number = v.capture }) lists.part long v.id v.answer
-  pub reach : Reach w node lists.version long
+  pub stored : IsStored w node lists.version long
 
 -- a capture that waits is that of a look, or it was passed by
 abbrev pub CaptureOk : World → NodeId → MasterState → Captured → Type 0
@@ -75,6 +82,21 @@ abbrev pub LooksStored : World → Type 0
 LooksStored w = (k number long : ℕ) (m : Mark) (c : PartConfig) → At w.marks k m → m.place ≡ Looked number long → IsAdoptedNow w c → c.part ≡ m.part
     → (m.completed ≡ true) ⊎ (m.epoch < c.epoch) → AllStored w c long
 
+-- so many entries of a master are stored from lists of its partition on that were adopted
+pub record StoredFrom (w : World) (node : NodeId) (part long : ℕ) : Type 0 where
+  pub lists : Lists
+  pub adopted : WasAdopted w lists
+  pub its_master : lists.master ≡ node
+  pub its_part : lists.part ≡ part
+  pub stored : IsStored w node lists.version long
+
+-- What a completed look saw is stored by its master, from some adopted lists on. What a look of an epoch before the present one
+-- saw is stored by the present master, on each of its ready lists
+pub record LooksReached (w : World) : Type 0 where
+  pub completed : (k number long : ℕ) (m : Mark) → At w.marks k m → m.place ≡ Looked number long → m.completed ≡ true → StoredFrom w m.master m.part long
+  pub older : (k number long : ℕ) (m : Mark) (c : PartConfig) → At w.marks k m → m.place ≡ Looked number long → IsAdoptedNow w c → c.part ≡ m.part
+      → m.epoch < c.epoch → IsStored w c.master 0 long
+
 -- ---- all together
 
 pub record Ordered (w : World) : Type 0 where
@@ -84,4 +106,5 @@ pub record Ordered (w : World) : Type 0 where
   pub numbered_looks : LooksNumbered w
   pub worths : (node : NodeId) (v : Worth) → WasSent w (says node (client_node v.id.client) (body.Worth v)) → WorthOk w node v
   pub captures : (node : NodeId) (m : MasterState) → IsMaster w node (Serving m) → Each (CaptureOk w node m) m.captures
+  pub reached : LooksReached w
   pub stored : LooksStored w

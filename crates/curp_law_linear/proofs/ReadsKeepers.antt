@@ -1,0 +1,98 @@
+-- A step of a backup or of a witness keeps what is kept of reads.
+use Rattle.std.proofs.Common.{◌≡◌, ◌≢◌, inl, inr, ℕ, ◌≤◌, List, ap, subst, arith, Some}
+use Rattle.curp_base.specs.Words.{Each, numbered}
+use Rattle.curp_base.proofs.Lists.{Each-weaker}
+use Rattle.curp_cmd.specs.Node.{backup_node, witness_node}
+use Rattle.curp_cmd.specs.declared.node.NodeId.{NodeId}
+use Rattle.curp_cmd.specs.declared.node.NodeKind.TheVariants as kind
+use Rattle.curp_msg.specs.Moved.{says}
+use Rattle.curp_msg.specs.declared.answer.AppendAnswer.{AppendAnswer}
+use Rattle.curp_msg.specs.declared.answer.AppendAnswer.TheVariants.{Stored}
+use Rattle.curp_msg.specs.declared.body.Appended.{Appended}
+use Rattle.curp_msg.specs.declared.body.Body.TheVariants as body
+use Rattle.curp_msg.specs.declared.machine.Input.{Input}
+use Rattle.curp_msg.specs.declared.message.Message.{Message}
+use Rattle.curp_model.specs.Backup.{BackupState, backup_input}
+use Rattle.curp_model.specs.Named.{IsBackup}
+use Rattle.curp_model.specs.Witness.{WitnessState, witness_input}
+use Rattle.curp_model.specs.World.{World}
+use Rattle.curp_facts.specs.Growth.{BackupGrows}
+use Rattle.curp_law_keepers.specs.BackupEffect.{AppendAnswerSays, AppendedSays, BackupSays}
+use Rattle.curp_law_keepers.specs.WitnessEffect.{WitnessSays}
+use Rattle.curp_law_keepers.proofs.Backups.{backup_effect}
+use Rattle.curp_law_keepers.proofs.Witnesses.{witness_effect}
+use Rattle.curp_law_kept.proofs.KeeperSteps.{KeeperMoved}
+use Rattle.curp_law_kept.proofs.Known.{Known}
+use Rattle.curp_law_kept.proofs.Moved.{sent_cases}
+use Rattle.curp_law_kept.proofs.Others.{SaysMore, nothing_ready}
+use Rattle.curp_law_linear.specs.Ordered.{Ordered}
+use Rattle.curp_law_linear.specs.Refined.{Refines}
+use Rattle.curp_law_linear.proofs.ReadsLater.{ReadsOk}
+use Rattle.curp_law_linear.proofs.ReadsMoves.{NoAdoption}
+use Rattle.curp_law_linear.proofs.ReadsPassed.{NoneLate}
+use Rattle.curp_law_linear.proofs.ReadsQuiet.{frame_reads, looks_same, none_late}
+use Rattle.curp_law_names.proofs.Lists.{among_each}
+use Rattle.curp_law_pairs.specs.Predecessors.{Predecessors}
+use Rattle.curp_law_stays.proofs.Words.{Follows, one_state}
+
+module _ {w v : World} (known : Known w) (now : Known v) (chain : Predecessors w) (later : Predecessors v) (ordered : Ordered w) (marks : v.marks ≡ w.marks)
+    (r : Refines w v) (none : Each NoAdoption r.moves) where
+  module _ {out : List Message} {mover : NodeId} (f : SaysMore w v out mover) (not_master : mover.kind ≢ kind.Master) (moved : KeeperMoved w v mover out) where
+    follows : Follows w v
+    follows = record { grows = moved.grows; later = moved.later; names = known.names; steady = known.steady; ready = nothing_ready f known.names not_master }
+
+    keeper_reads : NoneLate w v → ReadsOk v
+    keeper_reads late = frame_reads known now f not_master chain later ordered follows r none moved.masters (looks_same marks) late
+
+  -- an input to a witness
+  pub witness_reads : (n : ℕ) (x : WitnessState) (given : Input) → KeeperMoved w v (witness_node n) (witness_input n x given).messages → ReadsOk v
+  witness_reads n x given moved = keeper_reads more (λ e. absurd cc) moved (none_late known now more (λ e. absurd cc) (λ e. absurd cc))
+    where
+      more : SaysMore w v (witness_input n x given).messages (witness_node n)
+      more = record {
+        sent = moved.sent;
+        all = Each-weaker (WitnessSays n given (witness_input n x given).state) (λ (m : Message). m.from ≡ witness_node n) (λ m k. k.sender) (witness_input n x given).messages (witness_effect n x given).says;
+        not_manager = λ e. kinds (ap (λ (y : NodeId). y.kind) e);
+        manager = moved.manager;
+      }
+        where
+          kinds : kind.Manager ≡ kind.Witness → ⊥
+          kinds e = cc
+
+  -- an input to a backup: one that is fenced above an epoch stores nothing of that epoch
+  pub backup_reads : (n : ℕ) (b : BackupState) (given : Input) → numbered w.backups n ≡ Some b → numbered v.backups n ≡ Some (backup_input n b given).state
+      → KeeperMoved w v (backup_node n) (backup_input n b given).messages → ReadsOk v
+  backup_reads n b given was is moved = keeper_reads more (λ e. absurd cc) moved late
+    where
+      more : SaysMore w v (backup_input n b given).messages (backup_node n)
+      more = record {
+        sent = moved.sent;
+        all = Each-weaker (BackupSays n given (backup_input n b given).state) (λ (m : Message). m.from ≡ backup_node n) (λ m k. k.sender) (backup_input n b given).messages (backup_effect n b given).says;
+        not_manager = λ e. kinds (ap (λ (y : NodeId). y.kind) e);
+        manager = moved.manager;
+      }
+        where
+          kinds : kind.Manager ≡ kind.Backup → ⊥
+          kinds e = cc
+
+      -- its fence hasn't fallen
+      fence : (node : NodeId) (x : BackupState) → node ≡ backup_node n → IsBackup w node x → x.fence ≤ (backup_input n b given).state.fence
+      fence node x same here = go (moved.grows.backups n x (subst (λ (m : NodeId). numbered w.backups m.number ≡ Some x) same here.its_state))
+        where
+          go : (y : BackupState) × (numbered v.backups n ≡ Some y) × BackupGrows x y → x.fence ≤ (backup_input n b given).state.fence
+          go o = omega (arith, o.2.fence, ap (λ (y : BackupState). y.fence) (one_state _ o.0 (backup_input n b given).state o.1 is))
+
+      stored : (a : Appended) (long : ℕ) (to : NodeId) → a.answer ≡ Stored long → AppendedSays given (backup_input n b given).state to a → (backup_input n b given).state.fence ≤ a.epoch
+      stored a long to answer ok = go a.answer answer ok.answer
+        where
+          go : (x : AppendAnswer) → x ≡ Stored long → AppendAnswerSays (backup_input n b given).state ok.append x → (backup_input n b given).state.fence ≤ a.epoch
+          go (Stored other) e k = omega (arith, k.not_fenced, ok.epoch)
+          go _ e k = absurd cc
+
+      late : NoneLate w v
+      late node to x a long here below answer sent = elim (sent_cases w v (backup_input n b given).messages moved.sent _ sent) [
+        | inl before ↦ before
+        | inr new ↦
+            let k = among_each (BackupSays n given (backup_input n b given).state) (backup_input n b given).messages (backup_effect n b given).says (says node to (body.Appended a)) new in
+            absurd (omega (arith, below, fence node x k.sender here, stored a long to answer k.says_so))
+      ]
