@@ -4,10 +4,9 @@ use Rattle.std.proofs.Math.Seq.{drop-append_seam}
 use Rattle.std.proofs.lemmas.Bool.{cases_Bool}
 use Rattle.curp_base.specs.Words.{IsPrefix}
 use Rattle.curp_base.proofs.Lists.{Each-weaker, prefix_self}
-use Rattle.curp_cmd.specs.Node.{master_node, same_node}
+use Rattle.curp_cmd.specs.Node.{master_node}
 use Rattle.curp_cmd.specs.declared.entry.Entry.{Entry}
 use Rattle.curp_cmd.specs.declared.node.NodeId.{NodeId}
-use Rattle.curp_cmd.proofs.Nodes.{same_node-self, same_node-true}
 use Rattle.curp_msg.specs.declared.body.Body.{Body}
 use Rattle.curp_msg.specs.declared.config.PartConfig.{PartConfig}
 use Rattle.curp_msg.specs.declared.message.Message.{Message}
@@ -22,6 +21,7 @@ use Rattle.curp_facts.specs.Facts.{IsAdoptedNow, hi_of, lists_of_part, lo_of, no
 use Rattle.curp_facts.specs.Growth.{MasterGrows, ServesOn}
 use Rattle.curp_facts.specs.Kept.{AdoptedLog, lists_of_master}
 use Rattle.curp_facts.specs.Nodes.{CapturedOk, ServingOk}
+use Rattle.curp_law_kept.proofs.Apart.{either_node}
 use Rattle.curp_law_kept.proofs.Known.{Known}
 use Rattle.curp_law_kept.proofs.MastersMoves.{MasterStep}
 use Rattle.curp_law_line.specs.Hashes.{Part}
@@ -93,16 +93,13 @@ module _ {w v : World} (known : Known w) (chain : Predecessors w) (routes : Rout
     stays same unmarked marked = finish (line_of w).parts w.marks (leads_none (line_of w) _ refl) parts marks (line_logs known ordered)
       where
         parts : (line_of v).parts ≡ (line_of w).parts
-        parts = parts_stay known n from heard m k out step (λ d now. go d now (same_node d.master (master_node n)) refl)
-          where
-            go : (d : PartConfig) → IsAdoptedNow w d → (b : Bool) → same_node d.master (master_node n) ≡ b → part_of v d ≡ part_of w d
-            go d now true e =
-                let its = same_node-true d.master (master_node n) e in
-                own_after known n from heard m k out step d its
-                ∙ ap (λ (es : List Entry). record { lo = lo_of w d.part; hi = hi_of w d.part; log = es }) (same d now its).entries
-                ∙ sym (own_before known n from heard m k out step d its)
-            go d now false e = other_part known n from heard m k out step d now
-                (λ its. let yes_same = subst (λ (x : NodeId). same_node x (master_node n) ≡ true) (sym its) (same_node-self (master_node n)) in cc (e, yes_same))
+        parts = parts_stay known n from heard m k out step (λ d now. elim (either_node d.master (master_node n)) [
+          | inl its ↦
+              own_after known n from heard m k out step d its
+              ∙ ap (λ (es : List Entry). record { lo = lo_of w d.part; hi = hi_of w d.part; log = es }) (same d now its).entries
+              ∙ sym (own_before known n from heard m k out step d its)
+          | inr apart ↦ other_part known n from heard m k out step d now apart
+        ])
 
         marks : v.marks ≡ w.marks
         marks = marked ∙ go (is_adopted w.manager (master_node n))

@@ -1,5 +1,5 @@
 -- What one input to a serving master does with captures: it takes one read and pushes nothing, or it takes none.
-use Rattle.std.proofs.Common.{◌||◌, ◌≡◌, ℕ, ◌+◌, ◌==◌, ◌&&◌, nat_le, nat_lt, Bool, true, false, not, List, [], ◌∷◌, ◌++◌, length, refl, ◌∙◌, subst, Option, Some, None}
+use Rattle.std.proofs.Common.{◌||◌, ◌≡◌, ℕ, ◌+◌, ◌==◌, ◌&&◌, nat_le, nat_lt, Bool, true, false, not, List, [], ◌∷◌, ◌++◌, length, refl, ap, sym, ◌∙◌, subst, Option, Some, None}
 use Rattle.std.specs.FinMap as store
 use Rattle.std.specs.Bool.{⊤}
 use Rattle.std.proofs.lemmas.Bool.{cond_both}
@@ -7,6 +7,7 @@ use Rattle.curp_base.specs.Cases.{first_there, only_if}
 use Rattle.curp_base.specs.Words.{rises_past}
 use Rattle.curp_cmd.specs.Hash.{hashes}
 use Rattle.curp_cmd.specs.Node.{is_among}
+use Rattle.curp_cmd.specs.Store.{applied}
 use Rattle.curp_cmd.specs.declared.command.Answer.TheVariants.{Found}
 use Rattle.curp_cmd.specs.declared.command.Command.{Command}
 use Rattle.curp_cmd.specs.declared.command.Command.TheVariants.{Get}
@@ -33,7 +34,7 @@ use Rattle.curp_msg.specs.declared.message.Message.{Message}
 use Rattle.curp_range.specs.Spans.{is_covered}
 use Rattle.curp_model.specs.declared.Check.{Check}
 use Rattle.curp_model.specs.declared.Check.TheVariants.{Expired, Stale, Known, New}
-use Rattle.curp_model.specs.Log.{LastGive, LastTake}
+use Rattle.curp_model.specs.Log.{LastGive, LastTake, answer_after}
 use Rattle.curp_model.specs.Master.{AtOnce, Captured, Deny, Execute, HoldBack, MasterState, Open, Phase, Switch, Switching, Tell, TellAgain, Verdict, WhenSynced, Wish, adopted_in, all_have, by_epoch, by_message, by_phase, by_read_check, by_version, carries_out, collect_in, executes, give_after, goes_on, is_clean, is_open, is_ready, last_round, on_appended, on_collected, on_expire, on_give, on_read, on_serving, on_stored, on_take, on_update, prepare_in, prepares, push_take, raised, read_command, read_of, read_refusal, serving_ordered, settle, state_of, stored_on, sync_in, synced, take_after, told_again, treat, treated, treats, unless_it_ends, verdict}
 use Rattle.curp_model.specs.Ranges.{owns_all}
 use Rattle.curp_model.specs.Recovery.{Fresh, MasterStage, Recovering, Serving, master_input, master_ordered, on_master}
@@ -50,6 +51,11 @@ pub record IsCapture (m : MasterState) (c : Captured) : Type 0 where
   pub gets : c.command ≡ Get key
   pub answer : c.answer ≡ Found (store.get (state_of m).store key)
   pub owned : owns_all (state_of m).owned (hashes c.command) ≡ true
+
+-- the answer is the one that the log gives to its command
+pub capture_answers : (m : MasterState) (c : Captured) → IsCapture m c → c.answer ≡ answer_after m.lo m.hi m.log c.command
+unfolding applied
+capture_answers m c is = is.answer ∙ ap (answer_after m.lo m.hi m.log) (sym is.gets)
 
 -- it gives up captures alone
 pub record TakesNone (m k : MasterState) : Type 0 where

@@ -39,7 +39,7 @@ use Rattle.curp_law_line.proofs.Lists.{take_split}
 use Rattle.curp_law_line.proofs.Numbered.{any_at}
 use Rattle.curp_law_linear.specs.Ordered.{Ordered, moved_number}
 use Rattle.curp_law_linear.proofs.MastersLog.{here_at, line_at, part_at, part_cases, part_other}
-use Rattle.curp_law_linear.proofs.MastersRise.{Brought, adopted_ok, brought, give_given, give_is, new_rise, new_take, standing, take_given, take_is, take_of_work, ungiven, untaken}
+use Rattle.curp_law_linear.proofs.MastersRise.{Brought, adopted_ok, brought, found_give, found_take, give_given, new_rise, new_take, standing, take_given, take_of_work, ungiven, untaken}
 use Rattle.curp_law_linear.proofs.Parts.{entry_part, part_log}
 use Rattle.curp_law_logs.specs.Migrations.{MovesNothing, give_number, take_number}
 use Rattle.curp_law_logs.proofs.LogValues.{untouched}
@@ -104,6 +104,12 @@ module _ {w : World} (known : Known w) (chain : Predecessors w) (routes : Routes
   fits e is = (and_parts (fits_at (meaning (lo_of w c.part) (hi_of w c.part) log) e) _
       (log_back (lo_of w c.part) (hi_of w c.part) log (e ∷ rest) (subst (IsLog (lo_of w c.part) (hi_of w c.part)) (sym is) ok.is_log))).0
 
+  -- no entry before it has its number
+  once : (number : ℕ) (e : Entry) → Next e → moved_number e ≡ Some number → (j : ℕ) (x : Entry) → At log j x → moved_number x ≡ Some number → ⊥
+  once number e is moves j x at too =
+      let rise : number < number = new_rise known chain routes migrated ordered c l new front ok j (length log) number number x e (at_within log j x at) (before e is j x at) (place e is) too moves in
+      omega (arith, rise)
+
   -- ---- an op
 
   abbrev pub op_push : NodeId → ℕ → Request → ℕ → PushOp
@@ -149,18 +155,14 @@ module _ {w : World} (known : Known w) (chain : Predecessors w) (routes : Routes
 
       go : list_any (is_give number) q.log ≡ true → ⊥
       go given =
-          let a = any_at (is_give number) q.log given in
-          let g = give_is number a.1 a.3 in
+          let g = found_give number q.log given in
           elim (part_cases known chain routes migrated ordered c l new front ok log marks k q here) [
             | inl other ↦
-                let s = standing known chain routes migrated ordered k q a.0 a.1 other.1 a.2 in
-                untaken known chain routes migrated ordered c l new front ok (length log) number taken high at g.0
-                (migrated.given s.0 s.1 a.0 number g.0 (subst (At s.1.its.log a.0) g.1 s.3))
+                let s = standing known chain routes migrated ordered k q g.0 (Give number g.1) other.1 g.2 in
+                untaken known chain routes migrated ordered c l new front ok (length log) number taken high at g.1 (migrated.given s.0 s.1 g.0 number g.1 s.3)
             | inr its ↦
-                let there : At log a.0 a.1 = subst (λ (p : Part). At p.log a.0 a.1) (sym its.1) a.2 in
-                let rise : number < number = new_rise known chain routes migrated ordered c l new front ok a.0 (length log) number number a.1 (Take number taken) (at_within log a.0 a.1 there)
-                (before (Take number taken) is a.0 a.1 there) at (ap moved_number g.1) refl in
-                omega (arith, rise)
+                let there : At log g.0 (Give number g.1) = subst (λ (p : Part). At p.log g.0 (Give number g.1)) (sym its.1) g.2 in
+                once number (Take number taken) is refl g.0 (Give number g.1) there refl
           ]
 
   take_first : (number : ℕ) (taken : Package) → Next (Take number taken) → list_any (is_take number) log ≡ false
@@ -168,11 +170,8 @@ module _ {w : World} (known : Known w) (chain : Predecessors w) (routes : Routes
     where
       go : list_any (is_take number) log ≡ true → ⊥
       go found =
-          let a = any_at (is_take number) log found in
-          let t = take_is number a.1 a.3 in
-          let rise : number < number = new_rise known chain routes migrated ordered c l new front ok a.0 (length log) number number a.1 (Take number taken) (at_within log a.0 a.1 a.2)
-          (before (Take number taken) is a.0 a.1 a.2) (place (Take number taken) is) (ap moved_number t.1) refl in
-          omega (arith, rise)
+          let t = found_take number log found in
+          once number (Take number taken) is refl t.0 (Take number t.1) t.2 refl
 
   -- a take that the machine can push
   pub record TakeMoves (number : ℕ) (taken : Package) : Type 0 where
@@ -231,17 +230,14 @@ module _ {w : World} (known : Known w) (chain : Predecessors w) (routes : Routes
       where
         go : list_any (is_give number) q.log ≡ true → ⊥
         go found =
-            let a = any_at (is_give number) q.log found in
-            let g = give_is number a.1 a.3 in
+            let g = found_give number q.log found in
             elim (part_cases known chain routes migrated ordered c l new front ok log marks k q here) [
               | inl other ↦
-                  let x = standing known chain routes migrated ordered k q a.0 a.1 other.1 a.2 in
-                  ungiven known chain routes migrated ordered c l new front ok (length log) number given high at x.0 x.1 a.0 g.0 (subst (At x.1.its.log a.0) g.1 x.3)
+                  let x = standing known chain routes migrated ordered k q g.0 (Give number g.1) other.1 g.2 in
+                  ungiven known chain routes migrated ordered c l new front ok (length log) number given high at x.0 x.1 g.0 g.1 x.3
               | inr its ↦
-                  let there : At log a.0 a.1 = subst (λ (p : Part). At p.log a.0 a.1) (sym its.1) a.2 in
-                  let rise : number < number = new_rise known chain routes migrated ordered c l new front ok a.0 (length log) number number a.1 (Give number given) (at_within log a.0 a.1 there)
-                  (before (Give number given) is a.0 a.1 there) at (ap moved_number g.1) refl in
-                  omega (arith, rise)
+                  let there : At log g.0 (Give number g.1) = subst (λ (p : Part). At p.log g.0 (Give number g.1)) (sym its.1) g.2 in
+                  once number (Give number given) is refl g.0 (Give number g.1) there refl
             ]
 
     -- no take and no give stands behind the take of the migration in work

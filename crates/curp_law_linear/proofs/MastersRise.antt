@@ -1,6 +1,6 @@
 -- An adopted log that grows: its takes and gives rise together, and each give fits at its place. What comes new is of the
 -- migration in work.
-use Rattle.std.proofs.Common.{◌≡◌, ◌≢◌, ◌⊎◌, inl, inr, ℕ, zero, suc, ◌+◌, ◌<◌, ◌≤◌, ◌==◌, ◌||◌, Bool, true, false, List, [], ◌∷◌, length, take, refl, ap, sym, ◌∙◌, ap₂, subst, arith, Option, Some, None}
+use Rattle.std.proofs.Common.{◌≡◌, ◌≢◌, ◌⊎◌, inl, inr, ℕ, zero, suc, ◌+◌, ◌<◌, ◌≤◌, ◌==◌, ◌||◌, Bool, true, false, List, [], ◌∷◌, length, take, refl, ap, sym, ◌∙◌, ap₂, subst, subst₂, arith, Option, Some, None}
 use Rattle.std.specs.List.{list_any}
 use Rattle.std.proofs.lemmas.Bool.{and_from, cases_lt, cases_order, false_from_ne_true}
 use Rattle.std.proofs.lemmas.Bool.Decides.{nat_tests}
@@ -56,18 +56,26 @@ at_any p (y ∷ xs) (suc k) x at passes = go (p y) (at_any p xs k x at passes)
     go false e = e
 
 -- the take that a test finds
-pub take_is : (number : ℕ) (e : Entry) → is_take number e ≡ true → (taken : Package) × (e ≡ Take number taken)
+take_is : (number : ℕ) (e : Entry) → is_take number e ≡ true → (taken : Package) × (e ≡ Take number taken)
 take_is number (Op r a) h = absurd cc
 take_is number (Take m taken) h = let same : m ≡ number = grind (arith, nat_tests) in (taken, ap (λ (n : ℕ). Take n taken) same)
 take_is number (Give m given) h = absurd cc
 take_is number (Expire client) h = absurd cc
 
 -- and the give
-pub give_is : (number : ℕ) (e : Entry) → is_give number e ≡ true → (given : Package) × (e ≡ Give number given)
+give_is : (number : ℕ) (e : Entry) → is_give number e ≡ true → (given : Package) × (e ≡ Give number given)
 give_is number (Op r a) h = absurd cc
 give_is number (Take m taken) h = absurd cc
 give_is number (Give m given) h = let same : m ≡ number = grind (arith, nat_tests) in (given, ap (λ (n : ℕ). Give n given) same)
 give_is number (Expire client) h = absurd cc
+
+-- a take that stands in a log, by the test
+pub found_take : (number : ℕ) (log : List Entry) → list_any (is_take number) log ≡ true → (j : ℕ) × (p : Package) × At log j (Take number p)
+found_take number log found = let a = any_at (is_take number) log found in let t = take_is number a.1 a.3 in (a.0, t.0, subst (At log a.0) t.1 a.2)
+
+-- and a give
+pub found_give : (number : ℕ) (log : List Entry) → list_any (is_give number) log ≡ true → (j : ℕ) × (p : Package) × At log j (Give number p)
+found_give number log found = let a = any_at (is_give number) log found in let g = give_is number a.1 a.3 in (a.0, g.0, subst (At log a.0) g.1 a.2)
 
 same_number : (n : ℕ) → (n == n) ≡ true
 same_number n = grind (arith, nat_tests)
@@ -281,11 +289,9 @@ module _ {w : World} (known : Known w) (chain : Predecessors w) (routes : Routes
         go owned =
             let m = ordered.line.owned.moved c.part s.source.part (part_of w c) (part_of w s.source) h now (ap moving_of b.is) (entry_part known c l.now) (entry_part known s.source s.its.now) owned
             (subst (λ (o : Option Migration). has_take o h (part_of w s.source).log ≡ true) (sym (ap moving_of b.is)) taken) in
-            let a = any_at (is_give b.m.number) (part_of w c).log m.1 in
-            let g = give_is b.m.number a.1 a.3 in
-            let here : At l.its.log a.0 (Give number g.0)
-            = subst (At l.its.log a.0) (g.1 ∙ ap (λ (n : ℕ). Give n g.0) b.its_number) (subst (λ (es : List Entry). At es a.0 a.1) (part_log known c l) a.2) in
-            ungiven i number given high at c l a.0 g.0 here
+            let found = subst₂ (λ (x : ℕ) (es : List Entry). list_any (is_give x) es ≡ true) b.its_number (part_log known c l) m.1 in
+            let g = found_give number l.its.log found in
+            ungiven i number given high at c l g.0 g.1 g.2
 
     -- so each give of the new log fits
     pub new_fit : GivesFit (log_opening (lo_of w c.part) (hi_of w c.part)) 0 new
