@@ -1,7 +1,7 @@
 -- The machine where one partition's log has grown, by one of its pushes after the other.
 use Rattle.std.proofs.Common.{◌≡◌, ◌≢◌, ◌⊎◌, inl, inr, ℕ, ◌-◌, List, [], ◌∷◌, ◌++◌, set-set, refl, ap, sym, ◌∙◌, subst, Some}
-use Rattle.curp_base.specs.Words.{IsPrefix, numbered}
-use Rattle.curp_base.proofs.Lists.{prefix_at}
+use Rattle.curp_base.specs.Words.{Each, IsPrefix, numbered}
+use Rattle.curp_base.proofs.Lists.{Each-append, prefix_at}
 use Rattle.curp_cmd.specs.declared.entry.Entry.{Entry}
 use Rattle.curp_msg.specs.declared.config.PartConfig.{PartConfig}
 use Rattle.curp_model.specs.Log.{log_opening}
@@ -18,6 +18,7 @@ use Rattle.curp_law_line.specs.OfWorld.{line_of, moving_of, part_of}
 use Rattle.curp_law_line.proofs.Discharged.{IsPlainLog, logs_ok}
 use Rattle.curp_law_line.proofs.Given.{LogsOk}
 use Rattle.curp_law_line.proofs.Numbered.{numbered_set_cases, numbered_set_other, numbered_set_same}
+use Rattle.curp_law_linear.specs.Refined.{NoAdoption}
 use Rattle.curp_law_linear.specs.Ordered.{MigrationsRise, Ordered}
 use Rattle.curp_law_linear.proofs.Parts.{entry_part, gives_move, part_entry, plain, rise_alone, takes_move}
 use Rattle.curp_law_logs.specs.Gives.{GivesFit}
@@ -30,18 +31,19 @@ use Rattle.curp_law_routes.specs.Migrated.{Migrated}
 use Rattle.curp_law_routes.specs.Routes.{Routes}
 use Rattle.curp_law_linear.proofs.MastersRise.{new_fit, new_rise}
 
--- these moves, each of which can be made, lead from one state to the other
+-- these moves, each of which can be made and none of which adopts, lead from one state to the other
 pub record Leads (s t : Line) : Type 0 where
   pub moves : List Move
   pub fit : AllFit LogsOk s moves
   pub leads : all_after s moves ≡ t
+  pub steady : Each NoAdoption moves
 
 pub leads_none : (s t : Line) → s ≡ t → Leads s t
-leads_none s t same = record { moves = []; fit = tt; leads = same }
+leads_none s t same = record { moves = []; fit = tt; leads = same; steady = tt }
 
 -- one move before others
-pub leads_first : (s t : Line) (m : Move) → Fits s m → LogsOk s.parts → Leads (after s m) t → Leads s t
-leads_first s t m fits logs more = record { moves = m ∷ more.moves; fit = (fits, logs, more.fit); leads = more.leads }
+pub leads_first : (s t : Line) (m : Move) → NoAdoption m → Fits s m → LogsOk s.parts → Leads (after s m) t → Leads s t
+leads_first s t m steady fits logs more = record { moves = m ∷ more.moves; fit = (fits, logs, more.fit); leads = more.leads; steady = (steady, more.steady) }
 
 all_append : (ms ns : List Move) (s : Line) → all_after s (ms ++ ns) ≡ all_after (all_after s ms) ns
 all_append [] ns s = refl
@@ -57,6 +59,7 @@ leads_on r s t a b = record {
   moves = a.moves ++ b.moves;
   fit = fit_append a.moves b.moves r a.fit (subst (λ (x : Line). AllFit LogsOk x b.moves) (sym a.leads) b.fit);
   leads = all_append a.moves b.moves r ∙ ap (λ (x : Line). all_after x b.moves) a.leads ∙ b.leads;
+  steady = Each-append NoAdoption a.moves b.moves a.steady b.steady;
 }
 
 module _ {w : World} (known : Known w) (chain : Predecessors w) (routes : Routes w) (migrated : Migrated w) (ordered : Ordered w)

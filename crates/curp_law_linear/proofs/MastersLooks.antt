@@ -82,6 +82,6 @@ module _ {w : World} (known : Known w) (chain : Predecessors w) (routes : Routes
         (ap at (sym (append-nil marks) ∙ ap (λ (xs : List Captured). marks ++ map (capture_mark node c.part epoch) xs) (sym (none_new m k low t))))
     look_all (OneRead t) low all marks =
         let captured : CapturedOk w k t.c = Each-at (CapturedOk w k) k.captures all (length m.captures) t.c (subst (λ (xs : List Captured). At xs (length m.captures) t.c) (sym t.captures) (at_push m.captures t.c (length m.captures) refl)) in
-        leads_first (at marks) _ (Looks (look_of t.c)) (look_fits t captured marks) (logs_at known chain routes migrated ordered c l new front ok new marks (prefix_self new))
+        leads_first (at marks) _ (Looks (look_of t.c)) tt (look_fits t captured marks) (logs_at known chain routes migrated ordered c l new front ok new marks (prefix_self new))
         (leads_none _ _ (ap at (ap (λ (n : ℕ). marks ++ looked node c.part epoch t.c.number n t.c.id t.c.command ∷ []) (sym (t.its.long ∙ ap length (sym t.log ∙ log)))
         ∙ ap (λ (xs : List Captured). marks ++ map (capture_mark node c.part epoch) xs) (sym (one_new m k low t)))))

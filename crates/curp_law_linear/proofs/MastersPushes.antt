@@ -13,6 +13,7 @@ use Rattle.curp_facts.specs.Kept.{AdoptedLog}
 use Rattle.curp_law_kept.proofs.Known.{Known}
 use Rattle.curp_law_line.specs.Line.{Line}
 use Rattle.curp_law_line.specs.Moves.{ExpirePush, Fits, GivePush, Move, OpPush, TakePush, after, pushed}
+use Rattle.curp_law_linear.specs.Refined.{NoAdoption}
 use Rattle.curp_law_linear.specs.Ordered.{Ordered}
 use Rattle.curp_law_linear.proofs.MastersFit.{expire_fits, expire_push, give_moves, give_push, op_fits, op_push, take_moves, take_push}
 use Rattle.curp_law_linear.proofs.MastersLog.{Leads, leads_first, leads_none, line_at, logs_at, one_pushed, part_at}
@@ -30,11 +31,11 @@ module _ {w : World} (known : Known w) (chain : Predecessors w) (routes : Routes
   behind log es = op_marks node c.part epoch (length log) es
 
   -- one entry first, by a move that leads to it
-  step : (log : List Entry) (marks more : List Mark) (e : Entry) (rest : List Entry) → log ++ e ∷ rest ≡ new → (m : Move) → Fits (at log marks) m
+  step : (log : List Entry) (marks more : List Mark) (e : Entry) (rest : List Entry) → log ++ e ∷ rest ≡ new → (m : Move) → NoAdoption m → Fits (at log marks) m
       → after (at log marks) m ≡ record (at log marks) { parts = pushed (at log marks).parts c.part (part_at known chain routes migrated ordered c l new front ok log) e; marks = more }
       → (t : Line) → Leads (at (log ++ e ∷ []) more) t → Leads (at log marks) t
-  step log marks more e rest is m fits leads t on =
-      leads_first (at log marks) t m fits (logs_at known chain routes migrated ordered c l new front ok log marks (record { rest = e ∷ rest; is = is }))
+  step log marks more e rest is m steady fits leads t on =
+      leads_first (at log marks) t m steady fits (logs_at known chain routes migrated ordered c l new front ok log marks (record { rest = e ∷ rest; is = is }))
       (subst (λ (s : Line). Leads s t) (sym (leads ∙ one_pushed known chain routes migrated ordered c l new front ok log marks more e)) on)
 
   -- all that stands behind a beginning of the new log
@@ -52,24 +53,24 @@ module _ {w : World} (known : Known w) (chain : Predecessors w) (routes : Routes
       go (Op r a) is more_on =
           let mine : Mark = executed node c.part epoch (length log) r.id r.command in
           let t = more_on (Op r a) is (marks ++ mine ∷ []) in
-          step log marks (marks ++ mine ∷ []) (Op r a) es is (OpPush (op_push known chain routes migrated ordered c l new front ok log marks es more node epoch r a))
+          step log marks (marks ++ mine ∷ []) (Op r a) es is (OpPush (op_push known chain routes migrated ordered c l new front ok log marks es more node epoch r a)) tt
           (op_fits known chain routes migrated ordered c l new front ok log marks es more node epoch r a is) refl _
           (subst (λ (ms : List Mark). Leads (at (log ++ Op r a ∷ []) (marks ++ mine ∷ [])) (at new ms))
           (append_assoc marks (mine ∷ []) (behind (log ++ Op r a ∷ []) es) ∙ ap (λ (n : ℕ). marks ++ mine ∷ op_marks node c.part epoch n es) (on (Op r a))) t)
       go (Take number taken) is more_on =
           let k = take_moves known chain routes migrated ordered c l new front ok log marks es more number taken is in
           let t = more_on (Take number taken) is marks in
-          step log marks marks (Take number taken) es is (TakePush (take_push known chain routes migrated ordered c l new front ok log marks es more k.m)) k.fit
+          step log marks marks (Take number taken) es is (TakePush (take_push known chain routes migrated ordered c l new front ok log marks es more k.m)) tt k.fit
           (ap (λ (x : Entry). record (at log marks) { parts = pushed (at log marks).parts c.part (part_at known chain routes migrated ordered c l new front ok log) x }) k.same) _
           (subst (λ (n : ℕ). Leads (at (log ++ Take number taken ∷ []) marks) (at new (marks ++ op_marks node c.part epoch n es))) (on (Take number taken)) t)
       go (Give number given) is more_on =
           let k = give_moves known chain routes migrated ordered c l new front ok log marks es more number given is in
           let t = more_on (Give number given) is marks in
-          step log marks marks (Give number given) es is (GivePush (give_push known chain routes migrated ordered c l new front ok log marks es more k.m given)) k.fit
+          step log marks marks (Give number given) es is (GivePush (give_push known chain routes migrated ordered c l new front ok log marks es more k.m given)) tt k.fit
           (ap (λ (x : ℕ). record (at log marks) { parts = pushed (at log marks).parts c.part (part_at known chain routes migrated ordered c l new front ok log) (Give x given) }) k.same) _
           (subst (λ (n : ℕ). Leads (at (log ++ Give number given ∷ []) marks) (at new (marks ++ op_marks node c.part epoch n es))) (on (Give number given)) t)
       go (Expire client) is more_on =
           let t = more_on (Expire client) is marks in
-          step log marks marks (Expire client) es is (ExpirePush (expire_push known chain routes migrated ordered c l new front ok log marks es more client))
+          step log marks marks (Expire client) es is (ExpirePush (expire_push known chain routes migrated ordered c l new front ok log marks es more client)) tt
           (expire_fits known chain routes migrated ordered c l new front ok log marks es more client) refl _
           (subst (λ (n : ℕ). Leads (at (log ++ Expire client ∷ []) marks) (at new (marks ++ op_marks node c.part epoch n es))) (on (Expire client)) t)

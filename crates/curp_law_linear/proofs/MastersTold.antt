@@ -42,7 +42,7 @@ pub tell_all : (numbers : List ℕ) (s : Line) → LogsOk s.parts → ((n : ℕ)
 tell_all [] s logs stand = leads_none s _ (ap (λ (told : List ℕ). record s { told = told }) (sym (append-nil s.told)))
 tell_all (n ∷ ns) s logs stand =
     let t = stand n (record { place = 0; stands = refl }) in
-    leads_first s _ (Told n) (record { part = t.part; source = t.source; here = t.here; stands = t.stands }) logs
+    leads_first s _ (Told n) tt (record { part = t.part; source = t.source; here = t.here; stands = t.stands }) logs
     (subst (λ (told : List ℕ). Leads (record s { told = s.told ++ n ∷ [] }) (record s { told = told })) (append_assoc s.told (n ∷ []) ns)
     (tell_all ns (record s { told = s.told ++ n ∷ [] }) logs (λ k a. stand k (record { place = suc a.place; stands = a.stands }))))
 

@@ -28,7 +28,7 @@ use Rattle.curp_law_kept.proofs.Others.{SaysMore, nothing_ready}
 use Rattle.curp_law_linear.specs.Ordered.{Ordered}
 use Rattle.curp_law_linear.specs.Refined.{Refines}
 use Rattle.curp_law_linear.proofs.ReadsLater.{ReadsOk}
-use Rattle.curp_law_linear.proofs.ReadsMoves.{NoAdoption}
+use Rattle.curp_law_linear.specs.Refined.{NoAdoption}
 use Rattle.curp_law_linear.proofs.ReadsPassed.{NoneLate}
 use Rattle.curp_law_linear.proofs.ReadsQuiet.{frame_reads, looks_same, none_late}
 use Rattle.curp_law_names.proofs.Lists.{among_each}

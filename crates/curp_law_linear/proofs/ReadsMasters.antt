@@ -46,7 +46,8 @@ use Rattle.curp_law_linear.proofs.ReadsAdopted.{later_entry, new_look, own_entry
 use Rattle.curp_law_linear.proofs.ReadsCaptures.{CapturesMove, CapturesRead, Fewer, HeardStored, OneMore, ReadsMove, SaysValue, ValueOf}
 use Rattle.curp_law_linear.proofs.ReadsLater.{EntryStays, LookWas, ReadsOk, completed_later, made_later, older_later}
 use Rattle.curp_law_linear.proofs.ReadsMarks.{MarksMove, NoLooks, OneLook, marks_move}
-use Rattle.curp_law_linear.proofs.ReadsMoves.{NoAdoption, none_drops, worth_later}
+use Rattle.curp_law_linear.specs.Refined.{NoAdoption}
+use Rattle.curp_law_linear.proofs.ReadsMoves.{none_drops, worth_later}
 use Rattle.curp_law_linear.proofs.ReadsPassed.{KnowsNoLater, NewerLists, NoneLate, capture_later}
 use Rattle.curp_law_linear.proofs.ReadsReady.{passed_new, ready_looks, ready_stored}
 use Rattle.curp_law_linear.proofs.ReadsStored.{looks_stored}

@@ -18,16 +18,11 @@ use Rattle.curp_law_line.proofs.Discharged.{pure, second}
 use Rattle.curp_law_line.proofs.Given.{LogsOk}
 use Rattle.curp_law_line.proofs.Keeps.{keeps, look_stays}
 use Rattle.curp_law_linear.specs.Ordered.{Ordered, StoredFrom, WorthOk}
-use Rattle.curp_law_linear.specs.Refined.{Refines}
+use Rattle.curp_law_linear.specs.Refined.{NoAdoption, Refines}
 use Rattle.curp_law_linear.proofs.ReadsStored.{stored_now, stored_stays}
 use Rattle.curp_law_pairs.specs.Predecessors.{Predecessors}
 use Rattle.curp_law_routes.specs.Migrated.{AllStored}
 use Rattle.curp_law_stays.proofs.Words.{Follows, adopted_later}
-
--- the move adopts nothing
-abbrev pub NoAdoption : Move → Type 0
-NoAdoption (Adopts o) = ⊥
-NoAdoption _ = ⊤
 
 -- no move drops looks of that length in that partition
 abbrev pub NoneDrops : List Move → ℕ → ℕ → Type 0

@@ -34,7 +34,8 @@ use Rattle.curp_law_kept.proofs.Others.{SaysMore, nothing_ready}
 use Rattle.curp_law_linear.specs.Ordered.{IsStored, Ordered, StoredFrom, WorthOk}
 use Rattle.curp_law_linear.specs.Refined.{Refines}
 use Rattle.curp_law_linear.proofs.ReadsLater.{EntryStays, LookWas, LooksWere, ReadsOk, reads_later}
-use Rattle.curp_law_linear.proofs.ReadsMoves.{NoAdoption, none_drops}
+use Rattle.curp_law_linear.specs.Refined.{NoAdoption}
+use Rattle.curp_law_linear.proofs.ReadsMoves.{none_drops}
 use Rattle.curp_law_linear.proofs.ReadsPassed.{NewerLists, NoneLate}
 use Rattle.curp_law_linear.proofs.ReadsStored.{from_stays}
 use Rattle.curp_law_names.specs.Names.{IsOf}

@@ -1,7 +1,9 @@
 -- A step of the world is a list of moves of the small machine.
 use Rattle.std.specs.Prelude.{◌≡◌, List}
+use Rattle.std.specs.Bool.{⊤}
+use Rattle.curp_base.specs.Words.{Each}
 use Rattle.curp_model.specs.World.{World}
-use Rattle.curp_law_line.specs.Moves.{AllFit, Move, all_after}
+use Rattle.curp_law_line.specs.Moves.{Adopts, AllFit, Move, all_after}
 use Rattle.curp_law_line.specs.OfWorld.{line_of}
 use Rattle.curp_law_line.proofs.Given.{LogsOk}
 
@@ -11,3 +13,13 @@ pub record Refines (w v : World) : Type 0 where
   pub moves : List Move
   pub fit : AllFit LogsOk (line_of w) moves
   pub leads : all_after (line_of w) moves ≡ line_of v
+
+-- the move adopts nothing
+abbrev pub NoAdoption : Move → Type 0
+NoAdoption (Adopts o) = ⊥
+NoAdoption _ = ⊤
+
+-- moves of which none adopts lead from the one world to the other
+pub record RefinesSteadily (w v : World) : Type 0 where
+  pub refines : Refines w v
+  pub steady : Each NoAdoption refines.moves
