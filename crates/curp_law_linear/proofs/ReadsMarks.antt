@@ -54,28 +54,32 @@ pub data MarksMove (node : NodeId) (x y : MasterState) (adopted : Bool) (marks l
   NoLooks : (more : List Mark) → later ≡ marks ++ more → ((j number long : ℕ) (o : Mark) → At more j o → o.place ≡ Looked number long → ⊥) → MarksMove node x y adopted marks later
   OneLook : (c : Captured) → adopted ≡ true → later ≡ marks ++ capture_mark node y.part y.epoch c ∷ [] → y.captured ≡ x.captured + 1 → y.captures ≡ x.captures ++ c ∷ [] → CapturesRead x y c → MarksMove node x y adopted marks later
 
-pub marks_move : (w : World) (node : NodeId) (x y : MasterState) → Each (CapturedOk w x) x.captures → CapturesMove x y → (adopted : Bool) (marks later : List Mark)
-    → later ≡ (if adopted then marks ++ pushed_marks node x y else marks) → MarksMove node x y adopted marks later
-marks_move w node x y known move false marks later is = NoLooks [] (is ∙ sym (append-nil marks)) (λ j number long o at look. absurd cc)
-marks_move w node x y known move true marks later is = go move
-  where
-    numbers : Each (λ (c : Captured). c.number ≤ x.captured) x.captures
-    numbers = Each-weaker (CapturedOk w x) (λ (c : Captured). c.number ≤ x.captured) (λ c k. k.number) x.captures known
+module _ (w : World) (node : NodeId) (x y : MasterState) (known : Each (CapturedOk w x) x.captures) where
+  numbers : Each (λ (c : Captured). c.number ≤ x.captured) x.captures
+  numbers = Each-weaker (CapturedOk w x) (λ (c : Captured). c.number ≤ x.captured) (λ c k. k.number) x.captures known
 
-    ops : List Mark
-    ops = op_marks node y.part y.epoch (length x.log) (drop (length x.log) y.log)
+  abbrev ops : List Mark
+  ops = op_marks node y.part y.epoch (length x.log) (drop (length x.log) y.log)
 
-    go : CapturesMove x y → MarksMove node x y true marks later
-    go (Fewer same among) = NoLooks ops (is ∙ ap (λ (ms : List Mark). marks ++ ms) (ap (λ (cs : List Captured). ops ++ map (capture_mark node y.part y.epoch) cs) none ∙ append-nil ops))
-        (λ j number long o at look. no_look o.place number long (Each-at (λ (m : Mark). is_update_mark m.place ≡ true) ops (ops_only node y.part y.epoch (length x.log) (drop (length x.log) y.log)) j o at) look)
-      where
-        none : new_captures x.captured y.captures ≡ []
-        none = none_new x.captured y.captures (Each-weaker (λ (c : Captured). IsAmong c x.captures) (λ (c : Captured). c.number ≤ x.captured)
-            (λ c a. among_each (λ (c : Captured). c.number ≤ x.captured) x.captures numbers c a) y.captures among)
-    go (OneMore c next more reads) = OneLook c refl (is ∙ ap (λ (ms : List Mark). marks ++ ms) (ap (λ (ms : List Mark). ms ++ map (capture_mark node y.part y.epoch) (new_captures x.captured y.captures)) none ∙ ap (map (capture_mark node y.part y.epoch)) one)) next more reads
-      where
-        none : ops ≡ []
-        none = ap (op_marks node y.part y.epoch (length x.log)) (ap (drop (length x.log)) reads.same_log ∙ drop-length x.log)
+  -- with one more capture nothing else is marked
+  pub pushed_one : (c : Captured) → y.captures ≡ x.captures ++ c ∷ [] → CapturesRead x y c → pushed_marks node x y ≡ capture_mark node y.part y.epoch c ∷ []
+  pushed_one c more reads = ap (λ (ms : List Mark). ms ++ map (capture_mark node y.part y.epoch) (new_captures x.captured y.captures)) none ∙ ap (map (capture_mark node y.part y.epoch)) one
+    where
+      none : ops ≡ []
+      none = ap (op_marks node y.part y.epoch (length x.log)) (ap (drop (length x.log)) reads.same_log ∙ drop-length x.log)
 
-        one : new_captures x.captured y.captures ≡ c ∷ []
-        one = ap (new_captures x.captured) more ∙ one_new x.captured x.captures numbers c reads.number
+      one : new_captures x.captured y.captures ≡ c ∷ []
+      one = ap (new_captures x.captured) more ∙ one_new x.captured x.captures numbers c reads.number
+
+  pub marks_move : CapturesMove x y → (adopted : Bool) (marks later : List Mark) → later ≡ (if adopted then marks ++ pushed_marks node x y else marks) → MarksMove node x y adopted marks later
+  marks_move move false marks later is = NoLooks [] (is ∙ sym (append-nil marks)) (λ j number long o at look. absurd cc)
+  marks_move move true marks later is = go move
+    where
+      go : CapturesMove x y → MarksMove node x y true marks later
+      go (Fewer same among) = NoLooks ops (is ∙ ap (λ (ms : List Mark). marks ++ ms) (ap (λ (cs : List Captured). ops ++ map (capture_mark node y.part y.epoch) cs) none ∙ append-nil ops))
+          (λ j number long o at look. no_look o.place number long (Each-at (λ (m : Mark). is_update_mark m.place ≡ true) ops (ops_only node y.part y.epoch (length x.log) (drop (length x.log) y.log)) j o at) look)
+        where
+          none : new_captures x.captured y.captures ≡ []
+          none = none_new x.captured y.captures (Each-weaker (λ (c : Captured). IsAmong c x.captures) (λ (c : Captured). c.number ≤ x.captured)
+              (λ c a. among_each (λ (c : Captured). c.number ≤ x.captured) x.captures numbers c a) y.captures among)
+      go (OneMore c next more reads) = OneLook c refl (is ∙ ap (λ (ms : List Mark). marks ++ ms) (pushed_one c more reads)) next more reads

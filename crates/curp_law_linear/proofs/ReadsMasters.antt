@@ -1,22 +1,13 @@
 -- A step of a serving master keeps what is kept of reads.
-use Rattle.std.proofs.Common.{◌≡◌, ◌≢◌, ◌⊎◌, inl, inr, ℕ, zero, suc, ◌+◌, ◌<◌, ◌≤◌, Bool, true, false, cond, if◌then◌else◌, List, [], ◌∷◌, ◌++◌, length, refl, ap, sym, ◌∙◌, subst, arith, Option, Some, None}
-use Rattle.std.specs.List.{list_any}
-use Rattle.std.specs.FinMap as store
+use Rattle.std.proofs.Common.{◌≡◌, ◌≢◌, ◌⊎◌, inl, inr, ℕ, ◌+◌, ◌<◌, ◌≤◌, Bool, true, false, cond, if◌then◌else◌, List, [], ◌∷◌, ◌++◌, length, refl, ap, sym, ◌∙◌, subst, arith, Option, Some}
 use Rattle.curp_base.specs.Words.{At, Each, numbered}
-use Rattle.curp_base.proofs.Lists.{Each-append, Each-at, Each-weaker, at_append_cases, at_one, at_push, prefix_length}
-use Rattle.curp_cmd.specs.Hash.{hashes, touches}
-use Rattle.curp_cmd.specs.Node.{client_node, manager_node, master_node, same_node}
-use Rattle.curp_cmd.specs.Store.{is_update}
-use Rattle.curp_cmd.specs.declared.command.Answer.TheVariants.{Found}
-use Rattle.curp_cmd.specs.declared.command.Command.{Command}
-use Rattle.curp_cmd.specs.declared.command.Command.TheVariants.{Get}
+use Rattle.curp_base.proofs.Lists.{Each-append, Each-weaker, at_append_cases, at_one, at_push, prefix_length}
+use Rattle.curp_cmd.specs.Node.{client_node, master_node, same_node}
 use Rattle.curp_cmd.specs.declared.node.NodeId.{NodeId}
 use Rattle.curp_cmd.specs.declared.node.NodeKind.TheVariants as kind
-use Rattle.curp_cmd.proofs.Nodes.{same_node-self, same_node-true}
 use Rattle.curp_msg.specs.Moved.{says, sends}
 use Rattle.curp_msg.specs.declared.answer.AppendAnswer.{AppendAnswer}
 use Rattle.curp_msg.specs.declared.answer.AppendAnswer.TheVariants.{Stored}
-use Rattle.curp_msg.specs.declared.body.Append.{Append}
 use Rattle.curp_msg.specs.declared.body.Appended.{Appended}
 use Rattle.curp_msg.specs.declared.body.Body.{Body}
 use Rattle.curp_msg.specs.declared.body.Body.TheVariants as body
@@ -27,34 +18,34 @@ use Rattle.curp_model.specs.Manager.{ManagerState}
 use Rattle.curp_model.specs.Marks.{Looked, Mark}
 use Rattle.curp_model.specs.Master.{Acknowledged, Captured, MasterState, from_backup}
 use Rattle.curp_model.specs.Named.{IsMaster}
-use Rattle.curp_model.specs.Recovery.{MasterStage, Serving}
-use Rattle.curp_model.specs.World.{World, capture_mark, is_adopted, messages, pushed_marks}
-use Rattle.curp_facts.specs.Facts.{AppendOk, HasLog, IsAdoptedNow, IsAmong, Logged, StoredOk, WasAdopted, WasSent, lists_of_part}
-use Rattle.curp_facts.specs.Growth.{CoreGrows, MasterGrows, ServesOn}
-use Rattle.curp_facts.specs.Kept.{NeverSoLate, PassedBy, lists_of_master}
+use Rattle.curp_model.specs.Recovery.{Serving}
+use Rattle.curp_model.specs.World.{World, capture_mark, is_adopted, pushed_marks}
+use Rattle.curp_facts.specs.Facts.{IsAdoptedNow, IsAmong, Logged, WasSent, lists_of_part}
+use Rattle.curp_facts.specs.Growth.{MasterGrows, ServesOn}
+use Rattle.curp_facts.specs.Kept.{NeverSoLate, lists_of_master}
 use Rattle.curp_facts.specs.Nodes.{AcknowledgedOk, CapturedOk, ServingOk}
 use Rattle.curp_facts.specs.Said.{AppendHolds, AppendSaid, AppendedSaid}
-use Rattle.curp_law_kept.proofs.Known.{Known, said}
+use Rattle.curp_law_kept.proofs.Apart.{either_node}
+use Rattle.curp_law_kept.proofs.Known.{Known, fits, said}
 use Rattle.curp_law_kept.proofs.MastersHeard.{one_log}
 use Rattle.curp_law_kept.proofs.MastersMoves.{MasterStep}
-use Rattle.curp_law_kept.proofs.MastersReady.{is_mover, step_follows}
+use Rattle.curp_law_kept.proofs.MastersReady.{step_follows}
 use Rattle.curp_law_kept.proofs.Moved.{adopted_back, sent_back, sent_cases}
-use Rattle.curp_law_line.specs.Line.{LookGives}
-use Rattle.curp_law_linear.specs.Ordered.{CaptureOk, IsStored, LooksNumbered, LooksReached, Ordered, StoredFrom, WorthOk}
+use Rattle.curp_law_linear.specs.Ordered.{CaptureOk, LooksNumbered, LooksReached, Ordered, WorthOk}
 use Rattle.curp_law_linear.specs.Refined.{Refines}
 use Rattle.curp_law_linear.proofs.ReadsAdopted.{later_entry, new_look, own_entry}
 use Rattle.curp_law_linear.proofs.ReadsCaptures.{CapturesMove, CapturesRead, Fewer, HeardStored, OneMore, ReadsMove, SaysValue, ValueOf}
 use Rattle.curp_law_linear.proofs.ReadsLater.{EntryStays, LookWas, ReadsOk, completed_later, made_later, older_later}
-use Rattle.curp_law_linear.proofs.ReadsMarks.{MarksMove, NoLooks, OneLook, marks_move}
+use Rattle.curp_law_linear.proofs.ReadsMarks.{MarksMove, NoLooks, OneLook, marks_move, pushed_one}
 use Rattle.curp_law_linear.specs.Refined.{NoAdoption}
 use Rattle.curp_law_linear.proofs.ReadsMoves.{none_drops, worth_later}
 use Rattle.curp_law_linear.proofs.ReadsPassed.{KnowsNoLater, NewerLists, NoneLate, capture_later}
 use Rattle.curp_law_linear.proofs.ReadsReady.{passed_new, ready_looks, ready_stored}
 use Rattle.curp_law_linear.proofs.ReadsStored.{looks_stored}
 use Rattle.curp_law_masters.specs.Moves.{IsSaidBy, ServingMove, ServingSays, WorthSays}
-use Rattle.curp_law_names.proofs.Lists.{among_each, at_place, place}
+use Rattle.curp_law_names.proofs.Lists.{among_each}
 use Rattle.curp_law_pairs.specs.Predecessors.{Predecessors}
-use Rattle.curp_law_stays.proofs.Words.{Follows, adopted_later, event_at, one_state, serving_later}
+use Rattle.curp_law_stays.proofs.Words.{Follows, adopted_later, one_state, serving_later}
 
 module _ {w v : World} (known : Known w) (now : Known v) (chain : Predecessors w) (later : Predecessors v) (ordered : Ordered w) {n : ℕ} {from : NodeId} {heard : Option Body} {x y : MasterState} {out : List Message}
     (s : MasterStep w v n from heard (Serving x) (Serving y) out) (reads : ReadsMove x from heard (sends y out)) (r : Refines w v) (none : Each NoAdoption r.moves) where
@@ -98,7 +89,7 @@ module _ {w v : World} (known : Known w) (now : Known v) (chain : Predecessors w
   late : NoneLate w v
   late other to b a long is below stored sent = said_before other to (body.Appended a) (another other is.its_kind) sent
 
-  entry_stays : (c : PartConfig) → IsAdoptedNow v c → EntryStays w c
+  abbrev entry_stays : (c : PartConfig) → IsAdoptedNow v c → EntryStays w c
   entry_stays c here = record {
     entry = c;
     now = subst (λ (g : ManagerState). numbered g.config.parts c.part ≡ Some c) s.frame.manager here;
@@ -186,3 +177,158 @@ module _ {w v : World} (known : Known w) (now : Known v) (chain : Predecessors w
         let value : ValueOf x y v' = among_each (λ (m : Message). SaysValue x y m.body) out reads.values _ new in
         subst (λ (z : NodeId). WorthOk v z v') (sym said_now.sender) (new_worth v' value said_now.says_so)
   ]
+
+  -- ---- marks
+
+  module _ (marks : v.marks ≡ (if is_adopted w.manager node then w.marks ++ pushed_marks node x y else w.marks)) where
+    -- the mark of the read that is captured now
+    record NewMark (k number : ℕ) (m : Mark) : Type 0 where
+      place : k ≡ length w.marks
+      c : Captured
+      adopted : is_adopted w.manager node ≡ true
+      next : y.captured ≡ x.captured + 1
+      is : m ≡ capture_mark node y.part y.epoch c
+      its_number : number ≡ x.captured + 1
+
+    look_cases : (k number long : ℕ) (m : Mark) → At v.marks k m → m.place ≡ Looked number long → At w.marks k m ⊎ NewMark k number m
+    look_cases k number long m at look = go (marks_move w node x y before.captures reads.captures (is_adopted w.manager node) w.marks v.marks marks)
+      where
+        numbers : {a b i j : ℕ} → Looked a i ≡ Looked b j → b ≡ a
+        numbers e = cc
+
+        go : MarksMove node x y (is_adopted w.manager node) w.marks v.marks → At w.marks k m ⊎ NewMark k number m
+        go (NoLooks more is nothing) = elim (at_append_cases w.marks more k m (subst (λ (ms : List Mark). At ms k m) is at)) [
+          | inl old ↦ inl old
+          | inr new ↦ absurd (nothing new.0 number long m new.2 look)
+        ]
+        go (OneLook c adopted is next more read) = elim (at_append_cases w.marks (capture_mark node y.part y.epoch c ∷ []) k m (subst (λ (ms : List Mark). At ms k m) is at)) [
+          | inl old ↦ inl old
+          | inr new ↦
+              let one = at_one (capture_mark node y.part y.epoch c) new.0 m new.2 in
+              inr (record {
+                place = omega (arith, new.1, one.0);
+                c = c;
+                adopted = adopted;
+                next = next;
+                is = sym one.1;
+                its_number = sym (numbers (sym look ∙ ap (λ (z : Mark). z.place) (sym one.1))) ∙ read.number;
+              })
+        ]
+
+    abbrev old_look : (k long : ℕ) (m : Mark) → At w.marks k m → LookWas w v long m
+    old_look k long m at = record { place = k; old = m; stands = at; its_master = refl; its_part = refl; its_epoch = refl; its_place = refl; completed = λ e. inl e }
+
+    -- no earlier look of the master has the new number
+    not_before : (k number long : ℕ) (m : Mark) → At w.marks k m → m.place ≡ Looked number long → m.master ≡ node → number ≡ x.captured + 1 → ⊥
+    not_before k number long m at look master is =
+        let h = ordered.numbered_looks.made k number long m at look in
+        let one : Serving h.0 ≡ Serving x = one_state _ (Serving h.0) (Serving x) (subst (λ (z : NodeId). numbered w.masters z.number ≡ Some (Serving h.0)) master h.1.its_state) s.was.its_state in
+        omega (arith, h.2, is, captured one)
+      where
+        captured : {a b : MasterState} → Serving a ≡ Serving b → a.captured ≡ b.captured
+        captured {a} {b} e = let same : a ≡ b = cc in ap (λ (z : MasterState). z.captured) same
+
+    numbered_now : LooksNumbered v
+    numbered_now = record {
+      made = λ k number long m at look. elim (look_cases k number long m at look) [
+        | inl old ↦ made_later follows ordered.numbered_looks number long m look (old_look k long m old)
+        | inr new ↦ (
+          y,
+          subst (λ (z : NodeId). IsMaster v z (Serving y)) (ap (λ (z : Mark). z.master) (sym new.is)) s.is,
+          omega (arith, new.its_number, new.next),
+          ap (λ (z : Mark). z.part) (sym new.is),
+          ap (λ (z : Mark). z.epoch) (sym new.is),
+        )
+      ];
+      once = λ j k number long other m o at there look too same. elim (look_cases j number long m at look) [
+        | inl old ↦ elim (look_cases k number other o there too) [
+          | inl older ↦ ordered.numbered_looks.once j k number long other m o old older look too same
+          | inr new ↦ absurd (not_before j number long m old look (same ∙ ap (λ (z : Mark). z.master) new.is) new.its_number)
+        ]
+        | inr new ↦ elim (look_cases k number other o there too) [
+          | inl older ↦ absurd (not_before k number other o older too (sym same ∙ ap (λ (z : Mark). z.master) new.is) new.its_number)
+          | inr newer_one ↦ new.place ∙ sym newer_one.place
+        ]
+      ];
+    }
+
+    reached_now : LooksReached v
+    reached_now = record {
+      completed = λ k number long m at look completed. elim (look_cases k number long m at look) [
+        | inl old ↦ completed_later follows ordered.reached number long m look completed (old_look k long m old)
+        | inr new ↦ absurd (uncompleted (sym (ap (λ (z : Mark). z.completed) new.is) ∙ completed))
+      ];
+      older = λ k number long m c at look here part earlier. elim (look_cases k number long m at look) [
+        | inl old ↦ older_later follows ordered.reached number long m look (old_look k long m old) c part earlier (entry_stays c here)
+        | inr new ↦
+            let own = own_entry known node x s.was new.adopted in
+            let same_part : c.part ≡ own.entry.part = part ∙ ap (λ (z : Mark). z.part) new.is ∙ goes.part ∙ sym own.its_part in
+            let one : c ≡ own.entry = one_state _ c own.entry (subst (λ (p : ℕ). numbered w.manager.config.parts p ≡ Some c) same_part (entry_stays c here).now) own.now in
+            absurd (omega (arith, earlier, ap (λ (z : PartConfig). z.epoch) one, own.its_epoch, goes.epoch, ap (λ (z : Mark). z.epoch) new.is))
+      ];
+    }
+      where
+        uncompleted : false ≡ true → ⊥
+        uncompleted e = cc
+
+    -- ---- captures
+
+    one_marked : (c : Captured) → y.captures ≡ x.captures ++ c ∷ [] → CapturesRead x y c → is_adopted w.manager node ≡ true → v.marks ≡ w.marks ++ capture_mark node y.part y.epoch c ∷ []
+    one_marked c more read adopted =
+        marks ∙ ap (λ (b : Bool). if b then w.marks ++ pushed_marks node x y else w.marks) adopted ∙ ap (λ (ms : List Mark). w.marks ++ ms) (pushed_one w node x y before.captures c more read)
+
+    -- no backup has seen the round of a capture that is made now
+    never_late : (c : Captured) → CapturesRead x y c → (b : NodeId) → NeverSoLate v (lists_of_master node y) y c b
+    never_late c read b = record {
+      known = elim (reads.rounds b) [
+        | inl same ↦ omega (arith, same, from_begun x.acknowledged before.acknowledged b, read.round)
+        | inr h ↦ omega (arith, h.1.late, stored_begun b h.1.a h.1.long (heard_sent b _ h.0 h.1) h.1.stored, read.round)
+      ];
+      sent = λ a long sent epoch stored.
+          omega (arith, stored_begun b a long (said_before b node (body.Appended a) (another b (fits now (says b node (body.Appended a)) sent).sender.0) sent) stored, read.round);
+    }
+
+    new_capture : (c : Captured) → y.captures ≡ x.captures ++ c ∷ [] → CapturesRead x y c → CaptureOk v node y c
+    new_capture c more read = go (is_adopted w.manager node) refl
+      where
+        captured : CapturedOk w y c
+        captured = among_each (CapturedOk w y) y.captures move.captures c
+            (subst (λ (cs : List Captured). IsAmong c cs) (sym more) (record { place = length x.captures; stands = at_push x.captures c (length x.captures) refl }))
+
+        go : (b : Bool) → is_adopted w.manager node ≡ b → CaptureOk v node y c
+        go true is = inl (new_look known node x s.was ordered is y c read captured v.marks goes.part goes.epoch (one_marked c more read is))
+        go false is =
+            let e = later_entry known node x s.was is in
+            inr (passed_new now later node y s.is c (lists_of_part e.entry) (adopted_later follows (known.names.top e.entry e.now).was) (e.its_part ∙ sym goes.part) (omega (arith, e.above, goes.epoch)) (never_late c read))
+
+    own_captures : Each (CaptureOk v node y) y.captures
+    own_captures = go reads.captures
+      where
+        go : CapturesMove x y → Each (CaptureOk v node y) y.captures
+        go (Fewer same among) = Each-weaker (λ (c : Captured). IsAmong c x.captures) (CaptureOk v node y) old_captures y.captures among
+        go (OneMore c next more read) = subst (Each (CaptureOk v node y)) (sym more)
+            (Each-append (CaptureOk v node y) x.captures (c ∷ []) (Each-weaker (CaptureOk w node x) (CaptureOk v node y) old_capture x.captures (ordered.captures node x s.was)) (new_capture c more read, tt))
+
+    captures : (other : NodeId) (m : MasterState) → IsMaster v other (Serving m) → Each (CaptureOk v other m) m.captures
+    captures other m is = elim (either_node other node) [
+      | inl same ↦
+          subst (λ (z : NodeId). Each (CaptureOk v z m) m.captures) (sym same)
+          (subst (λ (z : MasterState). Each (CaptureOk v node z) z.captures) (states (one_state _ (Serving y) (Serving m) s.is.its_state (subst (λ (z : NodeId). numbered v.masters z.number ≡ Some (Serving m)) same is.its_state))) own_captures)
+      | inr apart ↦
+          let was = s.others other (Serving m) apart is in
+          Each-weaker (CaptureOk w other m) (CaptureOk v other m)
+          (λ c ok. capture_later known follows ordered r newer late other m m refl refl c (λ b low never. low) ok (none_drops r.moves none m.part c.length)) m.captures (ordered.captures other m was)
+    ]
+      where
+        states : {a b : MasterState} → Serving a ≡ Serving b → a ≡ b
+        states e = cc
+
+    -- an input to a serving master keeps what is kept of reads
+    pub serving_step_reads : ReadsOk v
+    serving_step_reads = record {
+      numbered_looks = numbered_now;
+      worths = worths;
+      captures = captures;
+      reached = reached_now;
+      stored = looks_stored now later reached_now;
+    }
