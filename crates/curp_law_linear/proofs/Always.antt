@@ -9,8 +9,11 @@ use Rattle.curp_msg.specs.declared.machine.Completed.{Completed}
 use Rattle.curp_msg.specs.declared.machine.Input.{Input}
 use Rattle.curp_order.specs.declared.Event.{Event}
 use Rattle.curp_order.specs.declared.Event.TheVariants.{Invoke}
+use Rattle.curp_model.specs.Log.{log_opening}
+use Rattle.curp_model.specs.Manager.{ManagerState}
 use Rattle.curp_model.specs.Marks.{Mark}
 use Rattle.curp_model.specs.Named.{IsMaster}
+use Rattle.curp_model.specs.Ranges.{opening_range}
 use Rattle.curp_model.specs.Recovery.{MasterStage, master_input}
 use Rattle.curp_model.specs.World.{World, is_adopted, master_marks, with_completion}
 use Rattle.curp_facts.specs.Kept.{AdoptedLog}
@@ -31,6 +34,7 @@ use Rattle.curp_law_linear.proofs.MastersCaptures.{input_captures}
 use Rattle.curp_law_linear.proofs.MastersLogs.{master_logs}
 use Rattle.curp_law_linear.proofs.ReadsLater.{ReadsOk}
 use Rattle.curp_law_linear.proofs.ReadsMasterSteps.{input_reads, master_reads}
+use Rattle.curp_law_logs.specs.Gives.{GivesFit}
 use Rattle.curp_law_names.proofs.Later.{Later}
 use Rattle.curp_law_pairs.specs.Predecessors.{Predecessors}
 use Rattle.curp_law_routes.specs.Migrated.{Migrated}
@@ -91,3 +95,27 @@ module _ {w : World} (known : Known w) (chain : Predecessors w) (routes : Routes
           logs = master_logs known chain routes migrated ordered migrated_now n from heard out m k step;
           reads = master_reads known now chain chain_now ordered r.refines r.steady m k step marks (λ x y before after. input_reads known n m given x y before after);
         }
+
+-- ---- where no master moves
+
+module _ (w v : World) (manager : v.manager ≡ w.manager) (masters : v.masters ≡ w.masters) where
+  -- the adopted logs are the same
+  log_before : (c : PartConfig) → AdoptedLog v c → AdoptedLog w c
+  log_before c l = record {
+    now = subst (λ (g : ManagerState). numbered g.config.parts c.part ≡ Some c) manager l.now;
+    its = l.its;
+    its_log = record {
+      m = l.its_log.m;
+      is = record { its_kind = l.its_log.is.its_kind; its_state = subst (λ (ms : List MasterStage). numbered ms c.master.number ≡ Some l.its_log.m) masters l.its_log.is.its_state };
+      its_log = l.its_log.its_log;
+    };
+  }
+
+  pub same_logs : ((c : PartConfig) (l : AdoptedLog w c) → AdoptedOk w c l) → (c : PartConfig) (l : AdoptedLog v c) → AdoptedOk v c l
+  unfolding log_before
+  same_logs ok c l =
+      let o = ok c (log_before c l) in
+      record {
+        rise = o.rise;
+        fit = subst (λ (g : ManagerState). GivesFit (log_opening (opening_range g.shape.parts c.part).lo (opening_range g.shape.parts c.part).hi) 0 l.its.log) (sym manager) o.fit;
+      }
