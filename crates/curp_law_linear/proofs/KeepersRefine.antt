@@ -1,7 +1,6 @@
 -- A step of a backup or of a witness, and one that gives no node an input, make no move of the machine.
-use Rattle.std.proofs.Common.{◌≡◌, ℕ, List, [], append-nil, refl, ap, sym, ◌∙◌, subst, Option, Some, None}
-use Rattle.curp_cmd.specs.declared.node.NodeId.{NodeId}
-use Rattle.curp_msg.specs.Moved.{quiet, within}
+use Rattle.std.proofs.Common.{◌≡◌, ℕ, List, [], append-nil, refl, ap, sym, subst, Option, None}
+use Rattle.curp_msg.specs.Moved.{within}
 use Rattle.curp_msg.specs.declared.body.Body.{Body}
 use Rattle.curp_msg.specs.declared.body.Body.TheVariants as body
 use Rattle.curp_msg.specs.declared.machine.Completed.{Completed}
