@@ -244,5 +244,5 @@ module _ {w : World} (known : Known w) (chain : Predecessors w) (migrated : Migr
     by_input (input.Message m) does = hears _ (client_input n c (input.Message m)) does (client_input n c (input.Message m)).completed refl does.completes
 
     -- what comes to a client is at most one move
-    pub client_refines : {v : World} → v ≡ left (invocation_of (client_node n) (Some c) given) (client_input n c given) → RefinesQuiet w v
+    pub client_refines : {v : World} → v ≡ (kept w (invocation_of (client_node n) (Some c) given) (within (with_client w n) (client_input n c given))).world → RefinesQuiet w v
     client_refines is = subst (RefinesQuiet w) (sym is) (by_input given (effect known n given for c was made))
