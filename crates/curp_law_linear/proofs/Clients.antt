@@ -1,37 +1,27 @@
--- An input to a client is at most one move: a request is invoked, or completes.
-use Rattle.std.proofs.Common.{◌≡◌, ◌≢◌, ◌⊎◌, inl, inr, ℕ, zero, suc, ◌+◌, ◌<◌, ◌≤◌, ◌&&◌, ◌==◌, Bool, true, false, List, [], ◌∷◌, ◌++◌, append-nil, append_assoc, map, flat_map, length, refl, ap, sym, ◌∙◌, subst, arith, Option, Some, None}
-use Rattle.std.specs.Bool.{⊤}
+-- What completes fits the machine: an update by its op in an adopted log, a read by the mark of one look.
+use Rattle.std.proofs.Common.{◌≡◌, inl, inr, ℕ, zero, suc, ◌≤◌, ◌&&◌, ◌==◌, Bool, true, false, List, refl, ap, sym, ◌∙◌, subst, arith, Some}
 use Rattle.std.proofs.lemmas.Bool.{cases_lt}
 use Rattle.std.proofs.lemmas.Bool.Decides.{nat_tests}
-use Rattle.curp_base.specs.Words.{At, Each, numbered}
-use Rattle.curp_base.proofs.Lists.{Each-at, at_some}
+use Rattle.curp_base.specs.Words.{At, numbered}
+use Rattle.curp_base.proofs.Lists.{at_some}
 use Rattle.curp_cmd.specs.Node.{client_node, same_node}
 use Rattle.curp_cmd.specs.RequestId.{same_id}
-use Rattle.curp_cmd.specs.Store.{is_update}
 use Rattle.curp_cmd.specs.declared.command.Answer.{Answer}
 use Rattle.curp_cmd.specs.declared.command.Command.{Command}
-use Rattle.curp_cmd.specs.declared.command.Request.{Request}
 use Rattle.curp_cmd.specs.declared.command.RequestId.{RequestId}
 use Rattle.curp_cmd.specs.declared.entry.Entry.{Entry}
 use Rattle.curp_cmd.specs.declared.node.NodeId.{NodeId}
 use Rattle.curp_cmd.proofs.Ids.{same_id-self}
 use Rattle.curp_cmd.proofs.Nodes.{same_node-self, same_node-true}
-use Rattle.curp_msg.specs.Moved.{Moved, says}
-use Rattle.curp_msg.specs.declared.body.Body.{Body}
+use Rattle.curp_msg.specs.Moved.{says}
 use Rattle.curp_msg.specs.declared.body.Body.TheVariants as body
 use Rattle.curp_msg.specs.declared.body.Worth.{Worth}
 use Rattle.curp_msg.specs.declared.config.PartConfig.{PartConfig}
 use Rattle.curp_msg.specs.declared.machine.Capture.{Capture}
-use Rattle.curp_msg.specs.declared.machine.Completed.{Completed}
-use Rattle.curp_msg.specs.declared.message.Message.{Message}
-use Rattle.curp_order.specs.declared.Event.{Event}
-use Rattle.curp_order.specs.declared.Event.TheVariants.{Invoke, Complete}
+use Rattle.curp_order.specs.declared.Event.TheVariants.{Invoke}
 use Rattle.curp_model.specs.Log.{IsDone}
-use Rattle.curp_model.specs.Manager.{ManagerState, Shape}
-use Rattle.curp_model.specs.Marks.{Mark, Place, Executed, Looked, flagged, is_capture, is_flagged, is_update_mark}
-use Rattle.curp_model.specs.Ranges.{opening_range}
-use Rattle.curp_model.specs.Recovery.{MasterStage}
-use Rattle.curp_model.specs.World.{World, messages, with_completion}
+use Rattle.curp_model.specs.Marks.{Mark, Place, Executed, Looked, is_capture, is_update_mark}
+use Rattle.curp_model.specs.World.{World}
 use Rattle.curp_facts.specs.Facts.{Completable, HasLog, IsAdoptedNow, IsGiven, Lists, WasSent, hi_of, lists_of_part, lo_of}
 use Rattle.curp_facts.specs.Kept.{AdoptedLog}
 use Rattle.curp_law_kept.proofs.Known.{Known}
@@ -39,11 +29,10 @@ use Rattle.curp_law_line.specs.Hashes.{Part}
 use Rattle.curp_law_line.specs.Line as line
 use Rattle.curp_law_line.specs.Line.{Line, LineOk, LookGives}
 use Rattle.curp_law_line.proofs.Given.{LogsOk}
-use Rattle.curp_law_line.specs.Moves.{AllFit, CompleteFits, Completes, FlagFits, Flags, InvokeFits, Invokes, Move, flags_mark}
-use Rattle.curp_law_line.specs.OfWorld.{entries_at, line_of, moving_of, part_of, told_by}
-use Rattle.curp_law_linear.specs.Ordered.{LooksNumbered, Ordered, WorthOk}
-use Rattle.curp_law_linear.specs.Refined.{Refines}
-use Rattle.curp_law_linear.proofs.Parts.{adopted_or_none, entry_part, line_logs, part_log}
+use Rattle.curp_law_line.specs.Moves.{CompleteFits, FlagFits, flags_mark}
+use Rattle.curp_law_line.specs.OfWorld.{line_of, part_of}
+use Rattle.curp_law_linear.specs.Ordered.{Ordered, WorthOk}
+use Rattle.curp_law_linear.proofs.Parts.{entry_part, line_logs, part_log}
 use Rattle.curp_law_routes.specs.Migrated.{Migrated, OpStored}
 use Rattle.curp_law_pairs.specs.Predecessors.{Predecessors}
 use Rattle.curp_law_pairs.specs.Answered.{AnsweredBy}
