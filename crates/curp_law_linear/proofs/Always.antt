@@ -28,7 +28,7 @@ use Rattle.curp_law_line.specs.OfWorld.{line_of}
 use Rattle.curp_law_line.proofs.Discharged.{pure, second}
 use Rattle.curp_law_line.proofs.Keeps.{all_keep}
 use Rattle.curp_law_linear.specs.Ordered.{AdoptedOk, Ordered}
-use Rattle.curp_law_linear.specs.Refined.{Refines, RefinesSteadily}
+use Rattle.curp_law_linear.specs.Refined.{Refines, RefinesQuiet}
 use Rattle.curp_law_linear.proofs.Masters.{MarksAfter, master_refines}
 use Rattle.curp_law_linear.proofs.MastersCaptures.{input_captures}
 use Rattle.curp_law_linear.proofs.MastersLogs.{master_logs}
@@ -88,12 +88,12 @@ module _ {w : World} (known : Known w) (chain : Predecessors w) (routes : Routes
         let out = (master_input n m given).messages in
         let k = (master_input n m given).state in
         let step = master_step known n given m here for events none grows later in
-        let r : RefinesSteadily w v = master_refines known chain routes migrated ordered migrated_now n from heard out m k step (input_captures n m given) marks in
+        let r : RefinesQuiet w v = master_refines known chain routes migrated ordered migrated_now n from heard out m k step (input_captures n m given) marks in
         record {
-          refines = r.refines;
+          refines = r.its;
           commands = same_commands w v step.frame.history ordered.commands;
           logs = master_logs known chain routes migrated ordered migrated_now n from heard out m k step;
-          reads = master_reads known now chain chain_now ordered r.refines r.steady m k step marks (λ x y before after. input_reads known n m given x y before after);
+          reads = master_reads known now chain chain_now ordered r.its r.quiet m k step marks (λ x y before after. input_reads known n m given x y before after);
         }
 
 -- ---- where no master moves

@@ -40,7 +40,8 @@ use Rattle.curp_law_line.proofs.Given.{LogsOk}
 use Rattle.curp_law_linear.specs.Ordered.{Ordered}
 use Rattle.curp_law_linear.proofs.Clients.{read_fits, update_fits}
 use Rattle.curp_law_linear.proofs.Parts.{line_logs}
-use Rattle.curp_law_linear.proofs.Quiet.{RefinesQuiet, line_is, no_move, tell_nothing}
+use Rattle.curp_law_linear.specs.Refined.{RefinesQuiet}
+use Rattle.curp_law_linear.proofs.Quiet.{line_is, no_move, tell_nothing}
 use Rattle.curp_law_linear.proofs.Same.{SameLogs}
 use Rattle.curp_law_names.proofs.Lists.{all_of-kept}
 use Rattle.curp_law_pairs.specs.Predecessors.{Predecessors}

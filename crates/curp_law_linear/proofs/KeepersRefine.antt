@@ -17,7 +17,8 @@ use Rattle.curp_law_keepers.proofs.Witnesses.{witness_effect}
 use Rattle.curp_law_kept.proofs.Cases.{RestsIn}
 use Rattle.curp_law_kept.proofs.Worlds.{same_history}
 use Rattle.curp_law_line.specs.OfWorld.{told_by}
-use Rattle.curp_law_linear.proofs.Quiet.{RefinesQuiet, no_move, tell_nothing}
+use Rattle.curp_law_linear.specs.Refined.{RefinesQuiet}
+use Rattle.curp_law_linear.proofs.Quiet.{no_move, tell_nothing}
 use Rattle.curp_law_names.proofs.Lists.{all_of-kept}
 
 -- ---- what they tell of

@@ -31,7 +31,7 @@ use Rattle.curp_law_line.specs.OfWorld.{line_of, moving_of, part_of, told_by}
 use Rattle.curp_law_line.proofs.Given.{LogsOk}
 use Rattle.curp_law_line.proofs.Lists.{some_same}
 use Rattle.curp_law_linear.specs.Ordered.{MigrationsRise, Ordered}
-use Rattle.curp_law_linear.specs.Refined.{RefinesSteadily}
+use Rattle.curp_law_linear.specs.Refined.{RefinesQuiet}
 use Rattle.curp_law_linear.proofs.MastersCaptures.{Captures, StageCaptures}
 use Rattle.curp_law_linear.proofs.MastersLog.{Leads, leads_none, leads_on, line_at, logs_at}
 use Rattle.curp_law_linear.proofs.MastersLooks.{look_all}
@@ -70,14 +70,14 @@ module _ {w v : World} (known : Known w) (chain : Predecessors w) (routes : Rout
     told_after = sym (ap (flat_map (λ (x : Message). told_by x.body)) step.frame.sent ∙ flat_append (λ (x : Message). told_by x.body) (messages w) out)
 
     -- then they are told
-    pub finish : (parts : List Part) (marks : List Mark) → Leads (line_of w) (untold parts marks) → (line_of v).parts ≡ parts → v.marks ≡ marks → LogsOk parts → RefinesSteadily w v
+    pub finish : (parts : List Part) (marks : List Mark) → Leads (line_of w) (untold parts marks) → (line_of v).parts ≡ parts → v.marks ≡ marks → LogsOk parts → RefinesQuiet w v
     finish parts marks on same marked logs =
         let out_numbers : List ℕ = flat_map (λ (x : Message). told_by x.body) out in
         let tell : Leads (untold parts marks) (record (untold parts marks) { told = (line_of w).told ++ out_numbers })
         = tell_all out_numbers (untold parts marks) logs (λ j a. subst (λ (ps : List Part). TakeStands ps j) same
         (takes_stand w v moved out step.frame.sent (all_tell w n from heard m k out step.move) j a)) in
         let all = leads_on (line_of w) (untold parts marks) (record (untold parts marks) { told = (line_of w).told ++ out_numbers }) on tell in
-        record { refines = record { moves = all.moves; fit = all.fit; leads = all.leads ∙ last }; steady = all.steady }
+        record { its = record { moves = all.moves; fit = all.fit; leads = all.leads ∙ last }; quiet = all.steady }
       where
         last : record (untold parts marks) { told = (line_of w).told ++ flat_map (λ (x : Message). told_by x.body) out } ≡ line_of v
         last i = record {
@@ -89,7 +89,7 @@ module _ {w v : World} (known : Known w) (chain : Predecessors w) (routes : Rout
         }
 
     -- where all logs stay and nothing is marked
-    pub stays : ((d : PartConfig) → IsAdoptedNow w d → d.master ≡ master_node n → SameLog m k) → master_marks (master_node n) m k ≡ [] → MarksAfter m k → RefinesSteadily w v
+    pub stays : ((d : PartConfig) → IsAdoptedNow w d → d.master ≡ master_node n → SameLog m k) → master_marks (master_node n) m k ≡ [] → MarksAfter m k → RefinesQuiet w v
     stays same unmarked marked = finish (line_of w).parts w.marks (leads_none (line_of w) _ refl) parts marks (line_logs known ordered)
       where
         parts : (line_of v).parts ≡ (line_of w).parts
@@ -109,7 +109,7 @@ module _ {w v : World} (known : Known w) (chain : Predecessors w) (routes : Rout
             go false = refl
 
     -- a master that isn't adopted
-    pub unadopted : is_adopted w.manager (master_node n) ≡ false → MarksAfter m k → RefinesSteadily w v
+    pub unadopted : is_adopted w.manager (master_node n) ≡ false → MarksAfter m k → RefinesQuiet w v
     unadopted out_of marked = finish (line_of w).parts w.marks (leads_none (line_of w) _ refl)
         (parts_stay known n from heard m k out step (λ d now. other_part known n from heard m k out step d now (adopted_out known n from heard m k out step out_of d now)))
         (marked ∙ ap (λ (b : Bool). if b then w.marks ++ master_marks (master_node n) m k else w.marks) out_of) (line_logs known ordered)
@@ -152,7 +152,7 @@ module _ {w v : World} (known : Known w) (chain : Predecessors w) (routes : Rout
           (sym (ap (λ (p : Part). set (line_of w).parts (c.part - 1) p) (ap (λ (es : List Entry). record { lo = lo_of w c.part; hi = hi_of w c.part; log = es }) (sym (part_log known c mine)))
           ∙ set_self (line_of w).parts c.part (part_of w c) (entry_part known c now)))
 
-      serving_refines : Captures m k → is_adopted w.manager (master_node n) ≡ true → MarksAfter (Serving m) (Serving k) → RefinesSteadily w v
+      serving_refines : Captures m k → is_adopted w.manager (master_node n) ≡ true → MarksAfter (Serving m) (Serving k) → RefinesQuiet w v
       serving_refines captures adopted_now marked =
           let pushed_marks : List Mark = w.marks ++ op_marks (master_node n) c.part k.epoch (length m.log) front.rest in
           let all_marks : List Mark = pushed_marks ++ map (capture_mark (master_node n) c.part k.epoch) (new_captures m.captured k.captures) in
@@ -171,7 +171,7 @@ module _ {w v : World} (known : Known w) (chain : Predecessors w) (routes : Rout
   -- ---- all together
 
   -- an input to a master leads the machine on
-  pub master_refines : (m k : MasterStage) → MasterStep w v n from heard m k out → StageCaptures m k → MarksAfter m k → RefinesSteadily w v
+  pub master_refines : (m k : MasterStage) → MasterStep w v n from heard m k out → StageCaptures m k → MarksAfter m k → RefinesQuiet w v
   master_refines m k step captures marked = elim (cases_Bool (is_adopted w.manager (master_node n))) [
     | inr out_of ↦ unadopted m k step out_of marked
     | inl adopted_now ↦
@@ -180,7 +180,7 @@ module _ {w v : World} (known : Known w) (chain : Predecessors w) (routes : Rout
   ]
     where
       go : (m k : MasterStage) → MasterStep w v n from heard m k out → StageCaptures m k → MarksAfter m k → is_adopted w.manager (master_node n) ≡ true
-          → (c : PartConfig) → IsAdoptedNow w c → c.master ≡ master_node n → RefinesSteadily w v
+          → (c : PartConfig) → IsAdoptedNow w c → c.master ≡ master_node n → RefinesQuiet w v
       go Fresh Fresh step captures marked adopted_now c now its = stays Fresh Fresh step (λ d here mine. record { entries = refl; logged = λ y e. absurd cc }) refl marked
       go Fresh (Recovering t) step captures marked adopted_now c now its =
           stays Fresh (Recovering t) step (λ d here mine. fresh_stands known chain n d here mine t (ap (λ (s : RecoveryState). node_log (Recovering s)) step.move.asks)) refl marked

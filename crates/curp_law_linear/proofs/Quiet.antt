@@ -6,14 +6,8 @@ use Rattle.curp_order.specs.declared.Event.{Event}
 use Rattle.curp_model.specs.Marks.{Mark}
 use Rattle.curp_model.specs.World.{World}
 use Rattle.curp_law_line.specs.OfWorld.{line_of, told_by}
-use Rattle.curp_law_linear.specs.Refined.{Refines}
-use Rattle.curp_law_linear.proofs.ReadsMoves.{NoAdoption}
+use Rattle.curp_law_linear.specs.Refined.{RefinesQuiet}
 use Rattle.curp_law_linear.proofs.Same.{SameLogs, same_line}
-
--- moves that adopt nothing lead from the one world to the other
-pub record RefinesQuiet (w v : World) : Type 0 where
-  pub its : Refines w v
-  pub quiet : Each NoAdoption its.moves
 
 -- messages of which each tells of no package tell of none
 pub tell_nothing : (Says : Message → Type 0) → ((m : Message) → Says m → told_by m.body ≡ []) → (out : List Message) → Each Says out → flat_map (λ (m : Message). told_by m.body) out ≡ []

@@ -36,7 +36,8 @@ use Rattle.curp_law_linear.specs.Ordered.{CaptureOk, IsStored, Ordered}
 use Rattle.curp_law_linear.specs.Refined.{Refines}
 use Rattle.curp_law_linear.proofs.ReadsDropped.{Stays, kept_short, look_stays, looks_adopted}
 use Rattle.curp_law_linear.proofs.ReadsLater.{EntryStays, LooksStand, ReadsOk, reads_later}
-use Rattle.curp_law_linear.proofs.ReadsMoves.{NoAdoption, NoneDrops, none_drops}
+use Rattle.curp_law_linear.specs.Refined.{NoAdoption}
+use Rattle.curp_law_linear.proofs.ReadsMoves.{NoneDrops, none_drops}
 use Rattle.curp_law_linear.proofs.ReadsPassed.{NewerLists, NoneLate, passed_later}
 use Rattle.curp_law_linear.proofs.ReadsQuiet.{looks_same}
 use Rattle.curp_law_linear.proofs.ReadsStored.{stored_stays}

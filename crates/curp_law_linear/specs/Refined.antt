@@ -20,6 +20,6 @@ NoAdoption (Adopts o) = ⊥
 NoAdoption _ = ⊤
 
 -- moves of which none adopts lead from the one world to the other
-pub record RefinesSteadily (w v : World) : Type 0 where
-  pub refines : Refines w v
-  pub steady : Each NoAdoption refines.moves
+pub record RefinesQuiet (w v : World) : Type 0 where
+  pub its : Refines w v
+  pub quiet : Each NoAdoption its.moves
