@@ -1,61 +1,73 @@
 -- What is kept of the order stays in every step.
-use Rattle.std.proofs.Common.{◌≡◌, ℕ, ◌++◌, if◌then◌else◌, List, [], refl, ap, sym, ◌∙◌, subst, Option, Some, None}
+use Rattle.std.proofs.Common.{◌≡◌, ◌≢◌, ℕ, ◌++◌, if◌then◌else◌, List, [], append-nil, refl, ap, sym, ◌∙◌, subst, Option, Some, None}
+use Rattle.std.specs.Bool.{⊤}
 use Rattle.curp_base.specs.Words.{At, Each, numbered}
-use Rattle.curp_cmd.specs.Node.{master_node}
-use Rattle.curp_cmd.specs.declared.command.Command.{Command}
-use Rattle.curp_cmd.specs.declared.command.RequestId.{RequestId}
+use Rattle.curp_cmd.specs.Node.{backup_node, client_node, manager_node, master_node, witness_node}
+use Rattle.curp_cmd.specs.declared.node.NodeId.{NodeId}
+use Rattle.curp_cmd.specs.declared.node.NodeKind.TheVariants as kind
+use Rattle.curp_msg.specs.Moved.{within}
 use Rattle.curp_msg.specs.declared.config.PartConfig.{PartConfig}
 use Rattle.curp_msg.specs.declared.machine.Completed.{Completed}
 use Rattle.curp_msg.specs.declared.machine.Input.{Input}
 use Rattle.curp_order.specs.declared.Event.{Event}
-use Rattle.curp_order.specs.declared.Event.TheVariants.{Invoke}
+use Rattle.curp_model.specs.Backup.{BackupState, backup_input}
+use Rattle.curp_model.specs.Client.{ClientState, client_input}
 use Rattle.curp_model.specs.Log.{log_opening}
 use Rattle.curp_model.specs.Manager.{ManagerState}
 use Rattle.curp_model.specs.Marks.{Mark}
-use Rattle.curp_model.specs.Named.{IsMaster}
 use Rattle.curp_model.specs.Ranges.{opening_range}
 use Rattle.curp_model.specs.Recovery.{MasterStage, master_input}
-use Rattle.curp_model.specs.World.{World, is_adopted, master_marks, with_completion}
-use Rattle.curp_facts.specs.Kept.{AdoptedLog}
-use Rattle.curp_facts.specs.Run.{NamesKey}
-use Rattle.curp_law_growth.specs.Deeds.{IsFor}
+use Rattle.curp_model.specs.Witness.{WitnessState, witness_input}
+use Rattle.curp_model.specs.World.{World, completion, invocation_of, is_adopted, kept, master_marks, messages, with_backup, with_client, with_completion, with_witness}
 use Rattle.curp_facts.specs.Growth.{Grows}
+use Rattle.curp_facts.specs.Kept.{AdoptedLog}
+use Rattle.curp_law_growth.specs.Deeds.{IsFor}
+use Rattle.curp_law_growth.proofs.Numbered.{numbered_set_same}
+use Rattle.curp_law_keepers.proofs.Backups.{backup_effect}
+use Rattle.curp_law_keepers.proofs.Witnesses.{witness_effect}
+use Rattle.curp_law_kept.proofs.Cases.{RestsIn}
+use Rattle.curp_law_kept.proofs.ClientSteps.{ClientMoved}
 use Rattle.curp_law_kept.proofs.Followed.{master_step, master_world}
+use Rattle.curp_law_kept.proofs.KeeperSteps.{KeeperMoved}
 use Rattle.curp_law_kept.proofs.Known.{Known}
-use Rattle.curp_law_kept.proofs.MastersMoves.{MasterStep, heard_in, input_idle, speaker}
+use Rattle.curp_law_kept.proofs.MastersMoves.{heard_in, input_idle, speaker}
+use Rattle.curp_law_kept.proofs.Others.{SaysMore, nothing_ready}
+use Rattle.curp_law_kept.proofs.Worlds.{other_item, same_history}
 use Rattle.curp_law_line.specs.Line.{LineOk}
 use Rattle.curp_law_line.specs.OfWorld.{line_of}
 use Rattle.curp_law_line.proofs.Discharged.{pure, second}
 use Rattle.curp_law_line.proofs.Keeps.{all_keep}
 use Rattle.curp_law_linear.specs.Ordered.{AdoptedOk, Ordered}
 use Rattle.curp_law_linear.specs.Refined.{Refines, RefinesQuiet}
-use Rattle.curp_law_linear.proofs.Masters.{MarksAfter, master_refines}
+use Rattle.curp_law_linear.proofs.ClientsRefine.{client_refines}
+use Rattle.curp_law_linear.proofs.Commands.{CommandsName}
+use Rattle.curp_law_linear.proofs.KeepersRefine.{backup_refines, rest_refines, witness_refines}
+use Rattle.curp_law_linear.proofs.Masters.{master_refines}
 use Rattle.curp_law_linear.proofs.MastersCaptures.{input_captures}
 use Rattle.curp_law_linear.proofs.MastersLogs.{master_logs}
+use Rattle.curp_law_linear.proofs.ReadsKeepers.{backup_reads, witness_reads}
 use Rattle.curp_law_linear.proofs.ReadsLater.{ReadsOk}
 use Rattle.curp_law_linear.proofs.ReadsMasterSteps.{input_reads, master_reads}
+use Rattle.curp_law_linear.proofs.ReadsQuiet.{client_reads, frame_reads, looks_same, none_late}
 use Rattle.curp_law_logs.specs.Gives.{GivesFit}
 use Rattle.curp_law_names.proofs.Later.{Later}
+use Rattle.curp_law_names.proofs.Lists.{all_of-kept}
 use Rattle.curp_law_pairs.specs.Predecessors.{Predecessors}
 use Rattle.curp_law_routes.specs.Migrated.{Migrated}
 use Rattle.curp_law_routes.specs.Routes.{Routes}
+use Rattle.curp_law_stays.proofs.Words.{Follows}
 
--- each invoked command names a key
-abbrev pub CommandsOk : World → Type 0
-CommandsOk w = (i : ℕ) (id : RequestId) (command : Command) → At w.history i (Invoke id command) → NamesKey command
-
--- what a step owes
+-- what a step owes, but for the commands
 pub record KeepsOrder (w v : World) : Type 0 where
   pub refines : Refines w v
-  pub commands : CommandsOk v
   pub logs : (c : PartConfig) (l : AdoptedLog v c) → AdoptedOk v c l
   pub reads : ReadsOk v
 
 -- it keeps what is kept of the order
-pub ordered_after : {w v : World} → Ordered w → KeepsOrder w v → Ordered v
-ordered_after {w} {v} ordered k = record {
+pub ordered_after : {w v : World} → Ordered w → CommandsName v.history → KeepsOrder w v → Ordered v
+ordered_after {w} {v} ordered commands k = record {
   line = subst LineOk k.refines.leads (all_keep pure second k.refines.moves (line_of w) k.refines.fit ordered.line);
-  commands = k.commands;
+  commands = commands;
   logs = k.logs;
   numbered_looks = k.reads.numbered_looks;
   worths = k.reads.worths;
@@ -63,38 +75,6 @@ ordered_after {w} {v} ordered k = record {
   reached = k.reads.reached;
   stored = k.reads.stored;
 }
-
--- the same commands were invoked
-same_commands : (w v : World) → v.history ≡ w.history → CommandsOk w → CommandsOk v
-same_commands w v same ok i id command at = ok i id command (subst (λ (h : List Event). At h i (Invoke id command)) same at)
-
-module _ {w : World} (known : Known w) (chain : Predecessors w) (routes : Routes w) (migrated : Migrated w) (ordered : Ordered w) where
-  -- ---- an input to a master
-
-  module _ (n : ℕ) (given : Input) (m : MasterStage) (here : numbered w.masters n ≡ Some m) (for : IsFor w (master_node n) given) (events : List Event) (none : events ≡ []) where
-    abbrev v : World
-    v = master_world known n given m here for events none
-
-    idle : (master_input n m given).completed ≡ None
-    idle = input_idle known n m (record { its_kind = refl; its_state = here }) given for
-
-    marks : v.marks ≡ (if is_adopted w.manager (master_node n) then w.marks ++ master_marks (master_node n) m (master_input n m given).state else w.marks)
-    marks = ap (λ (c : Option Completed). with_completion c (if is_adopted w.manager (master_node n) then w.marks ++ master_marks (master_node n) m (master_input n m given).state else w.marks)) idle
-
-    pub master_keeps_order : Grows w v → Later w v → Known v → Predecessors v → Migrated v → KeepsOrder w v
-    master_keeps_order grows later now chain_now migrated_now =
-        let from = speaker known n given in
-        let heard = heard_in known n given in
-        let out = (master_input n m given).messages in
-        let k = (master_input n m given).state in
-        let step = master_step known n given m here for events none grows later in
-        let r : RefinesQuiet w v = master_refines known chain routes migrated ordered migrated_now n from heard out m k step (input_captures n m given) marks in
-        record {
-          refines = r.its;
-          commands = same_commands w v step.frame.history ordered.commands;
-          logs = master_logs known chain routes migrated ordered migrated_now n from heard out m k step;
-          reads = master_reads known now chain chain_now ordered r.its r.quiet m k step marks (λ x y before after. input_reads known n m given x y before after);
-        }
 
 -- ---- where no master moves
 
@@ -111,11 +91,132 @@ module _ (w v : World) (manager : v.manager ≡ w.manager) (masters : v.masters 
     };
   }
 
-  pub same_logs : ((c : PartConfig) (l : AdoptedLog w c) → AdoptedOk w c l) → (c : PartConfig) (l : AdoptedLog v c) → AdoptedOk v c l
+  same_logs : ((c : PartConfig) (l : AdoptedLog w c) → AdoptedOk w c l) → (c : PartConfig) (l : AdoptedLog v c) → AdoptedOk v c l
   unfolding log_before
   same_logs ok c l =
       let o = ok c (log_before c l) in
       record {
         rise = o.rise;
         fit = subst (λ (g : ManagerState). GivesFit (log_opening (opening_range g.shape.parts c.part).lo (opening_range g.shape.parts c.part).hi) 0 l.its.log) (sym manager) o.fit;
+      }
+
+-- marks that no completion flags
+idle_marks : (marks : List Mark) (completed : Option Completed) → completed ≡ None → with_completion completed marks ≡ marks
+idle_marks marks completed idle = ap (λ (c : Option Completed). with_completion c marks) idle
+
+module _ {w : World} (known : Known w) (chain : Predecessors w) (migrated : Migrated w) (ordered : Ordered w) where
+  module _ (n : ℕ) (given : Input) where
+    -- an input to a client
+    pub client_keeps_order : (c : ClientState) → numbered w.clients n ≡ Some c → IsFor w (client_node n) given → (client_input n c given).refused ≡ 0 → {v : World}
+        → v ≡ (kept w (invocation_of (client_node n) (Some c) given) (within (with_client w n) (client_input n c given))).world
+        → Grows w v → Later w v → Known v → Predecessors v → KeepsOrder w v
+    client_keeps_order c was for made {v} is grows later now chain_now =
+        let r : RefinesQuiet w v = client_refines known chain migrated ordered n c was given for made is in
+        let moved : ClientMoved w v n given c = record {
+          grows = grows;
+          later = later;
+          for = for;
+          was = was;
+          made = made;
+          sent = ap messages is ∙ all_of-kept w.sent (client_input n c given).messages;
+          history = ap (λ (u : World). u.history) is;
+          now = ap (λ (u : World). numbered u.clients n) is ∙ numbered_set_same w.clients n c (client_input n c given).state was;
+          others = λ m d other here. other_item w.clients n c (client_input n c given).state was m d other (ap (λ (u : World). numbered u.clients m) (sym is) ∙ here);
+          manager = ap (λ (u : World). u.manager) is;
+          masters = ap (λ (u : World). u.masters) is;
+          backups = ap (λ (u : World). u.backups) is;
+          witnesses = ap (λ (u : World). u.witnesses) is;
+        } in
+        record {
+          refines = r.its;
+          logs = same_logs w v moved.manager moved.masters ordered.logs;
+          reads = client_reads known now chain chain_now ordered n given c moved (ap (λ (u : World). u.marks) is) r.its r.quiet;
+        }
+
+    -- to a backup
+    pub backup_keeps_order : (b : BackupState) → numbered w.backups n ≡ Some b → (events : List Event) → events ≡ [] → {v : World} → v ≡ (kept w events (within (with_backup w n) (backup_input n b given))).world
+        → Grows w v → Later w v → Known v → Predecessors v → KeepsOrder w v
+    backup_keeps_order b was events none {v} is grows later now chain_now =
+        let r : RefinesQuiet w v = backup_refines n given b events none is in
+        let moved : KeeperMoved w v (backup_node n) (backup_input n b given).messages = record {
+          grows = grows;
+          later = later;
+          sent = ap messages is ∙ all_of-kept w.sent (backup_input n b given).messages;
+          manager = ap (λ (u : World). u.manager) is;
+          masters = ap (λ (u : World). u.masters) is;
+          clients = ap (λ (u : World). u.clients) is;
+          history = ap (λ (u : World). u.history) is ∙ same_history w.history events (backup_input n b given).completed none (backup_effect n b given).idle;
+        } in
+        record {
+          refines = r.its;
+          logs = same_logs w v moved.manager moved.masters ordered.logs;
+          reads = backup_reads known now chain chain_now ordered (ap (λ (u : World). u.marks) is ∙ idle_marks w.marks (backup_input n b given).completed (backup_effect n b given).idle) r.its r.quiet
+              n b given was (ap (λ (u : World). numbered u.backups n) is ∙ numbered_set_same w.backups n b (backup_input n b given).state was) moved;
+        }
+
+    -- to a witness
+    pub witness_keeps_order : (x : WitnessState) → numbered w.witnesses n ≡ Some x → (events : List Event) → events ≡ [] → {v : World} → v ≡ (kept w events (within (with_witness w n) (witness_input n x given))).world
+        → Grows w v → Later w v → Known v → Predecessors v → KeepsOrder w v
+    witness_keeps_order x was events none {v} is grows later now chain_now =
+        let r : RefinesQuiet w v = witness_refines n given x events none is in
+        let moved : KeeperMoved w v (witness_node n) (witness_input n x given).messages = record {
+          grows = grows;
+          later = later;
+          sent = ap messages is ∙ all_of-kept w.sent (witness_input n x given).messages;
+          manager = ap (λ (u : World). u.manager) is;
+          masters = ap (λ (u : World). u.masters) is;
+          clients = ap (λ (u : World). u.clients) is;
+          history = ap (λ (u : World). u.history) is ∙ same_history w.history events (witness_input n x given).completed none (witness_effect n x given).idle;
+        } in
+        record {
+          refines = r.its;
+          logs = same_logs w v moved.manager moved.masters ordered.logs;
+          reads = witness_reads known now chain chain_now ordered (ap (λ (u : World). u.marks) is ∙ idle_marks w.marks (witness_input n x given).completed (witness_effect n x given).idle) r.its r.quiet n x given moved;
+        }
+
+  -- where nothing changes but what is stopped
+  pub rest_keeps_order : {v : World} → RestsIn w v → Grows w v → Later w v → Known v → Predecessors v → KeepsOrder w v
+  rest_keeps_order {v} rest grows later now chain_now =
+      let r : RefinesQuiet w v = rest_refines rest in
+      let says : SaysMore w v [] (client_node 0) = record {
+        sent = ap messages rest.is ∙ all_of-kept w.sent [];
+        all = tt;
+        not_manager = λ e. apart (ap (λ (x : NodeId). x.kind) e);
+        manager = ap (λ (u : World). u.manager) rest.is;
+      } in
+      let masters : v.masters ≡ w.masters = ap (λ (u : World). u.masters) rest.is in
+      record {
+        refines = r.its;
+        logs = same_logs w v says.manager masters ordered.logs;
+        reads = frame_reads known now says (λ e. absurd cc) chain chain_now ordered
+            (record { grows = grows; later = later; names = known.names; steady = known.steady; ready = nothing_ready says known.names (λ e. absurd cc) })
+            r.its r.quiet masters (looks_same (ap (λ (u : World). u.marks) rest.is)) (none_late known now says (λ e. absurd cc) (λ e. absurd cc));
+      }
+    where
+      apart : kind.Manager ≢ kind.Client
+      apart e = cc
+
+-- ---- an input to a master
+
+module _ {w : World} (known : Known w) (chain : Predecessors w) (routes : Routes w) (migrated : Migrated w) (ordered : Ordered w)
+    (n : ℕ) (given : Input) (m : MasterStage) (here : numbered w.masters n ≡ Some m) (for : IsFor w (master_node n) given) (events : List Event) (none : events ≡ []) where
+  abbrev v : World
+  v = master_world known n given m here for events none
+
+  marks : v.marks ≡ (if is_adopted w.manager (master_node n) then w.marks ++ master_marks (master_node n) m (master_input n m given).state else w.marks)
+  marks = idle_marks (if is_adopted w.manager (master_node n) then w.marks ++ master_marks (master_node n) m (master_input n m given).state else w.marks)
+      (master_input n m given).completed (input_idle known n m (record { its_kind = refl; its_state = here }) given for)
+
+  pub master_keeps_order : Grows w v → Later w v → Known v → Predecessors v → Migrated v → KeepsOrder w v
+  master_keeps_order grows later now chain_now migrated_now =
+      let from = speaker known n given in
+      let heard = heard_in known n given in
+      let out = (master_input n m given).messages in
+      let k = (master_input n m given).state in
+      let step = master_step known n given m here for events none grows later in
+      let r : RefinesQuiet w v = master_refines known chain routes migrated ordered migrated_now n from heard out m k step (input_captures n m given) marks in
+      record {
+        refines = r.its;
+        logs = master_logs known chain routes migrated ordered migrated_now n from heard out m k step;
+        reads = master_reads known now chain chain_now ordered r.its r.quiet m k step marks (λ x y before after. input_reads known n m given x y before after);
       }
