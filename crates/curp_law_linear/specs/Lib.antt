@@ -1,2 +1,4 @@
 pub mod Ordered
 pub mod Refined
+pub mod Grows
+pub mod Serves

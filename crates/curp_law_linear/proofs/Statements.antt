@@ -1,0 +1,43 @@
+-- What is said of the order and of late replies, from what the machine of the order keeps.
+use Rattle.std.proofs.Common.{◌≡◌, ℕ, refl, subst}
+use Rattle.curp_cmd.specs.declared.command.Answer.{Answer}
+use Rattle.curp_cmd.specs.declared.command.RequestId.{RequestId}
+use Rattle.curp_order.specs.Order.{IsHistory, IsOrder}
+use Rattle.curp_model.specs.World.{World, order}
+use Rattle.curp_facts.specs.Facts.{Completable}
+use Rattle.curp_law_kept.proofs.Known.{Known}
+use Rattle.curp_law_line.specs.Line.{Line, ShowsAnswer, StandsIn, completed_order}
+use Rattle.curp_law_line.specs.OfWorld.{line_of}
+use Rattle.curp_law_line.proofs.Discharged.{pure, second}
+use Rattle.curp_law_line.proofs.Growing.{order_grows_on}
+use Rattle.curp_law_line.proofs.Histories.{order_stands, shows_done}
+use Rattle.curp_law_pairs.specs.Predecessors.{Predecessors}
+use Rattle.curp_law_routes.specs.Migrated.{Migrated}
+use Rattle.curp_law_linear.specs.Grows.{completed_in_order}
+use Rattle.curp_law_linear.specs.Ordered.{Ordered}
+use Rattle.curp_law_linear.specs.Refined.{Refines}
+use Rattle.curp_law_linear.proofs.Clients.{completable_done}
+
+-- the world's history is one
+pub history_of_world : {w : World} → Ordered w → IsHistory w.history
+history_of_world ordered = ordered.line.order.history
+
+-- the order that the world shows is one of its history
+pub order_of_world : {w : World} → Ordered w → IsOrder w.history (order w)
+order_of_world {w} ordered = order_stands (line_of w) ordered.line
+
+-- a reply, however late, has the answer that the order gives the request
+pub late_replies : {w : World} → Known w → Predecessors w → Migrated w → Ordered w → (part : ℕ) (id : RequestId) (a : Answer) → Completable w part id a → ShowsAnswer w.marks id a
+late_replies {w} known chain migrated ordered part id a can =
+    let d = completable_done known chain migrated ordered part id a can in
+    shows_done (line_of w) ordered.line d.0 d.1 id a d.2 d.3
+
+-- the completed requests of the order are those that the machine of the order has
+pub completed_of_world : (w : World) → completed_in_order w ≡ completed_order (line_of w)
+completed_of_world w = refl
+
+-- through a step that is moves of the machine they stay in their order
+pub order_grows : {w v : World} → Known w → Ordered w → Refines w v → StandsIn (completed_in_order w) (completed_in_order v)
+order_grows {w} {v} known ordered r =
+    subst (λ (s : Line). StandsIn (completed_order (line_of w)) (completed_order s)) r.leads
+    (order_grows_on pure second r.moves (line_of w) r.fit ordered.line)
