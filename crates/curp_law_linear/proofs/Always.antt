@@ -76,6 +76,14 @@ ordered_after {w} {v} ordered commands k = record {
   stored = k.reads.stored;
 }
 
+-- nothing has been done
+pub stay_keeps_order : {w : World} → Ordered w → KeepsOrder w w
+stay_keeps_order ordered = record {
+  refines = record { moves = []; fit = tt; leads = refl };
+  logs = ordered.logs;
+  reads = record { numbered_looks = ordered.numbered_looks; worths = ordered.worths; captures = ordered.captures; reached = ordered.reached; stored = ordered.stored };
+}
+
 -- ---- where no master moves
 
 module _ (w v : World) (manager : v.manager ≡ w.manager) (masters : v.masters ≡ w.masters) where

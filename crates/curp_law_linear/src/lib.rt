@@ -1,3 +1,48 @@
-//! The order that the world shows is one of the history, after every step of every script. There is no code here: a law is
-//! the contract of a function with nothing in it, and a caller has the law by the call.
+//! The order that the world shows is one of the history, after every step of every script: recoveries, replacements,
+//! migrations, collections, expiries and reads among its steps, superseded masters that go on, and steps that are refused.
+//! There is no code here: a law is the contract of a function with nothing in it, and a caller has the law by the call.
 #![tactic(auto)]
+
+ghost use Rattle.std.specs.Prelude.{◌≡◌, ℕ, List};
+ghost use Rattle.curp_cmd.specs.declared.command.Answer.{Answer};
+ghost use Rattle.curp_cmd.specs.declared.command.RequestId.{RequestId};
+ghost use Rattle.curp_facts.specs.Facts.{Completable};
+ghost use Rattle.curp_facts.specs.Kept.{Kept, ValuesMarked};
+ghost use Rattle.curp_facts.specs.Run.{IsRun, IsStep};
+ghost use Rattle.curp_law_line.specs.Line.{ShowsAnswer, StandsIn};
+ghost use Rattle.curp_law_linear.specs.Grows.{completed_in_order};
+ghost use Rattle.curp_model.specs.World.{order, step, world};
+ghost use Rattle.curp_msg.specs.declared.script.Header.{Header};
+ghost use Rattle.curp_msg.specs.declared.script.Step.{Step};
+ghost use Rattle.curp_order.specs.Order.{IsHistory, IsOrder};
+
+/// What clients saw is a history: a request is invoked at most once, and completes at most once, after that.
+pub fn history_stands()
+    ensures history { (h : Header) (steps : List Step) → IsRun h steps → IsHistory (world h steps).history }
+{}
+
+/// The order that the world shows is an order of the history: linearizability.
+pub fn order_stands()
+    ensures order { (h : Header) (steps : List Step) → IsRun h steps → IsOrder (world h steps).history (order (world h steps)) }
+{}
+
+/// What a client may still complete with, by messages under way, agrees with the order: each such update stands in it with
+/// that answer, and of each value that was sent the mark is kept, and one thread gives that value there.
+pub fn late_replies_agree()
+    ensures update { (h : Header) (steps : List Step) → IsRun h steps → (part : ℕ) (id : RequestId) (a : Answer)
+        → Completable (world h steps) part id a → ShowsAnswer (world h steps).marks id a }
+    ensures value { (h : Header) (steps : List Step) → IsRun h steps → ValuesMarked (world h steps) }
+{}
+
+/// The completed requests of the order before a step stand, in that order, among those after it.
+pub fn order_grows()
+    ensures grows { (h : Header) (steps : List Step) → IsRun h steps → (s : Step) → IsStep s
+        → StandsIn (completed_in_order (world h steps)) (completed_in_order (step (world h steps) s).world) }
+{}
+
+/// All that is kept: good pairs and the facts of logs and nodes; each hash is owned once or on its way; the stores of the
+/// partitions together are that of one thread over the order; each value and each capture that waits has its mark, or was
+/// passed by.
+pub fn kept_stands()
+    ensures kept { (h : Header) (steps : List Step) → IsRun h steps → Kept (world h steps) }
+{}
