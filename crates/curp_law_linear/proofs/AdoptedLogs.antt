@@ -1,5 +1,5 @@
 -- Each adopted master has a log: those of the opening serve from the beginning on, and others have recovered.
-use Rattle.std.proofs.Common.{◌≡◌, ◌≤◌, ◌<◌, ◌⊎◌, inl, inr, ℕ, zero, suc, ◌+◌, refl, ap, sym, subst, arith, Some}
+use Rattle.std.proofs.Common.{◌≡◌, ◌≤◌, ◌<◌, inl, inr, ℕ, zero, suc, ◌+◌, refl, ap, sym, subst, arith, Some}
 use Rattle.std.proofs.lemmas.Bool.{cases_lt}
 use Rattle.curp_base.specs.Words.{At, numbered, numbers_from}
 use Rattle.curp_base.proofs.Lists.{at_map}
@@ -11,7 +11,7 @@ use Rattle.curp_model.specs.Manager.{Shape}
 use Rattle.curp_model.specs.Master.{MasterState}
 use Rattle.curp_model.specs.Recovery.{Fresh, MasterStage, Recovering, Serving}
 use Rattle.curp_model.specs.World.{World, opening, opening_master, shape_of}
-use Rattle.curp_facts.specs.Facts.{HasLog, IsAdoptedNow, Logged, lists_of_part}
+use Rattle.curp_facts.specs.Facts.{HasLog, IsAdoptedNow, lists_of_part}
 use Rattle.curp_facts.specs.Growth.{Grows, LifeGrows}
 use Rattle.curp_facts.specs.Kept.{AdoptedLog, AdoptionOk}
 use Rattle.curp_law_kept.proofs.Known.{Known}
