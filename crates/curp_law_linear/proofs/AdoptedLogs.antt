@@ -1,5 +1,5 @@
 -- Each adopted master has a log: those of the opening serve from the beginning on, and others have recovered.
-use Rattle.std.proofs.Common.{◌≡◌, ◌≤◌, ◌<◌, ◌⊎◌, inl, inr, ℕ, zero, suc, ◌+◌, refl, ap, sym, subst, arith, Some}
+use Rattle.std.proofs.Common.{◌≡◌, ◌≤◌, ◌<◌, inl, inr, ℕ, zero, suc, ◌+◌, List, [], ◌∷◌, refl, ap, sym, subst, arith, Some}
 use Rattle.std.proofs.lemmas.Bool.{cases_lt}
 use Rattle.curp_base.specs.Words.{At, numbered, numbers_from}
 use Rattle.curp_base.proofs.Lists.{at_map}
@@ -7,13 +7,15 @@ use Rattle.curp_cmd.specs.Node.{master_node}
 use Rattle.curp_cmd.specs.declared.node.NodeId.{NodeId}
 use Rattle.curp_msg.specs.declared.config.PartConfig.{PartConfig}
 use Rattle.curp_msg.specs.declared.script.Header.{Header}
+use Rattle.curp_msg.specs.declared.script.Step.{Step}
 use Rattle.curp_model.specs.Manager.{Shape}
 use Rattle.curp_model.specs.Master.{MasterState}
 use Rattle.curp_model.specs.Recovery.{Fresh, MasterStage, Recovering, Serving}
-use Rattle.curp_model.specs.World.{World, opening, opening_master, shape_of}
-use Rattle.curp_facts.specs.Facts.{HasLog, IsAdoptedNow, Logged, lists_of_part}
+use Rattle.curp_model.specs.World.{World, opening, opening_master, run, shape_of, step, world}
+use Rattle.curp_facts.specs.Facts.{HasLog, IsAdoptedNow, lists_of_part}
 use Rattle.curp_facts.specs.Growth.{Grows, LifeGrows}
 use Rattle.curp_facts.specs.Kept.{AdoptedLog, AdoptionOk}
+use Rattle.curp_law_growth.proofs.Worlds.{step_grows}
 use Rattle.curp_law_kept.proofs.Known.{Known}
 use Rattle.curp_law_linear.specs.Serves.{OpeningServes}
 use Rattle.curp_law_names.specs.Names.{GivenOk, Top}
@@ -43,6 +45,14 @@ serves_later {w} {v} grows serves part one last =
     go m Fresh life is = absurd life
     go m (Recovering s) life is = absurd life
     go m (Serving k) life is = (k, is)
+
+serves_run : (steps : List Step) (w : World) → OpeningServes w → OpeningServes (run w steps)
+serves_run [] w serves = serves
+serves_run (s ∷ steps) w serves = serves_run steps (step w s).world (serves_later (step_grows w s) serves)
+
+-- so they serve in every world that scripts reach
+pub serves_all : (h : Header) (steps : List Step) → OpeningServes (world h steps)
+serves_all h steps = serves_run steps (opening h) (serves_opening h)
 
 module _ {w : World} (known : Known w) (chain : Predecessors w) (serves : OpeningServes w) where
   -- each adopted master has a log

@@ -1,5 +1,5 @@
 -- The stores of the partitions together have what one thread has.
-use Rattle.std.proofs.Common.{◌≡◌, ℕ, suc, ◌+◌, true, false, List, ◌∷◌, ◌++◌, take, drop, refl, ap, ap₂, sym, ◌∙◌, subst, arith, Option, Some, None}
+use Rattle.std.proofs.Common.{◌≡◌, ℕ, suc, true, List, take, drop, refl, ap, ap₂, ◌∙◌, subst, Some, None}
 use Rattle.std.specs.FinMap as store
 use Rattle.std.specs.List.{list_any}
 use Rattle.std.proofs.lemmas.Bool.{false_from_ne_true}
@@ -8,16 +8,15 @@ use Rattle.curp_base.proofs.Lists.{Each-at}
 use Rattle.curp_range.specs.Spans.{is_in, is_owned}
 use Rattle.curp_cmd.specs.Hash.{hash_of}
 use Rattle.curp_cmd.specs.declared.entry.Entry.{Entry}
-use Rattle.curp_cmd.specs.declared.entry.Entry.TheVariants.{Give, Take}
+use Rattle.curp_cmd.specs.declared.entry.Entry.TheVariants.{Take}
 use Rattle.curp_model.specs.Log.{meaning}
 use Rattle.curp_model.specs.Manager.{Migration}
 use Rattle.curp_model.specs.World.{World}
 use Rattle.curp_facts.specs.Entries.{EntryOk, LogOk}
 use Rattle.curp_facts.specs.Facts.{hi_of, lo_of}
-use Rattle.curp_facts.specs.Kept.{OnItsWay, OwnedByOne, StoresTogether}
+use Rattle.curp_facts.specs.Kept.{OnItsWay, StoresTogether}
 use Rattle.curp_law_kept.proofs.Known.{Known}
-use Rattle.curp_law_line.specs.Hashes.{Part, is_give, owns}
-use Rattle.curp_law_line.specs.Line.{Ungiven}
+use Rattle.curp_law_line.specs.Hashes.{is_give}
 use Rattle.curp_law_line.specs.Moves.{IsCarried}
 use Rattle.curp_law_line.specs.OfWorld.{line_of, moving_of, part_of}
 use Rattle.curp_law_line.proofs.Discharged.{pure}

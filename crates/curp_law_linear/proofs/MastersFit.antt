@@ -1,18 +1,18 @@
 -- Each entry that an adopted master pushes is a push that the machine can make.
-use Rattle.std.proofs.Common.{◌≡◌, inl, inr, ℕ, zero, suc, ◌+◌, ◌<◌, ◌≤◌, ◌==◌, ◌&&◌, ◌||◌, Bool, true, false, not, List, [], ◌∷◌, ◌++◌, map, flat_map, length, take, take-add, drop, add-one, refl, ap, ap₂, sym, ◌∙◌, subst, subst₂, arith, Some, None}
+use Rattle.std.proofs.Common.{◌≡◌, inl, inr, ℕ, zero, suc, ◌+◌, ◌<◌, ◌≤◌, ◌==◌, ◌||◌, Bool, true, false, List, [], ◌∷◌, ◌++◌, map, flat_map, length, take, drop, refl, ap, ap₂, sym, ◌∙◌, subst, subst₂, arith, Some, None}
 use Rattle.std.specs.List.{list_any}
 use Rattle.std.proofs.lemmas.Bool.{and_parts, false_from_ne_true}
 use Rattle.std.proofs.lemmas.Bool.Decides.{nat_tests}
 use Rattle.curp_base.specs.Words.{At, IsPrefix, numbered}
-use Rattle.curp_base.proofs.Lists.{Each-at, at_append, at_append_right, at_drop, at_take, at_within, prefix_length}
-use Rattle.curp_range.specs.Spans.{Span, is_covered, is_in, is_owned}
+use Rattle.curp_base.proofs.Lists.{Each-at, at_append, at_append_right, at_within, prefix_length}
+use Rattle.curp_range.specs.Spans.{is_covered, is_in}
 use Rattle.curp_cmd.specs.Hash.{hash_of, touches}
 use Rattle.curp_cmd.specs.Node.{manager_node}
 use Rattle.curp_cmd.specs.Store.{keys_of}
 use Rattle.curp_cmd.specs.declared.command.Command.{Command}
 use Rattle.curp_cmd.specs.declared.command.Request.{Request}
 use Rattle.curp_cmd.specs.declared.entry.Entry.{Entry}
-use Rattle.curp_cmd.specs.declared.entry.Entry.TheVariants.{Op, Take, Give, Expire}
+use Rattle.curp_cmd.specs.declared.entry.Entry.TheVariants.{Op, Take, Give}
 use Rattle.curp_cmd.specs.declared.migration.Package.{Package}
 use Rattle.curp_cmd.specs.declared.node.NodeId.{NodeId}
 use Rattle.curp_msg.specs.Moved.{says}
@@ -20,7 +20,7 @@ use Rattle.curp_msg.specs.declared.body.Body.TheVariants as body
 use Rattle.curp_msg.specs.declared.body.Parcel.{Parcel}
 use Rattle.curp_msg.specs.declared.config.PartConfig.{PartConfig}
 use Rattle.curp_msg.specs.declared.message.Message.{Message}
-use Rattle.curp_model.specs.Log.{IsLog, LogState, entry_touches, fits_at, is_new, meaning, package_eq, package_of}
+use Rattle.curp_model.specs.Log.{IsLog, LogState, fits_at, is_new, meaning, package_eq, package_of}
 use Rattle.curp_model.specs.Manager.{Migration}
 use Rattle.curp_model.specs.Marks.{Mark}
 use Rattle.curp_model.specs.Table.{check}
@@ -39,15 +39,12 @@ use Rattle.curp_law_line.proofs.Lists.{take_split}
 use Rattle.curp_law_line.proofs.Numbered.{any_at}
 use Rattle.curp_law_linear.specs.Ordered.{Ordered, moved_number}
 use Rattle.curp_law_linear.proofs.MastersLog.{here_at, line_at, part_at, part_cases, part_other}
-use Rattle.curp_law_linear.proofs.MastersRise.{Brought, adopted_ok, brought, found_give, found_take, give_given, new_rise, new_take, standing, take_given, take_of_work, ungiven, untaken}
+use Rattle.curp_law_linear.proofs.MastersRise.{Brought, adopted_ok, brought, found_give, found_take, new_rise, new_take, standing, take_of_work, ungiven, untaken}
 use Rattle.curp_law_linear.proofs.Parts.{entry_part, part_log}
-use Rattle.curp_law_logs.specs.Migrations.{MovesNothing, give_number, take_number}
-use Rattle.curp_law_logs.proofs.LogValues.{untouched}
-use Rattle.curp_law_logs.proofs.Logs.{log_back, op_owned, take_one}
-use Rattle.curp_law_logs.proofs.Migrations.{owned_more}
-use Rattle.curp_law_logs.proofs.Packages.{package_same, package_self, take_covered, take_package}
-use Rattle.curp_law_logs.proofs.Ranges.{covered_owns, owns_touched}
-use Rattle.curp_law_logs.proofs.Taken.{owned_taken}
+use Rattle.curp_law_linear.proofs.TakenRanges.{covered_before, quiet_behind}
+use Rattle.curp_law_logs.proofs.Logs.{log_back}
+use Rattle.curp_law_logs.proofs.Packages.{package_same, package_self, take_package}
+use Rattle.curp_law_logs.proofs.Ranges.{owns_touched}
 use Rattle.curp_law_pairs.specs.Predecessors.{Predecessors}
 use Rattle.curp_law_routes.specs.Migrated.{Migrated, TakeStored}
 use Rattle.curp_law_routes.specs.Routes.{Routes}
@@ -240,58 +237,9 @@ module _ {w : World} (known : Known w) (chain : Predecessors w) (routes : Routes
                   once number (Give number given) is refl g.0 (Give number g.1) there refl
             ]
 
-    -- no take and no give stands behind the take of the migration in work
-    later : (j n : ℕ) (x : Entry) → s.index < j → At taken_from j x → moved_number x ≡ Some n → n < w.manager.next.migration → ⊥
-    later j n x low here moves low_number =
-        let rise : number < n = (ordered.logs s.source s.its).rise s.index j number n (Take number given) x low s.stands here refl moves in
-        omega (arith, rise, low_number, (routes.in_work b.m b.is).last, b.its_number)
-
-    moves_not : (j : ℕ) (x : Entry) → s.index < j → At taken_from j x → (take_number x ≡ None) × (give_number x ≡ None)
-    moves_not j (Op r a) low here = (refl, refl)
-    moves_not j (Expire client) low here = (refl, refl)
-    moves_not j (Take n taken) low here = absurd (later j n (Take n taken) low here refl (take_given known chain routes migrated ordered s.source.part n taken (Each-at (EntryOk w s.source.part) taken_from from_ok.entries j (Take n taken) here)).1)
-    moves_not j (Give n other) low here = absurd (later j n (Give n other) low here refl (give_given known chain routes migrated ordered s.source.part n other (Each-at (EntryOk w s.source.part) taken_from from_ok.entries j (Give n other) here)).1)
-
-    -- so its range isn't owned there
-    gone : (h j : ℕ) → is_in given.lo given.hi h ≡ true → is_owned (meaning (lo_of w s.source.part) (hi_of w s.source.part) (take (suc s.index + j) taken_from)).owned h ≡ false
-    gone h j inside =
-        ap (λ (es : List Entry). is_owned (meaning slo shi es).owned h) (take-add (suc s.index) j taken_from)
-        ∙ ap (λ (spans : List Span). is_owned spans h) (owned_more slo shi (take (suc s.index) taken_from) (take j (drop (suc s.index) taken_from)) still)
-        ∙ ap (λ (es : List Entry). is_owned (meaning slo shi es).owned h) (ap (λ (n : ℕ). take n taken_from) (sym (add-one s.index)) ∙ take_one taken_from s.index (Take number given) s.stands)
-        ∙ owned_taken slo shi (take s.index taken_from) number given h
-        ∙ (ap (λ (x : Bool). is_owned (meaning slo shi (take s.index taken_from)).owned h && not x) inside ∙ never (is_owned (meaning slo shi (take s.index taken_from)).owned h))
-      where
-        slo : ℕ
-        slo = lo_of w s.source.part
-
-        shi : ℕ
-        shi = hi_of w s.source.part
-
-        never : (x : Bool) → (x && false) ≡ false
-        never true = refl
-        never false = refl
-
-        still : MovesNothing (take j (drop (suc s.index) taken_from))
-        still k e here =
-            let t = at_take j (drop (suc s.index) taken_from) k e here in
-            let d = at_drop (suc s.index) taken_from k e t.1 in
-            moves_not d.0 e (omega (arith, d.1)) d.2
-
-    -- and nothing there touches it
-    untouched_behind : (h j : ℕ) (x : Entry) → is_in given.lo given.hi h ≡ true → At (drop (suc s.index) taken_from) j x → entry_touches x h ≡ true → ⊥
-    untouched_behind h j x inside here touched = go x (subst (λ (n : ℕ). At taken_from n x) d.1 d.2) touched
-      where
-        d : (i : ℕ) × (i ≡ suc s.index + j) × At taken_from i x
-        d = at_drop (suc s.index) taken_from j x here
-
-        go : (x : Entry) → At taken_from (suc s.index + j) x → entry_touches x h ≡ true → ⊥
-        go (Op r a) there yes_touched =
-            let owned = op_owned (lo_of w s.source.part) (hi_of w s.source.part) taken_from (suc s.index + j) r a from_ok.is_log there in
-            let not_touched = untouched (meaning (lo_of w s.source.part) (hi_of w s.source.part) (take (suc s.index + j) taken_from)) r h owned (gone h j inside) in
-            cc (not_touched, yes_touched)
-        go (Expire client) there yes_touched = absurd cc
-        go (Take n taken) there yes_touched = let m = moves_not (suc s.index + j) (Take n taken) (omega arith) there in cc (m.0)
-        go (Give n other) there yes_touched = let m = moves_not (suc s.index + j) (Give n other) (omega arith) there in cc (m.1)
+    -- it has the last number of all
+    last : number + 1 ≡ w.manager.next.migration
+    last = ap (λ (n : ℕ). n + 1) (sym b.its_number) ∙ (routes.in_work b.m b.is).last
 
     way : IsCarried (line_at known chain routes migrated ordered c l new front ok log marks).parts (at_work b.m) given
     way = record {
@@ -306,10 +254,8 @@ module _ {w : World} (known : Known w) (chain : Predecessors w) (routes : Routes
       lo = b.of.lo;
       hi = b.of.hi;
       its_package = take_package (lo_of w s.source.part) (hi_of w s.source.part) taken_from s.index number given from_ok.is_log s.stands;
-      covered = λ h inside. covered_owns (meaning (lo_of w s.source.part) (hi_of w s.source.part) (take s.index taken_from)).owned given.lo given.hi h
-          (take_covered (lo_of w s.source.part) (hi_of w s.source.part) taken_from s.index number given from_ok.is_log s.stands) (within h inside);
-      quiet = λ h inside. false_from_ne_true (list_any (λ (e : Entry). entry_touches e h) (drop (suc s.index) taken_from)) (λ found.
-          let a = any_at (λ (e : Entry). entry_touches e h) (drop (suc s.index) taken_from) found in untouched_behind h a.0 a.1 (within h inside) a.2 a.3);
+      covered = λ h inside. covered_before known chain routes migrated ordered s.source s.its s.index number given s.stands last h (within h inside);
+      quiet = λ h inside. quiet_behind known chain routes migrated ordered s.source s.its s.index number given s.stands last h (within h inside);
       ungiven = subst (Ungiven (line_at known chain routes migrated ordered c l new front ok log marks).parts) (sym b.its_number) give_ungiven;
     }
       where

@@ -56,14 +56,14 @@ at_any p (y ∷ xs) (suc k) x at passes = go (p y) (at_any p xs k x at passes)
     go false e = e
 
 -- the take that a test finds
-take_is : (number : ℕ) (e : Entry) → is_take number e ≡ true → (taken : Package) × (e ≡ Take number taken)
+pub take_is : (number : ℕ) (e : Entry) → is_take number e ≡ true → (taken : Package) × (e ≡ Take number taken)
 take_is number (Op r a) h = absurd cc
 take_is number (Take m taken) h = let same : m ≡ number = grind (arith, nat_tests) in (taken, ap (λ (n : ℕ). Take n taken) same)
 take_is number (Give m given) h = absurd cc
 take_is number (Expire client) h = absurd cc
 
 -- and the give
-give_is : (number : ℕ) (e : Entry) → is_give number e ≡ true → (given : Package) × (e ≡ Give number given)
+pub give_is : (number : ℕ) (e : Entry) → is_give number e ≡ true → (given : Package) × (e ≡ Give number given)
 give_is number (Op r a) h = absurd cc
 give_is number (Take m taken) h = absurd cc
 give_is number (Give m given) h = let same : m ≡ number = grind (arith, nat_tests) in (given, ap (λ (n : ℕ). Give n given) same)

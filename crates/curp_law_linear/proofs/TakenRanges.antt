@@ -1,8 +1,8 @@
 -- The range of the migration in work, behind its take: nothing owns or touches it in the source's log.
-use Rattle.std.proofs.Common.{◌≡◌, ℕ, suc, ◌+◌, ◌<◌, ◌&&◌, Bool, true, false, not, List, [], ◌∷◌, take, take-add, drop, add-one, refl, ap, sym, ◌∙◌, subst, arith, Some, None}
+use Rattle.std.proofs.Common.{◌≡◌, ℕ, suc, ◌+◌, ◌<◌, ◌&&◌, Bool, true, false, not, List, take, take-add, drop, add-one, refl, ap, sym, ◌∙◌, subst, arith, Some, None}
 use Rattle.std.specs.List.{list_any}
 use Rattle.std.proofs.lemmas.Bool.{false_from_ne_true}
-use Rattle.curp_base.specs.Words.{At, numbered}
+use Rattle.curp_base.specs.Words.{At}
 use Rattle.curp_base.proofs.Lists.{Each-at, at_drop, at_take}
 use Rattle.curp_range.specs.Spans.{Span, is_in, is_owned}
 use Rattle.curp_cmd.specs.declared.entry.Entry.{Entry}
@@ -10,26 +10,19 @@ use Rattle.curp_cmd.specs.declared.entry.Entry.TheVariants.{Op, Take, Give, Expi
 use Rattle.curp_cmd.specs.declared.migration.Package.{Package}
 use Rattle.curp_msg.specs.declared.config.PartConfig.{PartConfig}
 use Rattle.curp_model.specs.Log.{entry_touches, meaning}
-use Rattle.curp_model.specs.Manager.{Migration}
 use Rattle.curp_model.specs.World.{World}
 use Rattle.curp_facts.specs.Entries.{EntryOk, LogOk}
-use Rattle.curp_facts.specs.Facts.{IsAmong, hi_of, lo_of}
-use Rattle.curp_facts.specs.Kept.{AdoptedLog, OnItsWay}
+use Rattle.curp_facts.specs.Facts.{hi_of, lo_of}
+use Rattle.curp_facts.specs.Kept.{AdoptedLog}
 use Rattle.curp_law_kept.proofs.Known.{Known}
-use Rattle.curp_law_line.specs.Hashes.{is_give}
-use Rattle.curp_law_line.specs.Line.{Ungiven}
-use Rattle.curp_law_line.specs.Moves.{IsCarried}
-use Rattle.curp_law_line.specs.OfWorld.{line_of, part_of}
-use Rattle.curp_law_line.proofs.Lists.{take_split}
 use Rattle.curp_law_line.proofs.Numbered.{any_at}
 use Rattle.curp_law_linear.specs.Ordered.{Ordered, moved_number}
-use Rattle.curp_law_linear.proofs.MastersRise.{TakeOfWork, adopted_ok, give_given, give_is, standing, take_given, take_of_work}
-use Rattle.curp_law_linear.proofs.Parts.{entry_part, part_log}
+use Rattle.curp_law_linear.proofs.MastersRise.{adopted_ok, give_given, take_given}
 use Rattle.curp_law_logs.specs.Migrations.{MovesNothing, give_number, take_number}
 use Rattle.curp_law_logs.proofs.LogValues.{untouched}
 use Rattle.curp_law_logs.proofs.Logs.{op_owned, take_one}
 use Rattle.curp_law_logs.proofs.Migrations.{owned_more}
-use Rattle.curp_law_logs.proofs.Packages.{take_covered, take_package}
+use Rattle.curp_law_logs.proofs.Packages.{take_covered}
 use Rattle.curp_law_logs.proofs.Ranges.{covered_owns}
 use Rattle.curp_law_logs.proofs.Taken.{owned_taken}
 use Rattle.curp_law_pairs.specs.Predecessors.{Predecessors}
