@@ -12,7 +12,7 @@ use Rattle.curp_law_line.specs.Moves.{GivenDone, Migrates}
 use Rattle.curp_law_line.specs.OfWorld.{line_of, moving_of}
 use Rattle.curp_law_line.proofs.Given.{LogsOk}
 use Rattle.curp_law_linear.specs.Ordered.{Ordered}
-use Rattle.curp_law_linear.specs.Refined.{Refines}
+use Rattle.curp_law_linear.specs.Refined.{RefinesQuiet}
 use Rattle.curp_law_linear.proofs.ManagersDeeds.{Begins, Ends, KeepsSeats, Leads, Rests}
 use Rattle.curp_law_linear.proofs.ManagersLine.{same_seats, same_told, tells_none}
 use Rattle.curp_law_linear.proofs.ManagersMoves.{given_fits, migrate_fits}
@@ -69,19 +69,25 @@ module _ {w : World} (known : Known w) (chain : Predecessors w) (routes : Routes
     steady_line seats moving same = moved_line None events none r does names (line_of w).parts (same_seats w v r.state.next.master later.shape refl seats) moving same
 
     -- an input that adopts no recovery
-    pub steady_refines : Leads w r.state None → Refines w v
-    steady_refines (Rests seats same) = record { moves = []; fit = tt; leads = sym (steady_line seats (line_of w).moving same) }
+    pub steady_refines : Leads w r.state None → RefinesQuiet w v
+    steady_refines (Rests seats same) = record { its = record { moves = []; fit = tt; leads = sym (steady_line seats (line_of w).moving same) }; quiet = tt }
     steady_refines (Begins m seats free its number fresh) =
         let k : Migration = record m { moved = None } in
         record {
-          moves = Migrates k ∷ [];
-          fit = (migrate_fits known routes k free number (after.in_work m its).apart, logs, tt);
-          leads = sym (steady_line seats (Some k) (ap moving_of its));
+          its = record {
+            moves = Migrates k ∷ [];
+            fit = (migrate_fits known routes k free number (after.in_work m its).apart, logs, tt);
+            leads = sym (steady_line seats (Some k) (ap moving_of its));
+          };
+          quiet = (tt, tt);
         }
     steady_refines (Ends m seats its done from sent) =
         let k : Migration = record m { moved = None } in
         record {
-          moves = GivenDone k ∷ [];
-          fit = (given_fits known routes chain migrated m its from sent k refl, logs, tt);
-          leads = sym (steady_line seats None (ap moving_of done));
+          its = record {
+            moves = GivenDone k ∷ [];
+            fit = (given_fits known routes chain migrated m its from sent k refl, logs, tt);
+            leads = sym (steady_line seats None (ap moving_of done));
+          };
+          quiet = (tt, tt);
         }

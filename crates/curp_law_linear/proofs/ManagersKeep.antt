@@ -1,0 +1,47 @@
+-- An input to the manager keeps what is kept of the order.
+use Rattle.std.proofs.Common.{◌≡◌, List, [], refl, subst, Option, Some, None}
+use Rattle.curp_cmd.specs.Node.{manager_node}
+use Rattle.curp_msg.specs.declared.machine.Input.{Input}
+use Rattle.curp_order.specs.declared.Event.{Event}
+use Rattle.curp_model.specs.Manager.{Attempted, adoption, manager_input}
+use Rattle.curp_model.specs.World.{World}
+use Rattle.curp_facts.specs.Growth.{Grows}
+use Rattle.curp_law_growth.specs.Deeds.{IsFor}
+use Rattle.curp_law_kept.proofs.Known.{Known}
+use Rattle.curp_law_kept.proofs.ManagersDo.{manager_does}
+use Rattle.curp_law_kept.proofs.ManagersReady.{manager_follows}
+use Rattle.curp_law_linear.specs.Ordered.{Ordered}
+use Rattle.curp_law_linear.specs.Refined.{Refines}
+use Rattle.curp_law_linear.proofs.Always.{KeepsOrder}
+use Rattle.curp_law_linear.proofs.ManagersLogs.{manager_logs}
+use Rattle.curp_law_linear.proofs.ManagersRefine.{AdoptsOnly, ManagerRefines, manager_refines}
+use Rattle.curp_law_linear.proofs.ReadsAdoption.{adoption_step_reads}
+use Rattle.curp_law_linear.proofs.ReadsLater.{ReadsOk}
+use Rattle.curp_law_linear.proofs.ReadsManagerSteps.{manager_step_reads}
+use Rattle.curp_law_names.proofs.Later.{Later}
+use Rattle.curp_law_names.proofs.Steps.{manager_moved, moved_messages}
+use Rattle.curp_law_pairs.specs.Predecessors.{Predecessors}
+use Rattle.curp_law_routes.specs.Migrated.{Migrated}
+use Rattle.curp_law_routes.specs.Routes.{Routes}
+use Rattle.curp_law_stays.proofs.Words.{Follows}
+
+module _ {w : World} (known : Known w) (chain : Predecessors w) (routes : Routes w) (migrated : Migrated w) (ordered : Ordered w)
+    (events : List Event) (none : events ≡ []) (given : Input) (for : IsFor w manager_node given) where
+  abbrev v : World
+  v = manager_moved w (adoption w.manager given) events (manager_input w.manager given)
+
+  pub manager_keeps_order : Grows w v → Later w v → Known v → Predecessors v → Routes v → KeepsOrder w v
+  manager_keeps_order grows later now chain_now routes_now =
+      let r : ManagerRefines w v (adoption w.manager given) = manager_refines known chain routes migrated ordered events none given for now.names later routes_now in
+      record {
+        refines = r.its;
+        logs = manager_logs known chain routes migrated ordered events none given for now.names later;
+        reads = reads r.its (adoption w.manager given) refl r.adopts;
+      }
+    where
+      follows : Follows w v
+      follows = manager_follows known now.names later (manager_input w.manager given).messages (moved_messages w (adoption w.manager given) events (manager_input w.manager given)) (manager_does known given for).messages grows
+
+      reads : (r : Refines w v) (o : Option Attempted) → adoption w.manager given ≡ o → AdoptsOnly w o r.moves → ReadsOk v
+      reads r None is quiet = manager_step_reads known given (adoption w.manager given) events now chain chain_now ordered follows for is is r quiet
+      reads r (Some a) is adopts = adoption_step_reads known given (adoption w.manager given) events a for is now chain chain_now ordered follows is r adopts
