@@ -1,0 +1,8 @@
+use Rattle.curp_law_linear.proofs.Laws.{late_all, values_all}
+use Rattle.curp_law_linear.proofs.late_replies_agree.Goals as goal
+
+pub returns : goal.returns
+returns c = record {
+  update = λ h steps is part id a can. late_all h steps is part id a can;
+  value = λ h steps is. values_all h steps is;
+}
