@@ -1,8 +1,7 @@
 -- What is kept of the order stays in every step.
-use Rattle.std.proofs.Common.{◌≡◌, ◌≢◌, ℕ, ◌++◌, if◌then◌else◌, List, [], append-nil, refl, ap, sym, ◌∙◌, subst, Option, Some, None}
-use Rattle.std.specs.Bool.{⊤}
-use Rattle.curp_base.specs.Words.{At, Each, numbered}
-use Rattle.curp_cmd.specs.Node.{backup_node, client_node, manager_node, master_node, witness_node}
+use Rattle.std.proofs.Common.{◌≡◌, ◌≢◌, ℕ, ◌++◌, if◌then◌else◌, List, [], refl, ap, sym, ◌∙◌, subst, Option, Some, None}
+use Rattle.curp_base.specs.Words.{numbered}
+use Rattle.curp_cmd.specs.Node.{backup_node, client_node, master_node, witness_node}
 use Rattle.curp_cmd.specs.declared.node.NodeId.{NodeId}
 use Rattle.curp_cmd.specs.declared.node.NodeKind.TheVariants as kind
 use Rattle.curp_msg.specs.Moved.{within}
@@ -18,7 +17,7 @@ use Rattle.curp_model.specs.Marks.{Mark}
 use Rattle.curp_model.specs.Ranges.{opening_range}
 use Rattle.curp_model.specs.Recovery.{MasterStage, master_input}
 use Rattle.curp_model.specs.Witness.{WitnessState, witness_input}
-use Rattle.curp_model.specs.World.{World, completion, invocation_of, is_adopted, kept, master_marks, messages, with_backup, with_client, with_completion, with_witness}
+use Rattle.curp_model.specs.World.{World, invocation_of, is_adopted, kept, master_marks, messages, with_backup, with_client, with_completion, with_witness}
 use Rattle.curp_facts.specs.Growth.{Grows}
 use Rattle.curp_facts.specs.Kept.{AdoptedLog}
 use Rattle.curp_law_growth.specs.Deeds.{IsFor}
@@ -55,7 +54,6 @@ use Rattle.curp_law_names.proofs.Lists.{all_of-kept}
 use Rattle.curp_law_pairs.specs.Predecessors.{Predecessors}
 use Rattle.curp_law_routes.specs.Migrated.{Migrated}
 use Rattle.curp_law_routes.specs.Routes.{Routes}
-use Rattle.curp_law_stays.proofs.Words.{Follows}
 
 -- what a step owes, but for the commands
 pub record KeepsOrder (w v : World) : Type 0 where

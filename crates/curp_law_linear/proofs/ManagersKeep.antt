@@ -1,5 +1,5 @@
 -- An input to the manager keeps what is kept of the order.
-use Rattle.std.proofs.Common.{◌≡◌, List, [], refl, subst, Option, Some, None}
+use Rattle.std.proofs.Common.{◌≡◌, List, [], refl, Option, Some, None}
 use Rattle.curp_cmd.specs.Node.{manager_node}
 use Rattle.curp_msg.specs.declared.machine.Input.{Input}
 use Rattle.curp_order.specs.declared.Event.{Event}

@@ -7,7 +7,7 @@ use Rattle.curp_msg.specs.declared.machine.Input.{Input}
 use Rattle.curp_order.specs.declared.Event.{Event}
 use Rattle.curp_msg.specs.declared.config.PartConfig.{PartConfig}
 use Rattle.curp_model.specs.Manager.{Attempted, ManagerState, adoption, manager_input}
-use Rattle.curp_model.specs.Recovery.{MasterStage, Recovering, RecoveryState, Replayed, Waiting}
+use Rattle.curp_model.specs.Recovery.{Recovering, RecoveryState, Replayed, Waiting}
 use Rattle.curp_model.specs.World.{World}
 use Rattle.curp_law_growth.specs.Deeds.{IsFor}
 use Rattle.curp_law_kept.specs.ManagerEffect.{ManagerEffect}

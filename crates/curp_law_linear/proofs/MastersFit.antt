@@ -36,7 +36,6 @@ use Rattle.curp_law_line.specs.Line.{Ungiven}
 use Rattle.curp_law_line.specs.Moves.{IsCarried, PushExpire, PushExpireFits, PushGive, PushGiveFits, PushOp, PushOpFits, PushTake, PushTakeFits, taken_by}
 use Rattle.curp_law_line.specs.OfWorld.{line_of, moving_of, part_of, told_by}
 use Rattle.curp_law_line.proofs.Lists.{take_split}
-use Rattle.curp_law_line.proofs.Numbered.{any_at}
 use Rattle.curp_law_linear.specs.Ordered.{Ordered, moved_number}
 use Rattle.curp_law_linear.proofs.MastersLog.{here_at, line_at, part_at, part_cases, part_other}
 use Rattle.curp_law_linear.proofs.MastersRise.{Brought, adopted_ok, brought, found_give, found_take, new_rise, new_take, standing, take_of_work, ungiven, untaken}

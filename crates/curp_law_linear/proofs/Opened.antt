@@ -1,8 +1,6 @@
 -- What is kept of the order holds at the opening.
-use Rattle.std.proofs.Common.{◌≡◌, ℕ, ◌≤◌, ◌^◌, List, [], refl, ap, sym, ◌∙◌, subst, arith, Option, Some}
-use Rattle.std.specs.Bool.{⊤}
-use Rattle.curp_base.specs.Words.{At, Each, numbered, numbers_from}
-use Rattle.curp_cmd.specs.declared.entry.Entry.{Entry}
+use Rattle.std.proofs.Common.{◌≡◌, ℕ, ◌≤◌, ◌^◌, List, [], ap, ◌∙◌, subst, arith, Some}
+use Rattle.curp_base.specs.Words.{Each, numbers_from}
 use Rattle.curp_cmd.specs.declared.node.NodeId.{NodeId}
 use Rattle.curp_msg.specs.declared.config.PartConfig.{PartConfig}
 use Rattle.curp_msg.specs.declared.script.Header.{Header}
@@ -10,7 +8,7 @@ use Rattle.curp_model.specs.Log.{log_opening}
 use Rattle.curp_model.specs.Master.{Captured, MasterState}
 use Rattle.curp_model.specs.Named.{IsMaster}
 use Rattle.curp_model.specs.Recovery.{MasterStage, Serving}
-use Rattle.curp_model.specs.World.{World, opening, opening_master, shape_of}
+use Rattle.curp_model.specs.World.{opening, opening_master, shape_of}
 use Rattle.curp_facts.specs.Facts.{HasLog, Logged, hi_of, lo_of, node_log}
 use Rattle.curp_facts.specs.Kept.{AdoptedLog}
 use Rattle.curp_facts.specs.Run.{IsHeader}

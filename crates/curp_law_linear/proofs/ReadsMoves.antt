@@ -1,6 +1,5 @@
 -- A look gives what it gave, through moves of which none drops it.
 use Rattle.std.proofs.Common.{◌≡◌, inl, inr, ℕ, List, [], ◌∷◌, refl, subst}
-use Rattle.std.specs.Bool.{⊤}
 use Rattle.curp_base.specs.Words.{Each}
 use Rattle.curp_cmd.specs.declared.command.Answer.{Answer}
 use Rattle.curp_cmd.specs.declared.command.RequestId.{RequestId}
