@@ -40,7 +40,7 @@ use Rattle.curp_law_linear.proofs.AdoptHeld.{held_apart, held_update}
 use Rattle.curp_law_linear.proofs.AdoptMigrations.{adopted_at, goes_at, one_entry, stored_stays}
 use Rattle.curp_law_linear.proofs.AdoptRecovery.{Recovery}
 use Rattle.curp_law_linear.proofs.Clients.{answered_log}
-use Rattle.curp_law_linear.proofs.ManagersMoves.{adopted_entry, entry_here, none_any, told_adopted}
+use Rattle.curp_law_linear.proofs.ManagersMoves.{adopted_entry, entry_here, told_adopted}
 use Rattle.curp_law_linear.proofs.Parts.{entry_part, part_log}
 use Rattle.curp_law_names.specs.Names.{Top}
 use Rattle.curp_law_pairs.specs.Predecessors.{Predecessors}
@@ -52,6 +52,7 @@ use Rattle.curp_law_pairs.proofs.Witnessed.{early}
 use Rattle.curp_law_pairs.proofs.Words.{one_log}
 use Rattle.curp_law_routes.specs.Migrated.{AllStored, Migrated, OpStored}
 use Rattle.curp_law_routes.specs.Routes.{Routes}
+use Rattle.curp_law_linear.proofs.Found.{none_any}
 
 -- the op at the place of a list of ops
 op_request : (rs : List Request) (j : ℕ) (q : Request) (acknowledged : ℕ) → At (ops rs) j (Op q acknowledged) → At rs j q

@@ -2,7 +2,6 @@
 use Rattle.std.proofs.Common.{◌≡◌, inl, inr, ℕ, zero, suc, ◌+◌, ◌≤◌, Bool, true, false, List, [], ◌∷◌, ◌++◌, flat_map, length, take, refl, ap, sym, ◌∙◌, subst, arith, Some, None}
 use Rattle.std.specs.List.{list_any}
 use Rattle.std.proofs.Math.Seq.{take-append-add}
-use Rattle.std.proofs.lemmas.Bool.{eqb-true}
 use Rattle.curp_range.specs.Spans.{is_owned}
 use Rattle.curp_base.specs.Words.{At, IsPrefix, numbered}
 use Rattle.curp_base.proofs.Lists.{at_append_cases, at_append_right, at_one, at_take, prefix_back}
@@ -35,12 +34,13 @@ use Rattle.curp_law_logs.specs.Gives.{GiveFits, GivesFit}
 use Rattle.curp_law_logs.specs.Hashes.{gives}
 use Rattle.curp_law_linear.specs.Ordered.{Ordered}
 use Rattle.curp_law_linear.proofs.AdoptRecovery.{Recovery}
-use Rattle.curp_law_linear.proofs.ManagersMoves.{adopted_entry, adopted_ok, at_any, none_any, self_number}
+use Rattle.curp_law_linear.proofs.ManagersMoves.{adopted_entry, adopted_ok, self_number}
 use Rattle.curp_law_linear.proofs.Parts.{adopted_or_none, part_entry, part_log}
 use Rattle.curp_law_names.specs.Names.{IsOf}
 use Rattle.curp_law_pairs.proofs.Words.{one_log}
 use Rattle.curp_law_routes.specs.Migrated.{AllStored, Migrated, OnlyInWork, TakeStored}
 use Rattle.curp_law_routes.specs.Routes.{Routes, order_of}
+use Rattle.curp_law_linear.proofs.Found.{at_any, give_is, none_any, take_is}
 
 -- ---- words
 
@@ -63,25 +63,6 @@ among_flat f (x ∷ xs) k y at = elim (at_append_cases (f x) (flat_map f xs) k y
   | inl here ↦ (0, x, refl, record { place = k; stands = here })
   | inr there ↦ let o = among_flat f xs there.0 y there.2 in (suc o.0, o.1, o.2, o.3)
 ]
-
--- the take, or the give, of a migration
-abbrev IsTake : ℕ → Entry → Type 0
-IsTake number e = (taken : Package) × (e ≡ Take number taken)
-
-abbrev IsGive : ℕ → Entry → Type 0
-IsGive number e = (brought : Package) × (e ≡ Give number brought)
-
-take_is : (number : ℕ) (e : Entry) → is_take number e ≡ true → IsTake number e
-take_is number (Op r acknowledged) is = absurd cc
-take_is number (Take migration taken) is = (taken, ap (λ (n : ℕ). Take n taken) (eqb-true migration number is))
-take_is number (Give migration given) is = absurd cc
-take_is number (Expire client) is = absurd cc
-
-give_is : (number : ℕ) (e : Entry) → is_give number e ≡ true → IsGive number e
-give_is number (Op r acknowledged) is = absurd cc
-give_is number (Take migration taken) is = absurd cc
-give_is number (Give migration given) is = (given, ap (λ (n : ℕ). Give n given) (eqb-true migration number is))
-give_is number (Expire client) is = absurd cc
 
 nothing : {A : Type 0} (k : ℕ) (x : A) → At {A = A} [] k x → ⊥
 nothing k x at = cc
@@ -153,7 +134,7 @@ module _ {w : World} (known : Known w) where
               let rise = (adopted_ok known c l).takes t.index (length o.b.log + k) number number brought taken (omega (arith, low)) there at in
               omega (arith, rise)
 
-          none : (n : ℕ) (q : Part) → numbered (line_of w).parts n ≡ Some q → (i : ℕ) (e : Entry) → At q.log i e → IsGive number e → ⊥
+          none : (n : ℕ) (q : Part) → numbered (line_of w).parts n ≡ Some q → (i : ℕ) (e : Entry) → At q.log i e → (brought : Package) × (e ≡ Give number brought) → ⊥
           none n q here i e stands is =
               let d = part_entry known n q here in
               let there : At (part_of w d.0).log i (Give number is.0) = subst (At (part_of w d.0).log i) is.1 (subst (λ (x : Part). At x.log i e) d.3 stands) in

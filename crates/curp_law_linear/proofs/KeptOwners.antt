@@ -27,7 +27,7 @@ use Rattle.curp_law_linear.specs.Ordered.{Ordered, moved_number}
 use Rattle.curp_law_linear.specs.Serves.{OpeningServes}
 use Rattle.curp_law_linear.proofs.AdoptMigrations.{moving_give, moving_take}
 use Rattle.curp_law_linear.proofs.AdoptedLogs.{adopted_log}
-use Rattle.curp_law_linear.proofs.MastersRise.{adopted_ok, give_is, take_given}
+use Rattle.curp_law_linear.proofs.MastersRise.{adopted_ok, take_given}
 use Rattle.curp_law_linear.proofs.ManagersMoves.{self_number}
 use Rattle.curp_law_linear.proofs.OpeningOwners.{opening_owner}
 use Rattle.curp_law_linear.proofs.Parts.{entry_part, part_log}
@@ -38,6 +38,7 @@ use Rattle.curp_law_routes.specs.Routes.{IsDone, IsGiveOf, IsMoving, Routes}
 use Rattle.curp_law_routes.specs.Stored.{StoredNow}
 use Rattle.curp_law_routes.proofs.Migrated.{one_stored, work_or_done}
 use Rattle.curp_law_routes.proofs.Stored.{entry_of, front_at, one_adopted, stored_now}
+use Rattle.curp_law_linear.proofs.Found.{give_is}
 
 -- behind a give its range is owned
 given_owned : (lo hi : ℕ) (front : List Entry) (number : ℕ) (given : Package) (h : ℕ) → is_in given.lo given.hi h ≡ true → is_owned (meaning lo hi (front ++ Give number given ∷ [])).owned h ≡ true

@@ -24,13 +24,14 @@ use Rattle.curp_law_line.proofs.Lists.{take_split}
 use Rattle.curp_law_line.proofs.Numbered.{any_at}
 use Rattle.curp_law_line.proofs.Stores.{carried_store, owned_store}
 use Rattle.curp_law_linear.specs.Ordered.{Ordered}
-use Rattle.curp_law_linear.proofs.MastersRise.{TakeOfWork, adopted_ok, give_is, standing, take_of_work}
+use Rattle.curp_law_linear.proofs.MastersRise.{TakeOfWork, adopted_ok, standing, take_of_work}
 use Rattle.curp_law_linear.proofs.Parts.{entry_part, line_logs, part_log}
 use Rattle.curp_law_linear.proofs.TakenRanges.{covered_before, quiet_behind}
 use Rattle.curp_law_logs.proofs.Packages.{take_package}
 use Rattle.curp_law_pairs.specs.Predecessors.{Predecessors}
 use Rattle.curp_law_routes.specs.Migrated.{Migrated}
 use Rattle.curp_law_routes.specs.Routes.{InWork, Routes}
+use Rattle.curp_law_linear.proofs.Found.{give_is}
 
 module _ {w : World} (known : Known w) (chain : Predecessors w) (routes : Routes w) (migrated : Migrated w) (ordered : Ordered w) where
   -- the package of a hash on its way is one that the machine carries

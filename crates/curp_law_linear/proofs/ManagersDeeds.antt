@@ -3,7 +3,7 @@ use Rattle.std.proofs.Common.{◌≡◌, ℕ, zero, suc, ◌+◌, ◌-◌, ◌==
 use Rattle.std.specs.Prelude.{is_some, set}
 use Rattle.std.specs.Option.{ok_or, option_and_then}
 use Rattle.std.proofs.lemmas.Bool.{cond_both, eqb-true}
-use Rattle.curp_base.specs.Cases.{◌>>=◌, first_there, only_if, refuse_if}
+use Rattle.curp_base.specs.Cases.{◌>>=◌, only_if, refuse_if}
 use Rattle.curp_base.specs.Words.{At, numbered, rises_past}
 use Rattle.curp_base.proofs.Ends.{never_rises}
 use Rattle.curp_cmd.specs.Node.{manager_node}
@@ -28,6 +28,7 @@ use Rattle.curp_law_linear.proofs.ManagersLine.{seat}
 use Rattle.curp_law_names.specs.Names.{Names, RecoveringOk}
 use Rattle.curp_law_names.proofs.Keeps.{entry_now, entry_numbered, numbered_now}
 use Rattle.curp_law_names.proofs.Lists.{at_mapped}
+use Rattle.curp_law_linear.proofs.Found.{there_among}
 
 -- a recovery of the present entry is adopted, as a master says that it is recovered
 pub record Recovers (w : World) (a : Attempted) : Type 0 where
@@ -63,12 +64,6 @@ same_seat xs (suc k) c d at same = let less : suc k - 1 ≡ k = omega arith in s
     go [] k at = absurd cc
     go (x ∷ xs) zero at = ap (λ (s : ℕ × NodeId). s ∷ map seat xs) (same ∙ ap seat (sym (one at)))
     go (x ∷ xs) (suc k) at = ap (λ ss. seat x ∷ ss) (go xs k at)
-
--- the first item that is there is among them
-there_among : {A : Type 0} (xs : List (Option A)) (x : A) → first_there xs ≡ Some x → IsAmong (Some x) xs
-there_among [] x e = absurd cc
-there_among (Some y ∷ xs) x e = record { place = 0; stands = ap Some e }
-there_among (None ∷ xs) x e = let r = there_among xs x e in record { place = suc r.place; stands = r.stands }
 
 -- numbers that stay end nowhere
 numbers_stay : (n : Next) → counter_ends n n ≡ false

@@ -1,6 +1,5 @@
 -- A migration begins, or is done: the moves of the machine.
-use Rattle.std.proofs.Common.{◌≡◌, ◌≢◌, inl, inr, ℕ, zero, suc, ◌+◌, ◌<◌, ◌≤◌, ◌==◌, ◌||◌, Bool, true, false, List, [], ◌∷◌, refl, ap, sym, ◌∙◌, subst, arith, Some, None}
-use Rattle.std.specs.List.{list_any}
+use Rattle.std.proofs.Common.{◌≡◌, ◌≢◌, inl, inr, ℕ, zero, suc, ◌+◌, ◌<◌, ◌≤◌, ◌==◌, true, List, [], refl, ap, sym, ◌∙◌, subst, arith, Some, None}
 use Rattle.std.proofs.lemmas.Bool.{eqb-true}
 use Rattle.std.proofs.lemmas.Bool.Decides.{nat_tests}
 use Rattle.curp_base.specs.Words.{At, numbered}
@@ -26,7 +25,6 @@ use Rattle.curp_law_kept.proofs.Known.{Known, said}
 use Rattle.curp_law_line.specs.Hashes.{Part, is_give, is_take}
 use Rattle.curp_law_line.specs.Moves.{GivenFits, MigrateFits}
 use Rattle.curp_law_line.specs.OfWorld.{line_of, moving_of, part_of}
-use Rattle.curp_law_line.proofs.Numbered.{any_at}
 use Rattle.curp_law_linear.specs.Ordered.{moved_number}
 use Rattle.curp_law_linear.proofs.Parts.{adopted_or_none, entry_part, part_entry, part_log}
 use Rattle.curp_law_pairs.specs.Along.{HoldsOn}
@@ -35,6 +33,7 @@ use Rattle.curp_law_pairs.proofs.Along.{entry_along}
 use Rattle.curp_law_pairs.proofs.Logs.{log_ok}
 use Rattle.curp_law_routes.specs.Migrated.{AllStored, Migrated, TakeStored}
 use Rattle.curp_law_routes.specs.Routes.{InWork, Routes, order_of}
+use Rattle.curp_law_linear.proofs.Found.{at_any, none_any}
 
 -- ---- words
 
@@ -50,24 +49,6 @@ give_number_is number (Op r acknowledged) is = absurd cc
 give_number_is number (Take migration taken) is = absurd cc
 give_number_is number (Give migration given) is = ap Some (eqb-true migration number is)
 give_number_is number (Expire client) is = absurd cc
-
--- what stands of a list makes one of all
-pub at_any : {A : Type 0} (p : A → Bool) (xs : List A) (k : ℕ) (x : A) → At xs k x → p x ≡ true → list_any p xs ≡ true
-at_any p [] k x at is = absurd cc
-at_any p (y ∷ ys) zero x at is = let same : y ≡ x = cc in cc
-at_any p (y ∷ ys) (suc k) x at is = let rest = at_any p ys k x at is in or_true (p y) rest
-  where
-    or_true : (b : Bool) {c : Bool} → c ≡ true → (b || c) ≡ true
-    or_true true e = refl
-    or_true false e = e
-
--- where none of a list is so
-pub none_any : {A : Type 0} (p : A → Bool) (xs : List A) → ((k : ℕ) (x : A) → At xs k x → p x ≡ true → ⊥) → list_any p xs ≡ false
-none_any p xs none = go (list_any p xs) refl
-  where
-    go : (b : Bool) → list_any p xs ≡ b → list_any p xs ≡ false
-    go false e = e
-    go true e = let o = any_at p xs e in absurd (none o.0 o.1 o.2 o.3)
 
 pub self_number : (n : ℕ) → (n == n) ≡ true
 self_number n = grind (arith, nat_tests)

@@ -38,7 +38,7 @@ use Rattle.curp_law_line.specs.OfWorld.{line_of, moving_of, part_of, told_by}
 use Rattle.curp_law_line.proofs.Lists.{take_split}
 use Rattle.curp_law_linear.specs.Ordered.{Ordered, moved_number}
 use Rattle.curp_law_linear.proofs.MastersLog.{here_at, line_at, part_at, part_cases, part_other}
-use Rattle.curp_law_linear.proofs.MastersRise.{Brought, adopted_ok, brought, found_give, found_take, new_rise, new_take, standing, take_of_work, ungiven, untaken}
+use Rattle.curp_law_linear.proofs.MastersRise.{Brought, adopted_ok, brought, new_rise, new_take, standing, take_of_work, ungiven, untaken}
 use Rattle.curp_law_linear.proofs.Parts.{entry_part, part_log}
 use Rattle.curp_law_linear.proofs.TakenRanges.{covered_before, quiet_behind}
 use Rattle.curp_law_logs.proofs.Logs.{log_back}
@@ -47,6 +47,7 @@ use Rattle.curp_law_logs.proofs.Ranges.{owns_touched}
 use Rattle.curp_law_pairs.specs.Predecessors.{Predecessors}
 use Rattle.curp_law_routes.specs.Migrated.{Migrated, TakeStored}
 use Rattle.curp_law_routes.specs.Routes.{Routes}
+use Rattle.curp_law_linear.proofs.Found.{found_give, found_take}
 
 -- a command that names a key touches its hash
 pub names_hash : (c : Command) → NamesKey c → (h : ℕ) × (touches c h ≡ true)

@@ -1,6 +1,6 @@
 -- An adopted log that grows: its takes and gives rise together, and each give fits at its place. What comes new is of the
 -- migration in work.
-use Rattle.std.proofs.Common.{◌≡◌, ◌≢◌, ◌⊎◌, inl, inr, ℕ, zero, suc, ◌+◌, ◌<◌, ◌≤◌, ◌==◌, ◌||◌, Bool, true, false, List, [], ◌∷◌, length, take, refl, ap, sym, ◌∙◌, ap₂, subst, subst₂, arith, Option, Some, None}
+use Rattle.std.proofs.Common.{◌≡◌, ◌≢◌, ◌⊎◌, inl, inr, ℕ, ◌+◌, ◌<◌, ◌≤◌, ◌==◌, true, false, List, [], length, take, refl, ap, sym, ◌∙◌, ap₂, subst, subst₂, arith, Option, Some, None}
 use Rattle.std.specs.List.{list_any}
 use Rattle.std.proofs.lemmas.Bool.{and_from, cases_lt, cases_order, false_from_ne_true}
 use Rattle.std.proofs.lemmas.Bool.Decides.{nat_tests}
@@ -28,7 +28,6 @@ use Rattle.curp_law_kept.proofs.Known.{Known, said}
 use Rattle.curp_law_line.specs.Hashes.{Part, has_take, is_give, is_take, owns}
 use Rattle.curp_law_line.specs.OfWorld.{line_of, moving_of, part_of}
 use Rattle.curp_law_line.proofs.Lists.{some_same}
-use Rattle.curp_law_line.proofs.Numbered.{any_at}
 use Rattle.curp_law_linear.specs.Ordered.{MigrationsRise, Ordered, moved_number}
 use Rattle.curp_law_linear.proofs.Clients.{entry_of}
 use Rattle.curp_law_linear.proofs.Parts.{adopted_or_none, entry_part, part_entry, part_log}
@@ -44,38 +43,7 @@ use Rattle.curp_law_pairs.proofs.Logs.{log_ok}
 use Rattle.curp_law_pairs.proofs.Words.{one_log}
 use Rattle.curp_law_routes.specs.Migrated.{Migrated, TakeStored}
 use Rattle.curp_law_routes.specs.Routes.{IsDone, IsGiveOf, IsMoving, Routes, order_of}
-
--- an item of a list makes an `any` true
-pub at_any : {A : Type 0} (p : A → Bool) (xs : List A) (k : ℕ) (x : A) → At xs k x → p x ≡ true → list_any p xs ≡ true
-at_any p [] k x at passes = absurd cc
-at_any p (y ∷ xs) zero x at passes = let same : y ≡ x = cc in let it : p y ≡ true = ap p same ∙ passes in cc
-at_any p (y ∷ xs) (suc k) x at passes = go (p y) (at_any p xs k x at passes)
-  where
-    go : (b : Bool) → list_any p xs ≡ true → (b || list_any p xs) ≡ true
-    go true e = refl
-    go false e = e
-
--- the take that a test finds
-pub take_is : (number : ℕ) (e : Entry) → is_take number e ≡ true → (taken : Package) × (e ≡ Take number taken)
-take_is number (Op r a) h = absurd cc
-take_is number (Take m taken) h = let same : m ≡ number = grind (arith, nat_tests) in (taken, ap (λ (n : ℕ). Take n taken) same)
-take_is number (Give m given) h = absurd cc
-take_is number (Expire client) h = absurd cc
-
--- and the give
-pub give_is : (number : ℕ) (e : Entry) → is_give number e ≡ true → (given : Package) × (e ≡ Give number given)
-give_is number (Op r a) h = absurd cc
-give_is number (Take m taken) h = absurd cc
-give_is number (Give m given) h = let same : m ≡ number = grind (arith, nat_tests) in (given, ap (λ (n : ℕ). Give n given) same)
-give_is number (Expire client) h = absurd cc
-
--- a take that stands in a log, by the test
-pub found_take : (number : ℕ) (log : List Entry) → list_any (is_take number) log ≡ true → (j : ℕ) × (p : Package) × At log j (Take number p)
-found_take number log found = let a = any_at (is_take number) log found in let t = take_is number a.1 a.3 in (a.0, t.0, subst (At log a.0) t.1 a.2)
-
--- and a give
-pub found_give : (number : ℕ) (log : List Entry) → list_any (is_give number) log ≡ true → (j : ℕ) × (p : Package) × At log j (Give number p)
-found_give number log found = let a = any_at (is_give number) log found in let g = give_is number a.1 a.3 in (a.0, g.0, subst (At log a.0) g.1 a.2)
+use Rattle.curp_law_linear.proofs.Found.{at_any, found_give}
 
 same_number : (n : ℕ) → (n == n) ≡ true
 same_number n = grind (arith, nat_tests)

@@ -24,11 +24,11 @@ use Rattle.curp_law_line.specs.Moves.{Told}
 use Rattle.curp_law_line.specs.OfWorld.{entries_at, line_of, logged_entries, part_of, told_by}
 use Rattle.curp_law_line.proofs.Given.{LogsOk}
 use Rattle.curp_law_linear.proofs.MastersLog.{Leads, leads_first, leads_none}
-use Rattle.curp_law_linear.proofs.MastersRise.{at_any}
 use Rattle.curp_law_linear.proofs.Parts.{numbered_mapped}
 use Rattle.curp_law_masters.specs.Moves.{IsSaidBy, RecoverySays, ServingSays}
 use Rattle.curp_law_masters.specs.Stages.{FreshSays}
 use Rattle.curp_law_routes.specs.Migrated.{Migrated, TakeStored}
+use Rattle.curp_law_linear.proofs.Found.{at_any}
 
 -- the take of the migration stands in a partition
 pub record TakeStands (parts : List Part) (number : ℕ) : Type 0 where

@@ -1,7 +1,7 @@
 -- An input by which the manager adopts no recovery leaves each entry its partition, its epoch and its master.
-use Rattle.std.proofs.Common.{◌≡◌, inl, inr, ℕ, suc, ◌+◌, ◌||◌, ◌==◌, Bool, true, false, if◌then◌else◌, List, [], ◌∷◌, map, refl, ap, sym, ◌∙◌, subst, Option, Some, None, Result, Ok, Err}
+use Rattle.std.proofs.Common.{◌≡◌, inl, inr, ℕ, ◌+◌, ◌||◌, ◌==◌, Bool, true, false, if◌then◌else◌, map, refl, ap, sym, ◌∙◌, subst, Option, Some, None, Result, Ok, Err}
 use Rattle.std.proofs.lemmas.Bool.{cond_both}
-use Rattle.curp_base.specs.Cases.{first_there, only_if}
+use Rattle.curp_base.specs.Cases.{only_if}
 use Rattle.curp_base.specs.Words.{At, numbered, rises_past}
 use Rattle.curp_cmd.specs.declared.migration.Package.{Package}
 use Rattle.curp_cmd.specs.declared.node.NodeId.{NodeId}
@@ -16,10 +16,10 @@ use Rattle.curp_msg.specs.declared.machine.Local.{Local}
 use Rattle.curp_msg.specs.declared.machine.Local.TheVariants as local
 use Rattle.curp_model.specs.Manager as manager
 use Rattle.curp_model.specs.Manager.{Attempted, Doing, ManagerState, Migration, NewLists, Recovering, Replacing, Steady, adopted_at, adoption, adopts, client_for, counter_ends, expires, finished, given_in, gives, heard, last_number, lists_in_work, manager_input, migrates, move_for, moved_part, nudge, part_at, prepared_in, recovered_in, recovery_for, recovers, replacement_for, replaces, taken_in, tells_again, told, unless_numbers_end, version_adopted, version_in_work}
-use Rattle.curp_facts.specs.Facts.{IsAmong}
 use Rattle.curp_law_growth.proofs.Numbered.{numbered_set_cases}
 use Rattle.curp_law_linear.proofs.Parts.{numbered_map}
 use Rattle.curp_law_names.proofs.Lists.{at_mapped, at_place}
+use Rattle.curp_law_linear.proofs.Found.{there_among}
 
 -- an entry has the partition, the epoch and the master of the one that stood at that number
 pub record EntryKept (g : ManagerState) (n : ℕ) (c : PartConfig) : Type 0 where
@@ -28,12 +28,6 @@ pub record EntryKept (g : ManagerState) (n : ℕ) (c : PartConfig) : Type 0 wher
   pub its_part : entry.part ≡ c.part
   pub its_epoch : entry.epoch ≡ c.epoch
   pub its_master : entry.master ≡ c.master
-
--- the first item that is there is among them
-there_among : {A : Type 0} (xs : List (Option A)) (x : A) → first_there xs ≡ Some x → IsAmong (Some x) xs
-there_among [] x e = absurd cc
-there_among (Some y ∷ xs) x e = record { place = 0; stands = ap Some e }
-there_among (None ∷ xs) x e = let r = there_among xs x e in record { place = suc r.place; stands = r.stands }
 
 module _ (g : ManagerState) (entries : (k : ℕ) (c : PartConfig) → At g.config.parts k c → c.part ≡ k + 1) where
   -- each of them

@@ -1,6 +1,7 @@
 //! The order that the world shows is one of the history, after every step of every script: recoveries, replacements,
-//! migrations, collections, expiries and reads among its steps, superseded masters that go on, and steps that are refused.
-//! There is no code here: a law is the contract of a function with nothing in it, and a caller has the law by the call.
+//! migrations, collections, expiries and reads among its steps, superseded masters that go on, and steps that are
+//! refused. There is no code here: a law is the contract of a function with nothing in it, and a caller has the law by
+//! the call.
 #![tactic(auto)]
 
 ghost use Rattle.std.specs.Prelude.{◌≡◌, ℕ, List};
@@ -23,11 +24,12 @@ pub fn history_stands()
 
 /// The order that the world shows is an order of the history: linearizability.
 pub fn order_stands()
-    ensures order { (h : Header) (steps : List Step) → IsRun h steps → IsOrder (world h steps).history (order (world h steps)) }
+    ensures order { (h : Header) (steps : List Step) → IsRun h steps
+        → IsOrder (world h steps).history (order (world h steps)) }
 {}
 
-/// What a client may still complete with, by messages under way, agrees with the order: each such update stands in it with
-/// that answer, and of each value that was sent the mark is kept, and one thread gives that value there.
+/// What a client may still complete with, by messages under way, agrees with the order: each such update stands in it
+/// with that answer, and of each value that was sent the mark is kept, and one thread gives that value there.
 pub fn late_replies_agree()
     ensures update { (h : Header) (steps : List Step) → IsRun h steps → (part : ℕ) (id : RequestId) (a : Answer)
         → Completable (world h steps) part id a → ShowsAnswer (world h steps).marks id a }
@@ -40,9 +42,9 @@ pub fn order_grows()
         → StandsIn (completed_in_order (world h steps)) (completed_in_order (step (world h steps) s).world) }
 {}
 
-/// All that is kept: good pairs and the facts of logs and nodes; each hash is owned once or on its way; the stores of the
-/// partitions together are that of one thread over the order; each value and each capture that waits has its mark, or was
-/// passed by.
+/// All that is kept: good pairs and the facts of logs and nodes; each hash is owned once or on its way; the stores of
+/// the partitions together are that of one thread over the order; each value that was sent has its mark, and each
+/// capture that waits has its mark or was passed by.
 pub fn kept_stands()
     ensures kept { (h : Header) (steps : List Step) → IsRun h steps → Kept (world h steps) }
 {}
