@@ -9,6 +9,7 @@ use Rattle.curp_cmd.specs.Hash.{hash_of, hashes}
 use Rattle.curp_cmd.specs.Store.{Contents, nothing, applied}
 use Rattle.curp_cmd.specs.declared.command.Answer.{Answer}
 use Rattle.curp_cmd.specs.declared.command.Request.{Request}
+use Rattle.curp_cmd.specs.declared.command.Command.{Command}
 use Rattle.curp_cmd.specs.declared.command.RequestId.{RequestId}
 use Rattle.curp_cmd.specs.declared.entry.Entry.{Entry}
 use Rattle.curp_cmd.specs.declared.entry.Entry.TheVariants.{Op, Take, Give}
@@ -30,14 +31,14 @@ use Rattle.curp_msg.specs.declared.body.Gc.{Gc}
 use Rattle.curp_msg.specs.declared.body.Reply.{Reply}
 use Rattle.curp_msg.specs.declared.body.Worth.{Worth}
 use Rattle.curp_msg.specs.declared.config.PartConfig.{PartConfig}
-use Rattle.curp_order.specs.Order.{store_after}
+use Rattle.curp_order.specs.Order.{answers, store_after}
 use Rattle.curp_order.specs.declared.Event.TheVariants.{Complete}
 use Rattle.curp_range.specs.Spans.{Owns, is_in}
 use Rattle.curp_model.specs.declared.Check.{Check}
 use Rattle.curp_model.specs.declared.Mode.TheVariants as mode
 use Rattle.curp_model.specs.declared.Check.TheVariants.{Expired, Stale, Known, New}
 use Rattle.curp_model.specs.Backup.{BackupState}
-use Rattle.curp_facts.specs.Facts.{WasSent, IsAmong, lo_of, hi_of, Logged, HasLog, Lists, IsGiven, AdoptedBefore, WasAdopted, IsAdoptedNow, SaidOk, PairsGood, reply_message}
+use Rattle.curp_facts.specs.Facts.{AdoptedBefore, Completable, HasLog, IsAdoptedNow, IsAmong, IsGiven, Lists, Logged, PairsGood, SaidOk, WasAdopted, WasSent, hi_of, lo_of, reply_message}
 use Rattle.curp_model.specs.Log.{IsLog, IsDone, LogState, entry_touches, meaning}
 use Rattle.curp_model.specs.Manager.{Migration}
 use Rattle.curp_model.specs.Marks.{Mark, Looked, shown}
@@ -315,6 +316,20 @@ abbrev pub CapturesOk : World → Type 0
 CapturesOk w = (l : Lists) → IsGiven w l → (m : MasterState) → IsMaster w l.master (Serving m)
     → Each (λ c. ValueMarked w l.master l.part l.epoch c.number c.id c.answer ⊎ PassedBy w l m c) m.captures
 
+-- ---- late replies
+
+-- the order shows the request, and one thread gives it that answer there
+pub record ShowsAnswer (marks : List Mark) (id : RequestId) (a : Answer) : Type 0 where
+  pub place : ℕ
+  pub x : RequestId × Command
+  pub stands : At (shown marks) place x
+  pub its_id : x.0 ≡ id
+  pub answer : At (answers (shown marks)) place a
+
+-- what a client has completed with, or may still complete with, stands in the order with that answer
+abbrev pub LateRepliesAgree : World → Type 0
+LateRepliesAgree w = (part : ℕ) (id : RequestId) (a : Answer) → Completable w part id a → ShowsAnswer w.marks id a
+
 -- ---- all together
 
 -- what holds after every step of what was said, of logs, nodes, early replies, collections, first numbers and adoptions
@@ -336,3 +351,4 @@ pub record Kept (w : World) : Type 0 where
   pub stores : StoresTogether w
   pub values : ValuesMarked w
   pub captures : CapturesOk w
+  pub late : LateRepliesAgree w

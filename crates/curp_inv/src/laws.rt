@@ -1,5 +1,6 @@
 //! What is proved of the nodes, of every script, and of every script of what is built. Each law is the contract of a
 //! function with nothing in it, and a caller has the law by the call.
+pub use curp_law_linear::{kept_stands, late_replies_agree, order_grows};
 pub use curp_law_order::{
     backups_follow, completed_is_stored, history_stands, marks_tell_the_log, messages_are_built,
     order_stands, replies_are_stored, shape_stays,

@@ -1,5 +1,5 @@
 -- An input to a client keeps what nodes and messages keep.
-use Rattle.std.proofs.Common.{◌≡◌, ◌≢◌, inl, inr, ℕ, true, false, List, ◌++◌, refl, ap, sym, ◌∙◌, subst, arith, Option, Some, None}
+use Rattle.std.proofs.Common.{◌≡◌, ◌≢◌, inl, inr, ℕ, true, false, List, ◌++◌, ap, sym, ◌∙◌, subst, arith, Option, Some, None}
 use Rattle.curp_base.specs.Words.{At, Each, numbered}
 use Rattle.curp_base.proofs.Lists.{Each-at, Each-weaker, at_append_cases, at_one, at_same, at_within, prefix_back}
 use Rattle.curp_cmd.specs.Node.{client_node}
@@ -23,14 +23,15 @@ use Rattle.curp_order.specs.declared.Event.TheVariants.{Invoke, Complete}
 use Rattle.curp_model.specs.Client.{ClientState, client_input}
 use Rattle.curp_model.specs.World.{World, completion, invocation_of}
 use Rattle.curp_facts.specs.ClientNumbers.{CompletedBelow, IsAsked, NumbersOk}
-use Rattle.curp_facts.specs.Facts.{EntryWas, WasSent, lists_of_part}
+use Rattle.curp_facts.specs.Facts.{EntryWas, WasSent}
 use Rattle.curp_facts.specs.Nodes.{ClientOk, CompletedBy, MayCome, ValueWasSent}
-use Rattle.curp_facts.specs.Said.{AskSaid, RejectedSaid, ReplySaid, Says, WorthSaid}
+use Rattle.curp_facts.specs.Said.{AskSaid, RejectedSaid, Says, WorthSaid}
 use Rattle.curp_law_growth.specs.Deeds.{IsFor}
-use Rattle.curp_law_keepers.specs.ClientEffect.{BySynced, ByAccepts, ByValue, ClientAsks, ClientEffect, ClientSays, CompletionOk, InputSuitsClient, MayComplete, SuitsClient, events_after}
+use Rattle.curp_law_keepers.specs.ClientEffect.{ByValue, ClientAsks, ClientEffect, ClientSays, CompletionOk, InputSuitsClient, MayComplete, SuitsClient, events_after}
 use Rattle.curp_law_keepers.proofs.ClientLater.{others_stay}
 use Rattle.curp_law_keepers.proofs.Clients.{client_effect}
 use Rattle.curp_law_keepers.proofs.Numbers.{waiting}
+use Rattle.curp_law_kept.proofs.Completes.{by_accepts, by_synced}
 use Rattle.curp_law_kept.proofs.Known.{Known, knows_later, said}
 use Rattle.curp_law_stays.proofs.Nodes.{completed_by_later, value_later}
 use Rattle.curp_law_stays.proofs.Words.{Follows, event_at}
@@ -101,48 +102,6 @@ module _ {w v : World} (known : Known w) (n : ℕ) (given : Input) (for : IsFor 
   pub history_keeps : IsHistory v.history
   history_keeps = subst IsHistory (sym later) its.history
 
-  synced_completes : (done : Completed) → BySynced (MayCome w n) done.id done.answer → CompletedBy w done.id done.answer
-  synced_completes done e =
-      let ok : ReplySaid w e.from (client_node n) e.reply = said known e.from (client_node n) (body.Reply e.reply) e.came in
-      inl (
-        ok.speaks.lists.part,
-        inl (record {
-          lists = ok.speaks.lists;
-          given = ok.speaks.adopted.given;
-          its_part = refl;
-          reply = e.reply;
-          sent = subst (λ (from : NodeId). WasSent w (says from (client_node e.reply.id.client) (body.Reply e.reply))) (sym ok.speaks.its_master)
-              (subst (λ (to : NodeId). WasSent w (says e.from to (body.Reply e.reply))) ok.addressee e.came);
-          its_id = e.its_id;
-          its_answer = e.its_answer;
-          is_synced = e.is_synced;
-        }),
-      )
-
-  accepts_complete : (done : Completed) → ByAccepts (MayCome w n) (EntryWas w) done.id done.answer → CompletedBy w done.id done.answer
-  accepts_complete done e =
-      let ok : ReplySaid w e.part.master (client_node n) e.reply = said known e.part.master (client_node n) (body.Reply e.reply) e.came in
-      let client : client_node n ≡ client_node done.id.client = ok.addressee ∙ ap (λ (id : RequestId). client_node id.client) e.its_id in
-      inl (
-        e.part.part,
-        inr (record {
-          lists = lists_of_part e.part;
-          given = e.adopted.adopted.given;
-          its_part = refl;
-          reply = e.reply;
-          sent = subst (λ (to : NodeId). WasSent w (says e.part.master to (body.Reply e.reply))) ok.addressee e.came;
-          its_id = e.its_id;
-          its_answer = e.its_answer;
-          is_early = e.unsynced;
-          its_epoch = e.epoch;
-          its_version = e.version;
-          accepts = Each-weaker (Accepts (client_node n)) (Accepts (client_node done.id.client)) (λ x sent. subst (λ (to : NodeId). Accepts to x) client sent) e.part.witnesses e.accepts;
-        }),
-      )
-    where
-      Accepts : NodeId → NodeId → Type 0
-      Accepts to x = WasSent w (says x to (body.Accepted (record { id = done.id; epoch = e.part.epoch })))
-
   value_completes : (done : Completed) → ByValue (MayCome w n) done.id done.answer done.by → ValueWasSent w done.id done.answer
   value_completes done e =
       let ok : WorthSaid w e.from (client_node n) e.value = said known e.from (client_node n) (body.Worth e.value) e.came in
@@ -151,7 +110,7 @@ module _ {w v : World} (known : Known w) (n : ℕ) (given : Input) (for : IsFor 
 
   completes : (done : Completed) → CompletionOk (MayCome w n) (EntryWas w) c done → CompletedBy w done.id done.answer
   completes done ok = elim ok.evidence [
-    | inl u ↦ elim u.evidence [ inl e ↦ synced_completes done e | inr e ↦ accepts_complete done e ]
+    | inl u ↦ elim u.evidence [ inl e ↦ inl (by_synced known n done.id done.answer e) | inr e ↦ inl (by_accepts known n done.id done.answer e) ]
     | inr r ↦ inr (value_completes done r.evidence)
   ]
 

@@ -3,6 +3,7 @@ pub mod Moved
 pub mod Known
 pub mod Backups
 pub mod Witnesses
+pub mod Completes
 pub mod Clients
 pub mod Others
 pub mod ClientSteps

@@ -1,9 +1,9 @@
 -- Orders of new nodes, and adoptions: what the manager does.
-use Rattle.std.proofs.Common.{◌≡◌, ◌≤◌, ◌<◌, ◌⊎◌, inl, inr, ℕ, suc, ◌-◌, ◌==◌, Bool, true, false, List, [], ◌∷◌, set, refl, sym, ◌∙◌, ap, subst, arith, Option, Some, None, Ok}
+use Rattle.std.proofs.Common.{◌≡◌, ◌≤◌, ◌<◌, ◌⊎◌, inl, inr, ℕ, ◌-◌, ◌==◌, Bool, true, false, List, set, refl, sym, ◌∙◌, ap, subst, arith, Option, Some, None, Ok}
 use Rattle.std.specs.Prelude.{option_and_then}
 use Rattle.std.specs.Option.{ok_or}
 use Rattle.std.proofs.lemmas.Bool.{eqb-true}
-use Rattle.curp_base.specs.Cases.{◌>>=◌, first_there, only_if, refuse_if}
+use Rattle.curp_base.specs.Cases.{◌>>=◌, only_if, refuse_if}
 use Rattle.curp_base.specs.Words.{At, Each, numbered}
 use Rattle.curp_cmd.specs.Node.{backup_node, manager_node, master_node, witness_node}
 use Rattle.curp_cmd.specs.declared.node.Keeper.{Keeper}
@@ -27,14 +27,8 @@ use Rattle.curp_law_kept.proofs.Known.{Known, said}
 use Rattle.curp_law_kept.proofs.ManagersSay.{again_does, entries_keep, entry_keeps, moving_keeps, recover_words, refused, replace_words, stays}
 use Rattle.curp_law_names.specs.Names.{Agree, IsOf, RecoveringOk, ReplacingOk}
 use Rattle.curp_law_names.proofs.Keeps.{entry_now, entry_numbered, numbered_now}
-use Rattle.curp_law_names.proofs.Lists.{among_set, at_mapped, each_among, filter_among, first_among, place as place_of}
+use Rattle.curp_law_names.proofs.Lists.{among_set, at_mapped, each_among, filter_among, first_among, place as place_of, there_among}
 use Rattle.curp_law_names.proofs.Named.{named, row, row_each}
-
--- the first item that is there is among them
-there_among : {A : Type 0} (xs : List (Option A)) (x : A) → first_there xs ≡ Some x → IsAmong (Some x) xs
-there_among [] x e = absurd cc
-there_among (Some y ∷ xs) x e = record { place = 0; stands = ap Some e }
-there_among (None ∷ xs) x e = let r = there_among xs x e in record { place = suc r.place; stands = r.stands }
 
 module _ {w : World} (known : Known w) where
   -- ---- orders with new nodes

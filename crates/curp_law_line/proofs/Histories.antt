@@ -16,7 +16,8 @@ use Rattle.curp_model.specs.Log.{IsDone}
 use Rattle.curp_model.specs.Marks.{Mark, is_shown, is_update_mark, shown}
 use Rattle.curp_law_logs.specs.Hashes.{Asked, asked, updates}
 use Rattle.curp_law_line.specs.Hashes.{Part}
-use Rattle.curp_law_line.specs.Line.{Answered, Line, LineOk, ShowsAnswer, answer_at}
+use Rattle.curp_facts.specs.Kept.{ShowsAnswer}
+use Rattle.curp_law_line.specs.Line.{Answered, Line, LineOk, answer_at}
 use Rattle.curp_law_line.proofs.AdoptedMarks.{filter_order}
 use Rattle.curp_law_line.proofs.Completions.{marks_once}
 use Rattle.curp_law_line.proofs.Hashes.{update_mark, update_place, updates_append}

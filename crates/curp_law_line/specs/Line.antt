@@ -225,14 +225,6 @@ pub record LookGives (marks : List Mark) (by : Capture) (part length : ℕ) (id 
 
 -- ---- what the order shows
 
--- the order shows the request, and one thread gives it that answer there
-pub record ShowsAnswer (marks : List Mark) (id : RequestId) (a : Answer) : Type 0 where
-  pub place : ℕ
-  pub x : Asked
-  pub stands : At (shown marks) place x
-  pub its_id : x.0 ≡ id
-  pub answer : At (answers (shown marks)) place a
-
 -- the completed requests of the order
 abbrev pub completed_order : Line → List Asked
 completed_order s = filter (λ (x : Asked). is_completed s.history x.0) (shown s.marks)

@@ -2,7 +2,6 @@
 use Rattle.std.proofs.Common.{◌≡◌, inl, inr, ℕ, List, [], ◌∷◌, ◌++◌, append-nil, refl, ap, sym, ◌∙◌, subst, Option, Some, None}
 use Rattle.std.specs.Prelude.{Result, Ok, Err}
 use Rattle.curp_base.specs.Words.{At, numbered}
-use Rattle.curp_base.proofs.Lists.{Each-weaker}
 use Rattle.curp_cmd.specs.Node.{client_node}
 use Rattle.curp_cmd.specs.declared.command.Answer.{Answer}
 use Rattle.curp_cmd.specs.declared.command.Command.{Command}
@@ -25,13 +24,14 @@ use Rattle.curp_model.specs.Client.{ClientState, Resent, client_input, client_or
 use Rattle.curp_model.specs.Marks.{flagged}
 use Rattle.curp_model.specs.World.{World, completion, invocation_of, kept, with_client, with_completion}
 use Rattle.curp_facts.specs.ClientNumbers.{IsWaiting, NumbersOk}
-use Rattle.curp_facts.specs.Facts.{Completable, EntryWas, WasSent, lists_of_part}
+use Rattle.curp_facts.specs.Facts.{Completable, EntryWas, WasSent}
 use Rattle.curp_facts.specs.Nodes.{MayCome}
-use Rattle.curp_facts.specs.Said.{ReplySaid, WorthSaid}
+use Rattle.curp_facts.specs.Said.{WorthSaid}
 use Rattle.curp_law_growth.specs.Deeds.{IsFor}
-use Rattle.curp_law_keepers.specs.ClientEffect.{ByAccepts, BySynced, ByValue, ClientAsks, ClientEffect, ClientSays, CompletionOk, MayComplete, events_after}
+use Rattle.curp_law_keepers.specs.ClientEffect.{ByValue, ClientAsks, ClientEffect, ClientSays, CompletionOk, MayComplete, events_after}
 use Rattle.curp_law_keepers.proofs.Numbers.{never_invoked, waiting}
 use Rattle.curp_law_kept.proofs.Clients.{effect}
+use Rattle.curp_law_kept.proofs.Completes.{by_accepts, by_synced}
 use Rattle.curp_law_kept.proofs.Known.{Known, said}
 use Rattle.curp_law_line.specs.Line as line
 use Rattle.curp_law_line.specs.Moves.{Completes, Flags, FlagFits, Invokes}
@@ -89,50 +89,6 @@ module _ {w : World} (known : Known w) (chain : Predecessors w) (migrated : Migr
 
   logs : LogsOk (line_of w).parts
   logs = line_logs known ordered
-
-  -- ---- what can complete
-
-  -- a synced reply that came was sent by a master of the partition
-  by_synced : (id : RequestId) (a : Answer) → BySynced (MayCome w n) id a → (part : ℕ) × Completable w part id a
-  by_synced id a e =
-      let ok : ReplySaid w e.from (client_node n) e.reply = said known e.from (client_node n) (body.Reply e.reply) e.came in (
-        ok.speaks.lists.part,
-        inl (record {
-          lists = ok.speaks.lists;
-          given = ok.speaks.adopted.given;
-          its_part = refl;
-          reply = e.reply;
-          sent = subst (λ (from : NodeId). WasSent w (says from (client_node e.reply.id.client) (body.Reply e.reply))) (sym ok.speaks.its_master)
-              (subst (λ (to : NodeId). WasSent w (says e.from to (body.Reply e.reply))) ok.addressee e.came);
-          its_id = e.its_id;
-          its_answer = e.its_answer;
-          is_synced = e.is_synced;
-        }),
-      )
-
-  -- an unsynced one that came, and the accepts of all witnesses, were sent by an adopted entry's nodes
-  by_accepts : (id : RequestId) (a : Answer) → ByAccepts (MayCome w n) (EntryWas w) id a → (part : ℕ) × Completable w part id a
-  by_accepts id a e =
-      let ok : ReplySaid w e.part.master (client_node n) e.reply = said known e.part.master (client_node n) (body.Reply e.reply) e.came in
-      let client : client_node n ≡ client_node id.client = ok.addressee ∙ ap (λ (x : RequestId). client_node x.client) e.its_id in (
-        e.part.part,
-        inr (record {
-          lists = lists_of_part e.part;
-          given = e.adopted.adopted.given;
-          its_part = refl;
-          reply = e.reply;
-          sent = subst (λ (to : NodeId). WasSent w (says e.part.master to (body.Reply e.reply))) ok.addressee e.came;
-          its_id = e.its_id;
-          its_answer = e.its_answer;
-          is_early = e.unsynced;
-          its_epoch = e.epoch;
-          its_version = e.version;
-          accepts = Each-weaker (Accepts (client_node n)) (Accepts (client_node id.client)) (λ x sent. subst (λ (to : NodeId). Accepts to x) client sent) e.part.witnesses e.accepts;
-        }),
-      )
-    where
-      Accepts : NodeId → NodeId → Type 0
-      Accepts to x = WasSent w (says x to (body.Accepted (record { id = id; epoch = e.part.epoch })))
 
   module _ {v : World} (out : List Message) (s : SameLogs w v out) where
     -- a request is invoked
@@ -196,7 +152,7 @@ module _ {w : World} (known : Known w) (chain : Predecessors w) (migrated : Migr
 
       completes : RefinesQuiet w v
       completes = elim ok.evidence [
-        | inl u ↦ elim u.evidence [ inl e ↦ update_completes (by_synced d.id d.answer e) u.no_capture | inr e ↦ update_completes (by_accepts d.id d.answer e) u.no_capture ]
+        | inl u ↦ elim u.evidence [ inl e ↦ update_completes (by_synced known n d.id d.answer e) u.no_capture | inr e ↦ update_completes (by_accepts known n d.id d.answer e) u.no_capture ]
         | inr r ↦ read_completes r.evidence
       ]
 

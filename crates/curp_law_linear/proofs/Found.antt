@@ -1,13 +1,11 @@
 -- What a test on the entries of a list finds.
-use Rattle.std.proofs.Common.{◌≡◌, ℕ, zero, suc, ◌||◌, Bool, true, false, List, [], ◌∷◌, refl, ap, ◌∙◌, subst, arith, Option, Some, None}
+use Rattle.std.proofs.Common.{◌≡◌, ℕ, zero, suc, ◌||◌, Bool, true, false, List, [], ◌∷◌, refl, ap, ◌∙◌, subst, arith}
 use Rattle.std.specs.List.{list_any}
 use Rattle.std.proofs.lemmas.Bool.Decides.{nat_tests}
-use Rattle.curp_base.specs.Cases.{first_there}
 use Rattle.curp_base.specs.Words.{At}
 use Rattle.curp_cmd.specs.declared.entry.Entry.{Entry}
 use Rattle.curp_cmd.specs.declared.entry.Entry.TheVariants.{Expire, Give, Op, Take}
 use Rattle.curp_cmd.specs.declared.migration.Package.{Package}
-use Rattle.curp_facts.specs.Facts.{IsAmong}
 use Rattle.curp_law_line.specs.Hashes.{is_give, is_take}
 use Rattle.curp_law_line.proofs.Numbered.{any_at}
 
@@ -50,9 +48,3 @@ none_any p xs none = go (list_any p xs) refl
     go : (b : Bool) → list_any p xs ≡ b → list_any p xs ≡ false
     go false e = e
     go true e = let o = any_at p xs e in absurd (none o.0 o.1 o.2 o.3)
-
--- the first item that is there is among them
-pub there_among : {A : Type 0} (xs : List (Option A)) (x : A) → first_there xs ≡ Some x → IsAmong (Some x) xs
-there_among [] x e = absurd cc
-there_among (Some y ∷ xs) x e = record { place = 0; stands = ap Some e }
-there_among (None ∷ xs) x e = let r = there_among xs x e in record { place = suc r.place; stands = r.stands }

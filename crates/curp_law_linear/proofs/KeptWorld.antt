@@ -8,6 +8,7 @@ use Rattle.curp_law_linear.specs.Serves.{OpeningServes}
 use Rattle.curp_law_linear.proofs.KeptOwners.{hashes_kept}
 use Rattle.curp_law_linear.proofs.KeptReads.{captures_kept, values_kept}
 use Rattle.curp_law_linear.proofs.KeptStores.{stores_kept}
+use Rattle.curp_law_linear.proofs.Statements.{late_replies}
 use Rattle.curp_law_pairs.specs.Predecessors.{Predecessors}
 use Rattle.curp_law_routes.specs.Migrated.{Migrated}
 use Rattle.curp_law_routes.specs.Routes.{Routes}
@@ -21,4 +22,5 @@ kept_of_world known chain routes migrated ordered serves pairs facts = record {
   stores = stores_kept known chain routes migrated ordered;
   values = values_kept known ordered;
   captures = captures_kept known ordered;
+  late = late_replies known chain migrated ordered;
 }

@@ -1,15 +1,12 @@
 -- The order, late replies, the growth of the order and all that is kept, in every run.
-use Rattle.std.proofs.Common.{ℕ, List}
-use Rattle.curp_cmd.specs.declared.command.Answer.{Answer}
-use Rattle.curp_cmd.specs.declared.command.RequestId.{RequestId}
+use Rattle.std.proofs.Common.{List}
 use Rattle.curp_msg.specs.declared.script.Header.{Header}
 use Rattle.curp_msg.specs.declared.script.Step.{Step}
 use Rattle.curp_order.specs.Order.{IsHistory, IsOrder}
 use Rattle.curp_model.specs.World.{order, step, world}
-use Rattle.curp_facts.specs.Facts.{Completable}
-use Rattle.curp_facts.specs.Kept.{Kept, ValuesMarked}
+use Rattle.curp_facts.specs.Kept.{Kept, LateRepliesAgree, ValuesMarked}
 use Rattle.curp_facts.specs.Run.{IsRun, IsStep}
-use Rattle.curp_law_line.specs.Line.{ShowsAnswer, StandsIn}
+use Rattle.curp_law_line.specs.Line.{StandsIn}
 use Rattle.curp_law_linear.specs.Grows.{completed_in_order}
 use Rattle.curp_law_linear.proofs.AdoptedLogs.{serves_all}
 use Rattle.curp_law_linear.proofs.KeptReads.{values_kept}
@@ -26,10 +23,10 @@ module _ (h : Header) (steps : List Step) (is : IsRun h steps) where
   pub order_all : IsOrder (world h steps).history (order (world h steps))
   order_all = statements.order_of_world (orderly_all h steps is).1.ordered
 
-  pub late_all : (part : ℕ) (id : RequestId) (a : Answer) → Completable (world h steps) part id a → ShowsAnswer (world h steps).marks id a
-  late_all part id a can =
+  pub late_all : LateRepliesAgree (world h steps)
+  late_all =
       let all = orderly_all h steps is in
-      statements.late_replies all.0 all.1.moving.chain (migrated_now (world h steps) all.0 all.1.moving) all.1.ordered part id a can
+      statements.late_replies all.0 all.1.moving.chain (migrated_now (world h steps) all.0 all.1.moving) all.1.ordered
 
   pub values_all : ValuesMarked (world h steps)
   values_all = let all = orderly_all h steps is in values_kept all.0 all.1.ordered

@@ -27,8 +27,7 @@ use Rattle.curp_law_line.specs.OfWorld.{moving_of}
 use Rattle.curp_law_linear.proofs.ManagersLine.{seat}
 use Rattle.curp_law_names.specs.Names.{Names, RecoveringOk}
 use Rattle.curp_law_names.proofs.Keeps.{entry_now, entry_numbered, numbered_now}
-use Rattle.curp_law_names.proofs.Lists.{at_mapped}
-use Rattle.curp_law_linear.proofs.Found.{there_among}
+use Rattle.curp_law_names.proofs.Lists.{at_mapped, there_among}
 
 -- a recovery of the present entry is adopted, as a master says that it is recovered
 pub record Recovers (w : World) (a : Attempted) : Type 0 where

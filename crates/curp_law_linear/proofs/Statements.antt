@@ -1,12 +1,10 @@
 -- What is said of the order and of late replies, from what the machine of the order keeps.
-use Rattle.std.proofs.Common.{◌≡◌, ℕ, refl, subst}
-use Rattle.curp_cmd.specs.declared.command.Answer.{Answer}
-use Rattle.curp_cmd.specs.declared.command.RequestId.{RequestId}
+use Rattle.std.proofs.Common.{◌≡◌, refl, subst}
 use Rattle.curp_order.specs.Order.{IsHistory, IsOrder}
 use Rattle.curp_model.specs.World.{World, order}
-use Rattle.curp_facts.specs.Facts.{Completable}
+use Rattle.curp_facts.specs.Kept.{LateRepliesAgree}
 use Rattle.curp_law_kept.proofs.Known.{Known}
-use Rattle.curp_law_line.specs.Line.{Line, ShowsAnswer, StandsIn, completed_order}
+use Rattle.curp_law_line.specs.Line.{Line, StandsIn, completed_order}
 use Rattle.curp_law_line.specs.OfWorld.{line_of}
 use Rattle.curp_law_line.proofs.Discharged.{pure, second}
 use Rattle.curp_law_line.proofs.Growing.{order_grows_on}
@@ -27,7 +25,7 @@ pub order_of_world : {w : World} → Ordered w → IsOrder w.history (order w)
 order_of_world {w} ordered = order_stands (line_of w) ordered.line
 
 -- a reply, however late, has the answer that the order gives the request
-pub late_replies : {w : World} → Known w → Predecessors w → Migrated w → Ordered w → (part : ℕ) (id : RequestId) (a : Answer) → Completable w part id a → ShowsAnswer w.marks id a
+pub late_replies : {w : World} → Known w → Predecessors w → Migrated w → Ordered w → LateRepliesAgree w
 late_replies {w} known chain migrated ordered part id a can =
     let d = completable_done known chain migrated ordered part id a can in
     shows_done (line_of w) ordered.line d.0 d.1 id a d.2 d.3

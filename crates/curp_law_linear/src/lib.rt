@@ -4,13 +4,10 @@
 //! the call.
 #![tactic(auto)]
 
-ghost use Rattle.std.specs.Prelude.{◌≡◌, ℕ, List};
-ghost use Rattle.curp_cmd.specs.declared.command.Answer.{Answer};
-ghost use Rattle.curp_cmd.specs.declared.command.RequestId.{RequestId};
-ghost use Rattle.curp_facts.specs.Facts.{Completable};
-ghost use Rattle.curp_facts.specs.Kept.{Kept, ValuesMarked};
+ghost use Rattle.std.specs.Prelude.{List};
+ghost use Rattle.curp_facts.specs.Kept.{Kept, LateRepliesAgree, ValuesMarked};
 ghost use Rattle.curp_facts.specs.Run.{IsRun, IsStep};
-ghost use Rattle.curp_law_line.specs.Line.{ShowsAnswer, StandsIn};
+ghost use Rattle.curp_law_line.specs.Line.{StandsIn};
 ghost use Rattle.curp_law_linear.specs.Grows.{completed_in_order};
 ghost use Rattle.curp_model.specs.World.{order, step, world};
 ghost use Rattle.curp_msg.specs.declared.script.Header.{Header};
@@ -31,8 +28,7 @@ pub fn order_stands()
 /// What a client may still complete with, by messages under way, agrees with the order: each such update stands in it
 /// with that answer, and of each value that was sent the mark is kept, and one thread gives that value there.
 pub fn late_replies_agree()
-    ensures update { (h : Header) (steps : List Step) → IsRun h steps → (part : ℕ) (id : RequestId) (a : Answer)
-        → Completable (world h steps) part id a → ShowsAnswer (world h steps).marks id a }
+    ensures update { (h : Header) (steps : List Step) → IsRun h steps → LateRepliesAgree (world h steps) }
     ensures value { (h : Header) (steps : List Step) → IsRun h steps → ValuesMarked (world h steps) }
 {}
 
@@ -44,7 +40,7 @@ pub fn order_grows()
 
 /// All that is kept: good pairs and the facts of logs and nodes; each hash is owned once or on its way; the stores of
 /// the partitions together are that of one thread over the order; each value that was sent has its mark, and each
-/// capture that waits has its mark or was passed by.
+/// capture that waits has its mark or was passed by; late replies agree with the order.
 pub fn kept_stands()
     ensures kept { (h : Header) (steps : List Step) → IsRun h steps → Kept (world h steps) }
 {}

@@ -1,7 +1,8 @@
 -- Lists that are numbered from 1, what is among lists, and lists whose items differ.
-use Rattle.std.proofs.Common.{◌≡◌, ◌≢◌, ◌⊎◌, inl, inr, ℕ, zero, suc, ◌+◌, ◌-◌, ◌<◌, ◌≤◌, Bool, List, [], ◌∷◌, ◌++◌, length, map, set, refl, ap, sym, ◌∙◌, subst, arith, append-nil, append_assoc, Some}
+use Rattle.std.proofs.Common.{◌≡◌, ◌≢◌, ◌⊎◌, inl, inr, ℕ, zero, suc, ◌+◌, ◌-◌, ◌<◌, ◌≤◌, Bool, List, [], ◌∷◌, ◌++◌, length, map, set, refl, ap, sym, ◌∙◌, subst, arith, append-nil, append_assoc, Option, Some, None}
 use Rattle.std.specs.List.{filter}
 use Rattle.std.proofs.lemmas.Bool.{cases_Bool}
+use Rattle.curp_base.specs.Cases.{first_there}
 use Rattle.curp_base.specs.Words.{At, Each, all_of, first_of, last_of, numbered, numbers_from}
 use Rattle.curp_base.proofs.Lists.{at_append_right, at_within, at_set_cases, Each-at, Each-from_at}
 use Rattle.curp_msg.specs.declared.message.Message.{Message}
@@ -114,3 +115,9 @@ all_of-push (ys ∷ rest) xs = ap (λ l. ys ++ l) (all_of-push rest xs) ∙ sym 
 pub all_of-kept : (sent : List (List Message)) (out : List Message) → all_of (with_batch sent out) ≡ all_of sent ++ out
 all_of-kept sent [] = sym (append-nil (all_of sent))
 all_of-kept sent (m ∷ more) = all_of-push sent (m ∷ more)
+
+-- the first item that is there is among them
+pub there_among : {A : Type 0} (xs : List (Option A)) (x : A) → first_there xs ≡ Some x → IsAmong (Some x) xs
+there_among [] x e = absurd cc
+there_among (Some y ∷ xs) x e = record { place = 0; stands = ap Some e }
+there_among (None ∷ xs) x e = let r = there_among xs x e in record { place = suc r.place; stands = r.stands }

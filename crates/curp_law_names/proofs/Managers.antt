@@ -1,5 +1,5 @@
 -- Each input to the manager keeps the facts of names.
-use Rattle.std.proofs.Common.{◌≡◌, inl, inr, ◌≤◌, ℕ, suc, ◌==◌, ◌&&◌, Bool, true, false, not, nat_lt, nat_le, List, [], ◌∷◌, map, refl, sym, ap, subst, arith, Option, Some, None, Ok}
+use Rattle.std.proofs.Common.{◌≡◌, inl, inr, ◌≤◌, ℕ, ◌==◌, ◌&&◌, Bool, true, false, not, nat_lt, nat_le, List, [], ◌∷◌, map, refl, sym, subst, arith, Option, Some, None, Ok}
 use Rattle.std.specs.Prelude.{is_some, option_and_then}
 use Rattle.std.specs.BTreeSet.{insert_key}
 use Rattle.std.specs.Option.{ok_or}
@@ -8,7 +8,7 @@ use Rattle.std.specs.declared.cmp.Ordering.{Ordering}
 use Rattle.std.specs.declared.cmp.Ordering.TheVariants.{Less, Equal, Greater}
 use Rattle.std.proofs.lemmas.Bool.{cond_both, eqb-true}
 use Rattle.std.proofs.lemmas.Bool.Decides.{nat_tests}
-use Rattle.curp_base.specs.Cases.{◌>>=◌, first_there, only_if, refuse_if}
+use Rattle.curp_base.specs.Cases.{◌>>=◌, only_if, refuse_if}
 use Rattle.curp_base.specs.Words.{At, Each, numbered}
 use Rattle.curp_cmd.specs.Node.{manager_node}
 use Rattle.curp_cmd.specs.declared.migration.Package.{Package}
@@ -32,18 +32,13 @@ use Rattle.curp_law_names.proofs.Clients.{Arrives, is_manager}
 use Rattle.curp_law_names.specs.Names.{IsClientNumber, MovingOk, Names, RecoveringOk, ReplacingOk}
 use Rattle.curp_law_names.proofs.Adoptions.{adopts_good}
 use Rattle.curp_law_names.proofs.Keeps.{entry_now, entry_numbered, numbered_now}
-use Rattle.curp_law_names.proofs.Lists.{at_mapped, filter_among, first_among, place}
+use Rattle.curp_law_names.proofs.Lists.{at_mapped, filter_among, first_among, place, there_among}
 use Rattle.curp_law_names.proofs.Quiet.{Good, Stays, quietly, stays_beside, stays_self}
 use Rattle.curp_law_names.proofs.Recoveries.{recover_good, refused_good}
 use Rattle.curp_law_names.proofs.Replacements.{replace_good}
 use Rattle.curp_law_names.proofs.Says.{adopted_again, configuration_again, expire_again, nudge_again, serves_now}
 
 -- ---- lists
-
-there_among : {A : Type 0} (xs : List (Option A)) (x : A) → first_there xs ≡ Some x → IsAmong (Some x) xs
-there_among [] x e = absurd cc
-there_among (Some y ∷ xs) x e = record { place = 0; stands = ap Some e }
-there_among (None ∷ xs) x e = let r = there_among xs x e in record { place = suc r.place; stands = r.stands }
 
 module _ {w : World} (n : Names w) where
   -- what says nothing and changes no name

@@ -1,10 +1,10 @@
 -- What the manager says of adoption: of lists that were adopted before, or of one entry that comes behind the present one.
-use Rattle.std.proofs.Common.{◌≡◌, inl, inr, ℕ, suc, ◌==◌, ◌||◌, Bool, true, false, List, [], ◌∷◌, ◌++◌, refl, ap, sym, subst, arith, Option, Some, None, Result, Ok, Err}
+use Rattle.std.proofs.Common.{◌≡◌, inl, inr, ℕ, ◌==◌, ◌||◌, Bool, true, false, List, [], ◌∷◌, ◌++◌, refl, sym, subst, arith, Option, Some, None, Result, Ok, Err}
 use Rattle.std.specs.Bool.{⊤}
 use Rattle.std.specs.Prelude.{option_and_then}
 use Rattle.std.proofs.lemmas.Bool.{cond_both}
 use Rattle.std.proofs.lemmas.Bool.Decides.{nat_tests}
-use Rattle.curp_base.specs.Cases.{first_there, only_if}
+use Rattle.curp_base.specs.Cases.{only_if}
 use Rattle.curp_base.specs.Words.{At, Each, numbered, rises_past}
 use Rattle.curp_base.proofs.Lists.{Each-append, Each-weaker}
 use Rattle.curp_cmd.specs.Node.{manager_node}
@@ -28,7 +28,7 @@ use Rattle.curp_model.specs.World.{World}
 use Rattle.curp_facts.specs.Facts.{IsAdoptedNow, IsAmong, WasSent, lists_of_part}
 use Rattle.curp_law_names.specs.Names.{AdoptedOk, Names, RecoveringOk}
 use Rattle.curp_law_names.proofs.Keeps.{entry_now, entry_numbered, numbered_now}
-use Rattle.curp_law_names.proofs.Lists.{at_mapped, filter_among, first_among, place}
+use Rattle.curp_law_names.proofs.Lists.{at_mapped, filter_among, first_among, place, there_among}
 use Rattle.curp_law_names.proofs.Moves.{Nothing, Repeats}
 use Rattle.curp_law_names.proofs.Quiet.{Again, AllAgain}
 use Rattle.curp_law_names.proofs.Says.{adopted_again, nudge_again}
@@ -68,12 +68,6 @@ said_each w (node ∷ nodes) b old = (old node, said_each w nodes b old)
 unless : {A : Type 0} (w : World) (g : ManagerState) (act : A → Moved ManagerState) → ((x : A) → AllOld w (act x).messages) → (o : Result A ℕ) → AllOld w (unless_refused g act o).messages
 unless w g act old (Ok x) = old x
 unless w g act old (Err number) = tt
-
--- the first that is there is one of all
-there_among : {A : Type 0} (xs : List (Option A)) (x : A) → first_there xs ≡ Some x → IsAmong (Some x) xs
-there_among [] x e = absurd cc
-there_among (Some y ∷ xs) x e = record { place = 0; stands = ap Some e }
-there_among (None ∷ xs) x e = let r = there_among xs x e in record { place = suc r.place; stands = r.stands }
 
 recover_says : (w : World) (node : NodeId) (o : Recover) → AllOld w (recover_messages node o)
 recover_says w node o =

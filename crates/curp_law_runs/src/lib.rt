@@ -1,6 +1,6 @@
 //! What holds after every step of every script: recoveries, replacements, migrations, collections, expiries and reads
-//! among its steps, superseded masters that go on, and steps that are refused. There is no code here: a law is the contract
-//! of a function with nothing in it, and a caller has the law by the call.
+//! among its steps, superseded masters that go on, and steps that are refused. There is no code here: a law is the
+//! contract of a function with nothing in it, and a caller has the law by the call.
 #![tactic(auto)]
 
 ghost use Rattle.std.specs.Prelude.{◌≡◌, ℕ, List, false, true};
@@ -36,12 +36,14 @@ pub fn facts_kept()
 /// What a client has completed was completable: an update by a synced reply, or by an early one with the accepts of all
 /// witnesses of its list; a read had its value sent.
 pub fn completed_is_completable()
-    ensures update { (h : Header) (steps : List Step) → IsRun h steps → (i j : ℕ) (id : RequestId) (command : Command) (a : Answer)
-        → At (world h steps).history i (Invoke id command) → is_update command ≡ true → At (world h steps).history j (Complete id a)
-        → (part : ℕ) × Completable (world h steps) part id a }
-    ensures read { (h : Header) (steps : List Step) → IsRun h steps → (i j : ℕ) (id : RequestId) (command : Command) (a : Answer)
-        → At (world h steps).history i (Invoke id command) → is_update command ≡ false → At (world h steps).history j (Complete id a)
-        → ValueWasSent (world h steps) id a }
+    ensures update { (h : Header) (steps : List Step) → IsRun h steps
+        → (i j : ℕ) (id : RequestId) (command : Command) (a : Answer)
+        → At (world h steps).history i (Invoke id command) → is_update command ≡ true
+        → At (world h steps).history j (Complete id a) → (part : ℕ) × Completable (world h steps) part id a }
+    ensures read { (h : Header) (steps : List Step) → IsRun h steps
+        → (i j : ℕ) (id : RequestId) (command : Command) (a : Answer)
+        → At (world h steps).history i (Invoke id command) → is_update command ≡ false
+        → At (world h steps).history j (Complete id a) → ValueWasSent (world h steps) id a }
 {}
 
 /// Each message goes from one node of the world to another, and what is answered to a client is about a request of that

@@ -3,6 +3,6 @@ use Rattle.curp_law_linear.proofs.late_replies_agree.Goals as goal
 
 pub returns : goal.returns
 returns c = record {
-  update = λ h steps is part id a can. late_all h steps is part id a can;
+  update = λ h steps is. late_all h steps is;
   value = λ h steps is. values_all h steps is;
 }
