@@ -21,4 +21,3 @@ pub mod Opened
 pub mod Runs
 pub mod Laws
 pub mod Homes
-pub mod Ready
