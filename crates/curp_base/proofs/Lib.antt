@@ -1,3 +1,4 @@
 pub mod Ends
 pub mod Rising
 pub mod Lists
+pub mod Numbered

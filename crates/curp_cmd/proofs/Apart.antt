@@ -76,10 +76,10 @@ none_right : (a b : Bool) → (a || b) ≡ false → b ≡ false
 none_right true b e = absurd cc
 none_right false b e = e
 
-same_number : (n : ℕ) → (n == n) ≡ true
+pub same_number : (n : ℕ) → (n == n) ≡ true
 same_number n = grind (arith, nat_tests)
 
-number_is : (m n : ℕ) → (m == n) ≡ true → m ≡ n
+pub number_is : (m n : ℕ) → (m == n) ≡ true → m ≡ n
 number_is m n e = grind (arith, nat_tests)
 
 own_key : (key : List ℕ) → among key (key ∷ []) ≡ true
@@ -137,12 +137,12 @@ swapped_is s key value true = refl
 swapped_is s key value false = refl
 
 -- Multi, pair by pair
-with_pairs-other : (ps : List Pair) (s : Contents) (q : List ℕ) → among q (each (λ (p : Pair). p.0) ps) ≡ false → map.get (with_pairs s ps) q ≡ map.get s q
+pub with_pairs-other : (ps : List Pair) (s : Contents) (q : List ℕ) → among q (each (λ (p : Pair). p.0) ps) ≡ false → map.get (with_pairs s ps) q ≡ map.get s q
 with_pairs-other [] s q e = refl
 with_pairs-other (p ∷ ps) s q e =
     with_pairs-other ps (map.insert s p.0 p.1) q (none_right _ _ e) ∙ changed_other s p.0 (Set p.1) q (none_left _ _ e)
 
-with_pairs-alike : (ps : List Pair) (s t : Contents) (q : List ℕ) → map.get s q ≡ map.get t q → map.get (with_pairs s ps) q ≡ map.get (with_pairs t ps) q
+pub with_pairs-alike : (ps : List Pair) (s t : Contents) (q : List ℕ) → map.get s q ≡ map.get t q → map.get (with_pairs s ps) q ≡ map.get (with_pairs t ps) q
 with_pairs-alike [] s t q h = h
 with_pairs-alike (p ∷ ps) s t q h = with_pairs-alike ps (map.insert s p.0 p.1) (map.insert t p.0 p.1) q (changed_alike s t p.0 (Set p.1) q h)
 
@@ -160,7 +160,7 @@ local (CondPut key expected value) =
 local (Multi pairs) = record { others = λ s q e. with_pairs-other pairs s q e; answer = λ s t h. refl; own = λ s t h q e. with_pairs-alike pairs s t q (h q e) }
 
 -- keys of commands with no hash in common are different keys
-hash_among : (q : List ℕ) (keys : List (List ℕ)) → among q keys ≡ true → list_any (λ x. x == hash_of q) (each hash_of keys) ≡ true
+pub hash_among : (q : List ℕ) (keys : List (List ℕ)) → among q keys ≡ true → list_any (λ x. x == hash_of q) (each hash_of keys) ≡ true
 hash_among q [] e = e
 hash_among q (k ∷ ks) e = go (eq_by_cmp order q k) refl (λ h. hash_among q ks h) e
   where

@@ -4,5 +4,5 @@ pub mod Nodes
 mod Puts
 mod Hashed
 mod Values
-mod Apart
+pub mod Apart
 mod Maps

@@ -1,5 +1,5 @@
 -- The store: a finite map from keys to values, and what a command does to it and answers.
-use Rattle.std.specs.Prelude.{ℕ, ◌+◌, ◌-◌, ◌^◌, ◌==◌, nat_le, Bool, true, false, not, if◌then◌else◌, List, [], ◌∷◌, ◌++◌, length, map as each, Option, Some, None, unwrap_or, refl}
+use Rattle.std.specs.Prelude.{◌≤◌, ℕ, ◌+◌, ◌-◌, ◌^◌, ◌==◌, nat_le, Bool, true, false, not, if◌then◌else◌, List, [], ◌∷◌, ◌++◌, length, map as each, Option, Some, None, unwrap_or, refl}
 use Rattle.std.specs.Coded.{Coded, code_by, coded×, coded_list, coded_ℕ}
 use Rattle.std.specs.Int.{w64, from_be_bytes, to_be_bytes}
 use Rattle.std.specs.Option.{option_eq}
@@ -30,6 +30,11 @@ keys_of (Incr key) = key ∷ []
 keys_of (Append key more) = key ∷ []
 keys_of (CondPut key expected value) = key ∷ []
 keys_of (Multi pairs) = each (λ p. p.0) pairs
+
+-- the command names one to four keys, as each value of its type does: no multi-put is empty
+pub record NamesKey (c : Command) : Type 0 where
+  pub some : 1 ≤ length (keys_of c)
+  pub few : length (keys_of c) ≤ 4
 
 -- every command but Get may change the store
 abbrev pub is_update : Command → Bool

@@ -2,9 +2,18 @@
 ghost use Rattle.std.specs.Prelude.{◌≡◌, ◌≢◌, ℕ, List, Some, false, true};
 ghost use Rattle.std.specs.FinMap as map;
 ghost use Rattle.curp_cmd.specs.Hash.{conflicts};
-ghost use Rattle.curp_cmd.specs.Store.{Contents, applied, is_undone, is_update};
+ghost use Rattle.curp_cmd.specs.Store.{Contents, NamesKey, applied, is_undone, is_update};
 
 use crate::Command;
+
+/// A command names one to four keys: no multi-put is empty, and none has more than four pairs.
+pub fn names_one_to_four_keys(command: &Command)
+    ensures { NamesKey command.now }
+{
+    if let Command::Multi(pairs) = command {
+        pairs.as_slice();
+    }
+}
 
 /// A put gives its key the value, and changes no other key's.
 pub fn put_changes_one_key()

@@ -1,8 +1,7 @@
 -- What the laws of every script ask of its header and its steps.
-use Rattle.std.specs.Prelude.{◌≡◌, ◌≤◌, List, length, ⊤}
+use Rattle.std.specs.Prelude.{◌≡◌, ◌≤◌, List, ⊤}
 use Rattle.curp_base.specs.Words.{Each}
-use Rattle.curp_cmd.specs.Store.{keys_of}
-use Rattle.curp_cmd.specs.declared.command.Command.{Command}
+use Rattle.curp_cmd.specs.Store.{NamesKey}
 use Rattle.curp_msg.specs.declared.script.Header.{Header}
 use Rattle.curp_msg.specs.declared.script.Protocol.TheVariants.{One}
 use Rattle.curp_msg.specs.declared.script.Step.{Step}
@@ -16,11 +15,6 @@ pub record IsHeader (h : Header) : Type 0 where
   pub sets : (1 ≤ h.sets) × (h.sets ≤ 1024)
   pub ways : (1 ≤ h.ways) × (h.ways ≤ 16)
   pub protocol : h.protocol ≡ One
-
--- the command names one to four keys, as each value of its type does: no multi-put is empty
-pub record NamesKey (c : Command) : Type 0 where
-  pub some : 1 ≤ length (keys_of c)
-  pub few : length (keys_of c) ≤ 4
 
 -- the command that a step invokes, if it does, is a value of its type
 abbrev pub IsStep : Step → Type 0

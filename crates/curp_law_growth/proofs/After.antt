@@ -22,7 +22,8 @@ use Rattle.curp_facts.specs.Facts.{IsAmong, WasSent}
 use Rattle.curp_law_growth.specs.After.{After, BackupAfter, BackupMoves, BackupNew, BackupStays, ByBackup, ByClient, ByManager, ByMaster, ByWitness, ClientAfter, ClientMoves, ClientStays, ManagerAfter, ManagerMoves, ManagerStays, MasterAfter, MasterMoves, MasterNew, MasterStays, MessageAfter, SentBefore, WitnessAfter, WitnessMoves, WitnessNew, WitnessStays}
 use Rattle.curp_law_growth.specs.Deeds.{Gave, IsMeant}
 use Rattle.curp_law_growth.proofs.Deeds.{deed_meant, done_taken}
-use Rattle.curp_law_growth.proofs.Numbered.{all_of-kept, numbered_set_cases}
+use Rattle.curp_base.proofs.Numbered.{numbered_set_cases}
+use Rattle.curp_model.proofs.Batches.{all_of-kept}
 
 -- what has a number among nodes to which fresh ones came was there, or is fresh
 grown_cases : {S : Type 0} (xs : List S) (fresh : S) (next n : ℕ) (y : S) → numbered (grown xs fresh next) n ≡ Some y → (numbered xs n ≡ Some y) ⊎ ((numbered xs n ≡ None) × (y ≡ fresh))

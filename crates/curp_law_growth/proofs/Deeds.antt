@@ -9,7 +9,7 @@ use Rattle.curp_msg.specs.declared.script.Step.{Step}
 use Rattle.curp_msg.specs.declared.script.Step.TheVariants as steps
 use Rattle.curp_model.specs.World.{World, deed_of, delivery, is_lost, is_too_much, messages, names_nobody, names_stopped, refusal, result_of, stops_manager, weight}
 use Rattle.curp_law_growth.specs.Deeds.{IsMeant}
-use Rattle.curp_law_growth.proofs.Numbered.{place}
+use Rattle.curp_base.proofs.Numbered.{place}
 
 module _ (w : World) where
   delivery_meant : (number : _) (o : Option Message) → numbered (messages w) number ≡ o → IsMeant w (delivery o)

@@ -1,4 +1,3 @@
-pub mod Numbered
 pub mod Deeds
 pub mod Keepers
 pub mod Masters

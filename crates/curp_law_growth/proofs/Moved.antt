@@ -13,7 +13,7 @@ use Rattle.curp_model.specs.Recovery.{MasterStage, master_input}
 use Rattle.curp_model.specs.Witness.{WitnessState, witness_input}
 use Rattle.curp_model.specs.World.{Deed, Gives, World, deed_of, effect, events_of, kept, moves_one, step, steps_by, with_backup, with_client, with_master, with_witness}
 use Rattle.curp_law_growth.specs.Deeds.{Gave}
-use Rattle.curp_law_growth.proofs.Numbered.{numbered_set_same}
+use Rattle.curp_base.proofs.Numbered.{numbered_set_same}
 
 module _ (w : World) (s : Step) where
   -- the world is that which the input leaves

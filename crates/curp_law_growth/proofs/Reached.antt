@@ -9,7 +9,7 @@ use Rattle.curp_model.specs.Master.{MasterState, Phase}
 use Rattle.curp_model.specs.Recovery.{MasterStage, Fresh, Recovering, Serving}
 use Rattle.curp_model.specs.Witness.{WitnessState, fresh_witness, started_witness}
 use Rattle.curp_model.specs.World.{World, opening, opening_master, run, shape_of, step, world}
-use Rattle.curp_law_growth.proofs.Numbered.{numbered_replicate, numbered_same, place}
+use Rattle.curp_base.proofs.Numbered.{numbered_replicate, numbered_same, place}
 use Rattle.curp_facts.specs.Growth.{Above, AllGrow, AllNew, Dropped, Grows, LifeGrows, MasterGrows, Steady, WitnessGrows}
 use Rattle.curp_law_growth.proofs.Worlds.{step_grows}
 

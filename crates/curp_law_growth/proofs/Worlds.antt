@@ -33,7 +33,8 @@ use Rattle.curp_law_growth.specs.Deeds.{IsFor, IsMeant}
 use Rattle.curp_law_growth.proofs.Deeds.{deed_meant}
 use Rattle.curp_law_growth.proofs.Keepers.{Drops, Lets, backup_input_grows, backup_self, witness_input_grows, witness_self, witness_weaker}
 use Rattle.curp_law_growth.proofs.Managers.{manager_input_grows, manager_self}
-use Rattle.curp_law_growth.proofs.Numbered.{any_at, all_of-kept, numbered_same, numbered_set_cases, numbered_set_other, numbered_set_same}
+use Rattle.curp_base.proofs.Numbered.{any_at, numbered_same, numbered_set_cases, numbered_set_other, numbered_set_same}
+use Rattle.curp_model.proofs.Batches.{all_of-kept}
 use Rattle.curp_law_growth.proofs.Recoveries.{master_input_grows, master_self}
 
 -- ---- lists of nodes

@@ -12,7 +12,7 @@ use Rattle.curp_msg.specs.declared.body.Body.{Body}
 use Rattle.curp_msg.specs.declared.body.Body.TheVariants as body
 use Rattle.curp_msg.specs.declared.config.PartConfig.{PartConfig}
 use Rattle.curp_model.specs.Client.{Accept, Attempt, Early, Pending, all_accepted, has_accepted, is_told, proved_answer, proves, with_accept, with_early}
-use Rattle.curp_law_growth.proofs.Numbered.{any_at}
+use Rattle.curp_base.proofs.Numbered.{any_at}
 use Rattle.curp_facts.specs.Evidence.{AcceptCame, EarlyCame, EvidenceOk, IsAttempt}
 use Rattle.curp_law_keepers.specs.ClientEffect.{ByAccepts}
 use Rattle.curp_law_keepers.proofs.Lists.{each_by_all, filter_at, first_at}

@@ -20,7 +20,7 @@ use Rattle.curp_model.specs.World.{World, kept, messages, step, with_master}
 use Rattle.curp_facts.specs.Growth.{Grows}
 use Rattle.curp_facts.specs.Run.{IsStep}
 use Rattle.curp_law_growth.specs.Deeds.{IsFor}
-use Rattle.curp_law_growth.proofs.Numbered.{numbered_set_same}
+use Rattle.curp_base.proofs.Numbered.{numbered_set_same}
 use Rattle.curp_law_growth.proofs.Worlds.{step_grows}
 use Rattle.curp_law_keepers.specs.BackupEffect.{BackupSays}
 use Rattle.curp_law_keepers.specs.WitnessEffect.{WitnessSays}

@@ -31,7 +31,7 @@ use Rattle.curp_facts.specs.Run.{IsHeader, IsRun, IsStep}
 use Rattle.curp_law_growth.specs.Deeds.{IsFor}
 use Rattle.curp_law_growth.proofs.Deeds.{done_taken}
 use Rattle.curp_facts.specs.Facts.{WasSent}
-use Rattle.curp_law_growth.proofs.Numbered.{numbered_set_same, place}
+use Rattle.curp_base.proofs.Numbered.{numbered_set_same, place}
 use Rattle.curp_law_growth.proofs.Reached.{grows_steady, reached_steady}
 use Rattle.curp_law_growth.proofs.Worlds.{step_grows}
 use Rattle.curp_law_kept.proofs.Known.{Known, fits}

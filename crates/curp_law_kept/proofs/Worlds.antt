@@ -13,7 +13,7 @@ use Rattle.curp_model.specs.World.{World, completion, invocation_of, kept, with_
 use Rattle.curp_facts.specs.Growth.{Grows}
 use Rattle.curp_facts.specs.Invariant.{Invariant}
 use Rattle.curp_law_growth.specs.Deeds.{IsFor}
-use Rattle.curp_law_growth.proofs.Numbered.{numbered_set_cases, numbered_set_same}
+use Rattle.curp_base.proofs.Numbered.{numbered_set_cases, numbered_set_same}
 use Rattle.curp_law_keepers.proofs.Backups.{backup_effect}
 use Rattle.curp_law_keepers.proofs.Witnesses.{witness_effect}
 use Rattle.curp_law_kept.proofs.ClientSteps.{client_step}

@@ -24,7 +24,7 @@ use Rattle.curp_law_line.proofs.AdoptedOrder.{after_line, again_distinct, again_
 use Rattle.curp_law_line.proofs.Adopting.{Adopting, again, cut_part, done, gone, is_gone, keeps_on, new_part, not_done, order_now, order_was, parts_now, replayed}
 use Rattle.curp_law_line.proofs.Hashes.{came_append, came_stays, key_touches}
 use Rattle.curp_law_line.proofs.Lists.{Distinct, distinct_filter, distinct_places, from_filter, in_cases, in_filter, in_left, in_right, only_one}
-use Rattle.curp_law_line.proofs.Numbered.{numbered_set_cases}
+use Rattle.curp_base.proofs.Numbered.{numbered_set_cases}
 use Rattle.curp_law_line.proofs.Orders.{Split, answered_is, answered_there, distinct_append, front_at, front_of, same_fronts, split_in}
 use Rattle.curp_law_line.proofs.Requests.{asked_all_in, asked_of_in, first_on, in_asked_all, op_in_ops}
 

@@ -16,7 +16,7 @@ use Rattle.curp_law_line.proofs.Hashes.{behind_append, came_append, came_stays, 
 use Rattle.curp_law_line.proofs.Known.{stays_known}
 use Rattle.curp_law_line.proofs.Lines.{has_moving, onward_given, split_append}
 use Rattle.curp_law_line.proofs.Lists.{empty_list, or_false, some_or_none}
-use Rattle.curp_law_line.proofs.Numbered.{numbered_set_cases, numbered_set_other}
+use Rattle.curp_base.proofs.Numbered.{numbered_set_cases, numbered_set_other}
 use Rattle.curp_law_line.proofs.Orders.{behind_asked}
 use Rattle.curp_law_line.proofs.Requests.{asked_of_ops, ops_any}
 

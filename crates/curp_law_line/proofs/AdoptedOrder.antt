@@ -33,7 +33,7 @@ use Rattle.curp_law_line.proofs.Entries.{take_ungiven}
 use Rattle.curp_law_line.proofs.Hashes.{behind_append, behind_in, no_onward, on_append, update_mark, update_place}
 use Rattle.curp_law_line.proofs.Lines.{has_moving}
 use Rattle.curp_law_line.proofs.Lists.{Distinct, distinct_filter, distinct_from, filter_alike, filter_full, filter_swap, from_filter, in_any, in_cases, in_filter, in_left, in_none, or_false, same_id-alike, some_or_none}
-use Rattle.curp_law_line.proofs.Numbered.{any_at, filter_at, numbered_set_same}
+use Rattle.curp_base.proofs.Numbered.{any_at, filter_at, numbered_set_same}
 use Rattle.curp_law_line.proofs.Ops.{one_command}
 use Rattle.curp_law_line.proofs.Orders.{behind_asked, core, distinct_split}
 use Rattle.curp_law_line.proofs.Requests.{asked_all_in, asked_of_in, distinct_asked_all, distinct_asked_of, in_asked_all, one_on, ops_any, owned_ops}

@@ -25,7 +25,7 @@ use Rattle.curp_law_line.proofs.Entries.{take_entry}
 use Rattle.curp_law_line.proofs.Given.{TakesOnce}
 use Rattle.curp_law_line.proofs.Lines.{has_moving}
 use Rattle.curp_law_line.proofs.Lists.{in_any, or_false, some_same}
-use Rattle.curp_law_line.proofs.Numbered.{any_at, numbered_set_cases}
+use Rattle.curp_base.proofs.Numbered.{any_at, numbered_set_cases}
 use Rattle.curp_law_line.proofs.Requests.{ops_any, owned_ops}
 use Rattle.curp_law_line.proofs.Spans.{owned_after, takes}
 

@@ -21,7 +21,7 @@ use Rattle.curp_law_line.proofs.Adopting.{Adopting, done, gone, is_gone, keeps_o
 use Rattle.curp_law_line.proofs.Completions.{in_updates}
 use Rattle.curp_law_line.proofs.Hashes.{update_place, updates_append}
 use Rattle.curp_law_line.proofs.Lists.{in_any, same_id-alike}
-use Rattle.curp_law_line.proofs.Numbered.{numbered_same}
+use Rattle.curp_base.proofs.Numbered.{numbered_same}
 use Rattle.curp_law_line.proofs.Requests.{asked_of_in, in_asked_of}
 
 module _ (it : Adopting) where

@@ -21,7 +21,7 @@ use Rattle.curp_law_line.proofs.AdoptedPlaces.{agree, at_log, done_false, fresh_
 use Rattle.curp_law_line.proofs.Adopting.{Adopting, done, is_gone, keeps_on, new_part, parts_now, replayed}
 use Rattle.curp_law_line.proofs.Completions.{op_as}
 use Rattle.curp_law_line.proofs.Lists.{in_filter}
-use Rattle.curp_law_line.proofs.Numbered.{filter_at, numbered_set_other}
+use Rattle.curp_base.proofs.Numbered.{filter_at, numbered_set_other}
 
 module _ (it : Adopting) where
   -- ---- the marks

@@ -25,7 +25,7 @@ use Rattle.curp_law_line.proofs.Entries.{give_entry, give_of, take_of}
 use Rattle.curp_law_line.proofs.Given.{GivesOnce, LogValue}
 use Rattle.curp_law_line.proofs.Hashes.{behind_append, on_append}
 use Rattle.curp_law_line.proofs.Lists.{empty_list, from_filter, in_any, some_same}
-use Rattle.curp_law_line.proofs.Numbered.{any_at, filter_at, numbered_set_same}
+use Rattle.curp_base.proofs.Numbered.{any_at, filter_at, numbered_set_same}
 use Rattle.curp_law_line.proofs.Orders.{asked_of, behind_asked}
 use Rattle.curp_law_line.proofs.Owning.{op_owned, owns_touched}
 use Rattle.curp_law_line.proofs.Requests.{asked_of_in, owned_ops}

@@ -10,7 +10,7 @@ use Rattle.curp_cmd.proofs.Ids.{same_id-self, same_id-true}
 use Rattle.curp_order.specs.declared.Event.{Event}
 use Rattle.curp_order.specs.declared.Event.TheVariants.{Complete, Invoke}
 use Rattle.curp_msg.specs.declared.machine.Completed.{Completed}
-use Rattle.curp_model.specs.Marked.{completes, is_completed}
+use Rattle.curp_facts.specs.Marked.{completes, is_completed}
 use Rattle.curp_model.specs.Marks.{Mark, flagged, has_completed, is_flagged, is_shown, is_update_mark, shown}
 use Rattle.curp_law_logs.specs.Hashes.{Asked, In, asked}
 use Rattle.curp_law_line.specs.Line.{IsCompleted, Line, LineOk, StandsIn, completed_order}
@@ -20,7 +20,7 @@ use Rattle.curp_law_line.proofs.Given.{LogsOk, Pure, Second}
 use Rattle.curp_law_line.proofs.Hashes.{update_place}
 use Rattle.curp_law_line.proofs.Keeps.{keeps}
 use Rattle.curp_law_line.proofs.Lists.{in_any, in_head, in_tail}
-use Rattle.curp_law_line.proofs.Numbered.{any_at}
+use Rattle.curp_base.proofs.Numbered.{any_at}
 
 -- ---- lists that stand in others
 

@@ -23,7 +23,7 @@ use Rattle.curp_model.proofs.Logs.{meaning_append}
 use Rattle.curp_law_logs.specs.Hashes.{Asked, In, NoGive, asked, behind, behind_from, came, came_from, gives, on, updates}
 use Rattle.curp_law_line.specs.Hashes.{Part, given_on, has_take, is_take, onward}
 use Rattle.curp_law_line.proofs.Lists.{in_cases, in_cons, in_map, in_none, or_none}
-use Rattle.curp_law_line.proofs.Numbered.{filter_at}
+use Rattle.curp_base.proofs.Numbered.{filter_at}
 
 pub on_append : (h : ℕ) (xs ys : List Asked) → on h (xs ++ ys) ≡ on h xs ++ on h ys
 on_append h xs ys = filter-append _ xs ys

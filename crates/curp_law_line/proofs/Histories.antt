@@ -22,7 +22,7 @@ use Rattle.curp_law_line.proofs.AdoptedMarks.{filter_order}
 use Rattle.curp_law_line.proofs.Completions.{marks_once}
 use Rattle.curp_law_line.proofs.Hashes.{update_mark, update_place, updates_append}
 use Rattle.curp_law_line.proofs.Lists.{distinct_from, in_map, take_split}
-use Rattle.curp_law_line.proofs.Numbered.{filter_at}
+use Rattle.curp_base.proofs.Numbered.{filter_at}
 use Rattle.curp_law_line.proofs.Ops.{one_command}
 use Rattle.curp_law_line.proofs.Orders.{answer_there}
 use Rattle.curp_law_line.proofs.Shown.{by_updates}

@@ -1,5 +1,4 @@
 pub mod Lists
-pub mod Numbered
 pub mod Hashes
 pub mod Known
 pub mod Given

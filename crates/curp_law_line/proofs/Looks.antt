@@ -20,7 +20,7 @@ use Rattle.curp_law_line.proofs.Entries.{take_entry}
 use Rattle.curp_law_line.proofs.Given.{Pure, TakesOnce}
 use Rattle.curp_law_line.proofs.Hashes.{update_place}
 use Rattle.curp_law_line.proofs.Lists.{in_any, in_head, in_tail}
-use Rattle.curp_law_line.proofs.Numbered.{any_at, numbered_same}
+use Rattle.curp_base.proofs.Numbered.{any_at, numbered_same}
 use Rattle.curp_law_line.proofs.Orders.{same_fronts}
 
 -- marks that a filter keeps on a hash leave what the order has there

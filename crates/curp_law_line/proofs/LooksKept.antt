@@ -18,7 +18,7 @@ use Rattle.curp_law_line.proofs.AdoptedMarks.{filter_order, stays}
 use Rattle.curp_law_line.proofs.Completions.{flagging_at}
 use Rattle.curp_law_line.proofs.Given.{TakesOnce}
 use Rattle.curp_law_line.proofs.Looks.{told_low}
-use Rattle.curp_law_line.proofs.Numbered.{numbered_same, numbered_set_other, numbered_set_same}
+use Rattle.curp_base.proofs.Numbered.{numbered_same, numbered_set_other, numbered_set_same}
 use Rattle.curp_law_line.proofs.Pushes as pushes
 
 -- the take stands in a log that has all of another

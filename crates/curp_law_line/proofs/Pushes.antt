@@ -17,7 +17,7 @@ use Rattle.curp_law_logs.specs.Hashes.{Asked}
 use Rattle.curp_law_line.specs.Hashes.{Part}
 use Rattle.curp_law_line.specs.Line.{Answered, AnswersOk, OnceOk, OpAt, StandingOk, WaitingOk}
 use Rattle.curp_law_line.specs.Moves.{pushed}
-use Rattle.curp_law_line.proofs.Numbered.{numbered_same, numbered_set_cases, numbered_set_other, numbered_set_same}
+use Rattle.curp_base.proofs.Numbered.{numbered_same, numbered_set_cases, numbered_set_other, numbered_set_same}
 
 -- what is answered in an order is so in a longer one
 pub answered_grows : (os more : List Asked) (x : Asked) (a : Answer) → Answered os x a → Answered (os ++ more) x a

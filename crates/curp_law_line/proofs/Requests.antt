@@ -18,7 +18,7 @@ use Rattle.curp_law_logs.specs.Hashes.{Asked, In, on}
 use Rattle.curp_law_line.specs.Moves.{ops}
 use Rattle.curp_law_line.proofs.AdoptedMarks.{asked_all}
 use Rattle.curp_law_line.proofs.Lists.{Distinct, in_any, in_cons, in_none, in_tail}
-use Rattle.curp_law_line.proofs.Numbered.{any_at}
+use Rattle.curp_base.proofs.Numbered.{any_at}
 use Rattle.curp_law_line.proofs.Orders.{asked_of}
 
 pub asked_all_in : (rs : List Request) (x : Asked) → In x (asked_all rs) → (j : ℕ) × (r : Request) × At rs j r × ((r.id, r.command) ≡ x)

@@ -21,7 +21,7 @@ use Rattle.curp_law_line.specs.Moves.{Adopt, AdoptFits, GivenFits, MigrateFits, 
 use Rattle.curp_law_line.proofs.Entries.{take_of}
 use Rattle.curp_law_line.proofs.Hashes.{any_push}
 use Rattle.curp_law_line.proofs.Lists.{in_any, or_false, some_same}
-use Rattle.curp_law_line.proofs.Numbered.{any_at, numbered_set_cases}
+use Rattle.curp_base.proofs.Numbered.{any_at, numbered_set_cases}
 use Rattle.curp_law_line.proofs.Owning.{op_owned}
 use Rattle.curp_law_line.proofs.Pushes as pushes
 use Rattle.curp_law_line.proofs.Requests.{ops_any}

@@ -25,7 +25,7 @@ use Rattle.curp_law_line.proofs.Completions.{flagged_order, flagging_at}
 use Rattle.curp_law_line.proofs.Given.{LogValue, Pure, TakesOnce}
 use Rattle.curp_law_line.proofs.Lists.{take_split}
 use Rattle.curp_law_line.proofs.Looks.{look_value}
-use Rattle.curp_law_line.proofs.Numbered.{filter_at}
+use Rattle.curp_base.proofs.Numbered.{filter_at}
 use Rattle.curp_law_line.proofs.OwnedValues.{owned_answer}
 use Rattle.curp_law_line.proofs.Shown.{by_updates}
 

@@ -19,7 +19,7 @@ use Rattle.curp_order.specs.declared.Event.TheVariants.{Complete, Invoke}
 use Rattle.curp_msg.specs.declared.machine.Capture.{Capture}
 use Rattle.curp_model.specs.Log.{answer_after}
 use Rattle.curp_model.specs.Manager.{Migration}
-use Rattle.curp_model.specs.Marked.{is_completed}
+use Rattle.curp_facts.specs.Marked.{is_completed}
 use Rattle.curp_model.specs.Marks.{Executed, Looked, Mark, is_update_mark, shown}
 use Rattle.curp_facts.specs.Facts.{IsAmong}
 use Rattle.curp_law_logs.specs.Hashes.{Asked, updates}

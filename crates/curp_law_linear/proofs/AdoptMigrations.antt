@@ -28,7 +28,7 @@ use Rattle.curp_law_line.specs.Hashes.{Part, is_give, is_take, owns}
 use Rattle.curp_law_line.specs.Line.{Ungiven}
 use Rattle.curp_law_line.specs.Moves.{OnlyMoving}
 use Rattle.curp_law_line.specs.OfWorld.{line_of, moving_of, part_of, told_by}
-use Rattle.curp_law_line.proofs.Numbered.{any_at}
+use Rattle.curp_base.proofs.Numbered.{any_at}
 use Rattle.curp_law_line.proofs.Spans.{owned_after, takes}
 use Rattle.curp_law_logs.specs.Gives.{GiveFits, GivesFit}
 use Rattle.curp_law_logs.specs.Hashes.{gives}

@@ -21,7 +21,7 @@ use Rattle.curp_model.specs.World.{World, invocation_of, is_adopted, kept, maste
 use Rattle.curp_facts.specs.Growth.{Grows}
 use Rattle.curp_facts.specs.Kept.{AdoptedLog}
 use Rattle.curp_law_growth.specs.Deeds.{IsFor}
-use Rattle.curp_law_growth.proofs.Numbered.{numbered_set_same}
+use Rattle.curp_base.proofs.Numbered.{numbered_set_same}
 use Rattle.curp_law_keepers.proofs.Backups.{backup_effect}
 use Rattle.curp_law_keepers.proofs.Witnesses.{witness_effect}
 use Rattle.curp_law_kept.proofs.Cases.{RestsIn}

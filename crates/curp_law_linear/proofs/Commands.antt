@@ -18,7 +18,7 @@ use Rattle.curp_model.specs.Manager.{manager_input}
 use Rattle.curp_model.specs.Recovery.{master_input}
 use Rattle.curp_model.specs.Witness.{witness_input}
 use Rattle.curp_model.specs.World.{World, completion, invocation_of}
-use Rattle.curp_facts.specs.Run.{NamesKey}
+use Rattle.curp_cmd.specs.Store.{NamesKey}
 use Rattle.curp_law_kept.proofs.Cases.{ByBackup, ByClient, ByManager, ByMaster, ByWitness, InvokesKey, Rests, StepCase, Stays}
 
 -- each command that is invoked in these events names a key

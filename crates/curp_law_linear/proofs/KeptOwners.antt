@@ -21,7 +21,7 @@ use Rattle.curp_law_line.specs.Hashes.{is_give}
 use Rattle.curp_law_line.specs.OfWorld.{part_of}
 use Rattle.curp_law_line.proofs.Entries.{take_of}
 use Rattle.curp_law_line.proofs.Lists.{in_any}
-use Rattle.curp_law_line.proofs.Numbered.{any_at}
+use Rattle.curp_base.proofs.Numbered.{any_at}
 use Rattle.curp_law_line.proofs.Spans.{owned_after, takes, with_range_has}
 use Rattle.curp_law_linear.specs.Ordered.{Ordered, moved_number}
 use Rattle.curp_law_linear.specs.Serves.{OpeningServes}

@@ -21,7 +21,7 @@ use Rattle.curp_law_line.specs.Moves.{IsCarried}
 use Rattle.curp_law_line.specs.OfWorld.{line_of, moving_of, part_of}
 use Rattle.curp_law_line.proofs.Discharged.{pure}
 use Rattle.curp_law_line.proofs.Lists.{take_split}
-use Rattle.curp_law_line.proofs.Numbered.{any_at}
+use Rattle.curp_base.proofs.Numbered.{any_at}
 use Rattle.curp_law_line.proofs.Stores.{carried_store, owned_store}
 use Rattle.curp_law_linear.specs.Ordered.{Ordered}
 use Rattle.curp_law_linear.proofs.MastersRise.{TakeOfWork, adopted_ok, standing, take_of_work}

@@ -21,7 +21,7 @@ use Rattle.curp_law_kept.proofs.ManagersDo.{manager_does}
 use Rattle.curp_law_line.specs.Hashes.{Part}
 use Rattle.curp_law_line.specs.Moves.{ops, replayed_of}
 use Rattle.curp_law_line.specs.OfWorld.{entries_at, line_of, logged_entries, part_of}
-use Rattle.curp_law_line.proofs.Numbered.{numbered_set_cases}
+use Rattle.curp_base.proofs.Numbered.{numbered_set_cases}
 use Rattle.curp_law_logs.specs.Gives.{GivesFit}
 use Rattle.curp_law_logs.proofs.Gives.{NoGives, gives_fit_front, gives_fit_more}
 use Rattle.curp_law_linear.specs.Ordered.{AdoptedOk, MigrationsRise, Ordered, moved_number}

@@ -40,7 +40,7 @@ use Rattle.curp_model.specs.Ranges.{owns_all}
 use Rattle.curp_model.specs.Recovery.{Fresh, MasterStage, Recovering, Serving, master_input, master_ordered, on_master}
 use Rattle.curp_model.specs.Table.{check, is_gone}
 use Rattle.curp_facts.specs.Facts.{IsAmong}
-use Rattle.curp_law_line.proofs.Numbered.{filter_at}
+use Rattle.curp_base.proofs.Numbered.{filter_at}
 
 -- a read that the master takes: it has the next number and the length of the log, its hashes are owned, and its answer is that
 -- of the log's store

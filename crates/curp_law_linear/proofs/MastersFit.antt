@@ -29,7 +29,7 @@ use Rattle.curp_model.proofs.Logs.{new_by_test}
 use Rattle.curp_facts.specs.Entries.{EntryOk, LogOk}
 use Rattle.curp_facts.specs.Facts.{IsAmong, WasSent, WasTaken, hi_of, lo_of}
 use Rattle.curp_facts.specs.Kept.{AdoptedLog}
-use Rattle.curp_facts.specs.Run.{NamesKey}
+use Rattle.curp_cmd.specs.Store.{NamesKey}
 use Rattle.curp_law_kept.proofs.Known.{Known, said}
 use Rattle.curp_law_line.specs.Hashes.{Part, is_give, is_take}
 use Rattle.curp_law_line.specs.Line.{Ungiven}

@@ -17,7 +17,7 @@ use Rattle.curp_law_line.specs.Moves.{AllFit, Fits, Move, after, all_after, push
 use Rattle.curp_law_line.specs.OfWorld.{line_of, moving_of, part_of}
 use Rattle.curp_law_line.proofs.Discharged.{IsPlainLog, logs_ok}
 use Rattle.curp_law_line.proofs.Given.{LogsOk}
-use Rattle.curp_law_line.proofs.Numbered.{numbered_set_cases, numbered_set_other, numbered_set_same}
+use Rattle.curp_base.proofs.Numbered.{numbered_set_cases, numbered_set_other, numbered_set_same}
 use Rattle.curp_law_linear.specs.Refined.{NoAdoption}
 use Rattle.curp_law_linear.specs.Ordered.{MigrationsRise, Ordered}
 use Rattle.curp_law_linear.proofs.Parts.{entry_part, gives_move, part_entry, plain, rise_alone, takes_move}

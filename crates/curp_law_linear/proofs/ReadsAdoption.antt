@@ -24,7 +24,7 @@ use Rattle.curp_facts.specs.Kept.{lists_of_master}
 use Rattle.curp_facts.specs.Nodes.{IsWaiting, MasterOk}
 use Rattle.curp_facts.specs.Said.{RecoveredSaid}
 use Rattle.curp_law_growth.specs.Deeds.{IsFor}
-use Rattle.curp_law_growth.proofs.Numbered.{numbered_set_cases, numbered_set_same}
+use Rattle.curp_base.proofs.Numbered.{numbered_set_cases, numbered_set_same}
 use Rattle.curp_law_kept.specs.ManagerEffect.{ManagerEffect, Uttered}
 use Rattle.curp_law_kept.proofs.Known.{Known, said}
 use Rattle.curp_law_kept.proofs.ManagersDo.{manager_does}

@@ -15,7 +15,7 @@ use Rattle.curp_facts.specs.Entries.{EntryOk, LogOk}
 use Rattle.curp_facts.specs.Facts.{hi_of, lo_of}
 use Rattle.curp_facts.specs.Kept.{AdoptedLog}
 use Rattle.curp_law_kept.proofs.Known.{Known}
-use Rattle.curp_law_line.proofs.Numbered.{any_at}
+use Rattle.curp_base.proofs.Numbered.{any_at}
 use Rattle.curp_law_linear.specs.Ordered.{Ordered, moved_number}
 use Rattle.curp_law_linear.proofs.MastersRise.{adopted_ok, give_given, take_given}
 use Rattle.curp_law_logs.specs.Migrations.{MovesNothing, give_number, take_number}

@@ -3,7 +3,7 @@ use Rattle.std.specs.Prelude.{List}
 use Rattle.std.specs.List.{filter}
 use Rattle.curp_cmd.specs.declared.command.Command.{Command}
 use Rattle.curp_cmd.specs.declared.command.RequestId.{RequestId}
-use Rattle.curp_model.specs.Marked.{is_completed}
+use Rattle.curp_facts.specs.Marked.{is_completed}
 use Rattle.curp_model.specs.World.{World, order}
 
 -- the requests of the order of which the history has a completion, as they stand in it

@@ -21,7 +21,7 @@ use Rattle.curp_model.specs.World.{World}
 use Rattle.curp_facts.specs.Facts.{HasLog, IsAdoptedNow, Lists, Logged, WasAdopted, WasSent, hi_of, lo_of}
 use Rattle.curp_facts.specs.Kept.{AdoptedLog, PassedBy, lists_of_master}
 use Rattle.curp_facts.specs.Reach.{Reach}
-use Rattle.curp_facts.specs.Run.{NamesKey}
+use Rattle.curp_cmd.specs.Store.{NamesKey}
 use Rattle.curp_law_line.specs.Line.{LineOk, LookGives}
 use Rattle.curp_law_line.specs.OfWorld.{line_of}
 use Rattle.curp_law_logs.specs.Gives.{GivesFit}

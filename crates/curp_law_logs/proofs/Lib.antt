@@ -1,4 +1,3 @@
-pub mod Apart
 pub mod Values
 pub mod Ranges
 pub mod Stores

@@ -13,7 +13,7 @@ use Rattle.curp_range.specs.Spans.{Span, is_in, is_owned, is_covered, part_above
 use Rattle.curp_range.proofs.Tests.{covers_if_covered}
 use Rattle.curp_facts.specs.Facts.{IsAmong}
 use Rattle.curp_model.specs.Ranges.{owns_all}
-use Rattle.curp_law_logs.proofs.Apart.{number_is, same_number}
+use Rattle.curp_cmd.proofs.Apart.{number_is, same_number}
 
 -- no span ends before it begins
 abbrev pub Ordered : List Span → Type 0

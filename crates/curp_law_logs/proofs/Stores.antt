@@ -15,7 +15,7 @@ use Rattle.curp_cmd.specs.Store.{Contents, with_pairs}
 use Rattle.curp_range.specs.Spans.{is_in}
 use Rattle.curp_model.specs.Log.{is_pair_in, without_keys}
 use Rattle.curp_law_logs.specs.Gives.{PairsAscend, PairsWithin}
-use Rattle.curp_law_logs.proofs.Apart.{order, among, with_pairs-other}
+use Rattle.curp_cmd.proofs.Apart.{order, among, with_pairs-other}
 
 first : (a b : Bool) → T (a && b) → T a
 first true b t = tt

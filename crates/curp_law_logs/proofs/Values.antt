@@ -15,7 +15,7 @@ use Rattle.curp_cmd.specs.declared.command.Command.{Command}
 use Rattle.curp_cmd.specs.declared.command.Command.TheVariants.{Get, Put, Delete, Incr, Append, CondPut, Multi}
 use Rattle.curp_order.specs.Order.{answers, answers_from, store_after}
 use Rattle.curp_law_logs.specs.Hashes.{Asked, In, on, value}
-use Rattle.curp_law_logs.proofs.Apart.{order, among, Alike, IsLocal, local, with_pairs-alike, hash_among, keys_apart, same_after, same_second}
+use Rattle.curp_cmd.proofs.Apart.{order, among, Alike, IsLocal, local, with_pairs-alike, hash_among, keys_apart, same_after, same_second}
 
 -- ---- one command
 

@@ -15,7 +15,7 @@ use Rattle.curp_msg.specs.declared.script.Header.{Header}
 use Rattle.curp_model.specs.Client.{ClientState, Pending, next_id, without_id}
 use Rattle.curp_model.specs.Marks.{Mark, flagged}
 use Rattle.curp_cmd.proofs.Ids.{same_id-self}
-use Rattle.curp_law_order.proofs.Numbered.{numbered_same, numbered_set_cases, numbered_set_same, numbered_set_other, filter_at}
+use Rattle.curp_base.proofs.Numbered.{numbered_same, numbered_set_cases, numbered_set_same, numbered_set_other, filter_at}
 use Rattle.curp_law_order.proofs.Facts.{Scene, MessageOk, PendingOk, ClientOk, ClientsKnow, ClientsWait, CompletedOk, InTime, StateOk, Facts}
 use Rattle.curp_law_order.proofs.Growing.{Grows, client_grows, completed_grows, pending_grows, said_grows}
 use Rattle.curp_law_order.proofs.Marking.{marks_invoke, marks_complete}

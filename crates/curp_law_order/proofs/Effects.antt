@@ -28,7 +28,7 @@ use Rattle.curp_msg.specs.Moved.{Moved}
 use Rattle.curp_cmd.specs.Node.{backup_node, client_node, master_node, witness_node}
 use Rattle.curp_model.specs.Table.{check}
 use Rattle.curp_model.specs.Witness.{WitnessState, holds}
-use Rattle.curp_model.specs.Shape.{ServesAsOpened}
+use Rattle.curp_facts.specs.Shape.{ServesAsOpened}
 use Rattle.curp_law_order.proofs.Facts.{Done, HeldFor, IsNamed, first_hash, last_hash}
 use Rattle.curp_law_order.proofs.Growing.{HoldsOn}
 

@@ -22,7 +22,7 @@ use Rattle.curp_model.specs.Log.{LogState, IsDone, log_opening, after_entry, aft
 use Rattle.curp_model.specs.Table.{Noted, Table, check, known, is_gone, first_number, is_below, note, acknowledge}
 use Rattle.curp_model.proofs.Logs.{meaning_append}
 use Rattle.curp_model.proofs.Tables.{ids_total, ids_same}
-use Rattle.curp_model.specs.Marked.{requests_of}
+use Rattle.curp_facts.specs.Marked.{requests_of}
 use Rattle.curp_law_order.proofs.Facts.{IsOp, NotedAt, NotedOk}
 use Rattle.curp_law_order.proofs.Growing.{take_grows}
 

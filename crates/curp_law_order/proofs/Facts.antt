@@ -41,8 +41,8 @@ use Rattle.curp_model.specs.Recovery.{MasterStage, Serving}
 use Rattle.curp_model.specs.Table.{Noted}
 use Rattle.curp_model.specs.Witness.{HeldRequest, WitnessState, holds}
 use Rattle.curp_model.specs.World.{World, messages, shape_of}
-use Rattle.curp_model.specs.Marked.{marks_of}
-use Rattle.curp_model.specs.Shape.{ServesAsOpened}
+use Rattle.curp_facts.specs.Marked.{marks_of}
+use Rattle.curp_facts.specs.Shape.{ServesAsOpened}
 
 -- what the facts speak of: a world with one serving master
 pub record Scene : Type 0 where

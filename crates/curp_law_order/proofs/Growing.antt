@@ -26,7 +26,7 @@ use Rattle.curp_model.specs.Backup.{BackupState}
 use Rattle.curp_model.specs.Client.{Accept, ClientState, Early, Pending}
 use Rattle.curp_model.specs.Log.{IsDone, answer_after}
 use Rattle.curp_model.specs.Witness.{HeldRequest, WitnessState, holds}
-use Rattle.curp_law_order.proofs.Numbered.{numbered_set_cases}
+use Rattle.curp_base.proofs.Numbered.{numbered_set_cases}
 use Rattle.curp_law_order.proofs.Facts.{Scene, Asked, Done, IsOnEach, IsHeldBy, watchers, AskOk, RecordOk, ReplyOk, AcceptedOk, AppendOk, AnswerOk, AppendedOk, BodyOk, MessageOk, HeldFor, WitnessOk, PendingOk, ClientOk, CompletedOk}
 
 -- no backup takes anything back

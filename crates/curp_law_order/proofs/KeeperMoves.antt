@@ -15,7 +15,7 @@ use Rattle.curp_msg.specs.declared.script.Header.{Header}
 use Rattle.curp_model.specs.Backup.{BackupState}
 use Rattle.curp_msg.specs.Moved.{Moved}
 use Rattle.curp_model.specs.Witness.{WitnessState, holds}
-use Rattle.curp_law_order.proofs.Numbered.{numbered_same, numbered_set_cases, numbered_set_same, number_within}
+use Rattle.curp_base.proofs.Numbered.{numbered_same, numbered_set_cases, numbered_set_same, number_within}
 use Rattle.curp_law_order.proofs.Facts.{Scene, AnswerOk, Asked, IsHeldBy, IsNamed, WitnessOk, BodyOk, MessageOk, BackupOk, Facts}
 use Rattle.curp_law_order.proofs.Growing.{one_backup, one_witness, same_backups, same_witnesses}
 use Rattle.curp_law_order.proofs.Effects.{AnswerTells, AnswersAppend, AnswersRecord, BackupTells, BackupEffect, WitnessTells, WitnessEffect}

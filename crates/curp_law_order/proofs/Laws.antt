@@ -27,16 +27,16 @@ use Rattle.curp_cmd.specs.Node.{client_node, witness_node}
 use Rattle.curp_model.specs.Recovery.{MasterStage, Serving}
 use Rattle.curp_model.specs.Witness.{HeldRequest, WitnessState, holds}
 use Rattle.curp_model.specs.World.{World, is_there, messages, order}
-use Rattle.curp_model.specs.Marked.{marks_of, requests_of}
-use Rattle.curp_model.specs.Sent.{IsBuilt}
-use Rattle.curp_model.specs.Shape.{HasShape}
+use Rattle.curp_facts.specs.Marked.{marks_of, requests_of}
+use Rattle.curp_facts.specs.Sent.{IsBuilt}
+use Rattle.curp_facts.specs.Shape.{HasShape}
 use Rattle.curp_law_order.specs.Messages.{IsAboutRequestOf, IsBetweenNodes, IsOfTheOpening, IsToItsClient}
 use Rattle.curp_law_order.specs.Stored.{CompletedIsStored, FollowTheMaster, HoldsRequest, IsExecuted, IsStored, RepliesAreStored, StandsBehind, WasInvoked, WitnessesHoldInvoked}
 use Rattle.curp_law_order.proofs.Facts.{Asked, Done, IsHeldBy, IsNumbered, IsOnEach, BodyOk, MessageOk, ReplyOk, StateOk, Inv, scene_of, watchers}
 use Rattle.curp_law_order.proofs.Entries.{at_request, done_answers, request_at}
 use Rattle.curp_law_order.proofs.Marking.{marks_shown}
 use Rattle.curp_cmd.proofs.Ids.{same_id-true}
-use Rattle.curp_law_order.proofs.Numbered.{any_at, numbers_back}
+use Rattle.curp_base.proofs.Numbered.{any_at, numbers_back}
 use Rattle.curp_law_order.proofs.Pending.{at_mapped}
 use Rattle.curp_law_order.proofs.Runs.{built, sent_ok}
 

@@ -1,4 +1,4 @@
-pub mod Numbered
+pub mod Names
 pub mod Facts
 pub mod Growing
 pub mod Entries

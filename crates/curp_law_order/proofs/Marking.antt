@@ -15,9 +15,9 @@ use Rattle.curp_order.specs.declared.Event.{Event}
 use Rattle.curp_order.specs.declared.Event.TheVariants.{Invoke, Complete}
 use Rattle.curp_model.specs.Marks.{Mark, flagged, is_shown, shown}
 use Rattle.curp_cmd.specs.RequestId.{same_id}
-use Rattle.curp_model.specs.Marked.{completes, is_completed, mark_of, marks_from, requests_of}
+use Rattle.curp_facts.specs.Marked.{completes, is_completed, mark_of, marks_from, requests_of}
 use Rattle.curp_cmd.proofs.Ids.{same_id-true}
-use Rattle.curp_law_order.proofs.Numbered.{any_at}
+use Rattle.curp_base.proofs.Numbered.{any_at}
 
 -- ---- completed requests
 

@@ -35,9 +35,10 @@ use Rattle.curp_model.specs.Master.{MasterState, Acknowledged, Captured, Queued,
 use Rattle.curp_cmd.specs.Node.{is_among, same_node, backup_node}
 use Rattle.curp_msg.specs.Moved.{Moved, quiet, sends}
 use Rattle.curp_model.specs.Table.{check}
-use Rattle.curp_model.specs.Shape.{ServesAsOpened}
+use Rattle.curp_facts.specs.Shape.{ServesAsOpened}
 use Rattle.curp_cmd.proofs.Nodes.{same_node-true}
-use Rattle.curp_law_order.proofs.Numbered.{filter_at, named_each}
+use Rattle.curp_base.proofs.Numbered.{filter_at}
+use Rattle.curp_law_order.proofs.Names.{named_each}
 use Rattle.curp_law_order.proofs.Facts.{Done, IsNamed, IsOp, NotedAt, NotedOk, first_hash, last_hash}
 use Rattle.curp_law_order.proofs.Entries.{check_known}
 use Rattle.curp_law_order.proofs.Effects.{Says, LogMove, AcksMove, MasterEffect}

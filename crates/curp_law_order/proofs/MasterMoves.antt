@@ -19,9 +19,9 @@ use Rattle.curp_model.specs.Master.{MasterState, from_backup, least, synced}
 use Rattle.curp_msg.specs.Moved.{Moved}
 use Rattle.curp_cmd.specs.Node.{backup_node, client_node, master_node}
 use Rattle.curp_model.specs.World.{capture_mark, new_captures, op_marks, pushed_marks}
-use Rattle.curp_model.specs.Marked.{is_completed, marks_of}
-use Rattle.curp_model.specs.Shape.{ServesAsOpened}
-use Rattle.curp_law_order.proofs.Numbered.{numbers_at, number_within, place}
+use Rattle.curp_facts.specs.Marked.{is_completed, marks_of}
+use Rattle.curp_facts.specs.Shape.{ServesAsOpened}
+use Rattle.curp_base.proofs.Numbered.{numbers_at, number_within, place}
 use Rattle.curp_law_order.proofs.Facts.{Scene, Asked, Done, IsLong, IsNamed, IsOnEach, MessageOk, BackupOk, StateOk, Facts}
 use Rattle.curp_law_order.proofs.Growing.{same_backups, same_witnesses}
 use Rattle.curp_law_order.proofs.Marking.{not_completed, marks_push}

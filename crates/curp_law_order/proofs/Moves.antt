@@ -18,16 +18,16 @@ use Rattle.curp_model.specs.declared.Check.TheVariants.{New}
 use Rattle.curp_model.specs.Backup.{BackupState}
 use Rattle.curp_model.specs.Client.{ClientState}
 use Rattle.curp_model.specs.Log.{meaning}
-use Rattle.curp_model.specs.Marked.{marks_of}
+use Rattle.curp_facts.specs.Marked.{marks_of}
 use Rattle.curp_model.specs.Marks.{Mark}
 use Rattle.curp_model.specs.Master.{MasterState}
-use Rattle.curp_model.specs.Shape.{ServesAsOpened}
+use Rattle.curp_facts.specs.Shape.{ServesAsOpened}
 use Rattle.curp_model.specs.Witness.{WitnessState}
 use Rattle.curp_model.specs.Table.{check}
 use Rattle.curp_model.proofs.Logs.{op_not_new}
 use Rattle.curp_law_order.proofs.Facts.{Scene, Asked, BackupOk, ClientOk, ClientsKnow, ClientsWait, CompletedOk, IsOp, MessageOk, LogOk, WitnessOk, InTime, StateOk, Facts, first_hash, last_hash}
 use Rattle.curp_law_order.proofs.Growing.{BackupsGrow, Grows, WitnessesGrow, asked_grows, client_grows, completed_grows, said_on, same_backups, same_witnesses, witness_grows}
-use Rattle.curp_law_order.proofs.Numbered.{numbered_set_cases}
+use Rattle.curp_base.proofs.Numbered.{numbered_set_cases}
 use Rattle.curp_law_order.proofs.Entries.{noted_push}
 use Rattle.curp_law_order.proofs.Effects.{LogMove}
 

@@ -12,7 +12,7 @@ use Rattle.curp_cmd.specs.RequestId.{same_id}
 use Rattle.curp_cmd.specs.declared.command.RequestId.{RequestId}
 use Rattle.curp_cmd.proofs.Ids.{same_id-true}
 use Rattle.curp_cmd.proofs.Nodes.{same_node-true}
-use Rattle.curp_law_order.proofs.Numbered.{any_at, filter_at}
+use Rattle.curp_base.proofs.Numbered.{any_at, filter_at}
 use Rattle.curp_law_order.proofs.Facts.{Scene, Done, IsHeldBy, watchers, AttemptOk, PendingOk}
 
 -- ---- lists

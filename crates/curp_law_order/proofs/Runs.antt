@@ -38,7 +38,7 @@ use Rattle.curp_msg.specs.declared.script.Header.{Header}
 use Rattle.curp_msg.specs.declared.script.Step.{Step}
 use Rattle.curp_msg.specs.declared.script.Step.TheVariants as steps
 use Rattle.curp_model.specs.Backup.{BackupState, backup_input, installed_backup}
-use Rattle.curp_model.specs.Built.{CanStep, IsScript}
+use Rattle.curp_facts.specs.Built.{CanStep, IsScript}
 use Rattle.curp_model.specs.Client.{Accept, Attempt, ClientState, Early, Pending, accepted, asks, attempt_at, client_input, client_ordered, completes_with, early_reply, fresh_client, if_proved, invoke, most_pending, next_id, next_request, on_client, owner_of, proved_answer, rejected, replied, sends_first, sent_by, with_accept, with_early, with_evidence, with_id, with_pending}
 use Rattle.curp_model.specs.Manager.{ManagerState, opening_config, opening_part}
 use Rattle.curp_model.specs.Master.{Acknowledged, MasterState, beginning, from_backup}
@@ -49,8 +49,10 @@ use Rattle.curp_model.specs.Ranges.{opening_range, owns_all}
 use Rattle.curp_cmd.specs.Hash.{hashes}
 use Rattle.curp_model.specs.Witness.{WitnessState, started_witness, witness_input}
 use Rattle.curp_model.specs.World.{World, Deed, Gives, completion, deed_of, delivery, effect, events_of, invocation_of, is_adopted, is_lost, is_too_much, kept, master_marks, messages, moves, moves_kind, moves_one, names_nobody, names_stopped, opening, opening_master, refusal, result_of, run, shape_of, step, steps_by, stops_manager, weight, with_backup, with_client, with_completion, with_master, with_witness, world}
-use Rattle.curp_model.specs.Sent.{IsSaidTo}
-use Rattle.curp_law_order.proofs.Numbered.{place, named_each, numbered_replicate, all_of-kept, filter_at, number_within}
+use Rattle.curp_facts.specs.Sent.{IsSaidTo}
+use Rattle.curp_base.proofs.Numbered.{place, numbered_replicate, filter_at, number_within}
+use Rattle.curp_model.proofs.Batches.{all_of-kept}
+use Rattle.curp_law_order.proofs.Names.{named_each}
 use Rattle.curp_law_order.proofs.Facts.{AcceptedOk, ReplyOk, Done, Scene, Asked, IsHeldBy, IsLong, IsNamed, AnswerOk, BodyOk, MessageOk, BackupOk, PendingOk, WitnessOk, ClientOk, CompletedOk, StateOk, Facts, HasOutline, Inv, scene_of, watchers}
 use Rattle.curp_law_order.proofs.MasterEffects.{AnswerHeard, Heard, master_effect, sync_effect}
 use Rattle.curp_law_order.proofs.BackupEffects.{Carried, backup_effect}

@@ -4,13 +4,13 @@
 
 ghost use Rattle.std.specs.Prelude.{◌≡◌, ℕ, List};
 ghost use Rattle.curp_base.specs.Words.{At, Each};
-ghost use Rattle.curp_model.specs.Marked.{marks_of, requests_of};
-ghost use Rattle.curp_model.specs.Sent.{IsBuilt};
-ghost use Rattle.curp_model.specs.Shape.{HasShape};
+ghost use Rattle.curp_facts.specs.Marked.{marks_of, requests_of};
+ghost use Rattle.curp_facts.specs.Sent.{IsBuilt};
+ghost use Rattle.curp_facts.specs.Shape.{HasShape};
 ghost use Rattle.curp_law_order.specs.Messages.{IsBetweenNodes, IsOfTheOpening, IsToItsClient};
 ghost use Rattle.curp_law_order.specs.Stored.{CompletedIsStored, FollowTheMaster, IsTheMaster, RepliesAreStored};
 ghost use Rattle.curp_law_order.specs.Stored.{WitnessesHoldInvoked};
-ghost use Rattle.curp_model.specs.Built.{IsScript};
+ghost use Rattle.curp_facts.specs.Built.{IsScript};
 ghost use Rattle.curp_model.specs.Master.{MasterState};
 ghost use Rattle.curp_model.specs.World.{world, messages, order};
 ghost use Rattle.curp_msg.specs.declared.message.Message.{Message};

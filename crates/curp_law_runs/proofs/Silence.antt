@@ -27,7 +27,7 @@ use Rattle.curp_law_keepers.specs.BackupEffect.{BackupSays}
 use Rattle.curp_law_keepers.specs.WitnessEffect.{WitnessSays}
 use Rattle.curp_law_keepers.proofs.Backups.{backup_effect}
 use Rattle.curp_law_keepers.proofs.Witnesses.{witness_effect}
-use Rattle.curp_law_growth.proofs.Numbered.{numbered_same, numbered_set_same}
+use Rattle.curp_base.proofs.Numbered.{numbered_same, numbered_set_same}
 use Rattle.curp_law_growth.proofs.Switches.{switching_little, switching_ordered_little}
 use Rattle.curp_law_growth.proofs.Worlds.{step_grows}
 use Rattle.curp_law_kept.specs.ManagerEffect.{Uttered}

@@ -6,3 +6,4 @@ pub mod Filters
 pub mod Clashes
 pub mod Replays
 pub mod Packages
+pub mod Batches

@@ -1,7 +1,7 @@
 -- Why a step isn't made: each cause with none of the earlier ones.
 use Rattle.std.specs.Prelude.{◌≡◌, false}
 use Rattle.curp_msg.specs.declared.script.Step.{Step}
-use Rattle.curp_model.specs.World.{World, deed_of, is_lost, is_too_much, names_nobody, names_stopped, refusal, stops_manager}
+use Rattle.curp_model.specs.World.{World, deed_of, is_lost, is_too_much, names_nobody, names_stopped, stops_manager}
 
 -- its message was sent, if it delivers one
 abbrev pub IsSent : World → Step → Type 0

@@ -12,7 +12,3 @@ pub mod World
 pub mod Causes
 pub mod Named
 pub mod Laws
-pub mod Built
-pub mod Sent
-pub mod Marked
-pub mod Shape

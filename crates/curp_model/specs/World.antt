@@ -1,6 +1,6 @@
 -- The world: one state a node, every message that was ever sent, and the history. A message is lost where no step delivers
 -- it; it may be delivered often, and in any order (this project's own).
-use Rattle.std.specs.Prelude.{ℕ, ◌+◌, ◌-◌, ◌*◌, ◌^◌, ◌==◌, ◌&&◌, nat_lt, min, if◌then◌else◌, Bool, true, false, not, List, [], ◌∷◌, ◌++◌, length, map, drop, replicate, slice_set, Option, Some, None, is_some}
+use Rattle.std.specs.Prelude.{ℕ, ◌+◌, ◌-◌, ◌*◌, ◌^◌, ◌==◌, nat_lt, min, if◌then◌else◌, Bool, false, not, List, [], ◌∷◌, ◌++◌, length, map, drop, replicate, slice_set, Option, Some, None, is_some}
 use Rattle.std.specs.List.{filter, sum, list_any, list_all}
 use Rattle.curp_base.specs.Cases.{first_case, only_if}
 use Rattle.curp_base.specs.Words.{all_of, numbered, numbers_from}
@@ -38,7 +38,7 @@ use Rattle.curp_model.specs.Marks as mark
 use Rattle.curp_model.specs.Marks.{Mark}
 use Rattle.curp_model.specs.Master.{MasterState, Captured, beginning}
 use Rattle.curp_model.specs.Ranges.{opening_range}
-use Rattle.curp_model.specs.Recovery.{MasterStage, Fresh, Recovering, Serving, RecoveryState, RecoveryPhase, Asking, Storing, Waiting, Replayed, master_input}
+use Rattle.curp_model.specs.Recovery.{MasterStage, Fresh, Recovering, Serving, RecoveryPhase, Asking, Storing, Waiting, Replayed, master_input}
 use Rattle.curp_model.specs.Witness.{WitnessState, fresh_witness, started_witness, witness_input}
 
 -- ---- the state

@@ -18,7 +18,7 @@ use Rattle.curp_script.specs.Headers.{bad_field, is_within}
 use Rattle.curp_script.specs.Printed.{step_words}
 use Rattle.curp_script.specs.Script.{Script, Steps, at_most_once, begun_with, with_step, invoked_after, line_limit, script_of, step_limit, steps_in}
 use Rattle.curp_script.proofs.ReadIsBuilt.{read_is_built}
-use Rattle.curp_model.specs.Built.{CanStep}
+use Rattle.curp_facts.specs.Built.{CanStep}
 
 -- ---- steps
 

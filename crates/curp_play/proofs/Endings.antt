@@ -7,7 +7,7 @@ use Rattle.curp_msg.specs.declared.script.Header.{Header}
 use Rattle.curp_msg.specs.declared.script.Step.{Step}
 use Rattle.curp_script.specs.Headers.{bad_field}
 use Rattle.curp_script.specs.Script.{Script, Steps}
-use Rattle.curp_model.specs.Built.{CanStep, IsScript}
+use Rattle.curp_facts.specs.Built.{CanStep, IsScript}
 use Rattle.curp_model.specs.World.{world, order}
 use Rattle.curp_play.specs.declared.status.Status.{Status}
 use Rattle.curp_play.specs.Play.{HasAnOrder, script_in}

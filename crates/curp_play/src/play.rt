@@ -1,7 +1,7 @@
 ghost use Rattle.std.specs.Prelude.{◌≡◌, ◌≢◌, ◌++◌, [], true, false, None, Some, Ok, Err, OnOk, IfOk, IfErr};
 ghost use Rattle.curp_io.specs.Streams.{HoldsPart, Rose, SameCount};
 ghost use Rattle.curp_script.specs.Headers.{bad_field};
-ghost use Rattle.curp_model.specs.Built.{CanStep};
+ghost use Rattle.curp_facts.specs.Built.{CanStep};
 ghost use Rattle.curp_model.specs.World as model;
 ghost use Rattle.curp_text.specs.Text.{closing_order, made_text};
 ghost use Rattle.curp_play.specs.Play.{HasAnOrder, text_from, script_in, text_of};

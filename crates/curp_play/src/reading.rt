@@ -3,7 +3,7 @@ ghost use Rattle.curp_io.specs.Streams.{Rose, SameCount};
 ghost use Rattle.curp_script.specs.Grammar.{header_in, step_in};
 ghost use Rattle.curp_script.specs.Headers.{bad_field};
 ghost use Rattle.curp_script.specs.Script.{Steps, at_most_once, begun_with, step_limit, with_step};
-ghost use Rattle.curp_model.specs.Built.{CanStep};
+ghost use Rattle.curp_facts.specs.Built.{CanStep};
 ghost use Rattle.curp_play.specs.Play.{script_in};
 ghost use Rattle.curp_play.specs.Reading.{GivesStep, HasNoHeader, InvokedBy, IsBehind, IsOfReading, StopsAs};
 ghost use Rattle.curp_play.specs.Reading.{due, not_begun};

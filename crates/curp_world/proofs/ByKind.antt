@@ -11,7 +11,7 @@ use Rattle.curp_model.specs.Backup.{BackupState, backup_input}
 use Rattle.curp_model.specs.Client.{ClientState, client_input}
 use Rattle.curp_model.specs.Master.{MasterState}
 use Rattle.curp_model.specs.Recovery.{MasterStage, Serving, master_input, master_ordered, on_master}
-use Rattle.curp_model.specs.Sent.{IsSaidTo}
+use Rattle.curp_facts.specs.Sent.{IsSaidTo}
 use Rattle.curp_model.specs.Witness.{WitnessState, witness_input}
 use Rattle.curp_model.specs.World.{World, has_node, is_there, moves, moves_kind, with_backup, with_client, with_master, with_witness}
 use Rattle.curp_msg.specs.Moved.{Moved, Moves, MovesAt, Node, numbered_move, within}

@@ -10,7 +10,7 @@ use Rattle.curp_cmd.specs.declared.node.NodeId.{NodeId}
 use Rattle.curp_cmd.specs.declared.node.NodeKind.{NodeKind}
 use Rattle.curp_cmd.specs.declared.node.NodeKind.TheVariants as kind
 use Rattle.curp_model.specs.Client.{ClientState, client_ordered, invocation_for, invoke, most_pending, next_request, owner_of, sends_first}
-use Rattle.curp_model.specs.Sent.{IsSaidTo}
+use Rattle.curp_facts.specs.Sent.{IsSaidTo}
 use Rattle.curp_model.specs.World.{Deed, Gives, Stepped, World, completion, delivery, effect, events_of, has_node, invocation_of, kept, messages, moves, next_number, refused, steps_by, with_batch, with_completion}
 use Rattle.curp_msg.specs.Moved.{Makes, Moved, Moves, done_of, quiet, unless_refused, within}
 use Rattle.curp_msg.specs.declared.config.PartConfig.{PartConfig}

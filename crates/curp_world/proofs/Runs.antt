@@ -3,15 +3,15 @@ use Rattle.std.proofs.Common.{◌≡◌, ◌≢◌, ◌↔◌, IfOk, ◌&&◌, i
 use Rattle.std.proofs.lemmas.Bool.Decides.{nat_tests}
 use Rattle.curp_base.proofs.Lists.{Each-append}
 use Rattle.curp_cmd.specs.declared.entry.Entry.{Entry}
-use Rattle.curp_model.specs.Marked.{marks_of}
-use Rattle.curp_model.specs.Shape.{HasShape}
+use Rattle.curp_facts.specs.Marked.{marks_of}
+use Rattle.curp_facts.specs.Shape.{HasShape}
 use Rattle.curp_script.specs.Built.{is_built}
 use Rattle.curp_script.specs.Headers.{bad_field, is_within, most_parts}
 use Rattle.curp_script.specs.declared.error.FieldName.TheVariants.{Clients, F, Fast, Parts, Sets, Ways}
 use Rattle.curp_script.specs.declared.error.Word.TheVariants as word
 use Rattle.curp_msg.specs.declared.script.Header.{Header}
 use Rattle.curp_msg.specs.declared.script.Step.{Step}
-use Rattle.curp_model.specs.Built.{CanStep, IsScript}
+use Rattle.curp_facts.specs.Built.{CanStep, IsScript}
 use Rattle.curp_model.specs.Marks.{Mark}
 use Rattle.curp_model.specs.Master.{MasterState}
 use Rattle.curp_model.specs.Recovery.{Serving}

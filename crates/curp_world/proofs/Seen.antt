@@ -1,6 +1,6 @@
 -- The world that the nodes of the opening are.
 use Rattle.std.proofs.Common.{◌≡◌, ℕ, ◌*◌, ◌∷◌, [], List, map, replicate, refl, ap, sym, ◌∙◌, arith}
-use Rattle.curp_model.specs.Marked.{marks_of}
+use Rattle.curp_facts.specs.Marked.{marks_of}
 use Rattle.curp_model.specs.Marks.{Mark}
 use Rattle.curp_model.specs.Backup.{BackupState, installed_backup}
 use Rattle.curp_model.specs.Client.{ClientState, fresh_client}

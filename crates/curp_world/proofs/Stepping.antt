@@ -7,7 +7,7 @@ use Rattle.curp_base.specs.Words.{At, numbered}
 use Rattle.curp_cmd.specs.Node.{client_node, manager_node, master_node, same_node}
 use Rattle.curp_cmd.specs.declared.command.Command.{Command}
 use Rattle.curp_cmd.specs.declared.node.NodeId.{NodeId}
-use Rattle.curp_model.specs.Sent.{IsBuilt}
+use Rattle.curp_facts.specs.Sent.{IsBuilt}
 use Rattle.curp_model.specs.World.{Deed, Gives, Stepped, World, delivery, effect, has_node, is_stopped, is_too_much, kept, messages, refused, step, steps_by, subject, weight, weight_limit}
 use Rattle.curp_msg.specs.Moved.{quiet}
 use Rattle.curp_msg.specs.declared.machine.Local.TheVariants as local

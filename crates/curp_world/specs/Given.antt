@@ -9,7 +9,7 @@ use Rattle.curp_cmd.specs.declared.node.NodeId.{NodeId}
 use Rattle.curp_cmd.specs.declared.node.NodeKind.{NodeKind}
 use Rattle.curp_cmd.specs.declared.node.NodeKind.TheVariants.{Client, Master}
 use Rattle.curp_model.specs.Client.{ClientState}
-use Rattle.curp_model.specs.Sent.{IsBuilt, IsSaidTo}
+use Rattle.curp_facts.specs.Sent.{IsBuilt, IsSaidTo}
 use Rattle.curp_model.specs.World.{Deed, Gives, Stepped, World, delivery, effect, has_node, is_stopped, messages}
 use Rattle.curp_model.specs.World.{steps_by, weight, weight_limit}
 use Rattle.curp_msg.specs.declared.machine.Input.{Input}

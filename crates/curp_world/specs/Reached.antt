@@ -2,7 +2,7 @@
 use Rattle.std.specs.Prelude.{◌≡◌, List}
 use Rattle.curp_msg.specs.declared.script.Header.{Header}
 use Rattle.curp_msg.specs.declared.script.Step.{Step}
-use Rattle.curp_model.specs.Built.{IsScript}
+use Rattle.curp_facts.specs.Built.{IsScript}
 use Rattle.curp_model.specs.World.{World, world}
 
 -- some script of what is built leads to it

@@ -1,8 +1,8 @@
 ghost use Rattle.std.specs.Prelude.{◌≡◌, ◌≤◌, ◌++◌, ◌+◌, ℕ, length, OnOk, OnErr, IfOk, IsSome, Some};
 ghost use Rattle.std.specs.Option.{option_map};
 ghost use Rattle.curp_base.specs.Words.{At, all_of, numbered};
-ghost use Rattle.curp_model.specs.Built.{CanStep};
-ghost use Rattle.curp_model.specs.Sent.{IsBuilt};
+ghost use Rattle.curp_facts.specs.Built.{CanStep};
+ghost use Rattle.curp_facts.specs.Sent.{IsBuilt};
 ghost use Rattle.curp_model.specs.World as world;
 ghost use Rattle.curp_msg.specs.declared.message.Message.{Message};
 ghost use Rattle.curp_order.specs.Recorded.{invocation};

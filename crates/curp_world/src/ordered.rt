@@ -1,7 +1,7 @@
 // One order of the requests: that of the master's log.
 ghost use Rattle.std.specs.Prelude.{◌≡◌, [], length, IfOk};
 ghost use Rattle.curp_order.specs.Order.{answers};
-ghost use Rattle.curp_model.specs.Marked.{requests_of};
+ghost use Rattle.curp_facts.specs.Marked.{requests_of};
 ghost use Rattle.curp_model.specs.World.{with_answers};
 ghost use Rattle.curp_world.specs.Nodes.{first_log, serving};
 

@@ -4,7 +4,7 @@ ghost use Rattle.curp_base.specs.Words.{numbered};
 ghost use Rattle.curp_order.specs.Order.{IsHistory, IsOrder};
 ghost use Rattle.curp_script.specs.declared.error.FieldName.{FieldName};
 ghost use Rattle.curp_script.specs.Headers.{bad_field};
-ghost use Rattle.curp_model.specs.Built.{CanStep};
+ghost use Rattle.curp_facts.specs.Built.{CanStep};
 ghost use Rattle.curp_model.specs.Causes.{IsLight, IsRunning, IsSent, IsThere, SparesManager};
 ghost use Rattle.curp_model.specs.World as world;
 

@@ -1,7 +1,7 @@
 use Rattle.std.proofs.Common.{◌≡◌, subst}
 use Rattle.curp_model.specs.Master.{MasterState}
 use Rattle.curp_model.specs.World.{world, order}
-use Rattle.curp_model.specs.Marked.{marks_of, requests_of}
+use Rattle.curp_facts.specs.Marked.{marks_of, requests_of}
 use Rattle.curp_law_order.proofs.Runs.{always}
 use Rattle.curp_law_order.proofs.Laws.{marks_are, order_is, same_master}
 use Rattle.curp_law_order.proofs.marks_tell_the_log.Goals as goal

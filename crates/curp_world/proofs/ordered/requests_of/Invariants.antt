@@ -1,5 +1,5 @@
 use Rattle.std.proofs.Common.{◌≡◌, ◌++◌, drop}
-use Rattle.curp_model.specs.Marked.{requests_of}
+use Rattle.curp_facts.specs.Marked.{requests_of}
 use Rattle.curp_world.proofs.ordered.requests_of.Given as goal
 
 -- the requests so far, and the others
