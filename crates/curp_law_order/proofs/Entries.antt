@@ -1,61 +1,26 @@
--- What a log of ops means: the answers of one thread, and a reply table that tells no more than stands in the log.
-use Rattle.std.proofs.Common.{◌≡◌, ◌⊎◌, inl, inr, ℕ, zero, suc, ◌+◌, Bool, true, false, cond, not, nat_lt, List, [], ◌∷◌, ◌++◌, length, take, Option, Some, None, refl, ap, sym, ◌∙◌, subst, arith}
+-- What a log of ops means: a reply table that tells no more than stands in the log.
+use Rattle.std.proofs.Common.{◌≡◌, ◌⊎◌, inl, inr, ℕ, Bool, true, false, cond, not, nat_lt, List, [], ◌∷◌, ◌++◌, length, Option, Some, None, refl, ap, sym, ◌∙◌, subst, arith}
 use Rattle.std.specs.FinMap.Entries.{find, find-put, find-where_key}
 use Rattle.std.specs.Ordering.{eq_by_cmp}
 use Rattle.std.proofs.lemmas.Bool.{cond_both}
 use Rattle.std.proofs.lemmas.Map.Views.{tells_apart}
 use Rattle.std.proofs.Math.Seq.{take-append_seam}
-use Rattle.curp_base.specs.Words.{At, Each, IsPrefix}
+use Rattle.curp_base.specs.Words.{At, IsPrefix}
 use Rattle.curp_base.proofs.Lists.{at_within, at_push, at_append, prefix_push}
 use Rattle.curp_cmd.specs.RequestId.{id_cmp}
-use Rattle.curp_cmd.specs.Store.{applied}
 use Rattle.curp_cmd.specs.declared.command.Answer.{Answer}
-use Rattle.curp_cmd.specs.declared.command.Command.{Command}
 use Rattle.curp_cmd.specs.declared.command.Request.{Request}
 use Rattle.curp_cmd.specs.declared.command.RequestId.{RequestId}
 use Rattle.curp_cmd.specs.declared.entry.Entry.{Entry}
 use Rattle.curp_cmd.specs.declared.entry.Entry.TheVariants.{Op}
-use Rattle.curp_order.specs.Order.{answers, answers_from}
 use Rattle.curp_model.specs.declared.Check.{Check}
 use Rattle.curp_model.specs.declared.Check.TheVariants.{Known}
-use Rattle.curp_model.specs.Log.{LogState, IsDone, log_opening, after_entry, after_entries, after_op, answer_after, meaning}
+use Rattle.curp_model.specs.Log.{LogState, after_entry, answer_after, meaning}
 use Rattle.curp_model.specs.Table.{Noted, Table, check, known, is_gone, first_number, is_below, note, acknowledge}
 use Rattle.curp_model.proofs.Logs.{meaning_append}
 use Rattle.curp_model.proofs.Tables.{ids_total, ids_same}
-use Rattle.curp_facts.specs.Marked.{requests_of}
-use Rattle.curp_law_order.proofs.Facts.{IsOp, NotedAt, NotedOk}
+use Rattle.curp_law_order.proofs.Facts.{NotedAt, NotedOk}
 use Rattle.curp_law_order.proofs.Growing.{take_grows}
-
--- ---- a request of the order stands in the log at its place
-
-pub request_at : (log : List Entry) (k : ℕ) (x : RequestId × Command) → Each IsOp log → At (requests_of log) k x
-    → (r : Request) × (a : ℕ) × At log k (Op r a) × (r.id ≡ x.0) × (r.command ≡ x.1)
-request_at [] k x ops h = absurd cc
-request_at (Op r a ∷ log) zero x ops h =
-    let same : (r.id, r.command) ≡ x = cc in
-    (r, a, refl, ap (λ (y : RequestId × Command). y.0) same, ap (λ (y : RequestId × Command). y.1) same)
-request_at (Op r a ∷ log) (suc k) x ops h = request_at log k x ops.1 h
-request_at (_ ∷ log) k x ops h = absurd (ops.0)
-
-pub at_request : (log : List Entry) (k : ℕ) (r : Request) (a : ℕ) → Each IsOp log → At log k (Op r a) → At (requests_of log) k (r.id, r.command)
-at_request [] k r a ops h = absurd cc
-at_request (Op q b ∷ log) zero r a ops h = let same : q ≡ r = cc in ap (λ (x : Request). Some (x.id, x.command)) same
-at_request (Op q b ∷ log) (suc k) r a ops h = at_request log k r a ops.1 h
-at_request (_ ∷ log) k r a ops h = absurd (ops.0)
-
--- ---- one thread answers what the log's fold answers
-
-answer_from : (log : List Entry) (s : LogState) (i k : ℕ) (r : Request) (a : ℕ) → Each IsOp log → At log k (Op r a)
-    → At (answers_from s.store (requests_of log)) k (applied (after_entries s i (take k log)).store r.command).answer
-unfolding after_entry
-answer_from [] s i k r a ops h = absurd cc
-answer_from (Op q b ∷ log) s i zero r a ops h = let same : q ≡ r = cc in ap (λ (x : Request). Some (applied s.store x.command).answer) same
-answer_from (Op q b ∷ log) s i (suc k) r a ops h = answer_from log (after_op s i q b) (i + 1) k r a ops.1 h
-answer_from (_ ∷ log) s i k r a ops h = absurd (ops.0)
-
-pub done_answers : (lo hi : ℕ) (log : List Entry) (id : RequestId) (a : Answer) → Each IsOp log → (d : IsDone lo hi log id a) → At (answers (requests_of log)) d.index a
-done_answers lo hi log id a ops d =
-    subst (λ (x : Answer). At (answers (requests_of log)) d.index x) d.its_answer (answer_from log (log_opening lo hi) 0 d.index d.request d.acknowledged ops d.stands)
 
 -- ---- the reply table
 

@@ -1,4 +1,5 @@
 pub mod Built
+pub mod Named
 pub mod Endings
 pub mod Numbers
 pub mod Scripts

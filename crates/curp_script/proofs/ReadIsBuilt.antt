@@ -27,19 +27,23 @@ use Rattle.curp_script.specs.Printed.{command_words, step_words}
 
 -- ---- what holds of the value, if there is one
 
-behind : {A B : Type 0} (P : B → Type 0) (r : Result A LineError) (f : A → Result B LineError) → ((x : A) → r ≡ Ok x → IfOk (f x) P) → IfOk (r >>= f) P
+-- behind a part that may be refused
+pub behind : {A B : Type 0} (P : B → Type 0) (r : Result A LineError) (f : A → Result B LineError) → ((x : A) → r ≡ Ok x → IfOk (f x) P) → IfOk (r >>= f) P
 behind P (Ok x) f all = all x refl
 behind P (Err e) f all = tt
 
-or_error : {A : Type 0} (P : A → Type 0) (o : Option A) (e : LineError) → IfSome o P → IfOk (ok_or o e) P
+-- of what is there, or refused
+pub or_error : {A : Type 0} (P : A → Type 0) (o : Option A) (e : LineError) → IfSome o P → IfOk (ok_or o e) P
 or_error P None e h = tt
 or_error P (Some x) e h = h
 
-some_behind : {A B : Type 0} (P : B → Type 0) (o : Option A) (f : A → Option B) → ((x : A) → IfSome (f x) P) → IfSome (option_and_then f o) P
+-- behind a part that may be absent
+pub some_behind : {A B : Type 0} (P : B → Type 0) (o : Option A) (f : A → Option B) → ((x : A) → IfSome (f x) P) → IfSome (option_and_then f o) P
 some_behind P None f all = tt
 some_behind P (Some x) f all = all x
 
-some_map : {A B : Type 0} (P : B → Type 0) (o : Option A) (f : A → B) → ((x : A) → P (f x)) → IfSome (option_map f o) P
+-- of what is made of a part
+pub some_map : {A B : Type 0} (P : B → Type 0) (o : Option A) (f : A → B) → ((x : A) → P (f x)) → IfSome (option_map f o) P
 some_map P None f all = tt
 some_map P (Some x) f all = all x
 

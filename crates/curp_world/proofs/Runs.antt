@@ -1,5 +1,5 @@
 -- Runs of one step more.
-use Rattle.std.proofs.Common.{◌≡◌, ◌≢◌, ◌↔◌, IfOk, ◌&&◌, if◌then◌else◌, Bool, true, false, not, Some, None, arith, ℕ, List, [], ◌∷◌, ◌++◌, Result, Ok, Err, OnOk, OnErr, refl, ap, sym, ◌∙◌, subst}
+use Rattle.std.proofs.Common.{◌≡◌, ◌≢◌, ◌↔◌, IfOk, ◌&&◌, if◌then◌else◌, Bool, true, false, not, Option, Some, None, ◌≤◌, arith, ℕ, List, [], ◌∷◌, ◌++◌, Result, Ok, Err, OnOk, OnErr, refl, ap, sym, ◌∙◌, subst}
 use Rattle.std.proofs.lemmas.Bool.Decides.{nat_tests}
 use Rattle.curp_base.proofs.Lists.{Each-append}
 use Rattle.curp_cmd.specs.declared.entry.Entry.{Entry}
@@ -12,6 +12,10 @@ use Rattle.curp_script.specs.declared.error.Word.TheVariants as word
 use Rattle.curp_msg.specs.declared.script.Header.{Header}
 use Rattle.curp_msg.specs.declared.script.Step.{Step}
 use Rattle.curp_facts.specs.Built.{CanStep, IsScript}
+use Rattle.curp_facts.specs.Run.{IsHeader, IsRun, IsStep}
+use Rattle.curp_msg.specs.declared.script.Protocol.{Protocol}
+use Rattle.curp_msg.specs.declared.script.Protocol.TheVariants.{One}
+use Rattle.curp_script.specs.declared.error.FieldName.{FieldName}
 use Rattle.curp_model.specs.Marks.{Mark}
 use Rattle.curp_model.specs.Master.{MasterState}
 use Rattle.curp_model.specs.Recovery.{Serving}
@@ -27,10 +31,14 @@ run_more w [] s = refl
 run_more w (x ∷ ss) s = run_more (step w x).world ss s
 
 -- a step leads on
-pub reached_next : (w : World) (s : Step) → CanStep s → Reached w → Reached (step w s).world
-reached_next w s can r = record {
+pub reached_next : (w : World) (s : Step) → IsStep s → CanStep s → Reached w → Reached (step w s).world
+reached_next w s named can r = record {
   header = r.header;
   steps = r.steps ++ s ∷ [];
+  run = record {
+    header = r.run.header;
+    steps_are = Each-append IsStep r.steps (s ∷ []) r.run.steps_are (named, tt);
+  };
   script = record {
     one_part = r.script.one_part;
     steps_can = Each-append CanStep r.steps (s ∷ []) r.script.steps_can (can, tt);
@@ -39,9 +47,9 @@ reached_next w s can r = record {
 }
 
 -- a step that may have failed for memory leads on, or leaves the world as it is
-pub reached_after : {A E : Type 0} (result : Result A E) (w v : World) (s : Step) → CanStep s → Reached w → OnOk result (v ≡ (step w s).world) → OnErr result (v ≡ w) → Reached v
-reached_after (Ok a) w v s can r ok err = subst Reached (sym ok) (reached_next w s can r)
-reached_after (Err e) w v s can r ok err = subst Reached (sym err) r
+pub reached_after : {A E : Type 0} (result : Result A E) (w v : World) (s : Step) → IsStep s → CanStep s → Reached w → OnOk result (v ≡ (step w s).world) → OnErr result (v ≡ w) → Reached v
+reached_after (Ok a) w v s named can r ok err = subst Reached (sym ok) (reached_next w s named can r)
+reached_after (Err e) w v s named can r ok err = subst Reached (sym err) r
 
 -- the law that the marks are told by the master's log
 abbrev pub MarksTell : Type 0
@@ -65,30 +73,57 @@ remarked_same w r marks shape =
     (told v (marks r.header r.steps r.script has.master has.serves ∙ ap (λ (l : List Entry). marks_of l v.history) (sym log)))
 
 -- a step's world has the marks that its log tells
-pub step_told : {A E : Type 0} (result : Result A E) (w v : World) (s : Step) → CanStep s → Reached w → MarksTell → ShapeStays
+pub step_told : {A E : Type 0} (result : Result A E) (w v : World) (s : Step) → IsStep s → CanStep s → Reached w → MarksTell → ShapeStays
     → OnOk result (v ≡ remarked (step w s).world) → OnOk result (v ≡ (step w s).world)
-step_told (Ok a) w v s can r marks shape ok = ok ∙ remarked_same (step w s).world (reached_next w s can r) marks shape
-step_told (Err e) w v s can r marks shape ok = ok
+step_told (Ok a) w v s named can r marks shape ok = ok ∙ remarked_same (step w s).world (reached_next w s named can r) marks shape
+step_told (Err e) w v s named can r marks shape ok = ok
 
 -- ---- headers
 
-parts_within : (clients f fast parts sets ways : Bool)
-    → (if not clients then Some Clients else if not f then Some F else if fast then Some Fast else if not parts then Some Parts else if not sets then Some Sets else if not ways then Some Ways else None) ≡ None
-    → parts ≡ true
-parts_within true true false true sets ways none = refl
-parts_within true true false false sets ways none = absurd cc
-parts_within true true true parts sets ways none = absurd cc
-parts_within true false fast parts sets ways none = absurd cc
-parts_within false f fast parts sets ways none = absurd cc
+none_behind : (bad : Bool) (name : FieldName) (rest : Option FieldName) → (if bad then Some name else rest) ≡ None → (bad ≡ false) × (rest ≡ None)
+none_behind true name rest e = absurd cc
+none_behind false name rest e = (refl, e)
 
-only_one : (n : ℕ) → is_within 1 1 n ≡ true → n ≡ 1
-only_one n within = grind (arith, nat_tests)
+within : (low high n : ℕ) → not (is_within low high n) ≡ false → (low ≤ n) × (n ≤ high)
+within low high n e = (grind (arith, nat_tests), grind (arith, nat_tests))
 
--- a header that is in order has one partition
-pub one_part : (h : Header) → bad_field h ≡ None → h.parts ≡ 1
+only_protocol : (p : Protocol) → p ≡ One
+only_protocol One = refl
+
+-- what a header that is in order has: one partition, and numbers in their ranges
+pub record InOrder (h : Header) : Type 0 where
+  pub one : h.parts ≡ 1
+  pub is : IsHeader h
+
+-- a header without a bad field
+pub in_order : (h : Header) → bad_field h ≡ None → InOrder h
 unfolding is_built
-one_part h none = only_one h.parts (parts_within (is_within 1 64 h.clients) (is_within 1 5 h.f) (h.fast && not (is_built word.Fast)) (is_within 1 most_parts h.parts) (is_within 1 1024 h.sets) (is_within 1 16 h.ways) none)
+in_order h none =
+    let clients = none_behind _ Clients _ none in
+    let f = none_behind _ F _ clients.1 in
+    let fast = none_behind _ Fast _ f.1 in
+    let parts = none_behind _ Parts _ fast.1 in
+    let sets = none_behind _ Sets _ parts.1 in
+    let ways = none_behind _ Ways _ sets.1 in
+    let one = within 1 1 h.parts parts.0 in
+    record {
+      one = omega (arith, one.0, one.1);
+      is = record {
+        clients = within 1 64 h.clients clients.0;
+        f = within 1 5 h.f f.0;
+        parts = (one.0, omega (arith, one.1));
+        sets = within 1 1024 h.sets sets.0;
+        ways = within 1 16 h.ways ways.0;
+        protocol = only_protocol h.protocol;
+      };
+    }
 
 -- no step leads to the opening
-pub reached_opening : (h : Header) (w : World) → h.parts ≡ 1 → w ≡ opening h → Reached w
-reached_opening h w one is = record { header = h; steps = []; script = record { one_part = one; steps_can = tt }; is = sym is }
+pub reached_opening : (h : Header) (w : World) → InOrder h → w ≡ opening h → Reached w
+reached_opening h w ordered is = record {
+  header = h;
+  steps = [];
+  run = record { header = ordered.is; steps_are = tt };
+  script = record { one_part = ordered.one; steps_can = tt };
+  is = sym is;
+}

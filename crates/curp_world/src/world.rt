@@ -5,12 +5,14 @@ ghost use Rattle.curp_order.specs.Order.{IsHistory, IsOrder};
 ghost use Rattle.curp_script.specs.declared.error.FieldName.{FieldName};
 ghost use Rattle.curp_script.specs.Headers.{bad_field};
 ghost use Rattle.curp_facts.specs.Built.{CanStep};
+ghost use Rattle.curp_facts.specs.Run.{IsStep};
 ghost use Rattle.curp_model.specs.Causes.{IsLight, IsRunning, IsSent, IsThere, SparesManager};
 ghost use Rattle.curp_model.specs.World as world;
 
 use crate::cluster::Cluster;
 use crate::ordered;
 use curp_base::NoMemory;
+use curp_cmd::laws::names_one_to_four_keys;
 use curp_cmd::{Answer, Command, RequestId};
 use curp_inv::laws;
 use curp_msg::{Header, Message, Outcome, Step, StepResult};
@@ -89,6 +91,7 @@ impl World {
         ensures unchanged { IfOk result (λ outcome. outcome.result ≢ StepResult.Done → self.new ≡ self.old) }
         ensures err { OnErr result (self.new ≡ self.old) }
     {
+        names_its_keys(step);
         laws::messages_are_built();
         laws::marks_tell_the_log();
         laws::shape_stays();
@@ -139,5 +142,14 @@ impl World {
         laws::marks_tell_the_log();
         laws::shape_stays();
         ordered::answered(alloc, self.cluster.masters())
+    }
+}
+
+// What the laws of every script ask of a step.
+fn names_its_keys(step: &Step)
+    ensures { IsStep step.now }
+{
+    if let Step::Invoke { command, .. } = step {
+        names_one_to_four_keys(command);
     }
 }
