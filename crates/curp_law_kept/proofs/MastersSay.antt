@@ -35,7 +35,7 @@ use Rattle.curp_law_kept.proofs.MastersKept.{lists_adopted, master_keeps}
 use Rattle.curp_law_kept.proofs.MastersMoves.{MasterStep}
 use Rattle.curp_law_kept.proofs.MastersReady.{given_was, manager_was, many_now, no_switch, step_follows}
 use Rattle.curp_law_logs.specs.Standing.{StandsHere}
-use Rattle.curp_law_logs.proofs.Noted.{stands_at, stands_here}
+use Rattle.curp_law_logs.proofs.Standings.{stands_at, stands_here}
 use Rattle.curp_law_masters.specs.Moves.{GiveOrdered, AppendSays, CollectableIn, EarlySays, GcSays, ReplyKind, ReplySays, ServingMove, StoredSays, SyncedSays, WorthSays}
 use Rattle.curp_law_masters.proofs.Synced.{synced_many}
 use Rattle.curp_law_kept.proofs.Apart.{among_cases}

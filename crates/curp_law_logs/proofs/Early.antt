@@ -18,7 +18,7 @@ use Rattle.curp_law_logs.specs.Hashes.{NotNew}
 use Rattle.curp_law_logs.specs.Gives.{GivesWithin}
 use Rattle.curp_law_logs.specs.Standing.{IsFree, StandsHere}
 use Rattle.curp_law_logs.proofs.Logs.{known_mono_take, op_new, take_grows}
-use Rattle.curp_law_logs.proofs.Noted.{tells_alike}
+use Rattle.curp_law_logs.proofs.Standings.{tells_alike}
 use Rattle.curp_law_logs.proofs.Replayed.{replay_prefix, replayed_alike}
 
 -- ---- two forms of standing

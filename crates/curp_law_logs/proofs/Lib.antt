@@ -4,6 +4,8 @@ pub mod Stores
 pub mod Tables
 pub mod Logs
 pub mod Packages
+pub mod Standings
+pub mod Records
 pub mod Noted
 pub mod Gives
 pub mod Untouched

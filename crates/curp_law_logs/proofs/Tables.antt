@@ -93,23 +93,6 @@ seen_old t id seen = not_new t id Any seen
 
 -- ---- what a record says
 
--- a record that is left was there
-pub found_where : (test : RequestId → Bool) (es : List (RequestId × Noted)) (id : RequestId) (n : Noted) → find id_cmp id (filter (λ (e : RequestId × Noted). test e.0) es) ≡ Some n → find id_cmp id es ≡ Some n
-found_where test es id n e = go (test id) (sym (find-where_key id_cmp test id (λ x same. ap test (sym (ids_same id x same))) es) ∙ e)
-  where
-    go : (b : Bool) → cond b (find id_cmp id es) None ≡ Some n → find id_cmp id es ≡ Some n
-    go true e = e
-    go false e = absurd cc
-
--- a record is the one that is noted, or was there
-pub noted_found : (t : Table) (id other : RequestId) (new n : Noted) → find id_cmp id (note t other new.answer new.index).records ≡ Some n
-    → ((id ≡ other) × (new ≡ n)) ⊎ (find id_cmp id t.records ≡ Some n)
-noted_found t id other new n e = go (eq_by_cmp id_cmp id other) refl (sym (find-put id_cmp ids_total id other new t.records) ∙ e)
-  where
-    go : (b : Bool) → eq_by_cmp id_cmp id other ≡ b → cond b (Some new) (find id_cmp id t.records) ≡ Some n → ((id ≡ other) × (new ≡ n)) ⊎ (find id_cmp id t.records ≡ Some n)
-    go true same e = inl (tells_apart ids_same id other same, cc)
-    go false same e = inr e
-
 -- each record that a migration brings, once
 abbrev pub noted_all : ℕ → List (RequestId × Answer) → Table → Table
 noted_all index es t = fold (λ (u : Table) (e : RequestId × Answer). note_once index (find id_cmp e.0 u.records) u e.0 e.1) t es
@@ -117,36 +100,6 @@ noted_all index es t = fold (λ (u : Table) (e : RequestId × Answer). note_once
 -- the record was there, or is one of those brought
 abbrev pub IsBroughtBy : List (RequestId × Answer) → ℕ → RequestId → Noted → Type 0
 IsBroughtBy es index id n = (n.index ≡ index) × IsAmong {A = RequestId × Answer} (id, n.answer) es
-
-once_found : (index : ℕ) (t : Table) (e : RequestId × Answer) (id : RequestId) (n : Noted) (o : Option Noted) → find id_cmp id (note_once index o t e.0 e.1).records ≡ Some n
-    → ((id ≡ e.0) × (n.answer ≡ e.1) × (n.index ≡ index)) ⊎ (find id_cmp id t.records ≡ Some n)
-once_found index t e id n (Some noted) f = inr f
-once_found index t e id n None f = elim (noted_found t id e.0 (record { answer = e.1; index = index }) n f) [
-  | inl own ↦ inl (own.0, ap (λ (m : Noted). m.answer) (sym own.1), ap (λ (m : Noted). m.index) (sym own.1))
-  | inr old ↦ inr old
-]
-
--- a record is one of those that are noted, or was there
-pub all_found : (index : ℕ) (es : List (RequestId × Answer)) (t : Table) (id : RequestId) (n : Noted) → find id_cmp id (noted_all index es t).records ≡ Some n
-    → IsBroughtBy es index id n ⊎ (find id_cmp id t.records ≡ Some n)
-all_found index [] t id n f = inr f
-all_found index (e ∷ es) t id n f = elim (all_found index es (note_once index (find id_cmp e.0 t.records) t e.0 e.1) id n f) [
-  | inl later ↦ inl (later.0, record { place = suc later.1.place; stands = later.1.stands })
-  | inr old ↦ elim (once_found index t e id n (find id_cmp e.0 t.records) old) [
-    | inl own ↦ inl (own.2, record { place = 0; stands = λ i. Some (sym own.0 i, sym own.1 i) })
-    | inr before ↦ inr before
-  ]
-]
-
--- a record behind a migration was there, or is brought by it
-pub merged_found : (t : Table) (part : TablePart) (index : ℕ) (id : RequestId) (n : Noted) → find id_cmp id (merge t part index).records ≡ Some n
-    → IsBroughtBy part.records index id n ⊎ (find id_cmp id t.records ≡ Some n)
-unfolding merge
-merged_found t part index id n f =
-    let noted = noted_all index part.records t in
-    let raised = fold (λ (firsts : List (ℕ × ℕ)) (e : ℕ × ℕ). raise_first firsts e.0 e.1) noted.firsts part.firsts in
-    let gone = fold (insert_key nat_cmp) noted.gone part.gone in
-    all_found index part.records t id n (found_where (is_of_use (record { records = noted.records; firsts = raised; gone = gone })) noted.records id n f)
 
 -- ---- a migration takes along what is known
 

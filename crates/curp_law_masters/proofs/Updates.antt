@@ -32,7 +32,8 @@ use Rattle.curp_model.specs.Ranges.{owns_all}
 use Rattle.curp_model.specs.Table.{check}
 use Rattle.curp_model.specs.World.{World}
 use Rattle.curp_law_logs.specs.Standing.{StandsHere}
-use Rattle.curp_law_logs.proofs.Noted.{known_stands, stands_at}
+use Rattle.curp_law_logs.proofs.Noted.{known_stands}
+use Rattle.curp_law_logs.proofs.Standings.{stands_at}
 use Rattle.curp_law_masters.specs.Moves.{EarlySays, ServingMove}
 use Rattle.curp_law_masters.proofs.Clean.{parts_pushed, pushed_answer, pushed_free}
 use Rattle.curp_law_masters.proofs.Completed.{stale_completed}

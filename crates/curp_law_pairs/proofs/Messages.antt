@@ -24,7 +24,7 @@ use Rattle.curp_facts.specs.Reach.{Reach, SyncedSaid}
 use Rattle.curp_facts.specs.Said.{AcceptedSaid, AppendHolds, GcHolds, IsGiveFrom, IsTakeOf, ReplyHolds, ReplySaid, Says}
 use Rattle.curp_law_logs.proofs.Early.{synced_stands}
 use Rattle.curp_law_logs.proofs.Frozen.{held_kept}
-use Rattle.curp_law_logs.proofs.Noted.{stands_here}
+use Rattle.curp_law_logs.proofs.Standings.{stands_here}
 use Rattle.curp_law_names.specs.Names.{IsOf, Names}
 use Rattle.curp_law_names.specs.Nodes.{MessageFits, Nodes}
 use Rattle.curp_law_names.proofs.Lists.{each_among}

@@ -17,7 +17,7 @@ use Rattle.curp_facts.specs.Reach.{EarlySaid, GcSaid, SyncedSaid}
 use Rattle.curp_facts.specs.Said.{GcHolds, ReplyHolds, ReplySaid, StoredEntry, WorthSaid}
 use Rattle.curp_law_logs.specs.Standing.{StandsHere}
 use Rattle.curp_law_logs.proofs.Logs.{take_grows}
-use Rattle.curp_law_logs.proofs.Noted.{stands_at, stands_here, stands_longer}
+use Rattle.curp_law_logs.proofs.Standings.{stands_at, stands_here, stands_longer}
 use Rattle.curp_law_stays.proofs.Words.{Follows, adopted_later, event_at, given_later, hi_later, lo_later, log_later, many_later, message_at, reach_later, serving_later}
 
 module _ {w v : World} (s : Follows w v) where

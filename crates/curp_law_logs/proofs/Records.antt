@@ -1,8 +1,9 @@
 -- Each record of a log's table stands in the log.
-use Rattle.std.proofs.Common.{◌≡◌, ◌⊎◌, inl, inr, ◌==◌, not, ℕ, zero, suc, List, [], ◌∷◌, ◌++◌, fold, length, take, Option, Some, None, refl, ap, sym, ◌∙◌, subst, append_assoc, append-nil}
+use Rattle.std.proofs.Common.{◌≡◌, ◌⊎◌, inl, inr, ◌==◌, not, Bool, true, false, cond, ℕ, zero, suc, List, [], ◌∷◌, ◌++◌, fold, length, take, Option, Some, None, refl, ap, sym, ◌∙◌, subst, append_assoc, append-nil}
 use Rattle.std.specs.BTreeSet.{insert_key}
 use Rattle.std.specs.FinMap.Entries.{by_order, find, put}
-use Rattle.std.specs.Ordering.{nat_cmp, is_eq}
+use Rattle.std.specs.List.{filter}
+use Rattle.std.specs.Ordering.{nat_cmp, is_eq, eq_by_cmp}
 use Rattle.std.specs.declared.cmp.Ordering.{Ordering}
 use Rattle.std.specs.declared.cmp.Ordering.TheVariants.{Less, Equal, Greater}
 use Rattle.std.proofs.Math.Seq.{take-append_seam}
@@ -24,9 +25,9 @@ use Rattle.curp_model.specs.Table.{Noted, Table, is_below, is_of_use, merge, not
 use Rattle.curp_model.proofs.Logs.{meaning_append}
 use Rattle.curp_model.proofs.Tables.{ids_same}
 use Rattle.curp_law_logs.specs.Standing.{StandsHere}
-use Rattle.curp_law_logs.proofs.Noted.{stands_longer}
+use Rattle.curp_law_logs.proofs.Standings.{stands_longer}
 use Rattle.curp_law_logs.proofs.Tables.{IsBroughtBy, noted_all}
-use Rattle.curp_law_names.proofs.Lists.{filter_among}
+use Rattle.curp_base.proofs.Numbered.{filter_at}
 
 -- the first, or one behind it
 among_cases : {A : Type 0} (x y : A) (ys : List A) → IsAmong x (y ∷ ys) → (y ≡ x) ⊎ IsAmong x ys
@@ -39,9 +40,22 @@ among_cases {A} x y ys a = go a.place a.stands
 abbrev among_later : {A : Type 0} (x y : A) (ys : List A) → IsAmong x ys → IsAmong x (y ∷ ys)
 among_later x y ys a = record { place = suc a.place; stands = a.stands }
 
+filter_among : {A : Type 0} (p : A → Bool) (xs : List A) (x : A) → IsAmong x (filter p xs) → IsAmong x xs
+filter_among p xs x a = let was = filter_at p xs a.place x a.stands in record { place = was.0; stands = was.1 }
+
 -- a line of records
 abbrev Line : Type 0
 Line = RequestId × Noted
+
+-- a record that is found
+pub found_among : (id : RequestId) (es : List Line) (n : Noted) → find id_cmp id es ≡ Some n → IsAmong {A = Line} (id, n) es
+found_among id [] n f = absurd cc
+found_among id (e ∷ es) n f = at_first (eq_by_cmp id_cmp id e.0) refl f (found_among id es n)
+  where
+    at_first : (b : Bool) → eq_by_cmp id_cmp id e.0 ≡ b → cond b (Some e.1) (find id_cmp id es) ≡ Some n
+        → (find id_cmp id es ≡ Some n → IsAmong {A = Line} (id, n) es) → IsAmong {A = Line} (id, n) (e ∷ es)
+    at_first true same f rest = let value : e.1 ≡ n = cc in record { place = 0; stands = λ i. Some (sym (tells_apart ids_same id e.0 same) i, value i) }
+    at_first false same f rest = among_later (id, n) e es (rest f)
 
 -- a record is the one that is put, or was there
 put_among : (id : RequestId) (n : Noted) (es : List Line) (x : Line) → IsAmong x (put id_cmp id n es) → (x ≡ (id, n)) ⊎ IsAmong x es
