@@ -157,9 +157,10 @@ module _ (kept : List HeldRequest) (x : HeldRequest) (p : Place) (free left : Li
 
   kept_others : (gs : List Place) → Each (IsFilled kept) gs → Each (λ (e : Place). e.at ≢ p.at) gs → Each (IsFilled (put_at kept p.at x)) gs
   kept_others [] g a = tt
-  kept_others (e ∷ gs) g a =
-      (record { within = omega (arith, size_least, g.0.within); its_id = ap (λ (y : HeldRequest). y.request.id) (put_other e g.0.within a.0) ∙ g.0.its_id },
-      kept_others gs g.1 a.1)
+  kept_others (e ∷ gs) g a = (
+    record { within = omega (arith, size_least, g.0.within); its_id = ap (λ (y : HeldRequest). y.request.id) (put_other e g.0.within a.0) ∙ g.0.its_id },
+    kept_others gs g.1 a.1,
+  )
 
   held_others : (gs : List Place) → Each (IsFilled kept) gs → Each (λ (e : Place). e.at ≢ p.at) gs → held_by (put_at kept p.at x) gs ≡ held_by kept gs
   held_others [] g a = refl
