@@ -29,7 +29,7 @@ use Rattle.curp_model.specs.Client.{ClientState, Pending, Early, Attempt, client
 use Rattle.curp_model.specs.Master.{MasterState, Wish, AtOnce, WhenSynced, Verdict, Deny, Tell, TellAgain, HoldBack, Execute, Phase, Open, Switching, carries_out, executes, goes_on, is_clean, last_round, on_appended, on_serving, on_update, raised, serving_ordered, settle, stored_on, sync_in, unless_it_ends, verdict, all_have}
 use Rattle.curp_cmd.specs.Node.{is_among}
 use Rattle.curp_model.specs.Witness.{WitnessState, on_witness}
-use Rattle.curp_inv.specs.Machines.{client_machine, master_machine, backup_machine, witness_machine, on_built_witness}
+use Rattle.curp_inv.specs.Machines.{client_machine, master_machine, backup_machine, witness_machine}
 
 -- a refusal is told by its number, which isn't 0; without one, memory was wanting
 abbrev pub Tells : ℕ → Result Done AllocError → Type 0
@@ -200,8 +200,8 @@ pub backup_refusals : (b : Node BackupState) (order : Local) → Refuses b (back
 unfolding backup_machine
 backup_refusals b order = not_refused b _ refl
 
-witness_takes : (n : ℕ) (w : WitnessState) (from : NodeId) (x : Body) → (on_built_witness n w from x).refused ≡ 0
-unfolding on_built_witness on_witness
+witness_takes : (n : ℕ) (w : WitnessState) (from : NodeId) (x : Body) → (on_witness n w from x).refused ≡ 0
+unfolding on_witness
 witness_takes n w from (body.Gc g) = refl
 witness_takes n w from (body.Record r) = refl
 witness_takes n w from (body.Start s) = refl

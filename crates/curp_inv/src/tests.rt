@@ -2,8 +2,8 @@ use crate::{BackupNode, ClientNode, MasterNode, WitnessNode};
 use curp_base::{Boxed, Items};
 use curp_cmd::{Answer, Command, Entry, Key, NodeId, Request, RequestId, Value};
 use curp_msg::{
-    Accepted, Append, AppendAnswer, Appended, Ask, Body, Config, Core, Done, FenceReply, Local,
-    Message, PartConfig, Reason, Record, Refusal, Refuse, Rejected, Reply,
+    Accepted, Append, AppendAnswer, Appended, Ask, Body, Collected, Config, Core, Done, FenceReply,
+    Gc, GcAnswer, Local, Message, PartConfig, Reason, Record, Refusal, Refuse, Rejected, Reply,
 };
 use curp_range::{Ranges, Spans};
 use std::alloc::Global;
@@ -31,6 +31,8 @@ enum Comes {
     Stored(u64, u64),
     Fence(u32),
     Freeze,
+    // A collection of that epoch.
+    Collect(u32, u32),
 }
 
 // What a node says, does or refuses then.
@@ -48,6 +50,8 @@ enum Said {
     Accepted(u32, u32),
     Rejected(u32, Reason),
     Frozen(usize),
+    // A collection was of that epoch, and there are so many suspects.
+    Suspects(u32, usize),
     Another,
     Completes(u32),
     Refuses(u8),
@@ -99,7 +103,7 @@ const BACKUP: [(Comes, &[Said]); 6] = [
     ),
 ];
 
-const WITNESS: [(Comes, &[Said]); 6] = [
+const WITNESS: [(Comes, &[Said]); 10] = [
     (Comes::Record(1), &[Said::Accepted(1, 1)]),
     (
         Comes::Record(2),
@@ -112,6 +116,10 @@ const WITNESS: [(Comes, &[Said]); 6] = [
     ),
     (Comes::Round, &[]),
     (Comes::Update(1), &[]),
+    (Comes::Collect(2, 1), &[Said::Another]),
+    (Comes::Collect(1, 1), &[Said::Suspects(1, 0)]),
+    (Comes::Record(2), &[Said::Accepted(2, 1)]),
+    (Comes::Collect(1, 1), &[Said::Suspects(1, 0)]),
     (Comes::Freeze, &[Said::Frozen(1)]),
     (Comes::Record(1), &[Said::Rejected(1, Reason::Frozen)]),
 ];
@@ -180,6 +188,7 @@ fn message(alloc: Global, comes: Comes) -> Result<Message, Fail> {
         Comes::Stored(length, round) => (NodeId::backup(1), stored(length, round)),
         Comes::Fence(epoch) => (NodeId::master(2), Body::Fence { epoch }),
         Comes::Freeze => (NodeId::master(2), Body::Freeze { epoch: 2 }),
+        Comes::Collect(epoch, client) => (NodeId::master(1), collect(alloc, epoch, client)?),
         Comes::Update(client) | Comes::Sync(client) | Comes::Record(client) => {
             (NodeId::client(client), asked(alloc, comes, client)?)
         }
@@ -270,6 +279,14 @@ fn stored(length: u64, round: u64) -> Body {
     })
 }
 
+fn collect(alloc: Global, epoch: u32, client: u32) -> Result<Body, Fail> {
+    let id = RequestId { client, seq: 1 };
+    Ok(Body::Gc(Gc {
+        epoch,
+        ids: Items::new(vec![in alloc; id]?),
+    }))
+}
+
 fn said_by(alloc: Global, done: &Done) -> Result<Vec<Said>, Fail> {
     let mut said = Vec::new(alloc);
     for message in done.sent.as_slice() {
@@ -300,6 +317,7 @@ fn said_in(body: &Body) -> Said {
         Body::Accepted(accepted) => Said::Accepted(accepted.id.client, accepted.epoch),
         Body::Rejected(rejected) => Said::Rejected(rejected.id.client, rejected.reason),
         Body::FrozenAnswer { requests } => Said::Frozen(requests.len()),
+        Body::Collected(collected) => told(collected),
         _ => Said::Another,
     }
 }
@@ -308,6 +326,13 @@ fn logged(answer: &FenceReply) -> Said {
     match answer {
         FenceReply::Log(entries) => Said::Log(entries.len()),
         FenceReply::Fenced { .. } => Said::Another,
+    }
+}
+
+fn told(collected: &Collected) -> Said {
+    match &collected.answer {
+        GcAnswer::Suspects(suspects) => Said::Suspects(collected.epoch, suspects.len()),
+        GcAnswer::Stranger { .. } => Said::Another,
     }
 }
 

@@ -5,9 +5,11 @@ ghost use Rattle.curp_msg.specs.Moved.{Moves, numbered_move, says};
 
 use curp_base::{Items, NoMemory};
 use curp_cmd::NodeId;
-use curp_msg::{Accepted, Body, Core, Done, Local, Message, Record, Rejected};
-use curp_slots::{RecordAnswer, ShapeError, Witness};
-use std::alloc::Global;
+use curp_msg::{
+    Accepted, Body, Collected, Core, Done, Gc, GcAnswer, Local, Message, Record, Rejected,
+};
+use curp_slots::{GcError, RecordAnswer, ShapeError, Witness};
+use std::alloc::{AllocError, Global};
 use std::marker::Model;
 
 /// A witness as a node.
@@ -88,6 +90,25 @@ impl WitnessNode {
     }
 
     #[tactic(auto, unfolding(curp_model::specs::Witness::on_witness))]
+    fn on_gc(&mut self, from: NodeId, asked: &Gc) -> Result<Done, NoMemory>
+        ensures { Moves self.old self.new result
+            (numbered_move self.old.number (on_witness self.old.number self.old.state from (Body.Gc asked.now))) }
+    {
+        let mut messages = Vec::with_capacity(self.alloc, 1)?;
+        let answer = match self.witness.gc(asked.epoch, asked.ids.as_slice()) {
+            Ok(suspects) => GcAnswer::Suspects(Items::new(suspects)),
+            Err(GcError::Stranger { epoch }) => GcAnswer::Stranger { epoch },
+            Err(GcError::NoMemory) => return Err(AllocError),
+        };
+        let collected = Collected {
+            epoch: asked.epoch,
+            answer,
+        };
+        messages.push_reserved(self.answer(from, Body::Collected(collected)));
+        Ok(Done::sends(messages))
+    }
+
+    #[tactic(auto, unfolding(curp_model::specs::Witness::on_witness))]
     fn on_freeze(&mut self, from: NodeId, epoch: u32) -> Result<Done, NoMemory>
         ensures { Moves self.old self.new result
             (numbered_move self.old.number (on_witness self.old.number self.old.state from (Body.Freeze epoch))) }
@@ -109,10 +130,11 @@ impl Core for WitnessNode {
 
     ghost messages_taken = { witness_taken };
 
-    #[tactic(auto, unfolding(crate::specs::Machines::witness_machine, crate::specs::Machines::on_built_witness, curp_model::specs::Witness::on_witness))]
+    #[tactic(auto, unfolding(crate::specs::Machines::witness_machine, curp_model::specs::Witness::on_witness))]
     fn on_message(&mut self, message: &Message) -> Result<Done, NoMemory> {
         match &message.body {
             Body::Record(asked) => self.on_record(message.from, asked.get()),
+            Body::Gc(asked) => self.on_gc(message.from, asked),
             Body::Start(start) => {
                 let _started = self.witness.start(start.part, start.epoch);
                 Ok(Done::quiet(self.alloc))

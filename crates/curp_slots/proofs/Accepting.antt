@@ -1,12 +1,13 @@
 -- A request comes to be held: the slots that it takes, and what they tell then.
-use Rattle.std.proofs.Common.{◌≡◌, ◌≢◌, ◌⊎◌, inl, inr, ℕ, zero, suc, ◌+◌, ◌*◌, ◌%◌, ◌==◌, ◌||◌, ◌<◌, ◌≤◌, Bool, true, false, cond, List, [], ◌∷◌, ◌++◌, length, map, get_or, Option, Some, None, refl, ap, sym, ◌∙◌, subst, arith, length-append, length-set}
+use Rattle.std.proofs.Common.{◌≡◌, ◌≢◌, ◌⊎◌, inl, inr, ℕ, zero, suc, ◌+◌, ◌*◌, ◌%◌, ◌==◌, ◌||◌, ◌<◌, ◌≤◌, Bool, true, false, cond, List, [], ◌∷◌, ◌++◌, length, map, get_or, set, Option, Some, None, refl, ap, sym, ◌∙◌, subst, arith, length-append, length-set}
 use Rattle.std.specs.FinMap.Entries.{by_order}
 use Rattle.std.specs.List.{filter, list_any, sum}
 use Rattle.std.specs.declared.cmp.Ordering.{Ordering}
 use Rattle.std.specs.declared.cmp.Ordering.TheVariants.{Less, Equal, Greater}
 use Rattle.std.proofs.Math.Nat.{mod-lt, suc-mul}
 use Rattle.std.proofs.lemmas.Bool.Decides.{nat_tests}
-use Rattle.std.proofs.lemmas.List.{map-append}
+use Rattle.std.proofs.Math.Seq.{map-set_same}
+use Rattle.std.proofs.lemmas.List.{append-nil, length-map, map-append, map-set}
 use Rattle.std.proofs.lemmas.List.Elements.{filter-append}
 use Rattle.std.proofs.lemmas.List.Sums.{sum_by-cons}
 use Rattle.curp_base.specs.Words.{Each}
@@ -18,7 +19,7 @@ use Rattle.curp_cmd.specs.declared.command.RequestId.{RequestId}
 use Rattle.curp_model.specs.Witness.{in_set, placed, HeldRequest}
 use Rattle.curp_model.proofs.Tables.{ids_same}
 use Rattle.curp_slots.specs.Hashed.{requests_of}
-use Rattle.curp_slots.specs.Holding.{ids_with, used_by}
+use Rattle.curp_slots.specs.Holding.{chosen_of, ids_with, slots_of, used_by}
 use Rattle.curp_slots.specs.Register.{is_held}
 use Rattle.curp_slots.specs.Slots.{owner, owner_in, set_of, with_slot, with_slot_in, with_slots}
 use Rattle.curp_slots.specs.declared.set.Slot.{Slot}
@@ -142,11 +143,11 @@ total_most (ss ∷ sets) ways most =
 
 -- ---- a request in its place among others
 
-pub record IsPut (x : HeldRequest) (held : List HeldRequest) : Type 0 where
-  pub front : List HeldRequest
-  pub back : List HeldRequest
-  pub before : front ++ back ≡ held
-  pub after : front ++ x ∷ back ≡ placed x held
+pub record IsPut (r : Request) (requests all : List Request) : Type 0 where
+  pub front : List Request
+  pub back : List Request
+  pub before : front ++ back ≡ requests
+  pub after : front ++ r ∷ back ≡ all
 
 abbrev pub Absent : HeldRequest → List HeldRequest → Type 0
 Absent x held = Each (λ (y : HeldRequest). id_cmp x.request.id y.request.id ≢ Equal) held
@@ -166,17 +167,33 @@ absent_each x (y ∷ held) none = go (same_id x.request.id y.request.id) refl no
       rest none,
     )
 
-pub put_among : (x : HeldRequest) (held : List HeldRequest) → Absent x held → IsPut x held
+pub put_among : (x : HeldRequest) (held : List HeldRequest) → Absent x held → IsPut x.request (requests_of held) (requests_of (placed x held))
 put_among x [] a = record { front = []; back = []; before = refl; after = refl }
 put_among x (y ∷ held) a =
     let p = go (id_cmp x.request.id y.request.id) a.0 (put_among x held a.1) in
     record { front = p.0; back = p.1; before = p.2; after = p.3 }
   where
-    go : (r : Ordering) → r ≢ Equal → IsPut x held
-        → (front : List HeldRequest) × (back : List HeldRequest) × (front ++ back ≡ y ∷ held) × (front ++ x ∷ back ≡ by_order r (x ∷ y ∷ held) (x ∷ held) (y ∷ placed x held))
-    go Less other rest = ([], y ∷ held, refl, refl)
+    go : (r : Ordering) → r ≢ Equal → IsPut x.request (requests_of held) (requests_of (placed x held))
+        → (front : List Request) × (back : List Request) × (front ++ back ≡ requests_of (y ∷ held)) × (front ++ x.request ∷ back ≡ requests_of (by_order r (x ∷ y ∷ held) (x ∷ held) (y ∷ placed x held)))
+    go Less other rest = ([], requests_of (y ∷ held), refl, refl)
     go Equal other rest = absurd (other refl)
-    go Greater other rest = (y ∷ rest.front, rest.back, ap (λ (ys : List HeldRequest). y ∷ ys) rest.before, ap (λ (ys : List HeldRequest). y ∷ ys) rest.after)
+    go Greater other rest = (y.request ∷ rest.front, rest.back, ap (λ (rs : List Request). y.request ∷ rs) rest.before, ap (λ (rs : List Request). y.request ∷ rs) rest.after)
+
+-- it is so among the chosen ones, if it is chosen
+pub put_chosen : (c : RequestId → Bool) (r : Request) (rs all : List Request) → IsPut r rs all → c r.id ≡ true → IsPut r (chosen_of c rs) (chosen_of c all)
+put_chosen c r rs all p is = record {
+  front = chosen_of c p.front;
+  back = chosen_of c p.back;
+  before = sym (filter-append (λ (r : Request). c r.id) p.front p.back) ∙ ap (chosen_of c) p.before;
+  after = ap (λ (b : Bool). chosen_of c p.front ++ cond b (r ∷ chosen_of c p.back) (chosen_of c p.back)) (sym is) ∙ sym (filter-append (λ (r : Request). c r.id) p.front (r ∷ p.back)) ∙ ap (chosen_of c) p.after;
+}
+
+-- else the chosen ones are as they were
+pub put_unchosen : (c : RequestId → Bool) (r : Request) (rs all : List Request) → IsPut r rs all → c r.id ≡ false → chosen_of c all ≡ chosen_of c rs
+put_unchosen c r rs all p is =
+    sym (ap (chosen_of c) p.after) ∙ filter-append (λ (r : Request). c r.id) p.front (r ∷ p.back)
+    ∙ ap (λ (b : Bool). chosen_of c p.front ++ cond b (r ∷ chosen_of c p.back) (chosen_of c p.back)) is
+    ∙ sym (filter-append (λ (r : Request). c r.id) p.front p.back) ∙ ap (chosen_of c) p.before
 
 -- ---- what is told of the requests then
 
@@ -197,31 +214,35 @@ ids_among h (q ∷ rs) ss r = go (touches q.command h) (ids_among h rs ss r)
 ids_appended : (h : ℕ) (rs ss : List Request) → ids_with h (rs ++ ss) ≡ ids_with h rs ++ ids_with h ss
 ids_appended h rs ss = ap (map (λ (r : Request). r.id)) (filter-append (λ (r : Request). touches r.command h) rs ss) ∙ map-append (λ (r : Request). r.id) (filter (λ (r : Request). touches r.command h) rs) (filter (λ (r : Request). touches r.command h) ss)
 
-requests_put : (x : HeldRequest) (held : List HeldRequest) (p : IsPut x held) → requests_of (placed x held) ≡ requests_of p.front ++ x.request ∷ requests_of p.back
-requests_put x held p = sym (ap requests_of p.after) ∙ map-append (λ (y : HeldRequest). y.request) p.front (x ∷ p.back)
-
-requests_before : (x : HeldRequest) (held : List HeldRequest) (p : IsPut x held) → requests_of held ≡ requests_of p.front ++ requests_of p.back
-requests_before x held p = sym (ap requests_of p.before) ∙ map-append (λ (y : HeldRequest). y.request) p.front p.back
-
 both_empty : {A : Type 0} (xs ys : List A) (x : A) → xs ++ ys ≡ [] → xs ++ x ∷ ys ≡ x ∷ []
 both_empty [] ys x e = ap (λ (zs : List _). x ∷ zs) e
 both_empty (y ∷ xs) ys x e = absurd cc
 
 -- it has the hash, which nothing had; or it hasn't, and those are the same that had it
-pub ids_put : (h : ℕ) (x : HeldRequest) (held : List HeldRequest) → IsPut x held → (b : Bool) → touches x.request.command h ≡ b → (b ≡ true → ids_with h (requests_of held) ≡ [])
-    → ids_with h (requests_of (placed x held)) ≡ cond b (x.request.id ∷ []) (ids_with h (requests_of held))
-ids_put h x held p true e none =
-    let empty : ids_with h (requests_of p.front) ++ ids_with h (requests_of p.back) ≡ [] = sym (ids_appended h (requests_of p.front) (requests_of p.back)) ∙ sym (ap (ids_with h) (requests_before x held p)) ∙ none refl in
-    ap (ids_with h) (requests_put x held p)
-    ∙ ids_among h (requests_of p.front) (requests_of p.back) x.request
-    ∙ ap (λ (b : Bool). ids_with h (requests_of p.front) ++ cond b (x.request.id ∷ ids_with h (requests_of p.back)) (ids_with h (requests_of p.back))) e
-    ∙ both_empty (ids_with h (requests_of p.front)) (ids_with h (requests_of p.back)) x.request.id empty
-ids_put h x held p false e none =
-    ap (ids_with h) (requests_put x held p)
-    ∙ ids_among h (requests_of p.front) (requests_of p.back) x.request
-    ∙ ap (λ (b : Bool). ids_with h (requests_of p.front) ++ cond b (x.request.id ∷ ids_with h (requests_of p.back)) (ids_with h (requests_of p.back))) e
-    ∙ sym (ids_appended h (requests_of p.front) (requests_of p.back))
-    ∙ sym (ap (ids_with h) (requests_before x held p))
+pub ids_put : (h : ℕ) (r : Request) (rs all : List Request) → IsPut r rs all → (b : Bool) → touches r.command h ≡ b → (b ≡ true → ids_with h rs ≡ []) → ids_with h all ≡ cond b (r.id ∷ []) (ids_with h rs)
+ids_put h r rs all p true e none =
+    let empty : ids_with h p.front ++ ids_with h p.back ≡ [] = sym (ids_appended h p.front p.back) ∙ ap (ids_with h) p.before ∙ none refl in
+    sym (ap (ids_with h) p.after)
+    ∙ ids_among h p.front p.back r
+    ∙ ap (λ (b : Bool). ids_with h p.front ++ cond b (r.id ∷ ids_with h p.back) (ids_with h p.back)) e
+    ∙ both_empty (ids_with h p.front) (ids_with h p.back) r.id empty
+ids_put h r rs all p false e none =
+    sym (ap (ids_with h) p.after)
+    ∙ ids_among h p.front p.back r
+    ∙ ap (λ (b : Bool). ids_with h p.front ++ cond b (r.id ∷ ids_with h p.back) (ids_with h p.back)) e
+    ∙ sym (ids_appended h p.front p.back)
+    ∙ ap (ids_with h) p.before
+
+-- which of the ids with a hash are chosen
+pub ids_chosen : (c : RequestId → Bool) (h : ℕ) (rs : List Request) → ids_with h rs ≡ [] → ids_with h (chosen_of c rs) ≡ []
+ids_chosen c h [] none = refl
+ids_chosen c h (r ∷ rs) none = go (touches r.command h) (c r.id) refl none (ids_chosen c h rs)
+  where
+    go : (b d : Bool) → touches r.command h ≡ b → map (λ (r : Request). r.id) (cond b (r ∷ filter (λ r. touches r.command h) rs) (filter (λ r. touches r.command h) rs)) ≡ [] → (ids_with h rs ≡ [] → ids_with h (chosen_of c rs) ≡ [])
+        → ids_with h (cond d (r ∷ chosen_of c rs) (chosen_of c rs)) ≡ []
+    go true d e none rest = absurd cc
+    go false true e none rest = rw e (rest none)
+    go false false e none rest = rest none
 
 used_cons : (n s : ℕ) (r : Request) (rs : List Request) → used_by n (r ∷ rs) s ≡ in_set n s (hashes r.command) + used_by n rs s
 used_cons n s r rs = sum_by-cons (λ (m : ℕ). m) (in_set n s (hashes r.command)) (map (λ r. in_set n s (hashes r.command)) rs)
@@ -234,13 +255,47 @@ used_among n s (q ∷ rs) ss r =
     let after = used_cons n s q (rs ++ r ∷ ss) in
     omega (arith, rest, before, after)
 
-pub used_put : (n s : ℕ) (x : HeldRequest) (held : List HeldRequest) → IsPut x held → used_by n (requests_of (placed x held)) s ≡ used_by n (requests_of held) s + in_set n s (hashes x.request.command)
-used_put n s x held p =
-    ap (λ (rs : List Request). used_by n rs s) (requests_put x held p) ∙ used_among n s (requests_of p.front) (requests_of p.back) x.request
-    ∙ ap (λ (rs : List Request). used_by n rs s + in_set n s (hashes x.request.command)) (sym (requests_before x held p))
+pub used_put : (n s : ℕ) (r : Request) (rs all : List Request) → IsPut r rs all → used_by n all s ≡ used_by n rs s + in_set n s (hashes r.command)
+used_put n s r rs all p =
+    sym (ap (λ (rs : List Request). used_by n rs s) p.after) ∙ used_among n s p.front p.back r
+    ∙ ap (λ (rs : List Request). used_by n rs s + in_set n s (hashes r.command)) p.before
 
-pub length_put : (x : HeldRequest) (held : List HeldRequest) → IsPut x held → length (placed x held) ≡ length held + 1
-length_put x held p =
-    let all = sym (ap (λ (ys : List HeldRequest). length ys) p.after) ∙ length-append p.front (x ∷ p.back) in
-    let before = sym (ap (λ (ys : List HeldRequest). length ys) p.before) ∙ length-append p.front p.back in
-    omega (arith, all, before)
+pub length_put : (r : Request) (rs all : List Request) → IsPut r rs all → length all ≡ length rs + 1
+length_put r rs all p =
+    let every = sym (ap (λ (rs : List Request). length rs) p.after) ∙ length-append p.front (r ∷ p.back) in
+    let before = sym (ap (λ (rs : List Request). length rs) p.before) ∙ length-append p.front p.back in
+    omega (arith, every, before)
+
+-- ---- the slots of the chosen ones
+
+pub slots_push : (c : RequestId → Bool) (ss : List Slot) (s : Slot) → slots_of c (ss ++ s ∷ []) ≡ slots_of c ss ++ cond (c s.id) (s ∷ []) []
+slots_push c ss s = filter-append (λ (s : Slot). c s.id) ss (s ∷ [])
+
+slots_at : (c : RequestId → Bool) (sets : List (List Slot)) (k : ℕ) → get_or (map (slots_of c) sets) k [] ≡ slots_of c (get_or sets k [])
+slots_at c [] zero = refl
+slots_at c [] (suc k) = refl
+slots_at c (ss ∷ sets) zero = refl
+slots_at c (ss ∷ sets) (suc k) = slots_at c sets k
+
+module _ (c : RequestId → Bool) (id : RequestId) where
+  one_chosen : (sets : List (List Slot)) (h : ℕ) → c id ≡ true → map (slots_of c) (with_slot sets h id) ≡ with_slot (map (slots_of c) sets) h id
+  one_chosen sets h is =
+      let size : length (map (slots_of c) sets) ≡ length sets = length-map sets (slots_of c) in
+      map-set (slots_of c) sets (h % length sets) (set_of sets h ++ record { hash = h; id = id } ∷ [])
+      ∙ ap (λ (ss : List Slot). set (map (slots_of c) sets) (h % length sets) ss)
+      (slots_push c (set_of sets h) (record { hash = h; id = id })
+      ∙ λ i. sym (slots_at c sets (h % length sets)) i ++ cond (is i) (record { hash = h; id = id } ∷ []) [])
+      ∙ ap (λ (n : ℕ). with_slot_in (map (slots_of c) sets) (h % n) (record { hash = h; id = id })) (sym size)
+
+  pub all_chosen : (sets : List (List Slot)) (hs : List ℕ) → c id ≡ true → map (slots_of c) (with_slots sets hs id) ≡ with_slots (map (slots_of c) sets) hs id
+  all_chosen sets [] is = refl
+  all_chosen sets (h ∷ hs) is = all_chosen (with_slot sets h id) hs is ∙ ap (λ (ss : List (List Slot)). with_slots ss hs id) (one_chosen sets h is)
+
+  one_unchosen : (sets : List (List Slot)) (h : ℕ) → c id ≡ false → map (slots_of c) (with_slot sets h id) ≡ map (slots_of c) sets
+  one_unchosen sets h is =
+      map-set_same (slots_of c) sets (h % length sets) (set_of sets h ++ record { hash = h; id = id } ∷ []) []
+      (slots_push c (set_of sets h) (record { hash = h; id = id }) ∙ ap (λ (b : Bool). slots_of c (set_of sets h) ++ cond b (record { hash = h; id = id } ∷ []) []) is ∙ append-nil (slots_of c (set_of sets h)))
+
+  pub none_chosen : (sets : List (List Slot)) (hs : List ℕ) → c id ≡ false → map (slots_of c) (with_slots sets hs id) ≡ map (slots_of c) sets
+  none_chosen sets [] is = refl
+  none_chosen sets (h ∷ hs) is = none_chosen (with_slot sets h id) hs is ∙ one_unchosen sets h is

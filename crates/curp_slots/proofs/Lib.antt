@@ -9,3 +9,6 @@ pub mod Taken
 pub mod Touching
 pub mod Apart
 pub mod Orders
+pub mod Filters
+pub mod Listings
+pub mod Collections

@@ -1,11 +1,14 @@
 -- What is held in the order of an index, as requests come and are marked.
-use Rattle.std.proofs.Common.{◌≡◌, ◌≢◌, inl, inr, ℕ, zero, suc, ◌+◌, ◌<◌, ◌≤◌, ◌||◌, Bool, true, false, cond, nat_le, List, [], ◌∷◌, ◌++◌, length, get_or, set, map, Result, Ok, Err, IfOk, IfErr, refl, ap, sym, ◌∙◌, arith, length-append, length-set}
-use Rattle.std.specs.List.{insert, list_any}
+use Rattle.std.proofs.Common.{◌≡◌, ◌≢◌, ◌⊎◌, inl, inr, ℕ, zero, suc, ◌+◌, ◌==◌, ◌<◌, ◌≤◌, ◌||◌, Bool, true, false, cond, nat_le, List, [], ◌∷◌, ◌++◌, length, get_or, set, map, Result, Ok, Err, IfOk, IfErr, refl, ap, sym, ◌∙◌, subst, arith, length-append, length-set}
+use Rattle.std.specs.List.{filter, insert, list_any}
 use Rattle.std.specs.Result.{is_ok}
 use Rattle.std.specs.declared.cmp.Ordering.TheVariants.{Less, Greater}
 use Rattle.std.proofs.lemmas.Bool.{cases_eq, cond_both}
+use Rattle.std.proofs.lemmas.Bool.Decides.{nat_tests}
 use Rattle.std.proofs.lemmas.List.{get_or_append_left, get_or-set_same, get_or-set_other}
 use Rattle.std.proofs.lemmas.List.Edits.{length-insert}
+use Rattle.std.proofs.lemmas.List.Elements.{filter-append}
+use Rattle.std.proofs.lemmas.List.Sums.{length-filter, sum_by-insert}
 use Rattle.std.proofs.lemmas.Simd.{map-map}
 use Rattle.curp_base.specs.Words.{Each}
 use Rattle.curp_base.proofs.Lists.{Each-weaker}
@@ -14,7 +17,7 @@ use Rattle.curp_cmd.specs.RequestId.{id_cmp, same_id}
 use Rattle.curp_cmd.specs.declared.command.Request.{Request}
 use Rattle.curp_cmd.specs.declared.command.RequestId.{RequestId}
 use Rattle.curp_model.specs.Witness.{placed, HeldRequest}
-use Rattle.curp_slots.specs.Register.{IdsAscend, IsFilled, IsIdGap, IsIdAt, PlacesAscend, held_at, held_by, is_held, marked, marked_at, nobody}
+use Rattle.curp_slots.specs.Register.{IdsAscend, IsFilled, IsIdGap, IsIdAt, IsPlaceGiven, PlacesAscend, held_at, held_by, is_held, marked, marked_at, nobody, put_at, times}
 use Rattle.curp_slots.specs.declared.register.Place.{Place}
 use Rattle.curp_slots.proofs.Ids.{each_get, each_insert, greater_back, less_back, one_place, any_at_place, none_in_gap}
 
@@ -38,20 +41,6 @@ found_is_held id kept es (Err at) f found absent = sym (held_in_index id kept es
 
 -- ---- one more
 
-filled_more : (kept : List HeldRequest) (x : HeldRequest) (e : Place) → IsFilled kept e → IsFilled (kept ++ x ∷ []) e
-filled_more kept x e f =
-    let same : held_at (kept ++ x ∷ []) e ≡ held_at kept e = get_or_append_left kept (x ∷ []) nobody e.at f.within in
-    record {
-      within = simp length-append (omega (arith, f.within));
-      its_id = rw same f.its_id;
-    }
-
-held_more : (kept : List HeldRequest) (x : HeldRequest) (es : List Place) → Each (IsFilled kept) es → held_by (kept ++ x ∷ []) es ≡ held_by kept es
-held_more kept x [] f = refl
-held_more kept x (e ∷ es) f =
-    let same : held_at (kept ++ x ∷ []) e ≡ held_at kept e = get_or_append_left kept (x ∷ []) nobody e.at f.0.within in
-    rw same (ap (λ ys. held_at kept e ∷ ys) (held_more kept x es f.1))
-
 last_is : (kept : List HeldRequest) (x : HeldRequest) → get_or (kept ++ x ∷ []) (length kept) nobody ≡ x
 last_is [] x = refl
 last_is (y ∷ kept) x = last_is kept x
@@ -73,22 +62,169 @@ placed_in_gap kept x p (e ∷ es) (suc at) here id f g =
     } in
     rw greater (ap (λ ys. held_at kept e ∷ ys) (placed_in_gap kept x p es at here id f.1 behind))
 
-pub added : (kept : List HeldRequest) (x : HeldRequest) (p : Place) (es : List Place) (at : ℕ) → p.at ≡ length kept → x.request.id ≡ p.id → Each (IsFilled kept) es → IsIdGap es p.id at
-    → held_by (kept ++ x ∷ []) (insert es at p) ≡ placed x (held_by kept es)
-added kept x p es at last id f g =
-    let here : held_at (kept ++ x ∷ []) p ≡ x = rw last (last_is kept x) in
-    placed_in_gap (kept ++ x ∷ []) x p es at here id (Each-weaker (IsFilled kept) (IsFilled (kept ++ x ∷ [])) (filled_more kept x) es f) g
-    ∙ ap (placed x) (held_more kept x es f)
+filter_push : (b : ℕ) (xs : List ℕ) (x : ℕ) → length (filter (λ f. f == b) (xs ++ x ∷ [])) ≡ length (filter (λ f. f == b) xs) + cond (x == b) 1 0
+filter_push b xs x = ap (λ (ns : List ℕ). length ns) (filter-append (λ (f : ℕ). f == b) xs (x ∷ [])) ∙ length-append (filter (λ (f : ℕ). f == b) xs) (filter (λ (f : ℕ). f == b) (x ∷ [])) ∙ ap (λ (n : ℕ). length (filter (λ (f : ℕ). f == b) xs) + n) (one (x == b))
+  where
+    one : (t : Bool) → length (cond t (x ∷ []) []) ≡ cond t 1 0
+    one true = refl
+    one false = refl
 
-pub filled_added : (kept : List HeldRequest) (x : HeldRequest) (p : Place) (es : List Place) (at : ℕ) → p.at ≡ length kept → x.request.id ≡ p.id → Each (IsFilled kept) es → Each (IsFilled (kept ++ x ∷ [])) (insert es at p)
-filled_added kept x p es at last id f =
-    let here : held_at (kept ++ x ∷ []) p ≡ x = rw last (last_is kept x) in
-    each_insert (IsFilled (kept ++ x ∷ [])) es at p
-    (record { within = simp length-append (omega (arith, last)); its_id = rw here id })
-    (Each-weaker (IsFilled kept) (IsFilled (kept ++ x ∷ [])) (filled_more kept x) es f)
+filter_insert : (b : ℕ) (es : List Place) (k : ℕ) (e : Place) → length (filter (λ (e : Place). e.at == b) (insert es k e)) ≡ length (filter (λ (e : Place). e.at == b) es) + cond (e.at == b) 1 0
+filter_insert b es k e =
+    length-filter (λ (e : Place). e.at == b) (insert es k e) ∙ sum_by-insert (λ (e : Place). cond (e.at == b) 1 0) es k e
+    ∙ ap (λ (n : ℕ). n + cond (e.at == b) 1 0) (sym (length-filter (λ (e : Place). e.at == b) es))
 
-pub as_many_added : (kept : List HeldRequest) (x : HeldRequest) (es : List Place) (at : ℕ) (p : Place) → length kept ≡ length es → at ≤ length es → length (kept ++ x ∷ []) ≡ length (insert es at p)
-as_many_added kept x es at p same within = length-append kept (x ∷ []) ∙ ap (λ (n : ℕ). n + 1) same ∙ sym (length-insert es at p within)
+none_at : (b : ℕ) (es : List Place) → length (filter (λ (e : Place). e.at == b) es) ≡ 0 → Each (λ (e : Place). e.at ≢ b) es
+none_at b [] none = tt
+none_at b (e ∷ es) none = go (e.at == b) refl none (none_at b es)
+  where
+    go : (t : Bool) → (e.at == b) ≡ t → length (cond t (e ∷ filter (λ (e : Place). e.at == b) es) (filter (λ (e : Place). e.at == b) es)) ≡ 0 → (length (filter (λ (e : Place). e.at == b) es) ≡ 0 → Each (λ (e : Place). e.at ≢ b) es) → Each (λ (e : Place). e.at ≢ b) (e ∷ es)
+    go true t none rest = absurd (omega arith)
+    go false t none rest = ((λ same. absurd (grind (arith, nat_tests))), rest none)
+
+none_from : (b : ℕ) (es : List Place) → Each (λ (e : Place). e.at ≢ b) es → length (filter (λ (e : Place). e.at == b) es) ≡ 0
+none_from b [] all = refl
+none_from b (e ∷ es) all = let no : (e.at == b) ≡ false = other e.at all.0 in rw no (none_from b es all.1)
+  where
+    other : (n : ℕ) → n ≢ b → (n == b) ≡ false
+    other n apart = grind (arith, nat_tests)
+
+last_has : (P : ℕ → Type 0) (ns : List ℕ) (n : ℕ) → Each P (ns ++ n ∷ []) → P n
+last_has P [] n all = all.0
+last_has P (m ∷ ns) n all = last_has P ns n all.1
+
+front_has : (P : ℕ → Type 0) (ns : List ℕ) (n : ℕ) → Each P (ns ++ n ∷ []) → Each P ns
+front_has P [] n all = tt
+front_has P (m ∷ ns) n all = (all.0, front_has P ns n all.1)
+
+-- what is known where a place is given
+module _ (kept : List HeldRequest) (x : HeldRequest) (p : Place) (free left : List ℕ) (es : List Place) (f : Each (IsFilled kept) es) (inside : Each (λ (at : ℕ). at < length kept) free)
+    (once : (at : ℕ) → times at free es ≤ 1) (given : IsPlaceGiven (length kept) free left p.at) where
+  freed_below : free ≡ left ++ p.at ∷ [] → p.at < length kept
+  freed_below e = last_has (λ (at : ℕ). at < length kept) left p.at (subst (λ (ns : List ℕ). Each (λ (at : ℕ). at < length kept) ns) e inside)
+
+  given_most : p.at ≤ length kept
+  given_most = elim given [
+    | inl e ↦ let last = freed_below e in omega (arith, last)
+    | inr e ↦ omega (arith, e.2)
+  ]
+
+  given_apart : Each (λ (e : Place). e.at ≢ p.at) es
+  given_apart = elim given [
+    | inl e ↦
+        let here : (p.at == p.at) ≡ true = self p.at in
+        let count = ap (λ (ns : List ℕ). length (filter (λ (f : ℕ). f == p.at) ns)) e ∙ filter_push p.at left p.at ∙ ap (λ (t : Bool). length (filter (λ (f : ℕ). f == p.at) left) + cond t 1 0) here in
+        none_at p.at es (omega (arith, count, once p.at))
+    | inr e ↦ Each-weaker (IsFilled kept) (λ (e : Place). e.at ≢ p.at) (λ g h same. absurd (omega (arith, same, h.within, e.2))) es f
+  ]
+    where
+      self : (n : ℕ) → (n == n) ≡ true
+      self n = grind (arith, nat_tests)
+
+  put_here : held_at (put_at kept p.at x) p ≡ x
+  put_here = go (p.at == length kept) refl
+    where
+      go : (t : Bool) → (p.at == length kept) ≡ t → get_or (cond t (kept ++ x ∷ []) (set kept p.at x)) p.at nobody ≡ x
+      go true t = let last : p.at ≡ length kept = grind (arith, nat_tests) in rw last (last_is kept x)
+      go false t = let other : p.at ≢ length kept = grind (arith, nat_tests) in get_or-set_same kept p.at x nobody (omega (arith, given_most))
+
+  put_other : (e : Place) → e.at < length kept → e.at ≢ p.at → held_at (put_at kept p.at x) e ≡ held_at kept e
+  put_other e within other = go (p.at == length kept)
+    where
+      go : (t : Bool) → get_or (cond t (kept ++ x ∷ []) (set kept p.at x)) e.at nobody ≡ get_or kept e.at nobody
+      go true = get_or_append_left kept (x ∷ []) nobody e.at within
+      go false = get_or-set_other kept p.at e.at x nobody other
+
+  put_size : ((length (put_at kept p.at x) ≡ length kept + 1) × (p.at ≡ length kept)) ⊎ ((length (put_at kept p.at x) ≡ length kept) × (p.at < length kept))
+  put_size = go (p.at == length kept) refl
+    where
+      go : (t : Bool) → (p.at == length kept) ≡ t
+          → ((length (cond t (kept ++ x ∷ []) (set kept p.at x)) ≡ length kept + 1) × (p.at ≡ length kept)) ⊎ ((length (cond t (kept ++ x ∷ []) (set kept p.at x)) ≡ length kept) × (p.at < length kept))
+      go true t = inl (length-append kept (x ∷ []), grind (arith, nat_tests))
+      go false t = let other : p.at ≢ length kept = grind (arith, nat_tests) in inr (length-set kept p.at x, omega (arith, given_most))
+
+  size_least : length kept ≤ length (put_at kept p.at x)
+  size_least = elim put_size [
+    | inl e ↦ omega (arith, e.0)
+    | inr e ↦ omega (arith, e.0)
+  ]
+
+  given_within : p.at < length (put_at kept p.at x)
+  given_within = elim put_size [
+    | inl e ↦ omega (arith, e.0, e.1)
+    | inr e ↦ omega (arith, e.0, e.1)
+  ]
+
+  kept_others : (gs : List Place) → Each (IsFilled kept) gs → Each (λ (e : Place). e.at ≢ p.at) gs → Each (IsFilled (put_at kept p.at x)) gs
+  kept_others [] g a = tt
+  kept_others (e ∷ gs) g a = (
+    record { within = omega (arith, size_least, g.0.within); its_id = ap (λ (y : HeldRequest). y.request.id) (put_other e g.0.within a.0) ∙ g.0.its_id },
+    kept_others gs g.1 a.1,
+  )
+
+  held_others : (gs : List Place) → Each (IsFilled kept) gs → Each (λ (e : Place). e.at ≢ p.at) gs → held_by (put_at kept p.at x) gs ≡ held_by kept gs
+  held_others [] g a = refl
+  held_others (e ∷ gs) g a = λ i. put_other e g.0.within a.0 i ∷ held_others gs g.1 a.1 i
+
+  pub added : (at : ℕ) → x.request.id ≡ p.id → IsIdGap es p.id at → held_by (put_at kept p.at x) (insert es at p) ≡ placed x (held_by kept es)
+  added at id g = placed_in_gap (put_at kept p.at x) x p es at put_here id (kept_others es f given_apart) g ∙ ap (placed x) (held_others es f given_apart)
+
+  pub filled_added : (at : ℕ) → x.request.id ≡ p.id → Each (IsFilled (put_at kept p.at x)) (insert es at p)
+  filled_added at id =
+      each_insert (IsFilled (put_at kept p.at x)) es at p (record { within = given_within; its_id = ap (λ (y : HeldRequest). y.request.id) put_here ∙ id }) (kept_others es f given_apart)
+
+  pub within_added : Each (λ (at : ℕ). at < length (put_at kept p.at x)) left
+  within_added = elim given [
+    | inl e ↦ Each-weaker (λ (at : ℕ). at < length kept) (λ (at : ℕ). at < length (put_at kept p.at x)) (λ n l. omega (arith, l, size_least)) left (front_has (λ (at : ℕ). at < length kept) left p.at (subst (λ (ns : List ℕ). Each (λ (at : ℕ). at < length kept) ns) e inside))
+    | inr e ↦ subst (λ (ns : List ℕ). Each (λ (at : ℕ). at < length (put_at kept p.at x)) ns) (sym e.1) tt
+  ]
+
+  pub once_added : (at b : ℕ) → times b left (insert es at p) ≤ 1
+  once_added at b =
+      let more = filter_insert b es at p in
+      elim given [
+        | inl e ↦
+            let count = ap (λ (ns : List ℕ). length (filter (λ (f : ℕ). f == b) ns)) e ∙ filter_push b left p.at in
+            omega (arith, more, count, once b)
+        | inr e ↦ new (p.at == b) refl more (ap (λ (ns : List ℕ). length (filter (λ (f : ℕ). f == b) ns)) e.1)
+      ]
+    where
+      new : (t : Bool) → (p.at == b) ≡ t → length (filter (λ (e : Place). e.at == b) (insert es at p)) ≡ length (filter (λ (e : Place). e.at == b) es) + cond t 1 0 → length (filter (λ (f : ℕ). f == b) left) ≡ 0 → times b left (insert es at p) ≤ 1
+      new true t more none =
+          let same : p.at ≡ b = grind (arith, nat_tests) in
+          let zero : length (filter (λ (e : Place). e.at == b) es) ≡ 0 = none_from b es (subst (λ (n : ℕ). Each (λ (e : Place). e.at ≢ n) es) same given_apart) in
+          omega (arith, more, none, zero)
+      new false t more none = omega (arith, more, none, once b)
+
+  pub as_many_added : (at : ℕ) → at ≤ length es → length kept ≡ length free + length es → length (put_at kept p.at x) ≡ length left + length (insert es at p)
+  as_many_added at within same =
+      let more = length-insert es at p within in
+      elim given [
+        | inl e ↦
+            let shorter = ap (λ (ns : List ℕ). length ns) e ∙ length-append left (p.at ∷ []) in
+            let below = freed_below e in
+            elim put_size [
+              | inl size ↦ absurd (omega (arith, size.1, below))
+              | inr size ↦ omega (arith, size.0, more, shorter, same)
+            ]
+        | inr e ↦
+            let none = ap (λ (ns : List ℕ). length ns) e.0 in
+            let none_left = ap (λ (ns : List ℕ). length ns) e.1 in
+            elim put_size [
+              | inl size ↦ omega (arith, size.0, more, none, none_left, same)
+              | inr size ↦ absurd (omega (arith, size.1, e.2))
+            ]
+      ]
+
+  pub size_within : (room : ℕ) → length kept ≤ room → length kept ≡ length free + length es → length es < room → length (put_at kept p.at x) ≤ room
+  size_within room most same few =
+      elim put_size [
+        | inl size ↦ elim given [
+          | inl e ↦ let below = freed_below e in absurd (omega (arith, size.1, below))
+          | inr e ↦ let none = ap (λ (ns : List ℕ). length ns) e.0 in omega (arith, size.0, none, same, few)
+        ]
+        | inr size ↦ omega (arith, size.0, most)
+      ]
 
 -- ---- one is marked
 

@@ -1,9 +1,15 @@
 -- What a witness answers.
-use Rattle.std.specs.Prelude.{Option, Some, None, Result, Ok, Err}
+use Rattle.std.specs.Prelude.{◌≡◌, Bool, true, false, IsTrue, Option, Some, None, Result, Ok, Err}
+use Rattle.std.specs.Global.{Vec}
+use Rattle.curp_cmd.specs.declared.command.Request.{Request}
 use Rattle.curp_model.specs.Witness.{WitnessState}
 use Rattle.curp_model.specs.declared.Mode.{Mode}
 use Rattle.curp_model.specs.declared.Mode.TheVariants.{Idle, Normal, Frozen}
+use Rattle.curp_msg.specs.declared.answer.GcAnswer.{GcAnswer}
+use Rattle.curp_msg.specs.declared.answer.GcAnswer.TheVariants as collected
 use Rattle.curp_msg.specs.declared.answer.Reason.{Reason}
+use Rattle.curp_slots.specs.declared.error.GcError.{GcError}
+use Rattle.curp_slots.specs.declared.error.GcError.TheVariants as error
 use Rattle.curp_slots.specs.declared.error.NotIdle.{NotIdle}
 use Rattle.curp_slots.specs.declared.witness.RecordAnswer.{RecordAnswer}
 use Rattle.curp_slots.specs.declared.witness.RecordAnswer.TheVariants.{Accepted, Rejected}
@@ -22,3 +28,14 @@ started_in Frozen = Err (record { mode = Frozen })
 -- only one that wasn't started is started
 abbrev pub start_answer : WitnessState → Result (Unit {0}) NotIdle
 start_answer w = started_in w.mode
+
+-- suspects are told
+abbrev pub gives_suspects : GcAnswer → Bool
+gives_suspects (collected.Suspects requests) = true
+gives_suspects (collected.Stranger epoch) = false
+
+-- the result says what the answer says. Only where the answer is suspects, memory may be wanting
+abbrev pub AnswersGc : Result (Vec Request) GcError → GcAnswer → Type 0
+AnswersGc (Ok requests) answer = answer ≡ collected.Suspects requests.items
+AnswersGc (Err (error.Stranger epoch)) answer = answer ≡ collected.Stranger epoch
+AnswersGc (Err error.NoMemory) answer = IsTrue (gives_suspects answer)

@@ -1,4 +1,5 @@
 pub mod Answers
+pub mod Collection
 pub mod Hashed
 pub mod Holding
 pub mod Register

@@ -1,6 +1,6 @@
--- The requests that a witness holds, in the order of arrival, and an index of them by their ids.
-use Rattle.std.specs.Prelude.{◌≡◌, ℕ, ◌<◌, ◌≤◌, nat_le, if◌then◌else◌, Bool, true, false, List, [], ◌∷◌, length, map, slice_index_or, ⊤}
-use Rattle.std.specs.List.{list_any}
+-- The requests that a witness holds, each at its place, and an index of the places by their ids.
+use Rattle.std.specs.Prelude.{◌≡◌, ◌⊎◌, ℕ, ◌+◌, ◌==◌, ◌<◌, ◌≤◌, nat_le, if◌then◌else◌, Bool, true, false, List, [], ◌∷◌, ◌++◌, length, map, slice_index_or, slice_set, ⊤}
+use Rattle.std.specs.List.{filter, list_any}
 use Rattle.std.specs.declared.cmp.Ordering.TheVariants.{Less, Greater}
 use Rattle.curp_base.specs.Words.{Each}
 use Rattle.curp_cmd.specs.RequestId.{id_cmp, same_id}
@@ -57,13 +57,29 @@ pub record IsFilled (kept : List HeldRequest) (e : Place) : Type 0 where
   pub within : e.at < length kept
   pub its_id : (held_at kept e).request.id ≡ e.id
 
--- an index of what is held, and room for so many in both lists
-pub record IsRegister (room : ℕ) (kept : List HeldRequest) (kept_room : ℕ) (index : List Place) (index_room : ℕ) : Type 0 where
+-- how often a place is free or in the index
+abbrev pub times : ℕ → List ℕ → List Place → ℕ
+times at free index = length (filter (λ f. f == at) free) + length (filter (λ e. e.at == at) index)
+
+-- an index of what is held, and room for so many in each list; a place is free or in the index, and that once
+pub record IsRegister (room : ℕ) (kept : List HeldRequest) (kept_room : ℕ) (free : List ℕ) (free_room : ℕ) (index : List Place) (index_room : ℕ) : Type 0 where
   pub ascend : PlacesAscend index
   pub places : Each (IsFilled kept) index
-  pub as_many : length kept ≡ length index
+  pub within : Each (λ at. at < length kept) free
+  pub once : (at : ℕ) → times at free index ≤ 1
+  pub as_many : length kept ≡ length free + length index
+  pub kept_within : length kept ≤ room
   pub kept_fits : room ≤ kept_room
+  pub free_fits : room ≤ free_room
   pub index_fits : room ≤ index_room
+
+-- a free place is given, or where none is free the one behind the others
+abbrev pub IsPlaceGiven : ℕ → List ℕ → List ℕ → ℕ → Type 0
+IsPlaceGiven size free left at = (free ≡ left ++ at ∷ []) ⊎ ((free ≡ []) × (left ≡ []) × (at ≡ size))
+
+-- what is put at a place, or behind the others
+abbrev pub put_at : List HeldRequest → ℕ → HeldRequest → List HeldRequest
+put_at kept at x = if at == length kept then kept ++ x ∷ [] else slice_set kept at x
 
 -- the place at that position is the one of the id
 pub record IsIdAt (index : List Place) (id : RequestId) (at : ℕ) : Type 0 where

@@ -1,10 +1,11 @@
 -- The slots of a witness: which requests have them, and which sets have no room.
-use Rattle.std.specs.Prelude.{ℕ, ◌+◌, ◌%◌, ◌==◌, ◌<◌, ◌≤◌, nat_lt, if◌then◌else◌, Bool, List, [], ◌∷◌, ◌++◌, length, Option, Some, None, slice_index_or, slice_set}
+use Rattle.std.specs.Prelude.{ℕ, ◌+◌, ◌%◌, ◌==◌, ◌<◌, ◌≤◌, nat_lt, if◌then◌else◌, Bool, not, List, [], ◌∷◌, ◌++◌, length, Option, Some, None, slice_index_or, slice_set}
+use Rattle.std.specs.List.{filter}
 use Rattle.std.specs.Option.{option_map}
 use Rattle.std.specs.FinMap.Entries.{by_order}
 use Rattle.std.specs.Ordering.{nat_cmp, match_ordering}
 use Rattle.std.specs.declared.cmp.Ordering.{Ordering}
-use Rattle.curp_cmd.specs.RequestId.{id_cmp}
+use Rattle.curp_cmd.specs.RequestId.{has_id, id_cmp}
 use Rattle.curp_cmd.specs.declared.command.RequestId.{RequestId}
 use Rattle.curp_model.specs.Witness.{in_set}
 use Rattle.curp_slots.specs.declared.set.Slot.{Slot}
@@ -17,6 +18,10 @@ gap [] n = Some 0
 gap (x ∷ xs) n = match_ordering (nat_cmp n x) (Some 0) None (option_map (λ at. at + 1) (gap xs n))
 
 -- ---- sets
+
+-- the slots of those that aren't listed
+abbrev pub slots_left : List RequestId → List Slot → List Slot
+slots_left listed slots = filter (λ s. not (has_id s.id listed)) slots
 
 -- the request that has a slot for the hash
 abbrev pub owner_in : List Slot → ℕ → Option RequestId

@@ -10,6 +10,15 @@ pub enum ShapeError {
     NoMemory,
 }
 
+/// Why a witness gives no suspects.
+#[derive(Clone, Copy, Debug, PartialEq, Eq)]
+pub enum GcError {
+    /// It was started at this epoch, if it was, and the collection is of another one.
+    Stranger { epoch: Option<u32> },
+    /// There was no memory for the listed ids in their order, or for the suspects.
+    NoMemory,
+}
+
 /// A witness isn't started again: it has this mode already.
 #[derive(Clone, Copy, Debug, PartialEq, Eq)]
 pub struct NotIdle {
@@ -24,5 +33,16 @@ impl From<NoMemory> for ShapeError {
 
     fn from(_no_memory: NoMemory) -> ShapeError {
         ShapeError::NoMemory
+    }
+}
+
+impl From<NoMemory> for GcError {
+    ghost use Rattle.std.specs.Prelude.{◌≡◌};
+    ghost use Rattle.curp_slots.specs.declared.error.GcError.TheVariants.{NoMemory};
+
+    ghost from_gives = { λ _ error. error ≡ NoMemory };
+
+    fn from(_no_memory: NoMemory) -> GcError {
+        GcError::NoMemory
     }
 }

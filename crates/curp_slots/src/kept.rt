@@ -1,5 +1,5 @@
-ghost use Rattle.std.specs.Prelude.{◌≡◌};
-ghost use Rattle.curp_model.specs.Witness.{newly_held};
+ghost use Rattle.std.specs.Prelude.{◌≡◌, if◌then◌else◌, Some, None, option_copied};
+ghost use Rattle.curp_model.specs.Witness.{newly_held, survives};
 ghost use Rattle.curp_slots.specs.Register.{marked};
 
 use curp_cmd::Request;
@@ -45,5 +45,23 @@ impl KeptRequest {
         if self.survived >= 3 {
             self.suspected = true;
         }
+    }
+
+    /// The request, if it is suspected.
+    pub fn suspect(&self) -> Option<&Request>
+        ensures { option_copied result ≡ (if self.now.suspected then Some self.now.request else None) }
+    {
+        if self.suspected {
+            Some(&self.request)
+        } else {
+            None
+        }
+    }
+
+    /// It has survived one more collection. The count stands still at 2^64 - 1.
+    pub fn survive(&mut self)
+        ensures { self.new ≡ survives self.old }
+    {
+        self.survived = self.survived.saturating_add(1);
     }
 }

@@ -5,10 +5,11 @@
 mod error;
 mod hashes;
 mod kept;
+mod listed;
 mod register;
 mod set;
 mod slots;
 mod witness;
 
-pub use error::{NotIdle, ShapeError};
+pub use error::{GcError, NotIdle, ShapeError};
 pub use witness::{RecordAnswer, Witness};

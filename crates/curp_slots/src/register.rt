@@ -1,12 +1,14 @@
-ghost use Rattle.std.specs.Prelude.{◌≡◌, ◌<◌, [], length, false, map, IfOk, IfErr};
+ghost use Rattle.std.specs.Prelude.{◌≡◌, ◌<◌, ◌≤◌, ◌+◌, ◌^◌, ◌++◌, [], ◌∷◌, length, false, map, vec_capacity, IfOk, IfErr};
 ghost use Rattle.std.specs.BTreeMap.{values};
 ghost use Rattle.curp_base.specs.Words.{Each};
-ghost use Rattle.curp_model.specs.Witness.{by_least_hash, newly_held, placed};
+ghost use Rattle.curp_model.specs.Witness.{by_least_hash, newly_held, placed, survives};
+ghost use Rattle.curp_slots.specs.Collection.{places_freed, suspected_of, what_remains};
 ghost use Rattle.curp_slots.specs.Hashed.{LeastHashesApart, least_places, request_at, requests_of};
-ghost use Rattle.curp_slots.specs.Register.{IdsAscend, IsFilled, IsIdGap, IsIdAt, PlacesAscend, marked_at, is_held};
+ghost use Rattle.curp_slots.specs.Register.{IdsAscend, IsFilled, IsIdGap, IsIdAt, IsPlaceGiven, PlacesAscend, held_by, marked_at, is_held, put_at};
 
 use crate::hashes::least_hash;
 use crate::kept::KeptRequest;
+use crate::listed::Listed;
 use curp_base::NoMemory;
 use curp_cmd::{Request, RequestId};
 use std::alloc::Global;
@@ -25,8 +27,10 @@ pub struct Place {
 #[derive(Drop)]
 pub struct Register {
     room: u32,
-    // In the order of arrival.
+    // Each stays where it was put.
     kept: Vec<KeptRequest>,
+    // The places in `kept` of what was dropped.
+    free: Vec<u32>,
     // In ascending order of the ids.
     index: Vec<Place>,
 }
@@ -40,7 +44,7 @@ impl Model for Register {
     ghost view = { λ r. record { room = r.room; held = held_by r.kept.items r.index.items } };
 
     ghost invariant = { λ r. IsRegister r.room r.kept.items (vec_capacity r.kept)
-        r.index.items (vec_capacity r.index) };
+        r.free.items (vec_capacity r.free) r.index.items (vec_capacity r.index) };
 }
 
 impl Register {
@@ -49,8 +53,14 @@ impl Register {
         ensures { IfOk result (λ register. register ≡ record { room = room; held = [] }) }
     {
         let kept = Vec::with_capacity(alloc, room as usize)?;
+        let free = Vec::with_capacity(alloc, room as usize)?;
         let index = Vec::with_capacity(alloc, room as usize)?;
-        Ok(Register { room, kept, index })
+        Ok(Register {
+            room,
+            kept,
+            free,
+            index,
+        })
     }
 
     /// Whether the request with that id is held.
@@ -68,8 +78,7 @@ impl Register {
         ensures ascend { IdsAscend self.new.held }
     {
         if let Err(gap) = find(&self.index, &request.id) {
-            let at = self.kept.len() as u32;
-            self.kept.push_reserved(KeptRequest::new(request));
+            let at = put(&mut self.kept, &mut self.free, request);
             let place = Place { id: request.id, at };
             self.index.insert(gap, place).unwrap();
         }
@@ -86,6 +95,23 @@ impl Register {
         }
     }
 
+    /// The suspects among those that aren't listed, in ascending order of their ids.
+    pub fn suspects(&self, alloc: Global, listed: &Listed) -> Result<Vec<Request>, NoMemory>
+        ensures { IfOk result (λ requests. requests.items ≡ suspected_of (what_remains listed.now self.now.held)) }
+    {
+        suspects_at(alloc, &self.kept, &self.index, listed)
+    }
+
+    /// Drops the listed requests. What remains has survived one more collection. It takes no memory.
+    pub fn collect(&mut self, listed: &Listed)
+        ensures value { self.new ≡ record self.old { held = map survives (what_remains listed.now self.old.held) } }
+        ensures ascend { IdsAscend self.new.held }
+    {
+        free_places(&self.index, listed, &mut self.free);
+        self.index.retain(|place| !listed.has(&place.id));
+        survive_all(&mut self.kept);
+    }
+
     /// The requests, in ascending order of their least hashes.
     pub fn by_least_hash(&self, alloc: Global) -> Result<Vec<Request>, NoMemory>
         requires { LeastHashesApart (requests_of self.now.held) }
@@ -94,6 +120,71 @@ impl Register {
         let sorted = places_by_hash(alloc, &self.kept, &self.index)?;
         requests_at(alloc, &self.kept, &sorted)
     }
+}
+
+/// Puts the request where one was dropped, or else behind the others, and gives the place.
+fn put(kept: &mut Vec<KeptRequest>, free: &mut Vec<u32>, request: &Request) -> u32
+    requires within { Each (λ at. at < length kept.old.items) free.old.items }
+    requires room { length free.old.items ≡ 0 → length kept.old.items < vec_capacity kept.old }
+    requires few { length kept.old.items < 2 ^ 32 }
+    ensures kept { kept.new.items ≡ put_at kept.old.items result (newly_held request.now) }
+    ensures kept_room { vec_capacity kept.new ≡ vec_capacity kept.old }
+    ensures free { IsPlaceGiven (length kept.old.items) free.old.items free.new.items result }
+    ensures free_room { vec_capacity free.new ≡ vec_capacity free.old }
+{
+    let newly_held = KeptRequest::new(request);
+    if let Some(at) = free.pop() {
+        kept[at as usize] = newly_held;
+        return at;
+    }
+    let at = kept.len() as u32;
+    kept.push_reserved(newly_held);
+    at
+}
+
+/// Adds the places of the listed requests to those that are free.
+fn free_places(index: &[Place], listed: &Listed, free: &mut Vec<u32>)
+    requires { length free.old.items + length index.now ≤ vec_capacity free.old }
+    ensures items { free.new.items ≡ free.old.items ++ places_freed listed.now index.now }
+    ensures room { vec_capacity free.new ≡ vec_capacity free.old }
+{
+    for place in index {
+        if listed.has(&place.id) {
+            free.push_reserved(place.at);
+        }
+    }
+}
+
+/// Each has survived one more collection.
+fn survive_all(kept: &mut Vec<KeptRequest>)
+    ensures items { kept.new.items ≡ map survives kept.old.items }
+    ensures room { vec_capacity kept.new ≡ vec_capacity kept.old }
+{
+    for at in 0..kept.len() {
+        kept[at].survive();
+    }
+}
+
+/// The suspects at those places that aren't listed, in the order of the places.
+fn suspects_at(
+    alloc: Global,
+    kept: &[KeptRequest],
+    index: &[Place],
+    listed: &Listed,
+) -> Result<Vec<Request>, NoMemory>
+    requires { Each (IsFilled kept.now) index.now }
+    ensures { IfOk result (λ requests. requests.items ≡ suspected_of (what_remains listed.now (held_by kept.now index.now))) }
+{
+    let mut suspects = Vec::new(alloc);
+    for place in index {
+        if listed.has(&place.id) {
+            continue;
+        }
+        if let Some(suspect) = kept[place.at as usize].suspect() {
+            suspects.push(*suspect)?;
+        }
+    }
+    Ok(suspects)
 }
 
 /// The places, in ascending order of the least hashes of what stands there.

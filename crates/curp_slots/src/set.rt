@@ -1,6 +1,7 @@
 ghost use Rattle.std.specs.Prelude.{◌≡◌, ◌<◌, ◌≤◌, [], ◌∷◌, ◌++◌, length};
-ghost use Rattle.curp_slots.specs.Slots.{owner_in};
+ghost use Rattle.curp_slots.specs.Slots.{owner_in, slots_left};
 
+use crate::listed::Listed;
 use curp_cmd::RequestId;
 use std::marker::Model;
 
@@ -72,6 +73,19 @@ impl Set {
     {
         self.slots[self.len as usize] = *slot;
         self.len += 1;
+    }
+
+    /// Frees the slots of the listed requests.
+    pub fn free(&mut self, listed: &Listed)
+        ensures { self.new ≡ slots_left listed.now self.old }
+    {
+        let mut left = Set::new();
+        for slot in self.taken() {
+            if !listed.has(&slot.id) {
+                left.take(slot);
+            }
+        }
+        *self = left;
     }
 }
 

@@ -1,7 +1,8 @@
-ghost use Rattle.std.specs.Prelude.{◌≡◌, ◌%◌, ◌<◌, ◌≤◌, [], length, replicate, IfOk};
+ghost use Rattle.std.specs.Prelude.{◌≡◌, ◌%◌, ◌<◌, ◌≤◌, [], length, map, replicate, IfOk};
 ghost use Rattle.curp_model.specs.Witness.{in_set};
-ghost use Rattle.curp_slots.specs.Slots.{HasSlotsFor, lesser, least_full, least_owner, if_full, owner, taken_in, with_slot_in, with_slots};
+ghost use Rattle.curp_slots.specs.Slots.{HasSlotsFor, lesser, least_full, least_owner, if_full, owner, slots_left, taken_in, with_slot_in, with_slots};
 
+use crate::listed::Listed;
 use crate::set::{Set, Slot};
 use curp_base::NoMemory;
 use curp_cmd::RequestId;
@@ -150,6 +151,22 @@ impl Slots {
         ensures { self.new ≡ record self.old { sets = with_slot_in self.old.sets set slot.now } }
     {
         self.sets[set as usize].take(slot);
+    }
+
+    /// Frees the slots of the listed requests.
+    pub fn free(&mut self, listed: &Listed)
+        ensures { self.new ≡ record self.old { sets = map (slots_left listed.now) self.old.sets } }
+    {
+        free_in_each(&mut self.sets, listed);
+    }
+}
+
+/// Frees the slots of the listed requests in each set.
+fn free_in_each(sets: &mut Vec<Set>, listed: &Listed)
+    ensures { sets.new.items ≡ map (slots_left listed.now) sets.old.items }
+{
+    for at in 0..sets.len() {
+        sets[at].free(listed);
     }
 }
 

@@ -1,15 +1,16 @@
-ghost use Rattle.std.specs.Prelude.{◌≡◌, ◌<◌, ◌≤◌, ◌↔◌, ◌⊎◌, false, length, IfOk, OnOk, OnErr, Err};
+ghost use Rattle.std.specs.Prelude.{◌≡◌, ◌<◌, ◌≤◌, ◌↔◌, ◌⊎◌, ◌≢◌, false, length, IfOk, OnOk, OnErr, Err};
 ghost use Rattle.curp_cmd.specs.Hash.{hashes as each_once};
-ghost use Rattle.curp_model.specs.Witness.{HoldsInOrder, by_room, conflict, freeze, fresh_witness, frozen_requests, full_set};
-ghost use Rattle.curp_model.specs.Witness.{hold, holds, start, stranger_to, turned_away};
-ghost use Rattle.curp_slots.specs.Answers.{refusal, start_answer};
+ghost use Rattle.curp_model.specs.Witness.{HoldsInOrder, by_room, collect, conflict, freeze, fresh_witness, frozen_requests, full_set};
+ghost use Rattle.curp_model.specs.Witness.{gc, hold, holds, start, stranger_to, suspects, turned_away};
+ghost use Rattle.curp_slots.specs.Answers.{AnswersGc, refusal, start_answer};
 ghost use Rattle.curp_slots.specs.Holding.{with_owner_marked, with_owners_marked};
 ghost use Rattle.curp_slots.specs.Slots.{owner};
 
 use crate::hashes::AscendingHashes;
+use crate::listed::Listed;
 use crate::register::Register;
 use crate::slots::Slots;
-use crate::{NotIdle, ShapeError};
+use crate::{GcError, NotIdle, ShapeError};
 use curp_base::NoMemory;
 use curp_cmd::{Request, RequestId};
 use curp_model::Mode;
@@ -110,6 +111,26 @@ impl Witness {
         self.hold_new(request, AscendingHashes::of(&request.command).as_slice())
     }
 
+    /// A collection: the listed requests are dropped, and what remains has survived one more collection. It gives the
+    /// suspects, in ascending order of their ids. The ids may come in any order and repeated, and ids that aren't held
+    /// are passed over. A frozen witness of that epoch drops nothing and gives none. It costs a search for each listed id and
+    /// for what is held. The collections and the suspects are this project's own choice.
+    #[tactic(auto, unfolding(curp_model::specs::Witness::gc))]
+    pub fn gc(&mut self, epoch: u32, ids: &[RequestId]) -> Result<Vec<Request>, GcError>
+        ensures state { result ≢ Err GcError.NoMemory → self.new ≡ (gc self.old epoch ids.now).state }
+        ensures answer { AnswersGc result (gc self.old epoch ids.now).answer }
+        ensures err { OnErr result (self.new ≡ self.old) }
+    {
+        if self.epoch != Some(epoch) {
+            return Err(GcError::Stranger { epoch: self.epoch });
+        }
+        match self.mode {
+            Mode::Normal => Ok(self.collect(ids)?),
+            Mode::Frozen => Ok(Vec::new(self.alloc)),
+            Mode::Idle => Err(GcError::Stranger { epoch: self.epoch }),
+        }
+    }
+
     /// Holds nothing more from then on, for good, and gives a copy of all that it holds, in ascending order of the
     /// least hashes.
     pub fn freeze(&mut self) -> Result<Vec<Request>, NoMemory>
@@ -174,6 +195,19 @@ impl Witness {
             Some(own) if own != epoch => Some(own),
             _ => None,
         }
+    }
+
+    // Drops the listed requests, and gives the suspects among what remains.
+    fn collect(&mut self, ids: &[RequestId]) -> Result<Vec<Request>, NoMemory>
+        ensures state { OnOk result (self.new ≡ collect self.old ids.now) }
+        ensures answer { IfOk result (λ requests. requests.items ≡ suspects (collect self.old ids.now)) }
+        ensures err { OnErr result (self.new ≡ self.old) }
+    {
+        let listed = Listed::of(self.alloc, ids)?;
+        let suspects = self.register.suspects(self.alloc, &listed)?;
+        self.slots.free(&listed);
+        self.register.collect(&listed);
+        Ok(suspects)
     }
 
     // Holds a request with those hashes and an id that isn't held, if there is room for it.
@@ -351,6 +385,59 @@ mod tests {
         }
         let frozen = witness.freeze()?;
         assert_eq!(rt; frozen.as_slice(), [a, c, b].as_slice());
+        Ok(())
+    }
+
+    // Of ids 1.1 and 2.1, which arrived the other way round, both survive three collections and are then in the way.
+    #[test]
+    fn drops_what_is_listed_and_tells_suspects(rt: HostRuntime) -> Result<(), Fail> {
+        let mut witness = Witness::new(rt.alloc(), 1, 2)?;
+        let stranger = |epoch| Some(GcError::Stranger { epoch });
+        assert_eq!(rt; witness.gc(2, &[]).err(), stranger(None));
+        assert_eq!(rt; witness.start(1, 2), Ok(()));
+        let (b, a) = (put(2, 1, b"b", b"1")?, put(1, 1, b"a", b"1")?);
+        for request in [b, a] {
+            assert_eq!(rt; witness.hold(2, &request), RecordAnswer::Accepted);
+        }
+        assert_eq!(rt; witness.gc(1, &[a.id]).err(), stranger(Some(2)));
+        for _ in 0..3 {
+            assert_eq!(rt; witness.gc(2, &[])?.len(), 0);
+        }
+        for (key, held) in [(b"a", a.id), (b"b", b.id)] {
+            let conflict = RecordAnswer::Rejected(Reason::Conflict { held });
+            assert_eq!(rt; witness.hold(2, &put(3, 1, key, b"1")?), conflict);
+        }
+        assert_eq!(rt; witness.gc(2, &[])?.as_slice(), [a, b].as_slice());
+        assert_eq!(rt; witness.gc(2, &[a.id, a.id])?.as_slice(), [b].as_slice());
+        assert_eq!(rt;
+            witness.hold(2, &put(3, 1, b"a", b"1")?),
+            RecordAnswer::Accepted
+        );
+        let frozen = witness.freeze()?;
+        assert_eq!(rt; frozen.len(), 2);
+        assert_eq!(rt; witness.gc(2, &[b.id])?.len(), 0);
+        assert!(rt; witness.holds(&b.id));
+        Ok(())
+    }
+
+    // What was dropped leaves its room to as many others.
+    #[test]
+    fn drops_as_many_requests_as_it_has_slots(rt: HostRuntime) -> Result<(), Fail> {
+        let mut witness = Witness::new(rt.alloc(), 1024, 16)?;
+        assert_eq!(rt; witness.start(1, 1), Ok(()));
+        for seq in 1..=2 {
+            let mut ids = Vec::new(rt.alloc());
+            for number in 1..=20000_u32 {
+                let request = put(number, seq, &number.to_be_bytes(), b"1")?;
+                if witness.hold(1, &request) == RecordAnswer::Accepted {
+                    ids.push(request.id)?;
+                }
+            }
+            assert_eq!(rt; ids.len(), 1024 * 16);
+            ids.reverse();
+            assert_eq!(rt; witness.gc(1, &ids)?.len(), 0);
+            assert!(rt; !witness.holds(&ids[0]));
+        }
         Ok(())
     }
 }

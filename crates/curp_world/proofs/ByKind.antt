@@ -5,7 +5,7 @@ use Rattle.curp_cmd.specs.Node.{backup_node, client_node, master_node, witness_n
 use Rattle.curp_cmd.specs.declared.node.NodeId.{NodeId}
 use Rattle.curp_cmd.specs.declared.node.NodeKind.{NodeKind}
 use Rattle.curp_cmd.specs.declared.node.NodeKind.TheVariants as kind
-use Rattle.curp_inv.specs.Machines.{backup_machine, built_witness_input, client_machine, master_machine, on_built_witness, witness_machine}
+use Rattle.curp_inv.specs.Machines.{backup_machine, client_machine, master_machine, witness_machine}
 use Rattle.curp_master.specs.Built.{built_ordered, on_built, on_input}
 use Rattle.curp_model.specs.Backup.{BackupState, backup_input}
 use Rattle.curp_model.specs.Client.{ClientState, client_input}
@@ -41,16 +41,6 @@ heard n m (input.Message x) said = go x.from x.body said
 heard n m (input.Local local.Sync) built = refl
 heard n m (input.Local _) built = absurd built
 
--- a witness
-recorded : (n : ℕ) (w : WitnessState) (given : Input) → IsFor kind.Witness n given → witness_input n w given ≡ built_witness_input n w given
-unfolding on_built_witness
-recorded n w (input.Message x) said = go x.body said
-  where
-    go : (b : Body) → IsSaidTo kind.Witness n b → witness_input n w (input.Message (record x { body = b })) ≡ built_witness_input n w (input.Message (record x { body = b }))
-    go (body.Record r) said = refl
-    go _ said = absurd said
-recorded n w (input.Local order) built = absurd built
-
 -- ---- nodes of each kind
 
 module _ (given : Input) where
@@ -66,7 +56,7 @@ module _ (given : Input) where
   unfolding backup_machine
   backup_moves x = refl
 
-  witness_moves : (x : Node WitnessState) → witness_machine x given ≡ numbered_move x.number (built_witness_input x.number x.state given)
+  witness_moves : (x : Node WitnessState) → witness_machine x given ≡ numbered_move x.number (witness_input x.number x.state given)
   unfolding witness_machine
   witness_moves x = refl
 
@@ -121,18 +111,18 @@ module _ (given : Input) (nodes nodes' : List (Node BackupState)) (n : ℕ) (r :
 module _ (given : Input) (nodes nodes' : List (Node WitnessState)) (n : ℕ) (r : Result Done AllocError)
     (numbers : HasNumbers nodes) (low : 1 ≤ n) (made : MovesAt (n - 1) nodes nodes' r (λ node. witness_machine node given)) where
   pub witnesses_stay : HasNumbers nodes'
-  witnesses_stay = numbers_stay (λ (s : WitnessState). s) nodes nodes' n r (λ node. witness_machine node given) (λ i s. built_witness_input i s given)
+  witnesses_stay = numbers_stay (λ (s : WitnessState). s) nodes nodes' n r (λ node. witness_machine node given) (λ i s. witness_input i s given)
       (λ s. witness_input n s given) (witness_moves given) numbers low made
 
-  pub witnesses_give : (w : World) (others : NodeStates) → IsFor kind.Witness n given
+  pub witnesses_give : (w : World) (others : NodeStates)
       → Moves (with_nodes w (record others { witnesses = states nodes })) (with_nodes w (record others { witnesses = states nodes' })) r
       (within remarked (moves (with_nodes w (record others { witnesses = states nodes })) (witness_node n) given))
-  witnesses_give w others built =
+  witnesses_give w others =
       let v : World = with_nodes w (record others { witnesses = states nodes }) in
       world_moves (λ (list : List WitnessState). with_nodes w (record others { witnesses = list })) (states nodes) (states nodes') n r
       (λ s. witness_input n s given) (λ s. within (with_witness v n) (witness_input n s given)) v (λ s. refl)
-      (one_moves (λ (s : WitnessState). s) nodes nodes' n r (λ node. witness_machine node given) (λ i s. built_witness_input i s given)
-      (λ s. witness_input n s given) (witness_moves given) numbers low made (λ s. recorded n s given built))
+      (one_moves (λ (s : WitnessState). s) nodes nodes' n r (λ node. witness_machine node given) (λ i s. witness_input i s given)
+      (λ s. witness_input n s given) (witness_moves given) numbers low made (λ s. refl))
 
 -- ---- by the name of the node
 

@@ -1,38 +1,58 @@
-use Rattle.std.proofs.Common.{◌≡◌, true, false, List, length, Ok, refl, ap, ◌∙◌, arith, vec_capacity}
+use Rattle.std.proofs.Common.{◌≡◌, ◌<◌, true, false, List, length, Ok, refl, ap, ◌∙◌, arith, vec_capacity}
+use Rattle.std.proofs.lemmas.List.{length-map}
 use Rattle.curp_model.specs.Witness.{newly_held, HeldRequest}
-use Rattle.curp_slots.specs.Register.{IsIdGap, IsIdAt, IsRegister, is_held}
+use Rattle.curp_slots.specs.Register.{IsIdGap, IsIdAt, IsRegister, held_at, is_held}
 use Rattle.curp_slots.specs.declared.register.Place.{Place}
 use Rattle.curp_slots.proofs.Ids.{ascend_insert}
-use Rattle.curp_slots.proofs.Registers.{as_many_added, ids_ascend, added, filled_added, found_is_held}
+use Rattle.curp_slots.proofs.Registers.{added, as_many_added, filled_added, found_is_held, ids_ascend, once_added, size_within, within_added}
 use Rattle.curp_slots.proofs.register.Register.add.Goals as goal
+
+pub put-at-requires : goal.put-at-requires
+put-at-requires c =
+    let v = c.self.invariant in
+    let few : length c.self.inside.index.items < c.self.inside.room = omega (arith, ap (λ r. length r.held) c.self.view_is, ap (λ r. r.room) c.self.view_is, length-map c.self.inside.index.items (held_at c.self.inside.kept.items), c.requires.room) in
+    record {
+      within = v.within;
+      room = λ none. omega (arith, none, few, v.as_many, v.kept_fits);
+      few = omega (arith, v.kept_within, few, c.self.ranges.0);
+    }
 
 pub invariant_of-self : goal.invariant_of-self
 invariant_of-self c =
-    let gap : IsIdGap c.self.inside.index.items c.args.request.now.id c.in-Err.gap = rw (← c.deref.ensures.value) c.in-Err.ensures.absent in
-    let last : c.len-at.result ≡ length c.self.inside.kept.items = omega (arith, c.len-at.ensures) in
-    let p : Place = record { id = c.args.request.now.id; at = c.len-at.result } in
+    let v = c.self.invariant in
+    let kept = c.self.inside.kept.items in
+    let free = c.self.inside.free.items in
+    let index = c.self.inside.index.items in
+    let gap : IsIdGap index c.args.request.now.id c.in-Err.gap = rw (← c.deref.ensures.value) c.in-Err.ensures.absent in
+    let p : Place = record { id = c.args.request.now.id; at = c.put-at.result } in
+    let x = newly_held c.args.request.now in
+    let few : length index < c.self.inside.room = omega (arith, ap (λ r. length r.held) c.self.view_is, ap (λ r. r.room) c.self.view_is, length-map index (held_at kept), c.requires.room) in
     record {
-      ascend = rw (c.insert.ensures.items, c.unwrap.ensures) (ascend_insert c.self.inside.index.items c.in-Err.gap p c.self.invariant.ascend gap);
-      places =
-          rw (c.push_reserved.ensures.items, c.insert.ensures.items, c.unwrap.ensures, c.new.ensures)
-          (filled_added c.self.inside.kept.items (newly_held c.args.request.now) p c.self.inside.index.items c.in-Err.gap last refl c.self.invariant.places);
-      as_many = rw (c.push_reserved.ensures.items, c.insert.ensures.items, c.unwrap.ensures) (as_many_added c.self.inside.kept.items c.new.result c.self.inside.index.items c.in-Err.gap p c.self.invariant.as_many gap.within);
-      kept_fits = rw c.push_reserved.ensures.capacity c.self.invariant.kept_fits;
-      index_fits = omega (arith, c.self.invariant.index_fits, c.insert.ensures.capacity);
+      ascend = rw (c.insert.ensures.items, c.unwrap.ensures) (ascend_insert index c.in-Err.gap p v.ascend gap);
+      places = rw (c.put-at.ensures.kept, c.insert.ensures.items, c.unwrap.ensures) (filled_added kept x p free c.put-at.new.free.items index v.places v.within v.once c.put-at.ensures.free c.in-Err.gap refl);
+      within = rw c.put-at.ensures.kept (within_added kept x p free c.put-at.new.free.items index v.places v.within v.once c.put-at.ensures.free);
+      once = rw (c.insert.ensures.items, c.unwrap.ensures) (once_added kept x p free c.put-at.new.free.items index v.places v.within v.once c.put-at.ensures.free c.in-Err.gap);
+      as_many = rw (c.put-at.ensures.kept, c.insert.ensures.items, c.unwrap.ensures) (as_many_added kept x p free c.put-at.new.free.items index v.places v.within v.once c.put-at.ensures.free c.in-Err.gap gap.within v.as_many);
+      kept_within = rw c.put-at.ensures.kept (size_within kept x p free c.put-at.new.free.items index v.places v.within v.once c.put-at.ensures.free c.self.inside.room v.kept_within v.as_many few);
+      kept_fits = omega (arith, v.kept_fits, c.put-at.ensures.kept_room);
+      free_fits = omega (arith, v.free_fits, c.put-at.ensures.free_room);
+      index_fits = omega (arith, v.index_fits, c.insert.ensures.capacity);
     }
 
 pub returns-in-Err-clause-value : goal.returns-in-Err-clause-value
 returns-in-Err-clause-value c =
-    let gap : IsIdGap c.self.inside.index.items c.args.request.now.id c.in-Err.gap = rw (← c.deref.ensures.value) c.in-Err.ensures.absent in
-    let last : c.len-at.result ≡ length c.self.inside.kept.items = omega (arith, c.len-at.ensures) in
-    let p : Place = record { id = c.args.request.now.id; at = c.len-at.result } in
-    let held = added c.self.inside.kept.items (newly_held c.args.request.now) p c.self.inside.index.items c.in-Err.gap last refl c.self.invariant.places gap in
-    rw (← c.self.view_is, c.push_reserved.ensures.items, c.insert.ensures.items, c.unwrap.ensures, c.new.ensures) (ap (λ (h : List HeldRequest). record { room = c.self.inside.room; held = h }) held)
+    let v = c.self.invariant in
+    let kept = c.self.inside.kept.items in
+    let index = c.self.inside.index.items in
+    let gap : IsIdGap index c.args.request.now.id c.in-Err.gap = rw (← c.deref.ensures.value) c.in-Err.ensures.absent in
+    let p : Place = record { id = c.args.request.now.id; at = c.put-at.result } in
+    let held = added kept (newly_held c.args.request.now) p c.self.inside.free.items c.put-at.new.free.items index v.places v.within v.once c.put-at.ensures.free c.in-Err.gap refl gap in
+    rw (← c.self.view_is, c.put-at.ensures.kept, c.insert.ensures.items, c.unwrap.ensures) (ap (λ (h : List HeldRequest). record { room = c.self.inside.room; held = h }) held)
 
 pub returns-in-Err-clause-ascend : goal.returns-in-Err-clause-ascend
 returns-in-Err-clause-ascend c =
-    let v : IsRegister c.self.inside.room c.push_reserved.new.self.items (vec_capacity c.push_reserved.new.self) c.insert.new.self.items (vec_capacity c.insert.new.self) = invariant_of-self c in
-    ids_ascend c.push_reserved.new.self.items c.insert.new.self.items v.ascend v.places
+    let v : IsRegister c.self.inside.room c.put-at.new.kept.items (vec_capacity c.put-at.new.kept) c.put-at.new.free.items (vec_capacity c.put-at.new.free) c.insert.new.self.items (vec_capacity c.insert.new.self) = invariant_of-self c in
+    ids_ascend c.put-at.new.kept.items c.insert.new.self.items v.ascend v.places
 
 -- the id isn't in the index
 pub returns-in_default-clause-value : goal.returns-in_default-clause-value

@@ -154,5 +154,4 @@ returns-in-Witness-clause-moves c = λ w.
     (λ node. witness_machine node (input_of c.args.given.now)) c.deref_mut-in-Witness.ensures.value (c.give-in-Witness.auto.nodes ∙ c.deref_mut-in-Witness.ensures.len) c.give-in-Witness.ensures.moves in
     let after = (with_items c.self.inside.witnesses c.give-in-Witness.new.nodes).items in
     seen_moves _ _ _ c.args.to Witness (input_of c.args.given.now) c.give-in-Witness.result w c.self.view_is c.in-Witness.is
-    (witnesses_give (input_of c.args.given.now) c.self.inside.witnesses.items after c.args.to.number c.give-in-Witness.result c.self.invariant.witnesses_are low made w (the_view c.self.inside)
-    (subst (λ (kind : NodeKind). IsFor kind c.args.to.number (input_of c.args.given.now)) c.in-Witness.is c.requires.built))
+    (witnesses_give (input_of c.args.given.now) c.self.inside.witnesses.items after c.args.to.number c.give-in-Witness.result c.self.invariant.witnesses_are low made w (the_view c.self.inside))

@@ -1,0 +1,18 @@
+use Rattle.std.proofs.Common.{subst}
+use Rattle.curp_slots.specs.Register.{IdsAscend, Registered}
+use Rattle.curp_slots.proofs.Holdings.{collect_is, left_witness, suspects_are}
+use Rattle.curp_slots.proofs.witness.Witness.collect.Goals as goal
+
+pub invariant_of-self : goal.invariant_of-self
+invariant_of-self c =
+    let ascend = subst (λ (register : Registered). IdsAscend register.held) c.collect.ensures.value c.collect.ensures.ascend in
+    rw (c.free.ensures, c.collect.ensures.value) (left_witness c.in_ok-listed.listed c.args.ids.now c.in_ok-listed.ensures c.self.inside.slots c.self.inside.register c.self.invariant ascend)
+
+pub returns : goal.returns
+returns c =
+    let w = c.self.inside in
+    record {
+      state = rw (← c.self.view_is, c.free.ensures, c.collect.ensures.value) (collect_is c.in_ok-listed.listed c.args.ids.now c.in_ok-listed.ensures w.slots w.register w.mode w.epoch);
+      answer = rw (← c.self.view_is, c.in_ok-suspects.ensures) (suspects_are c.in_ok-listed.listed c.args.ids.now c.in_ok-listed.ensures w.slots w.register w.mode w.epoch);
+      err = tt;
+    }
