@@ -37,7 +37,7 @@ less_not_same a b e = apart_not_same a b (λ same.
     absurd cc)
 
 pub same_flips : (a b : RequestId) → same_id a b ≡ same_id b a
-same_flips a b = go (same_id a b) refl (same_id b a) refl
+same_flips a b = go (same_id a b) (same_id b a) refl refl
   where
     go : (s t : Bool) → same_id a b ≡ s → same_id b a ≡ t → s ≡ t
     go true true e f = refl
