@@ -1,0 +1,190 @@
+ghost use Rattle.std.specs.Prelude.{◌≡◌, ◌+◌, ◌<◌, ◌≤◌, [], not, length, map, IfOk, IfErr, OnOk};
+ghost use Rattle.std.specs.List.{filter};
+ghost use Rattle.curp_model.specs.Master.{queued};
+ghost use Rattle.curp_collect.specs.Queue.{IdsAscend, IsIdAt, IsIdGap, has_come, is_come_of};
+
+use curp_base::NoMemory;
+use curp_cmd::RequestId;
+use std::alloc::Global;
+use std::marker::Model;
+
+/// Until when an id waits: so many entries are synced then.
+#[derive(Clone, Copy, Debug)]
+pub struct Wait {
+    pub id: RequestId,
+    pub until: u64,
+}
+
+/// The ids that wait for collection, each once and at its larger length, in the order in which they were first added.
+/// Contracts see these, and for how many more there is room. That an id keeps its place and its larger length is this
+/// project's own choice.
+#[derive(Drop)]
+pub struct Queue {
+    alloc: Global,
+    // In the order in which they were first added.
+    order: Vec<RequestId>,
+    // In ascending order of the ids.
+    waits: Vec<Wait>,
+}
+
+impl Model for Queue {
+    ghost use Rattle.std.specs.Prelude.{◌-◌, min, vec_len, vec_capacity};
+    ghost use Rattle.curp_collect.specs.Queue.{IsQueue, Queueing, waiting_of};
+
+    ghost Value = { Queueing };
+
+    ghost view = { λ q. record {
+      waiting = waiting_of q.order.items q.waits.items;
+      spare = min (vec_capacity q.order - vec_len q.order) (vec_capacity q.waits - vec_len q.waits);
+    } };
+
+    ghost invariant = { λ q. IsQueue q.order.items q.waits.items };
+}
+
+impl Queue {
+    /// No ids. It takes no memory.
+    pub fn new(alloc: Global) -> Queue
+        ensures { result.waiting ≡ [] }
+    {
+        Queue {
+            alloc,
+            order: Vec::new(alloc),
+            waits: Vec::new(alloc),
+        }
+    }
+
+    /// Makes room for so many more ids.
+    pub fn reserve(&mut self, spare: u64) -> Result<(), NoMemory>
+        ensures waiting { self.new.waiting ≡ self.old.waiting }
+        ensures room { OnOk result (spare ≤ self.new.spare) }
+        ensures kept { self.old.spare ≤ self.new.spare }
+    {
+        self.order.reserve(spare as usize)?;
+        self.waits.reserve(spare as usize)
+    }
+
+    /// Adds the id behind the others, to wait until so many entries are synced. One that waits already keeps its place,
+    /// and the larger of both lengths. It takes no memory.
+    pub fn add(&mut self, id: RequestId, length: u64)
+        requires { 1 ≤ self.old.spare }
+        ensures waiting { self.new.waiting ≡ queued self.old.waiting id length }
+        ensures spare { self.old.spare ≤ self.new.spare + 1 }
+    {
+        match find(&self.waits, &id) {
+            Ok(at) => {
+                let until = self.waits[at].until.max(length);
+                self.waits[at] = Wait { id, until };
+            }
+            Err(gap) => {
+                let wait = Wait { id, until: length };
+                self.waits.insert(gap, wait).unwrap();
+                self.order.push_reserved(id);
+            }
+        }
+    }
+
+    /// The ids whose length is synced, in the order in which they were first added.
+    pub fn due(&self, synced: u64) -> Result<Vec<RequestId>, NoMemory>
+        ensures { IfOk result (λ ids. ids.items ≡ map (λ q. q.id) (filter (has_come synced) self.now.waiting)) }
+    {
+        due_among(self.alloc, &self.order, &self.waits, synced)
+    }
+
+    /// The due ids wait no longer. It takes no memory.
+    pub fn leave(&mut self, synced: u64)
+        ensures waiting { self.new.waiting ≡ filter (λ q. not (has_come synced q)) self.old.waiting }
+        ensures spare { self.old.spare ≤ self.new.spare }
+    {
+        let waits = &self.waits;
+        self.order.retain(|id| !is_due(waits, id, synced));
+        self.waits.retain(|wait| wait.until > synced);
+    }
+}
+
+/// Those of the ids that are due, in their order.
+fn due_among(
+    alloc: Global,
+    order: &[RequestId],
+    waits: &[Wait],
+    synced: u64,
+) -> Result<Vec<RequestId>, NoMemory>
+    requires { IdsAscend waits.now }
+    ensures { IfOk result (λ ids. ids.items ≡ filter (is_come_of waits.now synced) order.now) }
+{
+    let mut due = Vec::new(alloc);
+    for id in order {
+        if is_due(waits, id, synced) {
+            due.push(*id)?;
+        }
+    }
+    Ok(due)
+}
+
+/// Whether the id waits, and no longer than until so many entries are synced.
+fn is_due(waits: &[Wait], id: &RequestId, synced: u64) -> bool
+    ensures { IdsAscend waits.now → result ≡ is_come_of waits.now synced id.now }
+{
+    match find(waits, id) {
+        Ok(at) => waits[at].until <= synced,
+        Err(_) => false,
+    }
+}
+
+/// Where the id stands among those in ascending order, or where it would go.
+fn find(waits: &[Wait], id: &RequestId) -> Result<usize, usize>
+    ensures within { IfOk result (λ at. at < length waits.now) }
+    ensures gap { IfErr result (λ at. at ≤ length waits.now) }
+    ensures found { IdsAscend waits.now → IfOk result (IsIdAt waits.now id.now) }
+    ensures absent { IdsAscend waits.now → IfErr result (IsIdGap waits.now id.now) }
+{
+    waits.binary_search_by_key(id, |wait| wait.id)
+}
+
+#[cfg(test)]
+mod tests {
+    use super::*;
+    use std::test::Fail;
+
+    fn id(client: u32, seq: u32) -> RequestId {
+        RequestId { client, seq }
+    }
+
+    // An id that is added again keeps its place, at the larger length.
+    #[test]
+    fn gives_due_ids_in_the_order_of_adding(rt: HostRuntime) -> Result<(), Fail> {
+        let mut queue = Queue::new(rt.alloc());
+        queue.reserve(5)?;
+        for (id, length) in [
+            (id(2, 1), 1),
+            (id(1, 1), 4),
+            (id(3, 1), 2),
+            (id(2, 1), 3),
+            (id(1, 1), 2),
+        ] {
+            queue.add(id, length);
+        }
+        assert_eq!(rt; queue.due(1)?.len(), 0);
+        assert_eq!(rt; queue.due(3)?.as_slice(), [id(2, 1), id(3, 1)].as_slice());
+        queue.leave(2);
+        assert_eq!(rt; queue.due(4)?.as_slice(), [id(2, 1), id(1, 1)].as_slice());
+        queue.reserve(1)?;
+        queue.add(id(3, 1), 0);
+        let all = [id(2, 1), id(1, 1), id(3, 1)];
+        assert_eq!(rt; queue.due(u64::MAX)?.as_slice(), all.as_slice());
+        Ok(())
+    }
+
+    #[test]
+    fn takes_many_ids(rt: HostRuntime) -> Result<(), Fail> {
+        let mut queue = Queue::new(rt.alloc());
+        for number in 0..20000 {
+            queue.reserve(1)?;
+            queue.add(id(number % 64, 20000 - number), u64::from(number));
+        }
+        queue.leave(9999);
+        let due = queue.due(19998)?;
+        assert_eq!(rt; due.len(), 9999);
+        assert_eq!(rt; due[0], id(10000 % 64, 10000));
+        Ok(())
+    }
+}
