@@ -1,0 +1,23 @@
+-- A reply table in memory.
+use Rattle.std.specs.Prelude.{ℕ, ◌+◌, List, length}
+use Rattle.std.specs.Ordering.{nat_cmp}
+use Rattle.curp_base.specs.Words.{Ascend, KeysAscend}
+use Rattle.curp_cmd.specs.RequestId.{id_cmp}
+use Rattle.curp_cmd.specs.declared.migration.TablePart.{TablePart}
+use Rattle.curp_model.specs.Table.{Table}
+use Rattle.curp_rifl.specs.Records.{Record}
+
+-- what the table says, and for how many more requests and clients it has room
+pub record StoredTable : Type 0 where
+  pub table : Table
+  pub spare : ℕ
+
+-- each list of a table ascends
+pub record IsAscending (records : List Record) (firsts : List (ℕ × ℕ)) (gone : List ℕ) : Type 0 where
+  pub records : KeysAscend id_cmp records
+  pub firsts : KeysAscend nat_cmp firsts
+  pub gone : Ascend nat_cmp gone
+
+-- how much a part lists in all
+abbrev pub part_len : TablePart → ℕ
+part_len part = length part.records + length part.firsts + length part.gone

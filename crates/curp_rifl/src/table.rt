@@ -1,0 +1,164 @@
+ghost use Rattle.std.specs.Prelude.{◌≡◌, ◌+◌, ◌≤◌, IfOk, OnOk};
+ghost use Rattle.curp_model.specs.Table.{acknowledge, check, expire, merge, no_records, note, packed};
+ghost use Rattle.curp_model.specs.declared.Check.TheVariants.{New};
+ghost use Rattle.curp_rifl.specs.Stored.{part_len};
+
+use crate::ascending::{put_once, value_of};
+use crate::clients::{add_client, add_clients, has_client, raise_first, raise_firsts};
+use crate::kept::Kept;
+use crate::records::{add_records, drop_below, drop_client, keep_of_use};
+use curp_base::{AscendingKeys, AscendingPairs, NoMemory};
+use curp_cmd::{Answer, RequestId, TablePart};
+use curp_model::Check;
+use std::alloc::Global;
+use std::marker::Model;
+
+/// The reply table of a master (RIFL): the answer to each request that is done and not acknowledged, each client's first
+/// request that isn't acknowledged, and the clients that are expired. Contracts see it as the definition's table, and for
+/// how many more requests, first numbers and expired clients each it has room.
+#[derive(Drop)]
+pub struct Table {
+    alloc: Global,
+    // In ascending order of the ids.
+    records: Vec<(RequestId, Kept)>,
+    // In ascending order of the clients.
+    firsts: Vec<(u32, u32)>,
+    // In ascending order.
+    gone: Vec<u32>,
+}
+
+impl Model for Table {
+    ghost use Rattle.std.specs.Prelude.{◌-◌, min, vec_len, vec_capacity};
+    ghost use Rattle.curp_rifl.specs.Stored.{StoredTable, IsAscending};
+
+    ghost Value = { StoredTable };
+
+    ghost view = { λ t. record {
+      table = record { records = t.records.items; firsts = t.firsts.items; gone = t.gone.items };
+      spare = min (vec_capacity t.records - vec_len t.records)
+          (min (vec_capacity t.firsts - vec_len t.firsts) (vec_capacity t.gone - vec_len t.gone));
+    } };
+
+    ghost invariant = { λ t. IsAscending t.records.items t.firsts.items t.gone.items };
+}
+
+impl Table {
+    /// The table before anything was done. It takes no memory.
+    pub fn new(alloc: Global) -> Table
+        ensures { result.table ≡ no_records }
+    {
+        Table {
+            alloc,
+            records: Vec::new(alloc),
+            firsts: Vec::new(alloc),
+            gone: Vec::new(alloc),
+        }
+    }
+
+    /// Makes room for so many more requests, first numbers and expired clients each.
+    pub fn reserve(&mut self, spare: u64) -> Result<(), NoMemory>
+        ensures table { self.new.table ≡ self.old.table }
+        ensures room { OnOk result (spare ≤ self.new.spare) }
+        ensures kept { self.old.spare ≤ self.new.spare }
+    {
+        self.records.reserve(spare as usize)?;
+        self.firsts.reserve(spare as usize)?;
+        self.gone.reserve(spare as usize)
+    }
+
+    /// The duplicate check (RIFL). It makes no more than three binary searches.
+    #[tactic(auto, unfolding(curp_model::specs::Table::check))]
+    pub fn check(&self, id: &RequestId) -> Check
+        ensures { result ≡ check self.now.table id.now }
+    {
+        if has_client(&self.gone, id.client) {
+            return Check::Expired;
+        }
+        let first = value_of(&self.firsts, &id.client).unwrap_or(0);
+        if id.seq < first {
+            return Check::Stale { first };
+        }
+        match value_of(&self.records, id) {
+            Some(kept) => Check::Known {
+                answer: kept.answer(),
+                index: kept.index(),
+            },
+            None => Check::New,
+        }
+    }
+
+    /// A request is done, with that answer, by the entry with that index. It takes no memory, since there is room.
+    pub fn note(&mut self, id: RequestId, answer: Answer, index: u64)
+        requires room { 1 ≤ self.old.spare }
+        requires new { check self.old.table id ≡ New }
+        ensures table { self.new.table ≡ note self.old.table id answer index }
+        ensures spare { self.old.spare ≤ self.new.spare + 1 }
+    {
+        put_once(&mut self.records, id, Kept::new(answer, index));
+    }
+
+    /// The client has the answers to all its requests below that number, so their records are dropped (RIFL). It takes
+    /// no memory, since there is room.
+    pub fn acknowledge(&mut self, client: u32, first: u32)
+        requires room { 1 ≤ self.old.spare }
+        ensures table { self.new.table ≡ acknowledge self.old.table client first }
+        ensures spare { self.old.spare ≤ self.new.spare + 1 }
+    {
+        drop_below(&mut self.records, client, first);
+        raise_first(&mut self.firsts, client, first);
+    }
+
+    /// A request is done, and its client has the answers to all its requests below a number: a note and an
+    /// acknowledgement, for which the room of one is enough.
+    pub fn finish(&mut self, id: RequestId, answer: Answer, index: u64, first: u32)
+        requires room { 1 ≤ self.old.spare }
+        requires new { check self.old.table id ≡ New }
+        ensures table { self.new.table ≡ acknowledge (note self.old.table id answer index) id.client first }
+        ensures spare { self.old.spare ≤ self.new.spare + 1 }
+    {
+        put_once(&mut self.records, id, Kept::new(answer, index));
+        drop_below(&mut self.records, id.client, first);
+        raise_first(&mut self.firsts, id.client, first);
+    }
+
+    /// The client is gone for good, and its records with it. It takes no memory, since there is room.
+    pub fn expire(&mut self, client: u32)
+        requires room { 1 ≤ self.old.spare }
+        ensures table { self.new.table ≡ expire self.old.table client }
+        ensures spare { self.old.spare ≤ self.new.spare + 1 }
+    {
+        drop_client(&mut self.records, client);
+        add_client(&mut self.gone, client);
+    }
+
+    /// What a migration takes along.
+    pub fn pack(&self) -> Result<TablePart, NoMemory>
+        ensures { IfOk result (λ part. part ≡ packed self.now.table) }
+    {
+        let mut records = Vec::with_capacity(self.alloc, self.records.len())?;
+        for (id, kept) in &self.records {
+            records.push((*id, kept.answer()))?;
+        }
+        let firsts = Vec::from_slice(self.alloc, &self.firsts)?;
+        let gone = Vec::from_slice(self.alloc, &self.gone)?;
+        Ok(TablePart {
+            records: AscendingPairs::new(records),
+            firsts: AscendingPairs::new(firsts),
+            gone: AscendingKeys::new(gone),
+        })
+    }
+
+    /// Takes in what a migration brings, in the entry with that index: records that weren't there, larger first
+    /// numbers, and expired clients; what is of no use then is dropped. It takes no memory, since there is room.
+    #[tactic(auto, unfolding(curp_model::specs::Table::merge))]
+    pub fn merge(&mut self, part: &TablePart, index: u64)
+        requires room { part_len part.now ≤ self.old.spare }
+        ensures table { self.new.table ≡ merge self.old.table part.now index }
+        ensures spare { self.old.spare ≤ self.new.spare + part_len part.now }
+    {
+        add_records(&mut self.records, part.records.as_slice(), index);
+        raise_firsts(&mut self.firsts, part.firsts.as_slice());
+        add_clients(&mut self.gone, part.gone.as_slice());
+        keep_of_use(&mut self.records, &self.firsts, &self.gone);
+    }
+}
