@@ -13,10 +13,10 @@ pub record StoredTable : Type 0 where
   pub spare : ℕ
 
 -- each list of a table ascends
-pub record IsAscending (records : List Record) (firsts : List (ℕ × ℕ)) (gone : List ℕ) : Type 0 where
-  pub records : KeysAscend id_cmp records
-  pub firsts : KeysAscend nat_cmp firsts
-  pub gone : Ascend nat_cmp gone
+pub record IsAscending (done : List Record) (numbers : List (ℕ × ℕ)) (clients : List ℕ) : Type 0 where
+  pub records : KeysAscend id_cmp done
+  pub firsts : KeysAscend nat_cmp numbers
+  pub gone : Ascend nat_cmp clients
 
 -- how much a part lists in all
 abbrev pub part_len : TablePart → ℕ

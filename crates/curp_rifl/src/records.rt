@@ -1,5 +1,5 @@
 //! The records of requests that are done, in ascending order of the ids, so that those of a client stand together.
-ghost use Rattle.std.specs.Prelude.{◌≡◌, ◌+◌, ◌==◌, ◌≤◌, true, false, not, length, vec_len, vec_capacity};
+ghost use Rattle.std.specs.Prelude.{◌≡◌, ◌+◌, ◌==◌, ◌≤◌, true, false, not, [], length, map, IfOk, vec_len, vec_capacity};
 ghost use Rattle.std.specs.List.{filter};
 ghost use Rattle.std.specs.List.Sorted.{IsPartitionPoint};
 ghost use Rattle.std.specs.Ordering.{nat_cmp};
@@ -11,7 +11,9 @@ ghost use Rattle.curp_rifl.specs.Records.{is_before, is_up_to, is_before_first, 
 use crate::ascending::{drop_run, put_once, value_of};
 use crate::clients::has_client;
 use crate::kept::Kept;
+use curp_base::NoMemory;
 use curp_cmd::{Answer, RequestId};
+use std::alloc::Global;
 
 /// How many records belong to clients below this one.
 fn count_before(records: &[(RequestId, Kept)], client: u32) -> usize
@@ -104,5 +106,26 @@ pub fn keep_of_use(records: &mut Vec<(RequestId, Kept)>, firsts: &[(u32, u32)], 
     ensures len { vec_len records.new ≤ vec_len records.old }
     ensures capacity { vec_capacity records.new ≡ vec_capacity records.old }
 {
-    records.retain(|record| is_of_use(firsts, gone, &record.0));
+    let mut kept = 0;
+    for at in 0..records.len() {
+        let record = records[at];
+        if is_of_use(firsts, gone, &record.0) {
+            records[kept] = record;
+            kept += 1;
+        }
+    }
+    records.truncate(kept);
+}
+
+/// The answers of the records, with their ids.
+pub fn answers_of(alloc: Global, records: &[(RequestId, Kept)]) -> Result<Vec<(RequestId, Answer)>, NoMemory>
+    requires { KeysAscend id_cmp records.now }
+    ensures answers { IfOk result (λ answers. answers.items ≡ map (λ e. (e.0, e.1.answer)) records.now) }
+    ensures ascend { IfOk result (λ answers. KeysAscend id_cmp answers.items) }
+{
+    let mut answers = Vec::with_capacity(alloc, records.len())?;
+    for (id, kept) in records {
+        answers.push((*id, kept.answer()))?;
+    }
+    Ok(answers)
 }

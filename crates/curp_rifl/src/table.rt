@@ -6,7 +6,7 @@ ghost use Rattle.curp_rifl.specs.Stored.{part_len};
 use crate::ascending::{put_once, value_of};
 use crate::clients::{add_client, add_clients, has_client, raise_first, raise_firsts};
 use crate::kept::Kept;
-use crate::records::{add_records, drop_below, drop_client, keep_of_use};
+use crate::records::{add_records, answers_of, drop_below, drop_client, keep_of_use};
 use curp_base::{AscendingKeys, AscendingPairs, NoMemory};
 use curp_cmd::{Answer, RequestId, TablePart};
 use curp_model::Check;
@@ -135,10 +135,7 @@ impl Table {
     pub fn pack(&self) -> Result<TablePart, NoMemory>
         ensures { IfOk result (λ part. part ≡ packed self.now.table) }
     {
-        let mut records = Vec::with_capacity(self.alloc, self.records.len())?;
-        for (id, kept) in &self.records {
-            records.push((*id, kept.answer()))?;
-        }
+        let records = answers_of(self.alloc, &self.records)?;
         let firsts = Vec::from_slice(self.alloc, &self.firsts)?;
         let gone = Vec::from_slice(self.alloc, &self.gone)?;
         Ok(TablePart {
