@@ -1,5 +1,5 @@
 -- A reply table in memory.
-use Rattle.std.specs.Prelude.{ℕ, ◌+◌, List, length}
+use Rattle.std.specs.Prelude.{ℕ, ◌+◌, ◌-◌, ◌^◌, min, List, length}
 use Rattle.std.specs.Ordering.{nat_cmp}
 use Rattle.curp_base.specs.Words.{Ascend, KeysAscend}
 use Rattle.curp_cmd.specs.RequestId.{id_cmp}
@@ -18,6 +18,6 @@ pub record IsAscending (done : List Record) (numbers : List (ℕ × ℕ)) (clien
   pub firsts : KeysAscend nat_cmp numbers
   pub gone : Ascend nat_cmp clients
 
--- how much a part lists in all
-abbrev pub part_len : TablePart → ℕ
-part_len part = length part.records + length part.firsts + length part.gone
+-- how much room a part takes
+abbrev pub room_of : TablePart → ℕ
+room_of part = min (length part.records + length part.firsts + length part.gone) (2 ^ 64 - 1)

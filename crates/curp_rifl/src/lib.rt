@@ -8,4 +8,4 @@ mod kept;
 mod records;
 mod table;
 
-pub use table::Table;
+pub use table::{Table, room};

@@ -118,7 +118,10 @@ pub fn keep_of_use(records: &mut Vec<(RequestId, Kept)>, firsts: &[(u32, u32)], 
 }
 
 /// The answers of the records, with their ids.
-pub fn answers_of(alloc: Global, records: &[(RequestId, Kept)]) -> Result<Vec<(RequestId, Answer)>, NoMemory>
+pub fn answers_of(
+    alloc: Global,
+    records: &[(RequestId, Kept)],
+) -> Result<Vec<(RequestId, Answer)>, NoMemory>
     requires { KeysAscend id_cmp records.now }
     ensures answers { IfOk result (λ answers. answers.items ≡ map (λ e. (e.0, e.1.answer)) records.now) }
     ensures ascend { IfOk result (λ answers. KeysAscend id_cmp answers.items) }
