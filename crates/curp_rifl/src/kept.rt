@@ -1,0 +1,42 @@
+use curp_cmd::Answer;
+use std::marker::Model;
+
+/// The answer to a request, and the index of its entry.
+#[derive(Clone, Copy, Debug)]
+pub struct Kept {
+    answer: Answer,
+    index: u64,
+}
+
+impl Model for Kept {
+    ghost use Rattle.curp_model.specs.Table.{Noted};
+
+    ghost Value = { Noted };
+
+    ghost view = { λ k. record { answer = k.answer; index = k.index } };
+
+    ghost inverse = { λ n. record { answer = n.answer; index = n.index } };
+}
+
+ghost use Rattle.std.specs.Prelude.{◌≡◌};
+
+impl Kept {
+    pub fn new(answer: Answer, index: u64) -> Kept
+        ensures answer { result.answer ≡ answer }
+        ensures index { result.index ≡ index }
+    {
+        Kept { answer, index }
+    }
+
+    pub fn answer(&self) -> Answer
+        ensures { result ≡ self.now.answer }
+    {
+        self.answer
+    }
+
+    pub fn index(&self) -> u64
+        ensures { result ≡ self.now.index }
+    {
+        self.index
+    }
+}

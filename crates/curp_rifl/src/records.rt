@@ -1,0 +1,134 @@
+//! The records of requests that are done, in ascending order of the ids, so that those of a client stand together.
+ghost use Rattle.std.specs.Prelude.{◌≡◌, ◌+◌, ◌==◌, ◌≤◌, true, false, not, [], length, map, IfOk, vec_len, vec_capacity};
+ghost use Rattle.std.specs.List.{filter};
+ghost use Rattle.std.specs.List.Sorted.{IsPartitionPoint};
+ghost use Rattle.std.specs.Ordering.{nat_cmp};
+ghost use Rattle.curp_base.specs.Words.{Ascend, KeysAscend};
+ghost use Rattle.curp_cmd.specs.RequestId.{id_cmp};
+ghost use Rattle.curp_model.specs.Table.{is_below, is_of_use};
+ghost use Rattle.curp_rifl.specs.Records.{is_before, is_up_to, is_before_first, with_records};
+
+use crate::ascending::{drop_run, put_once, value_of};
+use crate::clients::has_client;
+use crate::kept::Kept;
+use curp_base::NoMemory;
+use curp_cmd::{Answer, RequestId};
+use std::alloc::Global;
+
+/// How many records belong to clients below this one.
+fn count_before(records: &[(RequestId, Kept)], client: u32) -> usize
+    requires { KeysAscend id_cmp records.now }
+    ensures within { result ≤ length records.now }
+    ensures point { IsPartitionPoint (λ e. is_before client e ≡ true) (λ e. is_before client e ≡ false) records.now result }
+{
+    records.partition_point(|record| record.0.client < client)
+}
+
+/// How many records belong to this client or to clients below it.
+fn count_up_to(records: &[(RequestId, Kept)], client: u32) -> usize
+    requires { KeysAscend id_cmp records.now }
+    ensures within { result ≤ length records.now }
+    ensures point { IsPartitionPoint (λ e. is_up_to client e ≡ true) (λ e. is_up_to client e ≡ false) records.now result }
+{
+    records.partition_point(|record| record.0.client <= client)
+}
+
+/// How many records belong to clients below this one, or to this one with a lower number.
+fn count_before_first(records: &[(RequestId, Kept)], client: u32, first: u32) -> usize
+    requires { KeysAscend id_cmp records.now }
+    ensures within { result ≤ length records.now }
+    ensures point { IsPartitionPoint (λ e. is_before_first client first e ≡ true) (λ e. is_before_first client first e ≡ false) records.now result }
+{
+    records.partition_point(|record| {
+        let id = &record.0;
+        id.client < client || (id.client == client && id.seq < first)
+    })
+}
+
+/// Drops the client's records below that number.
+pub fn drop_below(records: &mut Vec<(RequestId, Kept)>, client: u32, first: u32)
+    requires { KeysAscend id_cmp records.old.items }
+    ensures items { records.new.items ≡ filter (λ e. not (is_below client first e.0)) records.old.items }
+    ensures ascend { KeysAscend id_cmp records.new.items }
+    ensures len { vec_len records.new ≤ vec_len records.old }
+    ensures capacity { vec_capacity records.new ≡ vec_capacity records.old }
+{
+    let start = count_before(records, client);
+    let end = count_before_first(records, client, first);
+    drop_run(records, start, end);
+}
+
+/// Drops all records of the client.
+pub fn drop_client(records: &mut Vec<(RequestId, Kept)>, client: u32)
+    requires { KeysAscend id_cmp records.old.items }
+    ensures items { records.new.items ≡ filter (λ e. not (e.0.client == client)) records.old.items }
+    ensures ascend { KeysAscend id_cmp records.new.items }
+    ensures len { vec_len records.new ≤ vec_len records.old }
+    ensures capacity { vec_capacity records.new ≡ vec_capacity records.old }
+{
+    let start = count_before(records, client);
+    let end = count_up_to(records, client);
+    drop_run(records, start, end);
+}
+
+/// Adds the records whose ids have none, as those of the entry with that index. It takes no memory.
+pub fn add_records(records: &mut Vec<(RequestId, Kept)>, added: &[(RequestId, Answer)], index: u64)
+    requires ascend { KeysAscend id_cmp records.old.items }
+    requires room { vec_len records.old + length added.now ≤ vec_capacity records.old }
+    ensures items { records.new.items ≡ with_records index records.old.items added.now }
+    ensures ascend { KeysAscend id_cmp records.new.items }
+    ensures len { vec_len records.new ≤ vec_len records.old + length added.now }
+    ensures capacity { vec_capacity records.new ≡ vec_capacity records.old }
+{
+    for (id, answer) in added {
+        put_once(records, *id, Kept::new(*answer, index));
+    }
+}
+
+/// Whether a record of that id is of use: its client isn't gone, and hasn't acknowledged it.
+fn is_of_use(firsts: &[(u32, u32)], gone: &[u32], id: &RequestId) -> bool
+    requires firsts { KeysAscend nat_cmp firsts.now }
+    requires gone { Ascend nat_cmp gone.now }
+    ensures { result ≡ is_of_use (record { records = []; firsts = firsts.now; gone = gone.now }) id.now }
+{
+    let first = value_of(firsts, &id.client).unwrap_or(0);
+    !has_client(gone, id.client) && first <= id.seq
+}
+
+/// Keeps only the records that are of use.
+pub fn keep_of_use(records: &mut Vec<(RequestId, Kept)>, firsts: &[(u32, u32)], gone: &[u32])
+    requires ascend { KeysAscend id_cmp records.old.items }
+    requires firsts { KeysAscend nat_cmp firsts.now }
+    requires gone { Ascend nat_cmp gone.now }
+    ensures items { records.new.items
+        ≡ filter (λ e. is_of_use (record { records = []; firsts = firsts.now; gone = gone.now }) e.0) records.old.items }
+    ensures ascend { KeysAscend id_cmp records.new.items }
+    ensures len { vec_len records.new ≤ vec_len records.old }
+    ensures capacity { vec_capacity records.new ≡ vec_capacity records.old }
+{
+    let mut kept = 0;
+    for at in 0..records.len() {
+        let record = records[at];
+        if is_of_use(firsts, gone, &record.0) {
+            records[kept] = record;
+            kept += 1;
+        }
+    }
+    records.truncate(kept);
+}
+
+/// The answers of the records, with their ids.
+pub fn answers_of(
+    alloc: Global,
+    records: &[(RequestId, Kept)],
+) -> Result<Vec<(RequestId, Answer)>, NoMemory>
+    requires { KeysAscend id_cmp records.now }
+    ensures answers { IfOk result (λ answers. answers.items ≡ map (λ e. (e.0, e.1.answer)) records.now) }
+    ensures ascend { IfOk result (λ answers. KeysAscend id_cmp answers.items) }
+{
+    let mut answers = Vec::with_capacity(alloc, records.len())?;
+    for (id, kept) in records {
+        answers.push((*id, kept.answer()))?;
+    }
+    Ok(answers)
+}
