@@ -153,7 +153,6 @@ mod tests {
     #[test]
     fn gives_due_ids_in_the_order_of_adding(rt: HostRuntime) -> Result<(), Fail> {
         let mut queue = Queue::new(rt.alloc());
-        queue.reserve(5)?;
         for (id, length) in [
             (id(2, 1), 1),
             (id(1, 1), 4),
@@ -161,6 +160,7 @@ mod tests {
             (id(2, 1), 3),
             (id(1, 1), 2),
         ] {
+            queue.reserve(1)?;
             queue.add(id, length);
         }
         assert_eq!(rt; queue.due(1)?.len(), 0);
