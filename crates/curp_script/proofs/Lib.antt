@@ -7,5 +7,6 @@ mod Objects
 mod Parts
 mod ReadBack
 pub mod ReadIsBuilt
+pub mod ReadNames
 mod Twos
 mod Values

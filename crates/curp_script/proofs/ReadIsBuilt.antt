@@ -47,7 +47,8 @@ pub some_map : {A B : Type 0} (P : B → Type 0) (o : Option A) (f : A → B) �
 some_map P None f all = tt
 some_map P (Some x) f all = all x
 
-of_ok : {A : Type 0} (P : A → Type 0) (r : Result A LineError) (x : A) → r ≡ Ok x → IfOk r P → P x
+-- of a result that is there
+pub of_ok : {A : Type 0} (P : A → Type 0) (r : Result A LineError) (x : A) → r ≡ Ok x → IfOk r P → P x
 of_ok P r x is holds = let at_ok = rw is at holds in at_ok
 
 -- ---- forms
