@@ -1,0 +1,143 @@
+ghost use Rattle.std.specs.Prelude.{◌≡◌, true, false};
+ghost use Rattle.curp_model.specs.Marks.{is_dropped, is_flagged, is_shown};
+ghost use Rattle.curp_line.specs.Standing.{place_of};
+
+use curp_cmd::{Command, NodeId, RequestId};
+use curp_msg::Completed;
+use std::marker::Model;
+
+/// Where a mark stands.
+#[derive(Clone, Copy, Debug)]
+pub enum MarkPlace {
+    /// An update, at its index in a log.
+    Executed { index: u64 },
+    /// A read, at the capture of that number, made when the log had that length.
+    Looked { capture: u64, length: u64 },
+}
+
+/// A mark that is kept.
+#[derive(Debug, Drop)]
+pub struct KeptMark {
+    master: NodeId,
+    part: u32,
+    epoch: u32,
+    place: MarkPlace,
+    id: RequestId,
+    command: Command,
+    completed: bool,
+}
+
+impl Model for KeptMark {
+    ghost use Rattle.curp_model.specs.Marks.{Mark};
+    ghost use Rattle.curp_line.specs.Standing.{place_of};
+
+    ghost Value = { Mark };
+
+    ghost view = { λ m. record {
+      master = m.master;
+      part = m.part;
+      epoch = m.epoch;
+      place = place_of m.place;
+      id = m.id;
+      command = m.command;
+      completed = m.completed;
+    } };
+}
+
+impl KeptMark {
+    /// A mark whose request hasn't completed.
+    pub fn new(
+        master: NodeId,
+        part: u32,
+        epoch: u32,
+        place: MarkPlace,
+        id: RequestId,
+        command: Command,
+    ) -> KeptMark
+        ensures { result ≡ record {
+          master = master;
+          part = part;
+          epoch = epoch;
+          place = place_of place;
+          id = id;
+          command = command;
+          completed = false;
+        } }
+    {
+        KeptMark {
+            master,
+            part,
+            epoch,
+            place,
+            id,
+            command,
+            completed: false,
+        }
+    }
+
+    pub fn id(&self) -> RequestId
+        ensures { result ≡ self.now.id }
+    {
+        self.id
+    }
+
+    pub fn part(&self) -> u32
+        ensures { result ≡ self.now.part }
+    {
+        self.part
+    }
+
+    pub fn command(&self) -> Command
+        ensures { result ≡ self.now.command }
+    {
+        self.command
+    }
+
+    /// Whether its request has completed by it.
+    pub fn has_completed(&self) -> bool
+        ensures { result ≡ self.now.completed }
+    {
+        self.completed
+    }
+
+    /// Its request has completed by it.
+    pub fn complete(&mut self)
+        ensures { self.new ≡ record self.old { completed = true } }
+    {
+        self.completed = true;
+    }
+
+    /// Whether that completion flags it.
+    pub fn is_flagged(&self, completed: &Completed) -> bool
+        ensures { result ≡ is_flagged completed.now completed.now.by self.now }
+    {
+        if self.id != completed.id {
+            return false;
+        }
+        match (completed.by, self.place) {
+            (None, MarkPlace::Executed { .. }) => true,
+            (Some(by), MarkPlace::Looked { capture, .. }) => {
+                self.master == by.master && self.epoch == by.epoch && capture == by.number
+            }
+            _ => false,
+        }
+    }
+
+    /// Whether it goes where that partition adopts a log that is recovered up to the cut.
+    pub fn is_dropped(&self, part: u32, cut: u64) -> bool
+        ensures { result ≡ is_dropped part cut self.now }
+    {
+        let is_past = match self.place {
+            MarkPlace::Executed { index } => cut <= index,
+            MarkPlace::Looked { length, .. } => cut < length,
+        };
+        self.part == part && !self.completed && is_past
+    }
+
+    /// Whether the order shows it.
+    pub fn is_shown(&self) -> bool
+        ensures { result ≡ is_shown self.now }
+    {
+        self.completed || matches!(self.place, MarkPlace::Executed { .. })
+    }
+}

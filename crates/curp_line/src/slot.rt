@@ -1,0 +1,88 @@
+ghost use Rattle.std.specs.Prelude.{◌≡◌, map};
+ghost use Rattle.curp_model.specs.Marks.{has_completed};
+ghost use Rattle.curp_line.specs.Slots.{PartsLinked, RequestsLinked, dropped_slot, flagged_slot, is_completed, is_of_part, is_of_request, kept_marks, last_place};
+
+use crate::mark::KeptMark;
+use curp_cmd::RequestId;
+use curp_msg::Completed;
+
+/// A place in the order in which the marks came. It stays when its mark is dropped, so that the places of the others
+/// stay what they are.
+#[derive(Debug, Drop)]
+pub struct Slot {
+    pub mark: KeptMark,
+    pub dropped: bool,
+    pub earlier_of_request: Option<usize>,
+    pub earlier_of_part: Option<usize>,
+}
+
+impl Slot {
+    /// Flags the mark, if the completion means it.
+    pub fn flag(&mut self, completed: &Completed)
+        ensures { self.new ≡ flagged_slot completed.now self.old }
+    {
+        if self.mark.is_flagged(completed) {
+            self.mark.complete();
+        }
+    }
+
+    /// Drops the mark, if it goes where that partition adopts a log that is recovered up to the cut.
+    pub fn drop_past(&mut self, part: u32, cut: u64)
+        ensures { self.new ≡ dropped_slot part cut self.old }
+    {
+        if self.mark.is_dropped(part, cut) {
+            self.dropped = true;
+        }
+    }
+
+    /// Whether it has a mark by which a request has completed.
+    pub fn is_completed(&self) -> bool
+        ensures { result ≡ is_completed self.now }
+    {
+        !self.dropped && self.mark.has_completed()
+    }
+}
+
+/// Flags the marks that the completion means. It looks at the slots of that request alone, whose last one is given.
+pub fn flag_marks(slots: &mut [Slot], latest: Option<usize>, completed: &Completed)
+    requires linked { RequestsLinked slots.old }
+    requires latest { latest ≡ last_place (is_of_request completed.now.id) slots.old }
+    ensures { slots.new ≡ map (flagged_slot completed.now) slots.old }
+{
+    let mut next = latest;
+    while let Some(at) = next {
+        next = slots[at].earlier_of_request;
+        slots[at].flag(completed);
+    }
+}
+
+/// Drops the partition's marks that go at its adoption. It looks at the slots of that partition alone, whose last one
+/// is given.
+pub fn drop_marks(slots: &mut [Slot], latest: Option<usize>, part: u32, cut: u64)
+    requires linked { PartsLinked slots.old }
+    requires latest { latest ≡ last_place (is_of_part part) slots.old }
+    ensures { slots.new ≡ map (dropped_slot part cut) slots.old }
+{
+    let mut next = latest;
+    while let Some(at) = next {
+        next = slots[at].earlier_of_part;
+        slots[at].drop_past(part, cut);
+    }
+}
+
+/// Whether the request has completed by one of its marks. It looks at the slots of that request alone, whose last one
+/// is given.
+pub fn has_completed(slots: &[Slot], latest: Option<usize>, id: &RequestId) -> bool
+    requires linked { RequestsLinked slots.now }
+    requires latest { latest ≡ last_place (is_of_request id.now) slots.now }
+    ensures { result ≡ has_completed (kept_marks slots.now) id.now }
+{
+    let mut next = latest;
+    while let Some(at) = next {
+        if slots[at].is_completed() {
+            return true;
+        }
+        next = slots[at].earlier_of_request;
+    }
+    false
+}
