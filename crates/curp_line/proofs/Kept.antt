@@ -1,0 +1,86 @@
+-- The marks that are kept, as slots come, are flagged and are dropped.
+use Rattle.std.proofs.Common.{◌≡◌, ℕ, ◌+◌, ◌<◌, ◌&&◌, ◌||◌, Bool, true, false, not, if◌then◌else◌, List, [], ◌∷◌, ◌++◌, length, map, refl, ap, sym, ◌∙◌, subst, arith}
+use Rattle.std.specs.List.{filter, list_any}
+use Rattle.curp_cmd.specs.RequestId.{same_id}
+use Rattle.curp_cmd.specs.declared.command.Command.{Command}
+use Rattle.curp_cmd.specs.declared.command.RequestId.{RequestId}
+use Rattle.curp_model.specs.Marks.{Mark, flagged, has_completed, is_dropped, is_flagged, is_shown, shown}
+use Rattle.curp_msg.specs.declared.machine.Completed.{Completed}
+use Rattle.curp_line.specs.Slots.{dropped_slot, flagged_slot, is_completed, is_kept, is_of_part, is_of_request, kept_marks}
+use Rattle.curp_line.specs.declared.slot.Slot.{Slot}
+use Rattle.curp_line.proofs.Links.{KeepsLinks}
+
+-- ---- one more
+
+pub marks_push : (slots : List Slot) (s : Slot) → s.dropped ≡ false → kept_marks (slots ++ s ∷ []) ≡ kept_marks slots ++ s.mark ∷ []
+marks_push [] s e = rw e refl
+marks_push (t ∷ slots) s e = go t.dropped (marks_push slots s e)
+  where
+    go : (b : Bool) → kept_marks (slots ++ s ∷ []) ≡ kept_marks slots ++ s.mark ∷ []
+        → map (λ (r : Slot). r.mark) (if not b then t ∷ filter is_kept (slots ++ s ∷ []) else filter is_kept (slots ++ s ∷ []))
+        ≡ map (λ (r : Slot). r.mark) (if not b then t ∷ filter is_kept slots else filter is_kept slots) ++ s.mark ∷ []
+    go true rest = rest
+    go false rest = ap (λ ms. t.mark ∷ ms) rest
+
+-- ---- completions
+
+flags : (c : Completed) (s : Slot) (b d : Bool) (ss : List Slot) → s.dropped ≡ d → is_flagged c c.by s.mark ≡ b → kept_marks (map (flagged_slot c) ss) ≡ flagged c (kept_marks ss)
+    → kept_marks (map (flagged_slot c) (s ∷ ss)) ≡ flagged c (kept_marks (s ∷ ss))
+flags c s true true ss d e rest = simp (e, d) rest
+flags c s true false ss d e rest = simp (e, d) (ap (λ ms. record s.mark { completed = true } ∷ ms) rest)
+flags c s false true ss d e rest = simp (e, d) rest
+flags c s false false ss d e rest = simp (e, d) (ap (λ ms. s.mark ∷ ms) rest)
+
+-- the marks that are kept are flagged where the slots are
+pub marks_flagged : (c : Completed) (slots : List Slot) → kept_marks (map (flagged_slot c) slots) ≡ flagged c (kept_marks slots)
+marks_flagged c [] = refl
+marks_flagged c (s ∷ slots) = flags c s (is_flagged c c.by s.mark) s.dropped slots refl refl (marks_flagged c slots)
+
+-- ---- adoptions
+
+drops : (part cut : ℕ) (s : Slot) (b d : Bool) (ss : List Slot) → s.dropped ≡ d → is_dropped part cut s.mark ≡ b
+    → kept_marks (map (dropped_slot part cut) ss) ≡ filter (λ (m : Mark). not (is_dropped part cut m)) (kept_marks ss)
+    → kept_marks (map (dropped_slot part cut) (s ∷ ss)) ≡ filter (λ (m : Mark). not (is_dropped part cut m)) (kept_marks (s ∷ ss))
+drops part cut s true true ss d e rest = simp (e, d) rest
+drops part cut s true false ss d e rest = simp (e, d) rest
+drops part cut s false true ss d e rest = simp (e, d) rest
+drops part cut s false false ss d e rest = simp (e, d) (ap (λ ms. s.mark ∷ ms) rest)
+
+-- the marks that are kept are those that an adoption leaves
+pub marks_dropped : (part cut : ℕ) (slots : List Slot) → kept_marks (map (dropped_slot part cut) slots) ≡ filter (λ (m : Mark). not (is_dropped part cut m)) (kept_marks slots)
+marks_dropped part cut [] = refl
+marks_dropped part cut (s ∷ slots) = drops part cut s (is_dropped part cut s.mark) s.dropped slots refl refl (marks_dropped part cut slots)
+
+-- ---- what is asked of the marks
+
+-- the slot has a mark by which the request has completed
+abbrev pub completes : RequestId → Slot → Bool
+completes id s = is_completed s && is_of_request id s
+
+any_kept : (id : RequestId) (s : Slot) (d : Bool) (ss : List Slot) → s.dropped ≡ d → has_completed (kept_marks ss) id ≡ list_any (completes id) ss
+    → has_completed (kept_marks (s ∷ ss)) id ≡ list_any (completes id) (s ∷ ss)
+any_kept id s true ss d rest = simp d rest
+any_kept id s false ss d rest = simp d (ap (λ b. (s.mark.completed && same_id s.mark.id id) || b) rest)
+
+pub completed_in_slots : (id : RequestId) (slots : List Slot) → has_completed (kept_marks slots) id ≡ list_any (completes id) slots
+completed_in_slots id [] = refl
+completed_in_slots id (s ∷ slots) = any_kept id s s.dropped slots refl (completed_in_slots id slots)
+
+-- the order shows the slot's mark
+abbrev pub is_shown_slot : Slot → Bool
+is_shown_slot s = is_kept s && is_shown s.mark
+
+-- the request of the slot's mark
+abbrev pub asked : Slot → RequestId × Command
+asked s = (s.mark.id, s.mark.command)
+
+shows : (s : Slot) (d b : Bool) (ss : List Slot) → s.dropped ≡ d → is_shown s.mark ≡ b → shown (kept_marks ss) ≡ map asked (filter is_shown_slot ss)
+    → shown (kept_marks (s ∷ ss)) ≡ map asked (filter is_shown_slot (s ∷ ss))
+shows s true true ss d e rest = simp (e, d) rest
+shows s true false ss d e rest = simp (e, d) rest
+shows s false true ss d e rest = simp (e, d) (ap (λ (rs : List (RequestId × Command)). asked s ∷ rs) rest)
+shows s false false ss d e rest = simp (e, d) rest
+
+pub shown_in_slots : (slots : List Slot) → shown (kept_marks slots) ≡ map asked (filter is_shown_slot slots)
+shown_in_slots [] = refl
+shown_in_slots (s ∷ slots) = shows s s.dropped (is_shown s.mark) slots refl refl (shown_in_slots slots)
