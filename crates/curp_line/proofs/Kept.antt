@@ -1,12 +1,13 @@
 -- The marks that are kept, as slots come, are flagged and are dropped.
-use Rattle.std.proofs.Common.{◌≡◌, ℕ, ◌+◌, ◌<◌, ◌&&◌, ◌||◌, Bool, true, false, not, if◌then◌else◌, List, [], ◌∷◌, ◌++◌, length, map, refl, ap, sym, ◌∙◌, subst, arith}
+use Rattle.std.proofs.Common.{◌≡◌, ℕ, ◌+◌, ◌<◌, ◌&&◌, ◌||◌, Bool, true, false, not, if◌then◌else◌, List, [], ◌∷◌, ◌++◌, length, map, Option, Some, None, refl, ap, sym, ◌∙◌, subst, arith}
 use Rattle.std.specs.List.{filter, list_any}
 use Rattle.curp_cmd.specs.RequestId.{same_id}
 use Rattle.curp_cmd.specs.declared.command.Command.{Command}
 use Rattle.curp_cmd.specs.declared.command.RequestId.{RequestId}
 use Rattle.curp_model.specs.Marks.{Mark, flagged, has_completed, is_dropped, is_flagged, is_shown, shown}
+use Rattle.curp_msg.specs.declared.machine.Capture.{Capture}
 use Rattle.curp_msg.specs.declared.machine.Completed.{Completed}
-use Rattle.curp_line.specs.Slots.{dropped_slot, flagged_slot, is_completed, is_kept, is_of_part, is_of_request, kept_marks}
+use Rattle.curp_line.specs.Slots.{asked, dropped_slot, flagged_slot, is_completed, is_kept, is_of_part, is_of_request, is_shown_slot, kept_marks}
 use Rattle.curp_line.specs.declared.slot.Slot.{Slot}
 use Rattle.curp_line.proofs.Links.{KeepsLinks}
 
@@ -36,6 +37,38 @@ pub marks_flagged : (c : Completed) (slots : List Slot) → kept_marks (map (fla
 marks_flagged c [] = refl
 marks_flagged c (s ∷ slots) = flags c s (is_flagged c c.by s.mark) s.dropped slots refl refl (marks_flagged c slots)
 
+-- a completion leaves the marks of other requests
+pub other_not_flagged : (c : Completed) (s : Slot) → is_of_request c.id s ≡ false → flagged_slot c s ≡ s
+other_not_flagged c s e = go c.by
+  where
+    go : (by : Option Capture) → (if is_flagged c by s.mark then record s { mark = record s.mark { completed = true } } else s) ≡ s
+    go None = rw e refl
+    go (Some by) = rw e refl
+
+pub flags_keep_links : (c : Completed) → KeepsLinks (flagged_slot c)
+flags_keep_links c = record {
+  id = λ s. go_id s (is_flagged c c.by s.mark);
+  part = λ s. go_part s (is_flagged c c.by s.mark);
+  of_request = λ s. go_request s (is_flagged c c.by s.mark);
+  of_part = λ s. go_link s (is_flagged c c.by s.mark);
+}
+  where
+    go_id : (s : Slot) (b : Bool) → (if b then record s { mark = record s.mark { completed = true } } else s).mark.id ≡ s.mark.id
+    go_id s true = refl
+    go_id s false = refl
+
+    go_part : (s : Slot) (b : Bool) → (if b then record s { mark = record s.mark { completed = true } } else s).mark.part ≡ s.mark.part
+    go_part s true = refl
+    go_part s false = refl
+
+    go_request : (s : Slot) (b : Bool) → (if b then record s { mark = record s.mark { completed = true } } else s).earlier_of_request ≡ s.earlier_of_request
+    go_request s true = refl
+    go_request s false = refl
+
+    go_link : (s : Slot) (b : Bool) → (if b then record s { mark = record s.mark { completed = true } } else s).earlier_of_part ≡ s.earlier_of_part
+    go_link s true = refl
+    go_link s false = refl
+
 -- ---- adoptions
 
 drops : (part cut : ℕ) (s : Slot) (b d : Bool) (ss : List Slot) → s.dropped ≡ d → is_dropped part cut s.mark ≡ b
@@ -51,11 +84,46 @@ pub marks_dropped : (part cut : ℕ) (slots : List Slot) → kept_marks (map (dr
 marks_dropped part cut [] = refl
 marks_dropped part cut (s ∷ slots) = drops part cut s (is_dropped part cut s.mark) s.dropped slots refl refl (marks_dropped part cut slots)
 
+-- an adoption leaves the marks of other partitions
+pub other_not_dropped : (part cut : ℕ) (s : Slot) → is_of_part part s ≡ false → dropped_slot part cut s ≡ s
+other_not_dropped part cut s e = rw e refl
+
+pub drops_keep_links : (part cut : ℕ) → KeepsLinks (dropped_slot part cut)
+drops_keep_links part cut = record {
+  id = λ s. go_id s (is_dropped part cut s.mark);
+  part = λ s. go_part s (is_dropped part cut s.mark);
+  of_request = λ s. go_request s (is_dropped part cut s.mark);
+  of_part = λ s. go_link s (is_dropped part cut s.mark);
+}
+  where
+    go_id : (s : Slot) (b : Bool) → (if b then record s { dropped = true } else s).mark.id ≡ s.mark.id
+    go_id s true = refl
+    go_id s false = refl
+
+    go_part : (s : Slot) (b : Bool) → (if b then record s { dropped = true } else s).mark.part ≡ s.mark.part
+    go_part s true = refl
+    go_part s false = refl
+
+    go_request : (s : Slot) (b : Bool) → (if b then record s { dropped = true } else s).earlier_of_request ≡ s.earlier_of_request
+    go_request s true = refl
+    go_request s false = refl
+
+    go_link : (s : Slot) (b : Bool) → (if b then record s { dropped = true } else s).earlier_of_part ≡ s.earlier_of_part
+    go_link s true = refl
+    go_link s false = refl
+
 -- ---- what is asked of the marks
 
 -- the slot has a mark by which the request has completed
 abbrev pub completes : RequestId → Slot → Bool
 completes id s = is_completed s && is_of_request id s
+
+none_of_others : (a : Bool) → (a && false) ≡ false
+none_of_others true = refl
+none_of_others false = refl
+
+pub other_completes_none : (id : RequestId) (s : Slot) → is_of_request id s ≡ false → completes id s ≡ false
+other_completes_none id s e = rw e (none_of_others (is_completed s))
 
 any_kept : (id : RequestId) (s : Slot) (d : Bool) (ss : List Slot) → s.dropped ≡ d → has_completed (kept_marks ss) id ≡ list_any (completes id) ss
     → has_completed (kept_marks (s ∷ ss)) id ≡ list_any (completes id) (s ∷ ss)
@@ -65,14 +133,6 @@ any_kept id s false ss d rest = simp d (ap (λ b. (s.mark.completed && same_id s
 pub completed_in_slots : (id : RequestId) (slots : List Slot) → has_completed (kept_marks slots) id ≡ list_any (completes id) slots
 completed_in_slots id [] = refl
 completed_in_slots id (s ∷ slots) = any_kept id s s.dropped slots refl (completed_in_slots id slots)
-
--- the order shows the slot's mark
-abbrev pub is_shown_slot : Slot → Bool
-is_shown_slot s = is_kept s && is_shown s.mark
-
--- the request of the slot's mark
-abbrev pub asked : Slot → RequestId × Command
-asked s = (s.mark.id, s.mark.command)
 
 shows : (s : Slot) (d b : Bool) (ss : List Slot) → s.dropped ≡ d → is_shown s.mark ≡ b → shown (kept_marks ss) ≡ map asked (filter is_shown_slot ss)
     → shown (kept_marks (s ∷ ss)) ≡ map asked (filter is_shown_slot (s ∷ ss))

@@ -3,11 +3,13 @@ use Rattle.std.proofs.Common.{◌≡◌, ℕ, ◌+◌, ◌==◌, ◌<◌, inl, i
 use Rattle.std.proofs.lemmas.List.{take-append-le, take-map, take_at, append-nil}
 use Rattle.curp_base.specs.Words.{At}
 use Rattle.curp_base.proofs.Lists.{at_push_cases, at_within}
+use Rattle.std.proofs.lemmas.Bool.Decides.{nat_tests}
+use Rattle.curp_cmd.proofs.Ids.{same_id-true}
 use Rattle.curp_cmd.specs.RequestId.{same_id}
 use Rattle.curp_cmd.specs.declared.command.RequestId.{RequestId}
 use Rattle.curp_line.specs.Slots.{IsLinked, RequestsLinked, PartsLinked, is_of_part, is_of_request, last_place}
 use Rattle.curp_line.specs.declared.slot.Slot.{Slot}
-use Rattle.curp_line.proofs.Places.{at_map_back, last_place_map, last_place_push}
+use Rattle.curp_line.proofs.Places.{IsChain, at_map_back, last_place_map, last_place_push}
 
 -- what becomes of a slot leaves its request, its partition and its links
 pub record KeepsLinks (f : Slot → Slot) : Type 0 where
@@ -65,12 +67,12 @@ linked_push g g' h h' slots s of_request of_part later_request later_part l = re
   requests = λ k t at. elim (at_push_cases slots s k t at) [
     | inl old ↦ rw (take_push slots s k (at_within slots k t old)) (l.requests k t old)
     | inr new ↦ subst (λ (t : Slot). t.earlier_of_request ≡ last_place (is_of_request t.mark.id) (take k (slots ++ s ∷ []))) new.1
-      (of_request ∙ l.latest_of_request s.mark.id ∙ sym (ap (last_place (is_of_request s.mark.id)) (take_at slots (s ∷ []) k (sym new.0))))
+        (of_request ∙ l.latest_of_request s.mark.id ∙ sym (ap (last_place (is_of_request s.mark.id)) (take_at slots (s ∷ []) k (sym new.0))))
   ];
   parts = λ k t at. elim (at_push_cases slots s k t at) [
     | inl old ↦ rw (take_push slots s k (at_within slots k t old)) (l.parts k t old)
     | inr new ↦ subst (λ (t : Slot). t.earlier_of_part ≡ last_place (is_of_part t.mark.part) (take k (slots ++ s ∷ []))) new.1
-      (of_part ∙ l.latest_of_part s.mark.part ∙ sym (ap (last_place (is_of_part s.mark.part)) (take_at slots (s ∷ []) k (sym new.0))))
+        (of_part ∙ l.latest_of_part s.mark.part ∙ sym (ap (last_place (is_of_part s.mark.part)) (take_at slots (s ∷ []) k (sym new.0))))
   ];
   latest_of_request = λ id. later_request id ∙ ap (λ r. if is_of_request id s then Some (length slots) else r) (l.latest_of_request id) ∙ sym (last_place_push (is_of_request id) slots s);
   latest_of_part = λ part. later_part part ∙ ap (λ r. if is_of_part part s then Some (length slots) else r) (l.latest_of_part part) ∙ sym (last_place_push (is_of_part part) slots s);
@@ -85,3 +87,14 @@ linked_same g g' h h' slots e f l = record {
   latest_of_request = λ id. e id ∙ l.latest_of_request id;
   latest_of_part = λ part. f part ∙ l.latest_of_part part;
 }
+
+-- ---- chains
+
+pub requests_chain : (id : RequestId) (slots : List Slot) → RequestsLinked slots → IsChain (is_of_request id) (λ (s : Slot). s.earlier_of_request) slots
+requests_chain id slots linked k s here passes =
+    linked k s here ∙ ap (λ (i : RequestId). last_place (is_of_request i) (take k slots)) (same_id-true s.mark.id id passes)
+
+pub parts_chain : (part : ℕ) (slots : List Slot) → PartsLinked slots → IsChain (is_of_part part) (λ (s : Slot). s.earlier_of_part) slots
+parts_chain part slots linked k s here passes =
+    let same : s.mark.part ≡ part = grind (arith, nat_tests) in
+    linked k s here ∙ ap (λ (n : ℕ). last_place (is_of_part n) (take k slots)) same

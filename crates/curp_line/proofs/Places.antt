@@ -1,6 +1,7 @@
 -- Walks that go from a last place to the ones before it, and reach each place that passes a test.
-use Rattle.std.proofs.Common.{◌≡◌, ℕ, zero, suc, ◌+◌, ◌<◌, ◌≤◌, ◌||◌, Bool, true, false, if◌then◌else◌, List, [], ◌∷◌, ◌++◌, length, set, take, map, Option, Some, None, refl, ap, sym, ◌∙◌, subst, arith}
+use Rattle.std.proofs.Common.{◌≡◌, ℕ, zero, suc, ◌+◌, ◌<◌, ◌≤◌, ◌||◌, Bool, true, false, if◌then◌else◌, List, [], ◌∷◌, ◌++◌, length, get_or, set, take, map, Option, Some, None, refl, ap, sym, ◌∙◌, subst, arith}
 use Rattle.std.specs.Bool.{⊤}
+use Rattle.std.proofs.lemmas.List.{take_all}
 use Rattle.std.specs.List.{list_any}
 use Rattle.curp_base.specs.Words.{At}
 use Rattle.curp_base.proofs.Lists.{at_take, at_within}
@@ -124,3 +125,84 @@ pub at_map_back : {A : Type 0} (f : A → A) (xs : List A) (k : ℕ) (y : A) →
 at_map_back f [] k y h = absurd cc
 at_map_back f (x ∷ xs) zero y h = (x, refl, cc)
 at_map_back f (x ∷ xs) (suc k) y h = at_map_back f xs k y h
+
+-- ---- a walk
+
+at_read : {A : Type 0} (xs : List A) (k : ℕ) (x d : A) → At xs k x → get_or xs k d ≡ x
+at_read [] k x d h = absurd cc
+at_read (y ∷ xs) zero x d h = cc
+at_read (y ∷ xs) (suc k) x d h = at_read xs k x d h
+
+pub place_is : {A : Type 0} (p : A → Bool) (xs : List A) (next : Option ℕ) (at : ℕ) → next ≡ Some at → IsPlace p xs next → (x : A) × At xs at x × (p x ≡ true)
+place_is p xs next at e h = subst (IsPlace p xs) e h
+
+pub place_within : {A : Type 0} (p : A → Bool) (xs : List A) (next : Option ℕ) (at : ℕ) → next ≡ Some at → IsPlace p xs next → at < length xs
+place_within p xs next at e h = let x = place_is p xs next at e h in at_within xs at x.0 x.1
+
+pub place_passes : {A : Type 0} (p : A → Bool) (xs : List A) (next : Option ℕ) (at : ℕ) (d : A) → next ≡ Some at → IsPlace p xs next → p (get_or xs at d) ≡ true
+place_passes p xs next at d e h = let x = place_is p xs next at e h in rw (at_read xs at x.0 d x.1) x.2
+
+module _ {A : Type 0} (p : A → Bool) (earlier : A → Option ℕ) where
+  -- what passes the test tells the last place before it of what does
+  abbrev pub IsChain : List A → Type 0
+  IsChain xs = (k : ℕ) (x : A) → At xs k x → p x ≡ true → earlier x ≡ last_place p (take k xs)
+
+  -- ---- that changes what it comes by
+
+  -- the walk has changed what stands at the place, and goes on before it
+  pub record HasChanged (f : A → A) (xs ys : List A) (at : ℕ) (x : A) : Type 0 where
+    pub nearer : reach (earlier x) ≤ at
+    pub next : IsPlace p xs (earlier x)
+    pub done : set ys at (f x) ≡ mapped_from (reach (earlier x)) f xs
+
+  changed : (f : A → A) → ((x : A) → p x ≡ false → f x ≡ x) → (xs ys : List A) (at : ℕ) (x d : A) → IsChain xs → At xs at x → p x ≡ true → ys ≡ mapped_from (suc at) f xs → HasChanged f xs ys at (get_or ys at d)
+  changed f stays xs ys at x d chain here passes done =
+      let read : get_or ys at d ≡ x = ap (λ (zs : List A). get_or zs at d) done ∙ at_read (mapped_from (suc at) f xs) at x d (mapped_at f xs at x here) in
+      let e : earlier x ≡ last_place p (take at xs) = chain at x here passes in
+      rw read (record {
+        nearer = rw e (reach_before p at xs);
+        next = rw e (last_before_is_place p at xs);
+        done = rw e (ap (λ (zs : List A). set zs at (f x)) done ∙ mapped_set f xs at x here ∙ mapped_back p f stays at xs);
+      })
+
+  pub walk_changes : (f : A → A) → ((x : A) → p x ≡ false → f x ≡ x) → (xs ys : List A) (next : Option ℕ) (at : ℕ) (d : A) → IsChain xs → next ≡ Some at → IsPlace p xs next → ys ≡ mapped_from (reach next) f xs → HasChanged f xs ys at (get_or ys at d)
+  walk_changes f stays xs ys next at d chain e place done =
+      let x = place_is p xs next at e place in
+      changed f stays xs ys at x.0 d chain x.1 x.2 (done ∙ ap (λ r. mapped_from (reach r) f xs) e)
+
+  -- at the start nothing is changed
+  pub change_begins : (f : A → A) → ((x : A) → p x ≡ false → f x ≡ x) → (xs : List A) (latest : Option ℕ) → latest ≡ last_place p xs → xs ≡ mapped_from (reach latest) f xs
+  change_begins f stays xs latest e =
+      sym (mapped_length f xs) ∙ mapped_back p f stays (length xs) xs
+      ∙ ap (λ (zs : List A). mapped_from (reach (last_place p zs)) f xs) (take_all (length xs) xs (omega arith)) ∙ ap (λ r. mapped_from (reach r) f xs) (sym e)
+
+  -- ---- that looks for one
+
+  -- the walk hasn't found at the place what it looks for, and goes on before it
+  pub record HasPassed (q : A → Bool) (xs : List A) (at : ℕ) (x : A) : Type 0 where
+    pub nearer : reach (earlier x) ≤ at
+    pub next : IsPlace p xs (earlier x)
+    pub left : list_any q xs ≡ list_any q (take (reach (earlier x)) xs)
+
+  pub walk_passes : (q : A → Bool) → ((x : A) → p x ≡ false → q x ≡ false) → (xs : List A) (next : Option ℕ) (at : ℕ) (d : A) → IsChain xs → next ≡ Some at → IsPlace p xs next
+      → list_any q xs ≡ list_any q (take (reach next) xs) → q (get_or xs at d) ≡ false → HasPassed q xs at (get_or xs at d)
+  walk_passes q none xs next at d chain e place left not_here =
+      let x = place_is p xs next at e place in
+      let read : get_or xs at d ≡ x.0 = at_read xs at x.0 d x.1 in
+      let before : earlier x.0 ≡ last_place p (take at xs) = chain at x.0 x.1 x.2 in
+      rw read (record {
+        nearer = rw before (reach_before p at xs);
+        next = rw before (last_before_is_place p at xs);
+        left = rw before (left ∙ ap (λ r. list_any q (take (reach r) xs)) e ∙ any_not_at q xs at x.0 x.1 (rw read at not_here) ∙ any_back p q none at xs);
+      })
+
+  pub look_begins : (q : A → Bool) → ((x : A) → p x ≡ false → q x ≡ false) → (xs : List A) (latest : Option ℕ) → latest ≡ last_place p xs → list_any q xs ≡ list_any q (take (reach latest) xs)
+  look_begins q none xs latest e =
+      ap (list_any q) (sym (take_all (length xs) xs (omega arith))) ∙ any_back p q none (length xs) xs
+      ∙ ap (λ (zs : List A). list_any q (take (reach (last_place p zs)) xs)) (take_all (length xs) xs (omega arith)) ∙ ap (λ r. list_any q (take (reach r) xs)) (sym e)
+
+  pub walk_finds : (q : A → Bool) (xs : List A) (next : Option ℕ) (at : ℕ) (d : A) → next ≡ Some at → IsPlace p xs next → q (get_or xs at d) ≡ true → list_any q xs ≡ true
+  walk_finds q xs next at d e place here =
+      let x = place_is p xs next at e place in
+      let read : get_or xs at d ≡ x.0 = at_read xs at x.0 d x.1 in
+      any_at q xs at x.0 x.1 (rw read at here)

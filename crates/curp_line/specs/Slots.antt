@@ -3,8 +3,9 @@ use Rattle.std.specs.Prelude.{◌≡◌, ℕ, suc, ◌==◌, ◌&&◌, if◌then
 use Rattle.std.specs.List.{filter}
 use Rattle.curp_base.specs.Words.{At}
 use Rattle.curp_cmd.specs.RequestId.{same_id}
+use Rattle.curp_cmd.specs.declared.command.Command.{Command}
 use Rattle.curp_cmd.specs.declared.command.RequestId.{RequestId}
-use Rattle.curp_model.specs.Marks.{Mark, is_dropped, is_flagged}
+use Rattle.curp_model.specs.Marks.{Mark, is_dropped, is_flagged, is_shown}
 use Rattle.curp_msg.specs.declared.machine.Completed.{Completed}
 use Rattle.curp_line.specs.declared.slot.Slot.{Slot}
 
@@ -29,6 +30,14 @@ is_of_part part s = s.mark.part == part
 -- it is a mark by which a request has completed
 abbrev pub is_completed : Slot → Bool
 is_completed s = is_kept s && s.mark.completed
+
+-- the order shows the slot's mark
+abbrev pub is_shown_slot : Slot → Bool
+is_shown_slot s = is_kept s && is_shown s.mark
+
+-- what the slot's mark is of
+abbrev pub asked : Slot → RequestId × Command
+asked s = (s.mark.id, s.mark.command)
 
 -- ---- places
 

@@ -3,7 +3,7 @@ ghost use Rattle.curp_model.specs.Marks.{adopted, executed, flagged, has_complet
 
 use crate::key::RequestKey;
 use crate::mark::{KeptMark, MarkPlace};
-use crate::slot::{Slot, drop_marks, flag_marks, has_completed};
+use crate::slot::{Slot, drop_marks, flag_marks, has_completed, shown};
 use curp_base::NoMemory;
 use curp_cmd::{Command, NodeId, Request, RequestId};
 use curp_msg::Completed;
@@ -132,11 +132,7 @@ impl Line {
     pub fn order(&self, alloc: Global) -> Result<Vec<(RequestId, Command)>, NoMemory>
         ensures { IfOk result (λ order. order.items ≡ shown self.now.marks) }
     {
-        self.slots
-            .iter()
-            .filter(|slot| !slot.dropped && slot.mark.is_shown())
-            .map(|slot| (slot.mark.id(), slot.mark.command()))
-            .collect(alloc)
+        shown(alloc, &self.slots)
     }
 
     fn push(&mut self, mark: KeptMark)

@@ -1,10 +1,13 @@
-ghost use Rattle.std.specs.Prelude.{◌≡◌, map};
+ghost use Rattle.std.specs.Prelude.{◌≡◌, filter, map, IfOk};
 ghost use Rattle.curp_model.specs.Marks.{has_completed};
-ghost use Rattle.curp_line.specs.Slots.{PartsLinked, RequestsLinked, dropped_slot, flagged_slot, is_completed, is_of_part, is_of_request, kept_marks, last_place};
+ghost use Rattle.curp_line.specs.Slots.{PartsLinked, RequestsLinked, asked, dropped_slot, flagged_slot, is_completed};
+ghost use Rattle.curp_line.specs.Slots.{is_of_part, is_of_request, is_shown_slot, kept_marks, last_place};
 
 use crate::mark::KeptMark;
-use curp_cmd::RequestId;
+use curp_base::NoMemory;
+use curp_cmd::{Command, RequestId};
 use curp_msg::Completed;
+use std::alloc::Global;
 
 /// A place in the order in which the marks came. It stays when its mark is dropped, so that the places of the others
 /// stay what they are.
@@ -41,6 +44,31 @@ impl Slot {
     {
         !self.dropped && self.mark.has_completed()
     }
+
+    /// Whether the order shows its mark.
+    pub fn is_shown(&self) -> bool
+        ensures { result ≡ is_shown_slot self.now }
+    {
+        !self.dropped && self.mark.is_shown()
+    }
+
+    /// What its mark is of.
+    pub fn asked(&self) -> (RequestId, Command)
+        ensures { result ≡ asked self.now }
+    {
+        (self.mark.id(), self.mark.command())
+    }
+}
+
+/// What the marks that the order shows are of.
+pub fn shown(alloc: Global, slots: &[Slot]) -> Result<Vec<(RequestId, Command)>, NoMemory>
+    ensures { IfOk result (λ order. order.items ≡ map asked (filter is_shown_slot slots.now)) }
+{
+    slots
+        .iter()
+        .filter(|slot| slot.is_shown())
+        .map(|slot| slot.asked())
+        .collect(alloc)
 }
 
 /// Flags the marks that the completion means. It looks at the slots of that request alone, whose last one is given.
@@ -51,8 +79,9 @@ pub fn flag_marks(slots: &mut [Slot], latest: Option<usize>, completed: &Complet
 {
     let mut next = latest;
     while let Some(at) = next {
-        next = slots[at].earlier_of_request;
-        slots[at].flag(completed);
+        let slot = &mut slots[at];
+        next = slot.earlier_of_request;
+        slot.flag(completed);
     }
 }
 
@@ -65,8 +94,9 @@ pub fn drop_marks(slots: &mut [Slot], latest: Option<usize>, part: u32, cut: u64
 {
     let mut next = latest;
     while let Some(at) = next {
-        next = slots[at].earlier_of_part;
-        slots[at].drop_past(part, cut);
+        let slot = &mut slots[at];
+        next = slot.earlier_of_part;
+        slot.drop_past(part, cut);
     }
 }
 
@@ -79,10 +109,11 @@ pub fn has_completed(slots: &[Slot], latest: Option<usize>, id: &RequestId) -> b
 {
     let mut next = latest;
     while let Some(at) = next {
-        if slots[at].is_completed() {
+        let slot = &slots[at];
+        if slot.is_completed() {
             return true;
         }
-        next = slots[at].earlier_of_request;
+        next = slot.earlier_of_request;
     }
     false
 }
