@@ -1,5 +1,6 @@
 -- The marks that are kept, as slots come, are flagged and are dropped.
-use Rattle.std.proofs.Common.{◌≡◌, ℕ, ◌+◌, ◌<◌, ◌&&◌, ◌||◌, Bool, true, false, not, if◌then◌else◌, List, [], ◌∷◌, ◌++◌, length, map, Option, Some, None, refl, ap, sym, ◌∙◌, subst, arith}
+use Rattle.std.proofs.Common.{◌≡◌, ℕ, ◌+◌, ◌<◌, ◌&&◌, ◌||◌, Bool, true, false, not, if◌then◌else◌, List, [], ◌∷◌, ◌++◌, length, take, drop, map, Option, Some, None, refl, ap, sym, ◌∙◌, subst, arith}
+use Rattle.std.proofs.lemmas.List.{take_at}
 use Rattle.std.specs.List.{filter, list_any}
 use Rattle.curp_cmd.specs.RequestId.{same_id}
 use Rattle.curp_cmd.specs.declared.command.Command.{Command}
@@ -136,6 +137,7 @@ completed_in_slots id (s ∷ slots) = any_kept id s s.dropped slots refl (comple
 
 shows : (s : Slot) (d b : Bool) (ss : List Slot) → s.dropped ≡ d → is_shown s.mark ≡ b → shown (kept_marks ss) ≡ map asked (filter is_shown_slot ss)
     → shown (kept_marks (s ∷ ss)) ≡ map asked (filter is_shown_slot (s ∷ ss))
+unfolding is_shown_slot asked
 shows s true true ss d e rest = simp (e, d) rest
 shows s true false ss d e rest = simp (e, d) rest
 shows s false true ss d e rest = simp (e, d) (ap (λ (rs : List (RequestId × Command)). asked s ∷ rs) rest)
@@ -144,3 +146,8 @@ shows s false false ss d e rest = simp (e, d) rest
 pub shown_in_slots : (slots : List Slot) → shown (kept_marks slots) ≡ map asked (filter is_shown_slot slots)
 shown_in_slots [] = refl
 shown_in_slots (s ∷ slots) = shows s s.dropped (is_shown s.mark) slots refl refl (shown_in_slots slots)
+
+-- ---- slots that are written in place
+
+pub written : (n : ℕ) (new old : List Slot) → length new ≡ n → take n (new ++ drop (length new) old) ≡ new
+written n new old e = take_at new (drop (length new) old) n e

@@ -32,11 +32,11 @@ abbrev pub is_completed : Slot → Bool
 is_completed s = is_kept s && s.mark.completed
 
 -- the order shows the slot's mark
-abbrev pub is_shown_slot : Slot → Bool
+unfoldable pub is_shown_slot : Slot → Bool
 is_shown_slot s = is_kept s && is_shown s.mark
 
 -- what the slot's mark is of
-abbrev pub asked : Slot → RequestId × Command
+unfoldable pub asked : Slot → RequestId × Command
 asked s = (s.mark.id, s.mark.command)
 
 -- ---- places

@@ -46,6 +46,7 @@ impl Slot {
     }
 
     /// Whether the order shows its mark.
+    #[tactic(auto, unfolding(crate::specs::Slots::is_shown_slot))]
     pub fn is_shown(&self) -> bool
         ensures { result ≡ is_shown_slot self.now }
     {
@@ -53,6 +54,7 @@ impl Slot {
     }
 
     /// What its mark is of.
+    #[tactic(auto, unfolding(crate::specs::Slots::asked))]
     pub fn asked(&self) -> (RequestId, Command)
         ensures { result ≡ asked self.now }
     {
