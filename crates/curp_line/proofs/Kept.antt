@@ -1,5 +1,5 @@
 -- The marks that are kept, as slots come, are flagged and are dropped.
-use Rattle.std.proofs.Common.{◌≡◌, ℕ, ◌+◌, ◌<◌, ◌&&◌, ◌||◌, Bool, true, false, not, if◌then◌else◌, List, [], ◌∷◌, ◌++◌, length, take, drop, map, Option, Some, None, refl, ap, sym, ◌∙◌, subst, arith}
+use Rattle.std.proofs.Common.{◌≡◌, ℕ, ◌&&◌, ◌||◌, Bool, true, false, not, if◌then◌else◌, List, [], ◌∷◌, ◌++◌, length, take, drop, map, Option, Some, None, refl, ap}
 use Rattle.std.proofs.lemmas.List.{take_at}
 use Rattle.std.specs.List.{filter, list_any}
 use Rattle.curp_cmd.specs.RequestId.{same_id}
@@ -137,7 +137,6 @@ completed_in_slots id (s ∷ slots) = any_kept id s s.dropped slots refl (comple
 
 shows : (s : Slot) (d b : Bool) (ss : List Slot) → s.dropped ≡ d → is_shown s.mark ≡ b → shown (kept_marks ss) ≡ map asked (filter is_shown_slot ss)
     → shown (kept_marks (s ∷ ss)) ≡ map asked (filter is_shown_slot (s ∷ ss))
-unfolding is_shown_slot asked
 shows s true true ss d e rest = simp (e, d) rest
 shows s true false ss d e rest = simp (e, d) rest
 shows s false true ss d e rest = simp (e, d) (ap (λ (rs : List (RequestId × Command)). asked s ∷ rs) rest)

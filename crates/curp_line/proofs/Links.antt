@@ -1,7 +1,6 @@
 -- The links of the slots, as marks come, are flagged and are dropped.
-use Rattle.std.proofs.Common.{◌≡◌, ℕ, ◌+◌, ◌==◌, ◌<◌, inl, inr, Bool, true, false, if◌then◌else◌, List, [], ◌∷◌, ◌++◌, length, take, map, Option, Some, None, refl, ap, sym, ◌∙◌, subst, arith}
-use Rattle.std.proofs.lemmas.List.{take-append-le, take-map, take_at, append-nil}
-use Rattle.curp_base.specs.Words.{At}
+use Rattle.std.proofs.Common.{◌≡◌, ℕ, ◌==◌, ◌<◌, inl, inr, if◌then◌else◌, List, [], ◌∷◌, ◌++◌, length, take, map, Option, Some, ap, sym, ◌∙◌, subst, arith}
+use Rattle.std.proofs.lemmas.List.{take-append-le, take-map, take_at}
 use Rattle.curp_base.proofs.Lists.{at_push_cases, at_within}
 use Rattle.std.proofs.lemmas.Bool.Decides.{nat_tests}
 use Rattle.curp_cmd.proofs.Ids.{same_id-true}

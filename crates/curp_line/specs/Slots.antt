@@ -1,5 +1,5 @@
 -- The slots in which the marks stand, and how those of one request, and those of one partition, are found.
-use Rattle.std.specs.Prelude.{◌≡◌, ℕ, suc, ◌==◌, ◌&&◌, if◌then◌else◌, Bool, true, false, not, List, [], ◌∷◌, map, take, Option, Some, None}
+use Rattle.std.specs.Prelude.{◌≡◌, ℕ, suc, ◌==◌, ◌&&◌, if◌then◌else◌, Bool, true, not, List, [], ◌∷◌, map, take, Option, Some, None}
 use Rattle.std.specs.List.{filter}
 use Rattle.curp_base.specs.Words.{At}
 use Rattle.curp_cmd.specs.RequestId.{same_id}
@@ -32,11 +32,11 @@ abbrev pub is_completed : Slot → Bool
 is_completed s = is_kept s && s.mark.completed
 
 -- the order shows the slot's mark
-unfoldable pub is_shown_slot : Slot → Bool
+abbrev pub is_shown_slot : Slot → Bool
 is_shown_slot s = is_kept s && is_shown s.mark
 
 -- what the slot's mark is of
-unfoldable pub asked : Slot → RequestId × Command
+abbrev pub asked : Slot → RequestId × Command
 asked s = (s.mark.id, s.mark.command)
 
 -- ---- places

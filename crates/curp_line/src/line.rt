@@ -11,9 +11,15 @@ use std::alloc::Global;
 use std::collections::HashMap;
 use std::marker::Model;
 
-/// The marks that are kept, in the order in which they came. Contracts see them, and for how many more there is room.
-#[derive(Debug, Drop)]
+/// The marks of which the order that the world shows is made, in the order in which they came: an update's at its index
+/// in a log, and a read's at a capture. Contracts see them, and for how many more there is room.
+///
+/// The marks of one request, and those of one partition, are found from the last one back to the first (this project's
+/// own choice). A mark that an adoption drops leaves its place behind, so the memory taken is that of all marks that
+/// ever came.
+#[derive(Drop)]
 pub struct Line {
+    alloc: Global,
     slots: Vec<Slot>,
     // The last slot of each request, and of each partition.
     requests: HashMap<RequestKey, usize>,
@@ -46,13 +52,15 @@ impl Line {
         ensures { result.marks ≡ [] }
     {
         Line {
+            alloc,
             slots: Vec::new(alloc),
             requests: HashMap::new(alloc),
             parts: HashMap::new(alloc),
         }
     }
 
-    /// Makes room for so many more marks.
+    /// Makes room for so many more marks. There is no room for more than 9 * 2^28 requests in all. What has come is moved
+    /// only when its room doubles, so it costs no more than the marks that come, taken all together.
     pub fn reserve(&mut self, marks: u64) -> Result<(), NoMemory>
         ensures marks { self.new.marks ≡ self.old.marks }
         ensures room { OnOk result (marks ≤ self.new.spare) }
@@ -64,7 +72,7 @@ impl Line {
     }
 
     /// Adds the mark of an update that the master pushed, at its index in the log. It takes no memory, since there is
-    /// room.
+    /// room, and looks at no other mark.
     pub fn executed(
         &mut self,
         master: NodeId,
@@ -83,7 +91,7 @@ impl Line {
     }
 
     /// Adds the mark of a read whose value the master captured, when its log had that length. It takes no memory, since
-    /// there is room.
+    /// there is room, and looks at no other mark.
     pub fn looked(
         &mut self,
         master: NodeId,
@@ -102,7 +110,8 @@ impl Line {
         self.push(KeptMark::new(master, part, epoch, place, id, command));
     }
 
-    /// Flags the mark by which a request has completed. It takes no memory.
+    /// Flags the mark by which a request has completed: an update's marks, or the mark of the capture whose value
+    /// completed a read. It takes no memory, and looks at the marks of that request alone.
     pub fn completed(&mut self, completed: &Completed)
         ensures marks { self.new.marks ≡ flagged completed.now self.old.marks }
         ensures spare { self.new.spare ≡ self.old.spare }
@@ -111,8 +120,10 @@ impl Line {
         flag_marks(&mut self.slots, latest, completed);
     }
 
-    /// A master is adopted for the partition, with a log that is that of the one before up to the cut, and behind it
-    /// the replayed requests. It takes no memory, since there is room.
+    /// A master is adopted for the partition, of that epoch, with the log that was recovered, whose length is the cut,
+    /// and the replayed requests behind it. The partition's marks that aren't completed and didn't reach that log go, and
+    /// each replayed request that isn't completed gets a mark at its index in the new log. It takes no memory, since
+    /// there is room, and looks at the marks of that partition and of those requests alone.
     pub fn adopted(&mut self, master: NodeId, part: u32, epoch: u32, cut: u64, replayed: &[Request])
         requires room { length replayed.now ≤ self.old.spare }
         requires fits { cut + length replayed.now < 2 ^ 64 }
@@ -128,11 +139,12 @@ impl Line {
         }
     }
 
-    /// The requests in the order that the world shows. It takes a step for each mark that ever came.
-    pub fn order(&self, alloc: Global) -> Result<Vec<(RequestId, Command)>, NoMemory>
+    /// The requests in the order that the world shows: all updates, and each completed read where its value was captured.
+    /// It looks at all marks that ever came.
+    pub fn order(&self) -> Result<Vec<(RequestId, Command)>, NoMemory>
         ensures { IfOk result (λ order. order.items ≡ shown self.now.marks) }
     {
-        shown(alloc, &self.slots)
+        shown(self.alloc, &self.slots)
     }
 
     fn push(&mut self, mark: KeptMark)
@@ -164,5 +176,135 @@ impl Line {
     {
         let latest = self.requests.get(&RequestKey(*id)).copied();
         has_completed(&self.slots, latest, id)
+    }
+}
+
+#[cfg(test)]
+mod tests {
+    use super::*;
+    use curp_cmd::{Answer, Key, KeyError, NodeKind};
+    use curp_msg::Capture;
+    use std::test::Fail;
+
+    const FIRST: NodeId = NodeId {
+        kind: NodeKind::Master,
+        number: 1,
+    };
+
+    const SECOND: NodeId = NodeId {
+        kind: NodeKind::Master,
+        number: 2,
+    };
+
+    fn id(client: u32, seq: u32) -> RequestId {
+        RequestId { client, seq }
+    }
+
+    fn update() -> Result<Command, KeyError> {
+        Ok(Command::Incr(Key::new(b"k")?))
+    }
+
+    fn read() -> Result<Command, KeyError> {
+        Ok(Command::Get(Key::new(b"k")?))
+    }
+
+    fn updated(id: RequestId) -> Completed {
+        Completed {
+            id,
+            answer: Answer::Number(1),
+            by: None,
+        }
+    }
+
+    fn read_by(id: RequestId, master: NodeId, number: u64) -> Completed {
+        Completed {
+            id,
+            answer: Answer::Found(None),
+            by: Some(Capture {
+                master,
+                epoch: 1,
+                number,
+            }),
+        }
+    }
+
+    fn replayed(id: RequestId, command: Command) -> Request {
+        Request {
+            id,
+            first: 1,
+            command,
+        }
+    }
+
+    fn ids(line: &Line) -> Result<Vec<RequestId>, Fail> {
+        let mut ids = Vec::new(line.alloc);
+        for (id, _) in line.order()? {
+            ids.push(id)?;
+        }
+        Ok(ids)
+    }
+
+    // The log is recovered up to index 2. What is completed stays, and the read at capture 1 saw no more than that.
+    #[test]
+    fn an_adoption_keeps_what_completed_or_was_recovered(rt: HostRuntime) -> Result<(), Fail> {
+        let (update, read) = (update()?, read()?);
+        let mut line = Line::new(rt.alloc());
+        line.reserve(8)?;
+        line.executed(FIRST, 1, 1, 0, id(1, 1), update);
+        line.executed(FIRST, 1, 1, 1, id(2, 1), update);
+        line.looked(FIRST, 1, 1, 1, 2, id(3, 1), read);
+        line.executed(FIRST, 1, 1, 2, id(1, 2), update);
+        line.executed(FIRST, 1, 1, 3, id(2, 2), update);
+        line.looked(FIRST, 1, 1, 2, 3, id(3, 2), read);
+        line.completed(&updated(id(1, 2)));
+        let both = [replayed(id(2, 2), update), replayed(id(1, 2), update)];
+        line.adopted(SECOND, 1, 2, 2, &both);
+        let order = [id(1, 1), id(2, 1), id(1, 2), id(2, 2)];
+        assert_eq!(rt; ids(&line)?.as_slice(), order.as_slice());
+        line.completed(&read_by(id(3, 2), FIRST, 2));
+        line.completed(&read_by(id(3, 1), FIRST, 1));
+        let order = [id(1, 1), id(2, 1), id(3, 1), id(1, 2), id(2, 2)];
+        assert_eq!(rt; ids(&line)?.as_slice(), order.as_slice());
+        Ok(())
+    }
+
+    // Both masters of the opening captured it, of two partitions, so under one epoch and one number.
+    #[test]
+    fn a_read_stands_where_its_value_was_captured(rt: HostRuntime) -> Result<(), Fail> {
+        let (update, read) = (update()?, read()?);
+        let mut line = Line::new(rt.alloc());
+        line.reserve(3)?;
+        line.looked(FIRST, 1, 1, 1, 0, id(1, 1), read);
+        line.executed(SECOND, 2, 1, 0, id(2, 1), update);
+        line.looked(SECOND, 2, 1, 1, 1, id(1, 1), read);
+        line.completed(&read_by(id(1, 1), SECOND, 1));
+        assert_eq!(rt; ids(&line)?.as_slice(), [id(2, 1), id(1, 1)].as_slice());
+        Ok(())
+    }
+
+    // Of 10,000 updates in two partitions half of those of the one complete. The first log that is adopted for it has a
+    // thousand entries, so 2,000 of the others are dropped; 64 of these are replayed, each by a master of its own, and
+    // with it one that completed.
+    #[test]
+    fn holds_ten_thousand_marks(rt: HostRuntime) -> Result<(), Fail> {
+        let update = update()?;
+        let nth = |n: u32| id(n % 64, n / 64);
+        let mut line = Line::new(rt.alloc());
+        for n in 0..10_000_u32 {
+            line.reserve(1)?;
+            line.executed(FIRST, n % 2, 1, u64::from(n / 2), nth(n), update);
+        }
+        for n in 0..2_500_u32 {
+            line.completed(&updated(nth(4 * n)));
+        }
+        for n in 0..64_u32 {
+            line.reserve(2)?;
+            let cut = u64::from(1_000 + n);
+            let both = [9_998 - 4 * n, 9_996 - 4 * n].map(|n| replayed(nth(n), update));
+            line.adopted(SECOND, 0, 2 + n, cut, &both);
+        }
+        assert_eq!(rt; line.order()?.len(), 8_064);
+        assert!(rt; line.reserve(u64::MAX).is_err());
+        Ok(())
     }
 }

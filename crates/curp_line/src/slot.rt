@@ -46,7 +46,6 @@ impl Slot {
     }
 
     /// Whether the order shows its mark.
-    #[tactic(auto, unfolding(crate::specs::Slots::is_shown_slot))]
     pub fn is_shown(&self) -> bool
         ensures { result ≡ is_shown_slot self.now }
     {
@@ -54,7 +53,6 @@ impl Slot {
     }
 
     /// What its mark is of.
-    #[tactic(auto, unfolding(crate::specs::Slots::asked))]
     pub fn asked(&self) -> (RequestId, Command)
         ensures { result ≡ asked self.now }
     {
@@ -66,11 +64,13 @@ impl Slot {
 pub fn shown(alloc: Global, slots: &[Slot]) -> Result<Vec<(RequestId, Command)>, NoMemory>
     ensures { IfOk result (λ order. order.items ≡ map asked (filter is_shown_slot slots.now)) }
 {
-    slots
-        .iter()
-        .filter(|slot| slot.is_shown())
-        .map(|slot| slot.asked())
-        .collect(alloc)
+    let mut order = Vec::new(alloc);
+    for slot in slots {
+        if slot.is_shown() {
+            order.push(slot.asked())?;
+        }
+    }
+    Ok(order)
 }
 
 /// Flags the marks that the completion means. It looks at the slots of that request alone, whose last one is given.

@@ -1,9 +1,9 @@
-use Rattle.std.proofs.Common.{◌≡◌, List, get_or, sym, ap, subst, ◌∙◌, arith, rules}
+use Rattle.std.proofs.Common.{get_or, ap, ◌∙◌, arith}
 use Rattle.curp_line.specs.Slots.{flagged_slot, is_of_request}
 use Rattle.curp_line.specs.declared.slot.Slot.{Slot}
 use Rattle.curp_line.proofs.Kept.{other_not_flagged}
 use Rattle.curp_line.proofs.Links.{requests_chain}
-use Rattle.curp_line.proofs.Places.{HasChanged, IsPlace, change_begins, last_is_place, mapped_from, place_within, reach, walk_changes}
+use Rattle.curp_line.proofs.Places.{HasChanged, change_begins, last_is_place, mapped_from, place_within, reach, walk_changes}
 use Rattle.curp_line.proofs.slot.flag_marks.Goals as goal
 
 pub loop-next-init : goal.loop-next-init

@@ -1,10 +1,10 @@
-use Rattle.std.proofs.Common.{◌≡◌, ◌<◌, ◌&&◌, Bool, true, false, refl, List, get_or, length, take, sym, ap, subst, ◌∙◌, arith}
+use Rattle.std.proofs.Common.{◌≡◌, ◌&&◌, Bool, true, false, refl, get_or, take, sym, ap, subst, ◌∙◌, arith}
 use Rattle.std.specs.List.{list_any}
 use Rattle.curp_line.specs.Slots.{is_completed, is_of_request}
 use Rattle.curp_line.specs.declared.slot.Slot.{Slot}
 use Rattle.curp_line.proofs.Kept.{completed_in_slots, completes, other_completes_none}
 use Rattle.curp_line.proofs.Links.{requests_chain}
-use Rattle.curp_line.proofs.Places.{HasPassed, IsPlace, last_is_place, look_begins, place_passes, place_within, reach, walk_finds, walk_passes}
+use Rattle.curp_line.proofs.Places.{HasPassed, last_is_place, look_begins, place_passes, place_within, reach, walk_finds, walk_passes}
 use Rattle.curp_line.proofs.slot.has_completed.Goals as goal
 
 both : (a b : Bool) → a ≡ true → b ≡ true → (a && b) ≡ true

@@ -1,4 +1,4 @@
-use Rattle.std.proofs.Common.{◌≡◌, ◌+◌, ◌≤◌, drop, length}
+use Rattle.std.proofs.Common.{◌≡◌, ◌+◌, ◌≤◌, drop}
 use Rattle.curp_model.specs.Marks.{adopted, replayed_marks}
 use Rattle.curp_line.proofs.line.Line.adopted.Given as goal
 

@@ -1,8 +1,7 @@
-use Rattle.std.proofs.Common.{◌≡◌, List, length, map, take, drop, ◌++◌, ap, sym, subst, ◌∙◌, arith}
+use Rattle.std.proofs.Common.{◌≡◌, length, map, take, drop, ◌++◌, ap, ◌∙◌, arith}
 use Rattle.std.proofs.lemmas.List.{length-map}
 use Rattle.curp_model.specs.Marks.{flagged}
 use Rattle.curp_line.specs.Slots.{flagged_slot, kept_marks}
-use Rattle.curp_line.specs.declared.slot.Slot.{Slot}
 use Rattle.curp_line.proofs.Kept.{flags_keep_links, marks_flagged, written}
 use Rattle.curp_line.proofs.Links.{linked_map}
 use Rattle.curp_line.proofs.line.Line.completed.Goals as goal

@@ -1,9 +1,8 @@
-use Rattle.std.proofs.Common.{◌≡◌, List, not, length, map, take, drop, ◌++◌, ap, sym, subst, ◌∙◌, arith}
+use Rattle.std.proofs.Common.{◌≡◌, not, length, map, take, drop, ◌++◌, ap, ◌∙◌, arith}
 use Rattle.std.proofs.lemmas.List.{length-map}
 use Rattle.std.specs.List.{filter}
 use Rattle.curp_model.specs.Marks.{Mark, is_dropped}
 use Rattle.curp_line.specs.Slots.{dropped_slot, kept_marks}
-use Rattle.curp_line.specs.declared.slot.Slot.{Slot}
 use Rattle.curp_line.proofs.Kept.{drops_keep_links, marks_dropped, written}
 use Rattle.curp_line.proofs.Links.{linked_map}
 use Rattle.curp_line.proofs.line.Line.drop_past.Goals as goal

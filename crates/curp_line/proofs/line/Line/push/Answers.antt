@@ -1,7 +1,6 @@
-use Rattle.std.proofs.Common.{◌≡◌, ◌==◌, ℕ, false, length, ap, sym, ◌∙◌, arith}
+use Rattle.std.proofs.Common.{◌≡◌, ◌==◌, ℕ, false, length, arith}
 use Rattle.std.specs.HashMap.{get}
 use Rattle.curp_cmd.specs.RequestId.{same_id}
-use Rattle.curp_cmd.specs.declared.command.RequestId.{RequestId}
 use Rattle.curp_line.specs.declared.key.RequestKey.{RequestKey}
 use Rattle.curp_line.proofs.Links.{linked_push}
 use Rattle.curp_line.proofs.line.Line.push.Goals as goal
