@@ -1,5 +1,5 @@
 -- A command that is read names one to four keys.
-use Rattle.std.proofs.Common.{◌≡◌, ◌-◌, ◌^◌, ◌&&◌, ◌≤◌, Bool, true, false, not, if◌then◌else◌, List, [], ◌∷◌, length, Option, Some, None, option_and_then, Result, Ok, Err, IfOk, IfSome, refl, arith}
+use Rattle.std.proofs.Common.{◌≡◌, ℕ, ◌-◌, ◌^◌, ◌&&◌, Bool, true, false, not, if◌then◌else◌, List, [], ◌∷◌, length, Option, Some, None, option_and_then, IfOk, IfSome, refl, arith}
 use Rattle.std.proofs.lemmas.Bool.Decides.{nat_tests}
 use Rattle.std.proofs.lemmas.List.{length-map}
 use Rattle.std.specs.Option.{ok_or}
@@ -19,7 +19,7 @@ use Rattle.curp_script.specs.declared.kind.Kind.TheVariants as kind
 use Rattle.curp_script.specs.declared.kind.Verb.{Verb}
 use Rattle.curp_script.specs.declared.kind.Verb.TheVariants as verb
 use Rattle.curp_script.specs.Digits.{by_twos, hash_of}
-use Rattle.curp_script.specs.Grammar.{◌>>=◌, built, built_where, command_at, command_by, command_of, cond_put_of, expected_in, field_as, index_at, key_alone, key_in, listed, multi_put, no_other, number_at, object_in, one_pair, pair_in, read_as, step_by, step_in, step_of, text_as, value_in, values_of}
+use Rattle.curp_script.specs.Grammar.{built, built_where, command_at, command_by, command_of, cond_put_of, expected_in, field_as, index_at, key_alone, key_in, listed, multi_put, no_other, number_at, object_in, one_pair, pair_in, read_as, step_by, step_in, step_of, text_as, value_in, values_of}
 use Rattle.curp_script.specs.Headers.{is_within}
 use Rattle.curp_script.specs.Kinds.{is_get, kind_of, names_of, verb_of, word_of}
 use Rattle.curp_script.specs.Nodes.{keeper_of, node_of}
