@@ -14,13 +14,12 @@ use Rattle.curp_model.specs.Recovery.{MasterStage, Serving, master_input, master
 use Rattle.curp_facts.specs.Sent.{IsSaidTo}
 use Rattle.curp_model.specs.Witness.{WitnessState, witness_input}
 use Rattle.curp_model.specs.World.{World, has_node, is_there, moves, moves_kind, with_backup, with_client, with_master, with_witness}
-use Rattle.curp_msg.specs.Moved.{Moved, Moves, MovesAt, Node, numbered_move, within}
+use Rattle.curp_msg.specs.Moved.{Moves, MovesAt, Node, numbered_move, within}
 use Rattle.curp_msg.specs.declared.body.Body.{Body}
 use Rattle.curp_msg.specs.declared.body.Body.TheVariants as body
 use Rattle.curp_msg.specs.declared.machine.Done.{Done}
 use Rattle.curp_msg.specs.declared.machine.Input.{Input}
 use Rattle.curp_msg.specs.declared.machine.Input.TheVariants as input
-use Rattle.curp_msg.specs.declared.machine.Local.{Local}
 use Rattle.curp_msg.specs.declared.machine.Local.TheVariants as local
 use Rattle.curp_world.specs.Given.{IsFor}
 use Rattle.curp_world.specs.Nodes.{HasNumbers, NodeStates, remarked, serving, states, with_nodes}

@@ -1,12 +1,12 @@
 -- One node of a kind moves, and the world with it: of any kind, by its machine.
-use Rattle.std.proofs.Common.{◌≡◌, ◌≢◌, ℕ, zero, suc, ◌+◌, ◌-◌, ◌≤◌, List, [], ◌∷◌, length, map, slice_get, slice_set, Option, Some, None, Result, Ok, Err, refl, ap, sym, ◌∙◌, subst, unwrap_or, arith, true, is_some}
+use Rattle.std.proofs.Common.{◌≡◌, ℕ, zero, suc, ◌-◌, ◌≤◌, List, [], ◌∷◌, length, map, slice_set, Some, Result, Ok, Err, refl, ap, sym, ◌∙◌, subst, unwrap_or, arith, true, is_some}
 use Rattle.std.specs.Global.{Vec}
 use Rattle.std.specs.Vec.{with_items}
 use Rattle.std.proofs.lemmas.List.{with_items_is}
 use Rattle.std.specs.declared.alloc.AllocError.{AllocError}
 use Rattle.curp_base.specs.Words.{At, numbered}
 use Rattle.curp_base.proofs.Lists.{at_set_same}
-use Rattle.curp_msg.specs.Moved.{Moved, Moves, MovesAt, Node, done_of, numbered_move, within}
+use Rattle.curp_msg.specs.Moved.{Moved, Moves, MovesAt, Node, numbered_move, within}
 use Rattle.curp_msg.specs.declared.machine.Done.{Done}
 use Rattle.curp_model.specs.World.{World, moves_one}
 use Rattle.curp_world.specs.Nodes.{HasNumbers, remarked}

@@ -1,6 +1,5 @@
 -- What is kept of a step is the step of the definition.
-use Rattle.std.proofs.Common.{◌≡◌, ◌≢◌, ◌==◌, nat_le, ℕ, zero, suc, ◌+◌, ◌-◌, ◌^◌, Bool, true, false, List, [], ◌∷◌, ◌++◌, length, slice_set, Option, Some, None, is_some, Result, Ok, Err, IfOk, OnOk, append-nil, arith, refl, ap, sym, ◌∙◌, subst}
-use Rattle.std.proofs.lemmas.Bool.{eq-eqb, ne_eqb}
+use Rattle.std.proofs.Common.{◌≡◌, ◌≢◌, nat_le, ℕ, ◌+◌, ◌-◌, ◌^◌, Bool, true, false, List, [], ◌∷◌, ◌++◌, length, Option, Some, None, is_some, Result, Ok, Err, IfOk, OnOk, append-nil, arith, refl, ap, sym, ◌∙◌, subst}
 use Rattle.std.specs.Option.{ok_or, option_map}
 use Rattle.curp_base.specs.Cases.{◌>>=◌, refuse_if}
 use Rattle.curp_base.specs.Words.{all_of, numbered}
@@ -9,10 +8,10 @@ use Rattle.curp_cmd.specs.declared.command.RequestId.{RequestId}
 use Rattle.curp_cmd.specs.declared.node.NodeId.{NodeId}
 use Rattle.curp_cmd.specs.declared.node.NodeKind.{NodeKind}
 use Rattle.curp_cmd.specs.declared.node.NodeKind.TheVariants as kind
-use Rattle.curp_model.specs.Client.{ClientState, client_ordered, invocation_for, invoke, most_pending, next_request, owner_of, sends_first}
+use Rattle.curp_model.specs.Client.{ClientState, client_ordered, invoke, most_pending, next_request, owner_of, sends_first}
 use Rattle.curp_facts.specs.Sent.{IsSaidTo}
-use Rattle.curp_model.specs.World.{Deed, Gives, Stepped, World, completion, delivery, effect, events_of, has_node, invocation_of, kept, messages, moves, next_number, refused, steps_by, with_batch, with_completion}
-use Rattle.curp_msg.specs.Moved.{Makes, Moved, Moves, done_of, quiet, unless_refused, within}
+use Rattle.curp_model.specs.World.{Deed, Gives, Stepped, World, completion, delivery, effect, events_of, has_node, invocation_of, kept, messages, moves, refused, steps_by, with_batch}
+use Rattle.curp_msg.specs.Moved.{Makes, Moved, done_of, quiet, unless_refused, within}
 use Rattle.curp_msg.specs.declared.config.PartConfig.{PartConfig}
 use Rattle.curp_msg.specs.declared.machine.Done.{Done}
 use Rattle.curp_msg.specs.declared.machine.Input.{Input}

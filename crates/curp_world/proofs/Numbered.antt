@@ -1,7 +1,6 @@
 -- Nodes by their numbers, and one of them with another state.
-use Rattle.std.proofs.Common.{◌≡◌, ◌≢◌, ◌⊎◌, ◌≤◌, inl, inr, ℕ, zero, suc, ◌+◌, ◌-◌, ◌<◌, List, [], ◌∷◌, ◌++◌, map, replicate, length, slice_get, slice_set, slice_index_or, Option, Some, None, refl, ap, sym, ◌∙◌, subst, arith, add-one}
+use Rattle.std.proofs.Common.{◌≡◌, ◌≢◌, ◌⊎◌, inl, inr, ℕ, zero, suc, ◌+◌, List, [], ◌∷◌, ◌++◌, map, replicate, length, slice_set, Some, refl, ap, sym, ◌∙◌, arith, add-one}
 use Rattle.std.proofs.lemmas.List.{length-map, length-replicate, map-append, replicate_more}
-use Rattle.std.proofs.lemmas.Option.{slice_get-get_or}
 use Rattle.curp_base.specs.Words.{At, numbered, numbers_from}
 use Rattle.curp_base.proofs.Lists.{at_set_cases, at_map, at_push_cases}
 use Rattle.curp_msg.specs.Moved.{Node}

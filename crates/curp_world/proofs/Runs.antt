@@ -1,28 +1,24 @@
 -- Runs of one step more.
-use Rattle.std.proofs.Common.{◌≡◌, ◌≢◌, ◌↔◌, IfOk, ◌&&◌, if◌then◌else◌, Bool, true, false, not, Option, Some, None, ◌≤◌, arith, ℕ, List, [], ◌∷◌, ◌++◌, Result, Ok, Err, OnOk, OnErr, refl, ap, sym, ◌∙◌, subst}
+use Rattle.std.proofs.Common.{◌≡◌, if◌then◌else◌, Bool, true, false, not, Option, Some, None, ◌≤◌, arith, ℕ, List, [], ◌∷◌, ◌++◌, Result, Ok, Err, OnOk, OnErr, refl, ap, sym, ◌∙◌, subst}
 use Rattle.std.proofs.lemmas.Bool.Decides.{nat_tests}
 use Rattle.curp_base.proofs.Lists.{Each-append}
 use Rattle.curp_cmd.specs.declared.entry.Entry.{Entry}
 use Rattle.curp_facts.specs.Marked.{marks_of}
 use Rattle.curp_facts.specs.Shape.{HasShape}
 use Rattle.curp_script.specs.Built.{is_built}
-use Rattle.curp_script.specs.Headers.{bad_field, is_within, most_parts}
+use Rattle.curp_script.specs.Headers.{bad_field, is_within}
 use Rattle.curp_script.specs.declared.error.FieldName.TheVariants.{Clients, F, Fast, Parts, Sets, Ways}
-use Rattle.curp_script.specs.declared.error.Word.TheVariants as word
 use Rattle.curp_msg.specs.declared.script.Header.{Header}
 use Rattle.curp_msg.specs.declared.script.Step.{Step}
 use Rattle.curp_facts.specs.Built.{CanStep, IsScript}
-use Rattle.curp_facts.specs.Run.{IsHeader, IsRun, IsStep}
+use Rattle.curp_facts.specs.Run.{IsHeader, IsStep}
 use Rattle.curp_msg.specs.declared.script.Protocol.{Protocol}
 use Rattle.curp_msg.specs.declared.script.Protocol.TheVariants.{One}
 use Rattle.curp_script.specs.declared.error.FieldName.{FieldName}
 use Rattle.curp_model.specs.Marks.{Mark}
 use Rattle.curp_model.specs.Master.{MasterState}
 use Rattle.curp_model.specs.Recovery.{Serving}
-use Rattle.curp_model.specs.World.{World, Stepped, step, run, opening, world}
-use Rattle.curp_msg.specs.declared.outcome.Outcome.{Outcome}
-use Rattle.curp_msg.specs.declared.outcome.StepResult.{StepResult}
-use Rattle.curp_msg.specs.declared.outcome.StepResult.TheVariants.{Done}
+use Rattle.curp_model.specs.World.{World, step, run, opening, world}
 use Rattle.curp_world.specs.Nodes.{first_log, remarked}
 use Rattle.curp_world.specs.Reached.{Reached}
 

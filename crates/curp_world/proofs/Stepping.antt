@@ -1,5 +1,5 @@
 -- A step, by what it gives a node or by the node that it stops.
-use Rattle.std.proofs.Common.{◌≡◌, ◌≢◌, ◌==◌, ◌&&◌, ◌||◌, if◌then◌else◌, nat_lt, ℕ, zero, suc, Bool, true, false, not, List, [], ◌∷◌, ◌++◌, Option, Some, None, is_some, append-nil, refl, ap, sym, ◌∙◌, subst}
+use Rattle.std.proofs.Common.{◌≡◌, ◌==◌, ◌&&◌, ◌||◌, if◌then◌else◌, nat_lt, ℕ, zero, suc, Bool, true, false, not, List, [], ◌∷◌, ◌++◌, Option, Some, None, is_some, refl, ap}
 use Rattle.std.specs.List.{list_all, list_any}
 use Rattle.std.specs.Option.{option_map}
 use Rattle.curp_base.specs.Cases.{first_case, only_if}
@@ -8,14 +8,14 @@ use Rattle.curp_cmd.specs.Node.{client_node, manager_node, master_node, same_nod
 use Rattle.curp_cmd.specs.declared.command.Command.{Command}
 use Rattle.curp_cmd.specs.declared.node.NodeId.{NodeId}
 use Rattle.curp_facts.specs.Sent.{IsBuilt}
-use Rattle.curp_model.specs.World.{Deed, Gives, Stepped, World, delivery, effect, has_node, is_stopped, is_too_much, kept, messages, refused, step, steps_by, subject, weight, weight_limit}
+use Rattle.curp_model.specs.World.{Deed, World, delivery, effect, has_node, is_stopped, is_too_much, kept, messages, refused, step, steps_by, subject, weight, weight_limit}
 use Rattle.curp_msg.specs.Moved.{quiet}
 use Rattle.curp_msg.specs.declared.machine.Local.TheVariants as local
 use Rattle.curp_msg.specs.declared.message.Message.{Message}
 use Rattle.curp_msg.specs.declared.outcome.StepResult.{StepResult}
 use Rattle.curp_msg.specs.declared.outcome.StepResult.TheVariants.{Done, Full, Gone, Manager, NoMessage, NoNode, Refused}
 use Rattle.curp_msg.specs.declared.script.Step.TheVariants as steps
-use Rattle.curp_world.specs.Given.{IsMessageTo, barrier, gift_deed, goes, hands, taken_by}
+use Rattle.curp_world.specs.Given.{IsMessageTo, barrier, gift_deed, goes, hands}
 use Rattle.curp_world.specs.declared.given.Gift.TheVariants as gift
 
 -- ---- the result of what gives a node something

@@ -1,8 +1,6 @@
 use Rattle.std.proofs.Common.{◌≡◌, subst}
 use Rattle.curp_model.specs.World.{World, has_node}
 use Rattle.curp_world.specs.Nodes.{seen}
-use Rattle.curp_world.proofs.Stepping.{passed}
-use Rattle.curp_world.proofs.Keeping.{gift_gives}
 use Rattle.curp_world.proofs.cluster.Cluster.has_node.Goals as goal
 
 pub returns : goal.returns

@@ -1,13 +1,11 @@
 use Rattle.std.proofs.Common.{ap, sym, ◌∙◌}
 use Rattle.curp_base.specs.Words.{numbered}
-use Rattle.curp_cmd.specs.Node.{client_node, master_node}
 use Rattle.curp_cmd.specs.declared.node.NodeId.{NodeId}
-use Rattle.curp_model.specs.World.{World, messages, step}
+use Rattle.curp_model.specs.World.{messages, step}
 use Rattle.curp_msg.specs.declared.machine.Local.TheVariants.{Invoke, Sync}
 use Rattle.curp_msg.specs.declared.outcome.StepResult.TheVariants.{NoMessage}
-use Rattle.curp_msg.specs.declared.script.Step.TheVariants as steps
 use Rattle.curp_world.specs.Given.{hands}
-use Rattle.curp_world.specs.declared.given.Gift.TheVariants.{Message, Order}
+use Rattle.curp_world.specs.declared.given.Gift.TheVariants.{Order}
 use Rattle.curp_world.proofs.Keeping.{nothing_done, outcome_by, state_by}
 use Rattle.curp_world.proofs.Stepping.{delivers, invokes, loses, message_to, no_message, syncs}
 use Rattle.curp_world.proofs.cluster.Cluster.step.Goals as goal

@@ -1,6 +1,5 @@
 use Rattle.std.proofs.Common.{◌≡◌, true, false, ap, sym, ◌∙◌}
 use Rattle.curp_cmd.specs.Node.{manager_node, same_node}
-use Rattle.curp_cmd.specs.declared.node.NodeId.{NodeId}
 use Rattle.curp_model.specs.World.{World, has_node, is_stopped, step}
 use Rattle.curp_msg.specs.declared.outcome.StepResult.TheVariants.{Gone, Manager, NoNode}
 use Rattle.curp_msg.specs.declared.script.Step.TheVariants.{Stop}
