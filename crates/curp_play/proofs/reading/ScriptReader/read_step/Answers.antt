@@ -1,4 +1,5 @@
 use Rattle.std.proofs.Common.{arith}
+use Rattle.curp_play.specs.Reading.{due}
 use Rattle.curp_play.proofs.Scripts.{nothing_behind, step_given, stop_given, stop_passed, stops_long_at}
 use Rattle.curp_play.proofs.reading.ScriptReader.read_step.Goals as goal
 
@@ -7,7 +8,7 @@ returns-in_err-step_of_line-in-Line-clause-due g c =
     let behind = rw (← c.self.view_is) at c.requires.behind in
     let was = c.in_err-step_of_line-in-Line.was in
     rw (← c.self.view_is) (λ tells.
-    stop_passed _ _ _ c.in_err-step_of_line-in-Line.field-0.0 _
+    stop_passed _ (due (record { lines = c.next_line.new.self; invoked = c.step_of_line.new.invoked }) (g.S.Source.left c.next_line.new.source)) _ c.in_err-step_of_line-in-Line.field-0.0 _
     (stop_given (record { lines = c.self.inside.lines; invoked = c.self.inside.invoked }) c.args.number _ _ _ _
     behind.numbered (c.in-Line.ensures.bytes tells behind.going_on)
     (λ more. (rw (c.text-text.ensures, was) at c.step_of_line.ensures.stops) more))
