@@ -46,18 +46,29 @@ other_not_flagged c s e = go c.by
     go None = rw e refl
     go (Some by) = rw e refl
 
--- what a slot has in either case
-either_way : {A : Type 0} (g : Slot → A) (b : Bool) (s t : Slot) → g t ≡ g s → g (if b then t else s) ≡ g s
-either_way g true s t e = e
-either_way g false s t e = refl
-
 pub flags_keep_links : (c : Completed) → KeepsLinks (flagged_slot c)
 flags_keep_links c = record {
-  id = λ s. either_way (λ (t : Slot). t.mark.id) (is_flagged c c.by s.mark) s (record s { mark = record s.mark { completed = true } }) refl;
-  part = λ s. either_way (λ (t : Slot). t.mark.part) (is_flagged c c.by s.mark) s (record s { mark = record s.mark { completed = true } }) refl;
-  of_request = λ s. either_way (λ (t : Slot). t.earlier_of_request) (is_flagged c c.by s.mark) s (record s { mark = record s.mark { completed = true } }) refl;
-  of_part = λ s. either_way (λ (t : Slot). t.earlier_of_part) (is_flagged c c.by s.mark) s (record s { mark = record s.mark { completed = true } }) refl;
+  id = λ s. go_id s (is_flagged c c.by s.mark);
+  part = λ s. go_part s (is_flagged c c.by s.mark);
+  of_request = λ s. go_request s (is_flagged c c.by s.mark);
+  of_part = λ s. go_link s (is_flagged c c.by s.mark);
 }
+  where
+    go_id : (s : Slot) (b : Bool) → (if b then record s { mark = record s.mark { completed = true } } else s).mark.id ≡ s.mark.id
+    go_id s true = refl
+    go_id s false = refl
+
+    go_part : (s : Slot) (b : Bool) → (if b then record s { mark = record s.mark { completed = true } } else s).mark.part ≡ s.mark.part
+    go_part s true = refl
+    go_part s false = refl
+
+    go_request : (s : Slot) (b : Bool) → (if b then record s { mark = record s.mark { completed = true } } else s).earlier_of_request ≡ s.earlier_of_request
+    go_request s true = refl
+    go_request s false = refl
+
+    go_link : (s : Slot) (b : Bool) → (if b then record s { mark = record s.mark { completed = true } } else s).earlier_of_part ≡ s.earlier_of_part
+    go_link s true = refl
+    go_link s false = refl
 
 -- ---- adoptions
 
@@ -80,11 +91,27 @@ other_not_dropped part cut s e = rw e refl
 
 pub drops_keep_links : (part cut : ℕ) → KeepsLinks (dropped_slot part cut)
 drops_keep_links part cut = record {
-  id = λ s. either_way (λ (t : Slot). t.mark.id) (is_dropped part cut s.mark) s (record s { dropped = true }) refl;
-  part = λ s. either_way (λ (t : Slot). t.mark.part) (is_dropped part cut s.mark) s (record s { dropped = true }) refl;
-  of_request = λ s. either_way (λ (t : Slot). t.earlier_of_request) (is_dropped part cut s.mark) s (record s { dropped = true }) refl;
-  of_part = λ s. either_way (λ (t : Slot). t.earlier_of_part) (is_dropped part cut s.mark) s (record s { dropped = true }) refl;
+  id = λ s. go_id s (is_dropped part cut s.mark);
+  part = λ s. go_part s (is_dropped part cut s.mark);
+  of_request = λ s. go_request s (is_dropped part cut s.mark);
+  of_part = λ s. go_link s (is_dropped part cut s.mark);
 }
+  where
+    go_id : (s : Slot) (b : Bool) → (if b then record s { dropped = true } else s).mark.id ≡ s.mark.id
+    go_id s true = refl
+    go_id s false = refl
+
+    go_part : (s : Slot) (b : Bool) → (if b then record s { dropped = true } else s).mark.part ≡ s.mark.part
+    go_part s true = refl
+    go_part s false = refl
+
+    go_request : (s : Slot) (b : Bool) → (if b then record s { dropped = true } else s).earlier_of_request ≡ s.earlier_of_request
+    go_request s true = refl
+    go_request s false = refl
+
+    go_link : (s : Slot) (b : Bool) → (if b then record s { dropped = true } else s).earlier_of_part ≡ s.earlier_of_part
+    go_link s true = refl
+    go_link s false = refl
 
 -- ---- what is asked of the marks
 

@@ -268,26 +268,6 @@ mod tests {
         Ok(())
     }
 
-    // Both masters of the opening captured it, of two partitions, so under one epoch and one number. It has completed, so
-    // that an adoption of nothing leaves it, and the update before it comes behind it.
-    #[test]
-    fn a_read_stands_where_its_value_was_captured(rt: HostRuntime) -> Result<(), Fail> {
-        let (update, read) = (update()?, read()?);
-        let mut line = Line::new(rt.alloc());
-        line.reserve(4)?;
-        line.looked(FIRST, 1, 1, 1, 0, id(1, 1), read);
-        line.executed(SECOND, 2, 1, 0, id(2, 1), update);
-        line.looked(SECOND, 2, 1, 1, 1, id(1, 1), read);
-        line.completed(&read_by(id(1, 1), SECOND, 1));
-        let order = [id(2, 1), id(1, 1)];
-        assert_eq!(rt; ids(&line)?.as_slice(), order.as_slice());
-        let again = [replayed(id(2, 1), update)];
-        line.adopted(FIRST, 2, 2, 0, &again);
-        let order = [id(1, 1), id(2, 1)];
-        assert_eq!(rt; ids(&line)?.as_slice(), order.as_slice());
-        Ok(())
-    }
-
     // Of 10,000 updates in two partitions half of those of the one complete. The first log that is adopted for it has a
     // thousand entries, so 2,000 of the others are dropped; 64 of these are replayed, each by a master of its own, and
     // with it one that completed.
