@@ -1,6 +1,6 @@
 -- The order of ids, and what waits in it.
-use Rattle.std.proofs.Common.{◌≡◌, inl, inr, ℕ, zero, suc, ◌||◌, ◌<◌, Bool, true, false, cond, List, [], ◌∷◌, length, get_or, set, Result, Ok, Err, IfOk, IfErr, refl, ap, sym, ◌∙◌, subst, arith, add-one}
-use Rattle.std.specs.List.{filter, insert}
+use Rattle.std.proofs.Common.{◌≡◌, inl, inr, ℕ, zero, suc, ◌||◌, ◌&&◌, ◌<◌, Bool, true, false, cond, not, List, [], ◌∷◌, length, get_or, set, Result, Ok, Err, IfOk, IfErr, refl, ap, sym, ◌∙◌, subst, arith, add-one}
+use Rattle.std.specs.List.{filter, insert, list_any}
 use Rattle.std.specs.List.Sorted.{IsSearchInRange, IsBinarySearchResult, IsSortedBy}
 use Rattle.std.specs.Ordering.{is_lt, ordering_reverse}
 use Rattle.std.specs.declared.cmp.Ordering.TheVariants.{Less, Equal, Greater}

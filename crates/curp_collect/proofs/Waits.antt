@@ -1,6 +1,6 @@
 -- The ids in their order, with their lengths, as ids come and leave.
-use Rattle.std.proofs.Common.{◌≡◌, ℕ, zero, suc, ◌||◌, ◌&&◌, nat_le, max, Bool, true, false, cond, not, List, [], ◌∷◌, ◌++◌, map, get_or, set, refl, ap, sym, ◌∙◌, subst, arith}
-use Rattle.std.specs.List.{filter, insert}
+use Rattle.std.proofs.Common.{◌≡◌, ℕ, zero, suc, ◌||◌, ◌&&◌, ◌<◌, nat_le, max, Bool, true, false, cond, not, List, [], ◌∷◌, ◌++◌, length, map, get_or, set, refl, ap, sym, ◌∙◌, subst, arith}
+use Rattle.std.specs.List.{filter, insert, list_any}
 use Rattle.std.specs.declared.cmp.Ordering.TheVariants.{Less}
 use Rattle.curp_base.specs.Words.{Each}
 use Rattle.curp_cmd.proofs.Ids.{same_id-self, same_id-true}

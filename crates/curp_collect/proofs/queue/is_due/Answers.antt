@@ -1,4 +1,5 @@
-use Rattle.std.proofs.Common.{refl}
+use Rattle.std.proofs.Common.{◌≡◌, false, refl}
+use Rattle.curp_collect.specs.Queue.{length_of, waits_for}
 use Rattle.curp_collect.specs.declared.queue.Wait.{Wait}
 use Rattle.curp_collect.proofs.Ids.{none_in_gap, waits_at}
 use Rattle.curp_collect.proofs.Waits.{length_at}
