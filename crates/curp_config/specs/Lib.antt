@@ -1,3 +1,0 @@
-pub mod Parts
-pub mod Refusals
-pub mod Work
