@@ -419,30 +419,4 @@ mod tests {
         assert!(rt; witness.holds(&b.id));
         Ok(())
     }
-
-    // What was dropped leaves its room to as many others; the ids of those that were rejected are passed over.
-    #[test]
-    fn drops_as_many_requests_as_it_has_slots(rt: HostRuntime) -> Result<(), Fail> {
-        let mut ids = Vec::new(rt.alloc());
-        for client in 1..=20000_u32 {
-            ids.push(RequestId { client, seq: 1 })?;
-        }
-        let mut witness = Witness::new(rt.alloc(), 1024, 16)?;
-        assert_eq!(rt; witness.start(1, 1), Ok(()));
-        fill(&mut witness, 1)?;
-        assert_eq!(rt; witness.gc(1, &ids)?.len(), 0);
-        fill(&mut witness, 2)?;
-        let frozen = witness.freeze()?;
-        assert_eq!(rt; frozen.len(), 1024 * 16);
-        Ok(())
-    }
-
-    // More requests than it has slots come, each with that number of its client.
-    fn fill(witness: &mut Witness, seq: u32) -> Result<(), Fail> {
-        for number in 1..=20000_u32 {
-            let request = put(number, seq, &number.to_be_bytes(), b"1")?;
-            let _answer = witness.hold(1, &request);
-        }
-        Ok(())
-    }
 }
