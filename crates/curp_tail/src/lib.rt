@@ -5,5 +5,5 @@ pub mod laws;
 mod tail;
 mod touched;
 
-pub use tail::{Tail, TailEntry};
+pub use tail::{Moved, Tail, TailEntry};
 pub use touched::Touched;

@@ -1,13 +1,18 @@
-ghost use Rattle.std.specs.Prelude.{◌≡◌, ℕ, ◌+◌, ◌<◌, ◌^◌, nat_le, [], ◌++◌, length, filter, OnOk, OnErr};
+ghost use Rattle.std.specs.Prelude.{◌≡◌, ℕ, ◌+◌, ◌*◌, ◌<◌, ◌≤◌, ◌^◌, ◌==◌, nat_le, nat_eq, if◌then◌else◌, [], ◌∷◌, ◌++◌, length, drop, filter, vec_capacity, Some, OnOk, OnErr};
+ghost use Rattle.std.specs.HashMap.{get, spare};
 ghost use Rattle.std.specs.List.{list_any};
+ghost use Rattle.std.specs.VecDeque.{deque_capacity};
 ghost use Rattle.curp_base.specs.Words.{Each};
 ghost use Rattle.curp_cmd.specs.Hash.{hashes};
-ghost use Rattle.curp_tail.specs.Tail.{is_dirty, tail_from};
+ghost use Rattle.curp_range.specs.Spans.{is_in};
+ghost use Rattle.curp_tail.specs.Tail.{IndexesRise, is_dirty, tail_from, touched_of};
+ghost use Rattle.curp_tail.specs.Kept.{LastsAre, is_this, moved_of, names, ranges_in, without_last};
 
 use crate::Touched;
 use curp_base::NoMemory;
 use curp_cmd::{Command, Entry, Hashes};
-use std::alloc::Global;
+use std::alloc::{AllocError, Global};
+use std::collections::{HashMap, VecDeque};
 use std::marker::Model;
 
 /// What is kept of an entry: its place in the log, counted from 0, and what it touches.
@@ -17,23 +22,43 @@ pub struct TailEntry {
     pub touched: Touched,
 }
 
+/// A whole range that an entry moves, both ends counted, and the entry's place.
+#[derive(Clone, Copy, Debug)]
+pub struct Moved {
+    pub index: u64,
+    pub lo: u64,
+    pub hi: u64,
+}
+
+impl Moved {
+    fn covers(&self, hash: u64) -> bool
+        ensures { result ≡ is_in self.now.lo self.now.hi hash }
+    {
+        self.lo <= hash && hash <= self.hi
+    }
+}
+
 /// The entries of a log that aren't synced, by what they touch: those that were added and not forgotten, in the order
 /// of their places.
-#[derive(Debug, Drop)]
+#[derive(Drop)]
 pub struct Tail {
-    entries: Vec<TailEntry>,
+    entries: VecDeque<TailEntry>,
+    // Of each hash that a command of an entry names, the last such entry.
+    lasts: HashMap<u64, u64>,
+    ranges: Vec<Moved>,
 }
 
 impl Model for Tail {
-    ghost use Rattle.std.specs.Prelude.{List};
+    ghost use Rattle.std.specs.Prelude.{List, nat_eq};
+    ghost use Rattle.std.specs.HashMap.{get};
     ghost use Rattle.curp_tail.specs.declared.tail.TailEntry.{TailEntry};
-    ghost use Rattle.curp_tail.specs.Tail.{IndexesRise};
+    ghost use Rattle.curp_tail.specs.Kept.{IsTail};
 
     ghost Value = { List TailEntry };
 
     ghost view = { λ t. t.entries.items };
 
-    ghost invariant = { λ t. IndexesRise t.entries.items };
+    ghost invariant = { λ t. IsTail t.entries.items (get nat_eq t.lasts) t.ranges.items };
 }
 
 impl Tail {
@@ -42,15 +67,17 @@ impl Tail {
         ensures { result ≡ [] }
     {
         Tail {
-            entries: Vec::new(alloc),
+            entries: VecDeque::new(alloc),
+            lasts: HashMap::new(alloc),
+            ranges: Vec::new(alloc),
         }
     }
 
-    /// Whether some entry touches the hash. It takes no memory.
+    /// Whether some entry touches the hash. It takes no memory, and looks at no entry but those that move a range.
     pub fn is_dirty(&self, hash: u64) -> bool
         ensures { result ≡ is_dirty self.now hash }
     {
-        self.entries.iter().any(|entry| entry.touched.touches(hash))
+        self.lasts.contains_key(&hash) || covers(&self.ranges, hash)
     }
 
     /// Whether some entry touches a hash of the command. It takes no memory.
@@ -70,13 +97,18 @@ impl Tail {
         ensures added { OnOk result (self.new ≡ self.old ++ tail_from index entries.now) }
         ensures err { OnErr result (self.new ≡ self.old) }
     {
+        // No command names more than four keys.
+        let hashes = entries.len().checked_mul(4).ok_or(AllocError)?;
         self.entries.reserve(entries.len())?;
-        for (at, entry) in entries.iter().enumerate() {
-            self.entries.push_reserved(TailEntry {
-                index: index + at as u64,
-                touched: Touched::of(entry),
-            });
-        }
+        self.ranges.reserve(entries.len())?;
+        self.lasts.reserve(hashes)?;
+        keep_all(
+            &mut self.entries,
+            &mut self.lasts,
+            &mut self.ranges,
+            entries,
+            index,
+        );
         Ok(())
     }
 
@@ -85,7 +117,169 @@ impl Tail {
         ensures { self.new ≡ filter (λ entry. nat_le length entry.index) self.old }
     {
         let forgotten = self.entries.partition_point(|entry| entry.index < length);
-        self.entries.drain(..forgotten);
+        forget_front(&mut self.entries, &mut self.lasts, forgotten);
+        self.ranges.retain(|moved| moved.index >= length);
+    }
+}
+
+fn covers(ranges: &[Moved], hash: u64) -> bool
+    ensures { result ≡ list_any (λ moved. is_in moved.lo moved.hi hash) ranges.now }
+{
+    ranges.iter().any(|moved| moved.covers(hash))
+}
+
+/// Keeps entries that stand from that index on. It takes no memory.
+fn keep_all(
+    kept: &mut VecDeque<TailEntry>,
+    lasts: &mut HashMap<u64, u64>,
+    ranges: &mut Vec<Moved>,
+    entries: &[Entry],
+    index: u64,
+)
+    requires fits { index + length entries.now < 2 ^ 64 }
+    requires kept_room { length kept.old.items + length entries.now ≤ deque_capacity kept.old }
+    requires ranges_room { length ranges.old.items + length entries.now ≤ vec_capacity ranges.old }
+    requires lasts_room { 4 * length entries.now ≤ spare lasts.old }
+    requires lasts_are { LastsAre (get nat_eq lasts.old) kept.old.items }
+    requires ranges_are { ranges.old.items ≡ ranges_in kept.old.items }
+    ensures items { kept.new.items ≡ kept.old.items ++ tail_from index entries.now }
+    ensures lasts { LastsAre (get nat_eq lasts.new) kept.new.items }
+    ensures ranges { ranges.new.items ≡ ranges_in kept.new.items }
+{
+    for (at, entry) in entries.iter().enumerate() {
+        keep(kept, lasts, ranges, entry, index + at as u64);
+    }
+}
+
+/// Keeps an entry behind the others.
+fn keep(
+    kept: &mut VecDeque<TailEntry>,
+    lasts: &mut HashMap<u64, u64>,
+    ranges: &mut Vec<Moved>,
+    entry: &Entry,
+    index: u64,
+)
+    requires kept_room { length kept.old.items < deque_capacity kept.old }
+    requires ranges_room { length ranges.old.items < vec_capacity ranges.old }
+    requires lasts_room { 4 ≤ spare lasts.old }
+    ensures items { kept.new.items ≡ kept.old.items ++ record { index = index; touched = touched_of entry.now } ∷ [] }
+    ensures kept_capacity { deque_capacity kept.new ≡ deque_capacity kept.old }
+    ensures ranges { ranges.new.items ≡ ranges.old.items ++ moved_of index (touched_of entry.now) }
+    ensures ranges_capacity { vec_capacity ranges.new ≡ vec_capacity ranges.old }
+    ensures lasts { (hash : ℕ) → get nat_eq lasts.new hash
+        ≡ (if names hash (touched_of entry.now) then Some index else get nat_eq lasts.old hash) }
+    ensures lasts_spare { spare lasts.old ≤ spare lasts.new + 4 }
+{
+    let touched = Touched::of(entry);
+    keep_beside(lasts, ranges, &touched, index);
+    kept.push_back_reserved(TailEntry { index, touched });
+}
+
+fn keep_beside(
+    lasts: &mut HashMap<u64, u64>,
+    ranges: &mut Vec<Moved>,
+    touched: &Touched,
+    index: u64,
+)
+    requires ranges_room { length ranges.old.items < vec_capacity ranges.old }
+    requires lasts_room { 4 ≤ spare lasts.old }
+    ensures ranges { ranges.new.items ≡ ranges.old.items ++ moved_of index touched.now }
+    ensures ranges_capacity { vec_capacity ranges.new ≡ vec_capacity ranges.old }
+    ensures lasts { (hash : ℕ) → get nat_eq lasts.new hash
+        ≡ (if names hash touched.now then Some index else get nat_eq lasts.old hash) }
+    ensures lasts_spare { spare lasts.old ≤ spare lasts.new + 4 }
+{
+    match touched {
+        Touched::Hashes(hashes) => note_all(lasts, hashes, index),
+        Touched::Range { lo, hi } => ranges.push_reserved(Moved {
+            index,
+            lo: *lo,
+            hi: *hi,
+        }),
+        Touched::Nothing => {}
+    }
+}
+
+/// The entry at that index is the last one that names each of the hashes.
+fn note_all(lasts: &mut HashMap<u64, u64>, hashes: &Hashes, index: u64)
+    requires { 4 ≤ spare lasts.old }
+    ensures lasts { (hash : ℕ) → get nat_eq lasts.new hash
+        ≡ (if list_any (λ h. h == hash) hashes.now then Some index else get nat_eq lasts.old hash) }
+    ensures spare { spare lasts.old ≤ spare lasts.new + 4 }
+{
+    for at in 0..hashes.count() {
+        note(lasts, hashes.as_slice()[at], index);
+    }
+}
+
+fn note(lasts: &mut HashMap<u64, u64>, hash: u64, index: u64)
+    requires { 1 ≤ spare lasts.old }
+    ensures lasts { (other : ℕ) → get nat_eq lasts.new other
+        ≡ (if hash == other then Some index else get nat_eq lasts.old other) }
+    ensures spare { spare lasts.old ≤ spare lasts.new + 1 }
+{
+    let noted: Result<_, _> = lasts.insert(hash, index);
+    noted.unwrap();
+}
+
+/// Forgets so many of the first entries.
+fn forget_front(entries: &mut VecDeque<TailEntry>, lasts: &mut HashMap<u64, u64>, count: usize)
+    requires within { count ≤ length entries.old.items }
+    requires rise { IndexesRise entries.old.items }
+    requires lasts { LastsAre (get nat_eq lasts.old) entries.old.items }
+    ensures items { entries.new.items ≡ drop count entries.old.items }
+    ensures lasts { LastsAre (get nat_eq lasts.new) entries.new.items }
+{
+    for _ in 0..count {
+        forget_first(entries, lasts);
+    }
+}
+
+fn forget_first(entries: &mut VecDeque<TailEntry>, lasts: &mut HashMap<u64, u64>)
+    requires rise { IndexesRise entries.old.items }
+    requires lasts { LastsAre (get nat_eq lasts.old) entries.old.items }
+    ensures items { entries.new.items ≡ drop 1 entries.old.items }
+    ensures lasts { LastsAre (get nat_eq lasts.new) entries.new.items }
+{
+    if let Some(entry) = entries.pop_front() {
+        forget(lasts, &entry.touched, entry.index);
+    }
+}
+
+/// The entry at that index is gone: it is the last one for none of its hashes any more.
+fn forget(lasts: &mut HashMap<u64, u64>, touched: &Touched, index: u64)
+    ensures { (hash : ℕ) → get nat_eq lasts.new hash
+        ≡ without_last (names hash touched.now) index (get nat_eq lasts.old hash) }
+{
+    if let Touched::Hashes(hashes) = touched {
+        forget_all(lasts, hashes.as_slice(), index);
+    }
+}
+
+fn forget_all(lasts: &mut HashMap<u64, u64>, hashes: &[u64], index: u64)
+    ensures { (hash : ℕ) → get nat_eq lasts.new hash
+        ≡ without_last (list_any (λ h. h == hash) hashes.now) index (get nat_eq lasts.old hash) }
+{
+    for hash in hashes {
+        forget_one(lasts, *hash, index);
+    }
+}
+
+fn forget_one(lasts: &mut HashMap<u64, u64>, hash: u64, index: u64)
+    ensures { (other : ℕ) → get nat_eq lasts.new other
+        ≡ without_last (hash == other) index (get nat_eq lasts.old other) }
+{
+    if is_last(lasts, hash, index) {
+        lasts.remove(&hash);
+    }
+}
+
+fn is_last(lasts: &HashMap<u64, u64>, hash: u64, index: u64) -> bool
+    ensures { result ≡ is_this index (get nat_eq lasts.now hash) }
+{
+    match lasts.get(&hash).copied() {
+        Some(last) => last == index,
+        None => false,
     }
 }
 
@@ -158,6 +352,24 @@ mod tests {
                 dirty[2]
             );
         }
+        Ok(())
+    }
+
+    // A thousand entries name one hash: it is dirty until the last of them is synced.
+    #[test]
+    fn keeps_a_hash_until_its_last_entry(rt: HostRuntime) -> Result<(), Fail> {
+        let alloc = rt.alloc();
+        let a = Key::new(b"a")?;
+        let mut entries = Vec::new(alloc);
+        for _ in 0..1000 {
+            entries.push(op(Command::Incr(a)))?;
+        }
+        let mut tail = Tail::new(alloc);
+        tail.add(&entries, 0)?;
+        tail.synced(999);
+        assert_eq!(rt; tail.is_dirty(A), true);
+        tail.synced(1000);
+        assert_eq!(rt; tail.is_dirty(A), false);
         Ok(())
     }
 }
