@@ -25,6 +25,11 @@ tail_appended index (x ∷ xs) ys =
     let there : index + length (x ∷ xs) ≡ (index + 1) + length xs = omega arith in
     rw there (ap (λ tail. record { index = index; touched = touched_of x } ∷ tail) (tail_appended (index + 1) xs ys))
 
+-- as many are kept as there are entries
+pub tail_length : (index : ℕ) (entries : List Entry) → length (tail_from index entries) ≡ length entries
+tail_length index [] = refl
+tail_length index (e ∷ es) = ap suc (tail_length (index + 1) es)
+
 -- one more entry is added
 pub added_more : (old tail : List TailEntry) (index : ℕ) (entries : List Entry) (at : ℕ) (e : Entry) → at < length entries → e ≡ get_or entries at e → tail ≡ old ++ tail_from index (take at entries)
     → tail ++ record { index = index + at; touched = touched_of e } ∷ [] ≡ old ++ tail_from index (take (at + 1) entries)

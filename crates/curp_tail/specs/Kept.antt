@@ -7,6 +7,11 @@ use Rattle.curp_tail.specs.declared.touched.Touched.{Touched}
 use Rattle.curp_tail.specs.declared.touched.Touched.TheVariants.{Hashes, Range, Nothing}
 use Rattle.curp_tail.specs.declared.tail.Moved.{Moved}
 
+-- the entries that are kept, in the order of their places, and for how many more hashes there is room
+pub record Kept : Type 0 where
+  pub entries : List TailEntry
+  pub spare : ℕ
+
 -- a command names the hash
 abbrev pub names : ℕ → Touched → Bool
 names hash (Hashes hashes) = list_any (λ h. h == hash) hashes

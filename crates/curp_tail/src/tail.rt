@@ -39,7 +39,7 @@ impl Moved {
 }
 
 /// The entries of a log that aren't synced, by what they touch: those that were added and not forgotten, in the order
-/// of their places.
+/// of their places. Contracts see them, and for how many more hashes there is room; an entry has four at most.
 #[derive(Drop)]
 pub struct Tail {
     entries: VecDeque<TailEntry>,
@@ -49,14 +49,18 @@ pub struct Tail {
 }
 
 impl Model for Tail {
-    ghost use Rattle.std.specs.Prelude.{List, nat_eq};
-    ghost use Rattle.std.specs.HashMap.{get};
-    ghost use Rattle.curp_tail.specs.declared.tail.TailEntry.{TailEntry};
-    ghost use Rattle.curp_tail.specs.Kept.{IsTail};
+    ghost use Rattle.std.specs.Prelude.{◌-◌, min, nat_eq, length, vec_len, vec_capacity};
+    ghost use Rattle.std.specs.HashMap.{get, spare};
+    ghost use Rattle.std.specs.VecDeque.{deque_capacity};
+    ghost use Rattle.curp_tail.specs.Kept.{Kept, IsTail};
 
-    ghost Value = { List TailEntry };
+    ghost Value = { Kept };
 
-    ghost view = { λ t. t.entries.items };
+    ghost view = { λ t. record {
+      entries = t.entries.items;
+      spare = min (deque_capacity t.entries - length t.entries.items)
+          (min (vec_capacity t.ranges - vec_len t.ranges) (spare t.lasts));
+    } };
 
     ghost invariant = { λ t. IsTail t.entries.items (get nat_eq t.lasts) t.ranges.items };
 }
@@ -64,7 +68,7 @@ impl Model for Tail {
 impl Tail {
     /// A tail without entries. It takes no memory.
     pub fn new(alloc: Global) -> Tail
-        ensures { result ≡ [] }
+        ensures { result.entries ≡ [] }
     {
         Tail {
             entries: VecDeque::new(alloc),
@@ -75,14 +79,14 @@ impl Tail {
 
     /// Whether some entry touches the hash. It takes no memory, and looks at no entry but those that move a range.
     pub fn is_dirty(&self, hash: u64) -> bool
-        ensures { result ≡ is_dirty self.now hash }
+        ensures { result ≡ is_dirty self.now.entries hash }
     {
         self.lasts.contains_key(&hash) || covers(&self.ranges, hash)
     }
 
     /// Whether some entry touches a hash of the command. It takes no memory.
     pub fn covers_dirty(&self, command: &Command) -> bool
-        ensures { result ≡ list_any (is_dirty self.now) (hashes command.now) }
+        ensures { result ≡ list_any (is_dirty self.now.entries) (hashes command.now) }
     {
         Hashes::of(command)
             .as_slice()
@@ -90,18 +94,26 @@ impl Tail {
             .any(|hash| self.is_dirty(*hash))
     }
 
-    /// Adds entries that stand from that index on, all or none.
-    pub fn add(&mut self, entries: &[Entry], index: u64) -> Result<(), NoMemory>
-        requires below { Each (λ entry. entry.index < index) self.old }
-        requires fits { index + length entries.now < 2 ^ 64 }
-        ensures added { OnOk result (self.new ≡ self.old ++ tail_from index entries.now) }
-        ensures err { OnErr result (self.new ≡ self.old) }
+    /// Makes room for so many more entries.
+    pub fn reserve(&mut self, entries: u64) -> Result<(), NoMemory>
+        ensures entries { self.new.entries ≡ self.old.entries }
+        ensures room { OnOk result (4 * entries ≤ self.new.spare) }
     {
         // No command names more than four keys.
-        let hashes = entries.len().checked_mul(4).ok_or(AllocError)?;
-        self.entries.reserve(entries.len())?;
-        self.ranges.reserve(entries.len())?;
-        self.lasts.reserve(hashes)?;
+        let hashes = (entries as usize).checked_mul(4).ok_or(AllocError)?;
+        self.entries.reserve(hashes)?;
+        self.ranges.reserve(hashes)?;
+        self.lasts.reserve(hashes)
+    }
+
+    /// Adds entries that stand from that index on. It takes no memory, since there is room.
+    pub fn add(&mut self, entries: &[Entry], index: u64)
+        requires room { 4 * length entries.now ≤ self.old.spare }
+        requires below { Each (λ entry. entry.index < index) self.old.entries }
+        requires fits { index + length entries.now < 2 ^ 64 }
+        ensures added { self.new.entries ≡ self.old.entries ++ tail_from index entries.now }
+        ensures spare { self.old.spare ≤ self.new.spare + 4 * length entries.now }
+    {
         keep_all(
             &mut self.entries,
             &mut self.lasts,
@@ -109,12 +121,11 @@ impl Tail {
             entries,
             index,
         );
-        Ok(())
     }
 
     /// Forgets the entries below that length of the log, which is synced. It takes no memory.
     pub fn synced(&mut self, length: u64)
-        ensures { self.new ≡ filter (λ entry. nat_le length entry.index) self.old }
+        ensures { self.new.entries ≡ filter (λ entry. nat_le length entry.index) self.old.entries }
     {
         let forgotten = self.entries.partition_point(|entry| entry.index < length);
         forget_front(&mut self.entries, &mut self.lasts, forgotten);
@@ -145,6 +156,10 @@ fn keep_all(
     ensures items { kept.new.items ≡ kept.old.items ++ tail_from index entries.now }
     ensures lasts { LastsAre (get nat_eq lasts.new) kept.new.items }
     ensures ranges { ranges.new.items ≡ ranges_in kept.new.items }
+    ensures kept_capacity { deque_capacity kept.new ≡ deque_capacity kept.old }
+    ensures ranges_capacity { vec_capacity ranges.new ≡ vec_capacity ranges.old }
+    ensures ranges_longer { length ranges.new.items ≤ length ranges.old.items + length entries.now }
+    ensures lasts_spare { spare lasts.old ≤ spare lasts.new + 4 * length entries.now }
 {
     for (at, entry) in entries.iter().enumerate() {
         keep(kept, lasts, ranges, entry, index + at as u64);
@@ -331,7 +346,8 @@ mod tests {
             Entry::Expire { client: 1 },
         ];
         let mut tail = Tail::new(alloc);
-        tail.add(&entries, 10)?;
+        tail.reserve(4)?;
+        tail.add(&entries, 10);
         let rows = [
             (9, [true, true, true, false, true, true, false]),
             (10, [true, true, true, false, true, true, false]),
@@ -365,7 +381,9 @@ mod tests {
             entries.push(op(Command::Incr(a)))?;
         }
         let mut tail = Tail::new(alloc);
-        tail.add(&entries, 0)?;
+        tail.reserve(1000)?;
+        tail.add(&entries, 0);
+        assert!(rt; tail.reserve(u64::MAX).is_err());
         tail.synced(999);
         assert_eq!(rt; tail.is_dirty(A), true);
         tail.synced(1000);

@@ -32,4 +32,8 @@ loop-at-preserved c =
       kept_room = omega (arith, more, c.keep.ensures.kept_capacity, c.loop-at.invariant.kept_room);
       ranges_room = omega (arith, more_ranges, c.keep.ensures.ranges_capacity, c.loop-at.invariant.ranges_room);
       lasts_room = omega (arith, c.keep.ensures.lasts_spare, c.loop-at.invariant.lasts_room);
+      kept_capacity = c.keep.ensures.kept_capacity ∙ c.loop-at.invariant.kept_capacity;
+      ranges_capacity = c.keep.ensures.ranges_capacity ∙ c.loop-at.invariant.ranges_capacity;
+      ranges_longer = omega (arith, more_ranges, c.loop-at.invariant.ranges_longer);
+      lasts_spare = omega (arith, c.keep.ensures.lasts_spare, c.loop-at.invariant.lasts_spare);
     }

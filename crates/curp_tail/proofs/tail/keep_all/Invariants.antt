@@ -14,4 +14,8 @@ invariant-loop-at l = record {
   kept_room : length l.kept.items + (length l.entries - l.at) ≤ deque_capacity l.kept;
   ranges_room : length l.ranges.items + (length l.entries - l.at) ≤ vec_capacity l.ranges;
   lasts_room : 4 * (length l.entries - l.at) ≤ spare l.lasts;
+  kept_capacity : deque_capacity l.kept ≡ deque_capacity l.initial.kept;
+  ranges_capacity : vec_capacity l.ranges ≡ vec_capacity l.initial.ranges;
+  ranges_longer : length l.ranges.items ≤ length l.initial.ranges.items + l.at;
+  lasts_spare : spare l.initial.lasts ≤ spare l.lasts + 4 * l.at;
 }

@@ -8,5 +8,5 @@ use Rattle.curp_tail.proofs.tail.Tail.covers_dirty.Goals as goal
 
 pub returns : goal.returns
 returns c =
-    any_from_yields_List (is_dirty c.args.self.now) _ _ _ c.any.ensures.ran (YieldsList-from_slice (hashes_of c.args.command.now) cc) (λ x b q k. search (rules, tests))
-    ∙ sym (any_ascending (is_dirty c.args.self.now) (hashes_of c.args.command.now))
+    any_from_yields_List (is_dirty c.args.self.now.entries) _ _ _ c.any.ensures.ran (YieldsList-from_slice (hashes_of c.args.command.now) cc) (λ x b q k. search (rules, tests))
+    ∙ sym (any_ascending (is_dirty c.args.self.now.entries) (hashes_of c.args.command.now))
