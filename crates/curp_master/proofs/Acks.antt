@@ -1,6 +1,7 @@
 -- What backups have acknowledged, found and raised.
-use Rattle.std.proofs.Common.{◌≡◌, ℕ, zero, suc, ◌-◌, ◌≤◌, min, max, List, [], ◌∷◌, ◌++◌, length, get_or, set, take, drop, refl, ap, sym, ◌∙◌, subst, arith}
+use Rattle.std.proofs.Common.{◌≡◌, ℕ, zero, suc, ◌-◌, ◌≤◌, ◌==◌, ◌&&◌, nat_le, min, max, List, [], ◌∷◌, ◌++◌, length, get_or, set, take, drop, refl, ap, sym, ◌∙◌, subst, arith}
 use Rattle.std.specs.List.{fold}
+use Rattle.std.proofs.lemmas.Bool.Decides.{nat_tests}
 use Rattle.std.proofs.Math.Seq.{take-length}
 use Rattle.curp_cmd.specs.declared.node.NodeId.{NodeId}
 use Rattle.curp_model.specs.Master.{Acknowledged, from_backup, least, nothing_from, raised}
@@ -37,6 +38,13 @@ raised_there all b at long round d is f =
 pub raised_none : (all : List Acknowledged) (b : NodeId) (long round : ℕ) → NoneBelow all b (length all) → all ++ record { backup = b; length = long; round = round } ∷ [] ≡ raised all b long round
 raised_none [] b long round none = refl
 raised_none (a ∷ all) b long round none = rw (none 0 a (omega arith)) (ap (λ rest. a ∷ rest) (raised_none all b long round (λ k d l. none (suc k) d (omega arith))))
+
+-- a backup that has acknowledged nothing has so much only where nothing is asked
+pub none_has : (n : ℕ) → (n == 0) ≡ nat_le n 0
+none_has n = grind (arith, nat_tests)
+
+pub none_has_some : (n k : ℕ) → (n ≡ 0 → ⊥) → (n == 0) ≡ (nat_le n 0 && nat_le k 0)
+none_has_some n k some = grind (arith, nat_tests)
 
 -- ---- the least length
 

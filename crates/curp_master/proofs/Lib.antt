@@ -1,6 +1,8 @@
 pub mod Acks
 pub mod Beside
+pub mod Collections
 pub mod Ends
+pub mod Fresh
 pub mod Places
-pub mod Rounds
-pub mod Settling
+pub mod Suffixes
+pub mod Settled

@@ -1,9 +1,9 @@
--- Which messages and orders a master acts on until the others are built: the updates, what backups acknowledge, and the order
--- to begin a round.
+-- Which messages and orders a master acts on until the others are built: updates and reads, what backups acknowledge, new
+-- lists, and the orders to begin a round and to collect.
 use Rattle.std.specs.Prelude.{ℕ}
 use Rattle.curp_cmd.specs.declared.node.NodeId.{NodeId}
 use Rattle.curp_msg.specs.declared.body.Body.{Body}
-use Rattle.curp_msg.specs.declared.body.Body.TheVariants.{Update, Sync, Appended}
+use Rattle.curp_msg.specs.declared.body.Body.TheVariants.{Update, Sync, Read, Appended, Prepare, Adopted}
 use Rattle.curp_msg.specs.declared.machine.Input.{Input}
 use Rattle.curp_msg.specs.declared.machine.Input.TheVariants as input
 use Rattle.curp_msg.specs.declared.machine.Local.{Local}
@@ -15,12 +15,16 @@ use Rattle.curp_msg.specs.Moved.{Moved, Node, numbered_move, quiet}
 unfoldable pub on_built : ℕ → MasterState → NodeId → Body → Moved MasterState
 on_built n m from (Update ask) = on_serving n m from (Update ask)
 on_built n m from (Sync ask) = on_serving n m from (Sync ask)
+on_built n m from (Read ask) = on_serving n m from (Read ask)
 on_built n m from (Appended a) = on_serving n m from (Appended a)
+on_built n m from (Prepare p) = on_serving n m from (Prepare p)
+on_built n m from (Adopted a) = on_serving n m from (Adopted a)
 on_built n m from _ = quiet m
 
 -- an order comes to the serving master n
 unfoldable pub built_ordered : ℕ → MasterState → Local → Moved MasterState
 built_ordered n m local.Sync = serving_ordered n m local.Sync
+built_ordered n m local.Collect = serving_ordered n m local.Collect
 built_ordered n m _ = quiet m
 
 -- an input comes to the serving master n

@@ -2,5 +2,8 @@ pub mod Backups
 pub mod Built
 pub mod Indexes
 pub mod Journal
+pub mod Phases
 pub mod Rounds
+pub mod Settling
+pub mod Switching
 pub mod Updates

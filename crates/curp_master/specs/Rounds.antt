@@ -1,9 +1,13 @@
 -- Rounds that begin.
 use Rattle.std.specs.Prelude.{◌≡◌, ℕ, ◌+◌, List, ◌++◌, Option, Some, None}
 use Rattle.curp_cmd.specs.declared.entry.Entry.{Entry}
-use Rattle.curp_model.specs.Master.{MasterState, appends, last_round}
+use Rattle.curp_model.specs.Master.{MasterState, Phase, appends, last_round}
 use Rattle.curp_msg.specs.Moved.{Node}
 use Rattle.curp_master.specs.declared.round.Round.{Round}
+
+-- the master in a phase
+abbrev pub in_phase : Node MasterState → Phase → Node MasterState
+in_phase m phase = record m { state = record m.state { phase = phase } }
 
 -- the master at a round, with these entries behind its log
 abbrev pub at_round : MasterState → ℕ → List Entry → MasterState

@@ -1,5 +1,5 @@
-ghost use Rattle.std.specs.Prelude.{◌≡◌, map, length, fold, min, max, OnOk, IfOk, IfSome, IfNone};
-ghost use Rattle.curp_model.specs.Master.{from_backup, raised};
+ghost use Rattle.std.specs.Prelude.{◌≡◌, ◌&&◌, nat_le, map, length, fold, min, max, OnOk, IfOk, IfSome, IfNone};
+ghost use Rattle.curp_model.specs.Master.{all_have, from_backup, raised};
 ghost use Rattle.curp_cmd.specs.Node.{same_node};
 ghost use Rattle.curp_master.specs.Backups.{IsFirst, NoneBelow, stored_by_all};
 
@@ -45,6 +45,12 @@ impl Acknowledged {
         ensures { result ≡ same_node self.now.backup backup.now }
     {
         self.backup == *backup
+    }
+
+    fn has(&self, long: u64, round: u64) -> bool
+        ensures { result ≡ (nat_le long self.now.length && nat_le round self.now.round) }
+    {
+        long <= self.long && round <= self.round
     }
 
     // What is acknowledged never falls.
@@ -128,6 +134,30 @@ pub(crate) fn length_from(acknowledged: &[Acknowledged], backup: &NodeId) -> u64
     match place_of(acknowledged, backup) {
         Some(at) => acknowledged[at].length(),
         None => 0,
+    }
+}
+
+/// Whether each of these backups has acknowledged at least that length and that round.
+pub(crate) fn all_have(
+    acknowledged: &[Acknowledged],
+    backups: &[NodeId],
+    long: u64,
+    round: u64,
+) -> bool
+    ensures { result ≡ all_have acknowledged.now backups.now long round }
+{
+    backups
+        .iter()
+        .all(|backup| has(acknowledged, backup, long, round))
+}
+
+fn has(acknowledged: &[Acknowledged], backup: &NodeId, long: u64, round: u64) -> bool
+    ensures { result ≡ (nat_le long (from_backup acknowledged.now backup.now).length
+        && nat_le round (from_backup acknowledged.now backup.now).round) }
+{
+    match place_of(acknowledged, backup) {
+        Some(at) => acknowledged[at].has(long, round),
+        None => long == 0 && round == 0,
     }
 }
 

@@ -1,4 +1,4 @@
-ghost use Rattle.std.specs.Prelude.{◌≡◌, ◌<◌, ◌≤◌, nat_lt, not, [], ◌∷◌, ◌++◌, length, slice_index, filter};
+ghost use Rattle.std.specs.Prelude.{◌≡◌, ◌+◌, ◌<◌, ◌≤◌, nat_lt, not, [], ◌∷◌, ◌++◌, length, slice_index, filter};
 ghost use Rattle.std.specs.Prelude.{IfOk, IfErr, OnOk};
 ghost use Rattle.std.specs.BTreeSet.{insert_key};
 ghost use Rattle.std.specs.List.Sorted.{IsNonDecreasing};
@@ -38,12 +38,12 @@ impl Indexes {
         }
     }
 
-    /// Makes room for one more.
-    pub(crate) fn reserve(&mut self) -> Result<(), NoMemory>
+    /// Makes room for so many more.
+    pub(crate) fn reserve(&mut self, more: u64) -> Result<(), NoMemory>
         ensures numbers { self.new.numbers ≡ self.old.numbers }
-        ensures room { OnOk result (1 ≤ self.new.spare) }
+        ensures room { OnOk result (more ≤ self.new.spare) }
     {
-        self.numbers.reserve(1)
+        self.numbers.reserve(more as usize)
     }
 
     /// Puts an index at its place, unless it is there.
@@ -60,7 +60,8 @@ impl Indexes {
     pub(crate) fn push(&mut self, index: u64)
         requires room { 1 ≤ self.old.spare }
         requires last { Each (λ number. number < index) self.old.numbers }
-        ensures { self.new.numbers ≡ self.old.numbers ++ index ∷ [] }
+        ensures numbers { self.new.numbers ≡ self.old.numbers ++ index ∷ [] }
+        ensures spare { self.old.spare ≤ self.new.spare + 1 }
     {
         self.numbers.push_reserved(index);
     }

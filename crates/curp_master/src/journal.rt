@@ -1,32 +1,31 @@
-ghost use Rattle.std.specs.Prelude.{◌≡◌, ◌≤◌, ◌<◌, ◌+◌, not, [], ◌∷◌, ◌++◌, drop, length, OnOk, OnErr, IfOk};
+ghost use Rattle.std.specs.Prelude.{◌≡◌, ◌≤◌, ◌<◌, ◌+◌, ◌*◌, true, not, [], ◌∷◌, ◌++◌, drop, length, OnOk, OnErr, IfOk};
 ghost use Rattle.curp_base.specs.Words.{Each};
 ghost use Rattle.curp_cmd.specs.Entry.{room_of};
 ghost use Rattle.curp_cmd.specs.declared.entry.Entry.TheVariants.{Op};
-ghost use Rattle.curp_model.specs.Log.{answer_after, is_touched, meaning};
+ghost use Rattle.curp_model.specs.Log.{answer_after, fits_at, is_touched, meaning};
 ghost use Rattle.curp_model.specs.Master.{has};
 ghost use Rattle.curp_log.specs.Ops.{IsOp};
 ghost use Rattle.curp_tail.specs.Tail.{tail_of};
-ghost use Rattle.curp_master.specs.Journal.{CanPush, free_with, journal_of, with_op};
+ghost use Rattle.curp_master.specs.Journal.{CanPush, HasRoom, free_with, journal_of, with_entry};
 
 use crate::indexes::Indexes;
-use crate::queue::Queued;
 use curp_base::{NoMemory, past};
-use curp_cmd::{Answer, Command, Entry, Request, room};
+use curp_cmd::{Answer, Command, Entry, Request};
 use curp_log::Log;
-use curp_log::laws::seen_stays_seen;
 use curp_tail::Tail;
 use curp_tail::laws::{tail_follows_log, tail_tells_of_log};
 use std::alloc::Global;
 use std::marker::Model;
 
-/// A master's log with what stands beside it: what isn't synced, which Ops were free, and what waits for collection.
+/// A master's log with what stands beside it: what isn't synced, and which Ops were free. Contracts see these, and for
+/// how much more there is room.
 #[derive(Drop)]
 pub(crate) struct Journal {
+    alloc: Global,
     log: Log,
     tail: Tail,
     synced: u64,
     free: Indexes,
-    queue: Vec<Queued>,
 }
 
 impl Model for Journal {
@@ -34,85 +33,120 @@ impl Model for Journal {
 
     ghost Value = { JournalState };
 
-    ghost view = { λ j. journal_of j.log j.synced j.free.numbers j.queue.items };
+    ghost view = { λ j. record {
+      kept = journal_of j.log j.synced j.free.numbers;
+      units = j.log.spare;
+      hashes = j.tail.spare;
+      marks = j.free.spare;
+    } };
 
-    ghost invariant = { λ j. IsBeside (journal_of j.log j.synced j.free.numbers j.queue.items) j.tail };
+    ghost invariant = { λ j. IsBeside (journal_of j.log j.synced j.free.numbers) j.tail.entries };
 }
 
 impl Journal {
     /// A log of which so many entries are synced.
     pub(crate) fn new(alloc: Global, log: Log, synced: u64) -> Result<Journal, NoMemory>
-        ensures { IfOk result (λ journal. journal ≡ journal_of log synced [] []) }
+        ensures { IfOk result (λ journal. journal.kept ≡ journal_of log synced []) }
     {
-        let mut tail = Tail::new(alloc);
-        tail.add(past(log.entries(), synced), synced)?;
+        let tail = tail_of(alloc, &log, synced)?;
         Ok(Journal {
+            alloc,
             log,
             tail,
             synced,
             free: Indexes::new(alloc),
-            queue: Vec::new(alloc),
         })
     }
 
     pub(crate) fn log(&self) -> &Log
-        ensures lo { result.now.lo ≡ self.now.lo }
-        ensures hi { result.now.hi ≡ self.now.hi }
-        ensures entries { result.now.entries ≡ self.now.entries }
+        ensures lo { result.now.lo ≡ self.now.kept.lo }
+        ensures hi { result.now.hi ≡ self.now.kept.hi }
+        ensures entries { result.now.entries ≡ self.now.kept.entries }
     {
         &self.log
     }
 
     pub(crate) fn synced(&self) -> u64
-        ensures { result ≡ self.now.synced }
+        ensures { result ≡ self.now.kept.synced }
     {
         self.synced
     }
 
     /// Whether no entry that isn't synced touches the command.
     pub(crate) fn is_clean(&self, command: &Command) -> bool
-        ensures { result ≡ not (is_touched (drop self.now.synced self.now.entries) command.now) }
+        ensures { result ≡ not (is_touched (drop self.now.kept.synced self.now.kept.entries) command.now) }
     {
         tail_tells_of_log();
         !self.tail.covers_dirty(command)
     }
 
     pub(crate) fn is_free(&self, index: u64) -> bool
-        ensures { result ≡ has index self.now.free }
+        ensures { result ≡ has index self.now.kept.free }
     {
         self.free.contains(index)
     }
 
-    /// Pushes a request as an Op, lets its id wait for collection, and tells its answer.
-    pub(crate) fn push(&mut self, request: &Request, is_free: bool) -> Result<Answer, NoMemory>
-        requires { CanPush (meaning self.old.lo self.old.hi self.old.entries) request.now }
-        ensures pushed { OnOk result (self.new ≡ with_op self.old request.now is_free) }
-        ensures answer { IfOk result (λ answer. answer
-            ≡ answer_after self.old.lo self.old.hi self.old.entries request.now.command) }
-        ensures err { OnErr result (self.new ≡ self.old) }
+    /// Makes room for entries that take so much, by `curp_cmd::room`.
+    pub(crate) fn reserve(&mut self, units: u64) -> Result<(), NoMemory>
+        ensures kept { self.new.kept ≡ self.old.kept }
+        ensures room { OnOk result (HasRoom self.new units) }
     {
-        seen_stays_seen();
-        let index = self.log.len();
-        self.log.reserve(room_for(request))?;
-        self.free.reserve()?;
-        self.queue.reserve(1)?;
-        follow(&mut self.tail, &self.log, request, self.synced)?;
-        mark(&mut self.free, index, is_free);
-        self.queue.push_reserved(Queued::new(request.id, index + 1));
-        Ok(push_op(&mut self.log, request))
+        self.log.reserve(units)?;
+        self.tail.reserve(units)?;
+        self.free.reserve(units)
     }
 
-    /// More of the log, in which Ops alone stand, is synced.
+    /// Adds an entry at the end, which is free or not. It takes no memory, since there is room.
+    pub(crate) fn push(&mut self, entry: Entry, is_free: bool)
+        requires room { HasRoom self.old (room_of entry) }
+        requires fits { fits_at (meaning self.old.kept.lo self.old.kept.hi self.old.kept.entries) entry ≡ true }
+        requires op { IsOp entry }
+        ensures pushed { self.new.kept ≡ with_entry self.old.kept entry is_free }
+        ensures units { self.old.units ≤ self.new.units + room_of entry }
+        ensures hashes { self.old.hashes ≤ self.new.hashes + 4 * room_of entry }
+        ensures marks { self.old.marks ≤ self.new.marks + room_of entry }
+    {
+        let index = self.log.len();
+        follow(&mut self.tail, &self.log, &entry, self.synced);
+        mark(&mut self.free, index, is_free);
+        self.log.push(entry);
+    }
+
+    /// Pushes a request as an Op, and tells its answer.
+    pub(crate) fn push_op(&mut self, request: &Request, is_free: bool) -> Answer
+        requires room { HasRoom self.old (room_of (Op request.now request.now.first)) }
+        requires fits { CanPush (meaning self.old.kept.lo self.old.kept.hi self.old.kept.entries) request.now }
+        ensures pushed { self.new.kept ≡ with_entry self.old.kept (Op request.now request.now.first) is_free }
+        ensures answer { result
+            ≡ answer_after self.old.kept.lo self.old.kept.hi self.old.kept.entries request.now.command }
+    {
+        let index = self.log.len();
+        self.push(op_of(request), is_free);
+        self.log.answer(index).unwrap()
+    }
+
+    /// So much of the log is synced.
     pub(crate) fn settle(&mut self, synced: u64)
-        requires { self.old.synced ≤ synced }
-        ensures settled { self.new ≡ record self.old { synced = synced } }
-        ensures ops { Each IsOp self.old.entries }
+        requires { self.old.kept.synced ≤ synced }
+        ensures settled { self.new.kept ≡ record self.old.kept { synced = synced } }
     {
         tail_follows_log();
-        // For its clauses alone.
-        let _entries = self.log.entries();
         self.tail.synced(synced);
         self.synced = synced;
+    }
+
+    /// So much of the log is synced, which may be less than before.
+    pub(crate) fn settle_anew(&mut self, synced: u64) -> Result<(), NoMemory>
+        ensures settled { OnOk result (self.new.kept ≡ record self.old.kept { synced = synced }) }
+        ensures err { OnErr result (self.new ≡ self.old) }
+    {
+        if self.synced <= synced {
+            self.settle(synced);
+        } else {
+            self.tail = tail_of(self.alloc, &self.log, synced)?;
+            self.synced = synced;
+        }
+        Ok(())
     }
 }
 
@@ -126,45 +160,37 @@ pub(crate) fn op_of(request: &Request) -> Entry
     }
 }
 
-fn room_for(request: &Request) -> u64
-    ensures { result ≡ room_of (Op request.now request.now.first) }
+// The tail of a log of which so many entries are synced.
+fn tail_of(alloc: Global, log: &Log, synced: u64) -> Result<Tail, NoMemory>
+    ensures { IfOk result (λ tail. tail.entries ≡ tail_of log.now.entries synced) }
 {
-    room(&op_of(request))
+    let unsynced = past(log.entries(), synced);
+    let mut tail = Tail::new(alloc);
+    tail.reserve(unsynced.len() as u64)?;
+    tail.add(unsynced, synced);
+    Ok(tail)
 }
 
-// The log has a request more as an Op, for which there is room. Tells its answer.
-fn push_op(log: &mut Log, request: &Request) -> Answer
-    requires room { room_of (Op request.now request.now.first) ≤ log.old.spare }
-    requires can_push { CanPush (meaning log.old.lo log.old.hi log.old.entries) request.now }
-    ensures lo { log.new.lo ≡ log.old.lo }
-    ensures hi { log.new.hi ≡ log.old.hi }
-    ensures entries { log.new.entries ≡ log.old.entries ++ Op request.now request.now.first ∷ [] }
-    ensures answer { result ≡ answer_after log.old.lo log.old.hi log.old.entries request.now.command }
-{
-    let index = log.push(op_of(request));
-    log.answer(index).unwrap()
-}
-
-// The tail follows the log, into which the request comes next.
-fn follow(tail: &mut Tail, log: &Log, request: &Request, synced: u64) -> Result<(), NoMemory>
-    requires { tail.old ≡ tail_of log.now.entries synced }
-    ensures follows { OnOk result (tail.new
-        ≡ tail_of (log.now.entries ++ Op request.now request.now.first ∷ []) synced) }
-    ensures err { OnErr result (tail.new ≡ tail.old) }
+// The tail follows the log, into which the entry comes next.
+fn follow(tail: &mut Tail, log: &Log, entry: &Entry, synced: u64)
+    requires room { 4 ≤ tail.old.spare }
+    requires follows { tail.old.entries ≡ tail_of log.now.entries synced }
+    ensures follows { tail.new.entries ≡ tail_of (log.now.entries ++ entry.now ∷ []) synced }
+    ensures spare { tail.old.spare ≤ tail.new.spare + 4 }
 {
     tail_follows_log();
     let length = log.len();
-    if length < synced {
-        return Ok(());
+    if synced <= length {
+        tail.add(std::slice::from_ref(entry), length);
     }
-    tail.add(&[op_of(request)], length)
 }
 
 // The index is free, or not.
 fn mark(free: &mut Indexes, index: u64, is_free: bool)
     requires room { 1 ≤ free.old.spare }
     requires last { Each (λ number. number < index) free.old.numbers }
-    ensures { free.new.numbers ≡ free_with free.old.numbers index is_free }
+    ensures numbers { free.new.numbers ≡ free_with free.old.numbers index is_free }
+    ensures spare { free.old.spare ≤ free.new.spare + 1 }
 {
     if is_free {
         free.push(index);

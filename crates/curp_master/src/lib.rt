@@ -3,14 +3,23 @@
 #![tactic(auto)]
 
 mod acknowledged;
+mod captured;
+mod collecting;
 mod indexes;
 mod journal;
 mod master;
 mod messages;
-mod queue;
+mod phase;
+mod reads;
+mod replies;
 mod round;
+mod rounds;
+mod settling;
+mod switching;
 #[cfg(test)]
 mod tests;
+mod updates;
 mod verdict;
 
 pub use master::Master;
+use round::Round;

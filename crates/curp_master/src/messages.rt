@@ -1,11 +1,12 @@
-ghost use Rattle.std.specs.Prelude.{◌≡◌};
+ghost use Rattle.std.specs.Prelude.{◌≡◌, IfOk};
 ghost use Rattle.curp_msg.specs.Moved.{says};
-ghost use Rattle.curp_cmd.specs.Node.{client_node, master_node};
-ghost use Rattle.curp_model.specs.Master.{refuse};
+ghost use Rattle.curp_cmd.specs.Node.{client_node, manager_node, master_node};
+ghost use Rattle.curp_model.specs.Master.{prepared_message, refuse};
 
-use curp_base::Boxed;
-use curp_cmd::{NodeId, RequestId};
-use curp_msg::{Append, Body, Message, Refusal, Refuse, Reply};
+use curp_base::{Boxed, Items, NoMemory};
+use curp_cmd::{NodeId, Package, RequestId};
+use curp_msg::{Append, Body, Gc, Message, Parcel, Refusal, Refuse, Reply};
+use std::alloc::Global;
 
 /// Master `number` doesn't answer a request.
 pub(crate) fn refuse(number: u32, id: RequestId, refusal: Refusal) -> Message
@@ -37,5 +38,65 @@ pub(crate) fn append(number: u32, backup: NodeId, append: Append) -> Message
         from: NodeId::master(number),
         to: backup,
         body: Body::Append(append),
+    }
+}
+
+/// Master `number` lets a witness drop requests.
+pub(crate) fn gc(
+    alloc: Global,
+    number: u32,
+    witness: NodeId,
+    epoch: u32,
+    ids: &[RequestId],
+) -> Result<Message, NoMemory>
+    ensures { IfOk result (λ message. message
+        ≡ says (master_node number) witness (Body.Gc (record { epoch = epoch; ids = ids.now }))) }
+{
+    let ids = Items::new(Vec::from_slice(alloc, ids)?);
+    Ok(Message {
+        from: NodeId::master(number),
+        to: witness,
+        body: Body::Gc(Gc { epoch, ids }),
+    })
+}
+
+/// Master `number` has its log on the backups of the list of that version.
+pub(crate) fn prepared(number: u32, version: u32) -> Message
+    ensures { result ≡ prepared_message number version }
+{
+    to_manager(number, Body::Prepared { version })
+}
+
+/// Master `number` has given a range away.
+pub(crate) fn taken(
+    alloc: Global,
+    number: u32,
+    migration: u32,
+    package: &Package,
+) -> Result<Message, NoMemory>
+    ensures { IfOk result (λ message. message ≡ says (master_node number) manager_node
+        (Body.Taken (record { migration = migration; «package» = «package».now }))) }
+{
+    let parcel = Parcel {
+        migration,
+        package: package.copy(alloc)?,
+    };
+    Ok(to_manager(number, Body::Taken(Boxed::new(alloc, parcel)?)))
+}
+
+/// Master `number` has taken a range over.
+pub(crate) fn given(number: u32, migration: u32) -> Message
+    ensures { result ≡ says (master_node number) manager_node (Body.Given migration) }
+{
+    to_manager(number, Body::Given { migration })
+}
+
+fn to_manager(number: u32, body: Body) -> Message
+    ensures { result ≡ says (master_node number) manager_node body }
+{
+    Message {
+        from: NodeId::master(number),
+        to: NodeId::manager(),
+        body,
     }
 }

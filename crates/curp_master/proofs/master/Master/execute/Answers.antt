@@ -8,7 +8,7 @@ pub returns-in-WhenSynced : goal.returns-in-WhenSynced
 returns-in-WhenSynced c =
     let clean : c.is_clean-is_clean.result ≡ is_clean c.args.self.now.state c.args.request.now.command =
     c.is_clean-is_clean.ensures
-    ∙ (λ i. not (is_touched (drop (c.self.invariant i) c.self.inside.journal.entries) c.args.request.now.command))
+    ∙ (λ i. not (is_touched (drop (c.self.invariant i) c.self.inside.journal.kept.entries) c.args.request.now.command))
     ∙ ap (λ (node : Node MasterState). is_clean node.state c.args.request.now.command) c.self.view_is
     in
     record { moves = rw (c.in-WhenSynced.is, ← clean) c.push_held-in-WhenSynced.ensures.moves }

@@ -1,6 +1,6 @@
 use Rattle.std.proofs.Common.{◌≡◌, ◌-◌, ◌++◌, drop, length, sym, ◌∙◌}
-use Rattle.curp_master.proofs.Rounds.{drop_both}
-use Rattle.curp_master.proofs.master.suffix_with.Goals as goal
+use Rattle.curp_master.proofs.Suffixes.{drop_both}
+use Rattle.curp_master.proofs.rounds.suffix_with.Goals as goal
 
 pub returns : goal.returns
 returns c =

@@ -1,0 +1,14 @@
+use Rattle.std.proofs.Common.{◌∙◌, ap}
+use Rattle.curp_model.specs.Master.{MasterState, settle}
+use Rattle.curp_msg.specs.Moved.{Node}
+use Rattle.curp_master.specs.contracts.master.Master.{the_view}
+use Rattle.curp_master.proofs.Settled.{released}
+use Rattle.curp_master.proofs.master.Master.release.Goals as goal
+
+pub returns-clause-state : goal.returns-clause-state
+returns-clause-state c =
+    let node : Node MasterState = the_view c.self.inside in
+    let captures = rw (c.deref.ensures.value, c.deref-2.ensures.value) at c.remove_ready.ensures in
+    released node.number node.state c.synced-synced.result c.remove_below.new.self.numbers c.remove_ready.new.captures.items
+    (c.synced-synced.ensures ∙ c.self.invariant) c.remove_below.ensures captures
+    ∙ ap (λ (m : Node MasterState). (settle m.number m.state).state) c.self.view_is

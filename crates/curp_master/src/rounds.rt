@@ -1,0 +1,95 @@
+ghost use Rattle.std.specs.Prelude.{◌≡◌, ◌++◌, drop, IfOk};
+ghost use Rattle.curp_model.specs.Master.{append_to, appends, begins_round};
+ghost use Rattle.curp_msg.specs.Moved.{Moves};
+ghost use Rattle.curp_master.specs.Built.{move_of};
+ghost use Rattle.curp_master.specs.Phases.{phase_of};
+ghost use Rattle.curp_master.specs.Rounds.{IsNextRound, at_round, in_phase};
+
+use crate::acknowledged::length_from;
+use crate::phase::Phase;
+use crate::{Master, Round, messages};
+use curp_base::{Items, NoMemory, copies_of, past};
+use curp_cmd::{Entry, NodeId};
+use curp_log::Log;
+use curp_msg::{Append, Done, Message};
+use std::alloc::Global;
+
+impl Master {
+    /// A round begins.
+    pub(crate) fn begin_round(&mut self) -> Result<Done, NoMemory>
+        ensures moves { Moves self.old self.new result
+            (move_of self.old (begins_round self.old.number self.old.state)) }
+    {
+        let Some(round) = self.next_round(&[])? else {
+            return Ok(Done::quiet(self.alloc));
+        };
+        self.round = round.number;
+        Ok(Done::sends(round.appends))
+    }
+
+    /// The next round, with these entries behind the log, unless its number would pass 2^64 - 1.
+    pub(crate) fn next_round(&self, more: &[Entry]) -> Result<Option<Round>, NoMemory>
+        ensures { IfOk result (λ round. IsNextRound self.now more.now round) }
+    {
+        self.next_round_in(&self.phase, more)
+    }
+
+    /// The next round of that phase.
+    pub(crate) fn next_round_in(
+        &self,
+        phase: &Phase,
+        more: &[Entry],
+    ) -> Result<Option<Round>, NoMemory>
+        ensures { IfOk result (λ round. IsNextRound (in_phase self.now (phase_of phase.now)) more.now round) }
+    {
+        match self.round.checked_add(1) {
+            None => Ok(None),
+            Some(number) => {
+                let appends = self.appends(phase, number, more)?;
+                Ok(Some(Round { number, appends }))
+            }
+        }
+    }
+
+    // What a round sends, with these entries behind the log.
+    fn appends(&self, phase: &Phase, round: u64, more: &[Entry]) -> Result<Vec<Message>, NoMemory>
+        ensures { IfOk result (λ sent. sent.items ≡ appends self.now.number
+            (at_round (in_phase self.now (phase_of phase.now)).state round more.now)) }
+    {
+        let backups = phase.stored_on(self.alloc, &self.backups)?;
+        let mut sent = Vec::with_capacity(self.alloc, backups.len())?;
+        for backup in &backups {
+            sent.push(self.append_to(backup, round, more)?)?;
+        }
+        Ok(sent)
+    }
+
+    fn append_to(&self, backup: &NodeId, round: u64, more: &[Entry]) -> Result<Message, NoMemory>
+        ensures { IfOk result (λ message. message
+            ≡ append_to self.now.number (at_round self.now.state round more.now) backup.now) }
+    {
+        let base = length_from(&self.acknowledged, backup);
+        let entries = suffix_with(self.alloc, self.journal.log(), base, more)?;
+        Ok(messages::append(
+            self.number,
+            *backup,
+            Append {
+                epoch: self.epoch,
+                base,
+                round,
+                entries: Items::new(entries),
+            },
+        ))
+    }
+}
+
+// What stands in the log from a base on, with more entries behind it.
+fn suffix_with(alloc: Global, log: &Log, base: u64, more: &[Entry]) -> Result<Vec<Entry>, NoMemory>
+    ensures { IfOk result (λ entries. entries.items ≡ drop base (log.now.entries ++ more.now)) }
+{
+    let mut entries = log.suffix(base)?;
+    let beyond = base.saturating_sub(log.len());
+    let mut rest = copies_of(alloc, past(more, beyond))?;
+    entries.append(&mut rest)?;
+    Ok(entries)
+}

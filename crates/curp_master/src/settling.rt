@@ -1,0 +1,236 @@
+ghost use Rattle.std.specs.Prelude.{◌≡◌, ◌≤◌, ◌++◌, ◌&&◌, not, flat_map, map, filter, length, slice_get, IfOk, OnOk};
+ghost use Rattle.curp_model.specs.Master.{all_have, between, moved_entry, on_appended, on_stored};
+ghost use Rattle.curp_model.specs.Master.{settle, synced_replies, synced_reply, value_of};
+ghost use Rattle.curp_msg.specs.Moved.{Moves};
+ghost use Rattle.curp_master.specs.Backups.{stored_by_all};
+ghost use Rattle.curp_master.specs.Built.{move_of};
+ghost use Rattle.curp_master.specs.Settling.{acknowledging, listing, prepares_in, ready_version, telling};
+
+use crate::acknowledged::{Acknowledged, all_have, least_length, raised};
+use crate::captured::Captured;
+use crate::phase::{Phase, Switch};
+use crate::{Master, messages};
+use curp_base::{Boxed, NoMemory, past};
+use curp_cmd::{Entry, NodeId};
+use curp_msg::{AppendAnswer, Appended, Done, Message};
+use std::alloc::Global;
+
+impl Master {
+    #[tactic(auto, unfolding(curp_model::specs::Master::on_appended))]
+    pub(crate) fn on_appended(
+        &mut self,
+        from: &NodeId,
+        appended: &Appended,
+    ) -> Result<Done, NoMemory>
+        ensures moves { Moves self.old self.new result (move_of self.old
+            (on_appended self.old.number self.old.state from.now appended.now.round appended.now.answer)) }
+    {
+        match appended.answer {
+            AppendAnswer::Stored { length } => self.on_stored(from, length, appended.round),
+            _ => Ok(Done::quiet(self.alloc)),
+        }
+    }
+
+    fn on_stored(&mut self, from: &NodeId, long: u64, round: u64) -> Result<Done, NoMemory>
+        ensures moves { Moves self.old self.new result
+            (move_of self.old (on_stored self.old.number self.old.state from.now long round)) }
+    {
+        if !self.phase.stores_on(&self.backups, from) {
+            return Ok(Done::quiet(self.alloc));
+        }
+        let acknowledged = raised(self.alloc, &self.acknowledged, from, long, round)?;
+        if self.phase.is_open() {
+            self.settle(acknowledged)
+        } else {
+            self.prepare_by(acknowledged)
+        }
+    }
+
+    // Backups have so much, and the manager is told once where the next list has the whole log.
+    fn prepare_by(&mut self, acknowledged: Vec<Acknowledged>) -> Result<Done, NoMemory>
+        requires more { stored_by_all self.old.state.acknowledged self.old.state.backups
+            ≤ stored_by_all acknowledged.items self.old.state.backups }
+        ensures moves { Moves self.old self.new result (move_of self.old
+            (prepares_in self.old.number (acknowledging self.old.state acknowledged.items) self.old.state.phase)) }
+    {
+        match self.ready_version(&acknowledged) {
+            None => {
+                self.acknowledge(acknowledged);
+                Ok(Done::quiet(self.alloc))
+            }
+            Some(version) => {
+                let sent = vec![in self.alloc; messages::prepared(self.number, version)]?;
+                self.acknowledge(acknowledged);
+                self.note_prepared();
+                Ok(Done::sends(sent))
+            }
+        }
+    }
+
+    // The version of the next list, if each of its backups has the whole log and the manager wasn't told so.
+    fn ready_version(&self, acknowledged: &[Acknowledged]) -> Option<u32>
+        ensures { result ≡ ready_version self.now.state.log acknowledged.now self.now.state.phase }
+    {
+        match &self.phase {
+            Phase::Switching(switch) if self.is_ready(switch, acknowledged) => {
+                Some(switch.version)
+            }
+            _ => None,
+        }
+    }
+
+    fn is_ready(&self, switch: &Switch, acknowledged: &[Acknowledged]) -> bool
+        ensures { result ≡ (not switch.now.prepared
+            && all_have acknowledged.now switch.now.backups (length self.now.state.log) switch.now.round) }
+    {
+        let long = self.journal.log().len();
+        !switch.prepared && all_have(acknowledged, switch.backups.as_slice(), long, switch.round)
+    }
+
+    fn note_prepared(&mut self)
+        ensures { self.new ≡ telling self.old }
+    {
+        if let Phase::Switching(switch) = &mut self.phase {
+            switch.prepared = true;
+        }
+    }
+
+    // Backups have so much, and what all have is answered.
+    fn settle(&mut self, acknowledged: Vec<Acknowledged>) -> Result<Done, NoMemory>
+        requires more { stored_by_all self.old.state.acknowledged self.old.state.backups
+            ≤ stored_by_all acknowledged.items self.old.state.backups }
+        ensures moves { Moves self.old self.new result (move_of self.old
+            (settle self.old.number (acknowledging self.old.state acknowledged.items))) }
+    {
+        let sent = self.settled(&acknowledged, &self.backups, self.version)?;
+        self.acknowledge(acknowledged);
+        self.release();
+        Ok(Done::sends(sent))
+    }
+
+    // Backups have so much.
+    fn acknowledge(&mut self, acknowledged: Vec<Acknowledged>)
+        requires more { stored_by_all self.old.state.acknowledged self.old.state.backups
+            ≤ stored_by_all acknowledged.items self.old.state.backups }
+        ensures number { self.new.number ≡ self.old.number }
+        ensures state { self.new.state ≡ acknowledging self.old.state acknowledged.items }
+    {
+        self.journal
+            .settle(least_length(&acknowledged, &self.backups));
+        self.acknowledged = acknowledged;
+    }
+
+    /// What all backups have is answered, and waits no longer.
+    pub(crate) fn release(&mut self)
+        ensures number { self.new.number ≡ self.old.number }
+        ensures state { self.new.state ≡ (settle self.old.number self.old.state).state }
+    {
+        let synced = self.journal.synced();
+        self.held.remove_below(synced);
+        remove_ready(&mut self.captures, &self.acknowledged, &self.backups);
+        self.settled = synced;
+    }
+
+    /// What is said to settle, where these are the backups of the list, which have so much, and of that version.
+    pub(crate) fn settled(
+        &self,
+        acknowledged: &[Acknowledged],
+        backups: &[NodeId],
+        version: u32,
+    ) -> Result<Vec<Message>, NoMemory>
+        ensures { IfOk result (λ sent. sent.items ≡ (settle self.now.number
+            (listing self.now.state acknowledged.now backups.now version)).messages) }
+    {
+        let synced = least_length(acknowledged, backups);
+        let mut sent = self.synced_replies(version, self.held.below(synced))?;
+        self.tell_values(&mut sent, acknowledged, backups)?;
+        self.tell_moved(&mut sent, self.newly_synced(synced))?;
+        Ok(sent)
+    }
+
+    fn synced_replies(&self, version: u32, indexes: &[u64]) -> Result<Vec<Message>, NoMemory>
+        ensures { IfOk result (λ sent. sent.items
+            ≡ synced_replies self.now.number (record self.now.state { version = version }) indexes.now) }
+    {
+        let mut sent = Vec::with_capacity(self.alloc, indexes.len())?;
+        for index in indexes {
+            self.reply_synced(&mut sent, version, *index)?;
+        }
+        Ok(sent)
+    }
+
+    fn reply_synced(
+        &self,
+        sent: &mut Vec<Message>,
+        version: u32,
+        index: u64,
+    ) -> Result<(), NoMemory>
+        ensures { OnOk result (sent.new.items ≡ sent.old.items ++ synced_reply self.now.number
+            (record self.now.state { version = version }) index (slice_get self.now.state.log index)) }
+    {
+        let log = self.journal.log();
+        if let (Some(request), Some(answer)) = (log.request(index), log.answer(index)) {
+            let reply = self.reply_to(version, true, request.id, &answer);
+            sent.push(messages::reply(self.number, Boxed::new(self.alloc, reply)?))?;
+        }
+        Ok(())
+    }
+
+    // The values of the captures that all these backups have acknowledged.
+    fn tell_values(
+        &self,
+        sent: &mut Vec<Message>,
+        acknowledged: &[Acknowledged],
+        backups: &[NodeId],
+    ) -> Result<(), NoMemory>
+        ensures { OnOk result (sent.new.items ≡ sent.old.items ++ map (value_of self.now.number self.now.state)
+            (filter (λ c. all_have acknowledged.now backups.now c.length c.round) self.now.state.captures)) }
+    {
+        for capture in &self.captures {
+            if capture.is_ready(acknowledged, backups) {
+                sent.push(capture.value(self.alloc, self.number, self.epoch)?)?;
+            }
+        }
+        Ok(())
+    }
+
+    // The entries that weren't synced when it settled last.
+    fn newly_synced(&self, synced: u64) -> &[Entry]
+        ensures { result.now ≡ between self.now.state.settled synced self.now.state.log }
+    {
+        let entries = past(self.journal.log().entries(), self.settled);
+        let count = synced.saturating_sub(self.settled);
+        if count < entries.len() as u64 {
+            &entries[..count as usize]
+        } else {
+            entries
+        }
+    }
+
+    // The manager is told of ranges that these entries move.
+    fn tell_moved(&self, sent: &mut Vec<Message>, entries: &[Entry]) -> Result<(), NoMemory>
+        ensures { OnOk result (sent.new.items
+            ≡ sent.old.items ++ flat_map (moved_entry self.now.number) entries.now) }
+    {
+        for entry in entries {
+            match entry {
+                Entry::Take { migration, package } => {
+                    sent.push(messages::taken(self.alloc, self.number, *migration, package)?)?;
+                }
+                Entry::Give { migration, .. } => {
+                    sent.push(messages::given(self.number, *migration))?;
+                }
+                _ => {}
+            }
+        }
+        Ok(())
+    }
+}
+
+// Takes out the captures that all these backups have acknowledged.
+fn remove_ready(captures: &mut Vec<Captured>, acknowledged: &[Acknowledged], backups: &[NodeId])
+    ensures { captures.new.items
+        ≡ filter (λ c. not (all_have acknowledged.now backups.now c.length c.round)) captures.old.items }
+{
+    captures.retain(|capture| !capture.is_ready(acknowledged, backups));
+}

@@ -1,0 +1,170 @@
+ghost use Rattle.std.specs.Prelude.{◌≡◌, ◌≢◌, true};
+ghost use Rattle.curp_model.specs.declared.Check.TheVariants.{New};
+ghost use Rattle.curp_model.specs.Master as master;
+ghost use Rattle.curp_model.specs.Master.{carries_out, executes, holds_back, is_clean, known_at, on_update};
+ghost use Rattle.curp_model.specs.Master.{state_of, verdict};
+ghost use Rattle.curp_model.specs.Table.{check};
+ghost use Rattle.curp_msg.specs.Moved.{Moves};
+ghost use Rattle.curp_master.specs.Built.{move_of};
+ghost use Rattle.curp_master.specs.Journal.{CanPush};
+ghost use Rattle.curp_master.specs.Updates.{new_verdict, pushes_held, verdict_of, wish_of};
+
+use crate::journal::op_of;
+use crate::verdict::{Verdict, Wish};
+use crate::{Master, messages};
+use curp_base::{Boxed, NoMemory};
+use curp_cmd::{Answer, Request, room};
+use curp_model::Check;
+use curp_msg::{Ask, Done, Refusal};
+
+impl Master {
+    #[tactic(auto, unfolding(curp_model::specs::Master::on_update))]
+    pub(crate) fn on_update(&mut self, wish: Wish, ask: &Ask) -> Result<Done, NoMemory>
+        ensures moves { Moves self.old self.new result
+            (move_of self.old (on_update self.old.number self.old.state (wish_of wish) ask.now)) }
+    {
+        let verdict = self.verdict(wish, ask);
+        self.carry_out(wish, &ask.request, verdict)
+    }
+
+    // By the first of the rules that holds.
+    fn verdict(&self, wish: Wish, ask: &Ask) -> Verdict
+        ensures verdict { verdict_of result ≡ verdict self.now.state (wish_of wish) ask.now }
+        ensures can_push { result ≡ Verdict.Execute → CanPush (state_of self.now.state) ask.now.request }
+    {
+        if ask.epoch != self.epoch {
+            return Verdict::Deny(Refusal::Epoch {
+                current: self.epoch,
+            });
+        }
+        if !self.phase.is_open() {
+            return Verdict::Deny(Refusal::Switching);
+        }
+        match self.journal.log().check(&ask.request.id) {
+            Check::Expired => Verdict::Deny(Refusal::Expired),
+            Check::Stale { first } => Verdict::Deny(Refusal::Stale { first }),
+            Check::Known { answer, index } => self.known_at(wish, answer, index),
+            Check::New => self.new_at(ask),
+        }
+    }
+
+    // Of a request that stands in the log.
+    fn known_at(&self, wish: Wish, answer: Answer, index: u64) -> Verdict
+        ensures verdict { verdict_of result ≡ known_at self.now.state (wish_of wish) answer index }
+        ensures known { result ≢ Verdict.Execute }
+    {
+        if index < self.synced() {
+            return Verdict::Tell(answer);
+        }
+        if self.journal.log().request(index).is_none() || self.held.contains(index) {
+            return Verdict::Deny(Refusal::InProgress);
+        }
+        match wish {
+            Wish::AtOnce if self.journal.is_free(index) => Verdict::TellAgain(answer),
+            _ => Verdict::HoldBack(index),
+        }
+    }
+
+    // Of a request that doesn't.
+    fn new_at(&self, ask: &Ask) -> Verdict
+        requires { check (state_of self.now.state).table ask.now.request.id ≡ New }
+        ensures verdict { verdict_of result ≡ new_verdict self.now.state ask.now }
+        ensures can_push { result ≡ Verdict.Execute → CanPush (state_of self.now.state) ask.now.request }
+    {
+        if ask.version != self.version {
+            return Verdict::Deny(Refusal::Version {
+                current: self.version,
+            });
+        }
+        if !self.journal.log().owns(&ask.request.command) {
+            return Verdict::Deny(Refusal::NotOwner);
+        }
+        Verdict::Execute
+    }
+
+    fn carry_out(
+        &mut self,
+        wish: Wish,
+        request: &Request,
+        verdict: Verdict,
+    ) -> Result<Done, NoMemory>
+        requires { verdict ≡ Verdict.Execute → CanPush (state_of self.old.state) request.now }
+        ensures moves { Moves self.old self.new result (move_of self.old
+            (carries_out self.old.number self.old.state (wish_of wish) request.now (verdict_of verdict))) }
+    {
+        match verdict {
+            Verdict::Deny(why) => self.tell(messages::refuse(self.number, request.id, why)),
+            Verdict::Tell(answer) => self.reply(true, request.id, &answer),
+            Verdict::TellAgain(answer) => self.reply(false, request.id, &answer),
+            Verdict::HoldBack(index) => self.hold_back(index),
+            Verdict::Execute => self.execute(wish, request),
+        }
+    }
+
+    fn execute(&mut self, wish: Wish, request: &Request) -> Result<Done, NoMemory>
+        requires { CanPush (state_of self.old.state) request.now }
+        ensures moves { Moves self.old self.new result (move_of self.old
+            (executes self.old.number self.old.state (wish_of wish) request.now
+            (is_clean self.old.state request.now.command))) }
+    {
+        let is_clean = self.journal.is_clean(&request.command);
+        match wish {
+            Wish::AtOnce if is_clean => self.push_free(request),
+            Wish::AtOnce => self.push_held(request, false),
+            Wish::WhenSynced => self.push_held(request, is_clean),
+        }
+    }
+
+    // It is answered at once.
+    fn push_free(&mut self, request: &Request) -> Result<Done, NoMemory>
+        requires { CanPush (state_of self.old.state) request.now }
+        ensures moves { Moves self.old self.new result
+            (move_of self.old (executes self.old.number self.old.state master.AtOnce request.now true)) }
+    {
+        // All room is taken before anything changes.
+        let unanswered = self.reply_to(self.version, false, request.id, &Answer::Done);
+        let mut reply = Boxed::new(self.alloc, unanswered)?;
+        let mut sent = Vec::with_capacity(self.alloc, 1)?;
+        self.queue.reserve(1)?;
+        self.journal.reserve(room(&op_of(request)))?;
+        let answer = self.journal.push_op(request, true);
+        self.queue.add(request.id, self.journal.log().len());
+        reply.set(self.reply_to(self.version, false, request.id, &answer));
+        sent.push_reserved(messages::reply(self.number, reply));
+        Ok(Done::sends(sent))
+    }
+
+    // It waits for its synced reply, and a round begins.
+    fn push_held(&mut self, request: &Request, is_free: bool) -> Result<Done, NoMemory>
+        requires { CanPush (state_of self.old.state) request.now }
+        ensures moves { Moves self.old self.new result
+            (move_of self.old (pushes_held self.old.number self.old.state request.now is_free)) }
+    {
+        let Some(round) = self.next_round(&[op_of(request)])? else {
+            return Ok(Done::quiet(self.alloc));
+        };
+        let index = self.journal.log().len();
+        self.held.reserve(1)?;
+        self.queue.reserve(1)?;
+        self.journal.reserve(room(&op_of(request)))?;
+        self.journal.push(op_of(request), is_free);
+        self.queue.add(request.id, index + 1);
+        self.held.insert(index);
+        self.round = round.number;
+        Ok(Done::sends(round.appends))
+    }
+
+    // What stands in the log already waits for its synced reply, and a round begins.
+    fn hold_back(&mut self, index: u64) -> Result<Done, NoMemory>
+        ensures moves { Moves self.old self.new result
+            (move_of self.old (holds_back self.old.number self.old.state index)) }
+    {
+        let Some(round) = self.next_round(&[])? else {
+            return Ok(Done::quiet(self.alloc));
+        };
+        self.held.reserve(1)?;
+        self.held.insert(index);
+        self.round = round.number;
+        Ok(Done::sends(round.appends))
+    }
+}
