@@ -1,0 +1,515 @@
+ghost use Rattle.std.specs.Prelude.{◌≡◌, ◌+◌, ◌<◌, ◌≤◌, ◌^◌, true, [], ◌∷◌, ◌++◌, length, drop, slice_get, IfOk, OnOk};
+ghost use Rattle.std.specs.FinMap as map;
+ghost use Rattle.std.specs.List.{filter, list_all};
+ghost use Rattle.curp_cmd.specs.Entry.{room_of};
+ghost use Rattle.curp_cmd.specs.Hash.{hashes};
+ghost use Rattle.curp_cmd.specs.declared.entry.Entry.TheVariants.{Take};
+ghost use Rattle.curp_range.specs.Spans.{is_owned};
+ghost use Rattle.curp_model.specs.Log.{IsLog, fits_at, is_log, is_pair_in, meaning};
+ghost use Rattle.curp_model.specs.Ranges.{owns_all};
+ghost use Rattle.curp_model.specs.Table.{check, packed};
+ghost use Rattle.curp_entries.specs.Ops.{answer_at, request_of};
+ghost use Rattle.curp_entries.specs.State.{given_of, take_index};
+ghost use Rattle.curp_entries.specs.Taken.{taken_of};
+
+use crate::packing::{pairs_in, same_package};
+use crate::state::{Given, State};
+use curp_base::{NoMemory, copies_of, past};
+use curp_cmd::{Answer, Command, Entry, Hashes, Package, Request, RequestId, Store, room};
+use curp_model::Check;
+use curp_range::Ranges;
+use curp_range::laws::one_span_covers;
+use curp_rifl::Table;
+use std::alloc::Global;
+use std::marker::Model;
+
+/// The log of a master, with what it means: the store, the reply table, the owned hashes, the last package taken and the
+/// last migration given; and the answer to each of its Ops. Contracts see the range that the master began with, the
+/// entries, and for how much more there is room, in the units of `curp_cmd::room`.
+#[derive(Drop)]
+pub struct Log {
+    alloc: Global,
+    lo: u64,
+    hi: u64,
+    entries: Vec<Entry>,
+    // Of each entry, in their order; only Ops have one.
+    answers: Vec<Option<Answer>>,
+    state: State,
+    // Where the last Take stands.
+    taken: Option<u64>,
+}
+
+/// The last package that was taken: the migration, the package, and the index of its entry.
+pub struct Taken<'a> {
+    pub migration: u32,
+    pub package: &'a Package,
+    pub index: u64,
+}
+
+impl Model for Log {
+    ghost use Rattle.std.specs.Prelude.{◌-◌, min, vec_len, vec_capacity};
+    ghost use Rattle.curp_entries.specs.Content.{Content};
+    ghost use Rattle.curp_entries.specs.State.{IsKeptLog, room_in};
+
+    ghost Value = { Content };
+
+    ghost view = { λ l. record {
+      lo = l.lo;
+      hi = l.hi;
+      entries = l.entries.items;
+      spare = min (vec_capacity l.entries - vec_len l.entries)
+          (min (vec_capacity l.answers - vec_len l.answers) (room_in l.state));
+    } };
+
+    ghost invariant = { λ l. IsKeptLog l.lo l.hi l.entries.items l.answers.items l.state l.taken };
+}
+
+impl Log {
+    /// The log of a master that begins with the hashes from `lo` to `hi`, both counted.
+    pub fn begin(alloc: Global, lo: u64, hi: u64) -> Result<Log, NoMemory>
+        requires { lo ≤ hi }
+        ensures lo { IfOk result (λ log. log.lo ≡ lo) }
+        ensures hi { IfOk result (λ log. log.hi ≡ hi) }
+        ensures entries { IfOk result (λ log. log.entries ≡ []) }
+    {
+        Ok(Log {
+            alloc,
+            lo,
+            hi,
+            entries: Vec::new(alloc),
+            answers: Vec::new(alloc),
+            state: State::begin(alloc, lo, hi)?,
+            taken: None,
+        })
+    }
+
+    /// Makes room for entries that take so much, by `curp_cmd::room`.
+    pub fn reserve(&mut self, units: u64) -> Result<(), NoMemory>
+        ensures lo { self.new.lo ≡ self.old.lo }
+        ensures hi { self.new.hi ≡ self.old.hi }
+        ensures entries { self.new.entries ≡ self.old.entries }
+        ensures room { OnOk result (units ≤ self.new.spare) }
+        ensures kept { self.old.spare ≤ self.new.spare }
+    {
+        self.entries.reserve(units as usize)?;
+        self.answers.reserve(units as usize)?;
+        self.state.reserve(units)
+    }
+
+    /// Adds an entry at the end, and tells its index. It takes no memory, since there is room.
+    pub fn push(&mut self, entry: Entry) -> u64
+        requires room { room_of entry ≤ self.old.spare }
+        requires fits { fits_at (meaning self.old.lo self.old.hi self.old.entries) entry ≡ true }
+        ensures index { result ≡ length self.old.entries }
+        ensures entries { self.new.entries ≡ self.old.entries ++ entry ∷ [] }
+        ensures lo { self.new.lo ≡ self.old.lo }
+        ensures hi { self.new.hi ≡ self.old.hi }
+        ensures spare { self.old.spare ≤ self.new.spare + room_of entry }
+    {
+        let index = self.entries.len() as u64;
+        let answer = self.state.apply(index, &entry);
+        self.taken = take_index(self.taken, index, &entry);
+        self.answers.push_reserved(answer);
+        self.entries.push_reserved(entry);
+        index
+    }
+
+    /// The number of entries.
+    pub fn len(&self) -> u64
+        ensures value { result ≡ length self.now.entries }
+        ensures small { length self.now.entries < 2 ^ 63 }
+    {
+        self.entries.len() as u64
+    }
+
+    pub fn entries(&self) -> &[Entry]
+        ensures value { result.now ≡ self.now.entries }
+        ensures is_log { IsLog self.now.lo self.now.hi self.now.entries }
+        ensures ordered { self.now.lo ≤ self.now.hi }
+    {
+        &self.entries
+    }
+
+    /// The request of the Op at that index, if one stands there.
+    pub fn request(&self, index: u64) -> Option<Request>
+        ensures { result ≡ request_of (slice_get self.now.entries index) }
+    {
+        match self.entries.get(index as usize) {
+            Some(Entry::Op { request, .. }) => Some(*request),
+            _ => None,
+        }
+    }
+
+    /// A copy of the entry at that index, if one stands there.
+    pub fn entry(&self, index: u64) -> Result<Option<Entry>, NoMemory>
+        ensures { IfOk result (λ entry. entry ≡ slice_get self.now.entries index) }
+    {
+        match self.entries.get(index as usize) {
+            Some(entry) => Ok(Some(entry.copy(self.alloc)?)),
+            None => Ok(None),
+        }
+    }
+
+    /// Copies of the entries from that index on, of which there are none past the end.
+    pub fn suffix(&self, start: u64) -> Result<Vec<Entry>, NoMemory>
+        ensures { IfOk result (λ entries. entries.items ≡ drop start self.now.entries) }
+    {
+        copies_of(self.alloc, past(&self.entries, start))
+    }
+
+    /// The duplicate check (RIFL). It makes no more than three binary searches.
+    pub fn check(&self, id: &RequestId) -> Check
+        ensures { result ≡ check (meaning self.now.lo self.now.hi self.now.entries).table id.now }
+    {
+        self.state.table.check(id)
+    }
+
+    /// Whether the master owns the hash of each key that the command names.
+    pub fn owns(&self, command: &Command) -> bool
+        ensures { result ≡ owns_all (meaning self.now.lo self.now.hi self.now.entries).owned (hashes command.now) }
+    {
+        owns_each(&self.state.ranges, &Hashes::of(command))
+    }
+
+    // Whether the entry could be pushed.
+    fn fits(&self, entry: &Entry) -> Result<bool, NoMemory>
+        ensures { IfOk result (λ fits. fits ≡ fits_at (meaning self.now.lo self.now.hi self.now.entries) entry.now) }
+    {
+        match entry {
+            Entry::Op { request, .. } => {
+                Ok(self.check(&request.id) == Check::New && self.owns(&request.command))
+            }
+            Entry::Take { package, .. } => self.fits_package(package),
+            Entry::Give { .. } | Entry::Expire { .. } => Ok(true),
+        }
+    }
+
+    // Whether a Take of that package could be pushed.
+    fn fits_package(&self, taken: &Package) -> Result<bool, NoMemory>
+        ensures { IfOk result (λ fits. fits
+            ≡ fits_at (meaning self.now.lo self.now.hi self.now.entries) (Take 0 taken.now)) }
+    {
+        one_span_covers();
+        let _spans = self.state.ranges.spans();
+        if !self.state.ranges.covers(taken.lo, taken.hi) {
+            return Ok(false);
+        }
+        let own = self.pack(taken.lo, taken.hi)?;
+        Ok(same_package(taken, &own))
+    }
+
+    /// What a Take of the range from `lo` to `hi` would carry: the pairs of the range, and the whole reply table.
+    pub fn pack(&self, lo: u64, hi: u64) -> Result<Package, NoMemory>
+        requires { lo ≤ hi }
+        ensures lo { IfOk result (λ part. part.lo ≡ lo) }
+        ensures hi { IfOk result (λ part. part.hi ≡ hi) }
+        ensures pairs { IfOk result (λ part. part.pairs
+            ≡ filter (is_pair_in lo hi) (map.entries (meaning self.now.lo self.now.hi self.now.entries).store)) }
+        ensures table { IfOk result (λ part. part.table
+            ≡ packed (meaning self.now.lo self.now.hi self.now.entries).table) }
+    {
+        let all = self.state.store.pairs(self.alloc)?;
+        Ok(Package {
+            lo,
+            hi,
+            pairs: pairs_in(self.alloc, all.as_slice(), lo, hi)?,
+            table: self.state.table.pack()?,
+        })
+    }
+
+    /// What was answered to the Op at that index, if one stands there.
+    pub fn answer(&self, index: u64) -> Option<Answer>
+        ensures { result ≡ answer_at self.now.lo self.now.hi self.now.entries index }
+    {
+        match self.answers.get(index as usize) {
+            Some(answer) => *answer,
+            None => None,
+        }
+    }
+
+    /// The store behind the entries.
+    pub fn store(&self) -> &Store
+        ensures { result.now.map ≡ (meaning self.now.lo self.now.hi self.now.entries).store }
+    {
+        &self.state.store
+    }
+
+    /// The reply table behind the entries.
+    pub fn table(&self) -> &Table
+        ensures { result.now.table ≡ (meaning self.now.lo self.now.hi self.now.entries).table }
+    {
+        &self.state.table
+    }
+
+    /// The hashes that the master owns behind the entries.
+    pub fn ranges(&self) -> &Ranges
+        ensures { result.now.spans ≡ (meaning self.now.lo self.now.hi self.now.entries).owned }
+    {
+        &self.state.ranges
+    }
+
+    /// The last package that was taken, if one was.
+    pub fn package(&self) -> Option<Taken<'_>>
+        ensures { taken_of result ≡ (meaning self.now.lo self.now.hi self.now.entries).taken }
+    {
+        let index = self.taken?;
+        match &self.entries[index as usize] {
+            Entry::Take { migration, package } => Some(Taken {
+                migration: *migration,
+                package,
+                index,
+            }),
+            _ => None,
+        }
+    }
+
+    /// The last migration that was given, if one was.
+    pub fn given(&self) -> Option<Given>
+        ensures { given_of result ≡ (meaning self.now.lo self.now.hi self.now.entries).given }
+    {
+        self.state.given
+    }
+}
+
+/// Whether each of the hashes is owned.
+fn owns_each(ranges: &Ranges, hashes: &Hashes) -> bool
+    ensures { result ≡ list_all (is_owned ranges.now.spans) hashes.now }
+{
+    hashes.as_slice().iter().all(|hash| ranges.owns(*hash))
+}
+
+/// Where the last Take stands, once an entry with that index comes.
+fn take_index(before: Option<u64>, index: u64, entry: &Entry) -> Option<u64>
+    ensures { result ≡ take_index before index entry.now }
+{
+    match entry {
+        Entry::Take { .. } => Some(index),
+        _ => before,
+    }
+}
+
+/// Whether a master that began with the hashes from `lo` to `hi` could have pushed these entries.
+pub fn is_log(alloc: Global, lo: u64, hi: u64, entries: &[Entry]) -> Result<bool, NoMemory>
+    requires ordered { lo ≤ hi }
+    ensures { IfOk result (λ is. is ≡ is_log lo hi entries.now) }
+{
+    let mut log = Log::begin(alloc, lo, hi)?;
+    for entry in entries {
+        let fits = log.fits(entry)?;
+        if !fits {
+            return Ok(false);
+        }
+        log.reserve(room(entry))?;
+        log.push(entry.copy(alloc)?);
+    }
+    Ok(true)
+}
+
+#[cfg(test)]
+mod tests {
+    use super::*;
+    use curp_cmd::{Key, Value};
+    use std::process::Abort;
+    use std::test::Fail;
+
+    // The hash of "a", as the authors of FNV published it.
+    const A: u64 = 0xaf63dc4c8601ec8c;
+
+    fn request(client: u32, seq: u32, command: Command) -> Request {
+        Request {
+            id: RequestId { client, seq },
+            first: 1,
+            command,
+        }
+    }
+
+    fn op(client: u32, seq: u32, acknowledge: u32, command: Command) -> Entry {
+        Entry::Op {
+            request: request(client, seq, command),
+            acknowledge,
+        }
+    }
+
+    fn push(rt: &impl Abort, log: &mut Log, entry: Entry) -> Result<u64, Fail> {
+        let fits = log.fits(&entry)?;
+        assert!(rt; fits);
+        log.reserve(room(&entry))?;
+        Ok(log.push(entry))
+    }
+
+    // Three Ops, of which the second lets go of the answer to the first.
+    fn three_ops(rt: &impl Abort, alloc: Global) -> Result<Log, Fail> {
+        let (a, one) = (Key::new(b"a")?, Value::new(b"1")?);
+        let mut log = Log::begin(alloc, 0, u64::MAX)?;
+        assert_eq!(rt; push(rt, &mut log, op(1, 1, 0, Command::Put(a, one)))?, 0);
+        assert_eq!(rt; push(rt, &mut log, op(1, 2, 2, Command::Delete(a)))?, 1);
+        assert_eq!(rt; push(rt, &mut log, op(2, 1, 0, Command::Incr(a)))?, 2);
+        Ok(log)
+    }
+
+    #[test]
+    fn tells_what_was_done(rt: HostRuntime) -> Result<(), Fail> {
+        let log = three_ops(&rt, rt.alloc())?;
+        let known = |answer, index| Check::Known { answer, index };
+        for (client, seq, check) in [
+            (1, 1, Check::Stale { first: 2 }),
+            (1, 2, known(Answer::Removed(true), 1)),
+            (1, 3, Check::New),
+            (2, 1, known(Answer::Number(1), 2)),
+            (3, 1, Check::New),
+        ] {
+            assert_eq!(rt; log.check(&RequestId { client, seq }), check);
+        }
+        let a = Key::new(b"a")?;
+        assert!(rt; log.owns(&Command::Get(a)));
+        assert_eq!(rt; log.store().get(&a), Some(Value::from_number(1)));
+        Ok(())
+    }
+
+    fn has_entry(log: &Log, index: u64) -> Result<bool, NoMemory> {
+        Ok(log.entry(index)?.is_some())
+    }
+
+    #[test]
+    fn gives_what_stands(rt: HostRuntime) -> Result<(), Fail> {
+        let log = three_ops(&rt, rt.alloc())?;
+        for (index, answer) in [
+            (0, Some(Answer::Done)),
+            (2, Some(Answer::Number(1))),
+            (3, None),
+        ] {
+            assert_eq!(rt; log.answer(index), answer);
+            assert_eq!(rt; has_entry(&log, index)?, answer.is_some());
+        }
+        let last = request(2, 1, Command::Incr(Key::new(b"a")?));
+        assert!(rt; log.request(2) == Some(last));
+        assert!(rt; log.request(3) == None);
+        for (start, count) in [(0, 3), (2, 1), (3, 0), (4, 0)] {
+            assert_eq!(rt; log.suffix(start)?.len(), count);
+        }
+        assert_eq!(rt; log.len(), 3);
+        assert_eq!(rt; log.entries().len(), 3);
+        Ok(())
+    }
+
+    // Puts "a" and "b", and then takes the range that "a" alone lies in.
+    fn a_taken(rt: &impl Abort, alloc: Global) -> Result<Log, Fail> {
+        let (a, b) = (Key::new(b"a")?, Key::new(b"b")?);
+        let mut log = Log::begin(alloc, 0, u64::MAX)?;
+        push(rt, &mut log, op(1, 1, 0, Command::Put(a, Value::new(b"1")?)))?;
+        push(rt, &mut log, op(1, 2, 0, Command::Put(b, Value::new(b"2")?)))?;
+        let package = log.pack(A, A)?;
+        let take = Entry::Take {
+            migration: 7,
+            package,
+        };
+        assert_eq!(rt; push(rt, &mut log, take)?, 2);
+        Ok(log)
+    }
+
+    #[test]
+    fn a_range_leaves_with_its_pairs(rt: HostRuntime) -> Result<(), Fail> {
+        let log = a_taken(&rt, rt.alloc())?;
+        let (a, b) = (Key::new(b"a")?, Key::new(b"b")?);
+        assert!(rt; !log.owns(&Command::Get(a)));
+        assert!(rt; log.owns(&Command::Get(b)));
+        assert_eq!(rt; log.ranges().spans(), [(0, A - 1), (A + 1, u64::MAX)].as_slice());
+        assert_eq!(rt; log.store().get(&a), None);
+        assert_eq!(rt; log.store().get(&b), Some(Value::new(b"2")?));
+        let first = RequestId { client: 1, seq: 1 };
+        let done = Check::Known {
+            answer: Answer::Done,
+            index: 0,
+        };
+        assert_eq!(rt; log.check(&first), done);
+        assert!(rt; log.answer(2) == None);
+        let taken = log.package().expect(&rt, "taken");
+        assert_eq!(rt; (taken.migration, taken.index), (7, 2));
+        let pairs = [(a, Value::new(b"1")?)];
+        assert_eq!(rt; taken.package.pairs.as_slice(), pairs.as_slice());
+        let second = RequestId { client: 1, seq: 2 };
+        let records = [(first, Answer::Done), (second, Answer::Done)];
+        assert_eq!(rt; taken.package.table.records.as_slice(), records.as_slice());
+        Ok(())
+    }
+
+    #[test]
+    fn a_range_comes_with_its_pairs(rt: HostRuntime) -> Result<(), Fail> {
+        let from = a_taken(&rt, rt.alloc())?;
+        let package = from.package().expect(&rt, "taken").package.copy(rt.alloc())?;
+        let mut log = Log::begin(rt.alloc(), 0, 9)?;
+        push(&rt, &mut log, Entry::Expire { client: 9 })?;
+        let give = Entry::Give {
+            migration: 7,
+            package,
+        };
+        assert_eq!(rt; push(&rt, &mut log, give)?, 1);
+        let a = Key::new(b"a")?;
+        assert!(rt; log.owns(&Command::Get(a)));
+        assert_eq!(rt; log.ranges().spans(), [(0, 9), (A, A)].as_slice());
+        assert_eq!(rt; log.store().get(&a), Some(Value::new(b"1")?));
+        let known = Check::Known {
+            answer: Answer::Done,
+            index: 1,
+        };
+        assert_eq!(rt; log.check(&RequestId { client: 1, seq: 2 }), known);
+        assert!(rt; log.given() == Some(Given { migration: 7, index: 1 }));
+        assert!(rt; log.package().is_none());
+        Ok(())
+    }
+
+    #[test]
+    fn a_client_goes_with_its_records(rt: HostRuntime) -> Result<(), Fail> {
+        let mut log = three_ops(&rt, rt.alloc())?;
+        push(&rt, &mut log, Entry::Expire { client: 1 })?;
+        assert_eq!(rt; log.check(&RequestId { client: 1, seq: 2 }), Check::Expired);
+        assert_eq!(rt; log.check(&RequestId { client: 1, seq: 9 }), Check::Expired);
+        let known = Check::Known {
+            answer: Answer::Number(1),
+            index: 2,
+        };
+        assert_eq!(rt; log.check(&RequestId { client: 2, seq: 1 }), known);
+        assert!(rt; log.answer(1) == Some(Answer::Removed(true)));
+        Ok(())
+    }
+
+    #[test]
+    fn a_package_is_what_the_range_has(rt: HostRuntime) -> Result<(), Fail> {
+        let log = a_taken(&rt, rt.alloc())?;
+        assert!(rt; is_log(rt.alloc(), 0, u64::MAX, log.entries())?);
+        assert!(rt; !is_log(rt.alloc(), 0, u64::MAX, past(log.entries(), 1))?);
+        assert!(rt; !is_log(rt.alloc(), 0, A - 1, past(log.entries(), 2))?);
+        Ok(())
+    }
+
+    #[test]
+    fn holds_many_ops(rt: HostRuntime) -> Result<(), Fail> {
+        let (key, value) = (Key::new(&[b'k'; 32])?, Value::new(&[7; 128])?);
+        let mut log = Log::begin(rt.alloc(), 0, u64::MAX)?;
+        for seq in 1..=500 {
+            push(&rt, &mut log, op(1, seq, 0, Command::Put(key, value)))?;
+        }
+        assert_eq!(rt; log.len(), 500);
+        assert_eq!(rt; log.suffix(0)?.len(), 500);
+        assert_eq!(rt; log.store().get(&key), Some(value));
+        Ok(())
+    }
+
+    #[test]
+    fn a_log_has_each_id_once_and_its_own_hashes(rt: HostRuntime) -> Result<(), Fail> {
+        let alloc = rt.alloc();
+        let get = Command::Get(Key::new(b"a")?);
+        let once = [op(1, 1, 0, get), op(1, 2, 0, get)];
+        let twice = [op(1, 1, 0, get), op(1, 1, 0, get)];
+        for (lo, hi, is_one, is_other) in [
+            (0, u64::MAX, true, false),
+            (A, A, true, false),
+            (0, A - 1, false, false),
+            (A + 1, u64::MAX, false, false),
+        ] {
+            assert_eq!(rt; is_log(alloc, lo, hi, &once)?, is_one);
+            assert_eq!(rt; is_log(alloc, lo, hi, &twice)?, is_other);
+        }
+        Ok(())
+    }
+}
