@@ -1,20 +1,11 @@
 -- What the calls of a log give, by what it keeps.
-use Rattle.std.proofs.Common.{◌≡◌, ℕ, ◌+◌, ◌-◌, ◌<◌, ◌≤◌, max, true, false, List, [], ◌∷◌, ◌++◌, length, drop, get_or, take, slice_get, Some, refl, ap, sym, ◌∙◌, arith}
+use Rattle.std.proofs.Common.{◌≡◌, ℕ, ◌+◌, ◌-◌, ◌<◌, true, false, List, [], ◌∷◌, ◌++◌, length, get_or, take, Some, ap, sym, ◌∙◌}
 use Rattle.std.proofs.lemmas.Bool.{and_from}
 use Rattle.std.proofs.lemmas.List.{take_more}
 use Rattle.std.proofs.lemmas.Option.{slice_get-get_or}
-use Rattle.curp_base.proofs.Lists.{drop_index}
 use Rattle.curp_base.specs.Words.{At}
-use Rattle.curp_cmd.specs.Store.{Contents, nothing}
-use Rattle.curp_cmd.specs.declared.command.Answer.{Answer}
-use Rattle.curp_cmd.specs.declared.command.Answer.TheVariants.{Done}
-use Rattle.curp_cmd.specs.declared.command.Request.{Request}
-use Rattle.curp_cmd.specs.declared.command.RequestId.{RequestId}
 use Rattle.curp_cmd.specs.declared.entry.Entry.{Entry}
-use Rattle.curp_cmd.specs.declared.entry.Entry.TheVariants.{Op, Take, Give, Expire}
-use Rattle.curp_model.specs.declared.Check.{Check}
-use Rattle.curp_model.specs.Log.{fits_at, is_log, log_opening, meaning}
-use Rattle.curp_model.specs.Table.{check}
+use Rattle.curp_model.specs.Log.{fits_at, is_log, meaning}
 use Rattle.curp_entries.proofs.Grows.{is_log_more, no_log}
 
 -- an entry that doesn't fit behind those before it

@@ -1,20 +1,17 @@
 -- What a log keeps beside its entries, as an entry comes.
-use Rattle.std.proofs.Common.{◌≡◌, ℕ, zero, suc, ◌+◌, ◌<◌, ◌&&◌, Bool, true, false, List, [], ◌∷◌, ◌++◌, length, take, fold, slice_get, Option, Some, None, IfSome, refl, ap, sym, ◌∙◌, subst, arith}
+use Rattle.std.proofs.Common.{◌≡◌, ℕ, zero, suc, ◌+◌, ◌<◌, true, List, [], ◌∷◌, ◌++◌, length, take, slice_get, Option, Some, None, IfSome, refl, ap, sym, ◌∙◌, arith}
 use Rattle.std.specs.FinMap as map
 use Rattle.std.specs.List.{filter}
 use Rattle.std.proofs.lemmas.Bool.{and_from, and_parts}
 use Rattle.curp_base.proofs.Lists.{at_push}
-use Rattle.curp_cmd.specs.Pairs.{Pair}
-use Rattle.curp_cmd.specs.Store.{Contents, nothing}
 use Rattle.curp_cmd.specs.declared.command.Answer.{Answer}
-use Rattle.curp_cmd.specs.declared.command.Request.{Request}
 use Rattle.curp_cmd.specs.declared.entry.Entry.{Entry}
 use Rattle.curp_cmd.specs.declared.entry.Entry.TheVariants.{Op, Take, Give, Expire}
 use Rattle.curp_cmd.specs.declared.migration.Package.{Package}
 use Rattle.curp_model.proofs.Logs.{meaning_append}
 use Rattle.curp_model.proofs.Packages.{package_eq-Decides}
 use Rattle.curp_range.specs.Spans.{is_covered}
-use Rattle.curp_model.specs.Log.{LastTake, LogState, after_entries, after_entry, fits_at, is_log, is_pair_in, log_opening, meaning, package_eq, package_of}
+use Rattle.curp_model.specs.Log.{LogState, after_entries, after_entry, fits_at, is_log, is_pair_in, log_opening, meaning, package_of}
 use Rattle.curp_entries.specs.Ops.{answer_of, answer_at}
 use Rattle.curp_entries.specs.State.{IsKeptLog, answers_in, last_take, meant_by, take_index, take_of, untaken}
 use Rattle.curp_entries.specs.declared.state.State.{State}

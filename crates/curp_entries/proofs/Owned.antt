@@ -1,5 +1,5 @@
 -- Whether all hashes of a command are owned is asked of them in any order, each once or more often.
-use Rattle.std.proofs.Common.{◌≡◌, ℕ, Bool, true, false, ◌&&◌, ◌||◌, List, [], ◌∷◌, refl, ◌∙◌}
+use Rattle.std.proofs.Common.{◌≡◌, ℕ, List}
 use Rattle.std.specs.List.{list_all}
 use Rattle.curp_cmd.proofs.Ascendings.{all_ascending}
 use Rattle.curp_cmd.specs.Hash.{ascending}

@@ -1,5 +1,5 @@
 -- A range that one span has can be taken out.
-use Rattle.std.proofs.Common.{◌≡◌, ℕ, Bool, true, false, List, Result, Ok, Err, IsOk, refl, sym, ◌∙◌}
+use Rattle.std.proofs.Common.{◌≡◌, ℕ, true, false, List, Result, Ok, Err, IsOk, refl, sym, ◌∙◌}
 use Rattle.curp_range.proofs.Tests.{covers_if_covered}
 use Rattle.curp_range.specs.Spans.{Span, Covers, Lacks, is_covered}
 use Rattle.curp_range.specs.declared.ranges.TakeError.{TakeError}

@@ -396,8 +396,16 @@ mod tests {
     fn a_taken(rt: &impl Abort, alloc: Global) -> Result<Log, Fail> {
         let (a, b) = (Key::new(b"a")?, Key::new(b"b")?);
         let mut log = Log::begin(alloc, 0, u64::MAX)?;
-        push(rt, &mut log, op(1, 1, 0, Command::Put(a, Value::new(b"1")?)))?;
-        push(rt, &mut log, op(1, 2, 0, Command::Put(b, Value::new(b"2")?)))?;
+        push(
+            rt,
+            &mut log,
+            op(1, 1, 0, Command::Put(a, Value::new(b"1")?)),
+        )?;
+        push(
+            rt,
+            &mut log,
+            op(1, 2, 0, Command::Put(b, Value::new(b"2")?)),
+        )?;
         let package = log.pack(A, A)?;
         let take = Entry::Take {
             migration: 7,
@@ -413,7 +421,10 @@ mod tests {
         let (a, b) = (Key::new(b"a")?, Key::new(b"b")?);
         assert!(rt; !log.owns(&Command::Get(a)));
         assert!(rt; log.owns(&Command::Get(b)));
-        assert_eq!(rt; log.ranges().spans(), [(0, A - 1), (A + 1, u64::MAX)].as_slice());
+        assert_eq!(rt;
+            log.ranges().spans(),
+            [(0, A - 1), (A + 1, u64::MAX)].as_slice()
+        );
         assert_eq!(rt; log.store().get(&a), None);
         assert_eq!(rt; log.store().get(&b), Some(Value::new(b"2")?));
         let first = RequestId { client: 1, seq: 1 };
@@ -436,7 +447,11 @@ mod tests {
     #[test]
     fn a_range_comes_with_its_pairs(rt: HostRuntime) -> Result<(), Fail> {
         let from = a_taken(&rt, rt.alloc())?;
-        let package = from.package().expect(&rt, "taken").package.copy(rt.alloc())?;
+        let package = from
+            .package()
+            .expect(&rt, "taken")
+            .package
+            .copy(rt.alloc())?;
         let mut log = Log::begin(rt.alloc(), 0, 9)?;
         push(&rt, &mut log, Entry::Expire { client: 9 })?;
         let give = Entry::Give {
@@ -453,7 +468,13 @@ mod tests {
             index: 1,
         };
         assert_eq!(rt; log.check(&RequestId { client: 1, seq: 2 }), known);
-        assert!(rt; log.given() == Some(Given { migration: 7, index: 1 }));
+        assert!(rt;
+            log.given()
+                == Some(Given {
+                    migration: 7,
+                    index: 1
+                })
+        );
         assert!(rt; log.package().is_none());
         Ok(())
     }

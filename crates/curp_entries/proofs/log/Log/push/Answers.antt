@@ -1,4 +1,4 @@
-use Rattle.std.proofs.Common.{◌≡◌, ◌∙◌, ◌++◌, ◌∷◌, [], List, Option, ℕ, length, true, ap, sym, subst}
+use Rattle.std.proofs.Common.{◌≡◌, ◌∙◌, ◌++◌, ◌∷◌, [], Option, ℕ, length, true, ap, sym, subst, rules}
 use Rattle.curp_cmd.specs.declared.command.Answer.{Answer}
 use Rattle.curp_model.specs.Log.{LogState, after_entry, fits_at, meaning}
 use Rattle.curp_entries.specs.Content.{Content}
@@ -14,10 +14,11 @@ apply-answer-requires-clause-fits c =
 
 pub invariant_of-self : goal.invariant_of-self
 invariant_of-self c =
+    let index : c.len-index.result ≡ length c.self.inside.entries.items = c.len-index.ensures ∙ search rules in
     kept_as c.self.inside.lo c.self.inside.hi _ _ _ _ c.apply-answer.new.self _ _
     c.push_reserved-2.ensures.items
     (c.push_reserved.ensures.items ∙ ap (λ (a : Option Answer). c.self.inside.answers.items ++ a ∷ []) c.apply-answer.ensures.answer)
-    (c.take_index-self-inside.ensures ∙ ap (λ (n : ℕ). take_index c.self.inside.taken n c.args.entry) c.len-index.ensures.value)
+    (c.take_index-self-inside.ensures ∙ ap (λ (n : ℕ). take_index c.self.inside.taken n c.args.entry) index)
     (kept_more c.self.inside.lo c.self.inside.hi c.self.inside.entries.items c.self.inside.answers.items c.self.inside.state c.apply-answer.new.self c.self.inside.taken c.args.entry c.self.invariant (pushed_length c.self.inside.entries.items c.args.entry)
     (subst (λ (l : Content). fits_at (meaning l.lo l.hi l.entries) c.args.entry ≡ true) (sym c.self.view_is) c.requires.fits)
-    (c.apply-answer.ensures.means ∙ ap (λ (n : ℕ). untaken (after_entry (meant_by c.self.inside.state) n c.args.entry)) c.len-index.ensures.value))
+    (c.apply-answer.ensures.means ∙ ap (λ (n : ℕ). untaken (after_entry (meant_by c.self.inside.state) n c.args.entry)) index))
