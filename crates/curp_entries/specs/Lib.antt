@@ -1,4 +1,0 @@
-pub mod Content
-pub mod Ops
-pub mod State
-pub mod Taken
