@@ -1,27 +1,20 @@
 -- An entry more behind a log.
 use Rattle.std.proofs.Common.{◌≡◌, ◌≢◌, ℕ, zero, suc, ◌+◌, ◌&&◌, not, nat_le, nat_lt, Bool, true, false, List, [], ◌∷◌, ◌++◌, length, take, Option, Some, None, refl, ap, sym, ◌∙◌, subst, arith}
 use Rattle.std.specs.FinMap.Entries.{find}
-use Rattle.std.proofs.lemmas.Bool.{and_parts, and_from, not-true}
+use Rattle.std.proofs.lemmas.Bool.{and_parts, not-true}
 use Rattle.std.proofs.lemmas.Bool.Decides.{nat_tests}
 use Rattle.std.proofs.Math.Bool.{and_assoc}
 use Rattle.std.specs.Option.{IsSomeAnd}
 use Rattle.std.specs.Bool.{⊤}
-use Rattle.curp_base.proofs.Lists.{Each-append}
 use Rattle.curp_base.specs.Words.{At}
 use Rattle.curp_cmd.specs.RequestId.{id_cmp}
-use Rattle.curp_cmd.specs.Store.{Contents, applied}
-use Rattle.curp_cmd.specs.declared.command.Answer.{Answer}
-use Rattle.curp_cmd.specs.declared.command.Request.{Request}
 use Rattle.curp_cmd.specs.declared.command.RequestId.{RequestId}
 use Rattle.curp_cmd.specs.declared.entry.Entry.{Entry}
-use Rattle.curp_cmd.specs.declared.entry.Entry.TheVariants.{Op}
 use Rattle.curp_model.specs.declared.Check.TheVariants.{New}
 use Rattle.curp_model.specs.Log.{LogState, after_entries, after_entry, all_fit, fits_at, is_log, log_opening, meaning}
 use Rattle.curp_model.specs.Table.{Noted, Table, check, first_number, is_gone, known}
 use Rattle.curp_model.proofs.Tables.{Has, not_new}
 use Rattle.curp_model.proofs.Logs.{meaning_append, seen_entries}
-use Rattle.curp_log.specs.Ops.{IsAnsweredLog, IsOp}
-use Rattle.curp_log.proofs.Stands.{answers_more}
 
 -- ---- it is a log where the entry fits
 
@@ -48,23 +41,6 @@ fit_fails (x ∷ es) s k (suc j) e h fails = let f = fit_fails es (after_entry s
 
 pub no_log : (lo hi : ℕ) (log : List Entry) (j : ℕ) (e : Entry) → At log j e → fits_at (meaning lo hi (take j log)) e ≡ false → is_log lo hi log ≡ false
 no_log lo hi log = fit_fails log (log_opening lo hi) 0
-
-pub kept_more : (lo hi : ℕ) (log : List Entry) (answered : List Answer) (contents : Contents) (r : Request) (acknowledged : ℕ) → IsAnsweredLog lo hi log answered contents
-    → fits_at (meaning lo hi log) (Op r acknowledged) ≡ true
-    → IsAnsweredLog lo hi (log ++ Op r acknowledged ∷ []) (answered ++ (applied contents r.command).answer ∷ []) (applied contents r.command).after
-unfolding after_entry
-kept_more lo hi log answered contents r acknowledged is fits = record {
-  ordered = is.ordered;
-  ops = Each-append IsOp log (Op r acknowledged ∷ []) is.ops (tt, tt);
-  is_log = is_log_more lo hi log (Op r acknowledged) ∙ and_from _ _ is.is_log fits;
-  answers =
-      sym
-      (answers_more log (log_opening lo hi) 0 r acknowledged is.ops
-      ∙ λ i. sym is.answers i ++ (applied (sym is.store i) r.command).answer ∷ []);
-  store =
-      let after = meaning_append lo hi log (Op r acknowledged ∷ []) in
-      ap (λ (s : Contents). (applied s r.command).after) is.store ∙ sym (ap (λ (s : LogState). s.store) after);
-}
 
 -- ---- what was seen
 

@@ -1,5 +1,5 @@
-pub mod Fold
-pub mod Stands
-pub mod Grows
 pub mod Calls
+pub mod Grows
+pub mod Keeps
 pub mod Owned
+pub mod Takes

@@ -1,2 +1,4 @@
 pub mod Content
 pub mod Ops
+pub mod State
+pub mod Taken

@@ -1,37 +1,56 @@
-ghost use Rattle.std.specs.Prelude.{◌≡◌, ◌+◌, ◌<◌, ◌≤◌, ◌^◌, true, [], ◌∷◌, ◌++◌, length, drop, slice_get, IfOk, OnOk, IsTrue};
-ghost use Rattle.std.specs.List.{list_all};
-ghost use Rattle.curp_base.specs.Words.{Each};
+ghost use Rattle.std.specs.Prelude.{◌≡◌, ◌+◌, ◌<◌, ◌≤◌, ◌^◌, true, [], ◌∷◌, ◌++◌, length, drop, slice_get, IfOk, OnOk};
+ghost use Rattle.std.specs.FinMap as map;
+ghost use Rattle.std.specs.List.{filter, list_all};
 ghost use Rattle.curp_cmd.specs.Entry.{room_of};
-ghost use Rattle.curp_cmd.specs.Hash.{hashes_of, hashes};
-ghost use Rattle.curp_range.specs.Spans.{is_in};
-ghost use Rattle.curp_model.specs.Log.{IsLog, fits_at, is_log, meaning};
+ghost use Rattle.curp_cmd.specs.Hash.{hashes};
+ghost use Rattle.curp_cmd.specs.declared.entry.Entry.TheVariants.{Take};
+ghost use Rattle.curp_range.specs.Spans.{is_owned};
+ghost use Rattle.curp_model.specs.Log.{IsLog, fits_at, is_log, is_pair_in, meaning};
 ghost use Rattle.curp_model.specs.Ranges.{owns_all};
-ghost use Rattle.curp_model.specs.Table.{check};
-ghost use Rattle.curp_log.specs.Ops.{IsOp, acknowledged_by, answer_at, check_in, is_op_of, request_of};
+ghost use Rattle.curp_model.specs.Table.{check, packed};
+ghost use Rattle.curp_log.specs.Ops.{answer_at, request_of};
+ghost use Rattle.curp_log.specs.State.{given_of, take_index};
+ghost use Rattle.curp_log.specs.Taken.{taken_of};
 
+use crate::packing::{pairs_in, same_package};
+use crate::state::{Given, State};
 use curp_base::{NoMemory, copies_of, past};
-use curp_cmd::{Answer, Command, Entry, Hashes, Request, RequestId, Store, room};
+use curp_cmd::{Answer, Command, Entry, Hashes, Package, Request, RequestId, Store, room};
 use curp_model::Check;
+use curp_range::Ranges;
+use curp_range::laws::one_span_covers;
+use curp_rifl::Table;
 use std::alloc::Global;
 use std::marker::Model;
 
-/// The log of a master, with the answer to each of its Ops and the store behind them. Contracts see the range that the
-/// master began with, the entries, and for how much more there is room, in the units of `curp_cmd::room`.
+/// The log of a master, with what it means: the store, the reply table, the owned hashes, the last package taken and the
+/// last migration given; and the answer to each of its Ops. Contracts see the range that the master began with, the
+/// entries, and for how much more there is room, in the units of `curp_cmd::room`.
 #[derive(Drop)]
 pub struct Log {
     alloc: Global,
     lo: u64,
     hi: u64,
     entries: Vec<Entry>,
-    // Of each entry, in their order.
-    answers: Vec<Answer>,
-    store: Store,
+    // Of each entry, in their order; only Ops have one.
+    answers: Vec<Option<Answer>>,
+    state: State,
+    // Where the last Take stands.
+    taken: Option<u64>,
+}
+
+/// The last package that was taken: the migration, the package, and the index of its entry.
+#[derive(Clone, Copy)]
+pub struct Taken<'a> {
+    pub migration: u32,
+    pub package: &'a Package,
+    pub index: u64,
 }
 
 impl Model for Log {
     ghost use Rattle.std.specs.Prelude.{◌-◌, min, vec_len, vec_capacity};
     ghost use Rattle.curp_log.specs.Content.{Content};
-    ghost use Rattle.curp_log.specs.Ops.{IsAnsweredLog};
+    ghost use Rattle.curp_log.specs.State.{IsKeptLog, room_in};
 
     ghost Value = { Content };
 
@@ -40,10 +59,10 @@ impl Model for Log {
       hi = l.hi;
       entries = l.entries.items;
       spare = min (vec_capacity l.entries - vec_len l.entries)
-          (min (vec_capacity l.answers - vec_len l.answers) l.store.spare);
+          (min (vec_capacity l.answers - vec_len l.answers) (room_in l.state));
     } };
 
-    ghost invariant = { λ l. IsAnsweredLog l.lo l.hi l.entries.items l.answers.items l.store.map };
+    ghost invariant = { λ l. IsKeptLog l.lo l.hi l.entries.items l.answers.items l.state l.taken };
 }
 
 impl Log {
@@ -60,7 +79,8 @@ impl Log {
             hi,
             entries: Vec::new(alloc),
             answers: Vec::new(alloc),
-            store: Store::new(alloc),
+            state: State::begin(alloc, lo, hi)?,
+            taken: None,
         })
     }
 
@@ -74,14 +94,13 @@ impl Log {
     {
         self.entries.reserve(units as usize)?;
         self.answers.reserve(units as usize)?;
-        self.store.reserve(units)
+        self.state.reserve(units)
     }
 
     /// Adds an entry at the end, and tells its index. It takes no memory, since there is room.
     pub fn push(&mut self, entry: Entry) -> u64
         requires room { room_of entry ≤ self.old.spare }
         requires fits { fits_at (meaning self.old.lo self.old.hi self.old.entries) entry ≡ true }
-        requires op { IsOp entry }
         ensures index { result ≡ length self.old.entries }
         ensures entries { self.new.entries ≡ self.old.entries ++ entry ∷ [] }
         ensures lo { self.new.lo ≡ self.old.lo }
@@ -89,10 +108,9 @@ impl Log {
         ensures spare { self.old.spare ≤ self.new.spare + room_of entry }
     {
         let index = self.entries.len() as u64;
-        if let Entry::Op { request, .. } = &entry {
-            let answer = self.store.apply(&request.command);
-            self.answers.push_reserved(answer);
-        }
+        let answer = self.state.apply(index, &entry);
+        self.taken = take_index(self.taken, index, &entry);
+        self.answers.push_reserved(answer);
         self.entries.push_reserved(entry);
         index
     }
@@ -107,7 +125,6 @@ impl Log {
 
     pub fn entries(&self) -> &[Entry]
         ensures value { result.now ≡ self.now.entries }
-        ensures ops { Each IsOp self.now.entries }
         ensures is_log { IsLog self.now.lo self.now.hi self.now.entries }
         ensures ordered { self.now.lo ≤ self.now.hi }
     {
@@ -141,114 +158,146 @@ impl Log {
         copies_of(self.alloc, past(&self.entries, start))
     }
 
-    /// The duplicate check (RIFL). It goes through the log once.
+    /// The duplicate check (RIFL). It makes no more than three binary searches.
     pub fn check(&self, id: &RequestId) -> Check
         ensures { result ≡ check (meaning self.now.lo self.now.hi self.now.entries).table id.now }
     {
-        check_in(&self.entries, &self.answers, id)
+        self.state.table.check(id)
     }
 
     /// Whether the master owns the hash of each key that the command names.
     pub fn owns(&self, command: &Command) -> bool
         ensures { result ≡ owns_all (meaning self.now.lo self.now.hi self.now.entries).owned (hashes command.now) }
     {
-        lies_in(self.lo, self.hi, command)
+        owns_each(&self.state.ranges, &Hashes::of(command))
     }
 
-    // Whether the entry could be pushed: its request is new, and its hashes are owned.
-    fn fits(&self, entry: &Entry) -> bool
-        requires { IsOp entry.now }
-        ensures { result ≡ fits_at (meaning self.now.lo self.now.hi self.now.entries) entry.now }
+    // Whether the entry could be pushed.
+    fn fits(&self, entry: &Entry) -> Result<bool, NoMemory>
+        ensures { IfOk result (λ fits. fits ≡ fits_at (meaning self.now.lo self.now.hi self.now.entries) entry.now) }
     {
         match entry {
             Entry::Op { request, .. } => {
-                self.check(&request.id) == Check::New && self.owns(&request.command)
+                Ok(self.check(&request.id) == Check::New && self.owns(&request.command))
             }
-            _ => false,
+            Entry::Take { package, .. } => self.fits_package(package),
+            Entry::Give { .. } | Entry::Expire { .. } => Ok(true),
         }
+    }
+
+    // Whether a Take of that package could be pushed.
+    fn fits_package(&self, taken: &Package) -> Result<bool, NoMemory>
+        ensures { IfOk result (λ fits. fits
+            ≡ fits_at (meaning self.now.lo self.now.hi self.now.entries) (Take 0 taken.now)) }
+    {
+        one_span_covers();
+        let _spans = self.state.ranges.spans();
+        if !self.state.ranges.covers(taken.lo, taken.hi) {
+            return Ok(false);
+        }
+        let own = self.pack(taken.lo, taken.hi)?;
+        Ok(same_package(taken, &own))
+    }
+
+    /// What a Take of the range from `lo` to `hi` would carry: the pairs of the range, and the whole reply table.
+    pub fn pack(&self, lo: u64, hi: u64) -> Result<Package, NoMemory>
+        requires { lo ≤ hi }
+        ensures lo { IfOk result (λ part. part.lo ≡ lo) }
+        ensures hi { IfOk result (λ part. part.hi ≡ hi) }
+        ensures pairs { IfOk result (λ part. part.pairs
+            ≡ filter (is_pair_in lo hi) (map.entries (meaning self.now.lo self.now.hi self.now.entries).store)) }
+        ensures table { IfOk result (λ part. part.table
+            ≡ packed (meaning self.now.lo self.now.hi self.now.entries).table) }
+    {
+        let all = self.state.store.pairs(self.alloc)?;
+        Ok(Package {
+            lo,
+            hi,
+            pairs: pairs_in(self.alloc, all.as_slice(), lo, hi)?,
+            table: self.state.table.pack()?,
+        })
     }
 
     /// What was answered to the Op at that index, if one stands there.
     pub fn answer(&self, index: u64) -> Option<Answer>
         ensures { result ≡ answer_at self.now.lo self.now.hi self.now.entries index }
     {
-        self.answers.get(index as usize).copied()
+        match self.answers.get(index as usize) {
+            Some(answer) => *answer,
+            None => None,
+        }
     }
 
     /// The store behind the entries.
     pub fn store(&self) -> &Store
         ensures { result.now.map ≡ (meaning self.now.lo self.now.hi self.now.entries).store }
     {
-        &self.store
+        &self.state.store
     }
-}
 
-/// The number that an entry acknowledges for the client; 0 acknowledges nothing.
-fn acknowledged_by(entry: &Entry, client: u32) -> u32
-    ensures { result ≡ acknowledged_by entry.now client }
-{
-    match entry {
-        Entry::Op {
-            request,
-            acknowledge,
-        } if request.id.client == client => *acknowledge,
-        _ => 0,
+    /// The reply table behind the entries.
+    pub fn table(&self) -> &Table
+        ensures { result.now.table ≡ (meaning self.now.lo self.now.hi self.now.entries).table }
+    {
+        &self.state.table
     }
-}
 
-/// Whether the entry is an Op of that request.
-fn is_op_of(entry: &Entry, id: &RequestId) -> bool
-    ensures { result ≡ is_op_of entry.now id.now }
-{
-    match entry {
-        Entry::Op { request, .. } => request.id == *id,
-        _ => false,
+    /// The hashes that the master owns behind the entries.
+    pub fn ranges(&self) -> &Ranges
+        ensures { result.now.spans ≡ (meaning self.now.lo self.now.hi self.now.entries).owned }
+    {
+        &self.state.ranges
     }
-}
 
-/// The check of an id among Ops, with the answer to each.
-fn check_in(entries: &[Entry], answers: &[Answer], id: &RequestId) -> Check
-    requires { length entries.now ≡ length answers.now }
-    ensures { result ≡ check_in entries.now answers.now id.now }
-{
-    let mut first = 0;
-    let mut found = Check::New;
-    for index in (0..entries.len()).rev() {
-        let entry = &entries[index];
-        first = acknowledged_by(entry, id.client).max(first);
-        if is_op_of(entry, id) {
-            found = Check::Known {
-                answer: answers[index],
-                index: index as u64,
-            };
+    /// The last package that was taken, if one was.
+    pub fn package(&self) -> Option<Taken<'_>>
+        ensures { taken_of result ≡ (meaning self.now.lo self.now.hi self.now.entries).taken }
+    {
+        let index = self.taken?;
+        match &self.entries[index as usize] {
+            Entry::Take { migration, package } => Some(Taken {
+                migration: *migration,
+                package,
+                index,
+            }),
+            _ => None,
         }
     }
-    if id.seq < first {
-        Check::Stale { first }
-    } else {
-        found
+
+    /// The last migration that was given, if one was.
+    pub fn given(&self) -> Option<Given>
+        ensures { given_of result ≡ (meaning self.now.lo self.now.hi self.now.entries).given }
+    {
+        self.state.given
     }
 }
 
-/// Whether the hash of each key that the command names lies in the range.
-fn lies_in(lo: u64, hi: u64, command: &Command) -> bool
-    ensures { result ≡ list_all (is_in lo hi) (hashes_of command.now) }
+/// Whether each of the hashes is owned.
+fn owns_each(ranges: &Ranges, hashes: &Hashes) -> bool
+    ensures { result ≡ list_all (is_owned ranges.now.spans) hashes.now }
 {
-    Hashes::of(command)
-        .as_slice()
-        .iter()
-        .all(|hash| lo <= *hash && *hash <= hi)
+    hashes.as_slice().iter().all(|hash| ranges.owns(*hash))
+}
+
+/// Where the last Take stands, once an entry with that index comes.
+fn take_index(before: Option<u64>, index: u64, entry: &Entry) -> Option<u64>
+    ensures { result ≡ take_index before index entry.now }
+{
+    match entry {
+        Entry::Take { .. } => Some(index),
+        _ => before,
+    }
 }
 
 /// Whether a master that began with the hashes from `lo` to `hi` could have pushed these entries.
 pub fn is_log(alloc: Global, lo: u64, hi: u64, entries: &[Entry]) -> Result<bool, NoMemory>
     requires ordered { lo ≤ hi }
-    requires ops { Each IsOp entries.now }
     ensures { IfOk result (λ is. is ≡ is_log lo hi entries.now) }
 {
     let mut log = Log::begin(alloc, lo, hi)?;
     for entry in entries {
-        if !log.fits(entry) {
+        let fits = log.fits(entry)?;
+        if !fits {
             return Ok(false);
         }
         log.reserve(room(entry))?;
@@ -275,19 +324,16 @@ mod tests {
         }
     }
 
-    fn op(client: u32, seq: u32, acknowledge: u32, command: Command) -> Entry
-        ensures { IsOp result }
-    {
+    fn op(client: u32, seq: u32, acknowledge: u32, command: Command) -> Entry {
         Entry::Op {
             request: request(client, seq, command),
             acknowledge,
         }
     }
 
-    fn push(rt: &impl Abort, log: &mut Log, entry: Entry) -> Result<u64, Fail>
-        requires { IsOp entry }
-    {
-        assert!(rt; log.fits(&entry));
+    fn push(rt: &impl Abort, log: &mut Log, entry: Entry) -> Result<u64, Fail> {
+        let fits = log.fits(&entry)?;
+        assert!(rt; fits);
         log.reserve(room(&entry))?;
         Ok(log.push(entry))
     }
@@ -347,16 +393,159 @@ mod tests {
         Ok(())
     }
 
+    // Puts "a" and "b", and then takes the range that "a" alone lies in.
+    fn a_taken(rt: &impl Abort, alloc: Global) -> Result<Log, Fail> {
+        let (a, b) = (Key::new(b"a")?, Key::new(b"b")?);
+        let mut log = Log::begin(alloc, 0, u64::MAX)?;
+        push(
+            rt,
+            &mut log,
+            op(1, 1, 0, Command::Put(a, Value::new(b"1")?)),
+        )?;
+        push(
+            rt,
+            &mut log,
+            op(1, 2, 0, Command::Put(b, Value::new(b"2")?)),
+        )?;
+        let package = log.pack(A, A)?;
+        let take = Entry::Take {
+            migration: 7,
+            package,
+        };
+        assert_eq!(rt; push(rt, &mut log, take)?, 2);
+        Ok(log)
+    }
+
     #[test]
-    fn holds_many_ops(rt: HostRuntime) -> Result<(), Fail> {
-        let (key, value) = (Key::new(&[b'k'; 32])?, Value::new(&[7; 128])?);
-        let mut log = Log::begin(rt.alloc(), 0, u64::MAX)?;
-        for seq in 1..=500 {
-            push(&rt, &mut log, op(1, seq, 0, Command::Put(key, value)))?;
+    fn a_range_leaves_with_its_pairs(rt: HostRuntime) -> Result<(), Fail> {
+        let log = a_taken(&rt, rt.alloc())?;
+        let (a, b) = (Key::new(b"a")?, Key::new(b"b")?);
+        assert!(rt; !log.owns(&Command::Get(a)));
+        assert!(rt; log.owns(&Command::Get(b)));
+        assert_eq!(rt;
+            log.ranges().spans(),
+            [(0, A - 1), (A + 1, u64::MAX)].as_slice()
+        );
+        assert_eq!(rt; log.store().get(&a), None);
+        assert_eq!(rt; log.store().get(&b), Some(Value::new(b"2")?));
+        let first = RequestId { client: 1, seq: 1 };
+        let done = Check::Known {
+            answer: Answer::Done,
+            index: 0,
+        };
+        assert_eq!(rt; log.check(&first), done);
+        assert!(rt; log.answer(2) == None);
+        let taken = log.package().expect(&rt, "taken");
+        assert_eq!(rt; (taken.migration, taken.index), (7, 2));
+        let pairs = [(a, Value::new(b"1")?)];
+        assert_eq!(rt; taken.package.pairs.as_slice(), pairs.as_slice());
+        let second = RequestId { client: 1, seq: 2 };
+        let records = [(first, Answer::Done), (second, Answer::Done)];
+        assert_eq!(rt; taken.package.table.records.as_slice(), records.as_slice());
+        Ok(())
+    }
+
+    #[test]
+    fn a_range_comes_with_its_pairs(rt: HostRuntime) -> Result<(), Fail> {
+        let from = a_taken(&rt, rt.alloc())?;
+        let package = from
+            .package()
+            .expect(&rt, "taken")
+            .package
+            .copy(rt.alloc())?;
+        let mut log = Log::begin(rt.alloc(), 0, 9)?;
+        push(&rt, &mut log, Entry::Expire { client: 9 })?;
+        let give = Entry::Give {
+            migration: 7,
+            package,
+        };
+        assert_eq!(rt; push(&rt, &mut log, give)?, 1);
+        let a = Key::new(b"a")?;
+        assert!(rt; log.owns(&Command::Get(a)));
+        assert_eq!(rt; log.ranges().spans(), [(0, 9), (A, A)].as_slice());
+        assert_eq!(rt; log.store().get(&a), Some(Value::new(b"1")?));
+        let known = Check::Known {
+            answer: Answer::Done,
+            index: 1,
+        };
+        assert_eq!(rt; log.check(&RequestId { client: 1, seq: 2 }), known);
+        assert!(rt;
+            log.given()
+                == Some(Given {
+                    migration: 7,
+                    index: 1
+                })
+        );
+        assert!(rt; log.package().is_none());
+        Ok(())
+    }
+
+    #[test]
+    fn a_client_goes_with_its_records(rt: HostRuntime) -> Result<(), Fail> {
+        let mut log = three_ops(&rt, rt.alloc())?;
+        push(&rt, &mut log, Entry::Expire { client: 1 })?;
+        assert_eq!(rt; log.check(&RequestId { client: 1, seq: 2 }), Check::Expired);
+        assert_eq!(rt; log.check(&RequestId { client: 1, seq: 9 }), Check::Expired);
+        let known = Check::Known {
+            answer: Answer::Number(1),
+            index: 2,
+        };
+        assert_eq!(rt; log.check(&RequestId { client: 2, seq: 1 }), known);
+        assert!(rt; log.answer(1) == Some(Answer::Removed(true)));
+        Ok(())
+    }
+
+    #[test]
+    fn a_package_is_what_the_range_has(rt: HostRuntime) -> Result<(), Fail> {
+        let log = a_taken(&rt, rt.alloc())?;
+        assert!(rt; is_log(rt.alloc(), 0, u64::MAX, log.entries())?);
+        assert!(rt; !is_log(rt.alloc(), 0, u64::MAX, past(log.entries(), 1))?);
+        assert!(rt; !is_log(rt.alloc(), 0, A - 1, past(log.entries(), 2))?);
+        Ok(())
+    }
+
+    // 9,998 Ops of seven clients, and then the lower half of the hashes leaves, and a client goes.
+    fn ten_thousand(rt: &impl Abort, alloc: Global) -> Result<Log, Fail> {
+        let value = Value::new(&[7; 128])?;
+        let mut log = Log::begin(alloc, 0, u64::MAX)?;
+        for seq in 1..=9_998u32 {
+            let key = Key::new(&(u64::from(seq) << 32).to_be_bytes())?;
+            push(rt, &mut log, op(seq % 7, seq, 0, Command::Put(key, value)))?;
         }
-        assert_eq!(rt; log.len(), 500);
-        assert_eq!(rt; log.suffix(0)?.len(), 500);
-        assert_eq!(rt; log.store().get(&key), Some(value));
+        let package = log.pack(0, u64::MAX / 2)?;
+        push(
+            rt,
+            &mut log,
+            Entry::Take {
+                migration: 1,
+                package,
+            },
+        )?;
+        push(rt, &mut log, Entry::Expire { client: 3 })?;
+        Ok(log)
+    }
+
+    #[test]
+    fn holds_ten_thousand_entries(rt: HostRuntime) -> Result<(), Fail> {
+        let log = ten_thousand(&rt, rt.alloc())?;
+        assert_eq!(rt; log.len(), 10_000);
+        assert_eq!(rt; log.suffix(0)?.len(), 10_000);
+        let taken = log.package().expect(&rt, "taken");
+        assert_eq!(rt; taken.package.pairs.len(), 4991);
+        assert_eq!(rt; taken.package.table.records.len(), 9_998);
+        let known = |index| Check::Known {
+            answer: Answer::Done,
+            index,
+        };
+        for (client, seq, check) in [
+            (1, 1, known(0)),
+            (2, 9_998, known(9_997)),
+            (2, 9_999, Check::New),
+            (3, 3, Check::Expired),
+        ] {
+            assert_eq!(rt; log.check(&RequestId { client, seq }), check);
+        }
+        assert!(rt; is_log(rt.alloc(), 0, u64::MAX, log.entries())?);
         Ok(())
     }
 

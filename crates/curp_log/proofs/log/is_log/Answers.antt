@@ -6,7 +6,7 @@ pub returns-then-not-fits : goal.returns-then-not-fits
 returns-then-not-fits c =
     let so_far = c.loop-entry.invariant in
     let here = same_fit c.loop-entry.log.lo c.loop-entry.log.hi c.args.lo c.args.hi c.loop-entry.log.entries (take c.loop-entry.entry-index c.args.entries.now) c.entry-item.result so_far.lo so_far.hi so_far.entries in
-    refused c.args.lo c.args.hi c.args.entries.now c.loop-entry.entry-index c.entry-item.result c.loop-entry-test.true c.entry-item.is (sym here ∙ sym c.if-not-fits.ensures)
+    refused c.args.lo c.args.hi c.args.entries.now c.loop-entry.entry-index c.entry-item.result c.loop-entry-test.true c.entry-item.is (sym here ∙ sym c.in_ok-fits.ensures ∙ c.if-not-fits.true)
 
 pub loop-entry-preserved : goal.loop-entry-preserved
 loop-entry-preserved c =
@@ -20,5 +20,5 @@ loop-entry-preserved c =
           ∙ sym (taken_more c.args.entries.now c.loop-entry.entry-index c.entry-item.result c.loop-entry-test.true c.entry-item.is);
       so_far =
           passed c.args.lo c.args.hi c.args.entries.now c.loop-entry.entry-index c.entry-item.result c.loop-entry-test.true c.entry-item.is so_far.so_far
-          (sym here ∙ sym c.if-not-fits.ensures);
+          (sym here ∙ sym c.in_ok-fits.ensures ∙ c.if-not-fits.false);
     }

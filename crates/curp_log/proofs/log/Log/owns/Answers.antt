@@ -1,12 +1,14 @@
-use Rattle.std.proofs.Common.{◌∙◌, ap, sym}
-use Rattle.curp_cmd.specs.Hash.{hashes_of, hashes}
-use Rattle.curp_model.specs.Log.{log_opening}
-use Rattle.curp_model.specs.Ranges.{owns_all}
-use Rattle.curp_log.proofs.Fold.{left_by_ops}
-use Rattle.curp_log.proofs.Owned.{owned_in_one}
+use Rattle.std.proofs.Common.{◌≡◌, ◌∙◌, ap, sym}
+use Rattle.std.specs.List.{list_all}
+use Rattle.curp_cmd.specs.Hash.{hashes_of}
+use Rattle.curp_range.specs.Spans.{is_owned}
+use Rattle.curp_model.specs.Log.{LogState, meaning}
+use Rattle.curp_log.proofs.Owned.{all_owned}
 use Rattle.curp_log.proofs.log.Log.owns.Goals as goal
 
 pub returns : goal.returns
 returns c =
-    let range = (left_by_ops c.self.inside.entries.items (log_opening c.self.inside.lo c.self.inside.hi) 0 c.self.invariant.ops).owned in
-    rw (← c.self.view_is) (c.lies_in.ensures ∙ sym (owned_in_one c.self.inside.lo c.self.inside.hi (hashes_of c.args.command.now)) ∙ ap (λ spans. owns_all spans (hashes c.args.command.now)) (sym range))
+    let before : LogState = meaning c.self.inside.lo c.self.inside.hi c.self.inside.entries.items in
+    let owned : c.self.inside.state.ranges.spans ≡ before.owned = ap (λ (s : LogState). s.owned) c.self.invariant.means in
+    rw (← c.self.view_is)
+    (c.owns_each.ensures ∙ (λ i. list_all (is_owned (owned i)) (c.of.ensures i)) ∙ sym (all_owned before.owned (hashes_of c.args.command.now)))
