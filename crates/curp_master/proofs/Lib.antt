@@ -3,6 +3,7 @@ pub mod Beside
 pub mod Collections
 pub mod Ends
 pub mod Fresh
+pub mod Packed
 pub mod Places
 pub mod Suffixes
 pub mod Settled

@@ -3,7 +3,7 @@
 use Rattle.std.specs.Prelude.{ℕ}
 use Rattle.curp_cmd.specs.declared.node.NodeId.{NodeId}
 use Rattle.curp_msg.specs.declared.body.Body.{Body}
-use Rattle.curp_msg.specs.declared.body.Body.TheVariants.{Update, Sync, Read, Appended, Prepare, Adopted}
+use Rattle.curp_msg.specs.declared.body.Body.TheVariants.{Update, Sync, Read, Appended, Prepare, Adopted, TakeOut, GiveIn, ExpireClient}
 use Rattle.curp_msg.specs.declared.machine.Input.{Input}
 use Rattle.curp_msg.specs.declared.machine.Input.TheVariants as input
 use Rattle.curp_msg.specs.declared.machine.Local.{Local}
@@ -19,6 +19,9 @@ on_built n m from (Read ask) = on_serving n m from (Read ask)
 on_built n m from (Appended a) = on_serving n m from (Appended a)
 on_built n m from (Prepare p) = on_serving n m from (Prepare p)
 on_built n m from (Adopted a) = on_serving n m from (Adopted a)
+on_built n m from (TakeOut t) = on_serving n m from (TakeOut t)
+on_built n m from (GiveIn g) = on_serving n m from (GiveIn g)
+on_built n m from (ExpireClient client) = on_serving n m from (ExpireClient client)
 on_built n m from _ = quiet m
 
 -- an order comes to the serving master n

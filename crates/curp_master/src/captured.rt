@@ -64,6 +64,12 @@ impl Captured {
         }
     }
 
+    pub(crate) fn number(&self) -> u64
+        ensures { result ≡ self.now.number }
+    {
+        self.number
+    }
+
     /// Whether all of these backups have acknowledged the length and the round.
     pub(crate) fn is_ready(&self, acknowledged: &[Acknowledged], backups: &[NodeId]) -> bool
         ensures { result ≡ all_have acknowledged.now backups.now self.now.length self.now.round }

@@ -4,7 +4,6 @@ ghost use Rattle.curp_cmd.specs.Entry.{room_of};
 ghost use Rattle.curp_cmd.specs.declared.entry.Entry.TheVariants.{Op};
 ghost use Rattle.curp_model.specs.Log.{answer_after, fits_at, is_touched, meaning};
 ghost use Rattle.curp_model.specs.Master.{has};
-ghost use Rattle.curp_log.specs.Ops.{IsOp};
 ghost use Rattle.curp_tail.specs.Tail.{tail_of};
 ghost use Rattle.curp_master.specs.Journal.{CanPush, HasRoom, free_with, journal_of, with_entry};
 
@@ -100,7 +99,6 @@ impl Journal {
     pub(crate) fn push(&mut self, entry: Entry, is_free: bool)
         requires room { HasRoom self.old (room_of entry) }
         requires fits { fits_at (meaning self.old.kept.lo self.old.kept.hi self.old.kept.entries) entry ≡ true }
-        requires op { IsOp entry }
         ensures pushed { self.new.kept ≡ with_entry self.old.kept entry is_free }
         ensures units { self.old.units ≤ self.new.units + room_of entry }
         ensures hashes { self.old.hashes ≤ self.new.hashes + 4 * room_of entry }

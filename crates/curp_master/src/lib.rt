@@ -4,11 +4,13 @@
 
 mod acknowledged;
 mod captured;
+mod captures;
 mod collecting;
 mod indexes;
 mod journal;
 mod master;
 mod messages;
+mod moving;
 mod phase;
 mod reads;
 mod replies;

@@ -1,11 +1,12 @@
-ghost use Rattle.std.specs.Prelude.{◌≡◌, IfOk};
+ghost use Rattle.std.specs.Prelude.{◌≡◌, ◌≤◌, IfOk};
+ghost use Rattle.curp_base.specs.Words.{Each};
 ghost use Rattle.curp_model.specs.Master as master;
 ghost use Rattle.curp_model.specs.Master.{beginning};
 ghost use Rattle.curp_msg.specs.Moved.{Moves, numbered_move};
 ghost use Rattle.curp_master.specs.Built.{built_ordered, on_built};
 
 use crate::acknowledged::{Acknowledged, all_at, least_length};
-use crate::captured::Captured;
+use crate::captures::Captures;
 use crate::indexes::Indexes;
 use crate::journal::Journal;
 use crate::phase::Phase;
@@ -33,9 +34,7 @@ pub struct Master {
     pub(crate) acknowledged: Vec<Acknowledged>,
     pub(crate) settled: u64,
     pub(crate) round: u64,
-    pub(crate) captures: Vec<Captured>,
-    // How many captures there were.
-    pub(crate) captured: u64,
+    pub(crate) captures: Captures,
     pub(crate) held: Indexes,
     pub(crate) queue: Queue,
     pub(crate) phase: Phase,
@@ -64,8 +63,8 @@ impl Model for Master {
         acknowledged = m.acknowledged.items;
         settled = m.settled;
         round = m.round;
-        captures = m.captures.items;
-        captured = m.captured;
+        captures = m.captures.waiting;
+        captured = m.captures.count;
         held = m.held.numbers;
         free = m.journal.kept.free;
         queue = m.queue.waiting;
@@ -109,8 +108,7 @@ impl Master {
             acknowledged,
             settled,
             round,
-            captures: Vec::new(alloc),
-            captured: 0,
+            captures: Captures::new(alloc),
             held: Indexes::new(alloc),
             queue: Queue::new(alloc),
             phase: Phase::Open,
@@ -131,6 +129,9 @@ impl Master {
             Body::Appended(appended) => self.on_appended(&message.from, appended),
             Body::Prepare(prepare) => self.prepare(prepare),
             Body::Adopted(adopted) => self.adopted(adopted.version),
+            Body::TakeOut(take) => self.take_out(take),
+            Body::GiveIn(parcel) => self.give_in(parcel.get()),
+            Body::ExpireClient { client } => self.expire(*client),
             _ => Ok(Done::quiet(self.alloc)),
         }
     }
@@ -175,6 +176,16 @@ impl Master {
         ensures { result ≡ self.now.state.part }
     {
         self.part
+    }
+
+    /// How many reads it has captured. The captures that wait have no larger numbers.
+    pub fn captured(&self) -> u64
+        ensures value { result ≡ self.now.state.captured }
+        ensures numbered { Each (λ capture. capture.number ≤ self.now.state.captured) self.now.state.captures }
+    {
+        // For its clause alone.
+        let _waiting = self.captures.waiting();
+        self.captures.count()
     }
 
     pub fn epoch(&self) -> u32

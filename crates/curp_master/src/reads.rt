@@ -60,13 +60,13 @@ impl Master {
         ensures moves { Moves self.old self.new result
             (move_of self.old (captures_read self.old.number self.old.state request.now key.now)) }
     {
-        let Some(number) = self.captured.checked_add(1) else {
+        let Some(number) = self.captures.count().checked_add(1) else {
             return Ok(Done::quiet(self.alloc));
         };
         let Some(round) = self.next_round(&[])? else {
             return Ok(Done::quiet(self.alloc));
         };
-        self.captures.reserve(1)?;
+        self.captures.reserve()?;
         let log = self.journal.log();
         let value = Answer::Found(log.store().get(key));
         let captured = Captured::new(
@@ -77,8 +77,7 @@ impl Master {
             log.len(),
             round.number,
         );
-        self.captures.push_reserved(captured);
-        self.captured = number;
+        self.captures.push(captured);
         self.round = round.number;
         Ok(Done::sends(round.appends))
     }

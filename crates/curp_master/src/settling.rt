@@ -7,7 +7,6 @@ ghost use Rattle.curp_master.specs.Built.{move_of};
 ghost use Rattle.curp_master.specs.Settling.{acknowledging, listing, prepares_in, ready_version, telling};
 
 use crate::acknowledged::{Acknowledged, all_have, least_length, raised};
-use crate::captured::Captured;
 use crate::phase::{Phase, Switch};
 use crate::{Master, messages};
 use curp_base::{Boxed, NoMemory, past};
@@ -127,7 +126,8 @@ impl Master {
     {
         let synced = self.journal.synced();
         self.held.remove_below(synced);
-        remove_ready(&mut self.captures, &self.acknowledged, &self.backups);
+        self.captures
+            .remove_ready(&self.acknowledged, &self.backups);
         self.settled = synced;
     }
 
@@ -186,7 +186,7 @@ impl Master {
         ensures { OnOk result (sent.new.items ≡ sent.old.items ++ map (value_of self.now.number self.now.state)
             (filter (λ c. all_have acknowledged.now backups.now c.length c.round) self.now.state.captures)) }
     {
-        for capture in &self.captures {
+        for capture in self.captures.waiting() {
             if capture.is_ready(acknowledged, backups) {
                 sent.push(capture.value(self.alloc, self.number, self.epoch)?)?;
             }
@@ -225,12 +225,4 @@ impl Master {
         }
         Ok(())
     }
-}
-
-// Takes out the captures that all these backups have acknowledged.
-fn remove_ready(captures: &mut Vec<Captured>, acknowledged: &[Acknowledged], backups: &[NodeId])
-    ensures { captures.new.items
-        ≡ filter (λ c. not (all_have acknowledged.now backups.now c.length c.round)) captures.old.items }
-{
-    captures.retain(|capture| !capture.is_ready(acknowledged, backups));
 }

@@ -1,5 +1,5 @@
 ghost use Rattle.std.specs.Prelude.{◌≡◌, ◌+◌, ◌≤◌, true, IfOk, OnOk};
-ghost use Rattle.curp_model.specs.Table.{acknowledge, check, expire, merge, no_records, note, packed};
+ghost use Rattle.curp_model.specs.Table.{acknowledge, check, expire, merge, no_records, note, packed, is_gone};
 ghost use Rattle.curp_model.specs.declared.Check.TheVariants.{New};
 ghost use Rattle.curp_rifl.specs.Stored.{room_of};
 
@@ -85,6 +85,13 @@ impl Table {
             },
             None => Check::New,
         }
+    }
+
+    /// Whether the client is gone for good. It makes one binary search.
+    pub fn is_gone(&self, client: u32) -> bool
+        ensures { result ≡ is_gone self.now.table client }
+    {
+        has_client(&self.gone, client)
     }
 
     /// A request is done, with that answer, by the entry with that index. It takes no memory, since there is room.

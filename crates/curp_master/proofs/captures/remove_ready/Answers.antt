@@ -1,7 +1,7 @@
 use Rattle.std.proofs.Common.{not, rules, tests}
 use Rattle.std.proofs.lemmas.Fn.{filter_same}
 use Rattle.curp_model.specs.Master.{Captured, all_have}
-use Rattle.curp_master.proofs.settling.remove_ready.Goals as goal
+use Rattle.curp_master.proofs.captures.remove_ready.Goals as goal
 
 pub returns : goal.returns
 returns c =
