@@ -385,8 +385,18 @@ mod tests {
         let last = request(2, 1, Command::Incr(Key::new(b"a")?));
         assert!(rt; log.request(2) == Some(last));
         assert!(rt; log.request(3) == None);
+        Ok(())
+    }
+
+    fn suffix_len(log: &Log, start: u64) -> Result<usize, NoMemory> {
+        Ok(log.suffix(start)?.len())
+    }
+
+    #[test]
+    fn copies_what_stands_from_there_on(rt: HostRuntime) -> Result<(), Fail> {
+        let log = three_ops(&rt, rt.alloc())?;
         for (start, count) in [(0, 3), (2, 1), (3, 0), (4, 0)] {
-            assert_eq!(rt; log.suffix(start)?.len(), count);
+            assert_eq!(rt; suffix_len(&log, start)?, count);
         }
         assert_eq!(rt; log.len(), 3);
         assert_eq!(rt; log.entries().len(), 3);
@@ -565,7 +575,7 @@ mod tests {
     fn holds_ten_thousand_entries(rt: HostRuntime) -> Result<(), Fail> {
         let log = ten_thousand(&rt, rt.alloc())?;
         assert_eq!(rt; log.len(), 10_000);
-        assert_eq!(rt; log.suffix(0)?.len(), 10_000);
+        assert_eq!(rt; suffix_len(&log, 0)?, 10_000);
         assert_eq!(rt; taken_sizes(&log), Some((4_991, 9_998)));
         let last = RequestId {
             client: 2,
