@@ -11,7 +11,7 @@ use Rattle.curp_cmd.specs.declared.migration.Package.{Package}
 use Rattle.curp_model.proofs.Logs.{meaning_append}
 use Rattle.curp_model.proofs.Packages.{package_eq-Decides}
 use Rattle.curp_range.specs.Spans.{is_covered}
-use Rattle.curp_model.specs.Log.{LogState, after_entries, after_entry, fits_at, is_log, is_pair_in, log_opening, meaning, package_of}
+use Rattle.curp_model.specs.Log.{LogState, after_entries, after_entry, fits_at, is_pair_in, log_opening, meaning, package_of}
 use Rattle.curp_log.specs.Ops.{answer_of, answer_at}
 use Rattle.curp_log.specs.State.{IsKeptLog, answers_in, last_take, meant_by, take_index, take_of, untaken}
 use Rattle.curp_log.specs.declared.state.State.{State}

@@ -385,98 +385,134 @@ mod tests {
         let last = request(2, 1, Command::Incr(Key::new(b"a")?));
         assert!(rt; log.request(2) == Some(last));
         assert!(rt; log.request(3) == None);
+        Ok(())
+    }
+
+    fn suffix_len(log: &Log, start: u64) -> Result<usize, NoMemory> {
+        Ok(log.suffix(start)?.len())
+    }
+
+    #[test]
+    fn copies_what_stands_from_there_on(rt: HostRuntime) -> Result<(), Fail> {
+        let log = three_ops(&rt, rt.alloc())?;
         for (start, count) in [(0, 3), (2, 1), (3, 0), (4, 0)] {
-            assert_eq!(rt; log.suffix(start)?.len(), count);
+            assert_eq!(rt; suffix_len(&log, start)?, count);
         }
         assert_eq!(rt; log.len(), 3);
         assert_eq!(rt; log.entries().len(), 3);
         Ok(())
     }
 
-    // Puts "a" and "b", and then takes the range that "a" alone lies in.
-    fn a_taken(rt: &impl Abort, alloc: Global) -> Result<Log, Fail> {
+    // Puts "a" and "b".
+    fn two_ops(rt: &impl Abort, alloc: Global) -> Result<Log, Fail> {
         let (a, b) = (Key::new(b"a")?, Key::new(b"b")?);
+        let (one, two) = (Value::new(b"1")?, Value::new(b"2")?);
         let mut log = Log::begin(alloc, 0, u64::MAX)?;
-        push(
-            rt,
-            &mut log,
-            op(1, 1, 0, Command::Put(a, Value::new(b"1")?)),
-        )?;
-        push(
-            rt,
-            &mut log,
-            op(1, 2, 0, Command::Put(b, Value::new(b"2")?)),
-        )?;
+        push(rt, &mut log, op(1, 1, 0, Command::Put(a, one)))?;
+        push(rt, &mut log, op(1, 2, 0, Command::Put(b, two)))?;
+        Ok(log)
+    }
+
+    // The same, and then the range leaves that "a" alone lies in.
+    fn a_taken(rt: &impl Abort, alloc: Global) -> Result<Log, Fail> {
+        let mut log = two_ops(rt, alloc)?;
         let package = log.pack(A, A)?;
         let take = Entry::Take {
             migration: 7,
             package,
         };
-        assert_eq!(rt; push(rt, &mut log, take)?, 2);
+        push(rt, &mut log, take)?;
         Ok(log)
+    }
+
+    // A log with other hashes, to which that range comes.
+    fn a_given(rt: &impl Abort, alloc: Global) -> Result<Log, Fail> {
+        let from = two_ops(rt, alloc)?;
+        let package = from.pack(A, A)?;
+        let give = Entry::Give {
+            migration: 7,
+            package,
+        };
+        let mut log = Log::begin(alloc, 0, 9)?;
+        push(rt, &mut log, Entry::Expire { client: 9 })?;
+        push(rt, &mut log, give)?;
+        Ok(log)
+    }
+
+    // Where the last Take stands, with its migration.
+    fn last_take(log: &Log) -> Option<(u32, u64)> {
+        let taken = log.package()?;
+        Some((taken.migration, taken.index))
     }
 
     #[test]
     fn a_range_leaves_with_its_pairs(rt: HostRuntime) -> Result<(), Fail> {
         let log = a_taken(&rt, rt.alloc())?;
         let (a, b) = (Key::new(b"a")?, Key::new(b"b")?);
-        assert!(rt; !log.owns(&Command::Get(a)));
-        assert!(rt; log.owns(&Command::Get(b)));
-        assert_eq!(rt;
-            log.ranges().spans(),
-            [(0, A - 1), (A + 1, u64::MAX)].as_slice()
-        );
-        assert_eq!(rt; log.store().get(&a), None);
-        assert_eq!(rt; log.store().get(&b), Some(Value::new(b"2")?));
-        let first = RequestId { client: 1, seq: 1 };
-        let done = Check::Known {
-            answer: Answer::Done,
-            index: 0,
-        };
-        assert_eq!(rt; log.check(&first), done);
-        assert!(rt; log.answer(2) == None);
-        let taken = log.package().expect(&rt, "taken");
-        assert_eq!(rt; (taken.migration, taken.index), (7, 2));
-        let pairs = [(a, Value::new(b"1")?)];
-        assert_eq!(rt; taken.package.pairs.as_slice(), pairs.as_slice());
-        let second = RequestId { client: 1, seq: 2 };
-        let records = [(first, Answer::Done), (second, Answer::Done)];
-        assert_eq!(rt; taken.package.table.records.as_slice(), records.as_slice());
+        for (key, value) in [(a, None), (b, Some(Value::new(b"2")?))] {
+            assert_eq!(rt; log.store().get(&key), value);
+            assert_eq!(rt; log.owns(&Command::Get(key)), value.is_some());
+        }
+        let spans = [(0, A - 1), (A + 1, u64::MAX)];
+        assert_eq!(rt; log.ranges().spans(), spans.as_slice());
+        assert_eq!(rt; last_take(&log), Some((7, 2)));
         Ok(())
     }
 
     #[test]
     fn a_range_comes_with_its_pairs(rt: HostRuntime) -> Result<(), Fail> {
-        let from = a_taken(&rt, rt.alloc())?;
-        let package = from
-            .package()
-            .expect(&rt, "taken")
-            .package
-            .copy(rt.alloc())?;
-        let mut log = Log::begin(rt.alloc(), 0, 9)?;
-        push(&rt, &mut log, Entry::Expire { client: 9 })?;
-        let give = Entry::Give {
-            migration: 7,
-            package,
-        };
-        assert_eq!(rt; push(&rt, &mut log, give)?, 1);
-        let a = Key::new(b"a")?;
-        assert!(rt; log.owns(&Command::Get(a)));
+        let log = a_given(&rt, rt.alloc())?;
+        let (a, b) = (Key::new(b"a")?, Key::new(b"b")?);
+        for (key, value) in [(a, Some(Value::new(b"1")?)), (b, None)] {
+            assert_eq!(rt; log.store().get(&key), value);
+            assert_eq!(rt; log.owns(&Command::Get(key)), value.is_some());
+        }
         assert_eq!(rt; log.ranges().spans(), [(0, 9), (A, A)].as_slice());
-        assert_eq!(rt; log.store().get(&a), Some(Value::new(b"1")?));
-        let known = Check::Known {
-            answer: Answer::Done,
+        let given = Given {
+            migration: 7,
             index: 1,
         };
-        assert_eq!(rt; log.check(&RequestId { client: 1, seq: 2 }), known);
-        assert!(rt;
-            log.given()
-                == Some(Given {
-                    migration: 7,
-                    index: 1
-                })
-        );
-        assert!(rt; log.package().is_none());
+        assert_eq!(rt; log.given(), Some(given));
+        Ok(())
+    }
+
+    // What would leave with that range.
+    fn part_of_a(rt: &impl Abort, alloc: Global) -> Result<Package, Fail> {
+        let log = two_ops(rt, alloc)?;
+        Ok(log.pack(A, A)?)
+    }
+
+    #[test]
+    fn a_package_has_its_pairs_and_all_records(rt: HostRuntime) -> Result<(), Fail> {
+        let pairs = [(Key::new(b"a")?, Value::new(b"1")?)];
+        let first = RequestId { client: 1, seq: 1 };
+        let second = RequestId { client: 1, seq: 2 };
+        let records = [(first, Answer::Done), (second, Answer::Done)];
+        let part = part_of_a(&rt, rt.alloc())?;
+        assert!(rt; part.pairs.as_slice() == pairs.as_slice());
+        assert!(rt; part.table.records.as_slice() == records.as_slice());
+        Ok(())
+    }
+
+    // The records come with the range, and stand at the Give.
+    #[test]
+    fn what_was_done_elsewhere_is_known(rt: HostRuntime) -> Result<(), Fail> {
+        let log = a_given(&rt, rt.alloc())?;
+        for (client, seq, check) in [
+            (
+                1,
+                2,
+                Check::Known {
+                    answer: Answer::Done,
+                    index: 1,
+                },
+            ),
+            (1, 3, Check::New),
+            (9, 1, Check::Expired),
+        ] {
+            assert_eq!(rt; log.check(&RequestId { client, seq }), check);
+        }
+        assert_eq!(rt; last_take(&log), None);
         Ok(())
     }
 
@@ -484,14 +520,18 @@ mod tests {
     fn a_client_goes_with_its_records(rt: HostRuntime) -> Result<(), Fail> {
         let mut log = three_ops(&rt, rt.alloc())?;
         push(&rt, &mut log, Entry::Expire { client: 1 })?;
-        assert_eq!(rt; log.check(&RequestId { client: 1, seq: 2 }), Check::Expired);
-        assert_eq!(rt; log.check(&RequestId { client: 1, seq: 9 }), Check::Expired);
         let known = Check::Known {
             answer: Answer::Number(1),
             index: 2,
         };
-        assert_eq!(rt; log.check(&RequestId { client: 2, seq: 1 }), known);
-        assert!(rt; log.answer(1) == Some(Answer::Removed(true)));
+        for (client, seq, check) in [
+            (1, 2, Check::Expired),
+            (1, 9, Check::Expired),
+            (2, 1, known),
+        ] {
+            assert_eq!(rt; log.check(&RequestId { client, seq }), check);
+        }
+        assert_eq!(rt; log.answer(1), Some(Answer::Removed(true)));
         Ok(())
     }
 
@@ -525,26 +565,27 @@ mod tests {
         Ok(log)
     }
 
+    // How many pairs and records the last package has.
+    fn taken_sizes(log: &Log) -> Option<(usize, usize)> {
+        let part = log.package()?.package;
+        Some((part.pairs.len(), part.table.records.len()))
+    }
+
     #[test]
     fn holds_ten_thousand_entries(rt: HostRuntime) -> Result<(), Fail> {
         let log = ten_thousand(&rt, rt.alloc())?;
         assert_eq!(rt; log.len(), 10_000);
-        assert_eq!(rt; log.suffix(0)?.len(), 10_000);
-        let taken = log.package().expect(&rt, "taken");
-        assert_eq!(rt; taken.package.pairs.len(), 4991);
-        assert_eq!(rt; taken.package.table.records.len(), 9_998);
-        let known = |index| Check::Known {
-            answer: Answer::Done,
-            index,
+        assert_eq!(rt; suffix_len(&log, 0)?, 10_000);
+        assert_eq!(rt; taken_sizes(&log), Some((4_991, 9_998)));
+        let last = RequestId {
+            client: 2,
+            seq: 9_998,
         };
-        for (client, seq, check) in [
-            (1, 1, known(0)),
-            (2, 9_998, known(9_997)),
-            (2, 9_999, Check::New),
-            (3, 3, Check::Expired),
-        ] {
-            assert_eq!(rt; log.check(&RequestId { client, seq }), check);
-        }
+        let known = Check::Known {
+            answer: Answer::Done,
+            index: 9_997,
+        };
+        assert_eq!(rt; log.check(&last), known);
         assert!(rt; is_log(rt.alloc(), 0, u64::MAX, log.entries())?);
         Ok(())
     }
