@@ -1,13 +1,11 @@
 -- What leaves with a range fits into the log.
-use Rattle.std.proofs.Common.{◌≡◌, ◌≤◌, ◌&&◌, ℕ, true, List, refl, ap, sym, ◌∙◌}
+use Rattle.std.proofs.Common.{◌≡◌, ◌≤◌, ℕ, true, refl, ap, ◌∙◌}
 use mathlib.Core.HLevel.{is_prop→PathP}
 use Rattle.std.proofs.Math.Bridge.{le_prop}
-use Rattle.curp_cmd.specs.Pairs.{Pair}
 use Rattle.curp_cmd.specs.declared.entry.Entry.TheVariants.{Take}
 use Rattle.curp_cmd.specs.declared.migration.Package.{Package}
-use Rattle.curp_cmd.specs.declared.migration.TablePart.{TablePart}
 use Rattle.curp_msg.specs.declared.body.TakeOut.{TakeOut}
-use Rattle.curp_model.specs.Log.{LogState, fits_at, package_eq, package_of}
+use Rattle.curp_model.specs.Log.{LogState, fits_at, package_of}
 use Rattle.curp_model.proofs.Packages.{package_eq-Decides}
 use Rattle.curp_model.specs.Master.{MasterState, push_take, state_of}
 use Rattle.curp_master.specs.Moving.{IsPackage, pushes}

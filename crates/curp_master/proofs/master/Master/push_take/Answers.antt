@@ -1,4 +1,4 @@
-use Rattle.std.proofs.Common.{◌≡◌, subst}
+use Rattle.std.proofs.Common.{subst}
 use Rattle.curp_model.specs.Master.{MasterState, state_of}
 use Rattle.curp_msg.specs.Moved.{Moved, Moves}
 use Rattle.curp_master.specs.Built.{move_of}
