@@ -7,5 +7,5 @@ pub returns : goal.returns
 returns c =
     let ascend : SpansAscend c.as_slice.result.now = subst (λ (xs : List Span). SpansAscend xs) (sym c.as_slice.ensures.value) c.as_slice.ensures.ascend in
     c.new.ensures
-    ∙ left_once c.as_slice.result.now _ _ c.args.lo c.args.hi _ ascend c.spans-_ascending.ensures.ascend c.requires c.in_ok-ranges.ensures.owned c.take_out.ensures.not_owned c.take_out.ensures.ok
+    ∙ left_once c.as_slice.result.now _ _ c.args.lo c.args.hi _ ascend c.spans-ascending.ensures.ascend c.requires c.in_ok-ranges.ensures.owned c.take_out.ensures.not_owned c.take_out.ensures.ok
     ∙ ap (λ (xs : List Span). without xs c.args.lo c.args.hi) c.as_slice.ensures.value
