@@ -1,5 +1,5 @@
 -- Inputs by which no number comes to its end, and those by which one would.
-use Rattle.std.proofs.Common.{◌≡◌, ℕ, ◌+◌, ◌||◌, Bool, true, false, refl, ap, sym, ◌∙◌}
+use Rattle.std.proofs.Common.{◌≡◌, true, false, refl}
 use Rattle.curp_base.proofs.Ends.{never_rises}
 use Rattle.curp_base.specs.Words.{rises_past}
 use Rattle.curp_model.specs.Manager.{ManagerState, Next, counter_ends, last_number, unless_numbers_end}

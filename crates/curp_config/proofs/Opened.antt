@@ -1,5 +1,5 @@
 -- The ranges at opening.
-use Rattle.std.proofs.Common.{◌≡◌, ◌<◌, ◌≤◌, ℕ, ◌+◌, ◌-◌, ◌*◌, ◌/◌, ◌^◌, nat_le, true, refl, ap, sym, ◌∙◌, arith, add-mul, div-mul-le_self, one-mul}
+use Rattle.std.proofs.Common.{◌≡◌, ◌<◌, ◌≤◌, ℕ, ◌+◌, ◌-◌, ◌*◌, ◌/◌, ◌^◌, nat_le, true, refl, arith, add-mul, div-mul-le_self, one-mul}
 use Rattle.std.proofs.Math.Nat.{div-le_of_le-mul}
 use mathlib.Core.HLevel.{is_prop→PathP}
 use Rattle.std.proofs.lemmas.Bool.Decides.{nat_tests}

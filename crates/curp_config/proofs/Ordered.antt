@@ -1,7 +1,6 @@
 -- What orders come to, once it is known whether they are refused and whether a number ends.
-use Rattle.std.proofs.Common.{◌≡◌, ◌≢◌, ℕ, ◌+◌, true, false, Ok, Err, Result, Some, None, Option, refl, ap, sym, ◌∙◌}
+use Rattle.std.proofs.Common.{◌≡◌, ℕ, ◌+◌, true, false, Ok, Err, Result, Option, refl, ap, sym, ◌∙◌}
 use Rattle.std.specs.Result.{IfErr, IsErr, IsErrAnd}
-use Rattle.curp_cmd.specs.Node.{master_node}
 use Rattle.curp_cmd.specs.declared.node.Keeper.{Keeper}
 use Rattle.curp_msg.specs.Moved.{Moved, quiet, refuses, unless_refused}
 use Rattle.curp_msg.specs.declared.body.Recover.{Recover}

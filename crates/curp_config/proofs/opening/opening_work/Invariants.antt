@@ -1,6 +1,6 @@
-use Rattle.std.proofs.Common.{◌≡◌, ℕ, map}
+use Rattle.std.proofs.Common.{◌≡◌, map}
 use Rattle.curp_base.specs.Words.{numbers_from}
-use Rattle.curp_model.specs.Manager.{Doing, Steady}
+use Rattle.curp_model.specs.Manager.{Steady}
 use Rattle.curp_config.proofs.opening.opening_work.Given as goal
 
 -- the partitions so far

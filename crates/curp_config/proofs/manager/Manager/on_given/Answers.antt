@@ -1,4 +1,3 @@
-use Rattle.std.proofs.Common.{ap, ◌∙◌}
 use Rattle.curp_config.proofs.Entries.{moved_numbered}
 use Rattle.curp_config.proofs.manager.Manager.on_given.Goals as goal
 
