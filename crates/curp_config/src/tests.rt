@@ -27,7 +27,7 @@ enum Said {
     Another,
 }
 
-fn said(message: &Message) -> Said {
+fn in_short(message: &Message) -> Said {
     match &message.body {
         Body::Install { epoch } => Said::Install(*epoch),
         Body::Start(start) => Said::Start(start.part, start.epoch),
@@ -56,7 +56,7 @@ fn try_sent(rt: &impl Abort, done: &Done, expected: &[(NodeId, Said)]) {
     assert_eq!(rt; done.sent.len(), expected.len());
     for (message, (to, words)) in done.sent.as_slice().iter().zip(expected) {
         assert_eq!(rt; message.to, *to);
-        assert_eq!(rt; said(message), *words);
+        assert_eq!(rt; in_short(message), *words);
     }
 }
 
