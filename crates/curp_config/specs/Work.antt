@@ -55,4 +55,5 @@ lists_of g c kind place =
 
 -- a range is to move from this owner to this target
 abbrev pub IsMove : Result model.Move ℕ → (lo hi : ℕ) → (owner target : PartConfig) → Type 0
-IsMove found lo hi owner target = (ordered : lo ≤ hi) → found ≡ Ok (record { range = record { lo = lo; hi = hi; ordered = ordered }; owner = owner; target = target })
+IsMove found lo hi owner target = (ordered : lo ≤ hi)
+    → found ≡ Ok (record { range = record { lo = lo; hi = hi; ordered = ordered }; owner = owner; target = target })
