@@ -1,7 +1,7 @@
 -- How nodes refuse: a message never, an order by a small number, and then nothing has changed.
 use Rattle.std.proofs.Common.{arith, refl}
 use Rattle.std.proofs.lemmas.Bool.{cond_both}
-use Rattle.std.specs.Prelude.{◌≡◌, ◌≢◌, ℕ, ◌-◌, ◌^◌, ◌||◌, ◌&&◌, nat_le, [], Bool, true, false, not, length, Option, Some, None, Result, Ok, Err}
+use Rattle.std.specs.Prelude.{◌≡◌, ◌≢◌, ℕ, ◌-◌, ◌^◌, ◌||◌, ◌&&◌, ◌==◌, nat_le, nat_lt, List, [], Bool, true, false, not, length, Option, Some, None, Result, Ok, Err}
 use Rattle.std.specs.Option.{ok_or}
 use Rattle.std.specs.declared.alloc.AllocError.{AllocError}
 use Rattle.curp_base.specs.Cases.{◌>>=◌, refuse_if}
@@ -16,6 +16,11 @@ use Rattle.curp_msg.specs.declared.answer.AppendAnswer.{AppendAnswer}
 use Rattle.curp_msg.specs.declared.answer.AppendAnswer.TheVariants as append
 use Rattle.curp_msg.specs.declared.body.Ask.{Ask}
 use Rattle.curp_msg.specs.declared.body.Body.{Body}
+use Rattle.curp_msg.specs.declared.body.Parcel.{Parcel}
+use Rattle.curp_msg.specs.declared.body.Prepare.{Prepare}
+use Rattle.curp_msg.specs.declared.body.TakeOut.{TakeOut}
+use Rattle.curp_msg.specs.declared.answer.Refusal.{Refusal}
+use Rattle.curp_cmd.specs.declared.command.Command.TheVariants.{Get}
 use Rattle.curp_msg.specs.declared.body.Body.TheVariants as body
 use Rattle.curp_msg.specs.declared.config.PartConfig.{PartConfig}
 use Rattle.curp_msg.specs.declared.machine.Done.{Done}
@@ -26,9 +31,12 @@ use Rattle.curp_msg.specs.declared.message.Message.{Message}
 use Rattle.curp_model.specs.Backup.{BackupState, on_backup}
 use Rattle.curp_model.specs.Client as client
 use Rattle.curp_model.specs.Client.{ClientState, Pending, Early, Attempt, client_ordered, client_input, on_client}
-use Rattle.curp_model.specs.Master.{MasterState, Wish, AtOnce, WhenSynced, Verdict, Deny, Tell, TellAgain, HoldBack, Execute, Phase, Open, Switching, carries_out, executes, goes_on, is_clean, last_round, on_appended, on_serving, on_update, raised, serving_ordered, settle, stored_on, sync_in, unless_it_ends, verdict, all_have}
+use Rattle.curp_model.specs.Master.{MasterState, Wish, AtOnce, WhenSynced, Verdict, Deny, Tell, TellAgain, HoldBack, Execute, Phase, Open, Switching, carries_out, executes, goes_on, is_clean, last_round, on_appended, on_serving, on_update, raised, serving_ordered, settle, stored_on, sync_in, unless_it_ends, verdict, all_have, adopted_in, collect_in, give_after, is_open, on_expire, on_give, on_read, on_take, prepare_in, push_take, read_command, read_of, read_refusal, state_of, synced, take_after, told_again}
 use Rattle.curp_cmd.specs.Node.{is_among}
+use Rattle.curp_model.specs.Log.{LastGive, LastTake}
+use Rattle.curp_model.specs.Table.{is_gone}
 use Rattle.curp_model.specs.Witness.{WitnessState, on_witness}
+use Rattle.curp_range.specs.Spans.{is_covered}
 use Rattle.curp_inv.specs.Machines.{client_machine, master_machine, backup_machine, witness_machine}
 
 -- a refusal is told by its number, which isn't 0; without one, memory was wanting
@@ -155,16 +163,72 @@ ends_taken : (m : MasterState) (r : Moved MasterState) → r.refused ≡ 0 → (
 ends_taken m r taken =
     cond_both (rises_past last_round m.round r.state.round || rises_past last_round m.captured r.state.captured) _ _ (λ (x : Moved MasterState). x.refused ≡ 0) (λ y. refl) (λ no. taken)
 
+read_taken : (n : ℕ) (m : MasterState) (ask : Ask) → (on_read n m ask).refused ≡ 0
+unfolding on_read
+read_taken n m ask = go ask.request.command
+  where
+    answered : (key : List ℕ) (why : Option Refusal) → (read_of n m ask.request key why).refused ≡ 0
+    answered key (Some why) = refl
+    answered key None = refl
+
+    go : (command : Command) → (read_command n m ask command).refused ≡ 0
+    go (Get key) = answered key (read_refusal m ask)
+    go _ = refl
+
+prepare_taken : (n : ℕ) (m : MasterState) (p : Prepare) (phase : Phase) → (prepare_in n m p phase).refused ≡ 0
+prepare_taken n m p Open = cond_both (nat_lt m.version p.version) _ _ (λ (r : Moved MasterState). r.refused ≡ 0) (λ y. refl) (λ no. refl)
+prepare_taken n m p (Switching s) = cond_both (s.version == p.version) _ _ (λ (r : Moved MasterState). r.refused ≡ 0) (λ y. refl) (λ no. refl)
+
+adopted_taken : (n : ℕ) (m : MasterState) (version : ℕ) (phase : Phase) → (adopted_in n m version phase).refused ≡ 0
+unfolding settle
+adopted_taken n m version Open = refl
+adopted_taken n m version (Switching s) = cond_both (s.version == version) _ _ (λ (r : Moved MasterState). r.refused ≡ 0) (λ y. refl) (λ no. refl)
+
+again_taken : (n : ℕ) (m : MasterState) (index : ℕ) (message : Message) → (told_again n m index message).refused ≡ 0
+again_taken n m index message = cond_both (nat_lt index (synced m)) _ _ (λ (r : Moved MasterState). r.refused ≡ 0) (λ y. refl) (λ no. refl)
+
+take_taken : (n : ℕ) (m : MasterState) (t : TakeOut) → (on_take n m t).refused ≡ 0
+take_taken n m t = cond_both (is_open m.phase) _ _ (λ (r : Moved MasterState). r.refused ≡ 0) (λ y. go (state_of m).taken) (λ no. refl)
+  where
+    pushed : (push_take n m t).refused ≡ 0
+    pushed = cond_both (is_covered (state_of m).owned t.lo t.hi) _ _ (λ (r : Moved MasterState). r.refused ≡ 0) (λ y. refl) (λ no. refl)
+
+    go : (last : Option LastTake) → (take_after n m t last).refused ≡ 0
+    go None = pushed
+    go (Some last) = cond_both (t.migration == last.migration) _ _ (λ (r : Moved MasterState). r.refused ≡ 0) (λ y. again_taken n m last.index _)
+        (λ no. cond_both (nat_lt last.migration t.migration) _ _ (λ (r : Moved MasterState). r.refused ≡ 0) (λ y. pushed) (λ no. refl))
+
+give_taken : (n : ℕ) (m : MasterState) (g : Parcel) → (on_give n m g).refused ≡ 0
+give_taken n m g = cond_both (is_open m.phase) _ _ (λ (r : Moved MasterState). r.refused ≡ 0) (λ y. go (state_of m).given) (λ no. refl)
+  where
+    go : (last : Option LastGive) → (give_after n m g last).refused ≡ 0
+    go None = refl
+    go (Some last) = cond_both (nat_le g.migration last.migration) _ _ (λ (r : Moved MasterState). r.refused ≡ 0) (λ y. again_taken n m last.index _) (λ no. refl)
+
+expire_taken : (n : ℕ) (m : MasterState) (client : ℕ) → (on_expire n m client).refused ≡ 0
+expire_taken n m client = cond_both (is_gone (state_of m).table client) _ _ (λ (r : Moved MasterState). r.refused ≡ 0) (λ y. refl) (λ no. refl)
+
+collect_taken : (n : ℕ) (m : MasterState) (phase : Phase) → (collect_in n m phase).refused ≡ 0
+collect_taken n m Open = refl
+collect_taken n m (Switching s) = refl
+
 built_taken : (n : ℕ) (m : MasterState) (from : NodeId) (b : Body) → (on_built n m from b).refused ≡ 0
 unfolding on_built on_serving
 built_taken n m from (body.Update ask) = ends_taken m _ (update_taken n m AtOnce ask)
 built_taken n m from (body.Sync ask) = ends_taken m _ (update_taken n m WhenSynced ask)
+built_taken n m from (body.Read ask) = ends_taken m _ (read_taken n m ask)
 built_taken n m from (body.Appended a) = ends_taken m _ (appended_taken n m from a.round a.answer)
+built_taken n m from (body.Prepare p) = ends_taken m _ (prepare_taken n m p m.phase)
+built_taken n m from (body.Adopted a) = ends_taken m _ (adopted_taken n m a.version m.phase)
+built_taken n m from (body.TakeOut t) = ends_taken m _ (take_taken n m t)
+built_taken n m from (body.GiveIn g) = ends_taken m _ (give_taken n m g)
+built_taken n m from (body.ExpireClient client) = ends_taken m _ (expire_taken n m client)
 built_taken n m from _ = refl
 
 ordered_taken : (n : ℕ) (m : MasterState) (order : Local) → (built_ordered n m order).refused ≡ 0
 unfolding built_ordered serving_ordered
 ordered_taken n m local.Sync = ends_taken m _ (sync_taken n m m.phase)
+ordered_taken n m local.Collect = collect_taken n m m.phase
 ordered_taken n m _ = refl
 
 -- a master takes each message

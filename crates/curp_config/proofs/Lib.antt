@@ -1,0 +1,11 @@
+pub mod Again
+pub mod Ends
+pub mod Entries
+pub mod Listed
+pub mod Movable
+pub mod Opened
+pub mod Ordered
+pub mod SpansMoved
+pub mod Spread
+pub mod Steps
+pub mod Told

@@ -1,0 +1,212 @@
+ghost use Rattle.std.specs.Prelude.{◌≡◌, ◌≢◌, ◌*◌, ◌<◌, ◌≤◌, IsOk, IfOk, IfSome};
+ghost use Rattle.std.specs.Option.{option_copied};
+ghost use Rattle.curp_config.specs.Parts.{IsNumbered};
+ghost use Rattle.curp_config.specs.Refusals.{Tells};
+ghost use Rattle.curp_base.specs.Words.{numbered};
+ghost use Rattle.curp_model.specs.Manager as model;
+ghost use Rattle.curp_msg.specs.declared.machine.Local.TheVariants as local;
+ghost use Rattle.curp_msg.specs.Moved.{Moves, done_of};
+
+use crate::Shape;
+use crate::messages::{one, says};
+use crate::migration::Migration;
+use crate::names::{numbered, put_numbered};
+use crate::next::Next;
+use crate::opening::{opening_config, opening_work};
+use crate::work::Work;
+use curp_base::NoMemory;
+use curp_cmd::{Keeper, NodeId};
+use curp_msg::{Body, Config, Done, Local, Message, PartConfig};
+use std::alloc::{AllocError, Global};
+use std::collections::BTreeSet;
+use std::marker::Model;
+
+/// The configuration manager: one reliable node that names the nodes of each partition, and lets them be recovered,
+/// replaced and given ranges of others. It stands for CURP's configuration manager; how it works is this project's own.
+///
+/// An input by which one of its numbers would rise past 2^32 - 1 changes nothing and sends nothing.
+#[derive(Drop)]
+pub struct Manager {
+    pub(crate) alloc: Global,
+    pub(crate) shape: Shape,
+    pub(crate) config: Config,
+    // For each partition, in the order of their numbers.
+    pub(crate) doing: Vec<Work>,
+    pub(crate) moving: Option<Migration>,
+    pub(crate) gone: BTreeSet<u32>,
+    pub(crate) next: Next,
+}
+
+impl Model for Manager {
+    ghost use Rattle.curp_config.specs.Parts.{AreNumbered};
+    ghost use Rattle.curp_model.specs.Manager as model;
+
+    ghost Value = { model.ManagerState };
+
+    ghost view = { λ m. record {
+      shape = m.shape;
+      config = m.config;
+      doing = m.doing.items;
+      moving = m.moving;
+      gone = m.gone.keys;
+      next = m.next;
+    } };
+
+    ghost invariant = { λ m. AreNumbered m.shape.parts m.config.parts };
+}
+
+impl Manager {
+    /// The manager before any order. All of its numbers have to fit in 32 bits.
+    pub fn begin(alloc: Global, shape: &Shape) -> Result<Manager, NoMemory>
+        requires masters { shape.now.parts < u32.MAX }
+        requires keepers { shape.now.parts * shape.now.f < u32.MAX }
+        ensures { IfOk result (λ manager. manager ≡ model.opening_manager shape.now) }
+    {
+        let config = opening_config(alloc, shape)?;
+        let doing = opening_work(alloc, shape.parts)?;
+        Ok(Manager {
+            alloc,
+            shape: Shape {
+                f: shape.f,
+                parts: shape.parts,
+                clients: shape.clients,
+            },
+            config,
+            doing,
+            moving: None,
+            gone: BTreeSet::new(alloc),
+            next: Next::opening(shape),
+        })
+    }
+
+    /// The adopted configuration.
+    pub fn config(&self) -> &Config
+        ensures { result.now ≡ self.now.config }
+    {
+        &self.config
+    }
+
+    /// A message comes to the manager.
+    #[tactic(auto, unfolding(curp_model::specs::Manager::on_manager))]
+    pub fn on_message(&mut self, message: &Message) -> Result<Done, NoMemory>
+        ensures moves { Moves self.old self.new result
+            (model.on_manager self.old message.now.from message.now.body) }
+    {
+        match &message.body {
+            Body::Fetch => self.on_fetch(message.from),
+            Body::Recovered(recovered) => self.on_recovered(recovered),
+            Body::Prepared { version } => self.on_prepared(*version),
+            Body::Taken(parcel) => self.on_taken(parcel.get()),
+            Body::Given { migration } => self.on_given(*migration),
+            _ => Ok(Done::quiet(self.alloc)),
+        }
+    }
+
+    /// The manager gets an order. It leaves those alone that aren't its own.
+    #[tactic(auto, unfolding(curp_model::specs::Manager::manager_ordered))]
+    pub fn on_order(&mut self, order: &Local) -> Result<Done, NoMemory>
+        ensures moves { Moves self.old self.new result (model.manager_ordered self.old order.now) }
+        ensures refused { (model.manager_ordered self.old order.now).refused ≢ 0 → IsOk result }
+    {
+        match order {
+            Local::Recover {
+                part,
+                backup,
+                witness,
+            } => self.told_to_recover(*part, *backup, *witness),
+            Local::Replace {
+                keeper,
+                part,
+                place,
+            } => self.told_to_replace(*part, *keeper, *place),
+            Local::Migrate { lo, hi, to } => self.told_to_migrate(*lo, *hi, *to),
+            Local::Nudge => self.nudge(),
+            Local::Expire(client) => self.told_to_expire(*client),
+            _ => Ok(Done::quiet(self.alloc)),
+        }
+    }
+
+    fn told_to_recover(&mut self, part: u32, backup: u32, witness: u32) -> Result<Done, NoMemory>
+        ensures moves { Moves self.old self.new result
+            (model.manager_ordered self.old (local.Recover part backup witness)) }
+        ensures refused { (model.manager_ordered self.old (local.Recover part backup witness)).refused ≢ 0 → IsOk result }
+    {
+        match self.recover(part, backup, witness) {
+            Ok(done) => Ok(done),
+            Err(error) => told(self.alloc, error.number()),
+        }
+    }
+
+    fn told_to_replace(&mut self, part: u32, kind: Keeper, place: u32) -> Result<Done, NoMemory>
+        ensures moves { Moves self.old self.new result
+            (model.manager_ordered self.old (local.Replace kind part place)) }
+        ensures refused { (model.manager_ordered self.old (local.Replace kind part place)).refused ≢ 0 → IsOk result }
+    {
+        match self.replace(part, kind, place) {
+            Ok(done) => Ok(done),
+            Err(error) => told(self.alloc, error.number()),
+        }
+    }
+
+    fn told_to_migrate(&mut self, lo: u64, hi: u64, to: u32) -> Result<Done, NoMemory>
+        ensures moves { Moves self.old self.new result (model.manager_ordered self.old (local.Migrate lo hi to)) }
+        ensures refused { (model.manager_ordered self.old (local.Migrate lo hi to)).refused ≢ 0 → IsOk result }
+    {
+        match self.migrate(lo, hi, to) {
+            Ok(done) => Ok(done),
+            Err(error) => told(self.alloc, error.number()),
+        }
+    }
+
+    fn told_to_expire(&mut self, client: u32) -> Result<Done, NoMemory>
+        ensures moves { Moves self.old self.new result (model.manager_ordered self.old (local.Expire client)) }
+        ensures refused { (model.manager_ordered self.old (local.Expire client)).refused ≢ 0 → IsOk result }
+    {
+        match self.expire(client) {
+            Ok(done) => Ok(done),
+            Err(error) => told(self.alloc, error.number()),
+        }
+    }
+
+    // The configuration, as it is asked for.
+    fn on_fetch(&self, from: NodeId) -> Result<Done, NoMemory>
+        ensures { IfOk result (λ done. done ≡ done_of (model.heard self.now from Body.Fetch)) }
+    {
+        let config = self.config.copy(self.alloc)?;
+        let answer = says(from, Body::Configuration { config });
+        Ok(Done::sends(one(self.alloc, answer)?))
+    }
+
+    /// The adopted entry of a partition.
+    pub(crate) fn part(&self, part: u32) -> Option<&PartConfig>
+        ensures value { option_copied result ≡ model.part_at self.now part }
+        ensures numbered { IfSome result (λ c. (1 ≤ part) × IsNumbered self.now.shape.parts c.now) }
+    {
+        numbered(self.config.parts.as_slice(), part)
+    }
+
+    /// What is being done with a partition, if there is such a one.
+    pub(crate) fn work(&self, part: u32) -> Option<&Work>
+        ensures { option_copied result ≡ numbered self.now.doing part }
+    {
+        numbered(&self.doing, part)
+    }
+
+    /// What is being done with a partition has changed.
+    pub(crate) fn set_work(&mut self, part: u32, work: Work)
+        requires { 1 ≤ part }
+        ensures { self.new ≡ model.with_doing self.old part work }
+    {
+        put_numbered(&mut self.doing, part, work);
+    }
+}
+
+// What is told of an order that wasn't made: the number of its refusal, else want of memory.
+fn told(alloc: Global, refusal: u8) -> Result<Done, NoMemory>
+    ensures { Tells refusal result }
+{
+    if refusal == 0 {
+        return Err(AllocError);
+    }
+    Ok(Done::refuses(alloc, refusal))
+}

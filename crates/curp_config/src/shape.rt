@@ -1,0 +1,18 @@
+use std::marker::Model;
+
+/// How many partitions and clients there are, and how many backups and witnesses each partition has.
+#[derive(Debug, Drop)]
+pub struct Shape {
+    /// How many backups a partition has, and how many witnesses: the failures that it survives.
+    pub f: u32,
+    pub parts: u32,
+    pub clients: u32,
+}
+
+impl Model for Shape {
+    ghost use Rattle.curp_model.specs.Manager as model;
+
+    ghost Value = { model.Shape };
+
+    ghost view = { λ s. record { f = s.f; parts = s.parts; clients = s.clients } };
+}

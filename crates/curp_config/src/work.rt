@@ -1,0 +1,87 @@
+// What is being done with a partition.
+ghost use Rattle.std.specs.Prelude.{◌≡◌, IfOk, Some};
+ghost use Rattle.std.specs.Option.{option_copied};
+ghost use Rattle.curp_model.specs.Manager as model;
+ghost use Rattle.curp_config.specs.Work.{doing_of};
+
+use crate::messages::{adopted_message, recover_messages, replace_messages, start_on};
+use curp_base::{Boxed, Items, NoMemory};
+use curp_cmd::{Keeper, NodeId};
+use curp_msg::{Message, PartConfig, Recover};
+use std::alloc::Global;
+use std::marker::Model;
+
+/// New lists with one fresh node.
+#[derive(Debug, Drop)]
+pub(crate) struct Replacement {
+    pub(crate) kind: Keeper,
+    pub(crate) fresh: NodeId,
+    pub(crate) version: u32,
+    pub(crate) backups: Items<NodeId>,
+    pub(crate) witnesses: Items<NodeId>,
+}
+
+/// A master that is to recover a partition, and its order.
+#[derive(Debug, Drop)]
+pub(crate) struct Attempt {
+    pub(crate) master: NodeId,
+    pub(crate) order: Boxed<Recover>,
+}
+
+#[derive(Debug, Drop)]
+pub(crate) enum Doing {
+    Steady,
+    Replacing(Replacement),
+    Recovering(Attempt),
+}
+
+/// What is being done with a partition.
+#[derive(Debug, Drop)]
+pub(crate) struct Work {
+    doing: Doing,
+}
+
+impl Model for Work {
+    ghost use Rattle.curp_model.specs.Manager as model;
+    ghost use Rattle.curp_config.specs.Work.{doing_of};
+
+    ghost Value = { model.Doing };
+
+    ghost view = { λ w. doing_of w.doing };
+}
+
+impl Work {
+    /// Nothing.
+    pub(crate) fn steady() -> Work
+        ensures { result ≡ model.Steady }
+    {
+        Work {
+            doing: Doing::Steady,
+        }
+    }
+
+    /// It is given new lists.
+    pub(crate) fn replacing(lists: Replacement) -> Work
+        ensures { result ≡ model.Replacing lists.kind lists.fresh lists.version lists.backups lists.witnesses }
+    {
+        Work {
+            doing: Doing::Replacing(lists),
+        }
+    }
+
+    /// It is recovered.
+    pub(crate) fn recovering(attempt: Attempt) -> Work
+        ensures { result ≡ model.Recovering attempt.master attempt.order }
+    {
+        Work {
+            doing: Doing::Recovering(attempt),
+        }
+    }
+
+    /// What is done, to look at.
+    pub(crate) fn doing(&self) -> &Doing
+        ensures { doing_of result.now ≡ self.now }
+    {
+        &self.doing
+    }
+}
