@@ -44,6 +44,26 @@ impl MasterNode {
         Ok(MasterNode { master })
     }
 
+    /// The partition that it serves.
+    pub fn part(&self) -> u32
+        ensures { result ≡ self.now.state.part }
+    {
+        self.master.part()
+    }
+
+    pub fn epoch(&self) -> u32
+        ensures { result ≡ self.now.state.epoch }
+    {
+        self.master.epoch()
+    }
+
+    /// No read waits for its value, since none is captured.
+    pub fn captures_nothing(&self)
+        ensures { self.now.state.captures ≡ [] }
+    {
+        self.master.captures_nothing();
+    }
+
     /// Its log.
     pub fn log(&self) -> &Log
         ensures lo { result.now.lo ≡ self.now.state.lo }

@@ -179,6 +179,14 @@ impl Master {
         self.epoch
     }
 
+    /// No read waits for its value, since none is captured.
+    pub fn captures_nothing(&self)
+        ensures { self.now.state.captures ≡ [] }
+    {
+        // For its clause alone.
+        let _epoch = self.epoch;
+    }
+
     // ---- updates
 
     #[tactic(auto, unfolding(curp_model::specs::Master::on_update))]

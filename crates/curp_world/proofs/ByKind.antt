@@ -22,7 +22,7 @@ use Rattle.curp_msg.specs.declared.machine.Input.{Input}
 use Rattle.curp_msg.specs.declared.machine.Input.TheVariants as input
 use Rattle.curp_msg.specs.declared.machine.Local.TheVariants as local
 use Rattle.curp_world.specs.Given.{IsFor}
-use Rattle.curp_world.specs.Nodes.{HasNumbers, NodeStates, remarked, serving, states, with_nodes}
+use Rattle.curp_world.specs.Nodes.{HasNumbers, NodeStates, nodes_of, serving, states, with_nodes}
 use Rattle.curp_world.proofs.Giving.{numbers_stay, one_moves, world_moves}
 
 -- ---- what is built is what the definitions say, for what nodes get
@@ -66,11 +66,11 @@ module _ (given : Input) (nodes nodes' : List (Node ClientState)) (n : ℕ) (r :
       (λ s. client_input n s given) (client_moves given) numbers low made
 
   pub clients_give : (w : World) (others : NodeStates)
-      → Moves (with_nodes w (record others { clients = states nodes })) (with_nodes w (record others { clients = states nodes' })) r
-      (within remarked (moves (with_nodes w (record others { clients = states nodes })) (client_node n) given))
+      → Moves (record others { clients = states nodes }) (record others { clients = states nodes' }) r
+      (within nodes_of (moves (with_nodes w (record others { clients = states nodes })) (client_node n) given))
   clients_give w others =
       let v : World = with_nodes w (record others { clients = states nodes }) in
-      world_moves (λ (list : List ClientState). with_nodes w (record others { clients = list })) (states nodes) (states nodes') n r
+      world_moves (λ (list : List ClientState). record others { clients = list }) (states nodes) (states nodes') n r
       (λ s. client_input n s given) (λ s. within (with_client v n) (client_input n s given)) v (λ s. refl)
       (one_moves (λ (s : ClientState). s) nodes nodes' n r (λ node. client_machine node given) (λ i s. client_input i s given)
       (λ s. client_input n s given) (client_moves given) numbers low made (λ s. refl))
@@ -82,11 +82,11 @@ module _ (given : Input) (nodes nodes' : List (Node MasterState)) (n : ℕ) (r :
       (λ s. master_input n s given) (master_moves given) numbers low made
 
   pub masters_give : (w : World) (others : NodeStates) → IsFor kind.Master n given
-      → Moves (with_nodes w (record others { masters = serving nodes })) (with_nodes w (record others { masters = serving nodes' })) r
-      (within remarked (moves (with_nodes w (record others { masters = serving nodes })) (master_node n) given))
+      → Moves (record others { masters = serving nodes }) (record others { masters = serving nodes' }) r
+      (within nodes_of (moves (with_nodes w (record others { masters = serving nodes })) (master_node n) given))
   masters_give w others built =
       let v : World = with_nodes w (record others { masters = serving nodes }) in
-      world_moves (λ (list : List MasterStage). with_nodes w (record others { masters = list })) (serving nodes) (serving nodes') n r
+      world_moves (λ (list : List MasterStage). record others { masters = list }) (serving nodes) (serving nodes') n r
       (λ s. master_input n s given) (λ s. within (with_master v n s) (master_input n s given)) v (λ s. refl)
       (one_moves Serving nodes nodes' n r (λ node. master_machine node given) (λ i s. on_input i s given)
       (λ s. master_input n s given) (master_moves given) numbers low made (λ s. heard n s given built))
@@ -98,11 +98,11 @@ module _ (given : Input) (nodes nodes' : List (Node BackupState)) (n : ℕ) (r :
       (λ s. backup_input n s given) (backup_moves given) numbers low made
 
   pub backups_give : (w : World) (others : NodeStates)
-      → Moves (with_nodes w (record others { backups = states nodes })) (with_nodes w (record others { backups = states nodes' })) r
-      (within remarked (moves (with_nodes w (record others { backups = states nodes })) (backup_node n) given))
+      → Moves (record others { backups = states nodes }) (record others { backups = states nodes' }) r
+      (within nodes_of (moves (with_nodes w (record others { backups = states nodes })) (backup_node n) given))
   backups_give w others =
       let v : World = with_nodes w (record others { backups = states nodes }) in
-      world_moves (λ (list : List BackupState). with_nodes w (record others { backups = list })) (states nodes) (states nodes') n r
+      world_moves (λ (list : List BackupState). record others { backups = list }) (states nodes) (states nodes') n r
       (λ s. backup_input n s given) (λ s. within (with_backup v n) (backup_input n s given)) v (λ s. refl)
       (one_moves (λ (s : BackupState). s) nodes nodes' n r (λ node. backup_machine node given) (λ i s. backup_input i s given)
       (λ s. backup_input n s given) (backup_moves given) numbers low made (λ s. refl))
@@ -114,11 +114,11 @@ module _ (given : Input) (nodes nodes' : List (Node WitnessState)) (n : ℕ) (r 
       (λ s. witness_input n s given) (witness_moves given) numbers low made
 
   pub witnesses_give : (w : World) (others : NodeStates)
-      → Moves (with_nodes w (record others { witnesses = states nodes })) (with_nodes w (record others { witnesses = states nodes' })) r
-      (within remarked (moves (with_nodes w (record others { witnesses = states nodes })) (witness_node n) given))
+      → Moves (record others { witnesses = states nodes }) (record others { witnesses = states nodes' }) r
+      (within nodes_of (moves (with_nodes w (record others { witnesses = states nodes })) (witness_node n) given))
   witnesses_give w others =
       let v : World = with_nodes w (record others { witnesses = states nodes }) in
-      world_moves (λ (list : List WitnessState). with_nodes w (record others { witnesses = list })) (states nodes) (states nodes') n r
+      world_moves (λ (list : List WitnessState). record others { witnesses = list }) (states nodes) (states nodes') n r
       (λ s. witness_input n s given) (λ s. within (with_witness v n) (witness_input n s given)) v (λ s. refl)
       (one_moves (λ (s : WitnessState). s) nodes nodes' n r (λ node. witness_machine node given) (λ i s. witness_input i s given)
       (λ s. witness_input n s given) (witness_moves given) numbers low made (λ s. refl))
@@ -136,8 +136,8 @@ is_here nodes all to k same is there = (
 
 -- and moves alike
 pub seen_moves : (nodes all after : NodeStates) (to : NodeId) (k : NodeKind) (given : Input) (r : Result Done AllocError) (w : World) → all ≡ nodes → to.kind ≡ k
-    → Moves (with_nodes w all) (with_nodes w after) r (within remarked (moves_kind (with_nodes w all) k to.number given))
-    → Moves (with_nodes w nodes) (with_nodes w after) r (within remarked (moves (with_nodes w nodes) to given))
+    → Moves all after r (within nodes_of (moves_kind (with_nodes w all) k to.number given))
+    → Moves nodes after r (within nodes_of (moves (with_nodes w nodes) to given))
 seen_moves nodes all after to k given r w same is moved =
-    subst (λ (n : NodeStates). Moves (with_nodes w n) (with_nodes w after) r (within remarked (moves (with_nodes w n) to given))) same
-    (subst (λ (kind : NodeKind). Moves (with_nodes w all) (with_nodes w after) r (within remarked (moves_kind (with_nodes w all) kind to.number given))) (sym is) moved)
+    subst (λ (n : NodeStates). Moves n after r (within nodes_of (moves (with_nodes w n) to given))) same
+    (subst (λ (kind : NodeKind). Moves all after r (within nodes_of (moves_kind (with_nodes w all) kind to.number given))) (sym is) moved)
