@@ -1,5 +1,6 @@
 -- Each kind of node moves in a world as its machine does.
-use Rattle.std.proofs.Common.{◌≡◌, ℕ, ◌-◌, ◌≤◌, List, Result, true, refl, sym, subst}
+use Rattle.std.proofs.Common.{◌≡◌, ℕ, ◌+◌, ◌-◌, ◌≤◌, List, length, slice_set, Some, Result, true, arith, refl, ap, sym, ◌∙◌, subst}
+use Rattle.curp_base.specs.Words.{numbered}
 use Rattle.std.specs.declared.alloc.AllocError.{AllocError}
 use Rattle.curp_cmd.specs.Node.{backup_node, client_node, master_node, witness_node}
 use Rattle.curp_cmd.specs.declared.node.NodeId.{NodeId}
@@ -23,7 +24,10 @@ use Rattle.curp_msg.specs.declared.machine.Input.TheVariants as input
 use Rattle.curp_msg.specs.declared.machine.Local.TheVariants as local
 use Rattle.curp_world.specs.Given.{IsFor}
 use Rattle.curp_world.specs.Nodes.{HasNumbers, NodeStates, nodes_of, serving, states, with_nodes}
-use Rattle.curp_world.proofs.Giving.{numbers_stay, one_moves, world_moves}
+use Rattle.curp_world.specs.Marks.{log_of, master_at, most_marks}
+use Rattle.curp_world.proofs.Giving.{node_moves, numbers_stay, one_moves, set_there, world_moves}
+use Rattle.curp_world.proofs.Numbered.{map_set, numbered_at}
+use Rattle.curp_world.proofs.Pushing.{moves_few}
 
 -- ---- what is built is what the definitions say, for what nodes get
 
@@ -91,6 +95,20 @@ module _ (given : Input) (nodes nodes' : List (Node MasterState)) (n : ℕ) (r :
       (one_moves Serving nodes nodes' n r (λ node. master_machine node given) (λ i s. on_input i s given)
       (λ s. master_input n s given) (master_moves given) numbers low made (λ s. heard n s given built))
 
+  -- and pushes no more than the bound of the input
+  pub masters_few : IsFor kind.Master n given
+      → length (log_of (numbered (serving nodes') n)) ≤ length (log_of (numbered (serving nodes) n)) + most_marks given
+  masters_few built =
+      let stage = λ (x : Node MasterState). Serving x.state in
+      let was : numbered (serving nodes) n ≡ Some (Serving made.before.state) = numbered_at stage nodes n (n - 1) made.before (omega arith) made.was in
+      let is : serving nodes' ≡ slice_set (serving nodes) (n - 1) (Serving made.after.state)
+      = ap serving made.is ∙ sym (map_set stage nodes (n - 1) made.after) in
+      let now : numbered (serving nodes') n ≡ Some (Serving made.after.state)
+      = ap (λ (xs : List MasterStage). numbered xs n) is ∙ set_there (serving nodes) n (Serving made.before.state) (Serving made.after.state) was in
+      rw (now, was) (moves_few n made.before made.after r given built
+      (node_moves Serving nodes nodes' n r (λ node. master_machine node given) (λ i s. on_input i s given)
+      (λ s. master_input n s given) (master_moves given) numbers low made))
+
 module _ (given : Input) (nodes nodes' : List (Node BackupState)) (n : ℕ) (r : Result Done AllocError)
     (numbers : HasNumbers nodes) (low : 1 ≤ n) (made : MovesAt (n - 1) nodes nodes' r (λ node. backup_machine node given)) where
   pub backups_stay : HasNumbers nodes'
@@ -141,3 +159,11 @@ pub seen_moves : (nodes all after : NodeStates) (to : NodeId) (k : NodeKind) (gi
 seen_moves nodes all after to k given r w same is moved =
     subst (λ (n : NodeStates). Moves n after r (within nodes_of (moves (with_nodes w n) to given))) same
     (subst (λ (kind : NodeKind). Moves all after r (within nodes_of (moves_kind (with_nodes w all) kind to.number given))) (sym is) moved)
+
+-- and no more comes to a master's log than what is bounded
+pub seen_few : (nodes all after : NodeStates) (to : NodeId) (k : NodeKind) (most : ℕ) → all ≡ nodes → to.kind ≡ k
+    → length (log_of (master_at k to.number after.masters)) ≤ length (log_of (master_at k to.number all.masters)) + most
+    → length (log_of (master_at to.kind to.number after.masters)) ≤ length (log_of (master_at to.kind to.number nodes.masters)) + most
+seen_few nodes all after to k most same is few =
+    subst (λ (n : NodeStates). length (log_of (master_at to.kind to.number after.masters)) ≤ length (log_of (master_at to.kind to.number n.masters)) + most) same
+    (subst (λ (kind : NodeKind). length (log_of (master_at kind to.number after.masters)) ≤ length (log_of (master_at kind to.number all.masters)) + most) (sym is) few)

@@ -52,8 +52,8 @@ module _ {S T : Type 0} (f : S → T) (nodes nodes' : List (Node S)) (n : ℕ) (
   number : made.before.number ≡ n
   number = omega (arith, numbers (n - 1) made.before made.was)
 
-  moved : Moves made.before made.after r (numbered_move n (act n made.before.state))
-  moved = subst (λ (i : ℕ). Moves made.before made.after r (numbered_move i (act i made.before.state))) number
+  pub node_moves : Moves made.before made.after r (numbered_move n (act n made.before.state))
+  node_moves = subst (λ (i : ℕ). Moves made.before made.after r (numbered_move i (act i made.before.state))) number
       (subst (Moves made.before made.after r) (by_number made.before) made.moves)
 
   -- the list of what is seen of nodes moves by their machine
@@ -65,7 +65,7 @@ module _ {S T : Type 0} (f : S → T) (nodes nodes' : List (Node S)) (n : ℕ) (
     was = numbered_at (λ (x : Node S). f x.state) nodes n (n - 1) made.before (omega arith) made.was;
     is = ap (map (λ (x : Node S). f x.state)) made.is
         ∙ sym (map_set (λ (x : Node S). f x.state) nodes (n - 1) made.after);
-    moves = rw (seen_as made.before.state) (moves_as f n made.before made.after r (act n made.before.state) moved);
+    moves = rw (seen_as made.before.state) (moves_as f n made.before made.after r (act n made.before.state) node_moves);
   }
 
   same_number : (r : Result Done AllocError) (x y : Node S) (m : Moved S) → x.number ≡ n → Moves x y r (numbered_move n m) → y.number ≡ x.number
@@ -76,7 +76,7 @@ module _ {S T : Type 0} (f : S → T) (nodes nodes' : List (Node S)) (n : ℕ) (
   pub numbers_stay : HasNumbers nodes'
   numbers_stay = rw made.is
       (numbers_set nodes (n - 1) made.before made.after numbers made.was
-      (same_number r made.before made.after (act n made.before.state) number moved))
+      (same_number r made.before made.after (act n made.before.state) number node_moves))
 
 -- ---- the world
 

@@ -72,7 +72,10 @@ pub(crate) fn flag(marks: &mut Line, completed: Option<Completed>)
 fn is_adopted(header: &Header, node: NodeId) -> bool
     ensures { result ≡ is_adopted (opening_manager (shape_of header.now)) node }
 {
-    matches!(node.kind, NodeKind::Master) && 1 <= node.number && node.number <= header.parts
+    match node.kind {
+        NodeKind::Master => 1 <= node.number && node.number <= header.parts,
+        _ => false,
+    }
 }
 
 // The marks of what the master has pushed since its log had that length. It has captured nothing.
