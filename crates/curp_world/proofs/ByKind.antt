@@ -1,5 +1,6 @@
 -- Each kind of node moves in a world as its machine does.
-use Rattle.std.proofs.Common.{◌≡◌, ℕ, ◌+◌, ◌-◌, ◌≤◌, List, length, slice_set, Some, Result, true, arith, refl, ap, sym, ◌∙◌, subst}
+use Rattle.std.proofs.Common.{◌≡◌, ◌≢◌, ℕ, ◌+◌, ◌-◌, ◌≤◌, List, length, slice_set, Option, Some, None, Bor, Result, true, arith, refl, ap, sym, ◌∙◌, subst}
+use Rattle.std.specs.Option.{option_copied, option_map}
 use Rattle.curp_base.specs.Words.{numbered}
 use Rattle.std.specs.declared.alloc.AllocError.{AllocError}
 use Rattle.curp_cmd.specs.Node.{backup_node, client_node, master_node, witness_node}
@@ -26,7 +27,7 @@ use Rattle.curp_world.specs.Given.{IsFor}
 use Rattle.curp_world.specs.Nodes.{HasNumbers, NodeStates, nodes_of, serving, states, with_nodes}
 use Rattle.curp_world.specs.Marks.{log_of, master_at, most_marks}
 use Rattle.curp_world.proofs.Giving.{node_moves, numbers_stay, one_moves, set_there, world_moves}
-use Rattle.curp_world.proofs.Numbered.{map_set, numbered_at}
+use Rattle.curp_world.proofs.Numbered.{lent_numbered, map_set, numbered_at}
 use Rattle.curp_world.proofs.Pushing.{moves_few}
 
 -- ---- what is built is what the definitions say, for what nodes get
@@ -161,9 +162,29 @@ seen_moves nodes all after to k given r w same is moved =
     (subst (λ (kind : NodeKind). Moves all after r (within nodes_of (moves_kind (with_nodes w all) kind to.number given))) (sym is) moved)
 
 -- and no more comes to a master's log than what is bounded
-pub seen_few : (nodes all after : NodeStates) (to : NodeId) (k : NodeKind) (most : ℕ) → all ≡ nodes → to.kind ≡ k
-    → length (log_of (master_at k to.number after.masters)) ≤ length (log_of (master_at k to.number all.masters)) + most
-    → length (log_of (master_at to.kind to.number after.masters)) ≤ length (log_of (master_at to.kind to.number nodes.masters)) + most
-seen_few nodes all after to k most same is few =
-    subst (λ (n : NodeStates). length (log_of (master_at to.kind to.number after.masters)) ≤ length (log_of (master_at to.kind to.number n.masters)) + most) same
-    (subst (λ (kind : NodeKind). length (log_of (master_at kind to.number after.masters)) ≤ length (log_of (master_at kind to.number all.masters)) + most) (sym is) few)
+pub seen_few : (masters all after : List MasterStage) (to : NodeId) (k : NodeKind) (most : ℕ) → all ≡ masters → to.kind ≡ k
+    → length (log_of (master_at k to.number after)) ≤ length (log_of (master_at k to.number all)) + most
+    → length (log_of (master_at to.kind to.number after)) ≤ length (log_of (master_at to.kind to.number masters)) + most
+seen_few masters all after to k most same is few =
+    subst (λ (xs : List MasterStage). length (log_of (master_at to.kind to.number after)) ≤ length (log_of (master_at to.kind to.number xs)) + most) same
+    (subst (λ (kind : NodeKind). length (log_of (master_at kind to.number after)) ≤ length (log_of (master_at kind to.number all)) + most) (sym is) few)
+
+-- the master of a name, as it is lent
+pub seen_master : (masters : List (Node MasterState)) (nodes : NodeStates) (node : NodeId) (r : Option (Bor (Node MasterState))) → serving masters ≡ nodes.masters → node.kind ≡ kind.Master
+    → option_copied r ≡ numbered masters node.number
+    → option_map (λ (m : Bor (Node MasterState)). Serving m.now.state) r ≡ master_at node.kind node.number nodes.masters
+seen_master masters nodes node r same is lent =
+    subst (λ (k : NodeKind). option_map (λ (m : Bor (Node MasterState)). Serving m.now.state) r ≡ master_at k node.number nodes.masters) (sym is)
+    (lent_numbered (λ (x : Node MasterState). Serving x.state) masters node.number r lent
+    ∙ ap (λ (all : List MasterStage). numbered all node.number) same)
+
+-- and of no other node
+pub no_master : (node : NodeId) (masters : List MasterStage) → node.kind ≢ kind.Master → None ≡ master_at node.kind node.number masters
+no_master node masters other = go node.kind other
+  where
+    go : (k : NodeKind) → k ≢ kind.Master → None ≡ master_at k node.number masters
+    go kind.Master other = absurd (other refl)
+    go kind.Manager other = refl
+    go kind.Client other = refl
+    go kind.Backup other = refl
+    go kind.Witness other = refl

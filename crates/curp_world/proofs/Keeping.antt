@@ -1,5 +1,6 @@
 -- What is kept of a step is the step of the definition.
-use Rattle.std.proofs.Common.{◌≡◌, ◌≢◌, nat_le, ℕ, ◌+◌, ◌-◌, ◌^◌, Bool, true, false, List, [], ◌∷◌, ◌++◌, length, Option, Some, None, is_some, Result, Ok, Err, IfOk, OnOk, append-nil, arith, refl, ap, sym, ◌∙◌, subst}
+use Rattle.std.proofs.Common.{◌≡◌, ◌≢◌, nat_le, ◌==◌, ℕ, ◌+◌, ◌-◌, ◌^◌, Bool, true, false, List, [], ◌∷◌, ◌++◌, length, Option, Some, None, is_some, Result, Ok, Err, IfOk, OnErr, OnOk, append-nil, arith, refl, ap, sym, ◌∙◌, subst}
+use Rattle.std.proofs.lemmas.Bool.Decides.{nat_tests}
 use Rattle.std.specs.Option.{ok_or, option_map}
 use Rattle.curp_base.specs.Cases.{◌>>=◌, refuse_if}
 use Rattle.curp_base.specs.Words.{all_of, numbered}
@@ -217,7 +218,35 @@ hands_done h nodes nodes' stopped sent sent' history history' marks added marks'
     (λ can passes there. done_at h nodes stopped sent history marks to g given nodes' done makes sent' history' added marks' event o can passes is taken there invokes sends records adds flags outcome)
     can passes there
 
+taken_refused : (n : ℕ) → n ≢ 0 → taken_by n ≡ result.Refused n
+taken_refused n some = let other : (n == 0) ≡ false = grind (arith, nat_tests) in rw other refl
+
+-- an order that a node refused
+pub hands_refused : (h : Header) (nodes nodes' : NodeStates) (stopped : List NodeId) (sent : List (List Message)) (history : List Event) (marks : List Mark) (w : World)
+    (to : NodeId) (g : Gift) (given : Input) (done : Done)
+    → ((v : World) → Makes nodes' done (within nodes_of (moves (with_nodes v nodes) to given)))
+    → seen h nodes stopped sent history marks ≡ w → CanGet w to g → barrier w to ≡ None
+    → input_in (all_of sent) g ≡ Some given → done.refused ≢ 0
+    → hands w to g ≡ refused w (result.Refused done.refused)
+hands_refused h nodes nodes' stopped sent history marks w to g given done makes view can passes is some =
+    subst (λ (v : World). CanGet v to g → barrier v to ≡ None → hands v to g ≡ refused v (result.Refused done.refused)) view
+    (λ can passes. let was : World = seen h nodes stopped sent history marks in
+    answered h nodes stopped sent history marks to g given nodes' done makes can passes is
+    ∙ ap (steps_by was (Gives to given)) (taken_refused done.refused some))
+    can passes
+
+-- the same world, by what it is made of
+pub seen_same : (h : Header) (nodes nodes' : NodeStates) (stopped : List NodeId) (sent sent' : List (List Message)) (history history' : List Event) (marks marks' : List Mark) (w : World)
+    → nodes' ≡ nodes → sent' ≡ sent → history' ≡ history → marks' ≡ marks → seen h nodes stopped sent history marks ≡ w
+    → seen h nodes' stopped sent' history' marks' ≡ w
+seen_same h nodes nodes' stopped sent sent' history history' marks marks' w n s e m view = rw (n, s, e, m) view
+
 -- ---- answers of calls
+
+-- what holds in any case, holds by an error
+pub in_any_case : {A E P : Type 0} (r : Result A E) → P → OnErr r P
+in_any_case (Ok a) p = tt
+in_any_case (Err e) p = p
 
 -- the world after a call, by what is the same step
 pub state_by : {A E : Type 0} (r : Result A E) (w : World) (s t : Stepped) → s ≡ t → OnOk r (w ≡ s.world) → OnOk r (w ≡ t.world)

@@ -1,11 +1,11 @@
 -- How much of an input a master pushes, and what is marked of it.
-use Rattle.std.proofs.Common.{◌≡◌, ℕ, zero, suc, ◌+◌, ◌-◌, ◌≤◌, Bool, true, false, if◌then◌else◌, ◌&&◌, nat_le, nat_lt, List, [], ◌∷◌, ◌++◌, length, map, Option, Some, None, is_some, Result, Ok, Err, append-nil, length-append, arith, refl, ap, sym, ◌∙◌, subst}
+use Rattle.std.proofs.Common.{◌≡◌, ◌≢◌, ◌<◌, ℕ, zero, suc, ◌+◌, ◌-◌, ◌≤◌, Bool, true, false, if◌then◌else◌, not, ◌&&◌, ◌||◌, nat_le, nat_lt, List, [], ◌∷◌, ◌++◌, length, map, Option, Some, None, is_some, Result, Ok, Err, append-nil, length-append, arith, refl, ap, sym, ◌∙◌, subst}
 use Rattle.std.proofs.lemmas.Bool.{cond_both}
 use Rattle.std.proofs.lemmas.Bool.Decides.{nat_tests}
 use Rattle.std.specs.List.{list_any}
 use Rattle.std.specs.Option.{option_map}
 use Rattle.std.specs.declared.alloc.AllocError.{AllocError}
-use Rattle.curp_base.specs.Words.{numbered, numbers_from}
+use Rattle.curp_base.specs.Words.{numbered, numbers_from, rises_past}
 use Rattle.curp_cmd.specs.Node.{is_among, master_node, same_kind, same_node}
 use Rattle.curp_cmd.specs.declared.command.Request.{Request}
 use Rattle.curp_cmd.specs.declared.entry.Entry.{Entry}
@@ -17,7 +17,7 @@ use Rattle.curp_facts.specs.Sent.{IsSaidTo}
 use Rattle.curp_master.specs.Built.{built_ordered, on_built, on_input}
 use Rattle.curp_model.specs.Manager.{ManagerState, Shape, opening_manager, opening_part}
 use Rattle.curp_model.specs.Marks.{Mark}
-use Rattle.curp_model.specs.Master.{MasterState, Acknowledged, AtOnce, Deny, Execute, HoldBack, Open, Phase, Switch, Switching, Tell, TellAgain, Verdict, WhenSynced, Wish, beginning, carries_out, executes, goes_on, is_clean, on_appended, on_serving, on_stored, on_update, prepares, raised, serving_ordered, settle, stored_on, sync_in, unless_it_ends, verdict}
+use Rattle.curp_model.specs.Master.{MasterState, Acknowledged, AtOnce, Deny, Execute, HoldBack, Open, Phase, Switch, Switching, Tell, TellAgain, Verdict, WhenSynced, Wish, all_have, beginning, carries_out, executes, goes_on, is_clean, last_round, on_appended, on_serving, on_stored, on_update, prepares, raised, serving_ordered, settle, stored_on, sync_in, unless_it_ends, verdict}
 use Rattle.curp_model.specs.Recovery.{MasterStage, Serving}
 use Rattle.curp_model.specs.World.{World, has_node, is_adopted, master_marks, moves_kind, moves_one, with_backup, with_client, with_master, with_witness}
 use Rattle.curp_model.specs.Backup.{BackupState, backup_input}
@@ -63,14 +63,14 @@ module _ (n : ℕ) (m : MasterState) where
   carries_few wish r Execute = executes_few wish r (is_clean m r.command)
 
   ends_few : (most : ℕ) (r : Moved MasterState) → AtMost most r → AtMost most (unless_it_ends m r)
-  ends_few most r few = cond_both _ _ _ (AtMost most) (λ ends. omega arith) (λ goes. few)
+  ends_few most r few = cond_both (rises_past last_round m.round r.state.round || rises_past last_round m.captured r.state.captured) _ _ (AtMost most) (λ ends. omega arith) (λ goes. few)
 
   module _ (acks : List Acknowledged) where
     abbrev acked : MasterState
     acked = record m { acknowledged = acks }
 
     prepares_few : (s : Switch) → AtMost 0 (prepares n acked s)
-    prepares_few s = cond_both _ _ _ (AtMost 0) (λ all. omega arith) (λ some. omega arith)
+    prepares_few s = cond_both (not s.prepared && all_have acks s.backups (length m.log) s.round) _ _ (AtMost 0) (λ all. omega arith) (λ some. omega arith)
 
     goes_on_few : (phase : Phase) → AtMost 0 (goes_on n acked phase)
     unfolding settle
@@ -115,11 +115,14 @@ moves_few n x y (Err e) given said moved =
 
 -- ---- what is marked
 
-none_marked : (b : Bool) → (if b then ([] : List Mark) else []) ≡ []
+abbrev no_marks : List Mark
+no_marks = []
+
+none_marked : (b : Bool) → (if b then no_marks else no_marks) ≡ no_marks
 none_marked true = refl
 none_marked false = refl
 
-marked_if : (b : Bool) (xs ys : List Mark) → (if b then xs ++ ys else xs) ≡ xs ++ (if b then ys else [])
+marked_if : (b : Bool) (xs ys : List Mark) → (if b then xs ++ ys else xs) ≡ xs ++ (if b then ys else no_marks)
 marked_if true xs ys = refl
 marked_if false xs ys = sym (append-nil xs)
 
@@ -219,11 +222,31 @@ other_among s first zero node other = refl
 other_among s first (suc count) node other = rw other (other_among s (first + 1) count node other)
 
 -- the masters that are numbered from 1 are adopted, and no other node
-pub master_opened : (s : Shape) (node : NodeId) → node.kind ≡ kind.Master → is_adopted (opening_manager s) node ≡ (nat_le 1 node.number && nat_le node.number s.parts)
+master_opened : (s : Shape) (node : NodeId) → node.kind ≡ kind.Master → is_adopted (opening_manager s) node ≡ (nat_le 1 node.number && nat_le node.number s.parts)
 master_opened s node is =
     let named : node ≡ master_node node.number = ap (λ (k : NodeKind). record { kind = k; number = node.number }) is in
     let last : nat_lt node.number (1 + s.parts) ≡ nat_le node.number s.parts = grind (arith, nat_tests) in
     ap (is_adopted (opening_manager s)) named ∙ master_among s 1 s.parts node.number ∙ ap (λ (b : Bool). nat_le 1 node.number && b) last
 
-pub other_opened : (s : Shape) (node : NodeId) → same_kind kind.Master node.kind ≡ false → is_adopted (opening_manager s) node ≡ false
+other_opened : (s : Shape) (node : NodeId) → same_kind kind.Master node.kind ≡ false → is_adopted (opening_manager s) node ≡ false
 other_opened s node other = other_among s 1 s.parts node other
+
+pub master_between : (s : Shape) (node : NodeId) → node.kind ≡ kind.Master → 1 ≤ node.number → nat_le node.number s.parts ≡ is_adopted (opening_manager s) node
+master_between s node is low =
+    let first : nat_le 1 node.number ≡ true = grind (arith, nat_tests) in
+    sym (master_opened s node is ∙ ap (λ (b : Bool). b && nat_le node.number s.parts) first)
+
+pub master_below : (s : Shape) (node : NodeId) → node.kind ≡ kind.Master → node.number < 1 → nat_le 1 node.number ≡ is_adopted (opening_manager s) node
+master_below s node is low =
+    let first : nat_le 1 node.number ≡ false = grind (arith, nat_tests) in
+    first ∙ sym (master_opened s node is ∙ ap (λ (b : Bool). b && nat_le node.number s.parts) first)
+
+pub other_node : (s : Shape) (node : NodeId) → node.kind ≢ kind.Master → false ≡ is_adopted (opening_manager s) node
+other_node s node other = sym (other_opened s node (go node.kind other))
+  where
+    go : (k : NodeKind) → k ≢ kind.Master → same_kind kind.Master k ≡ false
+    go kind.Master other = absurd (other refl)
+    go kind.Manager other = refl
+    go kind.Client other = refl
+    go kind.Backup other = refl
+    go kind.Witness other = refl

@@ -30,7 +30,7 @@ pub(crate) fn most_marks(given: &Given) -> u64
 
 /// The length of the master's log, 0 where there is no master.
 pub(crate) fn log_length(master: Option<&MasterNode>) -> u64
-    ensures { result ≡ length (log_of (option_map (λ m. Serving m.now.state) master)) }
+    ensures { result ≡ length (log_of (option_map (λ m. Serving m.now.state) master.entry)) }
 {
     match master {
         Some(master) => master.log().len(),
@@ -50,7 +50,7 @@ pub(crate) fn mark_pushed(
     requires { length (log_of (option_map (λ m. Serving m.now.state) master)) ≤ former + marks.old.spare }
     ensures { (before : MasterState) → length before.log ≡ former → marks.new.marks
         ≡ marks.old.marks ++ adopted_marks (opening_manager (shape_of header.now)) node
-        (Some (Serving before)) (option_map (λ m. Serving m.now.state) master) }
+        (Some (Serving before)) (option_map (λ m. Serving m.now.state) master.entry) }
 {
     if let Some(master) = master {
         if is_adopted(header, node) {

@@ -1,4 +1,4 @@
-use Rattle.std.proofs.Common.{◌≤◌, ◌-◌, List, length, arith, sym, ◌∙◌, subst}
+use Rattle.std.proofs.Common.{◌≤◌, ◌-◌, List, length, arith, ap, sym, ◌∙◌, subst}
 use Rattle.std.specs.Vec.{with_items}
 use Rattle.curp_cmd.specs.declared.node.NodeKind.{NodeKind}
 use Rattle.curp_cmd.specs.declared.node.NodeKind.TheVariants.{Client, Master, Backup, Witness}
@@ -10,6 +10,7 @@ use Rattle.curp_model.specs.Recovery.{Serving}
 use Rattle.curp_model.specs.Witness.{WitnessState}
 use Rattle.curp_msg.specs.Moved.{Node}
 use Rattle.curp_world.specs.Given.{IsFor, input_of}
+use Rattle.curp_world.specs.Nodes.{NodeStates}
 use Rattle.curp_world.specs.contracts.nodes.Nodes.{the_view}
 use Rattle.curp_world.proofs.Giving.{in_range, vec_moves}
 use Rattle.curp_world.proofs.ByKind.{backups_give, backups_stay, clients_give, clients_stay, is_here, masters_few, masters_give, masters_stay, seen_few, seen_moves, witnesses_give, witnesses_stay}
@@ -51,7 +52,7 @@ returns-in-Client-clause-moves c = λ w.
     (clients_give (input_of c.args.given.now) c.self.inside.clients.items after c.args.to.number c.give.result c.self.invariant.clients_are low made w (the_view c.self.inside))
 
 pub returns-in-Client-clause-few : goal.returns-in-Client-clause-few
-returns-in-Client-clause-few c = seen_few _ (the_view c.self.inside) _ c.args.to Client _ c.self.view_is c.in-Client.is (omega arith)
+returns-in-Client-clause-few c = seen_few _ _ _ c.args.to Client _ (ap (λ (n : NodeStates). n.masters) c.self.view_is) c.in-Client.is (omega arith)
 
 -- ---- a master
 
@@ -95,7 +96,7 @@ returns-in-Master-clause-few c =
     let made = vec_moves c.self.inside.masters c.deref_mut-in-Master.result.now c.give-in-Master.new.nodes (c.args.to.number - 1) c.give-in-Master.result
     (λ node. master_machine node (input_of c.args.given.now)) c.deref_mut-in-Master.ensures.value (c.give-in-Master.auto.nodes ∙ c.deref_mut-in-Master.ensures.len) c.give-in-Master.ensures.moves in
     let after = (with_items c.self.inside.masters c.give-in-Master.new.nodes).items in
-    seen_few _ (the_view c.self.inside) _ c.args.to Master _ c.self.view_is c.in-Master.is
+    seen_few _ _ _ c.args.to Master _ (ap (λ (n : NodeStates). n.masters) c.self.view_is) c.in-Master.is
     (masters_few (input_of c.args.given.now) c.self.inside.masters.items after c.args.to.number c.give-in-Master.result c.self.invariant.masters_are low made
     (subst (λ (kind : NodeKind). IsFor kind c.args.to.number (input_of c.args.given.now)) c.in-Master.is c.requires.built))
 
@@ -135,7 +136,7 @@ returns-in-Backup-clause-moves c = λ w.
     (backups_give (input_of c.args.given.now) c.self.inside.backups.items after c.args.to.number c.give-in-Backup.result c.self.invariant.backups_are low made w (the_view c.self.inside))
 
 pub returns-in-Backup-clause-few : goal.returns-in-Backup-clause-few
-returns-in-Backup-clause-few c = seen_few _ (the_view c.self.inside) _ c.args.to Backup _ c.self.view_is c.in-Backup.is (omega arith)
+returns-in-Backup-clause-few c = seen_few _ _ _ c.args.to Backup _ (ap (λ (n : NodeStates). n.masters) c.self.view_is) c.in-Backup.is (omega arith)
 
 -- ---- a witness
 
@@ -173,4 +174,4 @@ returns-in-Witness-clause-moves c = λ w.
     (witnesses_give (input_of c.args.given.now) c.self.inside.witnesses.items after c.args.to.number c.give-in-Witness.result c.self.invariant.witnesses_are low made w (the_view c.self.inside))
 
 pub returns-in-Witness-clause-few : goal.returns-in-Witness-clause-few
-returns-in-Witness-clause-few c = seen_few _ (the_view c.self.inside) _ c.args.to Witness _ c.self.view_is c.in-Witness.is (omega arith)
+returns-in-Witness-clause-few c = seen_few _ _ _ c.args.to Witness _ (ap (λ (n : NodeStates). n.masters) c.self.view_is) c.in-Witness.is (omega arith)
