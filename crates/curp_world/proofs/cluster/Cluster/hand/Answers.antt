@@ -29,8 +29,15 @@ give-requires-clause-there c =
 pub mark_pushed-requires : goal.mark_pushed-requires
 mark_pushed-requires c =
     let size = λ (o : Option MasterStage). length (log_of o) in
-    omega (arith, ap size c.master-master.ensures, ap size c.master.ensures, c.in_ok-done.ensures.few, c.log_length-former.ensures,
-    c.most_marks.ensures, c.in_ok-reserve-3.ensures.room)
+    omega (
+      arith,
+      ap size c.master-master.ensures,
+      ap size c.master.ensures,
+      c.in_ok-done.ensures.few,
+      c.log_length-former.ensures,
+      c.most_marks.ensures,
+      c.in_ok-reserve-3.ensures.room,
+    )
 
 pub returns-clause-state : goal.returns-clause-state
 returns-clause-state c =
