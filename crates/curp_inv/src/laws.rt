@@ -3,7 +3,7 @@
 pub use curp_law_linear::{
     history_stands, kept_stands, late_replies_agree, order_grows, order_stands,
 };
-pub use curp_law_order::{marks_tell_the_log, messages_are_built, shape_stays};
+pub use curp_law_order::{messages_are_built, shape_stays};
 pub use curp_law_runs::{
     completed_is_completable, facts_kept, only_sent_to_nodes, pairs_good, silent_while_switching,
 };

@@ -1,4 +1,5 @@
 ghost use Rattle.std.specs.Prelude.{◌≡◌, ◌≤◌, [], IfOk};
+ghost use Rattle.curp_base.specs.Words.{Each};
 ghost use Rattle.curp_model.specs.Master.{beginning};
 
 use curp_base::NoMemory;
@@ -42,6 +43,27 @@ impl MasterNode {
         let log = Log::begin(alloc, lo, hi)?;
         let master = Master::begin(alloc, part, part, 1, 1, backups, witnesses, log, 0)?;
         Ok(MasterNode { master })
+    }
+
+    /// The partition that it serves.
+    pub fn part(&self) -> u32
+        ensures { result ≡ self.now.state.part }
+    {
+        self.master.part()
+    }
+
+    pub fn epoch(&self) -> u32
+        ensures { result ≡ self.now.state.epoch }
+    {
+        self.master.epoch()
+    }
+
+    /// How many reads it has captured. The captures that wait have no larger numbers.
+    pub fn captured(&self) -> u64
+        ensures value { result ≡ self.now.state.captured }
+        ensures numbered { Each (λ capture. capture.number ≤ self.now.state.captured) self.now.state.captures }
+    {
+        self.master.captured()
     }
 
     /// Its log.

@@ -1,5 +1,5 @@
 -- What clients do keeps the facts.
-use Rattle.std.proofs.Common.{◌≡◌, inl, inr, ℕ, ◌+◌, ◌-◌, ◌<◌, ◌≤◌, Bool, true, false, not, List, [], ◌∷◌, ◌++◌, length, set, None, Some, ap, sym, ◌∙◌, subst, arith}
+use Rattle.std.proofs.Common.{◌≡◌, inl, inr, ℕ, ◌+◌, ◌-◌, ◌<◌, ◌≤◌, Bool, true, false, not, List, [], ◌∷◌, ◌++◌, length, set, Some, ap, sym, ◌∙◌, subst, arith}
 use Rattle.std.proofs.lemmas.Bool.{cases_eq}
 use Rattle.curp_base.specs.Words.{At, Each, numbered}
 use Rattle.curp_base.proofs.Lists.{at_within, at_append, at_push_cases, prefix_self, prefix_push}
@@ -13,12 +13,10 @@ use Rattle.curp_order.specs.declared.Event.{Event}
 use Rattle.curp_order.specs.declared.Event.TheVariants.{Invoke, Complete}
 use Rattle.curp_msg.specs.declared.script.Header.{Header}
 use Rattle.curp_model.specs.Client.{ClientState, Pending, next_id, without_id}
-use Rattle.curp_model.specs.Marks.{Mark, flagged}
 use Rattle.curp_cmd.proofs.Ids.{same_id-self}
 use Rattle.curp_base.proofs.Numbered.{numbered_same, numbered_set_cases, numbered_set_same, numbered_set_other, filter_at}
 use Rattle.curp_law_order.proofs.Facts.{Scene, MessageOk, PendingOk, ClientOk, ClientsKnow, ClientsWait, CompletedOk, InTime, StateOk, Facts}
 use Rattle.curp_law_order.proofs.Growing.{Grows, client_grows, completed_grows, pending_grows, said_grows}
-use Rattle.curp_law_order.proofs.Marking.{marks_invoke, marks_complete}
 use Rattle.curp_law_order.proofs.Moves.{client_moved, client_grows_by, client_keeps}
 
 module _ (h : Header) (s : Scene) (facts : Facts h s) (n : ℕ) (c : ClientState) (here : numbered s.clients n ≡ Some c) where
@@ -45,10 +43,10 @@ module _ (h : Header) (s : Scene) (facts : Facts h s) (n : ℕ) (c : ClientState
 
   module _ (d : ClientState) (out : List Message) (last : d.last ≡ c.last) (ok : ClientOk h s n d) (waits : Waits d) (says : Each (MessageOk h s) out) where
     abbrev pub noticed : Scene
-    noticed = client_moved s n d s.history s.marks out
+    noticed = client_moved s n d s.history out
 
     notice_grows : Grows s noticed
-    notice_grows = client_grows_by h s n d s.history s.marks out (prefix_self s.history)
+    notice_grows = client_grows_by h s n d s.history out (prefix_self s.history)
 
     noticed_wait : ClientsWait noticed.clients s.history
     noticed_wait k x at = elim (numbered_set_cases s.clients n c d here k x at) [
@@ -57,7 +55,7 @@ module _ (h : Header) (s : Scene) (facts : Facts h s) (n : ℕ) (c : ClientState
     ]
 
     pub notice_keeps : Facts h noticed
-    notice_keeps = client_keeps h s n d s.history s.marks out facts c here (record {
+    notice_keeps = client_keeps h s n d s.history out facts c here (record {
       grown = prefix_self s.history;
       its_state = client_grows notice_grows h n d ok;
       know = λ i id x at. known_later d (omega (arith, last)) id (state.know i id x at);
@@ -65,7 +63,6 @@ module _ (h : Header) (s : Scene) (facts : Facts h s) (n : ℕ) (c : ClientState
       history = state.history;
       completes = λ i id a at. completed_grows notice_grows h id a (state.completes i id a at);
       in_time = state.in_time;
-      marked = state.marks;
       says = said_grows notice_grows h out says;
     })
 
@@ -118,10 +115,10 @@ module _ (h : Header) (s : Scene) (facts : Facts h s) (n : ℕ) (c : ClientState
       asking = record c { last = c.last + 1; pending = c.pending ++ new ∷ [] }
 
       abbrev pub invoking : Scene
-      invoking = client_moved s n asking (s.history ++ asks ∷ []) s.marks out
+      invoking = client_moved s n asking (s.history ++ asks ∷ []) out
 
       invoke_grows : Grows s invoking
-      invoke_grows = client_grows_by h s n asking (s.history ++ asks ∷ []) s.marks out (prefix_push s.history (asks ∷ []))
+      invoke_grows = client_grows_by h s n asking (s.history ++ asks ∷ []) out (prefix_push s.history (asks ∷ []))
 
       module _ (ok : PendingOk h invoking n new) (says : Each (MessageOk h invoking) out) where
         asking_ok : ClientOk h invoking n asking
@@ -156,7 +153,7 @@ module _ (h : Header) (s : Scene) (facts : Facts h s) (n : ℕ) (c : ClientState
             ]
 
         pub invoke_keeps : Facts h invoking
-        invoke_keeps = client_keeps h s n asking (s.history ++ asks ∷ []) s.marks out facts c here (record {
+        invoke_keeps = client_keeps h s n asking (s.history ++ asks ∷ []) out facts c here (record {
           grown = invoke_grows.history;
           its_state = asking_ok;
           know = invoking_know;
@@ -164,7 +161,6 @@ module _ (h : Header) (s : Scene) (facts : Facts h s) (n : ℕ) (c : ClientState
           history = invoke_history;
           completes = λ i x a at. completed_grows invoke_grows h x a (state.completes i x a (old_completion i x a at));
           in_time = invoke_in_time;
-          marked = state.marks ∙ sym (marks_invoke s.history fresh command s.master.log 0);
           says = says;
         })
 
@@ -177,14 +173,11 @@ module _ (h : Header) (s : Scene) (facts : Facts h s) (n : ℕ) (c : ClientState
     abbrev answered : ClientState
     answered = record c { pending = without_id id c.pending }
 
-    abbrev flags : List Mark
-    flags = flagged (record { id = id; answer = a; by = None }) s.marks
-
     abbrev pub completing : Scene
-    completing = client_moved s n answered (s.history ++ answers ∷ []) flags []
+    completing = client_moved s n answered (s.history ++ answers ∷ []) []
 
     complete_grows : Grows s completing
-    complete_grows = client_grows_by h s n answered (s.history ++ answers ∷ []) flags [] (prefix_push s.history (answers ∷ []))
+    complete_grows = client_grows_by h s n answered (s.history ++ answers ∷ []) [] (prefix_push s.history (answers ∷ []))
 
     old_invocation : (i : ℕ) (x : RequestId) (d : Command) → At (s.history ++ answers ∷ []) i (Invoke x d) → At s.history i (Invoke x d)
     old_invocation i x d ev = elim (at_push_cases s.history answers i _ ev) [ inl old ↦ old | inr last ↦ absurd (cc (last.1)) ]
@@ -268,7 +261,7 @@ module _ (h : Header) (s : Scene) (facts : Facts h s) (n : ℕ) (c : ClientState
     ]
 
     pub complete_keeps : Facts h completing
-    complete_keeps = client_keeps h s n answered (s.history ++ answers ∷ []) flags [] facts c here (record {
+    complete_keeps = client_keeps h s n answered (s.history ++ answers ∷ []) [] facts c here (record {
       grown = complete_grows.history;
       its_state = answered_ok;
       know = λ i x d ev. known_later answered (omega arith) x (state.know i x d (old_invocation i x d ev));
@@ -276,6 +269,5 @@ module _ (h : Header) (s : Scene) (facts : Facts h s) (n : ℕ) (c : ClientState
       history = complete_history;
       completes = completed;
       in_time = complete_in_time;
-      marked = ap (flagged (record { id = id; answer = a; by = None })) state.marks ∙ marks_complete s.history id a s.master.log 0;
       says = tt;
     })

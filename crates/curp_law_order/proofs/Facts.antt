@@ -33,7 +33,6 @@ use Rattle.curp_model.specs.Backup.{BackupState}
 use Rattle.curp_model.specs.Client.{Accept, Attempt, ClientState, Early, Pending}
 use Rattle.curp_model.specs.Log.{IsDone, answer_after, meaning}
 use Rattle.curp_model.specs.Manager.{ManagerState, opening_config, opening_manager, opening_part}
-use Rattle.curp_model.specs.Marks.{Mark}
 use Rattle.curp_model.specs.Master.{MasterState, from_backup}
 use Rattle.curp_cmd.specs.Node.{backup_node, client_node, master_node}
 use Rattle.curp_model.specs.Ranges.{opening_range}
@@ -41,7 +40,6 @@ use Rattle.curp_model.specs.Recovery.{MasterStage, Serving}
 use Rattle.curp_model.specs.Table.{Noted}
 use Rattle.curp_model.specs.Witness.{HeldRequest, WitnessState, holds}
 use Rattle.curp_model.specs.World.{World, messages, shape_of}
-use Rattle.curp_facts.specs.Marked.{marks_of}
 use Rattle.curp_facts.specs.Shape.{ServesAsOpened}
 
 -- what the facts speak of: a world with one serving master
@@ -52,7 +50,6 @@ pub record Scene : Type 0 where
   pub witnesses : List WitnessState
   pub sent : List Message
   pub history : List Event
-  pub marks : List Mark
 
 -- the range of the opening
 abbrev pub first_hash : Header → ℕ
@@ -266,7 +263,6 @@ pub record StateOk (h : Header) (s : Scene) : Type 0 where
   pub history : IsHistory s.history
   pub completes : (i : ℕ) (id : RequestId) (a : Answer) → At s.history i (Complete id a) → CompletedOk h s id a
   pub in_time : InTime s.history s.master.log
-  pub marks : s.marks ≡ marks_of s.master.log s.history
 
 pub record Facts (h : Header) (s : Scene) : Type 0 where
   pub said : Each (MessageOk h s) s.sent
@@ -281,7 +277,6 @@ scene_of w m = record {
   witnesses = w.witnesses;
   sent = messages w;
   history = w.history;
-  marks = w.marks;
 }
 
 -- one master serves, and the rest is as at opening

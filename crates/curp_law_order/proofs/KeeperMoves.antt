@@ -25,7 +25,7 @@ use Rattle.curp_law_order.proofs.Moves.{keepers_moved, keepers_keep}
 
 module _ (h : Header) (s : Scene) (facts : Facts h s) (n : ℕ) (b : BackupState) (here : numbered s.backups n ≡ Some b) (r : Moved BackupState) (effect : BackupEffect s.master.log n b r) where
   abbrev pub backed : Scene
-  backed = keepers_moved s s.master (set s.backups (n - 1) r.state) s.witnesses s.marks r.messages
+  backed = keepers_moved s s.master (set s.backups (n - 1) r.state) s.witnesses r.messages
 
   moved_ok : BackupOk s.master n r.state
   moved_ok = record { front = effect.front; known = omega (arith, (facts.state.backups n b here).known, prefix_length effect.grown) }
@@ -57,7 +57,7 @@ module _ (h : Header) (s : Scene) (facts : Facts h s) (n : ℕ) (b : BackupState
       go to _ so = absurd so
 
   pub backup_keeps : Facts h backed
-  backup_keeps = keepers_keep h s facts s.master (set s.backups (n - 1) r.state) s.witnesses s.marks r.messages (record {
+  backup_keeps = keepers_keep h s facts s.master (set s.backups (n - 1) r.state) s.witnesses r.messages (record {
     serves = facts.state.serves;
     log = inl refl;
     backups_grow = one_backup s.backups n b r.state here effect.grown;
@@ -66,7 +66,6 @@ module _ (h : Header) (s : Scene) (facts : Facts h s) (n : ℕ) (b : BackupState
     witnesses_grow = same_witnesses s.witnesses;
     as_many_witnesses = refl;
     witnesses_ok = facts.state.witnesses;
-    marked = facts.state.marks;
     says = Each-weaker (BackupTells n r.state) (MessageOk h backed) backup_says r.messages effect.says;
   })
 
@@ -74,7 +73,7 @@ module _ (h : Header) (s : Scene) (facts : Facts h s) (n : ℕ) (b : BackupState
 
 module _ (h : Header) (s : Scene) (facts : Facts h s) (n : ℕ) (w : WitnessState) (here : numbered s.witnesses n ≡ Some w) (from : NodeId) (named : IsNamed h from) (r : Moved WitnessState) (effect : WitnessEffect (Asked s.history) n w from r) where
   abbrev pub witnessed : Scene
-  witnessed = keepers_moved s s.master s.backups (set s.witnesses (n - 1) r.state) s.marks r.messages
+  witnessed = keepers_moved s s.master s.backups (set s.witnesses (n - 1) r.state) r.messages
 
   witnesses_ok : (k : ℕ) (x : WitnessState) → numbered witnessed.witnesses k ≡ Some x → WitnessOk s.history x
   witnesses_ok k x at = elim (numbered_set_cases s.witnesses n w r.state here k x at) [
@@ -100,7 +99,7 @@ module _ (h : Header) (s : Scene) (facts : Facts h s) (n : ℕ) (w : WitnessStat
       go to _ so = absurd so
 
   pub witness_keeps : Facts h witnessed
-  witness_keeps = keepers_keep h s facts s.master s.backups (set s.witnesses (n - 1) r.state) s.marks r.messages (record {
+  witness_keeps = keepers_keep h s facts s.master s.backups (set s.witnesses (n - 1) r.state) r.messages (record {
     serves = facts.state.serves;
     log = inl refl;
     backups_grow = same_backups s.backups;
@@ -109,6 +108,5 @@ module _ (h : Header) (s : Scene) (facts : Facts h s) (n : ℕ) (w : WitnessStat
     witnesses_grow = one_witness s.witnesses n w r.state here effect.grown;
     as_many_witnesses = length-set s.witnesses (n - 1) r.state;
     witnesses_ok = witnesses_ok;
-    marked = facts.state.marks;
     says = Each-weaker (WitnessTells n r.state from) (MessageOk h witnessed) witness_says r.messages effect.says;
   })

@@ -1,25 +1,17 @@
--- What the facts say of the order, of the world's shape and of what is sent.
-use Rattle.std.proofs.Common.{◌≡◌, ℕ, ◌∷◌, [], ap, sym, ◌∙◌}
+-- What the facts say of the world's shape and of what is sent.
+use Rattle.std.proofs.Common.{ℕ}
 use Rattle.curp_base.specs.Words.{At}
 use Rattle.curp_msg.specs.declared.message.Message.{Message}
 use Rattle.curp_msg.specs.declared.script.Header.{Header}
-use Rattle.curp_model.specs.Marks.{shown}
-use Rattle.curp_model.specs.Master.{MasterState}
-use Rattle.curp_model.specs.Recovery.{Serving}
-use Rattle.curp_model.specs.World.{World, messages, order}
-use Rattle.curp_facts.specs.Marked.{marks_of, requests_of}
+use Rattle.curp_model.specs.World.{World, messages}
 use Rattle.curp_facts.specs.Sent.{IsBuilt}
 use Rattle.curp_facts.specs.Shape.{HasShape}
 use Rattle.curp_law_order.proofs.Facts.{StateOk, Inv, scene_of}
-use Rattle.curp_law_order.proofs.Marking.{marks_shown}
 use Rattle.curp_law_order.proofs.Runs.{built, sent_ok}
 
 module _ (h : Header) (w : World) (inv : Inv h w) where
   abbrev state : StateOk h (scene_of w inv.master)
   state = inv.facts.state
-
-  pub order_is : order w ≡ requests_of inv.master.log
-  order_is = ap shown state.marks ∙ marks_shown w.history inv.master.log 0
 
   pub has_shape : HasShape h w
   has_shape = record {
@@ -36,10 +28,3 @@ module _ (h : Header) (w : World) (inv : Inv h w) where
 
   pub is_built : (k : ℕ) (m : Message) → At (messages w) k m → IsBuilt m
   is_built k m at = built h w inv m.from m.to m.body (sent_ok h w inv k m at).says_so
-
-  -- there is one master
-  pub same_master : (m : MasterState) → w.masters ≡ Serving m ∷ [] → inv.master ≡ m
-  same_master m is = let both : Serving inv.master ∷ [] ≡ Serving m ∷ [] = sym inv.outline.serves ∙ is in cc
-
-  pub marks_are : w.marks ≡ marks_of inv.master.log w.history
-  marks_are = state.marks

@@ -2,7 +2,6 @@ pub mod Names
 pub mod Facts
 pub mod Growing
 pub mod Entries
-pub mod Marking
 pub mod Effects
 pub mod MasterEffects
 pub mod BackupEffects

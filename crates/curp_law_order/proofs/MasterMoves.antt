@@ -1,32 +1,25 @@
 -- The master's moves keep the facts.
-use Rattle.std.proofs.Common.{◌≡◌, inl, inr, ℕ, zero, suc, ◌+◌, ◌-◌, ◌*◌, ◌<◌, ◌≤◌, false, List, [], ◌∷◌, ◌++◌, length, drop, map, Some, refl, ap, sym, ◌∙◌, subst, arith, append-nil}
-use Rattle.std.proofs.Math.Seq.{drop-append_seam, drop-length}
+use Rattle.std.proofs.Common.{◌≡◌, ℕ, zero, suc, ◌+◌, ◌-◌, ◌*◌, ◌<◌, ◌≤◌, List, [], ◌∷◌, length, map, Some, refl, ap, sym, ◌∙◌, subst, arith}
 use Rattle.curp_base.specs.Words.{At, IsPrefix, numbered, numbers_from}
 use Rattle.curp_base.proofs.Lists.{at_map, at_within, prefix_trans, Each-weaker}
 use Rattle.curp_cmd.specs.declared.command.Answer.{Answer}
 use Rattle.curp_cmd.specs.declared.command.Command.{Command}
 use Rattle.curp_cmd.specs.declared.command.RequestId.{RequestId}
-use Rattle.curp_cmd.specs.declared.entry.Entry.{Entry}
-use Rattle.curp_cmd.specs.declared.entry.Entry.TheVariants.{Op}
 use Rattle.curp_cmd.specs.declared.node.NodeId.{NodeId}
 use Rattle.curp_msg.specs.declared.body.Body.{Body}
 use Rattle.curp_msg.specs.declared.body.Body.TheVariants as body
 use Rattle.curp_msg.specs.declared.message.Message.{Message}
 use Rattle.curp_msg.specs.declared.script.Header.{Header}
 use Rattle.curp_model.specs.Backup.{BackupState}
-use Rattle.curp_model.specs.Marks.{Mark, executed}
 use Rattle.curp_model.specs.Master.{MasterState, from_backup, least, synced}
 use Rattle.curp_msg.specs.Moved.{Moved}
-use Rattle.curp_cmd.specs.Node.{backup_node, client_node, master_node}
-use Rattle.curp_model.specs.World.{capture_mark, new_captures, op_marks, pushed_marks}
-use Rattle.curp_facts.specs.Marked.{is_completed, marks_of}
+use Rattle.curp_cmd.specs.Node.{backup_node, client_node}
 use Rattle.curp_facts.specs.Shape.{ServesAsOpened}
 use Rattle.curp_base.proofs.Numbered.{numbers_at, number_within, place}
 use Rattle.curp_law_order.proofs.Facts.{Scene, Asked, Done, IsLong, IsNamed, IsOnEach, MessageOk, BackupOk, StateOk, Facts}
 use Rattle.curp_law_order.proofs.Growing.{same_backups, same_witnesses}
-use Rattle.curp_law_order.proofs.Marking.{not_completed, marks_push}
-use Rattle.curp_law_order.proofs.Effects.{BodySays, Says, LogMove, MasterEffect}
-use Rattle.curp_law_order.proofs.Moves.{log_grows, not_yet, completed_at, keepers_moved, keepers_keep, moved_log}
+use Rattle.curp_law_order.proofs.Effects.{BodySays, Says, MasterEffect}
+use Rattle.curp_law_order.proofs.Moves.{log_grows, keepers_moved, keepers_keep, moved_log}
 
 -- ---- what is synced, each backup has acknowledged
 
@@ -49,36 +42,10 @@ module _ (h : Header) (s : Scene) (facts : Facts h s) (r : Moved MasterState) (e
   state : StateOk h s
   state = facts.state
 
-  -- ---- marks
-
-  pushed_only : pushed_marks (master_node 1) s.master r.state ≡ op_marks (master_node 1) 1 1 (length s.master.log) (drop (length s.master.log) r.state.log)
-  pushed_only =
-      (λ i. op_marks (master_node 1) (effect.serves.part i) (effect.serves.epoch i) (length s.master.log) (drop (length s.master.log) r.state.log)
-      ++ map (capture_mark (master_node 1) r.state.part r.state.epoch) (new_captures s.master.captured (effect.serves.captures i)))
-      ∙ append-nil _
-
-  new_marks : LogMove (Asked s.history) h s.master.log r.state.log
-      → s.marks ++ op_marks (master_node 1) 1 1 (length s.master.log) (drop (length s.master.log) r.state.log) ≡ marks_of r.state.log s.history
-  new_marks (inl same) =
-      ap (λ (log : List Entry). s.marks ++ op_marks (master_node 1) 1 1 (length s.master.log) (drop (length s.master.log) log)) same
-      ∙ ap (λ (log : List Entry). s.marks ++ op_marks (master_node 1) 1 1 (length s.master.log) log) (drop-length s.master.log)
-      ∙ append-nil s.marks ∙ state.marks ∙ ap (λ (log : List Entry). marks_of log s.history) (sym same)
-  new_marks (inr p) =
-      let open_yet : is_completed s.history p.request.id ≡ false = not_completed s.history p.request.id (λ i a at.
-      let c = completed_at h s state i p.request.id a at in
-      not_yet h s.history s.master.log p.request p.acknowledged p.is_new state.log c.0 c.1 c.2 c.3 c.4) in
-      ap (λ (log : List Entry). s.marks ++ op_marks (master_node 1) 1 1 (length s.master.log) (drop (length s.master.log) log)) p.grown
-      ∙ ap (λ (log : List Entry). s.marks ++ op_marks (master_node 1) 1 1 (length s.master.log) log) (drop-append_seam s.master.log (Op p.request p.acknowledged ∷ []))
-      ∙ (λ i. state.marks i ++ record (executed (master_node 1) 1 1 (length s.master.log) p.request.id p.request.command) { completed = sym open_yet i } ∷ [])
-      ∙ sym (marks_push s.history s.master.log 0 (length s.master.log) p.request p.acknowledged (omega arith)) ∙ ap (λ (log : List Entry). marks_of log s.history) (sym p.grown)
-
   -- ---- the world after the move
 
-  abbrev marks : List Mark
-  marks = s.marks ++ pushed_marks (master_node 1) s.master r.state
-
   abbrev pub mastered : Scene
-  mastered = keepers_moved s r.state s.backups s.witnesses marks r.messages
+  mastered = keepers_moved s r.state s.backups s.witnesses r.messages
 
   log_longer : IsPrefix s.master.log r.state.log
   log_longer = log_grows (Asked s.history) h s.master.log r.state.log effect.log
@@ -129,7 +96,7 @@ module _ (h : Header) (s : Scene) (facts : Facts h s) (r : Moved MasterState) (e
       go to _ so = absurd so
 
   pub master_keeps : Facts h mastered
-  master_keeps = keepers_keep h s facts r.state s.backups s.witnesses marks r.messages (record {
+  master_keeps = keepers_keep h s facts r.state s.backups s.witnesses r.messages (record {
     serves = effect.serves;
     log = effect.log;
     backups_grow = same_backups s.backups;
@@ -138,6 +105,5 @@ module _ (h : Header) (s : Scene) (facts : Facts h s) (r : Moved MasterState) (e
     witnesses_grow = same_witnesses s.witnesses;
     as_many_witnesses = refl;
     witnesses_ok = state.witnesses;
-    marked = ap (λ (new : List Mark). s.marks ++ new) pushed_only ∙ new_marks effect.log;
     says = Each-weaker (Says (Asked s.history) h r.state.log (synced r.state)) (MessageOk h mastered) message_ok r.messages effect.says;
   })

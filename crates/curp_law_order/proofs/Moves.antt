@@ -18,8 +18,6 @@ use Rattle.curp_model.specs.declared.Check.TheVariants.{New}
 use Rattle.curp_model.specs.Backup.{BackupState}
 use Rattle.curp_model.specs.Client.{ClientState}
 use Rattle.curp_model.specs.Log.{meaning}
-use Rattle.curp_facts.specs.Marked.{marks_of}
-use Rattle.curp_model.specs.Marks.{Mark}
 use Rattle.curp_model.specs.Master.{MasterState}
 use Rattle.curp_facts.specs.Shape.{ServesAsOpened}
 use Rattle.curp_model.specs.Witness.{WitnessState}
@@ -106,10 +104,10 @@ module _ (h : Header) (s : Scene) (state : StateOk h s) where
 -- ---- the master, a backup or a witness moves: no client does, and nothing is invoked or completes
 
 -- the scene with what may have moved
-abbrev pub keepers_moved : Scene → MasterState → List BackupState → List WitnessState → List Mark → List Message → Scene
-keepers_moved s master backups witnesses marks out = record s { master = master; backups = backups; witnesses = witnesses; marks = marks; sent = s.sent ++ out }
+abbrev pub keepers_moved : Scene → MasterState → List BackupState → List WitnessState → List Message → Scene
+keepers_moved s master backups witnesses out = record s { master = master; backups = backups; witnesses = witnesses; sent = s.sent ++ out }
 
-pub record KeepersMove (h : Header) (s : Scene) (master : MasterState) (backups : List BackupState) (witnesses : List WitnessState) (marks : List Mark) (out : List Message) : Type 0 where
+pub record KeepersMove (h : Header) (s : Scene) (master : MasterState) (backups : List BackupState) (witnesses : List WitnessState) (out : List Message) : Type 0 where
   pub serves : ServesAsOpened h master
   pub log : LogMove (Asked s.history) h s.master.log master.log
   pub backups_grow : BackupsGrow s.backups backups
@@ -118,12 +116,11 @@ pub record KeepersMove (h : Header) (s : Scene) (master : MasterState) (backups 
   pub witnesses_grow : WitnessesGrow s.witnesses witnesses
   pub as_many_witnesses : length witnesses ≡ length s.witnesses
   pub witnesses_ok : (n : ℕ) (x : WitnessState) → numbered witnesses n ≡ Some x → WitnessOk s.history x
-  pub marked : marks ≡ marks_of master.log s.history
-  pub says : Each (MessageOk h (keepers_moved s master backups witnesses marks out)) out
+  pub says : Each (MessageOk h (keepers_moved s master backups witnesses out)) out
 
-module _ (h : Header) (s : Scene) (facts : Facts h s) (master : MasterState) (backups : List BackupState) (witnesses : List WitnessState) (marks : List Mark) (out : List Message) (move : KeepersMove h s master backups witnesses marks out) where
+module _ (h : Header) (s : Scene) (facts : Facts h s) (master : MasterState) (backups : List BackupState) (witnesses : List WitnessState) (out : List Message) (move : KeepersMove h s master backups witnesses out) where
   abbrev moved : Scene
-  moved = keepers_moved s master backups witnesses marks out
+  moved = keepers_moved s master backups witnesses out
 
   keepers_grow : Grows s moved
   keepers_grow = record { history = prefix_self s.history; log = log_grows (Asked s.history) h s.master.log master.log move.log; backups = move.backups_grow; witnesses = move.witnesses_grow }
@@ -150,19 +147,18 @@ module _ (h : Header) (s : Scene) (facts : Facts h s) (master : MasterState) (ba
           history = state.history;
           completes = λ i id a at. completed_grows keepers_grow h id a (state.completes i id a at);
           in_time = moved_in_time h s state master.log move.log;
-          marks = move.marked;
         };
       }
 
 -- ---- a client moves, and may invoke a request or complete one
 
 -- the scene with a client that has moved
-abbrev pub client_moved : Scene → ℕ → ClientState → List Event → List Mark → List Message → Scene
-client_moved s n d past marks out = record s { clients = set s.clients (n - 1) d; history = past; marks = marks; sent = s.sent ++ out }
+abbrev pub client_moved : Scene → ℕ → ClientState → List Event → List Message → Scene
+client_moved s n d past out = record s { clients = set s.clients (n - 1) d; history = past; sent = s.sent ++ out }
 
-module _ (h : Header) (s : Scene) (n : ℕ) (d : ClientState) (past : List Event) (marks : List Mark) (out : List Message) where
+module _ (h : Header) (s : Scene) (n : ℕ) (d : ClientState) (past : List Event) (out : List Message) where
   abbrev heard : Scene
-  heard = client_moved s n d past marks out
+  heard = client_moved s n d past out
 
   pub record ClientMoves : Type 0 where
     pub grown : IsPrefix s.history past
@@ -172,7 +168,6 @@ module _ (h : Header) (s : Scene) (n : ℕ) (d : ClientState) (past : List Event
     pub history : IsHistory past
     pub completes : (i : ℕ) (id : RequestId) (a : Answer) → At past i (Complete id a) → CompletedOk h heard id a
     pub in_time : InTime past s.master.log
-    pub marked : marks ≡ marks_of s.master.log past
     pub says : Each (MessageOk h heard) out
 
   pub client_grows_by : IsPrefix s.history past → Grows s heard
@@ -202,6 +197,5 @@ module _ (h : Header) (s : Scene) (n : ℕ) (d : ClientState) (past : List Event
             history = move.history;
             completes = move.completes;
             in_time = move.in_time;
-            marks = move.marked;
           };
         }

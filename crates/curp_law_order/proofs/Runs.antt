@@ -109,7 +109,7 @@ module _ (h : Header) (w : World) (inv : Inv h w) where
 
   -- the scene after a move
   abbrev scene_after : MasterState → List Event → Moved World → Scene
-  scene_after m past moved = record (scene_of moved.state m) { sent = messages w ++ moved.messages; history = past; marks = with_completion moved.completed moved.state.marks }
+  scene_after m past moved = record (scene_of moved.state m) { sent = messages w ++ moved.messages; history = past }
 
   -- a move that keeps the facts is kept
   kept_inv : (m : MasterState) (past events : List Event) (moved : Moved World) → past ≡ (w.history ++ events) ++ completion moved.completed
@@ -124,19 +124,13 @@ module _ (h : Header) (w : World) (inv : Inv h w) where
   -- and so is one that invokes and completes nothing
   quiet_inv : (m : MasterState) (moved : Moved World) → moved.completed ≡ None
       → HasOutline h moved.state m → Facts h (record (scene_of moved.state m) { sent = messages w ++ moved.messages; history = w.history }) → Inv h (kept w [] moved).world
-  quiet_inv m moved none outline facts = kept_inv m w.history [] moved (sym (no_event w.history moved.completed none)) outline
-      (subst (λ (c : Option Completed). Facts h (record (scene_after m w.history moved) { marks = with_completion c moved.state.marks })) (sym none) facts)
+  quiet_inv m moved none outline facts = kept_inv m w.history [] moved (sym (no_event w.history moved.completed none)) outline facts
 
   -- a node may stop
   stops : (stopped : List NodeId) → Inv h (kept w [] (quiet (record w { stopped = stopped }))).world
   stops stopped = quiet_inv inv.master (quiet (record w { stopped = stopped })) refl inv.outline (subst (λ (x : List Message). Facts h (record s { sent = x })) (sym (append-nil (messages w))) inv.facts)
 
   -- ---- the master
-
-  adopted : is_adopted w.manager (master_node 1) ≡ true
-  adopted =
-      ap (λ (g : ManagerState). is_adopted g (master_node 1)) inv.outline.manager_is
-      ∙ ap (λ (count : ℕ). list_any (λ (c : PartConfig). same_node c.master (master_node 1)) (map (opening_part (shape_of h)) (numbers_from 1 count))) state.counts.parts
 
   -- what was asked for, and what backups have told
   abbrev WasAsked : RequestId → Command → Type 0
@@ -156,11 +150,7 @@ module _ (h : Header) (w : World) (inv : Inv h w) where
         sets_are = inv.outline.sets_are;
         ways_are = inv.outline.ways_are;
       })
-      (subst (λ (b : Bool). Facts h (record s {
-        master = r.state;
-        sent = messages w ++ r.messages;
-        marks = cond b (w.marks ++ master_marks (master_node 1) (Serving inv.master) (Serving r.state)) w.marks;
-      })) (sym adopted) (master_keeps h s inv.facts r effect))
+      (master_keeps h s inv.facts r effect)
 
   answer_heard : (from : NodeId) (answer : AppendAnswer) → AnswerOk w.backups from.number answer → AnswerHeard (λ (node : NodeId) long. IsLong w.backups node.number long) from answer
   answer_heard from (Stored long) ok = ok
@@ -492,7 +482,6 @@ opening_facts h one = record {
     history = record { invoked_once = λ i j id c d hi hj. absurd cc; completed_once = λ i j id a b hi hj. absurd cc; after_invoked = λ j id a at. absurd cc };
     completes = λ i id a at. absurd cc;
     in_time = λ i j earlier later a c ij hi hj. absurd cc;
-    marks = refl;
   };
 }
 

@@ -2,15 +2,12 @@
 //! function with nothing in it, and a caller has the law by the call.
 #![tactic(auto)]
 
-ghost use Rattle.std.specs.Prelude.{◌≡◌, ℕ, List, [], ◌∷◌};
+ghost use Rattle.std.specs.Prelude.{ℕ, List};
 ghost use Rattle.curp_base.specs.Words.{At};
 ghost use Rattle.curp_facts.specs.Built.{IsScript};
-ghost use Rattle.curp_facts.specs.Marked.{marks_of, requests_of};
 ghost use Rattle.curp_facts.specs.Sent.{IsBuilt};
 ghost use Rattle.curp_facts.specs.Shape.{HasShape};
-ghost use Rattle.curp_model.specs.Master.{MasterState};
-ghost use Rattle.curp_model.specs.Recovery.{Serving};
-ghost use Rattle.curp_model.specs.World.{world, messages, order};
+ghost use Rattle.curp_model.specs.World.{world, messages};
 ghost use Rattle.curp_msg.specs.declared.message.Message.{Message};
 ghost use Rattle.curp_msg.specs.declared.script.Header.{Header};
 ghost use Rattle.curp_msg.specs.declared.script.Step.{Step};
@@ -25,14 +22,4 @@ pub fn shape_stays()
 pub fn messages_are_built()
     ensures built { (h : Header) (steps : List Step) → IsScript h steps
         → (k : ℕ) (m : Message) → At (messages (world h steps)) k m → IsBuilt m }
-{}
-
-/// The marks are those of the ops of the master's log, flagged where the history has the completion. So the order is
-/// that of the log.
-pub fn marks_tell_the_log()
-    ensures marks { (h : Header) (steps : List Step) → IsScript h steps
-        → (m : MasterState) → (world h steps).masters ≡ Serving m ∷ []
-        → (world h steps).marks ≡ marks_of m.log (world h steps).history }
-    ensures order { (h : Header) (steps : List Step) → IsScript h steps
-        → (m : MasterState) → (world h steps).masters ≡ Serving m ∷ [] → order (world h steps) ≡ requests_of m.log }
 {}

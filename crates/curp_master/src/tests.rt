@@ -1,8 +1,10 @@
 use crate::Master;
-use curp_base::Boxed;
+use curp_base::{Boxed, Items};
 use curp_cmd::{Answer, Command, Key, NodeId, Request, RequestId, Value};
 use curp_log::Log;
-use curp_msg::{AppendAnswer, Appended, Ask, Body, Local, Message, Refusal};
+use curp_msg::{
+    Adopted, AppendAnswer, Appended, Ask, Body, Local, Message, Prepare, Refusal, TakeOut,
+};
 use std::alloc::Global;
 use std::process::Abort;
 use std::test::Fail;
@@ -17,8 +19,16 @@ enum Comes {
     // The client knows that epoch and that version.
     Late(u32, u32, u32),
     Sync(u32, u32),
+    Read(u32, u32),
     Stored(u32, u64, u64),
+    // A list of that version, of one backup.
+    Prepare(u32, u32),
+    Adopted(u32),
+    // A migration of the hashes from 0 to 9.
+    Take(u32),
+    Expire(u32),
     Round,
+    Collect,
 }
 
 // What the master says: to a client that its put is done, or why it isn't; to a backup how many entries of its log,
@@ -29,13 +39,19 @@ enum Said {
     Synced(u32),
     Refused(u32, Refusal),
     Appends(u32, usize, u64, u64),
+    // A read's value, of the capture of that number.
+    Worth(u32, u64),
+    Prepared(u32),
+    // A witness may drop so many.
+    Gc(u32, usize),
+    Taken(u32),
     Another,
 }
 
 // A master of that many backups, of the hashes up to one, and at a round, with what comes and what it says then.
 type Case = (u32, u64, u64, &'static [(Comes, &'static [Said])]);
 
-const CASES: [Case; 4] = [
+const CASES: [Case; 7] = [
     (
         1,
         u64::MAX,
@@ -95,6 +111,69 @@ const CASES: [Case; 4] = [
             (Comes::Update(2, 1), &[]),
         ],
     ),
+    // A read waits for the round that was begun for it, and for what stood in the log.
+    (
+        2,
+        u64::MAX,
+        0,
+        &[
+            (
+                Comes::Sync(1, 1),
+                &[Said::Appends(1, 1, 0, 1), Said::Appends(2, 1, 0, 1)],
+            ),
+            (
+                Comes::Read(2, 1),
+                &[Said::Appends(1, 1, 0, 2), Said::Appends(2, 1, 0, 2)],
+            ),
+            (Comes::Stored(1, 1, 2), &[]),
+            (Comes::Stored(2, 1, 1), &[Said::Synced(1)]),
+            (Comes::Stored(2, 1, 2), &[Said::Worth(2, 1)]),
+            (Comes::Collect, &[Said::Gc(1, 1)]),
+            (Comes::Collect, &[Said::Gc(1, 0)]),
+        ],
+    ),
+    // The new list has the log once its own backup has stored it.
+    (
+        1,
+        u64::MAX,
+        0,
+        &[
+            (Comes::Sync(1, 1), &[Said::Appends(1, 1, 0, 1)]),
+            (
+                Comes::Prepare(2, 7),
+                &[Said::Appends(1, 1, 0, 2), Said::Appends(7, 1, 0, 2)],
+            ),
+            (Comes::Update(2, 1), &[Said::Refused(2, Refusal::Switching)]),
+            (Comes::Stored(1, 1, 2), &[]),
+            (Comes::Stored(7, 1, 1), &[]),
+            (Comes::Stored(7, 1, 2), &[Said::Prepared(2)]),
+            (
+                Comes::Round,
+                &[
+                    Said::Prepared(2),
+                    Said::Appends(1, 0, 1, 3),
+                    Said::Appends(7, 0, 1, 3),
+                ],
+            ),
+            (Comes::Adopted(2), &[Said::Synced(1)]),
+            (Comes::Round, &[Said::Appends(7, 0, 1, 4)]),
+        ],
+    ),
+    // A range leaves once, and its package is told once it is stored.
+    (
+        1,
+        u64::MAX,
+        0,
+        &[
+            (Comes::Take(1), &[Said::Appends(1, 1, 0, 1)]),
+            (Comes::Stored(1, 1, 1), &[Said::Taken(1)]),
+            (Comes::Take(1), &[Said::Taken(1)]),
+            (Comes::Take(2), &[]),
+            (Comes::Expire(3), &[Said::Appends(1, 1, 1, 2)]),
+            (Comes::Expire(3), &[]),
+            (Comes::Update(3, 1), &[Said::Refused(3, Refusal::Expired)]),
+        ],
+    ),
 ];
 
 #[test]
@@ -138,7 +217,7 @@ fn begin(alloc: Global, backups: u32, hi: u64, round: u64) -> Result<Master, Fai
 fn give(alloc: Global, master: &mut Master, comes: Comes) -> Result<Vec<Said>, Fail> {
     let done = match message(alloc, comes)? {
         Some(message) => master.on_message(&message)?,
-        None => master.on_order(&Local::Sync)?,
+        None => master.on_order(&order(comes))?,
     };
     let mut said = Vec::new(alloc);
     for message in done.sent.as_slice() {
@@ -166,10 +245,60 @@ fn message(alloc: Global, comes: Comes) -> Result<Option<Message>, Fail> {
                 answer: AppendAnswer::Stored { length },
             }),
         ),
-        Comes::Round => return Ok(None),
+        Comes::Read(client, seq) => (
+            NodeId::client(client),
+            Body::Read(Boxed::new(alloc, read(client, seq)?)?),
+        ),
+        Comes::Prepare(version, backup) => (
+            NodeId::manager(),
+            Body::Prepare(Prepare {
+                version,
+                backups: Items::new(vec![in alloc; NodeId::backup(backup)]?),
+                witnesses: Items::new(vec![in alloc; NodeId::witness(1)]?),
+            }),
+        ),
+        Comes::Adopted(version) => (
+            NodeId::manager(),
+            Body::Adopted(Adopted {
+                part: 1,
+                epoch: 1,
+                version,
+            }),
+        ),
+        Comes::Take(migration) => (
+            NodeId::manager(),
+            Body::TakeOut(TakeOut {
+                migration,
+                lo: 0,
+                hi: 9,
+            }),
+        ),
+        Comes::Expire(client) => (NodeId::manager(), Body::ExpireClient { client }),
+        Comes::Round | Comes::Collect => return Ok(None),
     };
     let to = NodeId::master(1);
     Ok(Some(Message { from, to, body }))
+}
+
+fn order(comes: Comes) -> Local {
+    match comes {
+        Comes::Collect => Local::Collect,
+        _ => Local::Sync,
+    }
+}
+
+fn read(client: u32, seq: u32) -> Result<Ask, Fail> {
+    let id = RequestId { client, seq };
+    let command = Command::Get(Key::new(b"a")?);
+    Ok(Ask {
+        request: Request {
+            id,
+            first: 1,
+            command,
+        },
+        epoch: 1,
+        version: 1,
+    })
 }
 
 fn update(alloc: Global, client: u32, ask: Ask) -> Result<(NodeId, Body), Fail> {
@@ -197,6 +326,10 @@ fn said_by(message: &Message) -> Said {
         Body::Reply(_) => Said::Unsynced(to),
         Body::Refuse(refuse) => Said::Refused(to, refuse.refusal),
         Body::Append(append) => Said::Appends(to, append.entries.len(), append.base, append.round),
+        Body::Worth(worth) => Said::Worth(to, worth.get().capture),
+        Body::Prepared { version } => Said::Prepared(*version),
+        Body::Gc(gc) => Said::Gc(to, gc.ids.len()),
+        Body::Taken(parcel) => Said::Taken(parcel.get().migration),
         _ => Said::Another,
     }
 }

@@ -1,5 +1,7 @@
 -- Each kind of node moves in a world as its machine does.
-use Rattle.std.proofs.Common.{◌≡◌, ℕ, ◌-◌, ◌≤◌, List, Result, true, refl, sym, subst}
+use Rattle.std.proofs.Common.{◌≡◌, ◌≢◌, ℕ, ◌+◌, ◌-◌, ◌≤◌, List, length, slice_set, Option, Some, None, Bor, Result, true, arith, refl, ap, sym, ◌∙◌, subst}
+use Rattle.std.specs.Option.{option_copied, option_map}
+use Rattle.curp_base.specs.Words.{numbered}
 use Rattle.std.specs.declared.alloc.AllocError.{AllocError}
 use Rattle.curp_cmd.specs.Node.{backup_node, client_node, master_node, witness_node}
 use Rattle.curp_cmd.specs.declared.node.NodeId.{NodeId}
@@ -22,8 +24,11 @@ use Rattle.curp_msg.specs.declared.machine.Input.{Input}
 use Rattle.curp_msg.specs.declared.machine.Input.TheVariants as input
 use Rattle.curp_msg.specs.declared.machine.Local.TheVariants as local
 use Rattle.curp_world.specs.Given.{IsFor}
-use Rattle.curp_world.specs.Nodes.{HasNumbers, NodeStates, remarked, serving, states, with_nodes}
-use Rattle.curp_world.proofs.Giving.{numbers_stay, one_moves, world_moves}
+use Rattle.curp_world.specs.Nodes.{HasNumbers, NodeStates, nodes_of, serving, states, with_nodes}
+use Rattle.curp_world.specs.Marks.{IsFew, master_at, most_marks}
+use Rattle.curp_world.proofs.Giving.{node_moves, numbers_stay, one_moves, set_there, world_moves}
+use Rattle.curp_world.proofs.Numbered.{lent_numbered, map_set, numbered_at}
+use Rattle.curp_world.proofs.Pushing.{moves_few}
 
 -- ---- what is built is what the definitions say, for what nodes get
 
@@ -66,11 +71,11 @@ module _ (given : Input) (nodes nodes' : List (Node ClientState)) (n : ℕ) (r :
       (λ s. client_input n s given) (client_moves given) numbers low made
 
   pub clients_give : (w : World) (others : NodeStates)
-      → Moves (with_nodes w (record others { clients = states nodes })) (with_nodes w (record others { clients = states nodes' })) r
-      (within remarked (moves (with_nodes w (record others { clients = states nodes })) (client_node n) given))
+      → Moves (record others { clients = states nodes }) (record others { clients = states nodes' }) r
+      (within nodes_of (moves (with_nodes w (record others { clients = states nodes })) (client_node n) given))
   clients_give w others =
       let v : World = with_nodes w (record others { clients = states nodes }) in
-      world_moves (λ (list : List ClientState). with_nodes w (record others { clients = list })) (states nodes) (states nodes') n r
+      world_moves (λ (list : List ClientState). record others { clients = list }) (states nodes) (states nodes') n r
       (λ s. client_input n s given) (λ s. within (with_client v n) (client_input n s given)) v (λ s. refl)
       (one_moves (λ (s : ClientState). s) nodes nodes' n r (λ node. client_machine node given) (λ i s. client_input i s given)
       (λ s. client_input n s given) (client_moves given) numbers low made (λ s. refl))
@@ -82,14 +87,28 @@ module _ (given : Input) (nodes nodes' : List (Node MasterState)) (n : ℕ) (r :
       (λ s. master_input n s given) (master_moves given) numbers low made
 
   pub masters_give : (w : World) (others : NodeStates) → IsFor kind.Master n given
-      → Moves (with_nodes w (record others { masters = serving nodes })) (with_nodes w (record others { masters = serving nodes' })) r
-      (within remarked (moves (with_nodes w (record others { masters = serving nodes })) (master_node n) given))
+      → Moves (record others { masters = serving nodes }) (record others { masters = serving nodes' }) r
+      (within nodes_of (moves (with_nodes w (record others { masters = serving nodes })) (master_node n) given))
   masters_give w others built =
       let v : World = with_nodes w (record others { masters = serving nodes }) in
-      world_moves (λ (list : List MasterStage). with_nodes w (record others { masters = list })) (serving nodes) (serving nodes') n r
+      world_moves (λ (list : List MasterStage). record others { masters = list }) (serving nodes) (serving nodes') n r
       (λ s. master_input n s given) (λ s. within (with_master v n s) (master_input n s given)) v (λ s. refl)
       (one_moves Serving nodes nodes' n r (λ node. master_machine node given) (λ i s. on_input i s given)
       (λ s. master_input n s given) (master_moves given) numbers low made (λ s. heard n s given built))
+
+  -- and pushes no more than the bound of the input
+  pub masters_few : IsFor kind.Master n given
+      → IsFew (numbered (serving nodes) n) (numbered (serving nodes') n) (most_marks given)
+  masters_few built =
+      let stage = λ (x : Node MasterState). Serving x.state in
+      let was : numbered (serving nodes) n ≡ Some (Serving made.before.state) = numbered_at stage nodes n (n - 1) made.before (omega arith) made.was in
+      let is : serving nodes' ≡ slice_set (serving nodes) (n - 1) (Serving made.after.state)
+      = ap serving made.is ∙ sym (map_set stage nodes (n - 1) made.after) in
+      let now : numbered (serving nodes') n ≡ Some (Serving made.after.state)
+      = ap (λ (xs : List MasterStage). numbered xs n) is ∙ set_there (serving nodes) n (Serving made.before.state) (Serving made.after.state) was in
+      rw (now, was) (moves_few n made.before made.after r given built
+      (node_moves Serving nodes nodes' n r (λ node. master_machine node given) (λ i s. on_input i s given)
+      (λ s. master_input n s given) (master_moves given) numbers low made))
 
 module _ (given : Input) (nodes nodes' : List (Node BackupState)) (n : ℕ) (r : Result Done AllocError)
     (numbers : HasNumbers nodes) (low : 1 ≤ n) (made : MovesAt (n - 1) nodes nodes' r (λ node. backup_machine node given)) where
@@ -98,11 +117,11 @@ module _ (given : Input) (nodes nodes' : List (Node BackupState)) (n : ℕ) (r :
       (λ s. backup_input n s given) (backup_moves given) numbers low made
 
   pub backups_give : (w : World) (others : NodeStates)
-      → Moves (with_nodes w (record others { backups = states nodes })) (with_nodes w (record others { backups = states nodes' })) r
-      (within remarked (moves (with_nodes w (record others { backups = states nodes })) (backup_node n) given))
+      → Moves (record others { backups = states nodes }) (record others { backups = states nodes' }) r
+      (within nodes_of (moves (with_nodes w (record others { backups = states nodes })) (backup_node n) given))
   backups_give w others =
       let v : World = with_nodes w (record others { backups = states nodes }) in
-      world_moves (λ (list : List BackupState). with_nodes w (record others { backups = list })) (states nodes) (states nodes') n r
+      world_moves (λ (list : List BackupState). record others { backups = list }) (states nodes) (states nodes') n r
       (λ s. backup_input n s given) (λ s. within (with_backup v n) (backup_input n s given)) v (λ s. refl)
       (one_moves (λ (s : BackupState). s) nodes nodes' n r (λ node. backup_machine node given) (λ i s. backup_input i s given)
       (λ s. backup_input n s given) (backup_moves given) numbers low made (λ s. refl))
@@ -114,11 +133,11 @@ module _ (given : Input) (nodes nodes' : List (Node WitnessState)) (n : ℕ) (r 
       (λ s. witness_input n s given) (witness_moves given) numbers low made
 
   pub witnesses_give : (w : World) (others : NodeStates)
-      → Moves (with_nodes w (record others { witnesses = states nodes })) (with_nodes w (record others { witnesses = states nodes' })) r
-      (within remarked (moves (with_nodes w (record others { witnesses = states nodes })) (witness_node n) given))
+      → Moves (record others { witnesses = states nodes }) (record others { witnesses = states nodes' }) r
+      (within nodes_of (moves (with_nodes w (record others { witnesses = states nodes })) (witness_node n) given))
   witnesses_give w others =
       let v : World = with_nodes w (record others { witnesses = states nodes }) in
-      world_moves (λ (list : List WitnessState). with_nodes w (record others { witnesses = list })) (states nodes) (states nodes') n r
+      world_moves (λ (list : List WitnessState). record others { witnesses = list }) (states nodes) (states nodes') n r
       (λ s. witness_input n s given) (λ s. within (with_witness v n) (witness_input n s given)) v (λ s. refl)
       (one_moves (λ (s : WitnessState). s) nodes nodes' n r (λ node. witness_machine node given) (λ i s. witness_input i s given)
       (λ s. witness_input n s given) (witness_moves given) numbers low made (λ s. refl))
@@ -136,8 +155,36 @@ is_here nodes all to k same is there = (
 
 -- and moves alike
 pub seen_moves : (nodes all after : NodeStates) (to : NodeId) (k : NodeKind) (given : Input) (r : Result Done AllocError) (w : World) → all ≡ nodes → to.kind ≡ k
-    → Moves (with_nodes w all) (with_nodes w after) r (within remarked (moves_kind (with_nodes w all) k to.number given))
-    → Moves (with_nodes w nodes) (with_nodes w after) r (within remarked (moves (with_nodes w nodes) to given))
+    → Moves all after r (within nodes_of (moves_kind (with_nodes w all) k to.number given))
+    → Moves nodes after r (within nodes_of (moves (with_nodes w nodes) to given))
 seen_moves nodes all after to k given r w same is moved =
-    subst (λ (n : NodeStates). Moves (with_nodes w n) (with_nodes w after) r (within remarked (moves (with_nodes w n) to given))) same
-    (subst (λ (kind : NodeKind). Moves (with_nodes w all) (with_nodes w after) r (within remarked (moves_kind (with_nodes w all) kind to.number given))) (sym is) moved)
+    subst (λ (n : NodeStates). Moves n after r (within nodes_of (moves (with_nodes w n) to given))) same
+    (subst (λ (kind : NodeKind). Moves all after r (within nodes_of (moves_kind (with_nodes w all) kind to.number given))) (sym is) moved)
+
+-- and no more comes to a master's log than what is bounded
+pub seen_few : (masters all after : List MasterStage) (to : NodeId) (k : NodeKind) (most : ℕ) → all ≡ masters → to.kind ≡ k
+    → IsFew (master_at k to.number all) (master_at k to.number after) most
+    → IsFew (master_at to.kind to.number masters) (master_at to.kind to.number after) most
+seen_few masters all after to k most same is few =
+    subst (λ (xs : List MasterStage). IsFew (master_at to.kind to.number xs) (master_at to.kind to.number after) most) same
+    (subst (λ (kind : NodeKind). IsFew (master_at kind to.number all) (master_at kind to.number after) most) (sym is) few)
+
+-- the master of a name, as it is lent
+pub seen_master : (masters : List (Node MasterState)) (nodes : NodeStates) (node : NodeId) (r : Option (Bor (Node MasterState))) → serving masters ≡ nodes.masters → node.kind ≡ kind.Master
+    → option_copied r ≡ numbered masters node.number
+    → option_map (λ (m : Bor (Node MasterState)). Serving m.now.state) r ≡ master_at node.kind node.number nodes.masters
+seen_master masters nodes node r same is lent =
+    subst (λ (k : NodeKind). option_map (λ (m : Bor (Node MasterState)). Serving m.now.state) r ≡ master_at k node.number nodes.masters) (sym is)
+    (lent_numbered (λ (x : Node MasterState). Serving x.state) masters node.number r lent
+    ∙ ap (λ (all : List MasterStage). numbered all node.number) same)
+
+-- and of no other node
+pub no_master : (node : NodeId) (masters : List MasterStage) → node.kind ≢ kind.Master → None ≡ master_at node.kind node.number masters
+no_master node masters other = go node.kind other
+  where
+    go : (k : NodeKind) → k ≢ kind.Master → None ≡ master_at k node.number masters
+    go kind.Master other = absurd (other refl)
+    go kind.Manager other = refl
+    go kind.Client other = refl
+    go kind.Backup other = refl
+    go kind.Witness other = refl

@@ -9,7 +9,7 @@ use Rattle.curp_base.proofs.Lists.{at_set_same}
 use Rattle.curp_msg.specs.Moved.{Moved, Moves, MovesAt, Node, numbered_move, within}
 use Rattle.curp_msg.specs.declared.machine.Done.{Done}
 use Rattle.curp_model.specs.World.{World, moves_one}
-use Rattle.curp_world.specs.Nodes.{HasNumbers, remarked}
+use Rattle.curp_world.specs.Nodes.{HasNumbers, NodeStates, nodes_of}
 use Rattle.curp_world.proofs.Numbered.{map_set, numbered_at, numbers_set}
 
 -- ---- nodes in a vector
@@ -52,8 +52,8 @@ module _ {S T : Type 0} (f : S → T) (nodes nodes' : List (Node S)) (n : ℕ) (
   number : made.before.number ≡ n
   number = omega (arith, numbers (n - 1) made.before made.was)
 
-  moved : Moves made.before made.after r (numbered_move n (act n made.before.state))
-  moved = subst (λ (i : ℕ). Moves made.before made.after r (numbered_move i (act i made.before.state))) number
+  pub node_moves : Moves made.before made.after r (numbered_move n (act n made.before.state))
+  node_moves = subst (λ (i : ℕ). Moves made.before made.after r (numbered_move i (act i made.before.state))) number
       (subst (Moves made.before made.after r) (by_number made.before) made.moves)
 
   -- the list of what is seen of nodes moves by their machine
@@ -65,7 +65,7 @@ module _ {S T : Type 0} (f : S → T) (nodes nodes' : List (Node S)) (n : ℕ) (
     was = numbered_at (λ (x : Node S). f x.state) nodes n (n - 1) made.before (omega arith) made.was;
     is = ap (map (λ (x : Node S). f x.state)) made.is
         ∙ sym (map_set (λ (x : Node S). f x.state) nodes (n - 1) made.after);
-    moves = rw (seen_as made.before.state) (moves_as f n made.before made.after r (act n made.before.state) moved);
+    moves = rw (seen_as made.before.state) (moves_as f n made.before made.after r (act n made.before.state) node_moves);
   }
 
   same_number : (r : Result Done AllocError) (x y : Node S) (m : Moved S) → x.number ≡ n → Moves x y r (numbered_move n m) → y.number ≡ x.number
@@ -76,7 +76,7 @@ module _ {S T : Type 0} (f : S → T) (nodes nodes' : List (Node S)) (n : ℕ) (
   pub numbers_stay : HasNumbers nodes'
   numbers_stay = rw made.is
       (numbers_set nodes (n - 1) made.before made.after numbers made.was
-      (same_number r made.before made.after (act n made.before.state) number moved))
+      (same_number r made.before made.after (act n made.before.state) number node_moves))
 
 -- ---- the world
 
@@ -95,7 +95,7 @@ pub set_there : {A : Type 0} (xs : List A) (n : ℕ) (x y : A) → numbered xs n
 set_there xs zero x y here = absurd cc
 set_there xs (suc k) x y here = let place : suc k - 1 ≡ k = omega arith in rw place (at_set_same xs k x y here)
 
-world_moves_by : {T : Type 0} (put : List T → World) (old new : List T) (n : ℕ) (x y : T) (r : Result Done AllocError) (m : Moved T)
+world_moves_by : {T : Type 0} (put : List T → NodeStates) (old new : List T) (n : ℕ) (x y : T) (r : Result Done AllocError) (m : Moved T)
     → numbered old n ≡ Some x → new ≡ slice_set old (n - 1) y → Moves x y r m
     → Moves (put old) (put new) r (within (λ t. put (slice_set old (n - 1) t)) m)
 world_moves_by {T} put old new n x y (Ok done) m was is moved =
@@ -103,10 +103,10 @@ world_moves_by {T} put old new n x y (Ok done) m was is moved =
 world_moves_by {T} put old new n x y (Err e) m was is moved =
     ap put (is ∙ ap (λ (t : T). slice_set old (n - 1) t) moved ∙ set_same old (n - 1) x (stands_at old n x was))
 
--- the world moves as the list of one kind of its nodes
-pub world_moves : {T : Type 0} (put : List T → World) (old new : List T) (n : ℕ) (r : Result Done AllocError) (act : T → Moved T) (move : T → Moved World) (w : World)
-    → ((t : T) → within remarked (move t) ≡ within (λ t'. put (slice_set old (n - 1) t')) (act t))
+-- the nodes of a world move as the list of one kind of them
+pub world_moves : {T : Type 0} (put : List T → NodeStates) (old new : List T) (n : ℕ) (r : Result Done AllocError) (act : T → Moved T) (move : T → Moved World) (w : World)
+    → ((t : T) → within nodes_of (move t) ≡ within (λ t'. put (slice_set old (n - 1) t')) (act t))
     → MovesOne old new n r act
-    → Moves (put old) (put new) r (within remarked (moves_one w move (numbered old n)))
+    → Moves (put old) (put new) r (within nodes_of (moves_one w move (numbered old n)))
 world_moves put old new n r act move w moves_as one =
     rw (one.was, moves_as one.before) (world_moves_by put old new n one.before one.after r (act one.before) one.was one.is one.moves)

@@ -1,5 +1,6 @@
 -- What is kept of a step is the step of the definition.
-use Rattle.std.proofs.Common.{◌≡◌, ◌≢◌, nat_le, ℕ, ◌+◌, ◌-◌, ◌^◌, Bool, true, false, List, [], ◌∷◌, ◌++◌, length, Option, Some, None, is_some, Result, Ok, Err, IfOk, OnOk, append-nil, arith, refl, ap, sym, ◌∙◌, subst}
+use Rattle.std.proofs.Common.{◌≡◌, ◌≢◌, nat_le, ◌==◌, ℕ, ◌+◌, ◌-◌, ◌^◌, Bool, true, false, List, [], ◌∷◌, ◌++◌, length, Option, Some, None, is_some, Result, Ok, Err, IfOk, OnErr, OnOk, append-nil, arith, refl, ap, sym, ◌∙◌, subst}
+use Rattle.std.proofs.lemmas.Bool.Decides.{nat_tests}
 use Rattle.std.specs.Option.{ok_or, option_map}
 use Rattle.curp_base.specs.Cases.{◌>>=◌, refuse_if}
 use Rattle.curp_base.specs.Words.{all_of, numbered}
@@ -10,7 +11,9 @@ use Rattle.curp_cmd.specs.declared.node.NodeKind.{NodeKind}
 use Rattle.curp_cmd.specs.declared.node.NodeKind.TheVariants as kind
 use Rattle.curp_model.specs.Client.{ClientState, client_ordered, invoke, most_pending, next_request, owner_of, sends_first}
 use Rattle.curp_facts.specs.Sent.{IsSaidTo}
-use Rattle.curp_model.specs.World.{Deed, Gives, Stepped, World, completion, delivery, effect, events_of, has_node, invocation_of, kept, messages, moves, refused, steps_by, with_batch}
+use Rattle.curp_model.specs.Manager.{opening_manager}
+use Rattle.curp_model.specs.Marks.{Mark}
+use Rattle.curp_model.specs.World.{Deed, Gives, Stepped, World, completion, delivery, effect, events_of, has_node, invocation_of, kept, messages, moves, refused, shape_of, steps_by, with_batch, with_completion}
 use Rattle.curp_msg.specs.Moved.{Makes, Moved, done_of, quiet, unless_refused, within}
 use Rattle.curp_msg.specs.declared.config.PartConfig.{PartConfig}
 use Rattle.curp_msg.specs.declared.machine.Done.{Done}
@@ -27,10 +30,12 @@ use Rattle.curp_order.specs.Recorded.{invocation}
 use Rattle.curp_order.specs.declared.Event.{Event}
 use Rattle.curp_order.specs.declared.Event.TheVariants as event
 use Rattle.curp_world.specs.Given.{CanGet, IsFor, IsOrderFor, barrier, gift_deed, goes, hands, input_in, invoked_by, taken_by}
-use Rattle.curp_world.specs.Nodes.{NodeStates, remarked, seen, with_nodes}
+use Rattle.curp_world.specs.Marks.{adopted_marks, master_at}
+use Rattle.curp_world.specs.Nodes.{NodeStates, nodes_of, seen, with_nodes}
 use Rattle.curp_world.specs.declared.given.Gift.{Gift}
 use Rattle.curp_world.specs.declared.given.Gift.TheVariants as gift
 use Rattle.curp_world.proofs.Giving.{set_there}
+use Rattle.curp_world.proofs.Pushing.{moved_as}
 
 -- ---- what a gift is
 
@@ -115,40 +120,41 @@ event_is w to (gift.Order order) given can is there taken =
 -- ---- a world that is seen
 
 -- a step that isn't made
-pub nothing_done : (w : World) (s : Stepped) (why : StepResult) → remarked w ≡ w → s ≡ refused w why
-    → (w ≡ remarked s.world) × ((refused w why).outcome ≡ s.outcome)
-nothing_done w s why told is =
-    (sym told ∙ sym (ap (λ (x : Stepped). remarked x.world) is), sym (ap (λ (x : Stepped). x.outcome) is))
+pub nothing_done : (w : World) (s : Stepped) (why : StepResult) → s ≡ refused w why → (w ≡ s.world) × ((refused w why).outcome ≡ s.outcome)
+nothing_done w s why is = (sym (ap (λ (x : Stepped). x.world) is), sym (ap (λ (x : Stepped). x.outcome) is))
 
 -- one that stops a node
-pub node_stopped : (h : Header) (nodes : NodeStates) (stopped stopped' : List NodeId) (sent : List (List Message)) (history : List Event) (w : World) (node : NodeId) (s : Stepped)
-    → seen h nodes stopped sent history ≡ w → s ≡ kept w [] (quiet (record w { stopped = w.stopped ++ node ∷ [] })) → stopped' ≡ stopped ++ node ∷ []
-    → (seen h nodes stopped' sent history ≡ remarked s.world) × ((refused (seen h nodes stopped' sent history) result.Done).outcome ≡ s.outcome)
-node_stopped h nodes stopped stopped' sent history w node s view is more =
+pub node_stopped : (h : Header) (nodes : NodeStates) (stopped stopped' : List NodeId) (sent : List (List Message)) (history : List Event) (marks : List Mark) (w : World) (node : NodeId) (s : Stepped)
+    → seen h nodes stopped sent history marks ≡ w → s ≡ kept w [] (quiet (record w { stopped = w.stopped ++ node ∷ [] })) → stopped' ≡ stopped ++ node ∷ []
+    → (seen h nodes stopped' sent history marks ≡ s.world) × ((refused (seen h nodes stopped' sent history marks) result.Done).outcome ≡ s.outcome)
+node_stopped h nodes stopped stopped' sent history marks w node s view is more =
     let as_it_was : history ≡ (history ++ []) ++ [] = sym (append-nil (history ++ []) ∙ append-nil history) in
-    let now : s ≡ kept (seen h nodes stopped sent history) [] (quiet (seen h nodes (stopped ++ node ∷ []) sent history)) =
+    let now : s ≡ kept (seen h nodes stopped sent history marks) [] (quiet (seen h nodes (stopped ++ node ∷ []) sent history marks)) =
     is ∙ ap (λ (v : World). kept v [] (quiet (record v { stopped = v.stopped ++ node ∷ [] }))) (sym view) in (
-      rw more (ap (λ (events : List Event). seen h nodes (stopped ++ node ∷ []) sent events) as_it_was) ∙ sym (ap (λ (x : Stepped). remarked x.world) now),
+      rw more (ap (λ (events : List Event). seen h nodes (stopped ++ node ∷ []) sent events marks) as_it_was) ∙ sym (ap (λ (x : Stepped). x.world) now),
       sym (ap (λ (x : Stepped). x.outcome) now),
     )
 
 -- what a node did on an input
-pub kept_as : (h : Header) (nodes : NodeStates) (stopped : List NodeId) (sent sent' : List (List Message)) (history history' : List Event) (w : World) (deed : Deed) (done : Done) (event : Option (RequestId × Command))
-    → seen h nodes stopped sent history ≡ remarked (effect w deed).state → done ≡ done_of (effect w deed)
+pub kept_as : (h : Header) (nodes : NodeStates) (stopped : List NodeId) (sent sent' : List (List Message)) (history history' : List Event) (added marks' : List Mark) (w : World) (deed : Deed) (done : Done) (event : Option (RequestId × Command))
+    → seen h nodes stopped sent history added ≡ (effect w deed).state → done ≡ done_of (effect w deed)
     → sent' ≡ with_batch w.sent done.sent
     → history' ≡ (w.history ++ invocation event) ++ completion done.completed
+    → marks' ≡ with_completion done.completed added
     → invocation event ≡ events_of w deed
-    → seen h nodes stopped sent' history' ≡ remarked (kept w (events_of w deed) (effect w deed)).world
-kept_as h nodes stopped sent sent' history history' w deed done event state does sends records invokes =
-    ap (λ (v : World). remarked (record v { sent = sent'; history = history' })) state
-    ∙ rw (sends, records, invokes, does) refl
+    → seen h nodes stopped sent' history' marks' ≡ (kept w (events_of w deed) (effect w deed)).world
+kept_as h nodes stopped sent sent' history history' added marks' w deed done event state does sends records flags invokes =
+    let flagged : marks' ≡ with_completion done.completed (effect w deed).state.marks =
+    flags ∙ ap (λ (v : World). with_completion done.completed v.marks) state in
+    ap (λ (v : World). record v { sent = sent'; history = history'; marks = marks' }) state
+    ∙ rw (sends, records, flagged, invokes, does) refl
 
 -- ---- a node gets something
 
-module _ (h : Header) (nodes : NodeStates) (stopped : List NodeId) (sent : List (List Message)) (history : List Event) (to : NodeId) (g : Gift) (given : Input) (nodes' : NodeStates) (done : Done)
-    (makes : (v : World) → Makes (with_nodes v nodes') done (within remarked (moves (with_nodes v nodes) to given))) where
+module _ (h : Header) (nodes : NodeStates) (stopped : List NodeId) (sent : List (List Message)) (history : List Event) (marks : List Mark) (to : NodeId) (g : Gift) (given : Input) (nodes' : NodeStates) (done : Done)
+    (makes : (v : World) → Makes nodes' done (within nodes_of (moves (with_nodes v nodes) to given))) where
   abbrev was : World
-  was = seen h nodes stopped sent history
+  was = seen h nodes stopped sent history marks
 
   -- by what the node answers, where nothing is in the way
   answered : CanGet was to g → barrier was to ≡ None
@@ -159,50 +165,92 @@ module _ (h : Header) (nodes : NodeStates) (stopped : List NodeId) (sent : List 
       ∙ ap (λ (d : Deed). steps_by was d (taken_by (effect was d).refused)) (gift_gives was to g given can is).0
       ∙ ap (λ (n : ℕ). steps_by was (Gives to given) (taken_by n)) (sym (ap (λ (d : Done). d.refused) (makes was).1))
 
-  done_at : (sent' : List (List Message)) (history' : List Event) (event : Option (RequestId × Command)) (o : Outcome)
+  -- the world that the node has moved, with what is to be marked
+  abbrev marked : NodeStates → List Mark
+  marked after = marks ++ adopted_marks (opening_manager (shape_of h)) to (master_at to.kind to.number nodes.masters) (master_at to.kind to.number after.masters)
+
+  moved_world : (added : List Mark) → IsFor to.kind to.number given → added ≡ marked nodes' → seen h nodes' stopped sent history added ≡ (moves was to given).state
+  moved_world added said adds =
+      ap (seen h nodes' stopped sent history) adds
+      ∙ ap (λ (after : NodeStates). seen h after stopped sent history (marked after)) (makes was).0
+      ∙ sym (moved_as was to.number given to.kind said)
+
+  done_at : (sent' : List (List Message)) (history' : List Event) (added marks' : List Mark) (event : Option (RequestId × Command)) (o : Outcome)
       → CanGet was to g → barrier was to ≡ None
       → input_in (messages was) g ≡ Some given → done.refused ≡ 0
       → has_node was to ≡ true
       → event ≡ invoked_by to g (numbered nodes'.clients to.number)
       → sent' ≡ with_batch sent done.sent → history' ≡ (history ++ invocation event) ++ completion done.completed
+      → added ≡ marked nodes' → marks' ≡ with_completion done.completed added
       → o ≡ record { result = result.Done; first = length (all_of sent) + 1; sent = length done.sent; completed = done.completed }
-      → (seen h nodes' stopped sent' history' ≡ remarked (hands was to g).world)
+      → (seen h nodes' stopped sent' history' marks' ≡ (hands was to g).world)
       × (o ≡ (hands was to g).outcome)
-  done_at sent' history' event o can passes is taken there invokes sends records outcome =
+  done_at sent' history' added marks' event o can passes is taken there invokes sends records adds flags outcome =
       let m : Moved World = moves was to given in
       let made = makes was in
       let whole : hands was to g ≡ kept was (events_of was (Gives to given)) m =
       answered can passes is ∙ ap (λ (n : ℕ). steps_by was (Gives to given) (taken_by n)) taken in
       let refuses_none : m.refused ≡ 0 = sym (ap (λ (d : Done). d.refused) made.1) ∙ taken in
       let event_of : invocation event ≡ events_of was (Gives to given) =
-      ap invocation (invokes ∙ ap (λ (v : World). invoked_by to g (numbered v.clients to.number)) made.0) ∙ event_is was to g given can is there refuses_none in (
-        kept_as h nodes' stopped sent sent' history history' was (Gives to given) done event made.0 made.1 sends records event_of
-            ∙ sym (ap (λ (x : Stepped). remarked x.world) whole),
+      ap invocation (invokes ∙ ap (λ (v : NodeStates). invoked_by to g (numbered v.clients to.number)) made.0) ∙ event_is was to g given can is there refuses_none in
+      let state : seen h nodes' stopped sent history added ≡ m.state = moved_world added (gift_gives was to g given can is).1 adds in (
+        kept_as h nodes' stopped sent sent' history history' added marks' was (Gives to given) done event state made.1 sends records flags event_of
+            ∙ sym (ap (λ (x : Stepped). x.world) whole),
         outcome ∙ ap (λ (d : Done). record { result = result.Done; first = length (all_of sent) + 1; sent = length d.sent; completed = d.completed }) made.1
             ∙ sym (ap (λ (x : Stepped). x.outcome) whole),
       )
 
 -- what a node did on what it got, as it is kept
-pub hands_done : (h : Header) (nodes nodes' : NodeStates) (stopped : List NodeId) (sent sent' : List (List Message)) (history history' : List Event) (w : World)
+pub hands_done : (h : Header) (nodes nodes' : NodeStates) (stopped : List NodeId) (sent sent' : List (List Message)) (history history' : List Event) (marks added marks' : List Mark) (w : World)
     (to : NodeId) (g : Gift) (given : Input) (done : Done) (event : Option (RequestId × Command)) (o : Outcome)
-    → ((v : World) → Makes (with_nodes v nodes') done (within remarked (moves (with_nodes v nodes) to given)))
-    → seen h nodes stopped sent history ≡ w → CanGet w to g → barrier w to ≡ None → has_node w to ≡ true
+    → ((v : World) → Makes nodes' done (within nodes_of (moves (with_nodes v nodes) to given)))
+    → seen h nodes stopped sent history marks ≡ w → CanGet w to g → barrier w to ≡ None → has_node w to ≡ true
     → input_in (all_of sent) g ≡ Some given → done.refused ≡ 0
     → event ≡ invoked_by to g (numbered nodes'.clients to.number)
     → sent' ≡ with_batch sent done.sent → history' ≡ (history ++ invocation event) ++ completion done.completed
+    → added ≡ marks ++ adopted_marks (opening_manager (shape_of h)) to (master_at to.kind to.number nodes.masters) (master_at to.kind to.number nodes'.masters)
+    → marks' ≡ with_completion done.completed added
     → o ≡ record { result = result.Done; first = length (all_of sent) + 1; sent = length done.sent; completed = done.completed }
-    → (seen h nodes' stopped sent' history' ≡ remarked (hands w to g).world) × (o ≡ (hands w to g).outcome)
-hands_done h nodes nodes' stopped sent sent' history history' w to g given done event o makes view can passes there is taken invokes sends records outcome =
+    → (seen h nodes' stopped sent' history' marks' ≡ (hands w to g).world) × (o ≡ (hands w to g).outcome)
+hands_done h nodes nodes' stopped sent sent' history history' marks added marks' w to g given done event o makes view can passes there is taken invokes sends records adds flags outcome =
     subst (λ (v : World). CanGet v to g → barrier v to ≡ None → has_node v to ≡ true
-    → (seen h nodes' stopped sent' history' ≡ remarked (hands v to g).world) × (o ≡ (hands v to g).outcome)) view
-    (λ can passes there. done_at h nodes stopped sent history to g given nodes' done makes sent' history' event o can passes is taken there invokes sends records outcome)
+    → (seen h nodes' stopped sent' history' marks' ≡ (hands v to g).world) × (o ≡ (hands v to g).outcome)) view
+    (λ can passes there. done_at h nodes stopped sent history marks to g given nodes' done makes sent' history' added marks' event o can passes is taken there invokes sends records adds flags outcome)
     can passes there
+
+taken_refused : (n : ℕ) → n ≢ 0 → taken_by n ≡ result.Refused n
+taken_refused n some = let other : (n == 0) ≡ false = grind (arith, nat_tests) in rw other refl
+
+-- an order that a node refused
+pub hands_refused : (h : Header) (nodes nodes' : NodeStates) (stopped : List NodeId) (sent : List (List Message)) (history : List Event) (marks : List Mark) (w : World)
+    (to : NodeId) (g : Gift) (given : Input) (done : Done)
+    → ((v : World) → Makes nodes' done (within nodes_of (moves (with_nodes v nodes) to given)))
+    → seen h nodes stopped sent history marks ≡ w → CanGet w to g → barrier w to ≡ None
+    → input_in (all_of sent) g ≡ Some given → done.refused ≢ 0
+    → hands w to g ≡ refused w (result.Refused done.refused)
+hands_refused h nodes nodes' stopped sent history marks w to g given done makes view can passes is some =
+    subst (λ (v : World). CanGet v to g → barrier v to ≡ None → hands v to g ≡ refused v (result.Refused done.refused)) view
+    (λ can passes. let was : World = seen h nodes stopped sent history marks in
+    answered h nodes stopped sent history marks to g given nodes' done makes can passes is
+    ∙ ap (steps_by was (Gives to given)) (taken_refused done.refused some))
+    can passes
+
+-- the same world, by what it is made of
+pub seen_same : (h : Header) (nodes nodes' : NodeStates) (stopped : List NodeId) (sent sent' : List (List Message)) (history history' : List Event) (marks marks' : List Mark) (w : World)
+    → nodes' ≡ nodes → sent' ≡ sent → history' ≡ history → marks' ≡ marks → seen h nodes stopped sent history marks ≡ w
+    → seen h nodes' stopped sent' history' marks' ≡ w
+seen_same h nodes nodes' stopped sent sent' history history' marks marks' w n s e m view = rw (n, s, e, m) view
 
 -- ---- answers of calls
 
+-- what holds in any case, holds by an error
+pub in_any_case : {A E P : Type 0} (r : Result A E) → P → OnErr r P
+in_any_case (Ok a) p = tt
+in_any_case (Err e) p = p
+
 -- the world after a call, by what is the same step
-pub state_by : {A E : Type 0} (r : Result A E) (w : World) (s t : Stepped) → s ≡ t → OnOk r (w ≡ remarked s.world) → OnOk r (w ≡ remarked t.world)
-state_by (Ok a) w s t e h = h ∙ ap (λ (x : Stepped). remarked x.world) e
+pub state_by : {A E : Type 0} (r : Result A E) (w : World) (s t : Stepped) → s ≡ t → OnOk r (w ≡ s.world) → OnOk r (w ≡ t.world)
+state_by (Ok a) w s t e h = h ∙ ap (λ (x : Stepped). x.world) e
 state_by (Err a) w s t e h = tt
 
 -- and what it did

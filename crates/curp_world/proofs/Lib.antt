@@ -2,6 +2,7 @@ pub mod BatchLaws
 pub mod ByKind
 pub mod Giving
 pub mod Numbered
+pub mod Pushing
 pub mod Runs
 pub mod Seen
 pub mod Stepping

@@ -1,5 +1,6 @@
 -- Nodes by their numbers, and one of them with another state.
-use Rattle.std.proofs.Common.{◌≡◌, ◌≢◌, ◌⊎◌, inl, inr, ℕ, zero, suc, ◌+◌, List, [], ◌∷◌, ◌++◌, map, replicate, length, slice_set, Some, refl, ap, sym, ◌∙◌, arith, add-one}
+use Rattle.std.proofs.Common.{◌≡◌, ◌≢◌, ◌⊎◌, inl, inr, ℕ, zero, suc, ◌+◌, List, [], ◌∷◌, ◌++◌, map, replicate, length, slice_set, Option, Some, None, Bor, refl, ap, sym, ◌∙◌, arith, add-one}
+use Rattle.std.specs.Option.{option_copied, option_map}
 use Rattle.std.proofs.lemmas.List.{length-map, length-replicate, map-append, replicate_more}
 use Rattle.curp_base.specs.Words.{At, numbered, numbers_from}
 use Rattle.curp_base.proofs.Lists.{at_set_cases, at_map, at_push_cases}
@@ -54,3 +55,15 @@ pub made_more : {S : Type 0} (nodes : List (Node S)) (s : S) (n : ℕ) (y : Node
 made_more {S = S} nodes s n y same h number state =
     let long : length nodes ≡ n = sym (length-map nodes (λ (x : Node S). x.state)) ∙ ap length same ∙ length-replicate n s in
     (map-append (λ (x : Node S). x.state) nodes (y ∷ []) ∙ ap (λ (z : S). states nodes ++ z ∷ []) state ∙ ap (λ (l : List S). l ++ s ∷ []) same ∙ replicate_more n s, numbers_push nodes y h (number ∙ ap (λ k. k + 1) (sym long)))
+
+-- what stands under a number, of what is seen of each
+pub numbered_map : {A B : Type 0} (f : A → B) (xs : List A) (n : ℕ) → numbered (map f xs) n ≡ option_map f (numbered xs n)
+numbered_map f xs zero = refl
+numbered_map f [] (suc k) = refl
+numbered_map f (x ∷ xs) (suc zero) = refl
+numbered_map f (x ∷ xs) (suc (suc k)) = numbered_map f xs (suc k)
+
+-- the same of an item that is lent
+pub lent_numbered : {A B : Type 0} (f : A → B) (xs : List A) (n : ℕ) (r : Option (Bor A)) → option_copied r ≡ numbered xs n → option_map (λ (b : Bor A). f b.now) r ≡ numbered (map f xs) n
+lent_numbered f xs n None is = ap (option_map f) is ∙ sym (numbered_map f xs n)
+lent_numbered f xs n (Some b) is = ap (option_map f) is ∙ sym (numbered_map f xs n)

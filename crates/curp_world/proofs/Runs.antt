@@ -2,9 +2,6 @@
 use Rattle.std.proofs.Common.{◌≡◌, if◌then◌else◌, Bool, true, false, not, Option, Some, None, ◌≤◌, arith, ℕ, List, [], ◌∷◌, ◌++◌, Result, Ok, Err, OnOk, OnErr, refl, ap, sym, ◌∙◌, subst}
 use Rattle.std.proofs.lemmas.Bool.Decides.{nat_tests}
 use Rattle.curp_base.proofs.Lists.{Each-append}
-use Rattle.curp_cmd.specs.declared.entry.Entry.{Entry}
-use Rattle.curp_facts.specs.Marked.{marks_of}
-use Rattle.curp_facts.specs.Shape.{HasShape}
 use Rattle.curp_script.specs.Built.{is_built}
 use Rattle.curp_script.specs.Headers.{bad_field, is_within}
 use Rattle.curp_script.specs.declared.error.FieldName.TheVariants.{Clients, F, Fast, Parts, Sets, Ways}
@@ -15,11 +12,7 @@ use Rattle.curp_facts.specs.Run.{IsHeader, IsStep}
 use Rattle.curp_msg.specs.declared.script.Protocol.{Protocol}
 use Rattle.curp_msg.specs.declared.script.Protocol.TheVariants.{One}
 use Rattle.curp_script.specs.declared.error.FieldName.{FieldName}
-use Rattle.curp_model.specs.Marks.{Mark}
-use Rattle.curp_model.specs.Master.{MasterState}
-use Rattle.curp_model.specs.Recovery.{Serving}
 use Rattle.curp_model.specs.World.{World, step, run, opening, world}
-use Rattle.curp_world.specs.Nodes.{first_log, remarked}
 use Rattle.curp_world.specs.Reached.{Reached}
 
 pub run_more : (w : World) (ss : List Step) (s : Step) → run w (ss ++ s ∷ []) ≡ (step (run w ss) s).world
@@ -46,33 +39,6 @@ reached_next w s named can r = record {
 pub reached_after : {A E : Type 0} (result : Result A E) (w v : World) (s : Step) → IsStep s → CanStep s → Reached w → OnOk result (v ≡ (step w s).world) → OnErr result (v ≡ w) → Reached v
 reached_after (Ok a) w v s named can r ok err = subst Reached (sym ok) (reached_next w s named can r)
 reached_after (Err e) w v s named can r ok err = subst Reached (sym err) r
-
--- the law that the marks are told by the master's log
-abbrev pub MarksTell : Type 0
-MarksTell = (h : Header) (steps : List Step) → IsScript h steps → (m : MasterState) → (world h steps).masters ≡ Serving m ∷ []
-    → (world h steps).marks ≡ marks_of m.log (world h steps).history
-
--- the law that the nodes are those of the opening
-abbrev pub ShapeStays : Type 0
-ShapeStays = (h : Header) (steps : List Step) → IsScript h steps → HasShape h (world h steps)
-
-told : (w : World) → w.marks ≡ marks_of (first_log w.masters) w.history → remarked w ≡ w
-told w is = ap (λ (marks : List Mark). record w { marks = marks }) (sym is)
-
--- the log tells the marks that a reached world has
-pub remarked_same : (w : World) → Reached w → MarksTell → ShapeStays → remarked w ≡ w
-remarked_same w r marks shape =
-    let has = shape r.header r.steps r.script in
-    let v : World = world r.header r.steps in
-    let log : first_log v.masters ≡ has.master.log = ap first_log has.serves in
-    subst (λ (x : World). remarked x ≡ x) r.is
-    (told v (marks r.header r.steps r.script has.master has.serves ∙ ap (λ (l : List Entry). marks_of l v.history) (sym log)))
-
--- a step's world has the marks that its log tells
-pub step_told : {A E : Type 0} (result : Result A E) (w v : World) (s : Step) → IsStep s → CanStep s → Reached w → MarksTell → ShapeStays
-    → OnOk result (v ≡ remarked (step w s).world) → OnOk result (v ≡ (step w s).world)
-step_told (Ok a) w v s named can r marks shape ok = ok ∙ remarked_same (step w s).world (reached_next w s named can r) marks shape
-step_told (Err e) w v s named can r marks shape ok = ok
 
 -- ---- headers
 

@@ -1,7 +1,5 @@
 -- The world that the nodes of the opening are.
 use Rattle.std.proofs.Common.{◌≡◌, ℕ, ◌*◌, ◌∷◌, [], List, map, replicate, refl, ap, sym, ◌∙◌, arith}
-use Rattle.curp_facts.specs.Marked.{marks_of}
-use Rattle.curp_model.specs.Marks.{Mark}
 use Rattle.curp_model.specs.Backup.{BackupState, installed_backup}
 use Rattle.curp_model.specs.Client.{ClientState, fresh_client}
 use Rattle.curp_model.specs.Manager.{opening_config}
@@ -12,7 +10,7 @@ use Rattle.curp_base.specs.Words.{numbers_from}
 use Rattle.curp_model.specs.World.{opening, opening_master, shape_of}
 use Rattle.curp_msg.specs.declared.config.Config.{Config}
 use Rattle.curp_msg.specs.declared.script.Header.{Header}
-use Rattle.curp_world.specs.Nodes.{NodeStates, first_log, nodes_of, seen, serving, states}
+use Rattle.curp_world.specs.Nodes.{NodeStates, nodes_of, seen, serving, states}
 
 once : (parts f : ℕ) → parts ≡ 1 → f ≡ parts * f
 once parts f one = omega (arith, ap (λ (n : ℕ). n * f) one)
@@ -40,9 +38,6 @@ made_opening h config clients masters backups witnesses one configured of_client
     rw (c, m, b, w) refl
 
 -- a world of the opening's nodes, in which nothing was done, is the opening
-pub seen_opening : (h : Header) (nodes : NodeStates) → h.parts ≡ 1 → nodes ≡ nodes_of (opening h) → seen h nodes [] [] [] ≡ opening h
+pub seen_opening : (h : Header) (nodes : NodeStates) → nodes ≡ nodes_of (opening h) → seen h nodes [] [] [] [] ≡ opening h
 unfolding opening
-seen_opening h nodes one are =
-    let none : marks_of (first_log (opening h).masters) [] ≡ []
-    = ap (λ (n : ℕ). marks_of (first_log (map (opening_master (shape_of h)) (numbers_from 1 n))) []) one in
-    ap (λ (n : NodeStates). seen h n [] [] []) are ∙ ap (λ (marks : List Mark). record (opening h) { marks = marks }) none
+seen_opening h nodes are = ap (λ (n : NodeStates). seen h n [] [] [] []) are

@@ -1,14 +1,13 @@
--- The nodes of a world as they are kept, and the marks that the master's log tells.
-use Rattle.std.specs.Prelude.{◌≡◌, ℕ, ◌+◌, List, [], ◌∷◌, map}
+-- The nodes of a world as they are kept.
+use Rattle.std.specs.Prelude.{◌≡◌, ℕ, ◌+◌, List, map}
 use Rattle.curp_base.specs.Words.{At}
-use Rattle.curp_cmd.specs.declared.entry.Entry.{Entry}
 use Rattle.curp_cmd.specs.declared.node.NodeId.{NodeId}
 use Rattle.curp_model.specs.Backup.{BackupState}
 use Rattle.curp_model.specs.Client.{ClientState}
 use Rattle.curp_model.specs.Manager.{opening_manager}
-use Rattle.curp_facts.specs.Marked.{marks_of}
+use Rattle.curp_model.specs.Marks.{Mark}
 use Rattle.curp_model.specs.Master.{MasterState}
-use Rattle.curp_model.specs.Recovery.{Fresh, MasterStage, Recovering, Serving}
+use Rattle.curp_model.specs.Recovery.{MasterStage, Serving}
 use Rattle.curp_model.specs.Witness.{WitnessState}
 use Rattle.curp_model.specs.World.{World, shape_of}
 use Rattle.curp_msg.specs.Moved.{Node}
@@ -47,29 +46,18 @@ pub record NodeStates : Type 0 where
 abbrev pub nodes_of : World → NodeStates
 nodes_of w = record { clients = w.clients; masters = w.masters; backups = w.backups; witnesses = w.witnesses }
 
--- the log of the first master
-abbrev pub first_log : List MasterStage → List Entry
-first_log [] = []
-first_log (Serving m ∷ rest) = m.log
-first_log (Fresh ∷ rest) = []
-first_log (Recovering s ∷ rest) = []
-
--- a world with the marks that the log of its master tells
-abbrev pub remarked : World → World
-remarked w = record w { marks = marks_of (first_log w.masters) w.history }
-
--- a world with these nodes for its own, and with the marks that their log tells
+-- a world with these nodes for its own
 abbrev pub with_nodes : World → NodeStates → World
-with_nodes w nodes = remarked (record w {
+with_nodes w nodes = record w {
   clients = nodes.clients;
   masters = nodes.masters;
   backups = nodes.backups;
   witnesses = nodes.witnesses;
-})
+}
 
--- the world that nodes, messages and a history are
-abbrev pub seen : Header → NodeStates → List NodeId → List (List Message) → List Event → World
-seen h nodes stopped sent history = record {
+-- the world that nodes, messages, a history and marks are
+abbrev pub seen : Header → NodeStates → List NodeId → List (List Message) → List Event → List Mark → World
+seen h nodes stopped sent history marks = record {
   clients = nodes.clients;
   manager = opening_manager (shape_of h);
   masters = nodes.masters;
@@ -80,5 +68,5 @@ seen h nodes stopped sent history = record {
   stopped = stopped;
   sent = sent;
   history = history;
-  marks = marks_of (first_log nodes.masters) history;
+  marks = marks;
 }

@@ -7,15 +7,15 @@ ghost use Rattle.curp_model.specs.World as world;
 ghost use Rattle.curp_msg.specs.declared.message.Message.{Message};
 ghost use Rattle.curp_order.specs.Recorded.{invocation};
 ghost use Rattle.curp_world.specs.Given.{CanGet, barrier, hands, input_in, input_of};
-ghost use Rattle.curp_world.specs.Nodes.{remarked, serving};
 
 use crate::given::{Gift, Given};
+use crate::marks::{flag, log_length, mark_pushed, most_marks};
 use crate::nodes::Nodes;
 use crate::sent::Sent;
 use crate::stopped::Stopped;
 use curp_base::NoMemory;
 use curp_cmd::{Command, NodeId, RequestId};
-use curp_inv::MasterNode;
+use curp_line::Line;
 use curp_msg::{Done, Header, Local, Message, Outcome, Step, StepResult};
 use curp_order::History;
 use std::alloc::Global;
@@ -24,8 +24,8 @@ use std::marker::Model;
 /// Beyond this weight of all messages no node gets anything more.
 const WEIGHT_LIMIT: u64 = 2_000_000;
 
-/// All nodes, every message that was ever sent, and the history. The manager doesn't move in what is built, so its
-/// header tells it.
+/// All nodes, every message that was ever sent, the history, and the marks. The manager doesn't move in what is built, so
+/// its header tells it.
 #[derive(Drop)]
 pub(crate) struct Cluster {
     header: Header,
@@ -33,6 +33,7 @@ pub(crate) struct Cluster {
     stopped: Stopped,
     sent: Sent,
     history: History,
+    marks: Line,
 }
 
 impl Model for Cluster {
@@ -41,7 +42,7 @@ impl Model for Cluster {
 
     ghost Value = { World };
 
-    ghost view = { λ c. seen c.header c.nodes c.stopped c.sent.lists c.history.events };
+    ghost view = { λ c. seen c.header c.nodes c.stopped c.sent.lists c.history.events c.marks.marks };
 }
 
 impl Cluster {
@@ -56,13 +57,8 @@ impl Cluster {
             stopped: Stopped::new(alloc),
             sent: Sent::new(alloc),
             history: History::new(alloc),
+            marks: Line::new(alloc),
         })
-    }
-
-    pub(crate) fn masters(&self) -> &[MasterNode]
-        ensures { serving result.now ≡ self.now.masters }
-    {
-        self.nodes.masters()
     }
 
     pub(crate) fn sent(&self) -> &Sent
@@ -77,6 +73,12 @@ impl Cluster {
         &self.history
     }
 
+    pub(crate) fn marks(&self) -> &Line
+        ensures { result.now.marks ≡ self.now.marks }
+    {
+        &self.marks
+    }
+
     #[tactic(auto, unfolding(curp_model::specs::World::weight))]
     pub(crate) fn weight(&self) -> u64
         ensures { result ≡ world.weight self.now }
@@ -84,11 +86,11 @@ impl Cluster {
         self.sent.weight()
     }
 
-    /// Makes a step. The marks are told by the log.
+    /// Makes a step.
     pub(crate) fn step(&mut self, step: &Step) -> Result<Outcome, NoMemory>
         requires can { CanStep step.now }
         requires built { (k : ℕ) (m : Message) → At (world.messages self.old) k m → IsBuilt m }
-        ensures state { OnOk result (self.new ≡ remarked (world.step self.old step.now).world) }
+        ensures state { OnOk result (self.new ≡ (world.step self.old step.now).world) }
         ensures outcome { IfOk result (λ outcome. outcome ≡ (world.step self.old step.now).outcome) }
         ensures err { OnErr result (self.new ≡ self.old) }
     {
@@ -122,7 +124,7 @@ impl Cluster {
     // The node of that name is handed what it is to get, unless something is in the way.
     fn hand(&mut self, to: NodeId, gift: &Gift) -> Result<Outcome, NoMemory>
         requires { CanGet self.old to gift.now }
-        ensures state { OnOk result (self.new ≡ remarked (hands self.old to gift.now).world) }
+        ensures state { OnOk result (self.new ≡ (hands self.old to gift.now).world) }
         ensures outcome { IfOk result (λ outcome. outcome ≡ (hands self.old to gift.now).outcome) }
         ensures err { OnErr result (self.new ≡ self.old) }
     {
@@ -131,11 +133,17 @@ impl Cluster {
         }
         self.sent.reserve()?;
         self.history.reserve(2)?;
-        let done = self.nodes.give(to, &given_of(&self.sent, gift))?;
+        let given = given_of(&self.sent, gift);
+        self.marks.reserve(most_marks(&given))?;
+        let former = log_length(self.nodes.master(to));
+        let done = self.nodes.give(to, &given)?;
         if done.refused != 0 {
             let number = done.refused;
             return Ok(self.silent(StepResult::Refused { number }));
         }
+        let master = self.nodes.master(to);
+        mark_pushed(&mut self.marks, &self.header, to, master, former);
+        flag(&mut self.marks, done.completed);
         let invoked = self.nodes.invoked(to, gift);
         Ok(keep(&mut self.sent, &mut self.history, invoked, done))
     }
@@ -166,7 +174,7 @@ impl Cluster {
 
     // The node of that name gets nothing more.
     fn stop(&mut self, node: NodeId) -> Result<Outcome, NoMemory>
-        ensures state { OnOk result (self.new ≡ remarked (world.step self.old (Step.Stop node)).world) }
+        ensures state { OnOk result (self.new ≡ (world.step self.old (Step.Stop node)).world) }
         ensures outcome { IfOk result (λ outcome. outcome ≡ (world.step self.old (Step.Stop node)).outcome) }
         ensures err { OnErr result (self.new ≡ self.old) }
     {
@@ -183,10 +191,9 @@ impl Cluster {
         Ok(self.silent(StepResult::Done))
     }
 
-    // What a step did that sends nothing, as one that can't be made. The marks are told by the log in any case.
+    // What a step did that sends nothing, as one that can't be made.
     fn silent(&self, how: StepResult) -> Outcome
-        ensures outcome { result ≡ (world.refused self.now how).outcome }
-        ensures told { remarked self.now ≡ self.now }
+        ensures { result ≡ (world.refused self.now how).outcome }
     {
         Outcome {
             result: how,

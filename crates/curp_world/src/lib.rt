@@ -3,6 +3,7 @@
 
 mod cluster;
 mod given;
+mod marks;
 mod nodes;
 mod opening;
 mod ordered;

@@ -1,11 +1,13 @@
-ghost use Rattle.std.specs.Prelude.{◌≡◌, ◌≢◌, ◌≤◌, ◌&&◌, nat_le, nat_lt, true, IfOk};
+ghost use Rattle.std.specs.Prelude.{◌≡◌, ◌≢◌, ◌+◌, ◌≤◌, ◌&&◌, nat_le, nat_lt, true, length, option_map, IfOk};
 ghost use Rattle.std.specs.Option.{option_copied};
 ghost use Rattle.curp_base.specs.Words.{numbered};
+ghost use Rattle.curp_model.specs.Recovery.{Serving};
 ghost use Rattle.curp_model.specs.World as world;
 ghost use Rattle.curp_model.specs.World.{World, has_node};
 ghost use Rattle.curp_msg.specs.Moved.{Moves, within};
 ghost use Rattle.curp_world.specs.Given.{IsFor, input_of, invoked_by};
-ghost use Rattle.curp_world.specs.Nodes.{nodes_of, remarked, serving, with_nodes};
+ghost use Rattle.curp_world.specs.Marks.{IsFew, master_at, most_marks};
+ghost use Rattle.curp_world.specs.Nodes.{nodes_of, with_nodes};
 
 use crate::given::{Gift, Given, give};
 use crate::opening;
@@ -55,10 +57,14 @@ impl Nodes {
         })
     }
 
-    pub(crate) fn masters(&self) -> &[MasterNode]
-        ensures { serving result.now ≡ self.now.masters }
+    /// The master of that name.
+    pub(crate) fn master(&self, node: NodeId) -> Option<&MasterNode>
+        ensures { option_map (λ m. Serving m.now.state) result ≡ master_at node.kind node.number self.now.masters }
     {
-        &self.masters
+        match node.kind {
+            NodeKind::Master => numbered(&self.masters, node.number),
+            _ => None,
+        }
     }
 
     /// Whether there is a node of that name, in a world of these nodes.
@@ -74,12 +80,15 @@ impl Nodes {
         }
     }
 
-    /// The node of that name, which is there, gets an input, and moves as in a world of these nodes.
+    /// The node of that name, which is there, gets an input, and moves as in a world of these nodes. Of a master's log no
+    /// more than the bound of the input is new, and no read is captured.
     pub(crate) fn give(&mut self, to: NodeId, given: &Given) -> Result<Done, NoMemory>
         requires there { (w : World) × (has_node (with_nodes w self.old) to ≡ true) }
         requires built { IsFor to.kind to.number (input_of given.now) }
-        ensures moves { (w : World) → Moves (with_nodes w self.old) (with_nodes w self.new) result
-            (within remarked (world.moves (with_nodes w self.old) to (input_of given.now))) }
+        ensures moves { (w : World) → Moves self.old self.new result
+            (within nodes_of (world.moves (with_nodes w self.old) to (input_of given.now))) }
+        ensures few { IsFew (master_at to.kind to.number self.old.masters) (master_at to.kind to.number self.new.masters)
+            (most_marks (input_of given.now)) }
         ensures refused { IfOk result (λ done. done.refused ≢ 0 → self.new ≡ self.old) }
     {
         match to.kind {

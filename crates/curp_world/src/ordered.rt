@@ -1,43 +1,22 @@
-// One order of the requests: that of the master's log.
-ghost use Rattle.std.specs.Prelude.{◌≡◌, [], length, IfOk};
+// One order of the requests: that of the marks.
+ghost use Rattle.std.specs.Prelude.{◌≡◌, length, IfOk};
 ghost use Rattle.curp_order.specs.Order.{answers};
-ghost use Rattle.curp_facts.specs.Marked.{requests_of};
 ghost use Rattle.curp_model.specs.World.{with_answers};
-ghost use Rattle.curp_world.specs.Nodes.{first_log, serving};
 
 use curp_base::NoMemory;
-use curp_cmd::{Answer, Command, Entry, RequestId};
-use curp_inv::MasterNode;
+use curp_cmd::{Answer, Command, RequestId};
 use curp_order::run_order;
 use std::alloc::Global;
 
-/// The requests of the first master's log, each with the answer of one thread.
+/// The requests, each with the answer of one thread.
 pub(crate) fn answered(
     alloc: Global,
-    masters: &[MasterNode],
+    requests: &[(RequestId, Command)],
 ) -> Result<Vec<(RequestId, Command, Answer)>, NoMemory>
-    ensures { IfOk result (λ list. let requests = requests_of (first_log (serving masters.now)) in
-        list.items ≡ with_answers requests (answers requests)) }
+    ensures { IfOk result (λ list. list.items ≡ with_answers requests.now (answers requests.now)) }
 {
-    let Some(master) = masters.first() else {
-        return Ok(Vec::new(alloc));
-    };
-    let requests = requests_of(alloc, master.log().entries())?;
-    let answers = run_order(alloc, &requests)?;
-    with_answers(alloc, &requests, &answers)
-}
-
-// The requests of the ops among entries.
-fn requests_of(alloc: Global, entries: &[Entry]) -> Result<Vec<(RequestId, Command)>, NoMemory>
-    ensures { IfOk result (λ requests. requests.items ≡ requests_of entries.now) }
-{
-    let mut requests = Vec::with_capacity(alloc, entries.len())?;
-    for entry in entries {
-        if let Entry::Op { request, .. } = entry {
-            requests.push((request.id, request.command))?;
-        }
-    }
-    Ok(requests)
+    let answers = run_order(alloc, requests)?;
+    with_answers(alloc, requests, &answers)
 }
 
 // Each request with its answer.

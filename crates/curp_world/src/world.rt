@@ -93,8 +93,6 @@ impl World {
     {
         names_its_keys(step);
         laws::messages_are_built();
-        laws::marks_tell_the_log();
-        laws::shape_stays();
         laws::results_have_causes();
         laws::only_the_named_node_moves();
         self.cluster.step(step)
@@ -139,9 +137,8 @@ impl World {
         ensures is_order { IsOrder self.now.history (world.order self.now) }
     {
         laws::order_stands();
-        laws::marks_tell_the_log();
-        laws::shape_stays();
-        ordered::answered(alloc, self.cluster.masters())
+        let requests = self.cluster.marks().order()?;
+        ordered::answered(alloc, &requests)
     }
 }
 

@@ -3,5 +3,5 @@ use Rattle.curp_world.proofs.cluster.Cluster.new.Goals as goal
 
 pub returns : goal.returns
 returns c =
-    rw (c.new-2.ensures, c.new-3.ensures, c.new-4.ensures)
-    (seen_opening c.args.header.now c.in_ok-new.field-0 c.requires c.in_ok-new.ensures)
+    rw (c.new-2.ensures, c.new-3.ensures, c.new-4.ensures, c.new-5.ensures)
+    (seen_opening c.args.header.now c.in_ok-new.field-0 c.in_ok-new.ensures)

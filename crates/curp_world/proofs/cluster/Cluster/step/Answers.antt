@@ -56,15 +56,15 @@ returns-in-Sync-clause-outcome c =
 
 pub returns-in-None-clause-state : goal.returns-in-None-clause-state
 returns-in-None-clause-state c =
-    (nothing_done c.args.self.now (step c.args.self.now c.args.step.now) NoMessage c.silent.ensures.told
+    (nothing_done c.args.self.now (step c.args.self.now c.args.step.now) NoMessage
     (ap (step c.args.self.now) c.in-Deliver.is
     ∙ loses c.args.self.now c.in-Deliver.message
     (no_message (numbered (messages c.args.self.now) c.in-Deliver.message) (sym c.in-None.ensures)))).0
 
 pub returns-in-None-clause-outcome : goal.returns-in-None-clause-outcome
 returns-in-None-clause-outcome c =
-    c.silent.ensures.outcome
-    ∙ (nothing_done c.args.self.now (step c.args.self.now c.args.step.now) NoMessage c.silent.ensures.told
+    c.silent.ensures
+    ∙ (nothing_done c.args.self.now (step c.args.self.now c.args.step.now) NoMessage
     (ap (step c.args.self.now) c.in-Deliver.is
     ∙ loses c.args.self.now c.in-Deliver.message
     (no_message (numbered (messages c.args.self.now) c.in-Deliver.message) (sym c.in-None.ensures)))).1

@@ -1,4 +1,4 @@
-use Rattle.std.proofs.Common.{◌≤◌, ◌-◌, List, length, sym, ◌∙◌, subst}
+use Rattle.std.proofs.Common.{◌≤◌, ◌-◌, List, length, refl, arith, ap, sym, ◌∙◌, subst}
 use Rattle.std.specs.Vec.{with_items}
 use Rattle.curp_cmd.specs.declared.node.NodeKind.{NodeKind}
 use Rattle.curp_cmd.specs.declared.node.NodeKind.TheVariants.{Client, Master, Backup, Witness}
@@ -10,9 +10,10 @@ use Rattle.curp_model.specs.Recovery.{Serving}
 use Rattle.curp_model.specs.Witness.{WitnessState}
 use Rattle.curp_msg.specs.Moved.{Node}
 use Rattle.curp_world.specs.Given.{IsFor, input_of}
+use Rattle.curp_world.specs.Nodes.{NodeStates}
 use Rattle.curp_world.specs.contracts.nodes.Nodes.{the_view}
 use Rattle.curp_world.proofs.Giving.{in_range, vec_moves}
-use Rattle.curp_world.proofs.ByKind.{backups_give, backups_stay, clients_give, clients_stay, is_here, masters_give, masters_stay, seen_moves, witnesses_give, witnesses_stay}
+use Rattle.curp_world.proofs.ByKind.{backups_give, backups_stay, clients_give, clients_stay, is_here, masters_few, masters_give, masters_stay, seen_few, seen_moves, witnesses_give, witnesses_stay}
 use Rattle.curp_world.proofs.nodes.Nodes.give.Goals as goal
 
 -- ---- a client
@@ -50,6 +51,9 @@ returns-in-Client-clause-moves c = λ w.
     seen_moves _ _ _ c.args.to Client (input_of c.args.given.now) c.give.result w c.self.view_is c.in-Client.is
     (clients_give (input_of c.args.given.now) c.self.inside.clients.items after c.args.to.number c.give.result c.self.invariant.clients_are low made w (the_view c.self.inside))
 
+pub returns-in-Client-clause-few : goal.returns-in-Client-clause-few
+returns-in-Client-clause-few c = seen_few _ _ _ c.args.to Client _ (ap (λ (n : NodeStates). n.masters) c.self.view_is) c.in-Client.is (record { pushed = omega arith; captured = refl })
+
 -- ---- a master
 
 pub give-requires-in-Master-clause-low : goal.give-requires-in-Master-clause-low
@@ -84,6 +88,16 @@ returns-in-Master-clause-moves c = λ w.
     let after = (with_items c.self.inside.masters c.give-in-Master.new.nodes).items in
     seen_moves _ _ _ c.args.to Master (input_of c.args.given.now) c.give-in-Master.result w c.self.view_is c.in-Master.is
     (masters_give (input_of c.args.given.now) c.self.inside.masters.items after c.args.to.number c.give-in-Master.result c.self.invariant.masters_are low made w (the_view c.self.inside)
+    (subst (λ (kind : NodeKind). IsFor kind c.args.to.number (input_of c.args.given.now)) c.in-Master.is c.requires.built))
+
+pub returns-in-Master-clause-few : goal.returns-in-Master-clause-few
+returns-in-Master-clause-few c =
+    let low = (in_range (λ (x : Node MasterState). Serving x.state) c.self.inside.masters.items c.args.to.number (is_here _ _ _ Master c.self.view_is c.in-Master.is c.requires.there).1).0 in
+    let made = vec_moves c.self.inside.masters c.deref_mut-in-Master.result.now c.give-in-Master.new.nodes (c.args.to.number - 1) c.give-in-Master.result
+    (λ node. master_machine node (input_of c.args.given.now)) c.deref_mut-in-Master.ensures.value (c.give-in-Master.auto.nodes ∙ c.deref_mut-in-Master.ensures.len) c.give-in-Master.ensures.moves in
+    let after = (with_items c.self.inside.masters c.give-in-Master.new.nodes).items in
+    seen_few _ _ _ c.args.to Master _ (ap (λ (n : NodeStates). n.masters) c.self.view_is) c.in-Master.is
+    (masters_few (input_of c.args.given.now) c.self.inside.masters.items after c.args.to.number c.give-in-Master.result c.self.invariant.masters_are low made
     (subst (λ (kind : NodeKind). IsFor kind c.args.to.number (input_of c.args.given.now)) c.in-Master.is c.requires.built))
 
 -- ---- a backup
@@ -121,6 +135,9 @@ returns-in-Backup-clause-moves c = λ w.
     seen_moves _ _ _ c.args.to Backup (input_of c.args.given.now) c.give-in-Backup.result w c.self.view_is c.in-Backup.is
     (backups_give (input_of c.args.given.now) c.self.inside.backups.items after c.args.to.number c.give-in-Backup.result c.self.invariant.backups_are low made w (the_view c.self.inside))
 
+pub returns-in-Backup-clause-few : goal.returns-in-Backup-clause-few
+returns-in-Backup-clause-few c = seen_few _ _ _ c.args.to Backup _ (ap (λ (n : NodeStates). n.masters) c.self.view_is) c.in-Backup.is (record { pushed = omega arith; captured = refl })
+
 -- ---- a witness
 
 pub give-requires-in-Witness-clause-low : goal.give-requires-in-Witness-clause-low
@@ -155,3 +172,6 @@ returns-in-Witness-clause-moves c = λ w.
     let after = (with_items c.self.inside.witnesses c.give-in-Witness.new.nodes).items in
     seen_moves _ _ _ c.args.to Witness (input_of c.args.given.now) c.give-in-Witness.result w c.self.view_is c.in-Witness.is
     (witnesses_give (input_of c.args.given.now) c.self.inside.witnesses.items after c.args.to.number c.give-in-Witness.result c.self.invariant.witnesses_are low made w (the_view c.self.inside))
+
+pub returns-in-Witness-clause-few : goal.returns-in-Witness-clause-few
+returns-in-Witness-clause-few c = seen_few _ _ _ c.args.to Witness _ (ap (λ (n : NodeStates). n.masters) c.self.view_is) c.in-Witness.is (record { pushed = omega arith; captured = refl })
