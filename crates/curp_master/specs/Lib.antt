@@ -7,5 +7,6 @@ pub mod Moving
 pub mod Phases
 pub mod Rounds
 pub mod Settling
+pub mod Suspects
 pub mod Switching
 pub mod Updates

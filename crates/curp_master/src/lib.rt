@@ -17,6 +17,7 @@ mod replies;
 mod round;
 mod rounds;
 mod settling;
+mod suspects;
 mod switching;
 #[cfg(test)]
 mod tests;

@@ -1,9 +1,8 @@
 ghost use Rattle.std.specs.Prelude.{◌≡◌, ◌≤◌, IfOk};
 ghost use Rattle.curp_base.specs.Words.{Each};
 ghost use Rattle.curp_model.specs.Master as master;
-ghost use Rattle.curp_model.specs.Master.{beginning};
+ghost use Rattle.curp_model.specs.Master.{beginning, on_serving, serving_ordered};
 ghost use Rattle.curp_msg.specs.Moved.{Moves, numbered_move};
-ghost use Rattle.curp_master.specs.Built.{built_ordered, on_built};
 
 use crate::acknowledged::{Acknowledged, all_at, least_length};
 use crate::captures::Captures;
@@ -19,8 +18,7 @@ use curp_msg::{Body, Done, Local, Message};
 use std::alloc::Global;
 use std::marker::Model;
 
-/// A serving master (after CURP's). It acts on updates and reads, on what backups acknowledge and on the orders to begin
-/// a round and to collect, and ignores every other input. Contracts see its number and its state.
+/// A serving master (after CURP's). Contracts see its number and its state.
 #[derive(Drop)]
 pub struct Master {
     pub(crate) alloc: Global,
@@ -117,16 +115,17 @@ impl Master {
 
     /// A message comes to the master. Its addressee isn't looked at. Where the number of a round would pass 2^64 - 1
     /// it does nothing. An append has the entries that its backup hasn't acknowledged, and no more of the log is copied.
-    #[tactic(auto, unfolding(crate::specs::Built::on_built, curp_model::specs::Master::on_serving))]
+    #[tactic(auto, unfolding(curp_model::specs::Master::on_serving))]
     pub fn on_message(&mut self, message: &Message) -> Result<Done, NoMemory>
         ensures moves { Moves self.old self.new result (numbered_move self.old.number
-            (on_built self.old.number self.old.state message.now.from message.now.body)) }
+            (on_serving self.old.number self.old.state message.now.from message.now.body)) }
     {
         match &message.body {
             Body::Update(ask) => self.on_update(Wish::AtOnce, ask.get()),
             Body::Sync(ask) => self.on_update(Wish::WhenSynced, ask.get()),
             Body::Read(ask) => self.on_read(ask.get()),
             Body::Appended(appended) => self.on_appended(&message.from, appended),
+            Body::Collected(collected) => self.on_collected(&collected.answer),
             Body::Prepare(prepare) => self.prepare(prepare),
             Body::Adopted(adopted) => self.adopted(adopted.version),
             Body::TakeOut(take) => self.take_out(take),
@@ -137,10 +136,10 @@ impl Master {
     }
 
     /// The master gets an order. It refuses none.
-    #[tactic(auto, unfolding(crate::specs::Built::built_ordered, curp_model::specs::Master::serving_ordered))]
+    #[tactic(auto, unfolding(curp_model::specs::Master::serving_ordered))]
     pub fn on_order(&mut self, order: &Local) -> Result<Done, NoMemory>
         ensures moves { Moves self.old self.new result
-            (numbered_move self.old.number (built_ordered self.old.number self.old.state order.now)) }
+            (numbered_move self.old.number (serving_ordered self.old.number self.old.state order.now)) }
     {
         match order {
             Local::Sync => self.sync(),

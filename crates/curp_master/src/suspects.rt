@@ -1,0 +1,161 @@
+ghost use Rattle.std.specs.Prelude.{◌≡◌, ◌≤◌, ◌+◌, ◌&&◌, length, IfOk, OnOk, OnErr};
+ghost use Rattle.curp_cmd.specs.Hash.{hashes};
+ghost use Rattle.curp_cmd.specs.declared.entry.Entry.TheVariants.{Op};
+ghost use Rattle.curp_model.specs.Log.{is_new, meaning};
+ghost use Rattle.curp_model.specs.Master.{MasterState, on_collected, treat, treats};
+ghost use Rattle.curp_model.specs.Ranges.{owns_all};
+ghost use Rattle.curp_model.specs.Table.{check};
+ghost use Rattle.curp_model.specs.declared.Check.TheVariants.{New};
+ghost use Rattle.curp_msg.specs.Moved.{Moves};
+ghost use Rattle.curp_master.specs.Built.{move_of};
+ghost use Rattle.curp_master.specs.Suspects.{HasOpRoom, IsTreated, brings, keeping, news};
+
+use crate::Master;
+use crate::journal::Journal;
+use curp_base::NoMemory;
+use curp_cmd::laws::names_one_to_four_keys;
+use curp_cmd::{Answer, Entry, Request};
+use curp_collect::Queue;
+use curp_log::Log;
+use curp_model::Check;
+use curp_msg::{Done, GcAnswer};
+use curp_rifl::Table;
+use std::alloc::{AllocError, Global};
+
+impl Master {
+    /// A witness answers a collection. Its suspects are queued to be collected again, and a new one is pushed first.
+    #[tactic(auto, unfolding(curp_model::specs::Master::on_collected))]
+    pub(crate) fn on_collected(&mut self, answer: &GcAnswer) -> Result<Done, NoMemory>
+        ensures moves { Moves self.old self.new result
+            (move_of self.old (on_collected self.old.number self.old.state answer.now)) }
+    {
+        match answer {
+            GcAnswer::Suspects(suspects) if self.phase.is_open() => self.treat(suspects.as_slice()),
+            _ => Ok(Done::quiet(self.alloc)),
+        }
+    }
+
+    // Each in turn. Where one is pushed, a round begins behind the last.
+    fn treat(&mut self, suspects: &[Request]) -> Result<Done, NoMemory>
+        ensures moves { Moves self.old self.new result
+            (move_of self.old (treats self.old.number self.old.state suspects.now)) }
+    {
+        let news = news(self.alloc, self.journal.log(), suspects)?;
+        if news.is_empty() {
+            self.take_in(suspects, 0)?;
+            return Ok(Done::quiet(self.alloc));
+        }
+        let Some(round) = self.next_round(&news)? else {
+            return Ok(Done::quiet(self.alloc));
+        };
+        self.take_in(suspects, news.len() as u64)?;
+        self.round = round.number;
+        Ok(Done::sends(round.appends))
+    }
+
+    // So many of them are pushed. All room is taken before anything changes.
+    fn take_in(&mut self, suspects: &[Request], ops: u64) -> Result<(), NoMemory>
+        requires { ops ≡ length (news self.old.state.lo self.old.state.hi self.old.state.log suspects.now) }
+        ensures number { self.new.number ≡ self.old.number }
+        ensures state { OnOk result (self.new.state ≡ treat self.old.state suspects.now) }
+        ensures err { OnErr result (self.new ≡ self.old) }
+    {
+        let Some(units) = ops.checked_mul(5) else {
+            return Err(AllocError);
+        };
+        self.queue.reserve(suspects.len() as u64)?;
+        self.journal.reserve(units)?;
+        treat_each(&mut self.journal, &mut self.queue, suspects);
+        Ok(())
+    }
+}
+
+// What the suspects bring into the log. Those that were seen to come are known by their ids.
+fn news(alloc: Global, log: &Log, suspects: &[Request]) -> Result<Vec<Entry>, NoMemory>
+    ensures { IfOk result (λ ops. ops.items ≡ news log.now.lo log.now.hi log.now.entries suspects.now) }
+{
+    let mut seen = Table::new(alloc);
+    let mut ops = Vec::new(alloc);
+    for suspect in suspects {
+        if can_come(log, &seen, suspect) {
+            ops.push(unacknowledging(suspect))?;
+            seen.reserve(1)?;
+            seen.finish(suspect.id, Answer::Done, 0, 0);
+        }
+    }
+    Ok(ops)
+}
+
+// It is new in the log and among those that were seen, and its hashes are owned.
+fn can_come(log: &Log, seen: &Table, suspect: &Request) -> bool
+    ensures { result ≡ ((is_new (check (meaning log.now.lo log.now.hi log.now.entries).table suspect.now.id)
+        && is_new (check seen.now.table suspect.now.id))
+        && owns_all (meaning log.now.lo log.now.hi log.now.entries).owned (hashes suspect.now.command)) }
+{
+    is_new(log.check(&suspect.id)) && is_new(seen.check(&suspect.id)) && log.owns(&suspect.command)
+}
+
+fn is_new(check: Check) -> bool
+    ensures { result ≡ is_new check }
+{
+    match check {
+        Check::New => true,
+        _ => false,
+    }
+}
+
+// A request as an entry by which its client acknowledges nothing.
+fn unacknowledging(request: &Request) -> Entry
+    ensures { result ≡ Op request.now 0 }
+{
+    Entry::Op {
+        request: *request,
+        acknowledge: 0,
+    }
+}
+
+// Each suspect in turn. It takes no memory, since there is room.
+fn treat_each(journal: &mut Journal, queue: &mut Queue, suspects: &[Request])
+    requires room { HasOpRoom journal.old
+        (length (news journal.old.kept.lo journal.old.kept.hi journal.old.kept.entries suspects.now)) }
+    requires spare { length suspects.now ≤ queue.old.spare }
+    ensures treated { (m : MasterState) → treat (keeping m journal.old.kept queue.old.waiting) suspects.now
+        ≡ keeping m journal.new.kept queue.new.waiting }
+    ensures synced { journal.new.kept.synced ≡ journal.old.kept.synced }
+{
+    for suspect in suspects {
+        treat(journal, queue, suspect);
+    }
+}
+
+// By the duplicate check of its id.
+fn treat(journal: &mut Journal, queue: &mut Queue, suspect: &Request)
+    requires room { HasOpRoom journal.old
+        (length (brings journal.old.kept.lo journal.old.kept.hi journal.old.kept.entries suspect.now)) }
+    requires spare { 1 ≤ queue.old.spare }
+    ensures treated { IsTreated suspect.now journal.old queue.old.waiting journal.new queue.new.waiting }
+    ensures spare { queue.old.spare ≤ queue.new.spare + 1 }
+{
+    match journal.log().check(&suspect.id) {
+        Check::Known { index, .. } => queue.add(suspect.id, index + 1),
+        Check::Stale { .. } | Check::Expired => queue.add(suspect.id, journal.log().len()),
+        Check::New => treat_new(journal, queue, suspect),
+    }
+}
+
+// One that is new is pushed, where its hashes are owned.
+fn treat_new(journal: &mut Journal, queue: &mut Queue, suspect: &Request)
+    requires new { check (meaning journal.old.kept.lo journal.old.kept.hi journal.old.kept.entries).table suspect.now.id
+        ≡ New }
+    requires room { HasOpRoom journal.old
+        (length (brings journal.old.kept.lo journal.old.kept.hi journal.old.kept.entries suspect.now)) }
+    requires spare { 1 ≤ queue.old.spare }
+    ensures treated { IsTreated suspect.now journal.old queue.old.waiting journal.new queue.new.waiting }
+    ensures spare { queue.old.spare ≤ queue.new.spare + 1 }
+{
+    if journal.log().owns(&suspect.command) {
+        names_one_to_four_keys(&suspect.command);
+        journal.push(unacknowledging(suspect), false);
+        queue.add(suspect.id, journal.log().len());
+    }
+}
