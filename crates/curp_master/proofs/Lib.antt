@@ -3,7 +3,9 @@ pub mod Beside
 pub mod Collections
 pub mod Ends
 pub mod Fresh
+pub mod Known
 pub mod Packed
 pub mod Places
-pub mod Suffixes
 pub mod Settled
+pub mod Suffixes
+pub mod Suspected

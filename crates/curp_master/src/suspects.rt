@@ -136,9 +136,10 @@ fn treat(journal: &mut Journal, queue: &mut Queue, suspect: &Request)
     ensures treated { IsTreated suspect.now journal.old queue.old.waiting journal.new queue.new.waiting }
     ensures spare { queue.old.spare ≤ queue.new.spare + 1 }
 {
+    let length = journal.log().len();
     match journal.log().check(&suspect.id) {
         Check::Known { index, .. } => queue.add(suspect.id, index + 1),
-        Check::Stale { .. } | Check::Expired => queue.add(suspect.id, journal.log().len()),
+        Check::Stale { .. } | Check::Expired => queue.add(suspect.id, length),
         Check::New => treat_new(journal, queue, suspect),
     }
 }
