@@ -1,12 +1,9 @@
 -- Suspects, each in turn.
-use Rattle.std.proofs.Common.{◌≡◌, ℕ, ◌+◌, ◌*◌, ◌≤◌, ◌==◌, ◌&&◌, not, nat_lt, if◌then◌else◌, Bool, true, false, List, [], ◌∷◌, ◌++◌, length, None, refl, ap, sym, ◌∙◌, subst, arith}
+use Rattle.std.proofs.Common.{◌≡◌, ℕ, ◌+◌, ◌≤◌, ◌==◌, ◌&&◌, not, nat_lt, if◌then◌else◌, Bool, true, false, List, [], ◌∷◌, ◌++◌, length, None, refl, ap, sym, ◌∙◌, subst, arith}
 use Rattle.std.specs.Bool.{⊤}
-use Rattle.std.specs.Ordering.{eq_by_cmp, is_eq}
-use Rattle.std.proofs.lemmas.Bool.{cond_both}
+use Rattle.std.specs.Ordering.{eq_by_cmp}
 use Rattle.std.proofs.lemmas.Bool.Decides.{nat_tests}
-use Rattle.std.proofs.lemmas.Cmp.{tied_itself}
 use Rattle.std.proofs.lemmas.List.{append_assoc, append-nil, length-append}
-use Rattle.std.proofs.lemmas.Map.Views.{tells_apart}
 use Rattle.curp_base.proofs.Ends.{never_rises}
 use Rattle.curp_base.specs.Words.{rises_past}
 use Rattle.curp_cmd.specs.Hash.{hashes}
@@ -21,15 +18,15 @@ use Rattle.curp_collect.specs.Queue.{Queueing}
 use Rattle.curp_model.specs.declared.Check.{Check}
 use Rattle.curp_model.specs.declared.Check.TheVariants.{Expired, Stale, Known, New}
 use Rattle.curp_model.specs.Log.{LogState, after_entry, fits_at, is_new, meaning}
-use Rattle.curp_model.specs.Master.{MasterState, Queued, appends, begins_round, beginning, last_round, next_round, pushed, state_of, treat, treated, treats, unless_it_ends}
+use Rattle.curp_model.specs.Master.{MasterState, Queued, appends, begins_round, beginning, last_round, next_round, pushed, state_of, treat, treated, treats}
 use Rattle.curp_model.specs.Ranges.{owns_all}
 use Rattle.curp_model.specs.Table.{Noted, Table, acknowledge, check, no_records, note}
 use Rattle.curp_model.proofs.Logs.{meaning_append}
-use Rattle.curp_model.proofs.Tables.{check_other, has_acknowledge, has_note, ids_same, ids_total, not_new}
-use Rattle.curp_msg.specs.Moved.{Makes, Moved, Node, quiet}
+use Rattle.curp_model.proofs.Tables.{check_other, has_acknowledge, has_note, not_new}
+use Rattle.curp_msg.specs.Moved.{Makes, Node, quiet}
 use Rattle.curp_msg.specs.declared.message.Message.{Message}
 use Rattle.curp_master.specs.Built.{move_of}
-use Rattle.curp_master.specs.Journal.{HasRoom, JournalState, Journaled}
+use Rattle.curp_master.specs.Journal.{JournalState}
 use Rattle.curp_master.specs.Rounds.{at_round}
 use Rattle.curp_master.specs.Suspects.{HasOpRoom, IsTreated, brings, keeping, news, one_treated}
 use Rattle.curp_master.proofs.Ends.{lasts}

@@ -1,4 +1,4 @@
-use Rattle.std.proofs.Common.{◌≡◌, ◌<◌, ◌+◌, ◌∷◌, ◌++◌, [], List, drop, length, ap, sym, ◌∙◌, arith}
+use Rattle.std.proofs.Common.{◌≡◌, ◌<◌, ◌+◌, ◌∷◌, ◌++◌, [], drop, length, ap, sym, ◌∙◌, arith}
 use Rattle.curp_base.proofs.Lists.{drop_index}
 use Rattle.curp_cmd.specs.declared.command.Answer.TheVariants.{Done}
 use Rattle.curp_cmd.specs.declared.command.Request.{Request}
@@ -21,7 +21,7 @@ loop-suspect-preserved c =
     elim c.if-can_come.branch [
       | then-can_come+in_ok-push+in_ok-reserve w ↦
           let table : c.if-can_come.seen.table ≡ acknowledge (note c.loop-suspect.seen.table r.id Done 0) r.id.client 0 =
-          cc (w.seen-is, w.finish.ensures.table, w.in_ok-reserve.ensures.table, w.seen-then-can_come.view_is, c.seen.view_is)
+          cc (w.seen-is, w.finish.ensures.table, w.in_ok-reserve.ensures.table)
           in
           let ops : c.if-can_come.ops.items ≡ c.loop-suspect.ops.items ++ Op r 0 ∷ [] = cc (w.ops-is, w.in_ok-push.ensures.items, w.unacknowledging.ensures) in
           rw (table, ops)

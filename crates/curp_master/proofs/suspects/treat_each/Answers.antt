@@ -1,4 +1,4 @@
-use Rattle.std.proofs.Common.{◌≡◌, ◌<◌, ◌+◌, ◌∷◌, List, drop, length, ap, sym, ◌∙◌, arith}
+use Rattle.std.proofs.Common.{◌≡◌, ◌<◌, ◌+◌, ◌∷◌, drop, length, ap, sym, ◌∙◌, arith}
 use Rattle.curp_base.proofs.Lists.{drop_index}
 use Rattle.curp_cmd.specs.declared.command.Request.{Request}
 use Rattle.curp_master.proofs.Suspected.{treats_more}
