@@ -11,7 +11,7 @@ use Rattle.curp_model.specs.Witness.{WitnessState, witness_input}
 unfoldable pub client_machine : Node ClientState → Input → Moved (Node ClientState)
 client_machine c given = numbered_move c.number (client_input c.number c.state given)
 
--- a master that serves; it leaves alone what isn't built yet
+-- a master that serves
 unfoldable pub master_machine : Node MasterState → Input → Moved (Node MasterState)
 master_machine m given = numbered_move m.number (on_input m.number m.state given)
 

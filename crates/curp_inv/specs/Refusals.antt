@@ -10,10 +10,11 @@ use Rattle.curp_cmd.specs.Store.{is_update}
 use Rattle.curp_cmd.specs.declared.command.Command.{Command}
 use Rattle.curp_cmd.specs.declared.command.Request.{Request}
 use Rattle.curp_cmd.specs.declared.node.NodeId.{NodeId}
-use Rattle.curp_master.specs.Built.{on_built, built_ordered}
 use Rattle.curp_msg.specs.Moved.{Moved, Node, Refuses, not_refused, quiet, refused_by, refuses_within, unless_refused}
 use Rattle.curp_msg.specs.declared.answer.AppendAnswer.{AppendAnswer}
 use Rattle.curp_msg.specs.declared.answer.AppendAnswer.TheVariants as append
+use Rattle.curp_msg.specs.declared.answer.GcAnswer.{GcAnswer}
+use Rattle.curp_msg.specs.declared.answer.GcAnswer.TheVariants.{Suspects}
 use Rattle.curp_msg.specs.declared.body.Ask.{Ask}
 use Rattle.curp_msg.specs.declared.body.Body.{Body}
 use Rattle.curp_msg.specs.declared.body.Parcel.{Parcel}
@@ -31,7 +32,7 @@ use Rattle.curp_msg.specs.declared.message.Message.{Message}
 use Rattle.curp_model.specs.Backup.{BackupState, on_backup}
 use Rattle.curp_model.specs.Client as client
 use Rattle.curp_model.specs.Client.{ClientState, Pending, Early, Attempt, client_ordered, client_input, on_client}
-use Rattle.curp_model.specs.Master.{MasterState, Wish, AtOnce, WhenSynced, Verdict, Deny, Tell, TellAgain, HoldBack, Execute, Phase, Open, Switching, carries_out, executes, goes_on, is_clean, last_round, on_appended, on_serving, on_update, raised, serving_ordered, settle, stored_on, sync_in, unless_it_ends, verdict, all_have, adopted_in, collect_in, give_after, is_open, on_expire, on_give, on_read, on_take, prepare_in, push_take, read_command, read_of, read_refusal, state_of, synced, take_after, told_again}
+use Rattle.curp_model.specs.Master.{MasterState, Wish, AtOnce, WhenSynced, Verdict, Deny, Tell, TellAgain, HoldBack, Execute, Phase, Open, Switching, carries_out, executes, goes_on, is_clean, last_round, on_appended, on_collected, on_serving, on_update, raised, serving_ordered, settle, stored_on, sync_in, unless_it_ends, verdict, all_have, adopted_in, collect_in, give_after, is_open, on_expire, on_give, on_read, on_take, prepare_in, push_take, read_command, read_of, read_refusal, state_of, synced, take_after, told_again, treat}
 use Rattle.curp_cmd.specs.Node.{is_among}
 use Rattle.curp_model.specs.Log.{LastGive, LastTake}
 use Rattle.curp_model.specs.Table.{is_gone}
@@ -212,21 +213,29 @@ collect_taken : (n : ℕ) (m : MasterState) (phase : Phase) → (collect_in n m 
 collect_taken n m Open = refl
 collect_taken n m (Switching s) = refl
 
-built_taken : (n : ℕ) (m : MasterState) (from : NodeId) (b : Body) → (on_built n m from b).refused ≡ 0
-unfolding on_built on_serving
-built_taken n m from (body.Update ask) = ends_taken m _ (update_taken n m AtOnce ask)
-built_taken n m from (body.Sync ask) = ends_taken m _ (update_taken n m WhenSynced ask)
-built_taken n m from (body.Read ask) = ends_taken m _ (read_taken n m ask)
-built_taken n m from (body.Appended a) = ends_taken m _ (appended_taken n m from a.round a.answer)
-built_taken n m from (body.Prepare p) = ends_taken m _ (prepare_taken n m p m.phase)
-built_taken n m from (body.Adopted a) = ends_taken m _ (adopted_taken n m a.version m.phase)
-built_taken n m from (body.TakeOut t) = ends_taken m _ (take_taken n m t)
-built_taken n m from (body.GiveIn g) = ends_taken m _ (give_taken n m g)
-built_taken n m from (body.ExpireClient client) = ends_taken m _ (expire_taken n m client)
-built_taken n m from _ = refl
+collected_taken : (n : ℕ) (m : MasterState) (a : GcAnswer) → (on_collected n m a).refused ≡ 0
+unfolding on_collected
+collected_taken n m (Suspects rs) =
+    cond_both (is_open m.phase) _ _ (λ (r : Moved MasterState). r.refused ≡ 0)
+    (λ y. cond_both (length (treat m rs).log == length m.log) _ _ (λ (r : Moved MasterState). r.refused ≡ 0) (λ same. refl) (λ more. refl)) (λ no. refl)
+collected_taken n m _ = refl
 
-ordered_taken : (n : ℕ) (m : MasterState) (order : Local) → (built_ordered n m order).refused ≡ 0
-unfolding built_ordered serving_ordered
+serving_taken : (n : ℕ) (m : MasterState) (from : NodeId) (b : Body) → (on_serving n m from b).refused ≡ 0
+unfolding on_serving
+serving_taken n m from (body.Update ask) = ends_taken m _ (update_taken n m AtOnce ask)
+serving_taken n m from (body.Sync ask) = ends_taken m _ (update_taken n m WhenSynced ask)
+serving_taken n m from (body.Read ask) = ends_taken m _ (read_taken n m ask)
+serving_taken n m from (body.Appended a) = ends_taken m _ (appended_taken n m from a.round a.answer)
+serving_taken n m from (body.Collected c) = ends_taken m _ (collected_taken n m c.answer)
+serving_taken n m from (body.Prepare p) = ends_taken m _ (prepare_taken n m p m.phase)
+serving_taken n m from (body.Adopted a) = ends_taken m _ (adopted_taken n m a.version m.phase)
+serving_taken n m from (body.TakeOut t) = ends_taken m _ (take_taken n m t)
+serving_taken n m from (body.GiveIn g) = ends_taken m _ (give_taken n m g)
+serving_taken n m from (body.ExpireClient client) = ends_taken m _ (expire_taken n m client)
+serving_taken n m from _ = ends_taken m (quiet m) refl
+
+ordered_taken : (n : ℕ) (m : MasterState) (order : Local) → (serving_ordered n m order).refused ≡ 0
+unfolding serving_ordered
 ordered_taken n m local.Sync = ends_taken m _ (sync_taken n m m.phase)
 ordered_taken n m local.Collect = collect_taken n m m.phase
 ordered_taken n m _ = refl
@@ -234,7 +243,7 @@ ordered_taken n m _ = refl
 -- a master takes each message
 pub master_taken : (m : Node MasterState) (x : Message) → (master_machine m (input.Message x)).refused ≡ 0
 unfolding master_machine
-master_taken m x = built_taken m.number m.state x.from x.body
+master_taken m x = serving_taken m.number m.state x.from x.body
 
 -- and each order
 pub master_obeys : (m : Node MasterState) (order : Local) → (master_machine m (input.Local order)).refused ≡ 0
