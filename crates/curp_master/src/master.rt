@@ -19,8 +19,8 @@ use curp_msg::{Body, Done, Local, Message};
 use std::alloc::Global;
 use std::marker::Model;
 
-/// A serving master (after CURP's). It acts on updates and reads, on what backups acknowledge and on the orders to begin
-/// a round and to collect, and ignores every other input. Contracts see its number and its state.
+/// A serving master (after CURP's). What a witness answers to a collection it leaves alone. Contracts see its number and
+/// its state.
 #[derive(Drop)]
 pub struct Master {
     pub(crate) alloc: Global,
