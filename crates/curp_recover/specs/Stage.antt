@@ -1,8 +1,6 @@
 -- What a recovery has so far, as the definitions have it.
 use Rattle.std.specs.Prelude.{◌≡◌, ℕ, true, List, Option, Some, None, ⊤}
-use Rattle.curp_base.specs.Words.{Each}
 use Rattle.curp_cmd.specs.declared.entry.Entry.{Entry}
-use Rattle.curp_log.specs.Ops.{IsOp}
 use Rattle.curp_model.specs.Log.{is_log}
 use Rattle.curp_model.specs.Recovery.{RecoveryPhase, Asking, Storing, Waiting, Replayed}
 use Rattle.curp_msg.specs.declared.body.Recover.{Recover}
@@ -29,7 +27,7 @@ phase_of (stage.Replayed replayed awaited) = replayed_phase replayed awaited
 -- what came as the log is one, from the order's range
 abbrev pub IsLogOf : Recover → Option (List Entry) → Type 0
 IsLogOf o None = ⊤
-IsLogOf o (Some entries) = (is_log o.lo o.hi entries ≡ true) × Each IsOp entries
+IsLogOf o (Some entries) = is_log o.lo o.hi entries ≡ true
 
 -- a log that came is one, and a replayed log is from the order's range
 abbrev pub IsStage : Recover → Stage → Type 0

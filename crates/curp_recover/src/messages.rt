@@ -1,11 +1,12 @@
 ghost use Rattle.std.specs.Prelude.{◌≡◌, ◌∷◌, ◌++◌, [], if◌then◌else◌, IfOk};
 ghost use Rattle.curp_cmd.specs.Node.{master_node};
+ghost use Rattle.curp_model.specs.Master.{refuse};
 ghost use Rattle.curp_model.specs.Recovery.{fence_of, freeze_of, recovered_message, unanswered_log, unanswered_requests};
 ghost use Rattle.curp_msg.specs.Moved.{says, says_each};
 
 use curp_base::{Items, NoMemory, copies_of};
-use curp_cmd::{Entry, NodeId, Request};
-use curp_msg::{Append, Body, Message, Recover, Recovered};
+use curp_cmd::{Entry, NodeId, Request, RequestId};
+use curp_msg::{Append, Body, Message, Recover, Recovered, Refusal, Refuse};
 use std::alloc::Global;
 
 /// The backup is asked for its log.
@@ -41,6 +42,17 @@ pub fn recovered(number: u32, order: &Recover) -> Message
             part: order.part,
             epoch: order.epoch,
         }),
+    }
+}
+
+/// A request isn't answered.
+pub fn refuse(number: u32, id: RequestId, refusal: Refusal) -> Message
+    ensures { result ≡ refuse number id refusal }
+{
+    Message {
+        from: NodeId::master(number),
+        to: NodeId::client(id.client),
+        body: Body::Refuse(Refuse { id, refusal }),
     }
 }
 

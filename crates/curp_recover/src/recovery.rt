@@ -1,22 +1,25 @@
-ghost use Rattle.std.specs.Prelude.{◌≡◌, true, IfOk, IfErr};
+ghost use Rattle.std.specs.Prelude.{◌≡◌, ◌&&◌, true, IfOk, IfErr};
 ghost use Rattle.std.specs.Option.{option_map};
 ghost use Rattle.std.specs.Result.{result_ok};
-ghost use Rattle.curp_base.specs.Words.{Each};
-ghost use Rattle.curp_log.specs.Ops.{IsOp};
 ghost use Rattle.curp_model.specs.Log.{is_log};
-ghost use Rattle.curp_model.specs.Recovery.{again_in, both_there, log_comes, on_recover, requests_come, stored_comes};
+ghost use Rattle.curp_cmd.specs.Node.{same_node};
+ghost use Rattle.curp_model.specs.Recovery.{Recovering, again_in, append_answered, both_there, fence_answered};
+ghost use Rattle.curp_model.specs.Recovery.{log_comes, on_master, on_recover, recovery_ordered, requests_come};
+ghost use Rattle.curp_model.specs.Recovery.{stored_comes, turns_away, turns_read_away};
 ghost use Rattle.curp_msg.specs.Moved.{Makes, Moves, done_of, numbered_move};
 ghost use Rattle.curp_recover.specs.Answers.{TellsIgnored, awaits_backups, awaits_log, awaits_requests};
 ghost use Rattle.curp_recover.specs.Stage.{IsStage, phase_of};
 ghost use Rattle.curp_recover.specs.Answers.{finished_log, phase_name, replayed_in, round_in};
+ghost use Rattle.curp_recover.specs.Heard.{heard, is_serving, unadopted};
 
 use crate::replay::replayed;
-use crate::stage::{Awaited, ReplayedLog, Stage, is_among};
+use crate::stage::{Awaited, ReplayedLog, Stage, awaited_after};
 use crate::{Phase, RecoverError, messages};
-use curp_base::{Items, NoMemory, TryCopy};
-use curp_cmd::{Entry, NodeId, Request};
-use curp_log::Log;
-use curp_msg::{Done, Recover};
+use curp_base::{Items, NoMemory, TryCopy, copies_of};
+use curp_cmd::{Entry, NodeId, Request, RequestId};
+use curp_log::{Log, is_log};
+use curp_msg::{AppendAnswer, Appended, Body, Done, FenceReply, Local, Message, Recover, Refusal};
+use std::alloc::AllocError;
 use std::alloc::Global;
 use std::marker::Model;
 
@@ -62,10 +65,52 @@ impl Recovery {
         Ok((recovery, Done::sends(asked)))
     }
 
+    /// A message comes. Its addressee isn't looked at. By its adoption it would begin to serve: there it does nothing, and
+    /// its caller asks before, by `is_adopted_by`.
+    #[tactic(auto, unfolding(curp_model::specs::Recovery::on_master))]
+    pub fn on_message(&mut self, message: &Message) -> Result<Done, NoMemory>
+        ensures moves { Moves self.old self.new result (numbered_move self.old.number
+            (unadopted self.old.number self.old.state message.now.from message.now.body)) }
+    {
+        match &message.body {
+            Body::FenceAnswer(answer) => self.on_fence_answer(&message.from, &answer.answer),
+            Body::FrozenAnswer { requests } => {
+                self.on_frozen_answer(&message.from, requests.as_slice())
+            }
+            Body::Appended(appended) => self.on_appended(&message.from, appended),
+            Body::Update(ask) => self.turn_away(&ask.get().request.id),
+            Body::Sync(ask) => self.turn_away(&ask.get().request.id),
+            Body::Read(ask) => self.turn_read_away(&ask.get().request),
+            _ => Ok(Done::quiet(self.alloc)),
+        }
+    }
+
+    /// An order comes. It refuses none.
+    pub fn on_order(&mut self, order: &Local) -> Result<Done, NoMemory>
+        ensures moves { Moves self.old self.new result (numbered_move self.old.number
+            (recovery_ordered self.old.number self.old.state order.now)) }
+    {
+        match order {
+            Local::Sync => heard(self.alloc, self.again()),
+            _ => Ok(Done::quiet(self.alloc)),
+        }
+    }
+
+    /// Whether it begins to serve by that message. Then `finish` gives the log to serve with.
+    #[tactic(auto, unfolding(curp_model::specs::Recovery::on_master))]
+    pub fn is_adopted_by(&self, message: &Message) -> bool
+        ensures { result ≡ is_serving
+            (on_master self.now.number (Recovering self.now.state) message.now.from message.now.body).state }
+    {
+        match &message.body {
+            Body::Adopted(_) => self.phase() == Phase::Waiting,
+            _ => false,
+        }
+    }
+
     /// The log of the named backup comes. Once the requests are there too, the replayed log goes to each fresh backup.
     pub fn on_log(&mut self, entries: Vec<Entry>) -> Result<Done, RecoverError>
         requires is_log { is_log self.old.state.order.lo self.old.state.order.hi entries.items ≡ true }
-        requires ops { Each IsOp entries.items }
         ensures moves { Moves self.old self.new result (numbered_move self.old.number
             (log_comes self.old.number self.old.state self.old.state.order.backup entries.items self.old.state.phase)) }
         ensures ignored { TellsIgnored (awaits_log self.old.state.phase) (phase_name self.old.state.phase) result }
@@ -134,24 +179,22 @@ impl Recovery {
             (stored_comes self.old.number self.old.state backup.now length self.old.state.phase)) }
         ensures ignored { TellsIgnored (awaits_backups self.old.state.phase) (phase_name self.old.state.phase) result }
     {
-        let Stage::Replayed {
-            replayed,
-            awaited: awaited @ Awaited::Storing,
-        } = &mut self.stage
-        else {
-            return Err(self.ignored());
-        };
-        let backups = self.order.backups.as_slice();
-        if !is_among(backup, backups) || length < replayed.len() {
-            return Ok(Done::quiet(self.alloc));
+        let (alloc, number, order) = (self.alloc, self.number, &self.order);
+        match &mut self.stage {
+            Stage::Replayed {
+                replayed,
+                awaited: awaited @ Awaited::Storing,
+            } => {
+                if !replayed.is_stored_by(order, backup, length) {
+                    return Ok(Done::quiet(alloc));
+                }
+                let is_last = replayed.is_last(order.backups.as_slice(), backup);
+                let told = replayed.complete_by(alloc, number, order, backup)?;
+                *awaited = awaited_after(is_last);
+                Ok(Done::sends(told))
+            }
+            _ => Err(self.ignored()),
         }
-        let is_last = replayed.is_last(backups, backup);
-        let told = messages::told(self.alloc, self.number, &self.order, is_last)?;
-        replayed.complete_on(backup)?;
-        if is_last {
-            *awaited = Awaited::Adoption;
-        }
-        Ok(Done::sends(told))
     }
 
     /// What it waits for is asked, sent or told again. Appends go in a new round to the backups that aren't complete, and
@@ -265,6 +308,83 @@ impl Recovery {
         self.number
     }
 
+    // ---- messages
+
+    fn on_fence_answer(&mut self, from: &NodeId, answer: &FenceReply) -> Result<Done, NoMemory>
+        ensures moves { Moves self.old self.new result (numbered_move self.old.number
+            (fence_answered self.old.number self.old.state from.now answer.now)) }
+    {
+        let FenceReply::Log(entries) = answer else {
+            return Ok(Done::quiet(self.alloc));
+        };
+        if !self.takes_log(from, entries.as_slice())? {
+            return Ok(Done::quiet(self.alloc));
+        }
+        let entries = copies_of(self.alloc, entries.as_slice())?;
+        heard(self.alloc, self.on_log(entries))
+    }
+
+    // Whether it waits for a log, and this is one, from the named backup.
+    fn takes_log(&self, from: &NodeId, entries: &[Entry]) -> Result<bool, NoMemory>
+        ensures { IfOk result (λ takes. takes ≡ (awaits_log self.now.state.phase
+            && (same_node from.now self.now.state.order.backup
+            && is_log self.now.state.order.lo self.now.state.order.hi entries.now))) }
+    {
+        let awaits = matches!(&self.stage, Stage::Asking { log: None, .. });
+        if !awaits || *from != self.order.backup {
+            return Ok(false);
+        }
+        is_log(self.alloc, self.order.lo, self.order.hi, entries)
+    }
+
+    fn on_frozen_answer(
+        &mut self,
+        from: &NodeId,
+        requests: &[Request],
+    ) -> Result<Done, NoMemory>
+        ensures moves { Moves self.old self.new result (numbered_move self.old.number
+            (requests_come self.old.number self.old.state from.now requests.now self.old.state.phase)) }
+    {
+        if *from != self.order.witness {
+            return Ok(Done::quiet(self.alloc));
+        }
+        let requests = Vec::from_slice(self.alloc, requests)?;
+        heard(self.alloc, self.on_frozen(requests))
+    }
+
+    fn on_appended(&mut self, from: &NodeId, appended: &Appended) -> Result<Done, NoMemory>
+        ensures moves { Moves self.old self.new result (numbered_move self.old.number
+            (append_answered self.old.number self.old.state from.now appended.now.answer)) }
+    {
+        match appended.answer {
+            AppendAnswer::Stored { length } => {
+                heard(self.alloc, self.on_stored(from, length, appended.round))
+            }
+            _ => Ok(Done::quiet(self.alloc)),
+        }
+    }
+
+    // A client is refused until the master is adopted.
+    fn turn_away(&self, id: &RequestId) -> Result<Done, NoMemory>
+        ensures { IfOk result (λ done. done ≡ done_of (turns_away self.now.number (Recovering self.now.state) id.now)) }
+    {
+        let refusal = messages::refuse(self.number, *id, Refusal::Switching);
+        Ok(Done::sends(vec![in self.alloc; refusal]?))
+    }
+
+    // A read too, but nothing else that is sent as one.
+    fn turn_read_away(&self, request: &Request) -> Result<Done, NoMemory>
+        ensures { IfOk result (λ done. done
+            ≡ done_of (turns_read_away self.now.number (Recovering self.now.state) request.now)) }
+    {
+        if request.command.is_update() {
+            return Ok(Done::quiet(self.alloc));
+        }
+        self.turn_away(&request.id)
+    }
+
+    // ----
+
     fn ignored(&self) -> RecoverError
         ensures { result ≡ RecoverError.Ignored (phase_name self.now.state.phase) }
     {
@@ -276,7 +396,6 @@ impl Recovery {
     // What is there once the log and the requests are, and the appends of the first round.
     fn storing(&self, entries: &[Entry], requests: &[Request]) -> Result<(Stage, Done), NoMemory>
         requires is_log { is_log self.now.state.order.lo self.now.state.order.hi entries.now ≡ true }
-        requires ops { Each IsOp entries.now }
         ensures stage { IfOk result (λ stored. IsStage self.now.state.order stored.0) }
         ensures state { IfOk result (λ stored. record { order = self.now.state.order; phase = phase_of stored.0 }
             ≡ (both_there self.now.number self.now.state.order (Some entries.now) (Some requests.now)).state) }
@@ -305,5 +424,16 @@ impl Recovery {
             awaited: Awaited::Storing,
         };
         Ok((stage, Done::sends(sent)))
+    }
+}
+
+/// What isn't waited for is heard, and does nothing.
+fn heard(alloc: Global, told: Result<Done, RecoverError>) -> Result<Done, NoMemory>
+    ensures { result ≡ heard told }
+{
+    match told {
+        Ok(done) => Ok(done),
+        Err(RecoverError::Ignored { .. }) => Ok(Done::quiet(alloc)),
+        Err(RecoverError::NoMemory) => Err(AllocError),
     }
 }

@@ -1,6 +1,4 @@
 ghost use Rattle.std.specs.Prelude.{◌≡◌, ◌≤◌, true, IfOk, OnOk};
-ghost use Rattle.curp_base.specs.Words.{Each};
-ghost use Rattle.curp_log.specs.Ops.{IsOp};
 ghost use Rattle.curp_model.specs.Log.{is_log};
 ghost use Rattle.curp_model.specs.Recovery.{replay};
 
@@ -20,7 +18,6 @@ pub fn replayed(
 ) -> Result<Log, NoMemory>
     requires ordered { lo ≤ hi }
     requires is_log { is_log lo hi entries.now ≡ true }
-    requires ops { Each IsOp entries.now }
     ensures lo { IfOk result (λ log. log.lo ≡ lo) }
     ensures hi { IfOk result (λ log. log.hi ≡ hi) }
     ensures entries { IfOk result (λ log. log.entries ≡ replay lo hi entries.now requests.now) }
@@ -34,7 +31,6 @@ pub fn replayed(
 fn restored(alloc: Global, lo: u64, hi: u64, entries: &[Entry]) -> Result<Log, NoMemory>
     requires ordered { lo ≤ hi }
     requires is_log { is_log lo hi entries.now ≡ true }
-    requires ops { Each IsOp entries.now }
     ensures lo { IfOk result (λ log. log.lo ≡ lo) }
     ensures hi { IfOk result (λ log. log.hi ≡ hi) }
     ensures entries { IfOk result (λ log. log.entries ≡ entries.now) }

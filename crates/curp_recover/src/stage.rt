@@ -1,7 +1,7 @@
-ghost use Rattle.std.specs.Prelude.{◌≡◌, filter, length, not, OnOk, OnErr, IfOk};
+ghost use Rattle.std.specs.Prelude.{◌≡◌, ◌&&◌, if◌then◌else◌, [], filter, length, nat_le, not, OnOk, OnErr, IfOk};
 ghost use Rattle.std.specs.List.{list_all};
 ghost use Rattle.curp_cmd.specs.Node.{is_among};
-ghost use Rattle.curp_model.specs.Recovery.{with_complete};
+ghost use Rattle.curp_model.specs.Recovery.{all_complete, recovered_message, with_complete};
 ghost use Rattle.curp_recover.specs.Answers.{appends_again, replayed_again};
 ghost use Rattle.curp_recover.specs.Stage.{replayed_of};
 
@@ -59,13 +59,48 @@ impl ReplayedLog {
     pub fn is_last(&self, backups: &[NodeId], backup: &NodeId) -> bool
         ensures { result ≡ list_all (λ b. is_among b (with_complete (replayed_of self.now) backup.now).complete) backups.now }
     {
-        backups
-            .iter()
-            .all(|each| is_among(each, &self.complete) || each == backup)
+        backups.iter().all(|each| self.has_with(each, backup))
+    }
+
+    // Whether a backup has the whole log, once that one has it.
+    #[tactic(auto, using(crate::proofs::Stored::among_with))]
+    fn has_with(&self, each: &NodeId, backup: &NodeId) -> bool
+        ensures { result ≡ is_among each.now (with_complete (replayed_of self.now) backup.now).complete }
+    {
+        is_among(each, &self.complete) || each == backup
+    }
+
+    /// Whether that is a fresh backup, and so much is the whole log.
+    pub fn is_stored_by(&self, order: &Recover, backup: &NodeId, stored: u64) -> bool
+        ensures { result ≡ (is_among backup.now order.now.backups
+            && nat_le (length self.now.log.entries) stored) }
+    {
+        is_among(backup, order.backups.as_slice()) && self.len() <= stored
+    }
+
+    /// That backup has the whole log. Once all have it, the manager is told.
+    pub fn complete_by(
+        &mut self,
+        alloc: Global,
+        number: u32,
+        order: &Recover,
+        backup: &NodeId,
+    ) -> Result<Vec<Message>, NoMemory>
+        ensures ok { OnOk result (replayed_of self.new ≡ with_complete (replayed_of self.old) backup.now) }
+        ensures told { IfOk result (λ told. told.items
+            ≡ (if all_complete order.now (with_complete (replayed_of self.old) backup.now)
+               then recovered_message number order.now else [])) }
+        ensures err { OnErr result (replayed_of self.new ≡ replayed_of self.old) }
+        ensures log { self.new.log ≡ self.old.log }
+    {
+        let is_last = self.is_last(order.backups.as_slice(), backup);
+        let told = messages::told(alloc, number, order, is_last)?;
+        self.complete_on(backup)?;
+        Ok(told)
     }
 
     /// That backup has the whole log.
-    pub fn complete_on(&mut self, backup: &NodeId) -> Result<(), NoMemory>
+    fn complete_on(&mut self, backup: &NodeId) -> Result<(), NoMemory>
         ensures ok { OnOk result (replayed_of self.new ≡ with_complete (replayed_of self.old) backup.now) }
         ensures err { OnErr result (replayed_of self.new ≡ replayed_of self.old) }
         ensures log { self.new.log ≡ self.old.log }
@@ -107,6 +142,17 @@ impl ReplayedLog {
         let sent = messages::appends(alloc, number, order.epoch, round, self.log.entries(), &left)?;
         self.round = round;
         Ok(sent)
+    }
+}
+
+/// What a replayed log waits for, once all backups have the whole of it, or before.
+pub fn awaited_after(is_stored: bool) -> Awaited
+    ensures { result ≡ (if is_stored then Awaited.Adoption else Awaited.Storing) }
+{
+    if is_stored {
+        Awaited::Adoption
+    } else {
+        Awaited::Storing
     }
 }
 
