@@ -1,5 +1,5 @@
 -- Each entry of a log fits behind those before it.
-use Rattle.std.proofs.Common.{◌≡◌, ℕ, ◌<◌, Bool, true, false, List, length, get_or, take, refl, sym, ◌∙◌}
+use Rattle.std.proofs.Common.{◌≡◌, ℕ, ◌<◌, Bool, true, false, List, length, get_or, take, refl, ◌∙◌}
 use Rattle.curp_cmd.specs.declared.entry.Entry.{Entry}
 use Rattle.curp_log.proofs.Calls.{refused, same_fit}
 use Rattle.curp_model.specs.Log.{fits_at, is_log, meaning}

@@ -1,5 +1,5 @@
 -- What a recovery has so far, as the definitions have it.
-use Rattle.std.specs.Prelude.{◌≡◌, ℕ, true, List, Option, Some, None, ⊤}
+use Rattle.std.specs.Prelude.{◌≡◌, true, List, Option, Some, None, ⊤}
 use Rattle.curp_cmd.specs.declared.entry.Entry.{Entry}
 use Rattle.curp_model.specs.Log.{is_log}
 use Rattle.curp_model.specs.Recovery.{RecoveryPhase, Asking, Storing, Waiting, Replayed}

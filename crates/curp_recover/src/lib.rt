@@ -8,6 +8,8 @@ mod phase;
 mod recovery;
 mod replay;
 mod stage;
+#[cfg(test)]
+mod tests;
 
 pub use error::RecoverError;
 pub use phase::Phase;

@@ -19,8 +19,7 @@ use curp_base::{Items, NoMemory, TryCopy, copies_of};
 use curp_cmd::{Entry, NodeId, Request, RequestId};
 use curp_log::{Log, is_log};
 use curp_msg::{AppendAnswer, Appended, Body, Done, FenceReply, Local, Message, Recover, Refusal};
-use std::alloc::AllocError;
-use std::alloc::Global;
+use std::alloc::{AllocError, Global};
 use std::marker::Model;
 
 /// A master that recovers a partition (after CURP's recovery). Contracts see its number and its state.
@@ -337,11 +336,7 @@ impl Recovery {
         is_log(self.alloc, self.order.lo, self.order.hi, entries)
     }
 
-    fn on_frozen_answer(
-        &mut self,
-        from: &NodeId,
-        requests: &[Request],
-    ) -> Result<Done, NoMemory>
+    fn on_frozen_answer(&mut self, from: &NodeId, requests: &[Request]) -> Result<Done, NoMemory>
         ensures moves { Moves self.old self.new result (numbered_move self.old.number
             (requests_come self.old.number self.old.state from.now requests.now self.old.state.phase)) }
     {

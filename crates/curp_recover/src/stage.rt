@@ -89,7 +89,7 @@ impl ReplayedLog {
         ensures ok { OnOk result (replayed_of self.new ≡ with_complete (replayed_of self.old) backup.now) }
         ensures told { IfOk result (λ told. told.items
             ≡ (if all_complete order.now (with_complete (replayed_of self.old) backup.now)
-               then recovered_message number order.now else [])) }
+            then recovered_message number order.now else [])) }
         ensures err { OnErr result (replayed_of self.new ≡ replayed_of self.old) }
         ensures log { self.new.log ≡ self.old.log }
     {
