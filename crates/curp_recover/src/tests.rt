@@ -39,13 +39,13 @@ enum Said {
     Another,
 }
 
-// A recovery for that many backups, which begin with backup 2, of the hashes up to one, with what comes and what it says
+// A recovery for those backups, of the hashes up to one, with what comes and what it says
 // then.
-type Case = (u32, u64, &'static [(Comes, &'static [Said])]);
+type Case = (&'static [u32], u64, &'static [(Comes, &'static [Said])]);
 
 const CASES: [Case; 5] = [
     (
-        1,
+        &[2],
         u64::MAX,
         &[
             (Comes::Again, &[Said::Fence(1), Said::Freeze(1)]),
@@ -59,7 +59,7 @@ const CASES: [Case; 5] = [
         ],
     ),
     (
-        1,
+        &[2],
         u64::MAX,
         &[
             (Comes::Frozen(1, &[1, 2, 3, 3]), &[]),
@@ -74,7 +74,7 @@ const CASES: [Case; 5] = [
         ],
     ),
     (
-        2,
+        &[2, 3],
         u64::MAX,
         &[
             (Comes::Log(1, &[1]), &[]),
@@ -89,7 +89,7 @@ const CASES: [Case; 5] = [
         ],
     ),
     (
-        1,
+        &[2],
         u64::MAX,
         &[
             (Comes::Log(2, &[1]), &[]),
@@ -103,7 +103,7 @@ const CASES: [Case; 5] = [
         ],
     ),
     (
-        1,
+        &[2],
         0,
         &[
             (Comes::Log(1, &[1]), &[]),
@@ -130,7 +130,7 @@ fn says_what_it_should(rt: HostRuntime) -> Result<(), Fail> {
 #[test]
 fn replays_behind_the_log(rt: HostRuntime) -> Result<(), Fail> {
     let alloc = rt.alloc();
-    let mut recovery = begin(&rt, alloc, 1, u64::MAX)?;
+    let mut recovery = begin(&rt, alloc, &[2], u64::MAX)?;
     let adopted = message(alloc, Comes::Adopted)?;
     for comes in [
         Comes::Log(1, &[7, 1]),
@@ -162,7 +162,7 @@ fn recovers_ten_thousand_entries(rt: HostRuntime) -> Result<(), Fail> {
             acknowledge: 0,
         })?;
     }
-    let mut recovery = begin(&rt, alloc, 1, u64::MAX)?;
+    let mut recovery = begin(&rt, alloc, &[2], u64::MAX)?;
     let whole = from(NodeId::backup(1), log_of(entries));
     assert!(rt; said_by(alloc, &recovery.on_message(&whole)?)?.is_empty());
     for (comes, expected) in [
@@ -195,10 +195,10 @@ fn numbers(alloc: Global, log: &Log) -> Result<Vec<u32>, NoMemory> {
 }
 
 // Master 2 recovers from backup 1 and witness 1.
-fn begin(rt: &impl Abort, alloc: Global, backups: u32, hi: u64) -> Result<Recovery, Fail> {
+fn begin(rt: &impl Abort, alloc: Global, backups: &[u32], hi: u64) -> Result<Recovery, Fail> {
     let mut nodes = Vec::new(alloc);
-    for number in 0..backups {
-        nodes.push(NodeId::backup(number + 2))?;
+    for number in backups {
+        nodes.push(NodeId::backup(*number))?;
     }
     let order = Recover {
         part: 1,
@@ -254,29 +254,53 @@ fn told(message: &Message) -> Said {
 }
 
 fn message(alloc: Global, comes: Comes) -> Result<Message, Fail> {
-    Ok(match comes {
-        Comes::Log(backup, seqs) => from(NodeId::backup(backup), log_of(puts(alloc, seqs)?)),
-        Comes::Frozen(witness, seqs) => {
-            let requests = Items::new(requests(alloc, seqs)?);
-            from(NodeId::witness(witness), Body::FrozenAnswer { requests })
-        }
+    match comes {
+        Comes::Log(backup, seqs) => log_message(alloc, backup, seqs),
+        Comes::Frozen(witness, seqs) => frozen_message(alloc, witness, seqs),
         Comes::Stored(backup, length, round) => {
-            appended(backup, round, AppendAnswer::Stored { length })
+            Ok(appended(backup, round, AppendAnswer::Stored { length }))
         }
-        Comes::Gap(backup) => appended(backup, 1, AppendAnswer::Gap { length: 9 }),
-        Comes::Update(seq) => from(NodeId::client(1), Body::Update(ask(alloc, put(seq)?)?)),
-        Comes::Sync(seq) => from(NodeId::client(1), Body::Sync(ask(alloc, put(seq)?)?)),
-        Comes::Read(seq) => from(NodeId::client(1), Body::Read(ask(alloc, get(seq)?)?)),
-        Comes::Misread(seq) => from(NodeId::client(1), Body::Read(ask(alloc, put(seq)?)?)),
-        Comes::Adopted | Comes::Again => from(
-            NodeId::manager(),
-            Body::Adopted(Adopted {
-                part: 1,
-                epoch: 2,
-                version: 2,
-            }),
-        ),
-    })
+        Comes::Gap(backup) => Ok(appended(backup, 1, AppendAnswer::Gap { length: 9 })),
+        Comes::Update(seq) => update_message(alloc, seq),
+        Comes::Sync(seq) => sync_message(alloc, seq),
+        Comes::Read(seq) => read_message(alloc, get(seq)?),
+        Comes::Misread(seq) => read_message(alloc, put(seq)?),
+        Comes::Adopted | Comes::Again => Ok(adopted()),
+    }
+}
+
+fn log_message(alloc: Global, backup: u32, seqs: &[u32]) -> Result<Message, Fail> {
+    let entries = puts(alloc, seqs)?;
+    Ok(from(NodeId::backup(backup), log_of(entries)))
+}
+
+fn frozen_message(alloc: Global, witness: u32, seqs: &[u32]) -> Result<Message, Fail> {
+    let requests = Items::new(requests(alloc, seqs)?);
+    Ok(from(NodeId::witness(witness), Body::FrozenAnswer { requests }))
+}
+
+fn update_message(alloc: Global, seq: u32) -> Result<Message, Fail> {
+    let ask = ask(alloc, put(seq)?)?;
+    Ok(from(NodeId::client(1), Body::Update(ask)))
+}
+
+fn sync_message(alloc: Global, seq: u32) -> Result<Message, Fail> {
+    let ask = ask(alloc, put(seq)?)?;
+    Ok(from(NodeId::client(1), Body::Sync(ask)))
+}
+
+fn read_message(alloc: Global, request: Request) -> Result<Message, Fail> {
+    let ask = ask(alloc, request)?;
+    Ok(from(NodeId::client(1), Body::Read(ask)))
+}
+
+fn adopted() -> Message {
+    let adopted = Adopted {
+        part: 1,
+        epoch: 2,
+        version: 2,
+    };
+    from(NodeId::manager(), Body::Adopted(adopted))
 }
 
 fn from(from: NodeId, body: Body) -> Message {
@@ -317,9 +341,12 @@ fn puts(alloc: Global, seqs: &[u32]) -> Result<Vec<Entry>, Fail> {
 }
 
 fn requests(alloc: Global, seqs: &[u32]) -> Result<Vec<Request>, Fail> {
+    let entries = puts(alloc, seqs)?;
     let mut requests = Vec::new(alloc);
-    for seq in seqs {
-        requests.push(put(*seq)?)?;
+    for entry in &entries {
+        if let Entry::Op { request, .. } = entry {
+            requests.push(*request)?;
+        }
     }
     Ok(requests)
 }
