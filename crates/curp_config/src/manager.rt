@@ -129,7 +129,8 @@ impl Manager {
     fn told_to_recover(&mut self, part: u32, backup: u32, witness: u32) -> Result<Done, NoMemory>
         ensures moves { Moves self.old self.new result
             (model.manager_ordered self.old (local.Recover part backup witness)) }
-        ensures refused { (model.manager_ordered self.old (local.Recover part backup witness)).refused ≢ 0 → IsOk result }
+        ensures refused { (model.manager_ordered self.old (local.Recover part backup witness)).refused ≢ 0
+            → IsOk result }
     {
         match self.recover(part, backup, witness) {
             Ok(done) => Ok(done),

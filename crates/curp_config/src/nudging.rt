@@ -35,7 +35,8 @@ impl Manager {
     // What may have been lost of each partition.
     fn nudge_parts(&self) -> Result<Vec<Message>, NoMemory>
         ensures { IfOk result (λ messages. messages.items
-            ≡ flat_map (λ (c : PartConfig). model.nudge_part c (numbered self.now.doing c.part)) self.now.config.parts) }
+            ≡ flat_map (λ (c : PartConfig). model.nudge_part c (numbered self.now.doing c.part))
+            self.now.config.parts) }
     {
         let mut messages = Vec::new(self.alloc);
         for part in self.config.parts.as_slice() {

@@ -35,7 +35,8 @@ impl Manager {
     pub fn recover(&mut self, part: u32, backup: u32, witness: u32) -> Result<Done, RecoverError>
         ensures moves { Moves self.old self.new result
             (model.manager_ordered self.old (local.Recover part backup witness)) }
-        ensures refused { TellsRecover (model.manager_ordered self.old (local.Recover part backup witness)).refused result }
+        ensures refused { TellsRecover
+            (model.manager_ordered self.old (local.Recover part backup witness)).refused result }
         ensures named { IfErr result (NamesPlaces backup witness) }
     {
         let next = self.numbers_after_recovery();

@@ -119,7 +119,8 @@ impl Manager {
 
     // The entry of the first partition that is being given lists of that version, with the lists.
     fn prepared_part(&self, version: u32) -> Result<Option<PartConfig>, NoMemory>
-        ensures part { IfOk result (λ found. found ≡ option_map prepared_part (model.version_in_work self.now version)) }
+        ensures part { IfOk result (λ found. found
+            ≡ option_map prepared_part (model.version_in_work self.now version)) }
         ensures numbered { IfOk result (λ found. IfSome found (IsNumbered self.now.shape.parts)) }
     {
         for part in self.config.parts.as_slice() {

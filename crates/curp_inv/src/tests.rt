@@ -125,17 +125,37 @@ const WITNESS: [(Comes, &[Said]); 10] = [
 ];
 
 #[test]
-fn each_node_answers_what_comes(rt: HostRuntime) -> Result<(), Fail> {
+fn a_client_answers_what_comes(rt: HostRuntime) -> Result<(), Fail> {
     let alloc = rt.alloc();
     let mut client = ClientNode::new(alloc, 2, true, config(alloc)?);
-    try_rows(&rt, alloc, &mut client, &CLIENT)?;
+    try_rows(&rt, alloc, &mut client, &CLIENT)
+}
+
+#[test]
+fn a_client_completes_an_update_at_once(rt: HostRuntime) -> Result<(), Fail> {
+    let alloc = rt.alloc();
     let mut client = ClientNode::new(alloc, 1, true, config(alloc)?);
-    try_rows(&rt, alloc, &mut client, &FAST)?;
+    try_rows(&rt, alloc, &mut client, &FAST)
+}
+
+#[test]
+fn a_master_answers_what_comes(rt: HostRuntime) -> Result<(), Fail> {
+    let alloc = rt.alloc();
     let (backups, witnesses) = (backups(alloc)?, witnesses(alloc)?);
     let mut master = MasterNode::new(alloc, 1, backups, witnesses, 0, u64::MAX)?;
-    try_rows(&rt, alloc, &mut master, &MASTER)?;
+    try_rows(&rt, alloc, &mut master, &MASTER)
+}
+
+#[test]
+fn a_backup_answers_what_comes(rt: HostRuntime) -> Result<(), Fail> {
+    let alloc = rt.alloc();
     let mut backup = BackupNode::new(alloc, 1, 1);
-    try_rows(&rt, alloc, &mut backup, &BACKUP)?;
+    try_rows(&rt, alloc, &mut backup, &BACKUP)
+}
+
+#[test]
+fn a_witness_answers_what_comes(rt: HostRuntime) -> Result<(), Fail> {
+    let alloc = rt.alloc();
     let mut witness = WitnessNode::new(alloc, 1, 16, 4, 1)?;
     try_rows(&rt, alloc, &mut witness, &WITNESS)
 }

@@ -54,7 +54,8 @@ impl Master {
 
     // By the last package that was taken.
     fn retold_take(&self, take: &TakeOut) -> Result<Retelling, NoMemory>
-        ensures { IfOk result (λ told. take_after self.now.number self.now.state take.now (state_of self.now.state).taken
+        ensures { IfOk result (λ told. take_after self.now.number self.now.state take.now
+            (state_of self.now.state).taken
             ≡ by_retelling self.now.number self.now.state (push_take self.now.number self.now.state take.now) told) }
     {
         match self.journal.log().package() {

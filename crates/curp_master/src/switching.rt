@@ -1,5 +1,6 @@
 ghost use Rattle.std.specs.Prelude.{◌≡◌, IfOk, OnOk, OnErr};
-ghost use Rattle.curp_model.specs.Master.{Switching, adopted_in, begins_round, prepare_in, prepared_message, switch_to, sync_in};
+ghost use Rattle.curp_model.specs.Master.{Switching, adopted_in, begins_round, prepare_in, prepared_message};
+ghost use Rattle.curp_model.specs.Master.{switch_to, sync_in};
 ghost use Rattle.curp_msg.specs.Moved.{Moves};
 ghost use Rattle.curp_master.specs.Backups.{stored_by_all};
 ghost use Rattle.curp_master.specs.Built.{move_of};
@@ -35,8 +36,8 @@ impl Master {
     }
 
     fn sync_prepared(&mut self, version: u32) -> Result<Done, NoMemory>
-        ensures moves { Moves self.old self.new result
-            (move_of self.old (rounds_behind self.old.number self.old.state (prepared_message self.old.number version))) }
+        ensures moves { Moves self.old self.new result (move_of self.old
+            (rounds_behind self.old.number self.old.state (prepared_message self.old.number version))) }
     {
         let Some(mut round) = self.next_round(&[])? else {
             return Ok(Done::quiet(self.alloc));

@@ -1,5 +1,5 @@
 -- How much of an input a master pushes, and what is marked of it.
-use Rattle.std.proofs.Common.{◌≡◌, ◌≢◌, ◌<◌, ℕ, zero, suc, ◌+◌, ◌-◌, ◌≤◌, Bool, true, false, if◌then◌else◌, not, ◌&&◌, ◌||◌, nat_le, nat_lt, List, [], ◌∷◌, ◌++◌, drop, length, map, Option, Some, None, is_some, Result, Ok, Err, append-nil, length-append, arith, refl, ap, sym, ◌∙◌, subst}
+use Rattle.std.proofs.Common.{◌≡◌, ◌≢◌, ◌<◌, ℕ, zero, suc, ◌+◌, ◌≤◌, Bool, true, false, if◌then◌else◌, not, ◌&&◌, ◌||◌, nat_le, nat_lt, List, [], ◌∷◌, ◌++◌, drop, length, map, Option, Some, None, is_some, Result, Ok, Err, append-nil, length-append, arith, refl, ap, sym, ◌∙◌, subst}
 use Rattle.std.proofs.lemmas.Bool.{cond_both}
 use Rattle.std.proofs.lemmas.Bool.Decides.{nat_tests}
 use Rattle.std.specs.List.{filter, list_any}
@@ -8,7 +8,6 @@ use Rattle.std.specs.declared.alloc.AllocError.{AllocError}
 use Rattle.curp_base.specs.Words.{Each, numbered, numbers_from, rises_past}
 use Rattle.curp_cmd.specs.Node.{is_among, master_node, same_kind, same_node}
 use Rattle.curp_cmd.specs.declared.command.Request.{Request}
-use Rattle.curp_cmd.specs.declared.entry.Entry.{Entry}
 use Rattle.curp_cmd.specs.declared.entry.Entry.TheVariants.{Op}
 use Rattle.curp_cmd.specs.declared.node.NodeId.{NodeId}
 use Rattle.curp_cmd.specs.declared.node.NodeKind.{NodeKind}
@@ -35,7 +34,7 @@ use Rattle.curp_msg.specs.declared.machine.Input.{Input}
 use Rattle.curp_msg.specs.declared.machine.Input.TheVariants as input
 use Rattle.curp_msg.specs.declared.machine.Local.TheVariants as local
 use Rattle.curp_world.specs.Given.{IsFor}
-use Rattle.curp_world.specs.Marks.{IsFew, adopted_marks, captured_of, log_of, master_at, most_by_message, most_marks, stage_marks}
+use Rattle.curp_world.specs.Marks.{IsFew, adopted_marks, captured_of, log_of, master_at, most_by_message, most_marks}
 use Rattle.curp_world.specs.Nodes.{nodes_of, with_nodes}
 use Rattle.curp_world.proofs.Giving.{set_there}
 

@@ -7,12 +7,12 @@ use Rattle.curp_script.specs.Headers.{bad_field, is_within}
 use Rattle.curp_script.specs.declared.error.FieldName.TheVariants.{Clients, F, Fast, Parts, Sets, Ways}
 use Rattle.curp_msg.specs.declared.script.Header.{Header}
 use Rattle.curp_msg.specs.declared.script.Step.{Step}
-use Rattle.curp_facts.specs.Built.{CanStep, IsScript}
+use Rattle.curp_facts.specs.Built.{CanStep}
 use Rattle.curp_facts.specs.Run.{IsHeader, IsStep}
 use Rattle.curp_msg.specs.declared.script.Protocol.{Protocol}
 use Rattle.curp_msg.specs.declared.script.Protocol.TheVariants.{One}
 use Rattle.curp_script.specs.declared.error.FieldName.{FieldName}
-use Rattle.curp_model.specs.World.{World, step, run, opening, world}
+use Rattle.curp_model.specs.World.{World, step, run, opening}
 use Rattle.curp_world.specs.Reached.{Reached}
 
 pub run_more : (w : World) (ss : List Step) (s : Step) → run w (ss ++ s ∷ []) ≡ (step (run w ss) s).world

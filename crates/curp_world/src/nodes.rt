@@ -87,8 +87,8 @@ impl Nodes {
         requires built { IsFor to.kind to.number (input_of given.now) }
         ensures moves { (w : World) → Moves self.old self.new result
             (within nodes_of (world.moves (with_nodes w self.old) to (input_of given.now))) }
-        ensures few { IsFew (master_at to.kind to.number self.old.masters) (master_at to.kind to.number self.new.masters)
-            (most_marks (input_of given.now)) }
+        ensures few { IsFew (master_at to.kind to.number self.old.masters)
+            (master_at to.kind to.number self.new.masters) (most_marks (input_of given.now)) }
         ensures refused { IfOk result (λ done. done.refused ≢ 0 → self.new ≡ self.old) }
     {
         match to.kind {

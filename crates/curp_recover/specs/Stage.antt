@@ -1,0 +1,35 @@
+-- What a recovery has so far, as the definitions have it.
+use Rattle.std.specs.Prelude.{◌≡◌, true, List, Option, Some, None, ⊤}
+use Rattle.curp_cmd.specs.declared.entry.Entry.{Entry}
+use Rattle.curp_model.specs.Log.{is_log}
+use Rattle.curp_model.specs.Recovery.{RecoveryPhase, Asking, Storing, Waiting, Replayed}
+use Rattle.curp_msg.specs.declared.body.Recover.{Recover}
+use Rattle.curp_recover.specs.declared.stage.Awaited.{Awaited}
+use Rattle.curp_recover.specs.declared.stage.Awaited.TheVariants as awaited
+use Rattle.curp_recover.specs.declared.stage.ReplayedLog.{ReplayedLog}
+use Rattle.curp_recover.specs.declared.stage.Stage.{Stage}
+use Rattle.curp_recover.specs.declared.stage.Stage.TheVariants as stage
+
+-- a replayed log
+abbrev pub replayed_of : ReplayedLog → Replayed
+replayed_of r = record { log = r.log.entries; cut = r.cut; round = r.round; complete = r.complete.items }
+
+-- the phase of a replayed log, by what it waits for
+abbrev pub replayed_phase : ReplayedLog → Awaited → RecoveryPhase
+replayed_phase r awaited.Storing = Storing (replayed_of r)
+replayed_phase r awaited.Adoption = Waiting (replayed_of r)
+
+-- the phase
+abbrev pub phase_of : Stage → RecoveryPhase
+phase_of (stage.Asking log requests) = Asking log requests
+phase_of (stage.Replayed replayed awaited) = replayed_phase replayed awaited
+
+-- what came as the log is one, from the order's range
+abbrev pub IsLogOf : Recover → Option (List Entry) → Type 0
+IsLogOf o None = ⊤
+IsLogOf o (Some entries) = is_log o.lo o.hi entries ≡ true
+
+-- a log that came is one, and a replayed log is from the order's range
+abbrev pub IsStage : Recover → Stage → Type 0
+IsStage o (stage.Asking log requests) = IsLogOf o log
+IsStage o (stage.Replayed replayed awaited) = (replayed.log.lo ≡ o.lo) × (replayed.log.hi ≡ o.hi)

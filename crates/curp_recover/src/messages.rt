@@ -1,0 +1,124 @@
+ghost use Rattle.std.specs.Prelude.{◌≡◌, ◌∷◌, ◌++◌, [], if◌then◌else◌, IfOk};
+ghost use Rattle.curp_cmd.specs.Node.{master_node};
+ghost use Rattle.curp_model.specs.Master.{refuse};
+ghost use Rattle.curp_model.specs.Recovery.{fence_of, freeze_of, recovered_message, unanswered_log, unanswered_requests};
+ghost use Rattle.curp_msg.specs.Moved.{says, says_each};
+
+use curp_base::{Items, NoMemory, copies_of};
+use curp_cmd::{Entry, NodeId, Request, RequestId};
+use curp_msg::{Append, Body, Message, Recover, Recovered, Refusal, Refuse};
+use std::alloc::Global;
+
+/// The backup is asked for its log.
+pub fn fence(number: u32, order: &Recover) -> Message
+    ensures { result ∷ [] ≡ fence_of number order.now }
+{
+    Message {
+        from: NodeId::master(number),
+        to: order.backup,
+        body: Body::Fence { epoch: order.epoch },
+    }
+}
+
+/// The witness is asked for what it holds.
+pub fn freeze(number: u32, order: &Recover) -> Message
+    ensures { result ∷ [] ≡ freeze_of number order.now }
+{
+    Message {
+        from: NodeId::master(number),
+        to: order.witness,
+        body: Body::Freeze { epoch: order.epoch },
+    }
+}
+
+/// The manager is told that all is stored.
+pub fn recovered(number: u32, order: &Recover) -> Message
+    ensures { result ∷ [] ≡ recovered_message number order.now }
+{
+    Message {
+        from: NodeId::master(number),
+        to: NodeId::manager(),
+        body: Body::Recovered(Recovered {
+            part: order.part,
+            epoch: order.epoch,
+        }),
+    }
+}
+
+/// A request isn't answered.
+pub fn refuse(number: u32, id: RequestId, refusal: Refusal) -> Message
+    ensures { result ≡ refuse number id refusal }
+{
+    Message {
+        from: NodeId::master(number),
+        to: NodeId::client(id.client),
+        body: Body::Refuse(Refuse { id, refusal }),
+    }
+}
+
+/// What is asked for and isn't there yet.
+pub fn unanswered(
+    alloc: Global,
+    number: u32,
+    order: &Recover,
+    log: &Option<Items<Entry>>,
+    requests: &Option<Items<Request>>,
+) -> Result<Vec<Message>, NoMemory>
+    ensures { IfOk result (λ messages. messages.items
+        ≡ unanswered_log number order.now log.now ++ unanswered_requests number order.now requests.now) }
+{
+    let mut messages = Vec::with_capacity(alloc, 2)?;
+    if log.is_none() {
+        messages.push(fence(number, order))?;
+    }
+    if requests.is_none() {
+        messages.push(freeze(number, order))?;
+    }
+    Ok(messages)
+}
+
+/// The manager is told, if all is stored.
+pub fn told(
+    alloc: Global,
+    number: u32,
+    order: &Recover,
+    is_stored: bool,
+) -> Result<Vec<Message>, NoMemory>
+    ensures { IfOk result (λ messages. messages.items
+        ≡ (if is_stored then recovered_message number order.now else [])) }
+{
+    let mut messages = Vec::new(alloc);
+    if is_stored {
+        messages.push(recovered(number, order))?;
+    }
+    Ok(messages)
+}
+
+/// The whole log to each of these backups.
+pub fn appends(
+    alloc: Global,
+    number: u32,
+    epoch: u32,
+    round: u64,
+    log: &[Entry],
+    backups: &[NodeId],
+) -> Result<Vec<Message>, NoMemory>
+    ensures { IfOk result (λ messages. messages.items ≡ says_each (master_node number) backups.now
+        (Body.Append (record { epoch = epoch; base = 0; round = round; entries = log.now }))) }
+{
+    let mut messages = Vec::with_capacity(alloc, backups.len())?;
+    for backup in backups {
+        let entries = Items::new(copies_of(alloc, log)?);
+        messages.push(Message {
+            from: NodeId::master(number),
+            to: *backup,
+            body: Body::Append(Append {
+                epoch,
+                base: 0,
+                round,
+                entries,
+            }),
+        })?;
+    }
+    Ok(messages)
+}

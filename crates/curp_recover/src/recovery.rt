@@ -1,0 +1,434 @@
+ghost use Rattle.std.specs.Prelude.{◌≡◌, ◌&&◌, true, IfOk, IfErr};
+ghost use Rattle.std.specs.Option.{option_map};
+ghost use Rattle.std.specs.Result.{result_ok};
+ghost use Rattle.curp_model.specs.Log.{is_log};
+ghost use Rattle.curp_cmd.specs.Node.{same_node};
+ghost use Rattle.curp_model.specs.Recovery.{Recovering, again_in, append_answered, both_there, fence_answered};
+ghost use Rattle.curp_model.specs.Recovery.{log_comes, on_master, on_recover, recovery_ordered, requests_come};
+ghost use Rattle.curp_model.specs.Recovery.{stored_comes, turns_away, turns_read_away};
+ghost use Rattle.curp_msg.specs.Moved.{Makes, Moves, done_of, numbered_move};
+ghost use Rattle.curp_recover.specs.Answers.{TellsIgnored, awaits_backups, awaits_log, awaits_requests};
+ghost use Rattle.curp_recover.specs.Stage.{IsStage, phase_of};
+ghost use Rattle.curp_recover.specs.Answers.{finished_log, phase_name, replayed_in, round_in};
+ghost use Rattle.curp_recover.specs.Heard.{heard, is_serving, unadopted};
+
+use crate::replay::replayed;
+use crate::stage::{Awaited, ReplayedLog, Stage, awaited_after};
+use crate::{Phase, RecoverError, messages};
+use curp_base::{Items, NoMemory, TryCopy, copies_of};
+use curp_cmd::{Entry, NodeId, Request, RequestId};
+use curp_log::{Log, is_log};
+use curp_msg::{AppendAnswer, Appended, Body, Done, FenceReply, Local, Message, Recover, Refusal};
+use std::alloc::{AllocError, Global};
+use std::marker::Model;
+
+/// A master that recovers a partition (after CURP's recovery). Contracts see its number and its state.
+#[derive(Drop)]
+pub struct Recovery {
+    alloc: Global,
+    number: u32,
+    order: Recover,
+    stage: Stage,
+}
+
+impl Model for Recovery {
+    ghost use Rattle.curp_model.specs.Recovery.{RecoveryState};
+    ghost use Rattle.curp_msg.specs.Moved.{Node};
+    ghost use Rattle.curp_recover.specs.Stage.{IsStage, phase_of};
+
+    ghost Value = { Node RecoveryState };
+
+    ghost view = { λ r. record { number = r.number; state = record { order = r.order; phase = phase_of r.stage } } };
+
+    ghost invariant = { λ r. IsStage r.order r.stage };
+}
+
+impl Recovery {
+    /// Master `number` gets its order, and asks the backup and the witness that it names.
+    #[tactic(auto, unfolding(curp_model::specs::Recovery::on_recover))]
+    pub fn begin(alloc: Global, number: u32, order: &Recover) -> Result<(Recovery, Done), NoMemory>
+        ensures { IfOk result (λ begun. Makes begun.0 begun.1 (numbered_move number (on_recover number order.now))) }
+    {
+        let order = order.try_copy(alloc)?;
+        let asked = messages::unanswered(alloc, number, &order, &None, &None)?;
+        let stage = Stage::Asking {
+            log: None,
+            requests: None,
+        };
+        let recovery = Recovery {
+            alloc,
+            number,
+            order,
+            stage,
+        };
+        Ok((recovery, Done::sends(asked)))
+    }
+
+    /// A message comes. Its addressee isn't looked at. By its adoption it would begin to serve: there it does nothing, and
+    /// its caller asks before, by `is_adopted_by`.
+    #[tactic(auto, unfolding(curp_model::specs::Recovery::on_master))]
+    pub fn on_message(&mut self, message: &Message) -> Result<Done, NoMemory>
+        ensures moves { Moves self.old self.new result (numbered_move self.old.number
+            (unadopted self.old.number self.old.state message.now.from message.now.body)) }
+    {
+        match &message.body {
+            Body::FenceAnswer(answer) => self.on_fence_answer(&message.from, &answer.answer),
+            Body::FrozenAnswer { requests } => {
+                self.on_frozen_answer(&message.from, requests.as_slice())
+            }
+            Body::Appended(appended) => self.on_appended(&message.from, appended),
+            Body::Update(ask) => self.turn_away(&ask.get().request.id),
+            Body::Sync(ask) => self.turn_away(&ask.get().request.id),
+            Body::Read(ask) => self.turn_read_away(&ask.get().request),
+            _ => Ok(Done::quiet(self.alloc)),
+        }
+    }
+
+    /// An order comes. It refuses none.
+    pub fn on_order(&mut self, order: &Local) -> Result<Done, NoMemory>
+        ensures moves { Moves self.old self.new result (numbered_move self.old.number
+            (recovery_ordered self.old.number self.old.state order.now)) }
+    {
+        match order {
+            Local::Sync => heard(self.alloc, self.again()),
+            _ => Ok(Done::quiet(self.alloc)),
+        }
+    }
+
+    /// Whether it begins to serve by that message. Then `finish` gives the log to serve with.
+    #[tactic(auto, unfolding(curp_model::specs::Recovery::on_master))]
+    pub fn is_adopted_by(&self, message: &Message) -> bool
+        ensures { result ≡ is_serving
+            (on_master self.now.number (Recovering self.now.state) message.now.from message.now.body).state }
+    {
+        match &message.body {
+            Body::Adopted(_) => self.phase() == Phase::Waiting,
+            _ => false,
+        }
+    }
+
+    /// The log of the named backup comes. Once the requests are there too, the replayed log goes to each fresh backup.
+    pub fn on_log(&mut self, entries: Vec<Entry>) -> Result<Done, RecoverError>
+        requires is_log { is_log self.old.state.order.lo self.old.state.order.hi entries.items ≡ true }
+        ensures moves { Moves self.old self.new result (numbered_move self.old.number
+            (log_comes self.old.number self.old.state self.old.state.order.backup entries.items self.old.state.phase)) }
+        ensures ignored { TellsIgnored (awaits_log self.old.state.phase) (phase_name self.old.state.phase) result }
+    {
+        match &self.stage {
+            Stage::Asking {
+                log: None,
+                requests: None,
+            } => {
+                self.stage = Stage::Asking {
+                    log: Some(Items::new(entries)),
+                    requests: None,
+                };
+                Ok(Done::quiet(self.alloc))
+            }
+            Stage::Asking {
+                log: None,
+                requests: Some(requests),
+            } => {
+                let (stage, done) = self.storing(&entries, requests.as_slice())?;
+                self.stage = stage;
+                Ok(done)
+            }
+            _ => Err(self.ignored()),
+        }
+    }
+
+    /// The requests of the named witness come. Once the log is there too, the replayed log goes to each fresh backup.
+    pub fn on_frozen(&mut self, requests: Vec<Request>) -> Result<Done, RecoverError>
+        ensures moves { Moves self.old self.new result (numbered_move self.old.number
+            (requests_come self.old.number self.old.state self.old.state.order.witness requests.items self.old.state.phase)) }
+        ensures ignored { TellsIgnored (awaits_requests self.old.state.phase) (phase_name self.old.state.phase) result }
+    {
+        match &self.stage {
+            Stage::Asking {
+                log: None,
+                requests: None,
+            } => {
+                self.stage = Stage::Asking {
+                    log: None,
+                    requests: Some(Items::new(requests)),
+                };
+                Ok(Done::quiet(self.alloc))
+            }
+            Stage::Asking {
+                log: Some(log),
+                requests: None,
+            } => {
+                let (stage, done) = self.storing(log.as_slice(), &requests)?;
+                self.stage = stage;
+                Ok(done)
+            }
+            _ => Err(self.ignored()),
+        }
+    }
+
+    /// A backup has stored so much of the log. Once each fresh backup has the whole of it, the manager is told. The round
+    /// takes no part, since a whole log is stored whichever append brought it.
+    pub fn on_stored(
+        &mut self,
+        backup: &NodeId,
+        length: u64,
+        round: u64,
+    ) -> Result<Done, RecoverError>
+        ensures moves { Moves self.old self.new result (numbered_move self.old.number
+            (stored_comes self.old.number self.old.state backup.now length self.old.state.phase)) }
+        ensures ignored { TellsIgnored (awaits_backups self.old.state.phase) (phase_name self.old.state.phase) result }
+    {
+        let (alloc, number, order) = (self.alloc, self.number, &self.order);
+        match &mut self.stage {
+            Stage::Replayed {
+                replayed,
+                awaited: awaited @ Awaited::Storing,
+            } => {
+                if !replayed.is_stored_by(order, backup, length) {
+                    return Ok(Done::quiet(alloc));
+                }
+                let is_last = replayed.is_last(order.backups.as_slice(), backup);
+                let told = replayed.complete_by(alloc, number, order, backup)?;
+                *awaited = awaited_after(is_last);
+                Ok(Done::sends(told))
+            }
+            _ => Err(self.ignored()),
+        }
+    }
+
+    /// What it waits for is asked, sent or told again. Appends go in a new round to the backups that aren't complete, and
+    /// none do where the number of the round would pass 2^64 - 1. It is never ignored.
+    pub fn again(&mut self) -> Result<Done, RecoverError>
+        ensures moves { Moves self.old self.new result (numbered_move self.old.number
+            (again_in self.old.number self.old.state self.old.state.phase)) }
+        ensures ignored { TellsIgnored true (phase_name self.old.state.phase) result }
+    {
+        let (alloc, number, order) = (self.alloc, self.number, &self.order);
+        let sent = match &mut self.stage {
+            Stage::Asking { log, requests } => {
+                messages::unanswered(alloc, number, order, log, requests)?
+            }
+            Stage::Replayed {
+                replayed,
+                awaited: Awaited::Storing,
+            } => replayed.send_again(alloc, number, order)?,
+            Stage::Replayed {
+                awaited: Awaited::Adoption,
+                ..
+            } => messages::told(alloc, number, order, true)?,
+        };
+        Ok(Done::sends(sent))
+    }
+
+    /// The log to serve with, once all fresh backups have it; else the recovery is given back. It takes no memory.
+    pub fn finish(self) -> Result<Log, Recovery>
+        ensures log { option_map (λ log. log.entries) (result_ok result) ≡ finished_log self.state.phase }
+        ensures lo { IfOk result (λ log. log.lo ≡ self.state.order.lo) }
+        ensures hi { IfOk result (λ log. log.hi ≡ self.state.order.hi) }
+        ensures back { IfErr result (λ same. same ≡ self) }
+    {
+        let Recovery {
+            alloc,
+            number,
+            order,
+            stage,
+        } = self;
+        match stage {
+            Stage::Replayed {
+                replayed,
+                awaited: Awaited::Adoption,
+            } => Ok(replayed.log),
+            stage => Err(Recovery {
+                alloc,
+                number,
+                order,
+                stage,
+            }),
+        }
+    }
+
+    pub fn phase(&self) -> Phase
+        ensures { result ≡ phase_name self.now.state.phase }
+    {
+        match &self.stage {
+            Stage::Asking { .. } => Phase::Asking,
+            Stage::Replayed {
+                awaited: Awaited::Storing,
+                ..
+            } => Phase::Storing,
+            Stage::Replayed {
+                awaited: Awaited::Adoption,
+                ..
+            } => Phase::Waiting,
+        }
+    }
+
+    /// The last round of appends that was begun, and 0 before the first.
+    pub fn round(&self) -> u64
+        ensures { result ≡ round_in self.now.state.phase }
+    {
+        match &self.stage {
+            Stage::Asking { .. } => 0,
+            Stage::Replayed { replayed, .. } => replayed.round,
+        }
+    }
+
+    /// The length of the log that the backup gave, once its requests are replayed.
+    pub fn cut(&self) -> Option<u64>
+        ensures { result ≡ option_map (λ r. r.cut) (replayed_in self.now.state.phase) }
+    {
+        match &self.stage {
+            Stage::Asking { .. } => None,
+            Stage::Replayed { replayed, .. } => Some(replayed.cut),
+        }
+    }
+
+    /// The replayed log, once there is one.
+    pub fn log(&self) -> Option<&Log>
+        ensures { option_map (λ log. log.now.entries) result
+            ≡ option_map (λ r. r.log) (replayed_in self.now.state.phase) }
+    {
+        match &self.stage {
+            Stage::Asking { .. } => None,
+            Stage::Replayed { replayed, .. } => Some(&replayed.log),
+        }
+    }
+
+    /// The order that it was given.
+    pub fn order(&self) -> &Recover
+        ensures { result.now ≡ self.now.state.order }
+    {
+        &self.order
+    }
+
+    pub fn number(&self) -> u32
+        ensures { result ≡ self.now.number }
+    {
+        self.number
+    }
+
+    // ---- messages
+
+    fn on_fence_answer(&mut self, from: &NodeId, answer: &FenceReply) -> Result<Done, NoMemory>
+        ensures moves { Moves self.old self.new result (numbered_move self.old.number
+            (fence_answered self.old.number self.old.state from.now answer.now)) }
+    {
+        let FenceReply::Log(entries) = answer else {
+            return Ok(Done::quiet(self.alloc));
+        };
+        if !self.takes_log(from, entries.as_slice())? {
+            return Ok(Done::quiet(self.alloc));
+        }
+        let entries = copies_of(self.alloc, entries.as_slice())?;
+        heard(self.alloc, self.on_log(entries))
+    }
+
+    // Whether it waits for a log, and this is one, from the named backup.
+    fn takes_log(&self, from: &NodeId, entries: &[Entry]) -> Result<bool, NoMemory>
+        ensures { IfOk result (λ takes. takes ≡ (awaits_log self.now.state.phase
+            && (same_node from.now self.now.state.order.backup
+            && is_log self.now.state.order.lo self.now.state.order.hi entries.now))) }
+    {
+        let awaits = matches!(&self.stage, Stage::Asking { log: None, .. });
+        if !awaits || *from != self.order.backup {
+            return Ok(false);
+        }
+        is_log(self.alloc, self.order.lo, self.order.hi, entries)
+    }
+
+    fn on_frozen_answer(&mut self, from: &NodeId, requests: &[Request]) -> Result<Done, NoMemory>
+        ensures moves { Moves self.old self.new result (numbered_move self.old.number
+            (requests_come self.old.number self.old.state from.now requests.now self.old.state.phase)) }
+    {
+        if *from != self.order.witness {
+            return Ok(Done::quiet(self.alloc));
+        }
+        let requests = Vec::from_slice(self.alloc, requests)?;
+        heard(self.alloc, self.on_frozen(requests))
+    }
+
+    fn on_appended(&mut self, from: &NodeId, appended: &Appended) -> Result<Done, NoMemory>
+        ensures moves { Moves self.old self.new result (numbered_move self.old.number
+            (append_answered self.old.number self.old.state from.now appended.now.answer)) }
+    {
+        match appended.answer {
+            AppendAnswer::Stored { length } => {
+                heard(self.alloc, self.on_stored(from, length, appended.round))
+            }
+            _ => Ok(Done::quiet(self.alloc)),
+        }
+    }
+
+    // A client is refused until the master is adopted.
+    fn turn_away(&self, id: &RequestId) -> Result<Done, NoMemory>
+        ensures { IfOk result (λ done. done ≡ done_of (turns_away self.now.number (Recovering self.now.state) id.now)) }
+    {
+        let refusal = messages::refuse(self.number, *id, Refusal::Switching);
+        Ok(Done::sends(vec![in self.alloc; refusal]?))
+    }
+
+    // A read too, but nothing else that is sent as one.
+    fn turn_read_away(&self, request: &Request) -> Result<Done, NoMemory>
+        ensures { IfOk result (λ done. done
+            ≡ done_of (turns_read_away self.now.number (Recovering self.now.state) request.now)) }
+    {
+        if request.command.is_update() {
+            return Ok(Done::quiet(self.alloc));
+        }
+        self.turn_away(&request.id)
+    }
+
+    // ----
+
+    fn ignored(&self) -> RecoverError
+        ensures { result ≡ RecoverError.Ignored (phase_name self.now.state.phase) }
+    {
+        RecoverError::Ignored {
+            phase: self.phase(),
+        }
+    }
+
+    // What is there once the log and the requests are, and the appends of the first round.
+    fn storing(&self, entries: &[Entry], requests: &[Request]) -> Result<(Stage, Done), NoMemory>
+        requires is_log { is_log self.now.state.order.lo self.now.state.order.hi entries.now ≡ true }
+        ensures stage { IfOk result (λ stored. IsStage self.now.state.order stored.0) }
+        ensures state { IfOk result (λ stored. record { order = self.now.state.order; phase = phase_of stored.0 }
+            ≡ (both_there self.now.number self.now.state.order (Some entries.now) (Some requests.now)).state) }
+        ensures done { IfOk result (λ stored. stored.1
+            ≡ done_of (both_there self.now.number self.now.state.order (Some entries.now) (Some requests.now))) }
+    {
+        let order = &self.order;
+        let log = replayed(self.alloc, order.lo, order.hi, entries, requests)?;
+        let backups = order.backups.as_slice();
+        let sent = messages::appends(
+            self.alloc,
+            self.number,
+            order.epoch,
+            1,
+            log.entries(),
+            backups,
+        )?;
+        let replayed = ReplayedLog {
+            log,
+            cut: entries.len() as u64,
+            round: 1,
+            complete: Vec::new(self.alloc),
+        };
+        let stage = Stage::Replayed {
+            replayed,
+            awaited: Awaited::Storing,
+        };
+        Ok((stage, Done::sends(sent)))
+    }
+}
+
+/// What isn't waited for is heard, and does nothing.
+fn heard(alloc: Global, told: Result<Done, RecoverError>) -> Result<Done, NoMemory>
+    ensures { result ≡ heard told }
+{
+    match told {
+        Ok(done) => Ok(done),
+        Err(RecoverError::Ignored { .. }) => Ok(Done::quiet(alloc)),
+        Err(RecoverError::NoMemory) => Err(AllocError),
+    }
+}

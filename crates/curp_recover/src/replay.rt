@@ -1,0 +1,63 @@
+ghost use Rattle.std.specs.Prelude.{◌≡◌, ◌≤◌, true, IfOk, OnOk};
+ghost use Rattle.curp_model.specs.Log.{is_log};
+ghost use Rattle.curp_model.specs.Recovery.{replay};
+
+use curp_base::NoMemory;
+use curp_cmd::{Entry, Request, room};
+use curp_log::Log;
+use curp_model::Check;
+use std::alloc::Global;
+
+/// The log with these entries, and behind them each of the requests that is replayed.
+pub fn replayed(
+    alloc: Global,
+    lo: u64,
+    hi: u64,
+    entries: &[Entry],
+    requests: &[Request],
+) -> Result<Log, NoMemory>
+    requires ordered { lo ≤ hi }
+    requires is_log { is_log lo hi entries.now ≡ true }
+    ensures lo { IfOk result (λ log. log.lo ≡ lo) }
+    ensures hi { IfOk result (λ log. log.hi ≡ hi) }
+    ensures entries { IfOk result (λ log. log.entries ≡ replay lo hi entries.now requests.now) }
+{
+    let mut log = restored(alloc, lo, hi, entries)?;
+    replay(&mut log, requests)?;
+    Ok(log)
+}
+
+/// The log with these entries.
+fn restored(alloc: Global, lo: u64, hi: u64, entries: &[Entry]) -> Result<Log, NoMemory>
+    requires ordered { lo ≤ hi }
+    requires is_log { is_log lo hi entries.now ≡ true }
+    ensures lo { IfOk result (λ log. log.lo ≡ lo) }
+    ensures hi { IfOk result (λ log. log.hi ≡ hi) }
+    ensures entries { IfOk result (λ log. log.entries ≡ entries.now) }
+{
+    let mut log = Log::begin(alloc, lo, hi)?;
+    for entry in entries {
+        log.reserve(room(entry))?;
+        log.push(entry.copy(alloc)?);
+    }
+    Ok(log)
+}
+
+/// Pushes each request that is new and whose hashes are owned, in order.
+fn replay(log: &mut Log, requests: &[Request]) -> Result<(), NoMemory>
+    ensures lo { log.new.lo ≡ log.old.lo }
+    ensures hi { log.new.hi ≡ log.old.hi }
+    ensures entries { OnOk result (log.new.entries ≡ replay log.old.lo log.old.hi log.old.entries requests.now) }
+{
+    for request in requests {
+        if log.check(&request.id) == Check::New && log.owns(&request.command) {
+            let entry = Entry::Op {
+                request: *request,
+                acknowledge: 0,
+            };
+            log.reserve(room(&entry))?;
+            log.push(entry);
+        }
+    }
+    Ok(())
+}
