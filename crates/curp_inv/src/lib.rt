@@ -1,9 +1,10 @@
-//! The nodes: clients, masters, backups and witnesses, each behind one trait, by the machine that defines it.
+//! The nodes: the manager, clients, masters, backups and witnesses, each behind one trait, by the machine that defines it.
 #![tactic(auto)]
 
 mod backup;
 mod client;
 pub mod laws;
+mod manager;
 mod master;
 mod places;
 #[cfg(test)]
@@ -13,6 +14,7 @@ mod witness;
 pub use backup::BackupNode;
 pub use client::ClientNode;
 pub use curp_msg::{Outcome, StepResult};
+pub use manager::ManagerNode;
 pub use master::MasterNode;
 pub use places::place_of;
 pub use witness::WitnessNode;

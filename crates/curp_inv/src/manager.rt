@@ -1,0 +1,62 @@
+ghost use Rattle.std.specs.Prelude.{◌≡◌, ◌*◌, ◌<◌, IfOk};
+ghost use Rattle.curp_model.specs.Manager.{opening_manager};
+
+use curp_base::NoMemory;
+use curp_config::{Manager, Shape};
+use curp_msg::{Config, Core, Done, Local, Message};
+use std::alloc::Global;
+use std::marker::Model;
+
+/// The configuration manager as a node.
+#[derive(Drop)]
+pub struct ManagerNode {
+    manager: Manager,
+}
+
+impl Model for ManagerNode {
+    ghost use Rattle.curp_model.specs.Manager.{ManagerState};
+
+    ghost Value = { ManagerState };
+
+    ghost view = { λ n. n.manager };
+}
+
+impl ManagerNode {
+    /// The manager before any order. All of its numbers have to fit in 32 bits.
+    pub fn new(alloc: Global, shape: &Shape) -> Result<ManagerNode, NoMemory>
+        requires masters { shape.now.parts < u32.MAX }
+        requires keepers { shape.now.parts * shape.now.f < u32.MAX }
+        ensures { IfOk result (λ manager. manager ≡ opening_manager shape.now) }
+    {
+        let manager = Manager::begin(alloc, shape)?;
+        Ok(ManagerNode { manager })
+    }
+
+    /// The adopted configuration.
+    pub fn config(&self) -> &Config
+        ensures { result.now ≡ self.now.config }
+    {
+        self.manager.config()
+    }
+}
+
+impl Core for ManagerNode {
+    ghost use Rattle.curp_inv.specs.Machines.{manager_machine};
+    ghost use Rattle.curp_inv.specs.ManagerRefusals.{manager_refusals, manager_taken};
+
+    ghost machine = { manager_machine };
+
+    ghost refusals = { manager_refusals };
+
+    ghost messages_taken = { manager_taken };
+
+    #[tactic(auto, unfolding(crate::specs::Machines::manager_machine))]
+    fn on_message(&mut self, message: &Message) -> Result<Done, NoMemory> {
+        self.manager.on_message(message)
+    }
+
+    #[tactic(auto, unfolding(crate::specs::Machines::manager_machine))]
+    fn on_order(&mut self, order: &Local) -> Result<Done, NoMemory> {
+        self.manager.on_order(order)
+    }
+}
