@@ -8,21 +8,17 @@ use Rattle.curp_cmd.specs.declared.node.NodeId.{NodeId}
 use Rattle.curp_cmd.specs.declared.node.NodeKind.{NodeKind}
 use Rattle.curp_cmd.specs.declared.node.NodeKind.TheVariants as kind
 use Rattle.curp_inv.specs.Machines.{backup_machine, client_machine, master_machine, witness_machine}
-use Rattle.curp_master.specs.Built.{built_ordered, on_built, on_input}
+use Rattle.curp_master.specs.Built.{on_input}
 use Rattle.curp_model.specs.Backup.{BackupState, backup_input}
 use Rattle.curp_model.specs.Client.{ClientState, client_input}
 use Rattle.curp_model.specs.Master.{MasterState}
 use Rattle.curp_model.specs.Recovery.{MasterStage, Serving, master_input, master_ordered, on_master}
-use Rattle.curp_facts.specs.Sent.{IsSaidTo}
 use Rattle.curp_model.specs.Witness.{WitnessState, witness_input}
 use Rattle.curp_model.specs.World.{World, has_node, is_there, moves, moves_kind, with_backup, with_client, with_master, with_witness}
 use Rattle.curp_msg.specs.Moved.{Moves, MovesAt, Node, numbered_move, within}
-use Rattle.curp_msg.specs.declared.body.Body.{Body}
-use Rattle.curp_msg.specs.declared.body.Body.TheVariants as body
 use Rattle.curp_msg.specs.declared.machine.Done.{Done}
 use Rattle.curp_msg.specs.declared.machine.Input.{Input}
 use Rattle.curp_msg.specs.declared.machine.Input.TheVariants as input
-use Rattle.curp_msg.specs.declared.machine.Local.TheVariants as local
 use Rattle.curp_world.specs.Given.{IsFor}
 use Rattle.curp_world.specs.Nodes.{HasNumbers, NodeStates, nodes_of, serving, states, with_nodes}
 use Rattle.curp_world.specs.Marks.{IsFew, master_at, most_marks}
@@ -30,20 +26,11 @@ use Rattle.curp_world.proofs.Giving.{node_moves, numbers_stay, one_moves, set_th
 use Rattle.curp_world.proofs.Numbered.{lent_numbered, map_set, numbered_at}
 use Rattle.curp_world.proofs.Pushing.{moves_few}
 
--- ---- what is built is what the definitions say, for what nodes get
-
 -- a master that serves
-heard : (n : ℕ) (m : MasterState) (given : Input) → IsFor kind.Master n given → master_input n (Serving m) given ≡ within Serving (on_input n m given)
-unfolding on_built built_ordered on_master master_ordered
-heard n m (input.Message x) said = go x.from x.body said
-  where
-    go : (from : NodeId) (b : Body) → IsSaidTo kind.Master n b → on_master n (Serving m) from b ≡ within Serving (on_built n m from b)
-    go from (body.Update ask) said = refl
-    go from (body.Sync ask) said = refl
-    go from (body.Appended a) said = refl
-    go from _ said = absurd said
-heard n m (input.Local local.Sync) built = refl
-heard n m (input.Local _) built = absurd built
+heard : (n : ℕ) (m : MasterState) (given : Input) → master_input n (Serving m) given ≡ within Serving (on_input n m given)
+unfolding on_master master_ordered
+heard n m (input.Message x) = refl
+heard n m (input.Local order) = refl
 
 -- ---- nodes of each kind
 
@@ -86,15 +73,15 @@ module _ (given : Input) (nodes nodes' : List (Node MasterState)) (n : ℕ) (r :
   masters_stay = numbers_stay Serving nodes nodes' n r (λ node. master_machine node given) (λ i s. on_input i s given)
       (λ s. master_input n s given) (master_moves given) numbers low made
 
-  pub masters_give : (w : World) (others : NodeStates) → IsFor kind.Master n given
+  pub masters_give : (w : World) (others : NodeStates)
       → Moves (record others { masters = serving nodes }) (record others { masters = serving nodes' }) r
       (within nodes_of (moves (with_nodes w (record others { masters = serving nodes })) (master_node n) given))
-  masters_give w others built =
+  masters_give w others =
       let v : World = with_nodes w (record others { masters = serving nodes }) in
       world_moves (λ (list : List MasterStage). record others { masters = list }) (serving nodes) (serving nodes') n r
       (λ s. master_input n s given) (λ s. within (with_master v n s) (master_input n s given)) v (λ s. refl)
       (one_moves Serving nodes nodes' n r (λ node. master_machine node given) (λ i s. on_input i s given)
-      (λ s. master_input n s given) (master_moves given) numbers low made (λ s. heard n s given built))
+      (λ s. master_input n s given) (master_moves given) numbers low made (λ s. heard n s given))
 
   -- and pushes no more than the bound of the input
   pub masters_few : IsFor kind.Master n given

@@ -13,7 +13,7 @@ use Rattle.curp_cmd.specs.declared.node.NodeId.{NodeId}
 use Rattle.curp_cmd.specs.declared.node.NodeKind.{NodeKind}
 use Rattle.curp_cmd.specs.declared.node.NodeKind.TheVariants as kind
 use Rattle.curp_facts.specs.Sent.{IsSaidTo}
-use Rattle.curp_master.specs.Built.{built_ordered, on_built, on_input}
+use Rattle.curp_master.specs.Built.{on_input}
 use Rattle.curp_model.specs.Manager.{ManagerState, Shape, opening_manager, opening_part}
 use Rattle.curp_model.specs.Marks.{Mark}
 use Rattle.curp_model.specs.Master.{Captured, MasterState, Acknowledged, AtOnce, Deny, Execute, HoldBack, Open, Phase, Switch, Switching, Tell, TellAgain, Verdict, WhenSynced, Wish, all_have, beginning, carries_out, executes, goes_on, is_clean, last_round, on_appended, on_serving, on_stored, on_update, prepares, raised, serving_ordered, settle, stored_on, sync_in, unless_it_ends, verdict}
@@ -90,8 +90,8 @@ module _ (n : ℕ) (m : MasterState) where
   sync_few Open = (omega arith, refl)
   sync_few (Switching s) = cond_both s.prepared _ _ (AtMost 0) (λ told. (omega arith, refl)) (λ not_yet. (omega arith, refl))
 
-  message_few : (from : NodeId) (b : Body) → IsSaidTo kind.Master n b → AtMost (most_by_message b) (on_built n m from b)
-  unfolding on_built on_serving on_update
+  message_few : (from : NodeId) (b : Body) → IsSaidTo kind.Master n b → AtMost (most_by_message b) (on_serving n m from b)
+  unfolding on_serving on_update
   message_few from (body.Update ask) said = ends_few 1 _ (carries_few AtOnce ask.request (verdict m AtOnce ask))
   message_few from (body.Sync ask) said = ends_few 1 _ (carries_few WhenSynced ask.request (verdict m WhenSynced ask))
   message_few from (body.Appended a) said = ends_few 0 _ (appended_few from a.round a.answer)
@@ -99,7 +99,7 @@ module _ (n : ℕ) (m : MasterState) where
 
   -- a master pushes no more than the bound of its input
   pub pushes_few : (given : Input) → IsFor kind.Master n given → AtMost (most_marks given) (on_input n m given)
-  unfolding built_ordered serving_ordered
+  unfolding serving_ordered
   pushes_few (input.Message x) said = message_few x.from x.body said
   pushes_few (input.Local local.Sync) said = ends_few 0 _ (sync_few m.phase)
   pushes_few (input.Local _) said = absurd said

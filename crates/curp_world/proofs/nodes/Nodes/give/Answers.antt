@@ -87,8 +87,7 @@ returns-in-Master-clause-moves c = λ w.
     (λ node. master_machine node (input_of c.args.given.now)) c.deref_mut-in-Master.ensures.value (c.give-in-Master.auto.nodes ∙ c.deref_mut-in-Master.ensures.len) c.give-in-Master.ensures.moves in
     let after = (with_items c.self.inside.masters c.give-in-Master.new.nodes).items in
     seen_moves _ _ _ c.args.to Master (input_of c.args.given.now) c.give-in-Master.result w c.self.view_is c.in-Master.is
-    (masters_give (input_of c.args.given.now) c.self.inside.masters.items after c.args.to.number c.give-in-Master.result c.self.invariant.masters_are low made w (the_view c.self.inside)
-    (subst (λ (kind : NodeKind). IsFor kind c.args.to.number (input_of c.args.given.now)) c.in-Master.is c.requires.built))
+    (masters_give (input_of c.args.given.now) c.self.inside.masters.items after c.args.to.number c.give-in-Master.result c.self.invariant.masters_are low made w (the_view c.self.inside))
 
 pub returns-in-Master-clause-few : goal.returns-in-Master-clause-few
 returns-in-Master-clause-few c =
