@@ -3,8 +3,7 @@ use curp_base::{Boxed, Items};
 use curp_cmd::{Answer, Command, Key, NodeId, Request, RequestId, Value};
 use curp_log::Log;
 use curp_msg::{
-    Adopted, AppendAnswer, Appended, Ask, Body, Collected, GcAnswer, Local, Message, Prepare,
-    Refusal, TakeOut,
+    Adopted, AppendAnswer, Appended, Ask, Body, Local, Message, Prepare, Refusal, TakeOut,
 };
 use std::alloc::Global;
 use std::process::Abort;
@@ -28,8 +27,6 @@ enum Comes {
     // A migration of the hashes from 0 to 9.
     Take(u32),
     Expire(u32),
-    // A witness suspects puts: by client, number and key.
-    Suspects(&'static [(u32, u32, &'static [u8])]),
     Round,
     Collect,
 }
@@ -54,7 +51,7 @@ enum Said {
 // A master of that many backups, of the hashes up to one, and at a round, with what comes and what it says then.
 type Case = (u32, u64, u64, &'static [(Comes, &'static [Said])]);
 
-const CASES: [Case; 9] = [
+const CASES: [Case; 7] = [
     (
         1,
         u64::MAX,
@@ -177,48 +174,7 @@ const CASES: [Case; 9] = [
             (Comes::Update(3, 1), &[Said::Refused(3, Refusal::Expired)]),
         ],
     ),
-    // Suspects that have come, are stale or of a client that is gone are collected again. New ones are pushed, each
-    // once, but not where their hash isn't owned.
-    (
-        1,
-        A,
-        0,
-        &[
-            (Comes::Sync(1, 1), &[Said::Appends(1, 1, 0, 1)]),
-            (Comes::Stored(1, 1, 1), &[Said::Synced(1)]),
-            (Comes::Collect, &[Said::Gc(1, 1)]),
-            (Comes::Suspects(&[(1, 1, b"a")]), &[]),
-            (Comes::Collect, &[Said::Gc(1, 1)]),
-            (Comes::Acknowledging(1, 3), &[Said::Unsynced(1)]),
-            (Comes::Expire(3), &[Said::Appends(1, 2, 1, 2)]),
-            (Comes::Stored(1, 3, 2), &[]),
-            (Comes::Collect, &[Said::Gc(1, 1)]),
-            (Comes::Suspects(&[(1, 1, b"a"), (3, 1, b"a")]), &[]),
-            (Comes::Collect, &[Said::Gc(1, 2)]),
-            (
-                Comes::Suspects(&[(2, 1, b"a"), (2, 1, b"a"), (4, 1, b"b"), (5, 1, b"a")]),
-                &[Said::Appends(1, 2, 3, 3)],
-            ),
-            (Comes::Collect, &[Said::Gc(1, 0)]),
-            (Comes::Stored(1, 5, 3), &[]),
-            (Comes::Collect, &[Said::Gc(1, 2)]),
-        ],
-    ),
-    (
-        1,
-        u64::MAX,
-        u64::MAX,
-        &[
-            (Comes::Suspects(&[(1, 1, b"a")]), &[]),
-            (Comes::Collect, &[Said::Gc(1, 0)]),
-            (Comes::Update(1, 1), &[Said::Unsynced(1)]),
-            (Comes::Suspects(&[(1, 1, b"a")]), &[]),
-        ],
-    ),
 ];
-
-// The hash of "a", as the authors of FNV published it. That of "b" is larger.
-const A: u64 = 0xaf63dc4c8601ec8c;
 
 #[test]
 fn answers_what_comes(rt: HostRuntime) -> Result<(), Fail> {
@@ -245,24 +201,6 @@ fn keeps_many_entries(rt: HostRuntime) -> Result<(), Fail> {
     let said = give(alloc, &mut master, Comes::Stored(1, 200, 199))?;
     assert_eq!(rt; said.len(), 199);
     assert_eq!(rt; master.synced(), 200);
-    Ok(())
-}
-
-// They stand in one round.
-#[test]
-fn pushes_many_suspects(rt: HostRuntime) -> Result<(), Fail> {
-    let alloc = rt.alloc();
-    let mut master = begin(alloc, 1, u64::MAX, 0)?;
-    let mut requests = Vec::new(alloc);
-    for client in 1..=1000 {
-        requests.push(put(client, 1, 1, b"a")?)?;
-    }
-    let (from, to) = (NodeId::witness(1), NodeId::master(1));
-    let body = collected(requests);
-    let done = master.on_message(&Message { from, to, body })?;
-    let said = said_by(&done.sent.as_slice()[0]);
-    assert_eq!(rt; said, Said::Appends(1, 1000, 0, 1));
-    assert_eq!(rt; master.log().len(), 1000);
     Ok(())
 }
 
@@ -336,7 +274,6 @@ fn message(alloc: Global, comes: Comes) -> Result<Option<Message>, Fail> {
             }),
         ),
         Comes::Expire(client) => (NodeId::manager(), Body::ExpireClient { client }),
-        Comes::Suspects(puts) => (NodeId::witness(1), collected(suspects(alloc, puts)?)),
         Comes::Round | Comes::Collect => return Ok(None),
     };
     let to = NodeId::master(1);
@@ -372,34 +309,12 @@ fn update(alloc: Global, client: u32, ask: Ask) -> Result<(NodeId, Body), Fail> 
 }
 
 fn ask(client: u32, seq: u32, first: u32, epoch: u32, version: u32) -> Result<Ask, Fail> {
+    let id = RequestId { client, seq };
+    let command = Command::Put(Key::new(b"a")?, Value::new(b"1")?);
     Ok(Ask {
-        request: put(client, seq, first, b"a")?,
+        request: Request { id, first, command },
         epoch,
         version,
-    })
-}
-
-fn put(client: u32, seq: u32, first: u32, key: &[u8]) -> Result<Request, Fail> {
-    let id = RequestId { client, seq };
-    let command = Command::Put(Key::new(key)?, Value::new(b"1")?);
-    Ok(Request { id, first, command })
-}
-
-fn suspects(
-    alloc: Global,
-    puts: &'static [(u32, u32, &'static [u8])],
-) -> Result<Vec<Request>, Fail> {
-    let mut requests = Vec::new(alloc);
-    for (client, seq, key) in puts {
-        requests.push(put(*client, *seq, 1, key)?)?;
-    }
-    Ok(requests)
-}
-
-fn collected(requests: Vec<Request>) -> Body {
-    Body::Collected(Collected {
-        epoch: 1,
-        answer: GcAnswer::Suspects(Items::new(requests)),
     })
 }
 
