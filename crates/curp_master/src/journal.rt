@@ -162,10 +162,8 @@ pub(crate) fn op_of(request: &Request) -> Entry
 fn tail_of(alloc: Global, log: &Log, synced: u64) -> Result<Tail, NoMemory>
     ensures { IfOk result (λ tail. tail.entries ≡ tail_of log.now.entries synced) }
 {
-    let unsynced = past(log.entries(), synced);
     let mut tail = Tail::new(alloc);
-    tail.reserve(unsynced.len() as u64)?;
-    tail.add(unsynced, synced);
+    tail.add(past(log.entries(), synced), synced)?;
     Ok(tail)
 }
 
@@ -179,7 +177,7 @@ fn follow(tail: &mut Tail, log: &Log, entry: &Entry, synced: u64)
     tail_follows_log();
     let length = log.len();
     if synced <= length {
-        tail.add(std::slice::from_ref(entry), length);
+        tail.add_reserved(std::slice::from_ref(entry), length);
     }
 }
 

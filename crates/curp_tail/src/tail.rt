@@ -106,8 +106,20 @@ impl Tail {
         self.lasts.reserve(hashes)
     }
 
+    /// Adds entries that stand from that index on, all or none.
+    pub fn add(&mut self, entries: &[Entry], index: u64) -> Result<(), NoMemory>
+        requires below { Each (λ entry. entry.index < index) self.old.entries }
+        requires fits { index + length entries.now < 2 ^ 64 }
+        ensures added { OnOk result (self.new.entries ≡ self.old.entries ++ tail_from index entries.now) }
+        ensures err { OnErr result (self.new.entries ≡ self.old.entries) }
+    {
+        self.reserve(entries.len() as u64)?;
+        self.add_reserved(entries, index);
+        Ok(())
+    }
+
     /// Adds entries that stand from that index on. It takes no memory, since there is room.
-    pub fn add(&mut self, entries: &[Entry], index: u64)
+    pub fn add_reserved(&mut self, entries: &[Entry], index: u64)
         requires room { 4 * length entries.now ≤ self.old.spare }
         requires below { Each (λ entry. entry.index < index) self.old.entries }
         requires fits { index + length entries.now < 2 ^ 64 }
@@ -346,8 +358,7 @@ mod tests {
             Entry::Expire { client: 1 },
         ];
         let mut tail = Tail::new(alloc);
-        tail.reserve(4)?;
-        tail.add(&entries, 10);
+        tail.add(&entries, 10)?;
         let rows = [
             (9, [true, true, true, false, true, true, false]),
             (10, [true, true, true, false, true, true, false]),
@@ -381,8 +392,7 @@ mod tests {
             entries.push(op(Command::Incr(a)))?;
         }
         let mut tail = Tail::new(alloc);
-        tail.reserve(1000)?;
-        tail.add(&entries, 0);
+        tail.add(&entries, 0)?;
         assert!(rt; tail.reserve(u64::MAX).is_err());
         tail.synced(999);
         assert_eq!(rt; tail.is_dirty(A), true);

@@ -3,7 +3,7 @@ use Rattle.curp_base.specs.Words.{Each}
 use Rattle.curp_tail.specs.declared.tail.TailEntry.{TailEntry}
 use Rattle.curp_tail.specs.Kept.{Kept}
 use Rattle.curp_tail.proofs.Tails.{rise_added, tail_length}
-use Rattle.curp_tail.proofs.tail.Tail.add.Goals as goal
+use Rattle.curp_tail.proofs.tail.Tail.add_reserved.Goals as goal
 
 pub invariant_of-self : goal.invariant_of-self
 invariant_of-self c =
