@@ -140,7 +140,8 @@ impl Recovery {
     /// The requests of the named witness come. Once the log is there too, the replayed log goes to each fresh backup.
     pub fn on_frozen(&mut self, requests: Vec<Request>) -> Result<Done, RecoverError>
         ensures moves { Moves self.old self.new result (numbered_move self.old.number
-            (requests_come self.old.number self.old.state self.old.state.order.witness requests.items self.old.state.phase)) }
+            (requests_come self.old.number self.old.state self.old.state.order.witness requests.items
+            self.old.state.phase)) }
         ensures ignored { TellsIgnored (awaits_requests self.old.state.phase) (phase_name self.old.state.phase) result }
     {
         match &self.stage {

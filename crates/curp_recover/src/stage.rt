@@ -57,7 +57,8 @@ impl ReplayedLog {
 
     /// Whether all of these backups have the whole log, once that one has it.
     pub fn is_last(&self, backups: &[NodeId], backup: &NodeId) -> bool
-        ensures { result ≡ list_all (λ b. is_among b (with_complete (replayed_of self.now) backup.now).complete) backups.now }
+        ensures { result ≡ list_all
+            (λ b. is_among b (with_complete (replayed_of self.now) backup.now).complete) backups.now }
     {
         backups.iter().all(|each| self.has_with(each, backup))
     }
@@ -113,7 +114,8 @@ impl ReplayedLog {
 
     /// The backups that don't have the whole log.
     fn incomplete(&self, alloc: Global, backups: &[NodeId]) -> Result<Vec<NodeId>, NoMemory>
-        ensures { IfOk result (λ left. left.items ≡ filter (λ b. not (is_among b self.now.complete.items)) backups.now) }
+        ensures { IfOk result (λ left. left.items
+            ≡ filter (λ b. not (is_among b self.now.complete.items)) backups.now) }
     {
         backups
             .iter()
