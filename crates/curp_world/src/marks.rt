@@ -1,61 +1,128 @@
-// The marks of what masters push, and their flags.
-ghost use Rattle.std.specs.Prelude.{◌≡◌, ◌+◌, ◌<◌, ◌≤◌, ◌^◌, ◌++◌, length, option_map, Some};
-ghost use Rattle.curp_model.specs.Manager.{opening_manager};
+// The marks of what masters push and capture, and of what the manager adopts.
+ghost use Rattle.std.specs.Prelude.{◌≡◌, ◌+◌, ◌<◌, ◌≤◌, ◌^◌, ◌++◌, length, map, option_map, IfOk};
+ghost use Rattle.curp_model.specs.Manager.{adoption};
 ghost use Rattle.curp_model.specs.Master.{MasterState};
-ghost use Rattle.curp_model.specs.Recovery.{Serving};
-ghost use Rattle.curp_model.specs.World.{is_adopted, op_marks, pushed_marks, shape_of, with_completion};
+ghost use Rattle.curp_model.specs.World.{capture_mark, is_adopted, new_captures, op_marks, op_requests, with_completion};
 ghost use Rattle.curp_world.specs.Given.{input_of};
-ghost use Rattle.curp_world.specs.Marks.{adopted_marks, captured_of, log_of, most_marks};
+ghost use Rattle.curp_world.specs.Marks.{HasRoomBehind, HasRoomFor, IsSound, due_marks, due_of_adoption, due_of_master};
+ghost use Rattle.curp_world.specs.Marks.{due_by_kind, marks_by, marks_behind, master_at, most_due, most_marks, told_due};
 
 use crate::given::Given;
-use curp_base::past;
-use curp_cmd::{Entry, NodeId, NodeKind};
-use curp_inv::MasterNode;
+use crate::nodes::Nodes;
+use curp_base::{NoMemory, past};
+use curp_cmd::{Entry, NodeId, NodeKind, Request};
 use curp_line::Line;
-use curp_msg::{Body, Completed, Header};
+use curp_master::Master;
+use curp_msg::{Body, Completed, Config, GcAnswer, Message};
+use std::alloc::Global;
 
-/// So many marks at most come of the input: a master pushes one entry at most on an update or a sync, and none on
-/// anything else that is built.
-pub(crate) fn most_marks(given: &Given) -> u64
-    ensures { result ≡ most_marks (input_of given.now) }
+/// What a recovery has replayed that is adopted: its master, its partition and epoch, the length of the log that it was
+/// given, and the requests behind that.
+#[derive(Drop)]
+pub(crate) struct Adoption {
+    master: NodeId,
+    part: u32,
+    epoch: u32,
+    cut: u64,
+    replayed: Vec<Request>,
+}
+
+/// What is to be marked of an input, once its node got it.
+#[derive(Drop)]
+pub(crate) enum Due {
+    Nothing,
+    /// What an adopted master has pushed behind that length of its log, and captured behind that number.
+    Behind { length: u64, captured: u64 },
+    Adoption(Adoption),
+}
+
+/// What will be due of the input, by the nodes before they got it.
+pub(crate) fn due(alloc: Global, nodes: &Nodes, to: NodeId, given: &Given) -> Result<Due, NoMemory>
+    ensures value { IfOk result (λ due. told_due due ≡ due_marks nodes.now to (input_of given.now)) }
+    ensures sound { IfOk result (λ due. IsSound (told_due due) (master_at to.kind to.number nodes.now.masters)) }
 {
-    match given {
-        Given::Message(message) => match &message.body {
-            Body::Update(_) | Body::Sync(_) => 1,
-            _ => 0,
+    match to.kind {
+        NodeKind::Master => Ok(due_of_master(nodes, to)),
+        NodeKind::Manager => match given {
+            Given::Message(message) => due_of_adoption(alloc, nodes, message),
+            Given::Order(_) => Ok(Due::Nothing),
         },
-        Given::Order(_) => 0,
+        _ => Ok(Due::Nothing),
     }
 }
 
-/// The length of the master's log, 0 where there is no master.
-pub(crate) fn log_length(master: Option<&MasterNode>) -> u64
-    ensures { result ≡ length (log_of (option_map (λ m. Serving m.now.state) master.entry)) }
+// What an adopted master pushes and captures from now on.
+fn due_of_master(nodes: &Nodes, to: NodeId) -> Due
+    requires { to.kind ≡ NodeKind.Master }
+    ensures value { told_due result
+        ≡ (if is_adopted nodes.now.manager to then due_of_master (numbered nodes.now.masters to.number)
+        else Nothing) }
+    ensures sound { IsSound (told_due result) (numbered nodes.now.masters to.number) }
 {
-    match master {
-        Some(master) => master.log().len(),
-        None => 0,
+    if !is_adopted(nodes.manager().config(), to) {
+        return Due::Nothing;
+    }
+    match nodes.master(to.number).and_then(MasterNode::serving) {
+        Some(master) => Due::Behind {
+            length: master.log().len(),
+            captured: master.captured(),
+        },
+        None => Due::Nothing,
     }
 }
 
-/// What an adopted master has pushed since its log had that length is marked. It takes no memory, since there is room,
-/// and looks at no entry that stood in the log before.
-pub(crate) fn mark_pushed(
-    marks: &mut Line,
-    header: &Header,
-    node: NodeId,
-    master: Option<&MasterNode>,
-    former: u64,
-)
-    requires { length (log_of (option_map (λ m. Serving m.now.state) master)) ≤ former + marks.old.spare }
-    ensures { (before : MasterState) → length before.log ≡ former
-        → before.captured ≡ captured_of (option_map (λ m. Serving m.now.state) master.entry) → marks.new.marks
-        ≡ marks.old.marks ++ adopted_marks (opening_manager (shape_of header.now)) node
-        (Some (Serving before)) (option_map (λ m. Serving m.now.state) master.entry) }
+// What a recovery has replayed, if the manager adopts one by that message.
+fn due_of_adoption(alloc: Global, nodes: &Nodes, message: &Message) -> Result<Due, NoMemory>
+    ensures value { IfOk result (λ due. told_due due
+        ≡ due_of_adoption nodes.now.masters (adopted_by nodes.now.manager message.now.body)) }
+    ensures sound { IfOk result (λ due. IsSound (told_due due) None) }
 {
-    if let Some(master) = master {
-        if is_adopted(header, node) {
-            add_pushed(marks, node, master, former);
+    let Some((master, order)) = nodes.manager().adoption(message) else {
+        return Ok(Due::Nothing);
+    };
+    let Some(recovery) = nodes.master(master.number).and_then(MasterNode::recovering) else {
+        return Ok(Due::Nothing);
+    };
+    let (Some(log), Some(cut)) = (recovery.log(), recovery.cut()) else {
+        return Ok(Due::Nothing);
+    };
+    Ok(Due::Adoption(Adoption {
+        master,
+        part: order.part,
+        epoch: order.epoch,
+        cut,
+        replayed: op_requests(alloc, past(log.entries(), cut))?,
+    }))
+}
+
+impl Due {
+    /// So many marks come of it at most.
+    pub(crate) fn most(&self, given: &Given) -> u64
+        ensures { result ≡ most_due (told_due self.now) (most_marks (input_of given.now)) }
+    {
+        match self {
+            Due::Nothing => 0,
+            Due::Behind { .. } => most_marks(given),
+            Due::Adoption(adoption) => adoption.replayed.len() as u64,
+        }
+    }
+
+    /// Marks what was due, once the node got its input. It takes no memory, since there is room, and looks at no entry
+    /// that stood in a log before, and at no read but the last one.
+    pub(crate) fn mark(&self, marks: &mut Line, to: NodeId, nodes: &Nodes)
+        requires { HasRoomFor (told_due self.now) (numbered nodes.now.masters to.number) marks.old.spare }
+        ensures { marks.new.marks ≡ marks_by (told_due self.now) to nodes.now.masters marks.old.marks }
+    {
+        match self {
+            Due::Nothing => (),
+            Due::Behind { length, captured } => {
+                if let Some(master) = nodes.master(to.number).and_then(MasterNode::serving) {
+                    add_behind(marks, to, master, *length, *captured);
+                }
+            }
+            Due::Adoption(a) => {
+                marks.adopted(a.master, a.part, a.epoch, a.cut, &a.replayed);
+            }
         }
     }
 }
@@ -69,36 +136,90 @@ pub(crate) fn flag(marks: &mut Line, completed: Option<Completed>)
     }
 }
 
-// Whether the master stands in the configuration of the opening, which stays in what is built.
-fn is_adopted(header: &Header, node: NodeId) -> bool
-    ensures { result ≡ is_adopted (opening_manager (shape_of header.now)) node }
+// So many marks come of an input to a master at most.
+fn most_marks(given: &Given) -> u64
+    ensures { result ≡ most_marks (input_of given.now) }
 {
-    match node.kind {
-        NodeKind::Master => 1 <= node.number && node.number <= header.parts,
-        _ => false,
+    match given {
+        Given::Message(message) => most_by_message(&message.body),
+        Given::Order(_) => 0,
     }
 }
 
-// The marks of what the master has pushed since its log had that length, where it has captured nothing since.
-fn add_pushed(marks: &mut Line, node: NodeId, master: &MasterNode, former: u64)
-    requires { length master.now.state.log ≤ former + marks.old.spare }
-    ensures { (before : MasterState) → length before.log ≡ former → before.captured ≡ master.now.state.captured
-        → marks.new.marks ≡ marks.old.marks ++ pushed_marks node before master.now.state }
+fn most_by_message(body: &Body) -> u64
+    ensures { result ≡ most_by_message body.now }
 {
-    // For its clause alone.
-    let _captured = master.captured();
+    match body {
+        Body::Update(_) | Body::Sync(_) | Body::Read(_) => 1,
+        Body::TakeOut(_) | Body::GiveIn(_) | Body::ExpireClient { .. } => 1,
+        Body::Collected(collected) => match &collected.answer {
+            GcAnswer::Suspects(requests) => requests.len() as u64,
+            _ => 0,
+        },
+        _ => 0,
+    }
+}
+
+// Whether the master stands in the adopted configuration.
+fn is_adopted(config: &Config, master: NodeId) -> bool
+    ensures { (g : ManagerState) → g.config ≡ config.now → result ≡ is_adopted g master }
+{
+    config
+        .parts
+        .as_slice()
+        .iter()
+        .any(|part| part.master == master)
+}
+
+// The requests that entries have.
+fn op_requests(alloc: Global, entries: &[Entry]) -> Result<Vec<Request>, NoMemory>
+    ensures { IfOk result (λ requests. requests.items ≡ op_requests entries.now) }
+{
+    let mut requests = Vec::new(alloc);
+    for entry in entries {
+        if let Entry::Op { request, .. } = entry {
+            requests.push(*request)?;
+        }
+    }
+    Ok(requests)
+}
+
+// What a master has pushed behind that length, and the read that it has captured behind that number, if it has.
+fn add_behind(marks: &mut Line, node: NodeId, master: &Master, former: u64, captured: u64)
+    requires { HasRoomBehind former captured master.now.state marks.old.spare }
+    ensures { marks.new.marks ≡ marks.old.marks
+        ++ marks_behind node former captured (Some (Serving master.now.state)) }
+{
     let log = master.log();
     // For its clause alone.
     let _length = log.len();
+    let (part, epoch) = (master.part(), master.epoch());
     let pushed = past(log.entries(), former);
-    add_ops(marks, node, master.part(), master.epoch(), former, pushed);
+    add_ops(marks, node, part, epoch, former, pushed);
+    if captured < master.captured() {
+        add_capture(marks, node, master);
+    }
+}
+
+// The read that the master captured last.
+fn add_capture(marks: &mut Line, node: NodeId, master: &Master)
+    requires room { 1 ≤ marks.old.spare }
+    ensures { marks.new.marks ≡ marks.old.marks ++ map (capture_mark node master.now.state.part master.now.state.epoch)
+        (last_of master.now.state.captures) }
+{
+    let (part, epoch) = (master.part(), master.epoch());
+    if let Some(last) = master.last_capture() {
+        let (number, length) = (last.number(), last.log_length());
+        marks.looked(node, part, epoch, number, length, last.id(), last.command());
+    }
 }
 
 // The marks of the ops among entries, which stand in a log from that index on.
 fn add_ops(marks: &mut Line, node: NodeId, part: u32, epoch: u32, index: u64, entries: &[Entry])
     requires room { length entries.now ≤ marks.old.spare }
     requires fits { index + length entries.now < 2 ^ 64 }
-    ensures { marks.new.marks ≡ marks.old.marks ++ op_marks node part epoch index entries.now }
+    ensures marks { marks.new.marks ≡ marks.old.marks ++ op_marks node part epoch index entries.now }
+    ensures spare { marks.old.spare ≤ marks.new.spare + length entries.now }
 {
     for (at, entry) in entries.iter().enumerate() {
         if let Entry::Op { request, .. } = entry {

@@ -1,70 +1,99 @@
-ghost use Rattle.std.specs.Prelude.{◌≡◌, ◌≢◌, ◌+◌, ◌≤◌, ◌&&◌, nat_le, nat_lt, true, length, option_map, IfOk};
+ghost use Rattle.std.specs.Prelude.{◌≡◌, ◌≢◌, ◌≤◌, ◌&&◌, nat_le, nat_lt, true, option_map, IfOk};
 ghost use Rattle.std.specs.Option.{option_copied};
 ghost use Rattle.curp_base.specs.Words.{numbered};
-ghost use Rattle.curp_model.specs.Recovery.{Serving};
+ghost use Rattle.curp_facts.specs.Run.{IsHeader};
 ghost use Rattle.curp_model.specs.World as world;
 ghost use Rattle.curp_model.specs.World.{World, has_node};
 ghost use Rattle.curp_msg.specs.Moved.{Moves, within};
-ghost use Rattle.curp_world.specs.Given.{IsFor, input_of, invoked_by};
-ghost use Rattle.curp_world.specs.Marks.{IsFew, master_at, most_marks};
+ghost use Rattle.curp_world.specs.Given.{input_of, invoked_by};
+ghost use Rattle.curp_world.specs.Marks.{IsFewOf, master_at, most_marks};
 ghost use Rattle.curp_world.specs.Nodes.{nodes_of, with_nodes};
 
-use crate::given::{Gift, Given, give};
+use crate::given::{Gift, Given, give, give_one};
+use crate::growing::{add_backups, add_masters, make_ahead, most_fresh, take_up};
 use crate::opening;
 use curp_base::NoMemory;
 use curp_cmd::{Command, NodeId, NodeKind, RequestId};
-use curp_inv::{BackupNode, ClientNode, MasterNode, WitnessNode};
+use curp_config::Shape;
+use curp_inv::{BackupNode, ClientNode, ManagerNode, MasterNode, WitnessNode};
 use curp_msg::{Done, Header, Local};
 use std::alloc::Global;
 use std::marker::Model;
 
-/// All nodes but the manager, which doesn't move in what is built. Those of each kind are numbered from 1.
+/// All nodes. Those of each kind but the manager are numbered from 1. Witnesses whose memory was found for an order of
+/// the manager stand behind the others, until it names them.
 #[derive(Drop)]
 pub(crate) struct Nodes {
+    alloc: Global,
+    manager: ManagerNode,
     clients: Vec<ClientNode>,
     masters: Vec<MasterNode>,
     backups: Vec<BackupNode>,
     witnesses: Vec<WitnessNode>,
+    ahead: Vec<WitnessNode>,
+    sets: u32,
+    ways: u32,
 }
 
 impl Model for Nodes {
-    ghost use Rattle.curp_world.specs.Nodes.{AreNumbered, NodeStates, serving, states};
+    ghost use Rattle.curp_world.specs.Nodes.{AreNumbered, NodeStates, states};
 
     ghost Value = { NodeStates };
 
     ghost view = { λ n. record {
       clients = states n.clients.items;
-      masters = serving n.masters.items;
+      manager = n.manager;
+      masters = states n.masters.items;
       backups = states n.backups.items;
       witnesses = states n.witnesses.items;
+      sets = n.sets;
+      ways = n.ways;
     } };
 
-    ghost invariant = { λ n. AreNumbered n.clients.items n.masters.items n.backups.items n.witnesses.items };
+    ghost invariant = { λ n. AreNumbered n.manager.next n.clients.items n.masters.items n.backups.items
+        n.witnesses.items n.ahead.items n.sets n.ways };
 }
 
 impl Nodes {
     /// The nodes of a header as at opening.
     pub(crate) fn new(alloc: Global, header: &Header) -> Result<Nodes, NoMemory>
-        requires { header.now.parts ≡ 1 }
+        requires { IsHeader header.now }
         ensures { IfOk result (λ nodes. nodes ≡ nodes_of (world.opening header.now)) }
     {
-        let config = opening::config(alloc, header)?;
+        let keepers = header.parts * header.f;
+        let shape = Shape {
+            f: header.f,
+            parts: header.parts,
+            clients: header.clients,
+        };
+        let manager = ManagerNode::new(alloc, &shape)?;
+        let config = manager.config();
+        let clients = opening::clients(alloc, header, config)?;
+        let masters = opening::masters(alloc, config)?;
         Ok(Nodes {
-            clients: opening::clients(alloc, header, &config)?,
-            masters: opening::masters(alloc, header)?,
-            backups: opening::backups(alloc, header)?,
-            witnesses: opening::witnesses(alloc, header)?,
+            alloc,
+            manager,
+            clients,
+            masters,
+            backups: opening::backups(alloc, keepers)?,
+            witnesses: opening::witnesses(alloc, keepers, header.sets, header.ways)?,
+            ahead: Vec::new(alloc),
+            sets: header.sets,
+            ways: header.ways,
         })
     }
 
-    /// The master of that name.
-    pub(crate) fn master(&self, node: NodeId) -> Option<&MasterNode>
-        ensures { option_map (λ m. Serving m.now.state) result ≡ master_at node.kind node.number self.now.masters }
+    pub(crate) fn manager(&self) -> &ManagerNode
+        ensures { result.now ≡ self.now.manager }
     {
-        match node.kind {
-            NodeKind::Master => numbered(&self.masters, node.number),
-            _ => None,
-        }
+        &self.manager
+    }
+
+    /// The master of that number.
+    pub(crate) fn master(&self, number: u32) -> Option<&MasterNode>
+        ensures { option_map (λ m. m.now.state) result ≡ numbered self.now.masters number }
+    {
+        numbered(&self.masters, number)
     }
 
     /// Whether there is a node of that name, in a world of these nodes.
@@ -80,14 +109,14 @@ impl Nodes {
         }
     }
 
-    /// The node of that name, which is there, gets an input, and moves as in a world of these nodes. Of a master's log no
-    /// more than the bound of the input is new, and no read is captured.
+    /// The node of that name, which is there, gets an input, and moves as in a world of these nodes; where it is the
+    /// manager, the fresh nodes that it names are there from then on. Of what a master pushes and captures no more than
+    /// the bound of the input is new.
     pub(crate) fn give(&mut self, to: NodeId, given: &Given) -> Result<Done, NoMemory>
         requires there { (w : World) × (has_node (with_nodes w self.old) to ≡ true) }
-        requires built { IsFor to.kind to.number (input_of given.now) }
         ensures moves { (w : World) → Moves self.old self.new result
             (within nodes_of (world.moves (with_nodes w self.old) to (input_of given.now))) }
-        ensures few { IsFew (master_at to.kind to.number self.old.masters)
+        ensures few { IsFewOf (master_at to.kind to.number self.old.masters)
             (master_at to.kind to.number self.new.masters) (most_marks (input_of given.now)) }
         ensures refused { IfOk result (λ done. done.refused ≢ 0 → self.new ≡ self.old) }
     {
@@ -96,9 +125,28 @@ impl Nodes {
             NodeKind::Master => give(&mut self.masters, to.number, given),
             NodeKind::Backup => give(&mut self.backups, to.number, given),
             NodeKind::Witness => give(&mut self.witnesses, to.number, given),
-            // Nothing is said to the manager in what is built.
-            NodeKind::Manager => unreachable!(),
+            NodeKind::Manager => self.give_manager(given),
         }
+    }
+
+    // The manager gets an input. The memory of what it may name is found before, so that it moves only where that is
+    // there; a witness that it doesn't name waits for the next order.
+    fn give_manager(&mut self, given: &Given) -> Result<Done, NoMemory>
+        ensures moves { (w : World) → Moves self.old self.new result
+            (within nodes_of (world.moves (with_nodes w self.old) manager_node (input_of given.now))) }
+        ensures refused { IfOk result (λ done. done.refused ≢ 0 → self.new ≡ self.old) }
+    {
+        let most = most_fresh(self.manager.keepers(), given);
+        self.masters.reserve(most.masters as usize)?;
+        self.backups.reserve(most.backups as usize)?;
+        self.witnesses.reserve(most.witnesses as usize)?;
+        let there = self.witnesses.len() as u32;
+        make_ahead(self.alloc, &mut self.ahead, there, most.witnesses, self.sets, self.ways)?;
+        let done = give_one(&mut self.manager, given)?;
+        add_masters(self.alloc, &mut self.masters, self.manager.next_master());
+        add_backups(self.alloc, &mut self.backups, self.manager.next_backup());
+        take_up(&mut self.witnesses, &mut self.ahead, self.manager.next_witness());
+        Ok(done)
     }
 
     /// What a client has invoked, if it got the order: the request that is its last one now.

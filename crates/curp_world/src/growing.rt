@@ -1,0 +1,98 @@
+// The fresh nodes that the manager names.
+ghost use Rattle.std.specs.Prelude.{◌≡◌, ◌≤◌, ◌+◌, ◌-◌, ◌++◌, length, vec_len, vec_capacity, OnOk, OnErr};
+ghost use Rattle.curp_model.specs.Backup.{fresh_backup};
+ghost use Rattle.curp_model.specs.Recovery.{Fresh};
+ghost use Rattle.curp_model.specs.Witness.{fresh_witness};
+ghost use Rattle.curp_model.specs.World.{grown};
+ghost use Rattle.curp_world.specs.Given.{input_of};
+ghost use Rattle.curp_world.specs.Nodes.{HasNumbers, IsAhead, most_fresh, states};
+
+use crate::given::Given;
+use curp_base::NoMemory;
+use curp_cmd::Keeper;
+use curp_inv::{BackupNode, MasterNode, WitnessNode};
+use curp_msg::Local;
+use std::alloc::Global;
+
+/// So many nodes of each kind.
+pub(crate) struct Counts {
+    pub(crate) masters: u32,
+    pub(crate) backups: u32,
+    pub(crate) witnesses: u32,
+}
+
+/// So many fresh nodes an input lets the manager name at most, where a partition has so many backups and as many
+/// witnesses.
+pub(crate) fn most_fresh(keepers: u32, given: &Given) -> Counts
+    ensures masters { result.masters ≡ (most_fresh keepers (input_of given.now)).masters }
+    ensures backups { result.backups ≡ (most_fresh keepers (input_of given.now)).backups }
+    ensures witnesses { result.witnesses ≡ (most_fresh keepers (input_of given.now)).witnesses }
+{
+    let (masters, backups, witnesses) = match given {
+        Given::Order(Local::Recover { .. }) => (1, keepers, keepers),
+        Given::Order(Local::Replace {
+            keeper: Keeper::Backup,
+            ..
+        }) => (0, 1, 0),
+        Given::Order(Local::Replace {
+            keeper: Keeper::Witness,
+            ..
+        }) => (0, 0, 1),
+        _ => (0, 0, 0),
+    };
+    Counts {
+        masters,
+        backups,
+        witnesses,
+    }
+}
+
+/// Fresh masters below that number. It takes no memory, since there is room.
+pub(crate) fn add_masters(alloc: Global, masters: &mut Vec<MasterNode>, next: u32)
+    requires numbers { HasNumbers masters.old.items }
+    requires room { next - 1 ≤ vec_capacity masters.old }
+    ensures states { states masters.new.items ≡ grown (states masters.old.items) Fresh next }
+    ensures numbers { HasNumbers masters.new.items }
+{
+    for number in masters.len() as u32 + 1..next {
+        masters.push_reserved(MasterNode::fresh(alloc, number));
+    }
+}
+
+/// Fresh backups below that number. It takes no memory, since there is room.
+pub(crate) fn add_backups(alloc: Global, backups: &mut Vec<BackupNode>, next: u32)
+    requires numbers { HasNumbers backups.old.items }
+    requires room { next - 1 ≤ vec_capacity backups.old }
+    ensures states { states backups.new.items ≡ grown (states backups.old.items) fresh_backup next }
+    ensures numbers { HasNumbers backups.new.items }
+{
+    for number in backups.len() as u32 + 1..next {
+        backups.push_reserved(BackupNode::fresh(alloc, number));
+    }
+}
+
+/// Makes so many fresh witnesses, as far as they aren't made yet. All memory for their slots is taken here. They are
+/// numbered behind so many that are there.
+pub(crate) fn make_ahead(
+    alloc: Global,
+    ahead: &mut Vec<WitnessNode>,
+    there: u32,
+    count: u32,
+    sets: u32,
+    ways: u32,
+) -> Result<(), NoMemory>
+    ensures there { OnOk result (count ≤ length ahead.new.items) }
+{
+    while (ahead.len() as u32) < count {
+        // ..
+    }
+    Ok(())
+}
+
+/// Witnesses that were made ahead are there, below that number. It takes no memory, since there is room.
+pub(crate) fn take_up(witnesses: &mut Vec<WitnessNode>, ahead: &mut Vec<WitnessNode>, next: u32)
+{
+    while (witnesses.len() as u32) + 1 < next {
+        witnesses.push_reserved(ahead.remove(0));
+    }
+}
