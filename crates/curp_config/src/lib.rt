@@ -22,4 +22,5 @@ mod work;
 
 pub use error::{ExpireError, MigrateError, RecoverError, ReplaceError};
 pub use manager::Manager;
+pub use opening::opening_hashes;
 pub use shape::Shape;

@@ -86,6 +86,34 @@ impl Manager {
         &self.config
     }
 
+    /// How many backups and as many witnesses a partition has.
+    pub fn keepers(&self) -> u32
+        ensures { result ≡ self.now.shape.f }
+    {
+        self.shape.f
+    }
+
+    /// The number that the next fresh master gets.
+    pub fn next_master(&self) -> u32
+        ensures { result ≡ self.now.next.master }
+    {
+        self.next.master
+    }
+
+    /// The number that the next fresh backup gets.
+    pub fn next_backup(&self) -> u32
+        ensures { result ≡ self.now.next.backup }
+    {
+        self.next.backup
+    }
+
+    /// The number that the next fresh witness gets.
+    pub fn next_witness(&self) -> u32
+        ensures { result ≡ self.now.next.witness }
+    {
+        self.next.witness
+    }
+
     /// A message comes to the manager.
     #[tactic(auto, unfolding(curp_model::specs::Manager::on_manager))]
     pub fn on_message(&mut self, message: &Message) -> Result<Done, NoMemory>

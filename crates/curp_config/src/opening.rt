@@ -64,7 +64,7 @@ pub(crate) fn opening_work(alloc: Global, parts: u32) -> Result<Vec<Work>, NoMem
 
 /// The first and the last hash of a partition at opening.
 #[tactic(auto, using(crate::proofs::Opened::opening_ends))]
-pub(crate) fn opening_hashes(parts: u32, part: u32) -> (u64, u64)
+pub fn opening_hashes(parts: u32, part: u32) -> (u64, u64)
     requires first { 1 ≤ part }
     requires last { part ≤ parts }
     ensures lo { result.0 ≡ (opening_range parts part).lo }

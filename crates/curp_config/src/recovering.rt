@@ -18,7 +18,7 @@ use crate::work::{Attempt, Doing, Work};
 use crate::{Manager, RecoverError};
 use curp_base::{Boxed, Items, NoMemory};
 use curp_cmd::NodeId;
-use curp_msg::{Done, PartConfig, Recover, Recovered};
+use curp_msg::{Body, Done, Message, PartConfig, Recover, Recovered};
 
 /// What a recovery reads: the partition's adopted entry, and one backup and one witness of it.
 #[derive(Clone, Copy)]
@@ -125,6 +125,29 @@ impl Manager {
         };
         let entry = self.recovered_part(part, attempt)?;
         self.adopt(recovered.part, entry)
+    }
+
+    /// The recovery that a message lets the manager adopt, if it does: its master and its order.
+    pub fn adoption(&self, message: &Message) -> Option<(NodeId, &Recover)>
+        ensures { option_map (λ a. record { master = a.0; order = a.1.now }) result
+            ≡ model.adopted_by self.now message.now.body }
+    {
+        let Body::Recovered(recovered) = &message.body else {
+            return None;
+        };
+        if self.config.serial == u32::MAX {
+            return None;
+        }
+        let attempt = self.finished(recovered)?;
+        Some((attempt.master, attempt.order.get()))
+    }
+
+    // The attempt that a master says is finished.
+    fn finished(&self, recovered: &Recovered) -> Option<&Attempt>
+        ensures { option_map attempted (option_copied result) ≡ model.finished self.now recovered.now }
+    {
+        let _part = self.part(recovered.part)?;
+        self.attempt_at(recovered)
     }
 
     // The attempt that is being made at a partition, if it has that epoch.

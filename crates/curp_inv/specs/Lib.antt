@@ -1,3 +1,4 @@
 pub mod Machines
 pub mod ManagerRefusals
 pub mod Refusals
+pub mod Stages

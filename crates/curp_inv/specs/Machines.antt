@@ -1,11 +1,10 @@
 -- The machine of each kind of node: what an input does to it.
-use Rattle.curp_master.specs.Built.{on_input}
 use Rattle.curp_msg.specs.Moved.{Moved, Node, numbered_move}
 use Rattle.curp_msg.specs.declared.machine.Input.{Input}
 use Rattle.curp_model.specs.Backup.{BackupState, backup_input}
 use Rattle.curp_model.specs.Client.{ClientState, client_input}
 use Rattle.curp_model.specs.Manager.{ManagerState, manager_input}
-use Rattle.curp_model.specs.Master.{MasterState}
+use Rattle.curp_model.specs.Recovery.{MasterStage, master_input}
 use Rattle.curp_model.specs.Witness.{WitnessState, witness_input}
 
 -- the manager, of which there is one
@@ -16,9 +15,9 @@ manager_machine g given = manager_input g given
 unfoldable pub client_machine : Node ClientState → Input → Moved (Node ClientState)
 client_machine c given = numbered_move c.number (client_input c.number c.state given)
 
--- a master that serves
-unfoldable pub master_machine : Node MasterState → Input → Moved (Node MasterState)
-master_machine m given = numbered_move m.number (on_input m.number m.state given)
+-- a master
+unfoldable pub master_machine : Node MasterStage → Input → Moved (Node MasterStage)
+master_machine m given = numbered_move m.number (master_input m.number m.state given)
 
 -- a backup
 unfoldable pub backup_machine : Node BackupState → Input → Moved (Node BackupState)

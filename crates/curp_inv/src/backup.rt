@@ -1,6 +1,6 @@
 ghost use Rattle.std.specs.Prelude.{◌≡◌};
 ghost use Rattle.curp_cmd.specs.Node.{backup_node};
-ghost use Rattle.curp_model.specs.Backup.{installed_backup, on_backup};
+ghost use Rattle.curp_model.specs.Backup.{fresh_backup, installed_backup, on_backup};
 ghost use Rattle.curp_msg.specs.Moved.{Moves, numbered_move, says};
 
 use curp_backup::{AppendError, Backup, FenceError};
@@ -30,6 +30,18 @@ impl Model for BackupNode {
 }
 
 impl BackupNode {
+    /// A backup of that number that wasn't installed, and keeps nothing. It takes no memory.
+    pub fn fresh(alloc: Global, number: u32) -> BackupNode
+        ensures number { result.number ≡ number }
+        ensures state { result.state ≡ fresh_backup }
+    {
+        BackupNode {
+            alloc,
+            number,
+            backup: Backup::new(alloc),
+        }
+    }
+
     /// A backup of that number as at opening: it is installed at that epoch, and keeps nothing. It takes no memory.
     pub fn new(alloc: Global, number: u32, epoch: u32) -> BackupNode
         ensures number { result.number ≡ number }

@@ -7,6 +7,7 @@ pub mod laws;
 mod manager;
 mod master;
 mod places;
+mod stage;
 #[cfg(test)]
 mod tests;
 mod witness;

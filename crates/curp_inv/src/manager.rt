@@ -1,9 +1,11 @@
 ghost use Rattle.std.specs.Prelude.{◌≡◌, ◌*◌, ◌<◌, IfOk};
-ghost use Rattle.curp_model.specs.Manager.{opening_manager};
+ghost use Rattle.std.specs.Option.{option_map};
+ghost use Rattle.curp_model.specs.Manager.{adopted_by, opening_manager};
 
 use curp_base::NoMemory;
+use curp_cmd::NodeId;
 use curp_config::{Manager, Shape};
-use curp_msg::{Config, Core, Done, Local, Message};
+use curp_msg::{Config, Core, Done, Local, Message, Recover};
 use std::alloc::Global;
 use std::marker::Model;
 
@@ -37,6 +39,42 @@ impl ManagerNode {
         ensures { result.now ≡ self.now.config }
     {
         self.manager.config()
+    }
+
+    /// How many backups and as many witnesses a partition has.
+    pub fn keepers(&self) -> u32
+        ensures { result ≡ self.now.shape.f }
+    {
+        self.manager.keepers()
+    }
+
+    /// The number that the next fresh master gets.
+    pub fn next_master(&self) -> u32
+        ensures { result ≡ self.now.next.master }
+    {
+        self.manager.next_master()
+    }
+
+    /// The number that the next fresh backup gets.
+    pub fn next_backup(&self) -> u32
+        ensures { result ≡ self.now.next.backup }
+    {
+        self.manager.next_backup()
+    }
+
+    /// The number that the next fresh witness gets.
+    pub fn next_witness(&self) -> u32
+        ensures { result ≡ self.now.next.witness }
+    {
+        self.manager.next_witness()
+    }
+
+    /// The recovery that a message lets the manager adopt, if it does: its master and its order.
+    pub fn adoption(&self, message: &Message) -> Option<(NodeId, &Recover)>
+        ensures { option_map (λ a. record { master = a.0; order = a.1.now }) result
+            ≡ adopted_by self.now message.now.body }
+    {
+        self.manager.adoption(message)
     }
 }
 

@@ -1,6 +1,6 @@
 ghost use Rattle.std.specs.Prelude.{◌≡◌, ◌<◌, ◌↔◌, ◌⊎◌, Err, IfOk};
 ghost use Rattle.curp_cmd.specs.Node.{witness_node};
-ghost use Rattle.curp_model.specs.Witness.{HoldsInOrder, on_witness, started_witness};
+ghost use Rattle.curp_model.specs.Witness.{HoldsInOrder, fresh_witness, on_witness, started_witness};
 ghost use Rattle.curp_msg.specs.Moved.{Moves, numbered_move, says};
 
 use curp_base::{Items, NoMemory};
@@ -30,6 +30,21 @@ impl Model for WitnessNode {
 }
 
 impl WitnessNode {
+    /// A witness of that number that wasn't started, and holds nothing. All memory for its slots is taken here.
+    pub fn fresh(alloc: Global, number: u32, sets: u32, ways: u32) -> Result<WitnessNode, ShapeError>
+        ensures number { IfOk result (λ w. w.number ≡ number) }
+        ensures state { IfOk result (λ w. w.state ≡ fresh_witness sets ways) }
+        ensures bad_shape { (result ≡ Err ShapeError.BadShape)
+            ↔ ((sets < 1) ⊎ ((1024 < sets) ⊎ ((ways < 1) ⊎ (16 < ways)))) }
+    {
+        let witness = Witness::new(alloc, sets, ways)?;
+        Ok(WitnessNode {
+            alloc,
+            number,
+            witness,
+        })
+    }
+
     /// A witness of that number as at opening: it was started at that epoch, and holds nothing. All memory for its
     /// slots is taken here.
     pub fn new(

@@ -50,7 +50,8 @@ with_entry j entry is_free = record j {
   free = free_with j.free (length j.entries) is_free;
 }
 
--- the tail is what isn't synced of the log, and the free indexes stand in the log
-pub record IsBeside (j : Journaled) (tail : List TailEntry) : Type 0 where
-  pub its_tail : tail ≡ tail_of j.entries j.synced
+-- the tail tells of the log from a place on that stands no earlier than what is synced, and the free indexes stand in the log
+pub record IsBeside (j : Journaled) (told : ℕ) (tail : List TailEntry) : Type 0 where
+  pub its_tail : tail ≡ tail_of j.entries told
+  pub covers : j.synced ≤ told
   pub stand : Each (λ index. index < length j.entries) j.free

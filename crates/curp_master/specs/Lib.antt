@@ -7,6 +7,7 @@ pub mod Moving
 pub mod Phases
 pub mod Rounds
 pub mod Settling
+pub mod Shells
 pub mod Suspects
 pub mod Switching
 pub mod Updates

@@ -53,6 +53,13 @@ impl Acknowledged {
         long <= self.long && round <= self.round
     }
 
+    fn set(&mut self, long: u64, round: u64)
+        ensures { self.new ≡ record self.old { length = long; round = round } }
+    {
+        self.long = long;
+        self.round = round;
+    }
+
     // What is acknowledged never falls.
     fn raise(&mut self, long: u64, round: u64)
         ensures { self.new ≡ record self.old {
@@ -90,6 +97,15 @@ pub(crate) fn all_at(
         all.push(Acknowledged::new(*backup, long, round))?;
     }
     Ok(all)
+}
+
+/// Each backup of the list has acknowledged just so much. It takes no memory.
+pub(crate) fn set_all(all: &mut [Acknowledged], long: u64, round: u64)
+    ensures { all.new ≡ map (λ a. record a { length = long; round = round }) all.old }
+{
+    for each in all {
+        each.set(long, round);
+    }
 }
 
 /// What is acknowledged with a length and a round of that backup more.

@@ -12,7 +12,7 @@ use std::marker::Model;
 
 /// A read that waits: its value and the log's length as they were when it came, and the round that was begun for it.
 #[derive(Debug, Drop)]
-pub(crate) struct Captured {
+pub struct Captured {
     number: u64,
     id: RequestId,
     command: Command,
@@ -64,10 +64,31 @@ impl Captured {
         }
     }
 
-    pub(crate) fn number(&self) -> u64
+    /// Which capture of its master it is, counted from 1.
+    pub fn number(&self) -> u64
         ensures { result ≡ self.now.number }
     {
         self.number
+    }
+
+    /// The request that reads.
+    pub fn id(&self) -> RequestId
+        ensures { result ≡ self.now.id }
+    {
+        self.id
+    }
+
+    pub fn command(&self) -> Command
+        ensures { result ≡ self.now.command }
+    {
+        self.command
+    }
+
+    /// The log's length as it was captured.
+    pub fn log_length(&self) -> u64
+        ensures { result ≡ self.now.length }
+    {
+        self.long
     }
 
     /// Whether all of these backups have acknowledged the length and the round.

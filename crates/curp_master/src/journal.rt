@@ -8,6 +8,7 @@ ghost use Rattle.curp_tail.specs.Tail.{tail_of};
 ghost use Rattle.curp_master.specs.Journal.{CanPush, HasRoom, free_with, journal_of, with_entry};
 
 use crate::indexes::Indexes;
+use crate::untold::{between, touch};
 use curp_base::{NoMemory, past};
 use curp_cmd::{Answer, Command, Entry, Request};
 use curp_log::Log;
@@ -22,8 +23,10 @@ use std::marker::Model;
 pub(crate) struct Journal {
     alloc: Global,
     log: Log,
-    tail: Tail,
     synced: u64,
+    // It tells of the entries from `told` on. Those before that aren't synced are looked at themselves.
+    tail: Tail,
+    told: u64,
     free: Indexes,
 }
 
@@ -39,22 +42,24 @@ impl Model for Journal {
       marks = j.free.spare;
     } };
 
-    ghost invariant = { λ j. IsBeside (journal_of j.log j.synced j.free.numbers) j.tail.entries };
+    ghost invariant = { λ j. IsBeside (journal_of j.log j.synced j.free.numbers) j.told j.tail.entries };
 }
 
 impl Journal {
-    /// A log of which so many entries are synced.
-    pub(crate) fn new(alloc: Global, log: Log, synced: u64) -> Result<Journal, NoMemory>
-        ensures { IfOk result (λ journal. journal.kept ≡ journal_of log synced []) }
+    /// A log of which so many entries are synced. It takes no memory.
+    pub(crate) fn new(alloc: Global, log: Log, synced: u64) -> Journal
+        ensures { result.kept ≡ journal_of log synced [] }
     {
-        let tail = tail_of(alloc, &log, synced)?;
-        Ok(Journal {
+        tail_follows_log();
+        let told = log.len().max(synced);
+        Journal {
             alloc,
             log,
-            tail,
             synced,
+            tail: Tail::new(alloc),
+            told,
             free: Indexes::new(alloc),
-        })
+        }
     }
 
     pub(crate) fn log(&self) -> &Log
@@ -76,7 +81,8 @@ impl Journal {
         ensures { result ≡ not (is_touched (drop self.now.kept.synced self.now.kept.entries) command.now) }
     {
         tail_tells_of_log();
-        !self.tail.covers_dirty(command)
+        let untold = between(self.log.entries(), self.synced, self.told);
+        !touch(untold, command) && !self.tail.covers_dirty(command)
     }
 
     pub(crate) fn is_free(&self, index: u64) -> bool
@@ -105,7 +111,7 @@ impl Journal {
         ensures marks { self.old.marks ≤ self.new.marks + room_of entry }
     {
         let index = self.log.len();
-        follow(&mut self.tail, &self.log, &entry, self.synced);
+        follow(&mut self.tail, &self.log, &entry, self.told);
         mark(&mut self.free, index, is_free);
         self.log.push(entry);
     }
@@ -129,7 +135,8 @@ impl Journal {
         ensures settled { self.new.kept ≡ record self.old.kept { synced = synced } }
     {
         tail_follows_log();
-        self.tail.synced(synced);
+        self.told = self.told.max(synced);
+        self.tail.synced(self.told);
         self.synced = synced;
     }
 
@@ -142,6 +149,7 @@ impl Journal {
             self.settle(synced);
         } else {
             self.tail = tail_of(self.alloc, &self.log, synced)?;
+            self.told = synced;
             self.synced = synced;
         }
         Ok(())
@@ -158,25 +166,25 @@ pub(crate) fn op_of(request: &Request) -> Entry
     }
 }
 
-// The tail of a log of which so many entries are synced.
-fn tail_of(alloc: Global, log: &Log, synced: u64) -> Result<Tail, NoMemory>
-    ensures { IfOk result (λ tail. tail.entries ≡ tail_of log.now.entries synced) }
+// What a tail tells of a log from a place on.
+fn tail_of(alloc: Global, log: &Log, told: u64) -> Result<Tail, NoMemory>
+    ensures { IfOk result (λ tail. tail.entries ≡ tail_of log.now.entries told) }
 {
     let mut tail = Tail::new(alloc);
-    tail.add(past(log.entries(), synced), synced)?;
+    tail.add(past(log.entries(), told), told)?;
     Ok(tail)
 }
 
 // The tail follows the log, into which the entry comes next.
-fn follow(tail: &mut Tail, log: &Log, entry: &Entry, synced: u64)
+fn follow(tail: &mut Tail, log: &Log, entry: &Entry, told: u64)
     requires room { 4 ≤ tail.old.spare }
-    requires follows { tail.old.entries ≡ tail_of log.now.entries synced }
-    ensures follows { tail.new.entries ≡ tail_of (log.now.entries ++ entry.now ∷ []) synced }
+    requires follows { tail.old.entries ≡ tail_of log.now.entries told }
+    ensures follows { tail.new.entries ≡ tail_of (log.now.entries ++ entry.now ∷ []) told }
     ensures spare { tail.old.spare ≤ tail.new.spare + 4 }
 {
     tail_follows_log();
     let length = log.len();
-    if synced <= length {
+    if told <= length {
         tail.add_reserved(std::slice::from_ref(entry), length);
     }
 }

@@ -17,12 +17,16 @@ mod replies;
 mod round;
 mod rounds;
 mod settling;
+mod shell;
 mod suspects;
 mod switching;
 #[cfg(test)]
 mod tests;
+mod untold;
 mod updates;
 mod verdict;
 
+pub use captured::Captured;
 pub use master::Master;
 use round::Round;
+pub use shell::Shell;

@@ -1,14 +1,17 @@
-ghost use Rattle.std.specs.Prelude.{◌≡◌, ◌≤◌, IfOk};
+ghost use Rattle.std.specs.Prelude.{◌≡◌, ◌-◌, ◌≤◌, length, slice_get, IfOk};
+ghost use Rattle.std.specs.Option.{option_copied};
 ghost use Rattle.curp_base.specs.Words.{Each};
 ghost use Rattle.curp_model.specs.Master as master;
 ghost use Rattle.curp_model.specs.Master.{beginning, on_serving, serving_ordered};
 ghost use Rattle.curp_msg.specs.Moved.{Moves, numbered_move};
 
-use crate::acknowledged::{Acknowledged, all_at, least_length};
+use crate::acknowledged::{Acknowledged, least_length, set_all};
+use crate::captured::Captured;
 use crate::captures::Captures;
 use crate::indexes::Indexes;
 use crate::journal::Journal;
 use crate::phase::Phase;
+use crate::shell::Shell;
 use crate::verdict::Wish;
 use curp_base::NoMemory;
 use curp_cmd::NodeId;
@@ -74,8 +77,8 @@ impl Model for Master {
 }
 
 impl Master {
-    /// Master `number` of a partition, with lists of that version, whose every backup has the log as of that round.
-    pub fn begin(
+    /// Takes the memory of master `number` of a partition, with lists of that version.
+    pub fn shell(
         alloc: Global,
         number: u32,
         part: u32,
@@ -83,18 +86,26 @@ impl Master {
         version: u32,
         backups: Vec<NodeId>,
         witnesses: Vec<NodeId>,
-        log: Log,
-        round: u64,
-    ) -> Result<Master, NoMemory>
-        ensures number { IfOk result (λ m. m.number ≡ number) }
-        ensures state { IfOk result (λ m. m.state
-            ≡ beginning part epoch version backups.items witnesses.items log.lo log.hi log.entries round) }
+    ) -> Result<Shell, NoMemory>
+        ensures { IfOk result (λ shell. shell ≡ record {
+          number = number;
+          part = part;
+          epoch = epoch;
+          version = version;
+          backups = backups.items;
+          witnesses = witnesses.items;
+        }) }
     {
-        let settled = log.len();
-        let acknowledged = all_at(alloc, &backups, settled, round)?;
-        let synced = least_length(&acknowledged, &backups);
-        let journal = Journal::new(alloc, log, synced)?;
-        Ok(Master {
+        Shell::new(alloc, number, part, epoch, version, backups, witnesses)
+    }
+
+    /// It serves with a log that every backup of its list holds, as of that round. It takes no memory.
+    pub fn begin(shell: Shell, log: Log, round: u64) -> Master
+        ensures number { result.number ≡ shell.number }
+        ensures state { result.state ≡ beginning shell.part shell.epoch shell.version shell.backups shell.witnesses
+            log.lo log.hi log.entries round }
+    {
+        let Shell {
             alloc,
             number,
             part,
@@ -102,7 +113,20 @@ impl Master {
             version,
             backups,
             witnesses,
-            journal,
+            mut acknowledged,
+        } = shell;
+        let settled = log.len();
+        set_all(&mut acknowledged, settled, round);
+        let synced = least_length(&acknowledged, &backups);
+        Master {
+            alloc,
+            number,
+            part,
+            epoch,
+            version,
+            backups,
+            witnesses,
+            journal: Journal::new(alloc, log, synced),
             acknowledged,
             settled,
             round,
@@ -110,7 +134,7 @@ impl Master {
             held: Indexes::new(alloc),
             queue: Queue::new(alloc),
             phase: Phase::Open,
-        })
+        }
     }
 
     /// A message comes to the master. Its addressee isn't looked at. Where the number of a round would pass 2^64 - 1
@@ -185,6 +209,14 @@ impl Master {
         // For its clause alone.
         let _waiting = self.captures.waiting();
         self.captures.count()
+    }
+
+    /// The read that was captured last, if it still waits.
+    pub fn last_capture(&self) -> Option<&Captured>
+        ensures { option_copied result
+            ≡ slice_get self.now.state.captures (length self.now.state.captures - 1) }
+    {
+        self.captures.waiting().last()
     }
 
     pub fn epoch(&self) -> u32

@@ -211,7 +211,8 @@ fn begin(alloc: Global, backups: u32, hi: u64, round: u64) -> Result<Master, Fai
     }
     let witnesses = vec![in alloc; NodeId::witness(1)]?;
     let log = Log::begin(alloc, 0, hi)?;
-    Ok(Master::begin(alloc, 1, 1, 1, 1, nodes, witnesses, log, round)?)
+    let shell = Master::shell(alloc, 1, 1, 1, 1, nodes, witnesses)?;
+    Ok(Master::begin(shell, log, round))
 }
 
 fn give(alloc: Global, master: &mut Master, comes: Comes) -> Result<Vec<Said>, Fail> {

@@ -1,3 +1,4 @@
 pub mod Answers
 pub mod Heard
 pub mod Stage
+pub mod Turned

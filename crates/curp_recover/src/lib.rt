@@ -10,7 +10,9 @@ mod replay;
 mod stage;
 #[cfg(test)]
 mod tests;
+mod turned;
 
 pub use error::RecoverError;
 pub use phase::Phase;
 pub use recovery::Recovery;
+pub use turned::turned_away;

@@ -5,7 +5,7 @@ ghost use Rattle.curp_model.specs.Log.{is_log};
 ghost use Rattle.curp_cmd.specs.Node.{same_node};
 ghost use Rattle.curp_model.specs.Recovery.{Recovering, again_in, append_answered, both_there, fence_answered};
 ghost use Rattle.curp_model.specs.Recovery.{log_comes, on_master, on_recover, recovery_ordered, requests_come};
-ghost use Rattle.curp_model.specs.Recovery.{stored_comes, turns_away, turns_read_away};
+ghost use Rattle.curp_model.specs.Recovery.{stored_comes};
 ghost use Rattle.curp_msg.specs.Moved.{Makes, Moves, done_of, numbered_move};
 ghost use Rattle.curp_recover.specs.Answers.{TellsIgnored, awaits_backups, awaits_log, awaits_requests};
 ghost use Rattle.curp_recover.specs.Stage.{IsStage, phase_of};
@@ -14,11 +14,12 @@ ghost use Rattle.curp_recover.specs.Heard.{heard, is_serving, unadopted};
 
 use crate::replay::replayed;
 use crate::stage::{Awaited, ReplayedLog, Stage, awaited_after};
+use crate::turned::turned_away;
 use crate::{Phase, RecoverError, messages};
 use curp_base::{Items, NoMemory, TryCopy, copies_of};
-use curp_cmd::{Entry, NodeId, Request, RequestId};
+use curp_cmd::{Entry, NodeId, Request};
 use curp_log::{Log, is_log};
-use curp_msg::{AppendAnswer, Appended, Body, Done, FenceReply, Local, Message, Recover, Refusal};
+use curp_msg::{AppendAnswer, Appended, Body, Done, FenceReply, Local, Message, Recover};
 use std::alloc::{AllocError, Global};
 use std::marker::Model;
 
@@ -77,10 +78,7 @@ impl Recovery {
                 self.on_frozen_answer(&message.from, requests.as_slice())
             }
             Body::Appended(appended) => self.on_appended(&message.from, appended),
-            Body::Update(ask) => self.turn_away(&ask.get().request.id),
-            Body::Sync(ask) => self.turn_away(&ask.get().request.id),
-            Body::Read(ask) => self.turn_read_away(&ask.get().request),
-            _ => Ok(Done::quiet(self.alloc)),
+            _ => turned_away(self.alloc, self.number, &message.body),
         }
     }
 
@@ -358,25 +356,6 @@ impl Recovery {
             }
             _ => Ok(Done::quiet(self.alloc)),
         }
-    }
-
-    // A client is refused until the master is adopted.
-    fn turn_away(&self, id: &RequestId) -> Result<Done, NoMemory>
-        ensures { IfOk result (λ done. done ≡ done_of (turns_away self.now.number (Recovering self.now.state) id.now)) }
-    {
-        let refusal = messages::refuse(self.number, *id, Refusal::Switching);
-        Ok(Done::sends(vec![in self.alloc; refusal]?))
-    }
-
-    // A read too, but nothing else that is sent as one.
-    fn turn_read_away(&self, request: &Request) -> Result<Done, NoMemory>
-        ensures { IfOk result (λ done. done
-            ≡ done_of (turns_read_away self.now.number (Recovering self.now.state) request.now)) }
-    {
-        if request.command.is_update() {
-            return Ok(Done::quiet(self.alloc));
-        }
-        self.turn_away(&request.id)
     }
 
     // ----

@@ -3,13 +3,11 @@ use Rattle.std.specs.Prelude.{◌≡◌, ℕ, nat_lt, ◌==◌, if◌then◌else
 use Rattle.std.specs.Option.{option_map}
 use Rattle.curp_base.specs.Cases.{first_case, only_if}
 use Rattle.curp_base.specs.Words.{numbered}
+use Rattle.curp_cmd.specs.Node.{client_node, manager_node, master_node}
 use Rattle.curp_cmd.specs.declared.command.Command.{Command}
 use Rattle.curp_cmd.specs.declared.command.RequestId.{RequestId}
 use Rattle.curp_cmd.specs.declared.node.NodeId.{NodeId}
-use Rattle.curp_cmd.specs.declared.node.NodeKind.{NodeKind}
-use Rattle.curp_cmd.specs.declared.node.NodeKind.TheVariants.{Client, Master}
 use Rattle.curp_model.specs.Client.{ClientState}
-use Rattle.curp_facts.specs.Sent.{IsBuilt, IsSaidTo}
 use Rattle.curp_model.specs.World.{Deed, Gives, Stepped, World, delivery, effect, has_node, is_stopped, messages}
 use Rattle.curp_model.specs.World.{steps_by, weight, weight_limit}
 use Rattle.curp_msg.specs.declared.machine.Input.{Input}
@@ -19,6 +17,8 @@ use Rattle.curp_msg.specs.declared.machine.Local.TheVariants as local
 use Rattle.curp_msg.specs.declared.message.Message.{Message}
 use Rattle.curp_msg.specs.declared.outcome.StepResult.{StepResult}
 use Rattle.curp_msg.specs.declared.outcome.StepResult.TheVariants as result
+use Rattle.curp_msg.specs.declared.script.Step.{Step}
+use Rattle.curp_msg.specs.declared.script.Step.TheVariants as step
 use Rattle.curp_world.specs.declared.given.Gift.{Gift}
 use Rattle.curp_world.specs.declared.given.Gift.TheVariants as gift
 use Rattle.curp_world.specs.declared.given.Given.{Given}
@@ -29,30 +29,33 @@ abbrev pub input_of : Given → Input
 input_of (given.Message m) = input.Message m.now
 input_of (given.Order order) = input.Local order.now
 
--- ---- what is built
+-- ---- what a step hands to a node
 
--- the order is one that nodes of that kind get
-abbrev pub IsOrderFor : NodeKind → Local → Type 0
-IsOrderFor Client (local.Invoke command) = ⊤
-IsOrderFor Master local.Sync = ⊤
-IsOrderFor _ _ = ⊥
-
--- the input is one that the node of that kind and number gets
-abbrev pub IsFor : NodeKind → ℕ → Input → Type 0
-IsFor kind n (input.Message m) = IsSaidTo kind n m.body
-IsFor kind n (input.Local order) = IsOrderFor kind order
-
--- the message of that number was sent to the node, and is of a kind that is built for it
+-- the message of that number was sent, and goes to the node
 pub record IsMessageTo (w : World) (number : ℕ) (to : NodeId) : Type 0 where
   pub message : Message
   pub found : numbered (messages w) number ≡ Some message
   pub addressee : message.to ≡ to
-  pub built : IsBuilt message
 
 -- the node may get it
 abbrev pub CanGet : World → NodeId → Gift → Type 0
 CanGet w to (gift.Message number) = IsMessageTo w number to
-CanGet w to (gift.Order order) = IsOrderFor to.kind order
+CanGet w to (gift.Order order) = ⊤
+
+-- the node and the order that a step is for, if it is one
+abbrev pub order_of : Step → Option (NodeId × Local)
+order_of (step.Invoke n command) = Some (client_node n, local.Invoke command)
+order_of (step.Retry n seq) = Some (client_node n, local.Retry seq)
+order_of (step.Fetch n) = Some (client_node n, local.Fetch)
+order_of (step.Sync n) = Some (master_node n, local.Sync)
+order_of (step.Collect n) = Some (master_node n, local.Collect)
+order_of (step.Recover part backup witness) = Some (manager_node, local.Recover part backup witness)
+order_of (step.Replace keeper part place) = Some (manager_node, local.Replace keeper part place)
+order_of (step.Migrate lo hi to) = Some (manager_node, local.Migrate lo hi to)
+order_of step.Nudge = Some (manager_node, local.Nudge)
+order_of (step.Expire n) = Some (manager_node, local.Expire n)
+order_of (step.Deliver number) = None
+order_of (step.Stop node) = None
 
 -- ---- what comes of it
 

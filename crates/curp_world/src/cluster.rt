@@ -1,16 +1,15 @@
-ghost use Rattle.std.specs.Prelude.{◌≡◌, ◌≤◌, ◌++◌, ◌+◌, ℕ, length, OnOk, OnErr, IfOk, IsSome, Some};
+ghost use Rattle.std.specs.Prelude.{◌≡◌, ◌≤◌, ◌++◌, ◌+◌, length, OnOk, OnErr, IfOk, IsSome, Some};
 ghost use Rattle.std.specs.Option.{option_map};
-ghost use Rattle.curp_base.specs.Words.{At, all_of, numbered};
-ghost use Rattle.curp_facts.specs.Built.{CanStep};
-ghost use Rattle.curp_facts.specs.Sent.{IsBuilt};
+ghost use Rattle.curp_base.specs.Words.{all_of, numbered};
+ghost use Rattle.curp_facts.specs.Run.{IsHeader};
 ghost use Rattle.curp_model.specs.World as world;
-ghost use Rattle.curp_msg.specs.declared.message.Message.{Message};
 ghost use Rattle.curp_order.specs.Recorded.{invocation};
 ghost use Rattle.curp_world.specs.Given.{CanGet, barrier, hands, input_in, input_of};
 
 use crate::given::{Gift, Given};
-use crate::marks::{flag, log_length, mark_pushed, most_marks};
+use crate::marks::{due, flag};
 use crate::nodes::Nodes;
+use crate::orders::order_of;
 use crate::sent::Sent;
 use crate::stopped::Stopped;
 use curp_base::NoMemory;
@@ -24,11 +23,10 @@ use std::marker::Model;
 /// Beyond this weight of all messages no node gets anything more.
 const WEIGHT_LIMIT: u64 = 2_000_000;
 
-/// All nodes, every message that was ever sent, the history, and the marks. The manager doesn't move in what is built, so
-/// its header tells it.
+/// All nodes, every message that was ever sent, the history, and the marks.
 #[derive(Drop)]
 pub(crate) struct Cluster {
-    header: Header,
+    alloc: Global,
     nodes: Nodes,
     stopped: Stopped,
     sent: Sent,
@@ -42,17 +40,17 @@ impl Model for Cluster {
 
     ghost Value = { World };
 
-    ghost view = { λ c. seen c.header c.nodes c.stopped c.sent.lists c.history.events c.marks.marks };
+    ghost view = { λ c. seen c.nodes c.stopped c.sent.lists c.history.events c.marks.marks };
 }
 
 impl Cluster {
     /// The nodes of a header as at opening.
     pub(crate) fn new(alloc: Global, header: &Header) -> Result<Cluster, NoMemory>
-        requires { header.now.parts ≡ 1 }
+        requires { IsHeader header.now }
         ensures { IfOk result (λ cluster. cluster ≡ world.opening header.now) }
     {
         Ok(Cluster {
-            header: *header,
+            alloc,
             nodes: Nodes::new(alloc, header)?,
             stopped: Stopped::new(alloc),
             sent: Sent::new(alloc),
@@ -88,29 +86,23 @@ impl Cluster {
 
     /// Makes a step.
     pub(crate) fn step(&mut self, step: &Step) -> Result<Outcome, NoMemory>
-        requires can { CanStep step.now }
-        requires built { (k : ℕ) (m : Message) → At (world.messages self.old) k m → IsBuilt m }
         ensures state { OnOk result (self.new ≡ (world.step self.old step.now).world) }
         ensures outcome { IfOk result (λ outcome. outcome ≡ (world.step self.old step.now).outcome) }
         ensures err { OnErr result (self.new ≡ self.old) }
     {
         match step {
-            Step::Invoke { client, command } => {
-                self.hand(
-                    NodeId::client(*client),
-                    &Gift::Order(Local::Invoke(*command)),
-                )
-            }
             Step::Deliver { message } => match self.addressee(*message) {
                 None => Ok(self.silent(StepResult::NoMessage)),
                 Some(to) => self.hand(to, &Gift::Message(*message)),
             },
-            Step::Sync { master } => {
-                self.hand(NodeId::master(*master), &Gift::Order(Local::Sync))
-            }
             Step::Stop { node } => self.stop(*node),
-            // No other kind of step is built.
-            _ => unreachable!(),
+            Step::Expire { client } if !self.has_node(NodeId::client(*client)) => {
+                Ok(self.silent(StepResult::NoNode))
+            }
+            _ => match order_of(step) {
+                Some((to, order)) => self.hand(to, &Gift::Order(order)),
+                None => unreachable!(),
+            },
         }
     }
 
@@ -134,15 +126,14 @@ impl Cluster {
         self.sent.reserve()?;
         self.history.reserve(2)?;
         let given = given_of(&self.sent, gift);
-        self.marks.reserve(most_marks(&given))?;
-        let former = log_length(self.nodes.master(to));
+        let due = due(self.alloc, &self.nodes, to, &given)?;
+        self.marks.reserve(due.most(&given))?;
         let done = self.nodes.give(to, &given)?;
         if done.refused != 0 {
             let number = done.refused;
             return Ok(self.silent(StepResult::Refused { number }));
         }
-        let master = self.nodes.master(to);
-        mark_pushed(&mut self.marks, &self.header, to, master, former);
+        due.mark(&mut self.marks, to, &self.nodes);
         flag(&mut self.marks, done.completed);
         let invoked = self.nodes.invoked(to, gift);
         Ok(keep(&mut self.sent, &mut self.history, invoked, done))

@@ -3,10 +3,12 @@
 
 mod cluster;
 mod given;
+mod growing;
 mod marks;
 mod nodes;
 mod opening;
 mod ordered;
+mod orders;
 mod sent;
 mod stopped;
 #[cfg(test)]

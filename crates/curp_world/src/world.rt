@@ -4,7 +4,6 @@ ghost use Rattle.curp_base.specs.Words.{numbered};
 ghost use Rattle.curp_order.specs.Order.{IsHistory, IsOrder};
 ghost use Rattle.curp_script.specs.declared.error.FieldName.{FieldName};
 ghost use Rattle.curp_script.specs.Headers.{bad_field};
-ghost use Rattle.curp_facts.specs.Built.{CanStep};
 ghost use Rattle.curp_facts.specs.Run.{IsStep};
 ghost use Rattle.curp_model.specs.Causes.{IsLight, IsRunning, IsSent, IsThere, SparesManager};
 ghost use Rattle.curp_model.specs.World as world;
@@ -50,8 +49,8 @@ impl Model for World {
 }
 
 impl World {
-    /// The world of a header before any step: its clients, the master, its backups and its witnesses. All memory for
-    /// the witnesses' slots is taken here.
+    /// The world of a header before any step: its clients, the manager, and the master, the backups and the witnesses of
+    /// each partition.
     pub fn begin(alloc: Global, header: &Header) -> Result<World, BeginError>
         ensures ok { IfOk result (λ w. w ≡ world.world header.now []) }
         ensures bad_header { (field : FieldName) → (result ≡ Err (BeginError.BadHeader field))
@@ -66,10 +65,9 @@ impl World {
         }
     }
 
-    /// Makes a step. It is of a kind that is built. Where it can't be made the outcome tells why: the first cause that
+    /// Makes a step. Where it can't be made the outcome tells why: the first cause that
     /// holds, in the order of these clauses. No node gets anything once all messages weigh more than 2,000,000.
     pub fn step(&mut self, step: &Step) -> Result<Outcome, NoMemory>
-        requires { CanStep step.now }
         ensures state { OnOk result (self.new ≡ (world.step self.old step.now).world) }
         ensures outcome { IfOk result (λ outcome. outcome ≡ (world.step self.old step.now).outcome) }
         ensures no_message { IfOk result (λ outcome. (outcome.result ≡ StepResult.NoMessage)
@@ -92,7 +90,6 @@ impl World {
         ensures err { OnErr result (self.new ≡ self.old) }
     {
         names_its_keys(step);
-        laws::messages_are_built();
         laws::results_have_causes();
         laws::only_the_named_node_moves();
         self.cluster.step(step)

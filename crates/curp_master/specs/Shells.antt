@@ -1,0 +1,17 @@
+-- A master without its log, before it serves.
+use Rattle.std.specs.Prelude.{ℕ, List, length, map}
+use Rattle.curp_cmd.specs.declared.node.NodeId.{NodeId}
+use Rattle.curp_model.specs.Master.{Acknowledged}
+
+-- which master of which partition it is, and its lists
+pub record Shell : Type 0 where
+  pub number : ℕ
+  pub part : ℕ
+  pub epoch : ℕ
+  pub version : ℕ
+  pub backups : List NodeId
+  pub witnesses : List NodeId
+
+-- each backup has acknowledged just so much
+abbrev pub all_at : List NodeId → ℕ → ℕ → List Acknowledged
+all_at backups long round = map (λ b. record { backup = b; length = long; round = round }) backups

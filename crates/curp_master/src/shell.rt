@@ -1,0 +1,71 @@
+ghost use Rattle.std.specs.Prelude.{◌≡◌, IfOk};
+
+use crate::acknowledged::{Acknowledged, all_at};
+use curp_base::NoMemory;
+use curp_cmd::NodeId;
+use std::alloc::Global;
+use std::marker::Model;
+
+/// All memory of a master that has no log yet. Contracts see which master it is, and its lists.
+#[derive(Drop)]
+pub struct Shell {
+    pub(crate) alloc: Global,
+    pub(crate) number: u32,
+    pub(crate) part: u32,
+    pub(crate) epoch: u32,
+    pub(crate) version: u32,
+    pub(crate) backups: Vec<NodeId>,
+    pub(crate) witnesses: Vec<NodeId>,
+    pub(crate) acknowledged: Vec<Acknowledged>,
+}
+
+impl Model for Shell {
+    ghost use Rattle.std.specs.Prelude.{◌≡◌};
+    ghost use Rattle.curp_master.specs.Shells as shells;
+
+    ghost Value = { shells.Shell };
+
+    ghost view = { λ s. record {
+      number = s.number;
+      part = s.part;
+      epoch = s.epoch;
+      version = s.version;
+      backups = s.backups.items;
+      witnesses = s.witnesses.items;
+    } };
+
+    ghost invariant = { λ s. s.acknowledged.items ≡ shells.all_at s.backups.items 0 0 };
+}
+
+impl Shell {
+    pub(crate) fn new(
+        alloc: Global,
+        number: u32,
+        part: u32,
+        epoch: u32,
+        version: u32,
+        backups: Vec<NodeId>,
+        witnesses: Vec<NodeId>,
+    ) -> Result<Shell, NoMemory>
+        ensures { IfOk result (λ shell. shell ≡ record {
+          number = number;
+          part = part;
+          epoch = epoch;
+          version = version;
+          backups = backups.items;
+          witnesses = witnesses.items;
+        }) }
+    {
+        let acknowledged = all_at(alloc, &backups, 0, 0)?;
+        Ok(Shell {
+            alloc,
+            number,
+            part,
+            epoch,
+            version,
+            backups,
+            witnesses,
+            acknowledged,
+        })
+    }
+}

@@ -1,0 +1,37 @@
+// Entries of a log of which no tail tells.
+ghost use Rattle.std.specs.Prelude.{◌≡◌, ◌≤◌, ◌++◌, drop};
+ghost use Rattle.std.specs.List.{list_any};
+ghost use Rattle.curp_model.specs.Log.{entry_touches, is_touched};
+
+use curp_base::past;
+use curp_cmd::{Command, Entry, Hashes};
+use curp_tail::Touched;
+use curp_tail::laws::tail_tells_of_log;
+
+/// The entries from a place on, as far as another place.
+pub(crate) fn between(entries: &[Entry], from: u64, to: u64) -> &[Entry]
+    requires { from ≤ to }
+    ensures { drop from entries.now ≡ result.now ++ drop to entries.now }
+{
+    let rest = past(entries, from);
+    let count = (to - from).min(rest.len() as u64);
+    &rest[..count as usize]
+}
+
+/// Whether some entry touches a hash of the command.
+pub(crate) fn touch(entries: &[Entry], command: &Command) -> bool
+    ensures { result ≡ is_touched entries.now command.now }
+{
+    let hashes = Hashes::of(command);
+    entries
+        .iter()
+        .any(|entry| touches_any(entry, hashes.as_slice()))
+}
+
+fn touches_any(entry: &Entry, hashes: &[u64]) -> bool
+    ensures { result ≡ list_any (entry_touches entry.now) hashes.now }
+{
+    tail_tells_of_log();
+    let touched = Touched::of(entry);
+    hashes.iter().any(|hash| touched.touches(*hash))
+}

@@ -1,0 +1,200 @@
+-- What is marked of an input, by what was due before.
+use Rattle.std.proofs.Common.{◌≡◌, ◌⊎◌, inl, inr, ℕ, zero, suc, ◌+◌, ◌-◌, ◌<◌, ◌≤◌, Bool, true, false, if◌then◌else◌, nat_lt, List, [], ◌∷◌, ◌++◌, drop, length, map, slice_set, slice_get, Option, Some, None, append-nil, length-append, arith, refl, ap, sym, ◌∙◌, subst}
+use Rattle.std.proofs.lemmas.Bool.Decides.{nat_tests}
+use Rattle.std.specs.List.{filter}
+use Rattle.curp_base.specs.Words.{At, Each, numbered}
+use Rattle.curp_base.proofs.Lists.{at_set_same}
+use Rattle.curp_cmd.specs.Node.{master_node}
+use Rattle.curp_cmd.specs.declared.node.NodeId.{NodeId}
+use Rattle.curp_cmd.specs.declared.node.NodeKind.{NodeKind}
+use Rattle.curp_cmd.specs.declared.node.NodeKind.TheVariants as kind
+use Rattle.curp_model.specs.Backup.{BackupState, backup_input}
+use Rattle.curp_model.specs.Client.{ClientState, client_input}
+use Rattle.curp_model.specs.Manager.{Attempted, adoption, manager_input}
+use Rattle.curp_model.specs.Marks.{Mark}
+use Rattle.curp_model.specs.Master.{Captured, MasterState}
+use Rattle.curp_model.specs.Recovery.{Fresh, MasterStage, Recovering, Replayed, Serving, master_input}
+use Rattle.curp_model.specs.Witness.{WitnessState, witness_input}
+use Rattle.curp_model.specs.World.{World, capture_mark, is_adopted, marks_adopted, marks_after, master_marks, moves, moves_kind, moves_one, new_captures, op_marks, replayed_in, with_adoption, with_backup, with_client, with_master, with_witness}
+use Rattle.curp_msg.specs.Moved.{within}
+use Rattle.curp_msg.specs.declared.machine.Input.{Input}
+use Rattle.curp_world.specs.Marks.{Adopts, Behind, CapturesOne, DueMarks, HasRoomBehind, HasRoomFor, IsFew, IsFewOf, IsLastNew, IsSound, Nothing, due_marks, due_of_adoption, due_of_master, due_of_recovery, due_of_replay, marks_behind, marks_by, master_at, most_due, most_marks}
+use Rattle.curp_world.specs.Nodes.{NodeStates, nodes_of, with_nodes}
+
+-- ---- the marks after a move
+
+-- the nodes have moved, and what was due is marked
+abbrev MovedAs : World → NodeId → Input → World → Type 0
+MovedAs w to given v = v ≡ record (with_nodes w (nodes_of v)) { marks = marks_by (due_marks (nodes_of w) to given) to v.masters w.marks }
+
+-- of an adoption
+adopted_marks : (masters : List MasterStage) (to : NodeId) (after : List MasterStage) (marks : List Mark) (o : Option Attempted)
+    → with_adoption masters o marks ≡ marks_by (due_of_adoption masters o) to after marks
+adopted_marks masters to after marks None = refl
+adopted_marks masters to after marks (Some a) = recovered (numbered masters a.master.number)
+  where
+    replayed : (r : Option Replayed) → marks_after a r marks ≡ marks_by (due_of_replay a r) to after marks
+    replayed None = refl
+    replayed (Some r) = refl
+
+    recovered : (stage : Option MasterStage) → marks_adopted a stage marks ≡ marks_by (due_of_recovery a stage) to after marks
+    recovered None = refl
+    recovered (Some Fresh) = refl
+    recovered (Some (Recovering s)) = replayed (replayed_in s.phase)
+    recovered (Some (Serving m)) = refl
+
+-- what was put under a number has it
+set_there : {A : Type 0} (xs : List A) (n : ℕ) (x y : A) → numbered xs n ≡ Some x → numbered (slice_set xs (n - 1) y) n ≡ Some y
+set_there xs zero x y here = absurd cc
+set_there xs (suc k) x y here = let place : suc k - 1 ≡ k = omega arith in rw place (at_set_same xs k x y here)
+
+-- of a master
+left_behind : (node : NodeId) (before after : MasterStage) (marks : List Mark) (masters : List MasterStage) → numbered masters node.number ≡ Some after
+    → marks ++ master_marks node before after ≡ marks_by (due_of_master (Some before)) node masters marks
+left_behind node Fresh after marks masters there = append-nil marks
+left_behind node (Recovering s) after marks masters there = append-nil marks
+left_behind node (Serving m) after marks masters there =
+    rw there (ap (λ (left : List Mark). marks ++ left) (served after))
+  where
+    served : (after : MasterStage) → master_marks node (Serving m) after ≡ marks_behind node (length m.log) m.captured (Some after)
+    served Fresh = refl
+    served (Recovering s) = refl
+    served (Serving m') = refl
+
+if_adopted : (b : Bool) (node : NodeId) (before after : MasterStage) (marks : List Mark) (masters : List MasterStage) → numbered masters node.number ≡ Some after
+    → (if b then marks ++ master_marks node before after else marks) ≡ marks_by (if b then due_of_master (Some before) else Nothing) node masters marks
+if_adopted true node before after marks masters there = left_behind node before after marks masters there
+if_adopted false node before after marks masters there = refl
+
+nobody : (b : Bool) (node : NodeId) (marks : List Mark) (masters : List MasterStage) → marks ≡ marks_by (if b then due_of_master None else Nothing) node masters marks
+nobody true node marks masters = refl
+nobody false node marks masters = refl
+
+module _ (w : World) (n : ℕ) (given : Input) where
+  client_moved : (o : Option ClientState) → MovedAs w (record { kind = kind.Client; number = n }) given (moves_one w (λ c. within (with_client w n) (client_input n c given)) o).state
+  client_moved None = refl
+  client_moved (Some c) = refl
+
+  backup_moved : (o : Option BackupState) → MovedAs w (record { kind = kind.Backup; number = n }) given (moves_one w (λ b. within (with_backup w n) (backup_input n b given)) o).state
+  backup_moved None = refl
+  backup_moved (Some b) = refl
+
+  witness_moved : (o : Option WitnessState) → MovedAs w (record { kind = kind.Witness; number = n }) given (moves_one w (λ x. within (with_witness w n) (witness_input n x given)) o).state
+  witness_moved None = refl
+  witness_moved (Some x) = refl
+
+  master_moved : (o : Option MasterStage) → numbered w.masters n ≡ o
+      → let v : World = (moves_one w (λ s. within (with_master w n s) (master_input n s given)) o).state in
+      v ≡ record (with_nodes w (nodes_of v)) { marks = marks_by (if is_adopted w.manager (master_node n) then due_of_master o else Nothing) (master_node n) v.masters w.marks }
+  master_moved None is = ap (λ (marks : List Mark). record w { marks = marks }) (nobody (is_adopted w.manager (master_node n)) (master_node n) w.marks w.masters)
+  master_moved (Some s) is =
+      let after : MasterStage = (master_input n s given).state in
+      let v : World = with_master w n s after in
+      ap (λ (marks : List Mark). record v { marks = marks })
+      (if_adopted (is_adopted w.manager (master_node n)) (master_node n) s after w.marks v.masters (set_there w.masters n s after is))
+
+  -- what an input to a node leaves, whatever it is
+  pub moved_as : (k : NodeKind) → MovedAs w (record { kind = k; number = n }) given (moves_kind w k n given).state
+  moved_as kind.Client = client_moved (numbered w.clients n)
+  moved_as kind.Backup = backup_moved (numbered w.backups n)
+  moved_as kind.Witness = witness_moved (numbered w.witnesses n)
+  moved_as kind.Master = master_moved (numbered w.masters n) refl
+  moved_as kind.Manager =
+      let to : NodeId = record { kind = kind.Manager; number = n } in
+      let v : World = (moves_kind w kind.Manager n given).state in
+      ap (λ (marks : List Mark). record v { marks = marks }) (adopted_marks w.masters to v.masters w.marks (adoption w.manager given))
+
+-- ---- room
+
+-- a master that serves on has room for what is new
+goes_on_behind : (m m' : MasterState) (most spare : ℕ) → IsFew m m' most → Each (λ (c : Captured). c.number ≤ m.captured) m.captures → most ≤ spare
+    → HasRoomBehind (length m.log) m.captured m' spare
+goes_on_behind m m' most spare few old room = record { room = omega (arith, few.few, room); captures = go few.captures }
+  where
+    go : (m'.captured ≡ m.captured) ⊎ CapturesOne m m' → (m'.captured ≡ m.captured) ⊎ ((m.captured < m'.captured) × IsLastNew m.captured m')
+    go (inl same) = inl same
+    go (inr one) = inr (omega (arith, one.captured), (m.captures, one.capture, one.captures, old, omega (arith, one.number)))
+
+behind : (o o' : Option MasterStage) (most spare : ℕ) → IsFewOf o o' most → IsSound (due_of_master o) o → most_due (due_of_master o) most ≤ spare
+    → HasRoomFor (due_of_master o) o' spare
+behind None o' most spare few sound room = tt
+behind (Some Fresh) o' most spare few sound room = tt
+behind (Some (Recovering s)) o' most spare few sound room = tt
+behind (Some (Serving m)) o' most spare few sound room = rw few.1 (goes_on_behind m few.0 most spare few.2 sound room)
+
+master_room : (b : Bool) (o o' : Option MasterStage) (most spare : ℕ) → IsFewOf o o' most → IsSound (if b then due_of_master o else Nothing) o
+    → most_due (if b then due_of_master o else Nothing) most ≤ spare → HasRoomFor (if b then due_of_master o else Nothing) o' spare
+master_room true o o' most spare few sound room = behind o o' most spare few sound room
+master_room false o o' most spare few sound room = tt
+
+manager_room : (masters : List MasterStage) (o : Option Attempted) (o' : Option MasterStage) (most spare : ℕ) → IsSound (due_of_adoption masters o) None
+    → most_due (due_of_adoption masters o) most ≤ spare → HasRoomFor (due_of_adoption masters o) o' spare
+manager_room masters None o' most spare sound room = tt
+manager_room masters (Some a) o' most spare sound room = recovered (numbered masters a.master.number) sound room
+  where
+    replayed : (r : Option Replayed) → IsSound (due_of_replay a r) None → most_due (due_of_replay a r) most ≤ spare → HasRoomFor (due_of_replay a r) o' spare
+    replayed None sound room = tt
+    replayed (Some r) sound room = (room, sound)
+
+    recovered : (stage : Option MasterStage) → IsSound (due_of_recovery a stage) None → most_due (due_of_recovery a stage) most ≤ spare → HasRoomFor (due_of_recovery a stage) o' spare
+    recovered None sound room = tt
+    recovered (Some Fresh) sound room = tt
+    recovered (Some (Recovering s)) sound room = replayed (replayed_in s.phase) sound room
+    recovered (Some (Serving m)) sound room = tt
+
+-- what was due has room after the move, if so many marks have
+pub has_room : (nodes : NodeStates) (after : List MasterStage) (k : NodeKind) (n : ℕ) (given : Input) (spare : ℕ)
+    → IsFewOf (master_at k n nodes.masters) (master_at k n after) (most_marks given)
+    → IsSound (due_marks nodes (record { kind = k; number = n }) given) (master_at k n nodes.masters)
+    → most_due (due_marks nodes (record { kind = k; number = n }) given) (most_marks given) ≤ spare
+    → HasRoomFor (due_marks nodes (record { kind = k; number = n }) given) (numbered after n) spare
+has_room nodes after kind.Client n given spare few sound room = tt
+has_room nodes after kind.Backup n given spare few sound room = tt
+has_room nodes after kind.Witness n given spare few sound room = tt
+has_room nodes after kind.Master n given spare few sound room =
+    master_room (is_adopted nodes.manager (master_node n)) (numbered nodes.masters n) (numbered after n) (most_marks given) spare few sound room
+has_room nodes after kind.Manager n given spare few sound room =
+    manager_room nodes.masters (adoption nodes.manager given) (numbered after n) (most_marks given) spare sound room
+
+-- ---- captures
+
+none_new : (captures : List Captured) (count : ℕ) → Each (λ (c : Captured). c.number ≤ count) captures → new_captures count captures ≡ []
+none_new [] count low = refl
+none_new (c ∷ cs) count low =
+    let old : nat_lt count c.number ≡ false = grind (arith, nat_tests, low.0) in
+    rw old (none_new cs count low.1)
+
+last_new : (older : List Captured) (c : Captured) (count : ℕ) → Each (λ (c : Captured). c.number ≤ count) older → count < c.number → new_captures count (older ++ c ∷ []) ≡ c ∷ []
+last_new [] c count low new = let is : nat_lt count c.number ≡ true = grind (arith, nat_tests, new) in rw is refl
+last_new (d ∷ older) c count low new =
+    let old : nat_lt count d.number ≡ false = grind (arith, nat_tests, low.0) in
+    rw old (last_new older c count low.1 new)
+
+-- where no read was captured
+pub none_captured : (captured spare former : ℕ) (m : MasterState) → HasRoomBehind former captured m spare → (captured < m.captured → ⊥)
+    → Each (λ (c : Captured). c.number ≤ m.captured) m.captures → new_captures captured m.captures ≡ []
+none_captured captured spare former m room none low = go room.captures
+  where
+    go : (m.captured ≡ captured) ⊎ ((captured < m.captured) × IsLastNew captured m) → new_captures captured m.captures ≡ []
+    go (inl same) = none_new m.captures captured (subst (λ (count : ℕ). Each (λ (c : Captured). c.number ≤ count) m.captures) same low)
+    go (inr more) = absurd (none more.0)
+
+-- where one was, which is the last one
+pub one_captured : (captured spare former : ℕ) (m : MasterState) → HasRoomBehind former captured m spare → captured < m.captured
+    → IsLastNew captured m
+one_captured captured spare former m room some = go room.captures
+  where
+    go : (m.captured ≡ captured) ⊎ ((captured < m.captured) × IsLastNew captured m) → IsLastNew captured m
+    go (inl same) = absurd (omega (arith, same, some))
+    go (inr more) = more.1
+
+pub last_is_new : (captured : ℕ) (m : MasterState) (new : IsLastNew captured m) → new_captures captured m.captures ≡ new.1 ∷ []
+last_is_new captured m new = rw new.2 (last_new new.0 new.1 captured new.3 new.4)
+
+-- the last of a list
+pub last_there : {A : Type 0} (xs : List A) (x : A) → slice_get (xs ++ x ∷ []) (length (xs ++ x ∷ []) - 1) ≡ Some x
+last_there {A} xs x = let long : length (xs ++ x ∷ []) - 1 ≡ length xs = omega (arith, length-append xs (x ∷ [])) in rw long (at_end xs)
+  where
+    at_end : (xs : List A) → slice_get (xs ++ x ∷ []) (length xs) ≡ Some x
+    at_end [] = refl
+    at_end (y ∷ ys) = at_end ys
