@@ -1,5 +1,5 @@
 -- The nodes of a world as they are kept.
-use Rattle.std.specs.Prelude.{◌≡◌, ℕ, ◌+◌, List, ◌++◌, length, map}
+use Rattle.std.specs.Prelude.{◌≡◌, ℕ, ◌+◌, List, [], ◌++◌, length, map}
 use Rattle.curp_base.specs.Words.{At, Each}
 use Rattle.curp_cmd.specs.declared.node.Keeper.TheVariants as keeper
 use Rattle.curp_cmd.specs.declared.node.NodeId.{NodeId}
@@ -7,10 +7,13 @@ use Rattle.curp_model.specs.Backup.{BackupState}
 use Rattle.curp_model.specs.Client.{ClientState}
 use Rattle.curp_model.specs.Manager.{ManagerState, Next}
 use Rattle.curp_model.specs.Marks.{Mark}
-use Rattle.curp_model.specs.Recovery.{MasterStage}
+use Rattle.curp_model.specs.Master.{beginning}
+use Rattle.curp_model.specs.Ranges.{opening_range}
+use Rattle.curp_model.specs.Recovery.{MasterStage, Serving}
 use Rattle.curp_model.specs.Witness.{WitnessState, fresh_witness}
 use Rattle.curp_model.specs.World.{World}
 use Rattle.curp_msg.specs.Moved.{Node}
+use Rattle.curp_msg.specs.declared.config.PartConfig.{PartConfig}
 use Rattle.curp_msg.specs.declared.machine.Input.{Input}
 use Rattle.curp_msg.specs.declared.machine.Input.TheVariants as input
 use Rattle.curp_msg.specs.declared.machine.Local.{Local}
@@ -43,6 +46,13 @@ pub record AreNumbered (next : Next) (clients : List (Node ClientState)) (master
   pub next_master : next.master ≡ length masters + 1
   pub next_backup : next.backup ≡ length backups + 1
   pub next_witness : next.witness ≡ length witnesses + 1
+
+-- ---- at opening
+
+-- the master of one of so many partitions, by its entry, before anything was asked
+abbrev pub begins : ℕ → PartConfig → MasterStage
+begins parts c =
+    Serving (beginning c.part 1 1 c.backups c.witnesses (opening_range parts c.part).lo (opening_range parts c.part).hi [] 0)
 
 -- ---- fresh nodes
 

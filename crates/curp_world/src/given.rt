@@ -1,5 +1,5 @@
 ghost use Rattle.std.specs.Prelude.{◌≡◌, ◌≢◌, ◌-◌, ◌≤◌, length, IfOk};
-ghost use Rattle.curp_msg.specs.Moved.{MovesAt};
+ghost use Rattle.curp_msg.specs.Moved.{Moves, MovesAt};
 ghost use Rattle.curp_world.specs.Given.{input_of};
 
 use curp_base::NoMemory;
@@ -17,6 +17,17 @@ pub(crate) enum Gift {
 pub(crate) enum Given<'a> {
     Message(&'a Message),
     Order(&'a Local),
+}
+
+/// The node gets it. If it refuses the order, it stays.
+pub(crate) fn give_one<N: Core>(node: &mut N, given: &Given) -> Result<Done, NoMemory>
+    ensures moves { Moves node.old node.new result (N.machine node.old (input_of given.now)) }
+    ensures refused { IfOk result (λ done. done.refused ≢ 0 → node.new ≡ node.old) }
+{
+    match given {
+        Given::Message(message) => node.on_message(message),
+        Given::Order(order) => node.on_order(order),
+    }
 }
 
 /// The node of that number, counted from 1, gets it, and the others stay. If it refuses the order, it stays too.

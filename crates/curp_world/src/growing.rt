@@ -1,5 +1,5 @@
 // The fresh nodes that the manager names.
-ghost use Rattle.std.specs.Prelude.{◌≡◌, ◌≤◌, ◌+◌, ◌-◌, ◌++◌, length, vec_len, vec_capacity, OnOk, OnErr};
+ghost use Rattle.std.specs.Prelude.{◌≡◌, ◌≤◌, ◌<◌, ◌+◌, ◌-◌, ◌^◌, ◌++◌, length, vec_capacity, OnOk, IfOk};
 ghost use Rattle.curp_model.specs.Backup.{fresh_backup};
 ghost use Rattle.curp_model.specs.Recovery.{Fresh};
 ghost use Rattle.curp_model.specs.Witness.{fresh_witness};
@@ -12,7 +12,8 @@ use curp_base::NoMemory;
 use curp_cmd::Keeper;
 use curp_inv::{BackupNode, MasterNode, WitnessNode};
 use curp_msg::Local;
-use std::alloc::Global;
+use curp_slots::ShapeError;
+use std::alloc::{AllocError, Global};
 
 /// So many nodes of each kind.
 pub(crate) struct Counts {
@@ -47,9 +48,10 @@ pub(crate) fn most_fresh(keepers: u32, given: &Given) -> Counts
     }
 }
 
-/// Fresh masters below that number. It takes no memory, since there is room.
+/// Fresh masters below that number are there. It takes no memory, since there is room.
 pub(crate) fn add_masters(alloc: Global, masters: &mut Vec<MasterNode>, next: u32)
     requires numbers { HasNumbers masters.old.items }
+    requires there { length masters.old.items < next }
     requires room { next - 1 ≤ vec_capacity masters.old }
     ensures states { states masters.new.items ≡ grown (states masters.old.items) Fresh next }
     ensures numbers { HasNumbers masters.new.items }
@@ -59,9 +61,10 @@ pub(crate) fn add_masters(alloc: Global, masters: &mut Vec<MasterNode>, next: u3
     }
 }
 
-/// Fresh backups below that number. It takes no memory, since there is room.
+/// Fresh backups below that number are there. It takes no memory, since there is room.
 pub(crate) fn add_backups(alloc: Global, backups: &mut Vec<BackupNode>, next: u32)
     requires numbers { HasNumbers backups.old.items }
+    requires there { length backups.old.items < next }
     requires room { next - 1 ≤ vec_capacity backups.old }
     ensures states { states backups.new.items ≡ grown (states backups.old.items) fresh_backup next }
     ensures numbers { HasNumbers backups.new.items }
@@ -71,28 +74,48 @@ pub(crate) fn add_backups(alloc: Global, backups: &mut Vec<BackupNode>, next: u3
     }
 }
 
-/// Makes so many fresh witnesses, as far as they aren't made yet. All memory for their slots is taken here. They are
-/// numbered behind so many that are there.
+/// Makes so many fresh witnesses, as far as they aren't made yet, numbered behind those that are there. All memory for
+/// their slots is taken here. Where it wants, what was made stays made.
 pub(crate) fn make_ahead(
     alloc: Global,
     ahead: &mut Vec<WitnessNode>,
-    there: u32,
+    there: &[WitnessNode],
     count: u32,
     sets: u32,
     ways: u32,
 ) -> Result<(), NoMemory>
-    ensures there { OnOk result (count ≤ length ahead.new.items) }
+    requires ahead { IsAhead there.now ahead.old.items sets ways }
+    requires numbers { length there.now + count < 2 ^ 32 }
+    ensures ahead { IsAhead there.now ahead.new.items sets ways }
+    ensures made { OnOk result (count ≤ length ahead.new.items) }
 {
-    while (ahead.len() as u32) < count {
-        // ..
+    for made in ahead.len()..count as usize {
+        let number = (there.len() + made) as u32 + 1;
+        ahead.push(fresh_witness(alloc, number, sets, ways)?)?;
     }
     Ok(())
 }
 
+fn fresh_witness(alloc: Global, number: u32, sets: u32, ways: u32) -> Result<WitnessNode, NoMemory>
+    ensures number { IfOk result (λ w. w.number ≡ number) }
+    ensures state { IfOk result (λ w. w.state ≡ fresh_witness sets ways) }
+{
+    match WitnessNode::fresh(alloc, number, sets, ways) {
+        Ok(witness) => Ok(witness),
+        // The header's shape is in range, so only memory can be wanting.
+        Err(ShapeError::BadShape | ShapeError::NoMemory) => Err(AllocError),
+    }
+}
+
 /// Witnesses that were made ahead are there, below that number. It takes no memory, since there is room.
 pub(crate) fn take_up(witnesses: &mut Vec<WitnessNode>, ahead: &mut Vec<WitnessNode>, next: u32)
+    requires there { length witnesses.old.items < next }
+    requires made { next ≤ length witnesses.old.items + length ahead.old.items + 1 }
+    requires room { next - 1 ≤ vec_capacity witnesses.old }
+    ensures all { witnesses.new.items ++ ahead.new.items ≡ witnesses.old.items ++ ahead.old.items }
+    ensures there { length witnesses.new.items + 1 ≡ next }
 {
-    while (witnesses.len() as u32) + 1 < next {
+    for _taken in witnesses.len() + 1..next as usize {
         witnesses.push_reserved(ahead.remove(0));
     }
 }

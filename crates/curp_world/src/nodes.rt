@@ -1,6 +1,7 @@
-ghost use Rattle.std.specs.Prelude.{◌≡◌, ◌≢◌, ◌≤◌, ◌&&◌, nat_le, nat_lt, true, option_map, IfOk};
-ghost use Rattle.std.specs.Option.{option_copied};
+ghost use Rattle.std.specs.Prelude.{◌≡◌, ◌≢◌, ◌&&◌, nat_le, nat_lt, true, IfOk};
+ghost use Rattle.std.specs.Option.{option_copied, option_map};
 ghost use Rattle.curp_base.specs.Words.{numbered};
+ghost use Rattle.curp_cmd.specs.Node.{manager_node};
 ghost use Rattle.curp_facts.specs.Run.{IsHeader};
 ghost use Rattle.curp_model.specs.World as world;
 ghost use Rattle.curp_model.specs.World.{World, has_node};
@@ -69,7 +70,7 @@ impl Nodes {
         let manager = ManagerNode::new(alloc, &shape)?;
         let config = manager.config();
         let clients = opening::clients(alloc, header, config)?;
-        let masters = opening::masters(alloc, config)?;
+        let masters = opening::masters(alloc, header, config)?;
         Ok(Nodes {
             alloc,
             manager,
@@ -140,8 +141,10 @@ impl Nodes {
         self.masters.reserve(most.masters as usize)?;
         self.backups.reserve(most.backups as usize)?;
         self.witnesses.reserve(most.witnesses as usize)?;
-        let there = self.witnesses.len() as u32;
-        make_ahead(self.alloc, &mut self.ahead, there, most.witnesses, self.sets, self.ways)?;
+        // No number comes past the last one.
+        let count = most.witnesses.min(u32::MAX - self.manager.next_witness());
+        let there = &self.witnesses;
+        make_ahead(self.alloc, &mut self.ahead, there, count, self.sets, self.ways)?;
         let done = give_one(&mut self.manager, given)?;
         add_masters(self.alloc, &mut self.masters, self.manager.next_master());
         add_backups(self.alloc, &mut self.backups, self.manager.next_backup());
