@@ -10,10 +10,8 @@ use Rattle.curp_cmd.specs.declared.node.NodeId.{NodeId}
 use Rattle.curp_cmd.specs.declared.node.NodeKind.{NodeKind}
 use Rattle.curp_cmd.specs.declared.node.NodeKind.TheVariants as kind
 use Rattle.curp_model.specs.Client.{ClientState, client_ordered, invoke, most_pending, next_request, owner_of, sends_first}
-use Rattle.curp_facts.specs.Sent.{IsSaidTo}
-use Rattle.curp_model.specs.Manager.{opening_manager}
 use Rattle.curp_model.specs.Marks.{Mark}
-use Rattle.curp_model.specs.World.{Deed, Gives, Stepped, World, completion, delivery, effect, events_of, has_node, invocation_of, kept, messages, moves, refused, shape_of, steps_by, with_batch, with_completion}
+use Rattle.curp_model.specs.World.{Deed, Gives, Stepped, World, completion, delivery, effect, events_of, has_node, invocation_of, kept, messages, moves, refused, steps_by, with_batch, with_completion}
 use Rattle.curp_msg.specs.Moved.{Makes, Moved, done_of, quiet, unless_refused, within}
 use Rattle.curp_msg.specs.declared.config.PartConfig.{PartConfig}
 use Rattle.curp_msg.specs.declared.machine.Done.{Done}
@@ -25,30 +23,26 @@ use Rattle.curp_msg.specs.declared.message.Message.{Message}
 use Rattle.curp_msg.specs.declared.outcome.Outcome.{Outcome}
 use Rattle.curp_msg.specs.declared.outcome.StepResult.{StepResult}
 use Rattle.curp_msg.specs.declared.outcome.StepResult.TheVariants as result
-use Rattle.curp_msg.specs.declared.script.Header.{Header}
 use Rattle.curp_order.specs.Recorded.{invocation}
 use Rattle.curp_order.specs.declared.Event.{Event}
 use Rattle.curp_order.specs.declared.Event.TheVariants as event
-use Rattle.curp_world.specs.Given.{CanGet, IsFor, IsOrderFor, barrier, gift_deed, goes, hands, input_in, invoked_by, taken_by}
-use Rattle.curp_world.specs.Marks.{adopted_marks, master_at}
+use Rattle.curp_world.specs.Given.{CanGet, barrier, gift_deed, goes, hands, input_in, invoked_by, taken_by}
+use Rattle.curp_world.specs.Marks.{due_marks, marks_by}
 use Rattle.curp_world.specs.Nodes.{NodeStates, nodes_of, seen, with_nodes}
 use Rattle.curp_world.specs.declared.given.Gift.{Gift}
 use Rattle.curp_world.specs.declared.given.Gift.TheVariants as gift
 use Rattle.curp_world.proofs.Giving.{set_there}
-use Rattle.curp_world.proofs.Pushing.{moved_as}
+use Rattle.curp_world.proofs.Marking.{moved_as}
 
 -- ---- what a gift is
 
--- it gives its node an input that the node gets
-pub gift_gives : (w : World) (to : NodeId) (g : Gift) (given : Input) → CanGet w to g → input_in (messages w) g ≡ Some given
-    → (gift_deed w to g ≡ Gives to given) × IsFor to.kind to.number given
-gift_gives w to (gift.Order order) given can is = let same : given ≡ input.Local order = cc in (ap (Gives to) (sym same), rw same can)
+-- it gives its node an input
+pub gift_gives : (w : World) (to : NodeId) (g : Gift) (given : Input) → CanGet w to g → input_in (messages w) g ≡ Some given → gift_deed w to g ≡ Gives to given
+gift_gives w to (gift.Order order) given can is = let same : given ≡ input.Local order = cc in ap (Gives to) (sym same)
 gift_gives w to (gift.Message number) given can is =
     let found : Some (input.Message can.message) ≡ Some given = ap (option_map input.Message) (sym can.found) ∙ is in
-    let same : given ≡ input.Message can.message = cc in (
-      ap delivery can.found ∙ ap (λ (node : NodeId). Gives node (input.Message can.message)) can.addressee ∙ ap (Gives to) (sym same),
-      rw same (subst (λ (node : NodeId). IsSaidTo node.kind node.number can.message.body) can.addressee can.built),
-    )
+    let same : given ≡ input.Message can.message = cc in
+    ap delivery can.found ∙ ap (λ (node : NodeId). Gives node (input.Message can.message)) can.addressee ∙ ap (Gives to) (sym same)
 
 -- ---- what goes into the history before anything completes
 
@@ -104,18 +98,25 @@ event_is w to (gift.Message number) given can is there taken =
 event_is w to (gift.Order order) given can is there taken =
     let same : input.Local order ≡ given = cc in
     subst (λ (x : Input). invocation (invoked_by to (gift.Order order) (numbered (moves w to x).state.clients to.number)) ≡ events_of w (Gives to x)) same
-    (go to.kind order refl can there (subst (λ (x : Input). (moves w to x).refused ≡ 0) (sym same) taken))
+    (go order can there (subst (λ (x : Input). (moves w to x).refused ≡ 0) (sym same) taken))
   where
-    go : (k : NodeKind) (order : Local) → to.kind ≡ k → IsOrderFor k order → has_node w to ≡ true → (moves w to (input.Local order)).refused ≡ 0
+    go : (order : Local) → CanGet w to (gift.Order order) → has_node w to ≡ true → (moves w to (input.Local order)).refused ≡ 0
         → invocation (invoked_by to (gift.Order order) (numbered (moves w to (input.Local order)).state.clients to.number)) ≡ events_of w (Gives to (input.Local order))
-    go kind.Client (local.Invoke command) is built there taken =
+    go (local.Invoke command) is there taken =
         subst (λ (k : NodeKind). let node : NodeId = record { kind = k; number = to.number } in
         has_node w node ≡ true → (moves w node (input.Local (local.Invoke command))).refused ≡ 0
         → invocation (invoked_by to (gift.Order (local.Invoke command)) (numbered (moves w node (input.Local (local.Invoke command))).state.clients to.number))
         ≡ invocation_of to (numbered w.clients to.number) (input.Local (local.Invoke command))) (sym is)
         (λ there taken. invoked w to.number command (numbered w.clients to.number) refl there taken) there taken
-    go kind.Master local.Sync is built there taken = sym (no_invocation to (numbered w.clients to.number) local.Sync (λ command e. absurd cc))
-    go _ _ is built there taken = absurd built
+    go (local.Retry seq) can there taken = sym (no_invocation to (numbered w.clients to.number) (local.Retry seq) (λ command e. absurd cc))
+    go local.Fetch can there taken = sym (no_invocation to (numbered w.clients to.number) local.Fetch (λ command e. absurd cc))
+    go local.Sync can there taken = sym (no_invocation to (numbered w.clients to.number) local.Sync (λ command e. absurd cc))
+    go local.Collect can there taken = sym (no_invocation to (numbered w.clients to.number) local.Collect (λ command e. absurd cc))
+    go (local.Recover part backup witness) can there taken = sym (no_invocation to (numbered w.clients to.number) (local.Recover part backup witness) (λ command e. absurd cc))
+    go (local.Replace keeper part place) can there taken = sym (no_invocation to (numbered w.clients to.number) (local.Replace keeper part place) (λ command e. absurd cc))
+    go (local.Migrate lo hi target) can there taken = sym (no_invocation to (numbered w.clients to.number) (local.Migrate lo hi target) (λ command e. absurd cc))
+    go local.Nudge can there taken = sym (no_invocation to (numbered w.clients to.number) local.Nudge (λ command e. absurd cc))
+    go (local.Expire client) can there taken = sym (no_invocation to (numbered w.clients to.number) (local.Expire client) (λ command e. absurd cc))
 
 -- ---- a world that is seen
 
@@ -124,26 +125,26 @@ pub nothing_done : (w : World) (s : Stepped) (why : StepResult) → s ≡ refuse
 nothing_done w s why is = (sym (ap (λ (x : Stepped). x.world) is), sym (ap (λ (x : Stepped). x.outcome) is))
 
 -- one that stops a node
-pub node_stopped : (h : Header) (nodes : NodeStates) (stopped stopped' : List NodeId) (sent : List (List Message)) (history : List Event) (marks : List Mark) (w : World) (node : NodeId) (s : Stepped)
-    → seen h nodes stopped sent history marks ≡ w → s ≡ kept w [] (quiet (record w { stopped = w.stopped ++ node ∷ [] })) → stopped' ≡ stopped ++ node ∷ []
-    → (seen h nodes stopped' sent history marks ≡ s.world) × ((refused (seen h nodes stopped' sent history marks) result.Done).outcome ≡ s.outcome)
-node_stopped h nodes stopped stopped' sent history marks w node s view is more =
+pub node_stopped : (nodes : NodeStates) (stopped stopped' : List NodeId) (sent : List (List Message)) (history : List Event) (marks : List Mark) (w : World) (node : NodeId) (s : Stepped)
+    → seen nodes stopped sent history marks ≡ w → s ≡ kept w [] (quiet (record w { stopped = w.stopped ++ node ∷ [] })) → stopped' ≡ stopped ++ node ∷ []
+    → (seen nodes stopped' sent history marks ≡ s.world) × ((refused (seen nodes stopped' sent history marks) result.Done).outcome ≡ s.outcome)
+node_stopped nodes stopped stopped' sent history marks w node s view is more =
     let as_it_was : history ≡ (history ++ []) ++ [] = sym (append-nil (history ++ []) ∙ append-nil history) in
-    let now : s ≡ kept (seen h nodes stopped sent history marks) [] (quiet (seen h nodes (stopped ++ node ∷ []) sent history marks)) =
+    let now : s ≡ kept (seen nodes stopped sent history marks) [] (quiet (seen nodes (stopped ++ node ∷ []) sent history marks)) =
     is ∙ ap (λ (v : World). kept v [] (quiet (record v { stopped = v.stopped ++ node ∷ [] }))) (sym view) in (
-      rw more (ap (λ (events : List Event). seen h nodes (stopped ++ node ∷ []) sent events marks) as_it_was) ∙ sym (ap (λ (x : Stepped). x.world) now),
+      rw more (ap (λ (events : List Event). seen nodes (stopped ++ node ∷ []) sent events marks) as_it_was) ∙ sym (ap (λ (x : Stepped). x.world) now),
       sym (ap (λ (x : Stepped). x.outcome) now),
     )
 
 -- what a node did on an input
-pub kept_as : (h : Header) (nodes : NodeStates) (stopped : List NodeId) (sent sent' : List (List Message)) (history history' : List Event) (added marks' : List Mark) (w : World) (deed : Deed) (done : Done) (event : Option (RequestId × Command))
-    → seen h nodes stopped sent history added ≡ (effect w deed).state → done ≡ done_of (effect w deed)
+pub kept_as : (nodes : NodeStates) (stopped : List NodeId) (sent sent' : List (List Message)) (history history' : List Event) (added marks' : List Mark) (w : World) (deed : Deed) (done : Done) (event : Option (RequestId × Command))
+    → seen nodes stopped sent history added ≡ (effect w deed).state → done ≡ done_of (effect w deed)
     → sent' ≡ with_batch w.sent done.sent
     → history' ≡ (w.history ++ invocation event) ++ completion done.completed
     → marks' ≡ with_completion done.completed added
     → invocation event ≡ events_of w deed
-    → seen h nodes stopped sent' history' marks' ≡ (kept w (events_of w deed) (effect w deed)).world
-kept_as h nodes stopped sent sent' history history' added marks' w deed done event state does sends records flags invokes =
+    → seen nodes stopped sent' history' marks' ≡ (kept w (events_of w deed) (effect w deed)).world
+kept_as nodes stopped sent sent' history history' added marks' w deed done event state does sends records flags invokes =
     let flagged : marks' ≡ with_completion done.completed (effect w deed).state.marks =
     flags ∙ ap (λ (v : World). with_completion done.completed v.marks) state in
     ap (λ (v : World). record v { sent = sent'; history = history'; marks = marks' }) state
@@ -151,10 +152,10 @@ kept_as h nodes stopped sent sent' history history' added marks' w deed done eve
 
 -- ---- a node gets something
 
-module _ (h : Header) (nodes : NodeStates) (stopped : List NodeId) (sent : List (List Message)) (history : List Event) (marks : List Mark) (to : NodeId) (g : Gift) (given : Input) (nodes' : NodeStates) (done : Done)
+module _ (nodes : NodeStates) (stopped : List NodeId) (sent : List (List Message)) (history : List Event) (marks : List Mark) (to : NodeId) (g : Gift) (given : Input) (nodes' : NodeStates) (done : Done)
     (makes : (v : World) → Makes nodes' done (within nodes_of (moves (with_nodes v nodes) to given))) where
   abbrev was : World
-  was = seen h nodes stopped sent history marks
+  was = seen nodes stopped sent history marks
 
   -- by what the node answers, where nothing is in the way
   answered : CanGet was to g → barrier was to ≡ None
@@ -162,18 +163,18 @@ module _ (h : Header) (nodes : NodeStates) (stopped : List NodeId) (sent : List 
       → hands was to g ≡ steps_by was (Gives to given) (taken_by done.refused)
   answered can passes is =
       ap (λ (o : Option StepResult). steps_by was (gift_deed was to g) (goes was (gift_deed was to g) o)) passes
-      ∙ ap (λ (d : Deed). steps_by was d (taken_by (effect was d).refused)) (gift_gives was to g given can is).0
+      ∙ ap (λ (d : Deed). steps_by was d (taken_by (effect was d).refused)) (gift_gives was to g given can is)
       ∙ ap (λ (n : ℕ). steps_by was (Gives to given) (taken_by n)) (sym (ap (λ (d : Done). d.refused) (makes was).1))
 
   -- the world that the node has moved, with what is to be marked
   abbrev marked : NodeStates → List Mark
-  marked after = marks ++ adopted_marks (opening_manager (shape_of h)) to (master_at to.kind to.number nodes.masters) (master_at to.kind to.number after.masters)
+  marked after = marks_by (due_marks nodes to given) to after.masters marks
 
-  moved_world : (added : List Mark) → IsFor to.kind to.number given → added ≡ marked nodes' → seen h nodes' stopped sent history added ≡ (moves was to given).state
-  moved_world added said adds =
-      ap (seen h nodes' stopped sent history) adds
-      ∙ ap (λ (after : NodeStates). seen h after stopped sent history (marked after)) (makes was).0
-      ∙ sym (moved_as was to.number given to.kind said)
+  moved_world : (added : List Mark) → added ≡ marked nodes' → seen nodes' stopped sent history added ≡ (moves was to given).state
+  moved_world added adds =
+      ap (seen nodes' stopped sent history) adds
+      ∙ ap (λ (after : NodeStates). seen after stopped sent history (marked after)) (makes was).0
+      ∙ sym (moved_as was to.number given to.kind)
 
   done_at : (sent' : List (List Message)) (history' : List Event) (added marks' : List Mark) (event : Option (RequestId × Command)) (o : Outcome)
       → CanGet was to g → barrier was to ≡ None
@@ -183,7 +184,7 @@ module _ (h : Header) (nodes : NodeStates) (stopped : List NodeId) (sent : List 
       → sent' ≡ with_batch sent done.sent → history' ≡ (history ++ invocation event) ++ completion done.completed
       → added ≡ marked nodes' → marks' ≡ with_completion done.completed added
       → o ≡ record { result = result.Done; first = length (all_of sent) + 1; sent = length done.sent; completed = done.completed }
-      → (seen h nodes' stopped sent' history' marks' ≡ (hands was to g).world)
+      → (seen nodes' stopped sent' history' marks' ≡ (hands was to g).world)
       × (o ≡ (hands was to g).outcome)
   done_at sent' history' added marks' event o can passes is taken there invokes sends records adds flags outcome =
       let m : Moved World = moves was to given in
@@ -193,53 +194,53 @@ module _ (h : Header) (nodes : NodeStates) (stopped : List NodeId) (sent : List 
       let refuses_none : m.refused ≡ 0 = sym (ap (λ (d : Done). d.refused) made.1) ∙ taken in
       let event_of : invocation event ≡ events_of was (Gives to given) =
       ap invocation (invokes ∙ ap (λ (v : NodeStates). invoked_by to g (numbered v.clients to.number)) made.0) ∙ event_is was to g given can is there refuses_none in
-      let state : seen h nodes' stopped sent history added ≡ m.state = moved_world added (gift_gives was to g given can is).1 adds in (
-        kept_as h nodes' stopped sent sent' history history' added marks' was (Gives to given) done event state made.1 sends records flags event_of
+      let state : seen nodes' stopped sent history added ≡ m.state = moved_world added adds in (
+        kept_as nodes' stopped sent sent' history history' added marks' was (Gives to given) done event state made.1 sends records flags event_of
             ∙ sym (ap (λ (x : Stepped). x.world) whole),
         outcome ∙ ap (λ (d : Done). record { result = result.Done; first = length (all_of sent) + 1; sent = length d.sent; completed = d.completed }) made.1
             ∙ sym (ap (λ (x : Stepped). x.outcome) whole),
       )
 
 -- what a node did on what it got, as it is kept
-pub hands_done : (h : Header) (nodes nodes' : NodeStates) (stopped : List NodeId) (sent sent' : List (List Message)) (history history' : List Event) (marks added marks' : List Mark) (w : World)
+pub hands_done : (nodes nodes' : NodeStates) (stopped : List NodeId) (sent sent' : List (List Message)) (history history' : List Event) (marks added marks' : List Mark) (w : World)
     (to : NodeId) (g : Gift) (given : Input) (done : Done) (event : Option (RequestId × Command)) (o : Outcome)
     → ((v : World) → Makes nodes' done (within nodes_of (moves (with_nodes v nodes) to given)))
-    → seen h nodes stopped sent history marks ≡ w → CanGet w to g → barrier w to ≡ None → has_node w to ≡ true
+    → seen nodes stopped sent history marks ≡ w → CanGet w to g → barrier w to ≡ None → has_node w to ≡ true
     → input_in (all_of sent) g ≡ Some given → done.refused ≡ 0
     → event ≡ invoked_by to g (numbered nodes'.clients to.number)
     → sent' ≡ with_batch sent done.sent → history' ≡ (history ++ invocation event) ++ completion done.completed
-    → added ≡ marks ++ adopted_marks (opening_manager (shape_of h)) to (master_at to.kind to.number nodes.masters) (master_at to.kind to.number nodes'.masters)
+    → added ≡ marks_by (due_marks nodes to given) to nodes'.masters marks
     → marks' ≡ with_completion done.completed added
     → o ≡ record { result = result.Done; first = length (all_of sent) + 1; sent = length done.sent; completed = done.completed }
-    → (seen h nodes' stopped sent' history' marks' ≡ (hands w to g).world) × (o ≡ (hands w to g).outcome)
-hands_done h nodes nodes' stopped sent sent' history history' marks added marks' w to g given done event o makes view can passes there is taken invokes sends records adds flags outcome =
+    → (seen nodes' stopped sent' history' marks' ≡ (hands w to g).world) × (o ≡ (hands w to g).outcome)
+hands_done nodes nodes' stopped sent sent' history history' marks added marks' w to g given done event o makes view can passes there is taken invokes sends records adds flags outcome =
     subst (λ (v : World). CanGet v to g → barrier v to ≡ None → has_node v to ≡ true
-    → (seen h nodes' stopped sent' history' marks' ≡ (hands v to g).world) × (o ≡ (hands v to g).outcome)) view
-    (λ can passes there. done_at h nodes stopped sent history marks to g given nodes' done makes sent' history' added marks' event o can passes is taken there invokes sends records adds flags outcome)
+    → (seen nodes' stopped sent' history' marks' ≡ (hands v to g).world) × (o ≡ (hands v to g).outcome)) view
+    (λ can passes there. done_at nodes stopped sent history marks to g given nodes' done makes sent' history' added marks' event o can passes is taken there invokes sends records adds flags outcome)
     can passes there
 
 taken_refused : (n : ℕ) → n ≢ 0 → taken_by n ≡ result.Refused n
 taken_refused n some = let other : (n == 0) ≡ false = grind (arith, nat_tests) in rw other refl
 
 -- an order that a node refused
-pub hands_refused : (h : Header) (nodes nodes' : NodeStates) (stopped : List NodeId) (sent : List (List Message)) (history : List Event) (marks : List Mark) (w : World)
+pub hands_refused : (nodes nodes' : NodeStates) (stopped : List NodeId) (sent : List (List Message)) (history : List Event) (marks : List Mark) (w : World)
     (to : NodeId) (g : Gift) (given : Input) (done : Done)
     → ((v : World) → Makes nodes' done (within nodes_of (moves (with_nodes v nodes) to given)))
-    → seen h nodes stopped sent history marks ≡ w → CanGet w to g → barrier w to ≡ None
+    → seen nodes stopped sent history marks ≡ w → CanGet w to g → barrier w to ≡ None
     → input_in (all_of sent) g ≡ Some given → done.refused ≢ 0
     → hands w to g ≡ refused w (result.Refused done.refused)
-hands_refused h nodes nodes' stopped sent history marks w to g given done makes view can passes is some =
+hands_refused nodes nodes' stopped sent history marks w to g given done makes view can passes is some =
     subst (λ (v : World). CanGet v to g → barrier v to ≡ None → hands v to g ≡ refused v (result.Refused done.refused)) view
-    (λ can passes. let was : World = seen h nodes stopped sent history marks in
-    answered h nodes stopped sent history marks to g given nodes' done makes can passes is
+    (λ can passes. let was : World = seen nodes stopped sent history marks in
+    answered nodes stopped sent history marks to g given nodes' done makes can passes is
     ∙ ap (steps_by was (Gives to given)) (taken_refused done.refused some))
     can passes
 
 -- the same world, by what it is made of
-pub seen_same : (h : Header) (nodes nodes' : NodeStates) (stopped : List NodeId) (sent sent' : List (List Message)) (history history' : List Event) (marks marks' : List Mark) (w : World)
-    → nodes' ≡ nodes → sent' ≡ sent → history' ≡ history → marks' ≡ marks → seen h nodes stopped sent history marks ≡ w
-    → seen h nodes' stopped sent' history' marks' ≡ w
-seen_same h nodes nodes' stopped sent sent' history history' marks marks' w n s e m view = rw (n, s, e, m) view
+pub seen_same : (nodes nodes' : NodeStates) (stopped : List NodeId) (sent sent' : List (List Message)) (history history' : List Event) (marks marks' : List Mark) (w : World)
+    → nodes' ≡ nodes → sent' ≡ sent → history' ≡ history → marks' ≡ marks → seen nodes stopped sent history marks ≡ w
+    → seen nodes' stopped sent' history' marks' ≡ w
+seen_same nodes nodes' stopped sent sent' history history' marks marks' w n s e m view = rw (n, s, e, m) view
 
 -- ---- answers of calls
 

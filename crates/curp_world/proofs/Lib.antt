@@ -7,3 +7,4 @@ pub mod Runs
 pub mod Seen
 pub mod Stepping
 pub mod Keeping
+pub mod Marking

@@ -7,7 +7,6 @@ use Rattle.curp_script.specs.Headers.{bad_field, is_within}
 use Rattle.curp_script.specs.declared.error.FieldName.TheVariants.{Clients, F, Fast, Parts, Sets, Ways}
 use Rattle.curp_msg.specs.declared.script.Header.{Header}
 use Rattle.curp_msg.specs.declared.script.Step.{Step}
-use Rattle.curp_facts.specs.Built.{CanStep}
 use Rattle.curp_facts.specs.Run.{IsHeader, IsStep}
 use Rattle.curp_msg.specs.declared.script.Protocol.{Protocol}
 use Rattle.curp_msg.specs.declared.script.Protocol.TheVariants.{One}
@@ -20,25 +19,21 @@ run_more w [] s = refl
 run_more w (x ∷ ss) s = run_more (step w x).world ss s
 
 -- a step leads on
-pub reached_next : (w : World) (s : Step) → IsStep s → CanStep s → Reached w → Reached (step w s).world
-reached_next w s named can r = record {
+pub reached_next : (w : World) (s : Step) → IsStep s → Reached w → Reached (step w s).world
+reached_next w s named r = record {
   header = r.header;
   steps = r.steps ++ s ∷ [];
   run = record {
     header = r.run.header;
     steps_are = Each-append IsStep r.steps (s ∷ []) r.run.steps_are (named, tt);
   };
-  script = record {
-    one_part = r.script.one_part;
-    steps_can = Each-append CanStep r.steps (s ∷ []) r.script.steps_can (can, tt);
-  };
   is = run_more (opening r.header) r.steps s ∙ ap (λ (v : World). (step v s).world) r.is;
 }
 
 -- a step that may have failed for memory leads on, or leaves the world as it is
-pub reached_after : {A E : Type 0} (result : Result A E) (w v : World) (s : Step) → IsStep s → CanStep s → Reached w → OnOk result (v ≡ (step w s).world) → OnErr result (v ≡ w) → Reached v
-reached_after (Ok a) w v s named can r ok err = subst Reached (sym ok) (reached_next w s named can r)
-reached_after (Err e) w v s named can r ok err = subst Reached (sym err) r
+pub reached_after : {A E : Type 0} (result : Result A E) (w v : World) (s : Step) → IsStep s → Reached w → OnOk result (v ≡ (step w s).world) → OnErr result (v ≡ w) → Reached v
+reached_after (Ok a) w v s named r ok err = subst Reached (sym ok) (reached_next w s named r)
+reached_after (Err e) w v s named r ok err = subst Reached (sym err) r
 
 -- ---- headers
 
@@ -52,13 +47,8 @@ within low high n e = (grind (arith, nat_tests), grind (arith, nat_tests))
 only_protocol : (p : Protocol) → p ≡ One
 only_protocol One = refl
 
--- what a header that is in order has: one partition, and numbers in their ranges
-pub record InOrder (h : Header) : Type 0 where
-  pub one : h.parts ≡ 1
-  pub is : IsHeader h
-
--- a header without a bad field
-pub in_order : (h : Header) → bad_field h ≡ None → InOrder h
+-- a header without a bad field has its numbers in their ranges
+pub in_order : (h : Header) → bad_field h ≡ None → IsHeader h
 unfolding is_built
 in_order h none =
     let clients = none_behind _ Clients _ none in
@@ -67,25 +57,20 @@ in_order h none =
     let parts = none_behind _ Parts _ fast.1 in
     let sets = none_behind _ Sets _ parts.1 in
     let ways = none_behind _ Ways _ sets.1 in
-    let one = within 1 1 h.parts parts.0 in
     record {
-      one = omega (arith, one.0, one.1);
-      is = record {
-        clients = within 1 64 h.clients clients.0;
-        f = within 1 5 h.f f.0;
-        parts = (one.0, omega (arith, one.1));
-        sets = within 1 1024 h.sets sets.0;
-        ways = within 1 16 h.ways ways.0;
-        protocol = only_protocol h.protocol;
-      };
+      clients = within 1 64 h.clients clients.0;
+      f = within 1 5 h.f f.0;
+      parts = within 1 16 h.parts parts.0;
+      sets = within 1 1024 h.sets sets.0;
+      ways = within 1 16 h.ways ways.0;
+      protocol = only_protocol h.protocol;
     }
 
 -- no step leads to the opening
-pub reached_opening : (h : Header) (w : World) → InOrder h → w ≡ opening h → Reached w
+pub reached_opening : (h : Header) (w : World) → IsHeader h → w ≡ opening h → Reached w
 reached_opening h w ordered is = record {
   header = h;
   steps = [];
-  run = record { header = ordered.is; steps_are = tt };
-  script = record { one_part = ordered.one; steps_can = tt };
+  run = record { header = ordered; steps_are = tt };
   is = sym is;
 }

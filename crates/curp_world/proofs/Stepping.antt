@@ -7,15 +7,16 @@ use Rattle.curp_base.specs.Words.{At, numbered}
 use Rattle.curp_cmd.specs.Node.{client_node, manager_node, master_node, same_node}
 use Rattle.curp_cmd.specs.declared.command.Command.{Command}
 use Rattle.curp_cmd.specs.declared.node.NodeId.{NodeId}
-use Rattle.curp_facts.specs.Sent.{IsBuilt}
 use Rattle.curp_model.specs.World.{Deed, World, delivery, effect, has_node, is_stopped, is_too_much, kept, messages, refused, step, steps_by, subject, weight, weight_limit}
 use Rattle.curp_msg.specs.Moved.{quiet}
+use Rattle.curp_msg.specs.declared.machine.Local.{Local}
 use Rattle.curp_msg.specs.declared.machine.Local.TheVariants as local
 use Rattle.curp_msg.specs.declared.message.Message.{Message}
 use Rattle.curp_msg.specs.declared.outcome.StepResult.{StepResult}
 use Rattle.curp_msg.specs.declared.outcome.StepResult.TheVariants.{Done, Full, Gone, Manager, NoMessage, NoNode, Refused}
+use Rattle.curp_msg.specs.declared.script.Step.{Step}
 use Rattle.curp_msg.specs.declared.script.Step.TheVariants as steps
-use Rattle.curp_world.specs.Given.{IsMessageTo, barrier, gift_deed, goes, hands}
+use Rattle.curp_world.specs.Given.{CanGet, IsMessageTo, barrier, gift_deed, goes, hands, order_of}
 use Rattle.curp_world.specs.declared.given.Gift.TheVariants as gift
 
 -- ---- the result of what gives a node something
@@ -53,18 +54,42 @@ as_goes w deed true false false = taken ((effect w deed).refused == 0) (effect w
 
 -- ---- each step that gives a node something
 
-pub invokes : (w : World) (n : ℕ) (command : Command)
-    → step w (steps.Invoke n command) ≡ hands w (client_node n) (gift.Order (local.Invoke command))
-unfolding step
-invokes w n command =
-    let deed = gift_deed w (client_node n) (gift.Order (local.Invoke command)) in
-    ap (steps_by w deed) (as_goes w deed (has_node w (client_node n)) (is_stopped w (client_node n)) (nat_lt weight_limit (weight w)))
+handed : (w : World) (to : NodeId) (order : Local)
+    → steps_by w (gift_deed w to (gift.Order order)) (causes_of w false (to ∷ []) (gift_deed w to (gift.Order order))) ≡ hands w to (gift.Order order)
+unfolding causes_of
+handed w to order =
+    let deed = gift_deed w to (gift.Order order) in
+    ap (steps_by w deed) (as_goes w deed (has_node w to) (is_stopped w to) (nat_lt weight_limit (weight w)))
 
-pub syncs : (w : World) (n : ℕ) → step w (steps.Sync n) ≡ hands w (master_node n) (gift.Order local.Sync)
+-- the client that is declared gone is there
+abbrev pub NamesWhoIsThere : World → Step → Type 0
+NamesWhoIsThere w (steps.Expire n) = has_node w (client_node n) ≡ true
+NamesWhoIsThere w s = ⊤
+
+-- a step is the order that it gives, which its node may get
+abbrev pub IsOrdered : World → Step → Option (NodeId × Local) → Type 0
+IsOrdered w s None = ⊤
+IsOrdered w s (Some given) = (step w s ≡ hands w given.0 (gift.Order given.1)) × CanGet w given.0 (gift.Order given.1)
+
+pub orders : (w : World) (s : Step) → NamesWhoIsThere w s → IsOrdered w s (order_of s)
+unfolding step causes_of
+orders w (steps.Invoke n command) there = (handed w (client_node n) (local.Invoke command), refl)
+orders w (steps.Retry n seq) there = (handed w (client_node n) (local.Retry seq), tt)
+orders w (steps.Fetch n) there = (handed w (client_node n) local.Fetch, tt)
+orders w (steps.Sync n) there = (handed w (master_node n) local.Sync, tt)
+orders w (steps.Collect n) there = (handed w (master_node n) local.Collect, tt)
+orders w (steps.Recover part backup witness) there = (handed w manager_node (local.Recover part backup witness), tt)
+orders w (steps.Replace keeper part place) there = (handed w manager_node (local.Replace keeper part place), tt)
+orders w (steps.Migrate lo hi to) there = (handed w manager_node (local.Migrate lo hi to), tt)
+orders w steps.Nudge there = (handed w manager_node local.Nudge, tt)
+orders w (steps.Expire n) there = (rw there (handed w manager_node (local.Expire n)), tt)
+orders w (steps.Deliver number) there = tt
+orders w (steps.Stop node) there = tt
+
+-- where the client that is declared gone isn't there
+pub expires_nobody : (w : World) (n : ℕ) → has_node w (client_node n) ≡ false → step w (steps.Expire n) ≡ refused w NoNode
 unfolding step
-syncs w n =
-    let deed = gift_deed w (master_node n) (gift.Order local.Sync) in
-    ap (steps_by w deed) (as_goes w deed (has_node w (master_node n)) (is_stopped w (master_node n)) (nat_lt weight_limit (weight w)))
+expires_nobody w n there = rw there refl
 
 delivered : (w : World) (o : Option Message) (m : Message) (to : NodeId) → o ≡ Some m → m.to ≡ to
     → steps_by w (delivery o) (causes_of w (not (is_some o)) (subject (delivery o)) (delivery o)) ≡ steps_by w (delivery o) (goes w (delivery o) (barrier w to))
@@ -82,16 +107,15 @@ pub loses : (w : World) (number : ℕ) → numbered (messages w) number ≡ None
 unfolding step
 loses w number none = rw none refl
 
-message_in : (w : World) (number : ℕ) (to : NodeId) (o : Option Message) → numbered (messages w) number ≡ o → ((k : ℕ) (m : Message) → At (messages w) k m → IsBuilt m)
+message_in : (w : World) (number : ℕ) (to : NodeId) (o : Option Message) → numbered (messages w) number ≡ o
     → option_map (λ (m : Message). m.to) o ≡ Some to → IsMessageTo w number to
-message_in w number to None found built is = absurd cc
-message_in w zero to (Some m) found built is = absurd cc
-message_in w (suc k) to (Some m) found built is = record { message = m; found = found; addressee = cc; built = built k m found }
+message_in w number to None found is = absurd cc
+message_in w number to (Some m) found is = record { message = m; found = found; addressee = cc }
 
 -- what was sent is there to be delivered
-pub message_to : (w : World) (number : ℕ) (to : NodeId) → ((k : ℕ) (m : Message) → At (messages w) k m → IsBuilt m)
+pub message_to : (w : World) (number : ℕ) (to : NodeId)
     → option_map (λ (m : Message). m.to) (numbered (messages w) number) ≡ Some to → IsMessageTo w number to
-message_to w number to built is = message_in w number to (numbered (messages w) number) refl built is
+message_to w number to is = message_in w number to (numbered (messages w) number) refl is
 
 pub no_message : (xs : Option Message) → option_map (λ (m : Message). m.to) xs ≡ None → xs ≡ None
 no_message None is = refl

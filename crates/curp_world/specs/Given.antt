@@ -7,6 +7,7 @@ use Rattle.curp_cmd.specs.Node.{client_node, manager_node, master_node}
 use Rattle.curp_cmd.specs.declared.command.Command.{Command}
 use Rattle.curp_cmd.specs.declared.command.RequestId.{RequestId}
 use Rattle.curp_cmd.specs.declared.node.NodeId.{NodeId}
+use Rattle.curp_cmd.specs.declared.node.NodeKind.TheVariants.{Client}
 use Rattle.curp_model.specs.Client.{ClientState}
 use Rattle.curp_model.specs.World.{Deed, Gives, Stepped, World, delivery, effect, has_node, is_stopped, messages}
 use Rattle.curp_model.specs.World.{steps_by, weight, weight_limit}
@@ -37,9 +38,10 @@ pub record IsMessageTo (w : World) (number : ℕ) (to : NodeId) : Type 0 where
   pub found : numbered (messages w) number ≡ Some message
   pub addressee : message.to ≡ to
 
--- the node may get it
+-- the node may get it: its own message, or an order; only clients invoke
 abbrev pub CanGet : World → NodeId → Gift → Type 0
 CanGet w to (gift.Message number) = IsMessageTo w number to
+CanGet w to (gift.Order (local.Invoke command)) = to.kind ≡ Client
 CanGet w to (gift.Order order) = ⊤
 
 -- the node and the order that a step is for, if it is one

@@ -7,4 +7,4 @@ pub returns : goal.returns
 returns c =
     let i = c.self.inside in
     subst (λ (w : World). c.has_node.result ≡ has_node w c.args.node) c.self.view_is
-    (c.has_node.ensures (seen i.header i.nodes i.stopped i.sent.lists i.history.events i.marks.marks))
+    (c.has_node.ensures (seen i.nodes i.stopped i.sent.lists i.history.events i.marks.marks))
