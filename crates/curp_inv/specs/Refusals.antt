@@ -1,7 +1,7 @@
 -- How nodes refuse: a message never, an order by a small number, and then nothing has changed.
 use Rattle.std.proofs.Common.{arith, refl}
 use Rattle.std.proofs.lemmas.Bool.{cond_both}
-use Rattle.std.specs.Prelude.{◌≡◌, ◌≢◌, ℕ, ◌-◌, ◌^◌, ◌||◌, ◌&&◌, ◌==◌, nat_le, nat_lt, List, [], Bool, true, false, not, length, Option, Some, None, Result, Ok, Err}
+use Rattle.std.specs.Prelude.{◌≡◌, ◌≢◌, ℕ, ◌-◌, ◌^◌, ◌+◌, ◌||◌, ◌&&◌, ◌==◌, nat_le, nat_lt, List, [], Bool, true, false, not, length, Option, Some, None, Result, Ok, Err}
 use Rattle.std.specs.Option.{ok_or}
 use Rattle.std.specs.declared.alloc.AllocError.{AllocError}
 use Rattle.curp_base.specs.Cases.{◌>>=◌, refuse_if}
@@ -13,12 +13,15 @@ use Rattle.curp_cmd.specs.declared.node.NodeId.{NodeId}
 use Rattle.curp_msg.specs.Moved.{Moved, Node, Refuses, not_refused, quiet, refused_by, refuses_within, unless_refused}
 use Rattle.curp_msg.specs.declared.answer.AppendAnswer.{AppendAnswer}
 use Rattle.curp_msg.specs.declared.answer.AppendAnswer.TheVariants as append
+use Rattle.curp_msg.specs.declared.answer.FenceReply.{FenceReply}
+use Rattle.curp_msg.specs.declared.answer.FenceReply.TheVariants.{Log}
 use Rattle.curp_msg.specs.declared.answer.GcAnswer.{GcAnswer}
 use Rattle.curp_msg.specs.declared.answer.GcAnswer.TheVariants.{Suspects}
 use Rattle.curp_msg.specs.declared.body.Ask.{Ask}
 use Rattle.curp_msg.specs.declared.body.Body.{Body}
 use Rattle.curp_msg.specs.declared.body.Parcel.{Parcel}
 use Rattle.curp_msg.specs.declared.body.Prepare.{Prepare}
+use Rattle.curp_msg.specs.declared.body.Recover.{Recover}
 use Rattle.curp_msg.specs.declared.body.TakeOut.{TakeOut}
 use Rattle.curp_msg.specs.declared.answer.Refusal.{Refusal}
 use Rattle.curp_cmd.specs.declared.command.Command.TheVariants.{Get}
@@ -33,8 +36,10 @@ use Rattle.curp_model.specs.Backup.{BackupState, on_backup}
 use Rattle.curp_model.specs.Client as client
 use Rattle.curp_model.specs.Client.{ClientState, Pending, Early, Attempt, client_ordered, client_input, on_client}
 use Rattle.curp_model.specs.Master.{MasterState, Wish, AtOnce, WhenSynced, Verdict, Deny, Tell, TellAgain, HoldBack, Execute, Phase, Open, Switching, carries_out, executes, goes_on, is_clean, last_round, on_appended, on_collected, on_serving, on_update, raised, serving_ordered, settle, stored_on, sync_in, unless_it_ends, verdict, all_have, adopted_in, collect_in, give_after, is_open, on_expire, on_give, on_read, on_take, prepare_in, push_take, read_command, read_of, read_refusal, state_of, synced, take_after, told_again, treat}
-use Rattle.curp_cmd.specs.Node.{is_among}
-use Rattle.curp_model.specs.Log.{LastGive, LastTake}
+use Rattle.curp_cmd.specs.Node.{is_among, same_node}
+use Rattle.curp_cmd.specs.declared.entry.Entry.{Entry}
+use Rattle.curp_model.specs.Log.{LastGive, LastTake, is_log}
+use Rattle.curp_model.specs.Recovery.{MasterStage, Fresh, Recovering, Serving, RecoveryState, RecoveryPhase, Asking, Storing, Waiting, Replayed, again_in, all_complete, append_answered, both_there, completed_by, fence_answered, log_comes, master_ordered, on_fresh, on_master, on_recover, on_recovering, recovery_ordered, requests_come, stored_comes, turns_read_away, with_complete}
 use Rattle.curp_model.specs.Table.{is_gone}
 use Rattle.curp_model.specs.Witness.{WitnessState, on_witness}
 use Rattle.curp_range.specs.Spans.{is_covered}
@@ -240,18 +245,98 @@ ordered_taken n m local.Sync = ends_taken m _ (sync_taken n m m.phase)
 ordered_taken n m local.Collect = collect_taken n m m.phase
 ordered_taken n m _ = refl
 
+turned_taken : (n : ℕ) (m : MasterStage) (r : Request) → (turns_read_away n m r).refused ≡ 0
+turned_taken n m r = cond_both (is_update r.command) _ _ (λ (x : Moved MasterStage). x.refused ≡ 0) (λ y. refl) (λ no. refl)
+
+fresh_taken : (n : ℕ) (b : Body) → (on_fresh n b).refused ≡ 0
+unfolding on_recover
+fresh_taken n (body.Recover o) = refl
+fresh_taken n (body.Update ask) = refl
+fresh_taken n (body.Sync ask) = refl
+fresh_taken n (body.Read ask) = turned_taken n Fresh ask.request
+fresh_taken n _ = refl
+
+both_taken : (n : ℕ) (o : Recover) (log : Option (List Entry)) (requests : Option (List Request)) → (both_there n o log requests).refused ≡ 0
+both_taken n o (Some log) (Some requests) = refl
+both_taken n o (Some log) None = refl
+both_taken n o None requests = refl
+
+log_taken : (n : ℕ) (s : RecoveryState) (from : NodeId) (entries : List Entry) (p : RecoveryPhase) → (log_comes n s from entries p).refused ≡ 0
+log_taken n s from entries (Asking None requests) =
+    cond_both (same_node from s.order.backup && is_log s.order.lo s.order.hi entries) _ _ (λ (x : Moved RecoveryState). x.refused ≡ 0)
+    (λ y. both_taken n s.order (Some entries) requests) (λ no. refl)
+log_taken n s from entries (Asking (Some log) requests) = refl
+log_taken n s from entries (Storing r) = refl
+log_taken n s from entries (Waiting r) = refl
+
+fence_taken : (n : ℕ) (s : RecoveryState) (from : NodeId) (a : FenceReply) → (fence_answered n s from a).refused ≡ 0
+fence_taken n s from (Log entries) = log_taken n s from entries s.phase
+fence_taken n s from _ = refl
+
+requests_taken : (n : ℕ) (s : RecoveryState) (from : NodeId) (rs : List Request) (p : RecoveryPhase) → (requests_come n s from rs p).refused ≡ 0
+requests_taken n s from rs (Asking log None) =
+    cond_both (same_node from s.order.witness) _ _ (λ (x : Moved RecoveryState). x.refused ≡ 0) (λ y. both_taken n s.order log (Some rs)) (λ no. refl)
+requests_taken n s from rs (Asking log (Some requests)) = refl
+requests_taken n s from rs (Storing r) = refl
+requests_taken n s from rs (Waiting r) = refl
+
+completed_taken : (n : ℕ) (o : Recover) (r : Replayed) → (completed_by n o r).refused ≡ 0
+completed_taken n o r = cond_both (all_complete o r) _ _ (λ (x : Moved RecoveryState). x.refused ≡ 0) (λ y. refl) (λ no. refl)
+
+stored_taken : (n : ℕ) (s : RecoveryState) (from : NodeId) (long : ℕ) (p : RecoveryPhase) → (stored_comes n s from long p).refused ≡ 0
+stored_taken n s from long (Storing r) =
+    cond_both (is_among from s.order.backups && nat_le (length r.log) long) _ _ (λ (x : Moved RecoveryState). x.refused ≡ 0)
+    (λ y. completed_taken n s.order (with_complete r from)) (λ no. refl)
+stored_taken n s from long (Asking log requests) = refl
+stored_taken n s from long (Waiting r) = refl
+
+append_taken : (n : ℕ) (s : RecoveryState) (from : NodeId) (a : AppendAnswer) → (append_answered n s from a).refused ≡ 0
+append_taken n s from (append.Stored long) = stored_taken n s from long s.phase
+append_taken n s from _ = refl
+
+recovering_taken : (n : ℕ) (s : RecoveryState) (from : NodeId) (b : Body) → (on_recovering n s from b).refused ≡ 0
+recovering_taken n s from (body.FenceAnswer a) = fence_taken n s from a.answer
+recovering_taken n s from (body.FrozenAnswer requests) = requests_taken n s from requests s.phase
+recovering_taken n s from (body.Appended a) = append_taken n s from a.answer
+recovering_taken n s from (body.Adopted a) = refl
+recovering_taken n s from (body.Update ask) = refl
+recovering_taken n s from (body.Sync ask) = refl
+recovering_taken n s from (body.Read ask) = turned_taken n (Recovering s) ask.request
+recovering_taken n s from _ = refl
+
+stage_taken : (n : ℕ) (m : MasterStage) (from : NodeId) (b : Body) → (on_master n m from b).refused ≡ 0
+unfolding on_master
+stage_taken n Fresh from b = fresh_taken n b
+stage_taken n (Recovering s) from b = recovering_taken n s from b
+stage_taken n (Serving m) from b = serving_taken n m from b
+
+again_sent : (n : ℕ) (s : RecoveryState) (p : RecoveryPhase) → (again_in n s p).refused ≡ 0
+again_sent n s (Asking log requests) = refl
+again_sent n s (Storing r) = cond_both (rises_past last_round r.round (r.round + 1)) _ _ (λ (x : Moved RecoveryState). x.refused ≡ 0) (λ y. refl) (λ no. refl)
+again_sent n s (Waiting r) = refl
+
+recovery_obeys : (n : ℕ) (s : RecoveryState) (order : Local) → (recovery_ordered n s order).refused ≡ 0
+recovery_obeys n s local.Sync = again_sent n s s.phase
+recovery_obeys n s _ = refl
+
+stage_obeys : (n : ℕ) (m : MasterStage) (order : Local) → (master_ordered n m order).refused ≡ 0
+unfolding master_ordered
+stage_obeys n Fresh order = refl
+stage_obeys n (Recovering s) order = recovery_obeys n s order
+stage_obeys n (Serving m) order = ordered_taken n m order
+
 -- a master takes each message
-pub master_taken : (m : Node MasterState) (x : Message) → (master_machine m (input.Message x)).refused ≡ 0
+pub master_taken : (m : Node MasterStage) (x : Message) → (master_machine m (input.Message x)).refused ≡ 0
 unfolding master_machine
-master_taken m x = serving_taken m.number m.state x.from x.body
+master_taken m x = stage_taken m.number m.state x.from x.body
 
 -- and each order
-pub master_obeys : (m : Node MasterState) (order : Local) → (master_machine m (input.Local order)).refused ≡ 0
+pub master_obeys : (m : Node MasterStage) (order : Local) → (master_machine m (input.Local order)).refused ≡ 0
 unfolding master_machine
-master_obeys m order = ordered_taken m.number m.state order
+master_obeys m order = stage_obeys m.number m.state order
 
 -- so it refuses none
-pub master_refusals : (m : Node MasterState) (order : Local) → Refuses m (master_machine m (input.Local order))
+pub master_refusals : (m : Node MasterStage) (order : Local) → Refuses m (master_machine m (input.Local order))
 master_refusals m order = not_refused m _ (master_obeys m order)
 
 -- ---- backups and witnesses, which refuse nothing either

@@ -2,8 +2,9 @@ use crate::{BackupNode, ClientNode, MasterNode, WitnessNode};
 use curp_base::{Boxed, Items};
 use curp_cmd::{Answer, Command, Entry, Key, NodeId, Request, RequestId, Value};
 use curp_msg::{
-    Accepted, Append, AppendAnswer, Appended, Ask, Body, Collected, Config, Core, Done, FenceReply,
-    Gc, GcAnswer, Local, Message, PartConfig, Reason, Record, Refusal, Refuse, Rejected, Reply,
+    Accepted, Adopted, Append, AppendAnswer, Appended, Ask, Body, Collected, Config, Core, Done,
+    FenceAnswer, FenceReply, Gc, GcAnswer, Local, Message, PartConfig, Reason, Record, Recover,
+    Refusal, Refuse, Rejected, Reply,
 };
 use curp_range::{Ranges, Spans};
 use std::alloc::Global;
@@ -33,6 +34,11 @@ enum Comes {
     Freeze,
     // A collection of that epoch.
     Collect(u32, u32),
+    // A fresh master's order, a log of one entry, the request of one client, and the adoption.
+    Recover,
+    Logged,
+    Held(u32),
+    Adopted,
 }
 
 // What a node says, does or refuses then.
@@ -44,6 +50,10 @@ enum Said {
     Fetch,
     Reply(u32, bool),
     InProgress(u32),
+    Switching(u32),
+    Fence(u32),
+    Freeze(u32),
+    Recovered,
     Append(u64, usize, u64),
     Appended(u64, AppendAnswer),
     Log(usize),
@@ -83,6 +93,19 @@ const MASTER: [(Comes, &[Said]); 6] = [
     (Comes::Stored(2, 1), &[Said::Reply(2, true)]),
     (Comes::Round, &[Said::Append(2, 0, 2)]),
     (Comes::Fetch, &[]),
+];
+
+const RECOVERED: [(Comes, &[Said]); 10] = [
+    (Comes::Update(1), &[Said::Switching(1)]),
+    (Comes::Recover, &[Said::Fence(1), Said::Freeze(1)]),
+    (Comes::Logged, &[]),
+    (Comes::Round, &[Said::Freeze(1)]),
+    (Comes::Held(1), &[Said::Append(0, 2, 1)]),
+    (Comes::Update(2), &[Said::Switching(2)]),
+    (Comes::Stored(2, 1), &[Said::Recovered]),
+    (Comes::Adopted, &[]),
+    (Comes::Update(1), &[Said::Reply(1, true)]),
+    (Comes::Update(2), &[Said::Reply(2, false)]),
 ];
 
 const BACKUP: [(Comes, &[Said]); 6] = [
@@ -144,6 +167,13 @@ fn a_master_answers_what_comes(rt: HostRuntime) -> Result<(), Fail> {
     let (backups, witnesses) = (backups(alloc)?, witnesses(alloc)?);
     let mut master = MasterNode::new(alloc, 1, backups, witnesses, 0, u64::MAX)?;
     try_rows(&rt, alloc, &mut master, &MASTER)
+}
+
+#[test]
+fn a_fresh_master_recovers_and_serves(rt: HostRuntime) -> Result<(), Fail> {
+    let alloc = rt.alloc();
+    let mut master = MasterNode::fresh(alloc, 1);
+    try_rows(&rt, alloc, &mut master, &RECOVERED)
 }
 
 #[test]
@@ -217,6 +247,9 @@ fn message(alloc: Global, comes: Comes) -> Result<Message, Fail> {
         }
         Comes::Reply(client, synced) => (NodeId::master(1), reply(alloc, client, synced)?),
         Comes::InProgress(client) => (NodeId::master(1), in_progress(client)),
+        Comes::Recover | Comes::Adopted => (NodeId::manager(), ordered(alloc, comes)?),
+        Comes::Logged => (NodeId::backup(1), logged(alloc)?),
+        Comes::Held(client) => (NodeId::witness(1), held(alloc, client)?),
         Comes::Put | Comes::Retry(_) | Comes::Fetch | Comes::Round => {
             (NodeId::manager(), Body::Fetch)
         }
@@ -307,6 +340,46 @@ fn collect(alloc: Global, epoch: u32, client: u32) -> Result<Body, Fail> {
     }))
 }
 
+fn ordered(alloc: Global, comes: Comes) -> Result<Body, Fail> {
+    Ok(match comes {
+        Comes::Adopted => Body::Adopted(Adopted {
+            part: 1,
+            epoch: 1,
+            version: 1,
+        }),
+        _ => Body::Recover(Boxed::new(alloc, recover(alloc)?)?),
+    })
+}
+
+fn recover(alloc: Global) -> Result<Recover, Fail> {
+    Ok(Recover {
+        part: 1,
+        epoch: 1,
+        version: 1,
+        backup: NodeId::backup(1),
+        witness: NodeId::witness(1),
+        backups: Items::new(backups(alloc)?),
+        witnesses: Items::new(witnesses(alloc)?),
+        lo: 0,
+        hi: u64::MAX,
+    })
+}
+
+fn logged(alloc: Global) -> Result<Body, Fail> {
+    let entries = vec![in alloc; Entry::Expire { client: 3 }]?;
+    Ok(Body::FenceAnswer(FenceAnswer {
+        epoch: 1,
+        answer: FenceReply::Log(Items::new(entries)),
+    }))
+}
+
+fn held(alloc: Global, client: u32) -> Result<Body, Fail> {
+    let requests = vec![in alloc; request(client)?]?;
+    Ok(Body::FrozenAnswer {
+        requests: Items::new(requests),
+    })
+}
+
 fn said_by(alloc: Global, done: &Done) -> Result<Vec<Said>, Fail> {
     let mut said = Vec::new(alloc);
     for message in done.sent.as_slice() {
@@ -328,12 +401,13 @@ fn said_in(body: &Body) -> Said {
         Body::Record(record) => Said::Record(record.get().request.id.client),
         Body::Fetch => Said::Fetch,
         Body::Reply(reply) => Said::Reply(reply.get().id.client, reply.get().synced),
-        Body::Refuse(refuse) if refuse.refusal == Refusal::InProgress => {
-            Said::InProgress(refuse.id.client)
-        }
+        Body::Refuse(refuse) => refused(refuse),
+        Body::Fence { epoch } => Said::Fence(*epoch),
+        Body::Freeze { epoch } => Said::Freeze(*epoch),
+        Body::Recovered(_) => Said::Recovered,
         Body::Append(append) => Said::Append(append.base, append.entries.len(), append.round),
         Body::Appended(appended) => Said::Appended(appended.round, appended.answer),
-        Body::FenceAnswer(answered) => logged(&answered.answer),
+        Body::FenceAnswer(answered) => fenced(&answered.answer),
         Body::Accepted(accepted) => Said::Accepted(accepted.id.client, accepted.epoch),
         Body::Rejected(rejected) => Said::Rejected(rejected.id.client, rejected.reason),
         Body::FrozenAnswer { requests } => Said::Frozen(requests.len()),
@@ -342,7 +416,15 @@ fn said_in(body: &Body) -> Said {
     }
 }
 
-fn logged(answer: &FenceReply) -> Said {
+fn refused(refuse: &Refuse) -> Said {
+    match refuse.refusal {
+        Refusal::InProgress => Said::InProgress(refuse.id.client),
+        Refusal::Switching => Said::Switching(refuse.id.client),
+        _ => Said::Another,
+    }
+}
+
+fn fenced(answer: &FenceReply) -> Said {
     match answer {
         FenceReply::Log(entries) => Said::Log(entries.len()),
         FenceReply::Fenced { .. } => Said::Another,

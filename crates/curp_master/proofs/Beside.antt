@@ -63,6 +63,7 @@ pushed_journal j log free e is_free low high longer its_free = λ i. record {
 }
 
 -- and what stands beside it
-pub beside_push : (j : Journaled) (tail pushed : List TailEntry) (e : Entry) (is_free : Bool) → IsBeside j tail → pushed ≡ tail_of (j.entries ++ e ∷ []) j.synced
-    → IsBeside (with_entry j e is_free) pushed
-beside_push j tail pushed e is_free beside its_tail = record { its_tail = its_tail; stand = free_stands j.entries e j.free is_free beside.stand }
+pub beside_push : (j : Journaled) (told : ℕ) (tail pushed : List TailEntry) (e : Entry) (is_free : Bool) → IsBeside j told tail
+    → pushed ≡ tail_of (j.entries ++ e ∷ []) told → IsBeside (with_entry j e is_free) told pushed
+beside_push j told tail pushed e is_free beside its_tail =
+    record { its_tail = its_tail; covers = beside.covers; stand = free_stands j.entries e j.free is_free beside.stand }

@@ -1,5 +1,5 @@
 -- Each kind of node moves in a world as its machine does.
-use Rattle.std.proofs.Common.{◌≡◌, ◌≢◌, ℕ, ◌-◌, ◌≤◌, List, slice_set, Option, Some, None, Bor, Result, true, arith, refl, ap, sym, ◌∙◌, subst}
+use Rattle.std.proofs.Common.{◌≡◌, ◌≢◌, ℕ, ◌-◌, ◌≤◌, List, slice_set, Option, Some, None, Bor, Result, Ok, true, arith, refl, ap, sym, ◌∙◌, subst}
 use Rattle.std.specs.Option.{option_copied, option_map}
 use Rattle.curp_base.specs.Words.{numbered}
 use Rattle.std.specs.declared.alloc.AllocError.{AllocError}
@@ -7,30 +7,21 @@ use Rattle.curp_cmd.specs.Node.{backup_node, client_node, master_node, witness_n
 use Rattle.curp_cmd.specs.declared.node.NodeId.{NodeId}
 use Rattle.curp_cmd.specs.declared.node.NodeKind.{NodeKind}
 use Rattle.curp_cmd.specs.declared.node.NodeKind.TheVariants as kind
-use Rattle.curp_inv.specs.Machines.{backup_machine, client_machine, master_machine, witness_machine}
-use Rattle.curp_master.specs.Built.{on_input}
-use Rattle.curp_model.specs.Backup.{BackupState, backup_input}
+use Rattle.curp_inv.specs.Machines.{backup_machine, client_machine, manager_machine, master_machine, witness_machine}
+use Rattle.curp_model.specs.Backup.{BackupState, backup_input, fresh_backup}
 use Rattle.curp_model.specs.Client.{ClientState, client_input}
-use Rattle.curp_model.specs.Master.{MasterState}
-use Rattle.curp_model.specs.Recovery.{MasterStage, Serving, master_input, master_ordered, on_master}
-use Rattle.curp_model.specs.Witness.{WitnessState, witness_input}
-use Rattle.curp_model.specs.World.{World, has_node, is_there, moves, moves_kind, with_backup, with_client, with_master, with_witness}
+use Rattle.curp_model.specs.Manager.{ManagerState}
+use Rattle.curp_model.specs.Recovery.{Fresh, MasterStage, master_input}
+use Rattle.curp_model.specs.Witness.{WitnessState, fresh_witness, witness_input}
+use Rattle.curp_model.specs.World.{World, grown, has_node, is_there, moves, moves_kind, with_backup, with_client, with_master, with_witness}
 use Rattle.curp_msg.specs.Moved.{Moves, MovesAt, Node, numbered_move, within}
 use Rattle.curp_msg.specs.declared.machine.Done.{Done}
 use Rattle.curp_msg.specs.declared.machine.Input.{Input}
-use Rattle.curp_msg.specs.declared.machine.Input.TheVariants as input
-use Rattle.curp_world.specs.Given.{IsFor}
-use Rattle.curp_world.specs.Nodes.{HasNumbers, NodeStates, nodes_of, serving, states, with_nodes}
-use Rattle.curp_world.specs.Marks.{IsFew, master_at, most_marks}
+use Rattle.curp_world.specs.Nodes.{HasNumbers, NodeStates, nodes_of, states, with_nodes}
+use Rattle.curp_world.specs.Marks.{IsFewOf, master_at, most_marks}
 use Rattle.curp_world.proofs.Giving.{node_moves, numbers_stay, one_moves, set_there, world_moves}
 use Rattle.curp_world.proofs.Numbered.{lent_numbered, map_set, numbered_at}
 use Rattle.curp_world.proofs.Pushing.{moves_few}
-
--- a master that serves
-heard : (n : ℕ) (m : MasterState) (given : Input) → master_input n (Serving m) given ≡ within Serving (on_input n m given)
-unfolding on_master master_ordered
-heard n m (input.Message x) = refl
-heard n m (input.Local order) = refl
 
 -- ---- nodes of each kind
 
@@ -39,7 +30,7 @@ module _ (given : Input) where
   unfolding client_machine
   client_moves x = refl
 
-  master_moves : (x : Node MasterState) → master_machine x given ≡ numbered_move x.number (on_input x.number x.state given)
+  master_moves : (x : Node MasterStage) → master_machine x given ≡ numbered_move x.number (master_input x.number x.state given)
   unfolding master_machine
   master_moves x = refl
 
@@ -67,34 +58,33 @@ module _ (given : Input) (nodes nodes' : List (Node ClientState)) (n : ℕ) (r :
       (one_moves (λ (s : ClientState). s) nodes nodes' n r (λ node. client_machine node given) (λ i s. client_input i s given)
       (λ s. client_input n s given) (client_moves given) numbers low made (λ s. refl))
 
-module _ (given : Input) (nodes nodes' : List (Node MasterState)) (n : ℕ) (r : Result Done AllocError)
+module _ (given : Input) (nodes nodes' : List (Node MasterStage)) (n : ℕ) (r : Result Done AllocError)
     (numbers : HasNumbers nodes) (low : 1 ≤ n) (made : MovesAt (n - 1) nodes nodes' r (λ node. master_machine node given)) where
   pub masters_stay : HasNumbers nodes'
-  masters_stay = numbers_stay Serving nodes nodes' n r (λ node. master_machine node given) (λ i s. on_input i s given)
+  masters_stay = numbers_stay (λ (s : MasterStage). s) nodes nodes' n r (λ node. master_machine node given) (λ i s. master_input i s given)
       (λ s. master_input n s given) (master_moves given) numbers low made
 
   pub masters_give : (w : World) (others : NodeStates)
-      → Moves (record others { masters = serving nodes }) (record others { masters = serving nodes' }) r
-      (within nodes_of (moves (with_nodes w (record others { masters = serving nodes })) (master_node n) given))
+      → Moves (record others { masters = states nodes }) (record others { masters = states nodes' }) r
+      (within nodes_of (moves (with_nodes w (record others { masters = states nodes })) (master_node n) given))
   masters_give w others =
-      let v : World = with_nodes w (record others { masters = serving nodes }) in
-      world_moves (λ (list : List MasterStage). record others { masters = list }) (serving nodes) (serving nodes') n r
+      let v : World = with_nodes w (record others { masters = states nodes }) in
+      world_moves (λ (list : List MasterStage). record others { masters = list }) (states nodes) (states nodes') n r
       (λ s. master_input n s given) (λ s. within (with_master v n s) (master_input n s given)) v (λ s. refl)
-      (one_moves Serving nodes nodes' n r (λ node. master_machine node given) (λ i s. on_input i s given)
-      (λ s. master_input n s given) (master_moves given) numbers low made (λ s. heard n s given))
+      (one_moves (λ (s : MasterStage). s) nodes nodes' n r (λ node. master_machine node given) (λ i s. master_input i s given)
+      (λ s. master_input n s given) (master_moves given) numbers low made (λ s. refl))
 
   -- and pushes no more than the bound of the input
-  pub masters_few : IsFor kind.Master n given
-      → IsFew (numbered (serving nodes) n) (numbered (serving nodes') n) (most_marks given)
-  masters_few built =
-      let stage = λ (x : Node MasterState). Serving x.state in
-      let was : numbered (serving nodes) n ≡ Some (Serving made.before.state) = numbered_at stage nodes n (n - 1) made.before (omega arith) made.was in
-      let is : serving nodes' ≡ slice_set (serving nodes) (n - 1) (Serving made.after.state)
-      = ap serving made.is ∙ sym (map_set stage nodes (n - 1) made.after) in
-      let now : numbered (serving nodes') n ≡ Some (Serving made.after.state)
-      = ap (λ (xs : List MasterStage). numbered xs n) is ∙ set_there (serving nodes) n (Serving made.before.state) (Serving made.after.state) was in
-      rw (now, was) (moves_few n made.before made.after r given built
-      (node_moves Serving nodes nodes' n r (λ node. master_machine node given) (λ i s. on_input i s given)
+  pub masters_few : IsFewOf (numbered (states nodes) n) (numbered (states nodes') n) (most_marks given)
+  masters_few =
+      let stage = λ (x : Node MasterStage). x.state in
+      let was : numbered (states nodes) n ≡ Some made.before.state = numbered_at stage nodes n (n - 1) made.before (omega arith) made.was in
+      let is : states nodes' ≡ slice_set (states nodes) (n - 1) made.after.state
+      = ap states made.is ∙ sym (map_set stage nodes (n - 1) made.after) in
+      let now : numbered (states nodes') n ≡ Some made.after.state
+      = ap (λ (xs : List MasterStage). numbered xs n) is ∙ set_there (states nodes) n made.before.state made.after.state was in
+      rw (now, was) (moves_few n made.before made.after r given
+      (node_moves (λ (s : MasterStage). s) nodes nodes' n r (λ node. master_machine node given) (λ i s. master_input i s given)
       (λ s. master_input n s given) (master_moves given) numbers low made))
 
 module _ (given : Input) (nodes nodes' : List (Node BackupState)) (n : ℕ) (r : Result Done AllocError)
@@ -150,28 +140,45 @@ seen_moves nodes all after to k given r w same is moved =
 
 -- and no more comes to a master's log than what is bounded
 pub seen_few : (masters all after : List MasterStage) (to : NodeId) (k : NodeKind) (most : ℕ) → all ≡ masters → to.kind ≡ k
-    → IsFew (master_at k to.number all) (master_at k to.number after) most
-    → IsFew (master_at to.kind to.number masters) (master_at to.kind to.number after) most
+    → IsFewOf (master_at k to.number all) (master_at k to.number after) most
+    → IsFewOf (master_at to.kind to.number masters) (master_at to.kind to.number after) most
 seen_few masters all after to k most same is few =
-    subst (λ (xs : List MasterStage). IsFew (master_at to.kind to.number xs) (master_at to.kind to.number after) most) same
-    (subst (λ (kind : NodeKind). IsFew (master_at kind to.number all) (master_at kind to.number after) most) (sym is) few)
+    subst (λ (xs : List MasterStage). IsFewOf (master_at to.kind to.number xs) (master_at to.kind to.number after) most) same
+    (subst (λ (kind : NodeKind). IsFewOf (master_at kind to.number all) (master_at kind to.number after) most) (sym is) few)
 
--- the master of a name, as it is lent
-pub seen_master : (masters : List (Node MasterState)) (nodes : NodeStates) (node : NodeId) (r : Option (Bor (Node MasterState))) → serving masters ≡ nodes.masters → node.kind ≡ kind.Master
-    → option_copied r ≡ numbered masters node.number
-    → option_map (λ (m : Bor (Node MasterState)). Serving m.now.state) r ≡ master_at node.kind node.number nodes.masters
-seen_master masters nodes node r same is lent =
-    subst (λ (k : NodeKind). option_map (λ (m : Bor (Node MasterState)). Serving m.now.state) r ≡ master_at k node.number nodes.masters) (sym is)
-    (lent_numbered (λ (x : Node MasterState). Serving x.state) masters node.number r lent
-    ∙ ap (λ (all : List MasterStage). numbered all node.number) same)
-
--- and of no other node
-pub no_master : (node : NodeId) (masters : List MasterStage) → node.kind ≢ kind.Master → None ≡ master_at node.kind node.number masters
-no_master node masters other = go node.kind other
+-- a node that is no master has no marks
+pub few_elsewhere : (to : NodeId) (k : NodeKind) (masters after : List MasterStage) (most : ℕ) → to.kind ≡ k → k ≢ kind.Master
+    → IsFewOf (master_at to.kind to.number masters) (master_at to.kind to.number after) most
+few_elsewhere to k masters after most is other = subst (λ (kind : NodeKind). IsFewOf (master_at kind to.number masters) (master_at kind to.number after) most) (sym is) (go k other)
   where
-    go : (k : NodeKind) → k ≢ kind.Master → None ≡ master_at k node.number masters
+    go : (k : NodeKind) → k ≢ kind.Master → IsFewOf (master_at k to.number masters) (master_at k to.number after) most
     go kind.Master other = absurd (other refl)
-    go kind.Manager other = refl
-    go kind.Client other = refl
-    go kind.Backup other = refl
-    go kind.Witness other = refl
+    go kind.Manager other = tt
+    go kind.Client other = tt
+    go kind.Backup other = tt
+    go kind.Witness other = tt
+
+-- the master of a number, as it is lent
+pub seen_master : (masters : List (Node MasterStage)) (all : List MasterStage) (number : ℕ) (r : Option (Bor (Node MasterStage))) → states masters ≡ all
+    → option_copied r ≡ numbered masters number
+    → option_map (λ (m : Bor (Node MasterStage)). m.now.state) r ≡ numbered all number
+seen_master masters all number r same lent =
+    lent_numbered (λ (x : Node MasterStage). x.state) masters number r lent ∙ ap (λ (xs : List MasterStage). numbered xs number) same
+
+-- ---- the manager
+
+-- nodes among which the manager has that state, with the fresh ones that it names
+abbrev pub grown_by : NodeStates → ManagerState → NodeStates
+grown_by nodes g = record nodes {
+  manager = g;
+  masters = grown nodes.masters Fresh g.next.master;
+  backups = grown nodes.backups fresh_backup g.next.backup;
+  witnesses = grown nodes.witnesses (fresh_witness nodes.sets nodes.ways) g.next.witness;
+}
+
+-- it moves in a world as its machine does, and the fresh nodes that it names are there
+pub manager_gives : (nodes after : NodeStates) (w : World) (given : Input) (n : ℕ) (g : ManagerState) (done : Done)
+    → Moves nodes.manager g (Ok done) (manager_machine nodes.manager given) → after ≡ grown_by nodes g
+    → Moves nodes after (Ok done) (within nodes_of (moves_kind (with_nodes w nodes) kind.Manager n given))
+unfolding manager_machine
+manager_gives nodes after w given n g done moved grew = (grew ∙ ap (grown_by nodes) moved.0, moved.1)

@@ -16,6 +16,7 @@ use curp_slots::ShapeError;
 use std::alloc::{AllocError, Global};
 
 /// So many nodes of each kind.
+#[derive(Clone, Copy)]
 pub(crate) struct Counts {
     pub(crate) masters: u32,
     pub(crate) backups: u32,

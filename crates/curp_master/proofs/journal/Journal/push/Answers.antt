@@ -13,7 +13,7 @@ pushed c =
 
 pub invariant_of-self : goal.invariant_of-self
 invariant_of-self c =
-    rw (pushed c) (beside_push (before c) c.self.inside.tail.entries c.follow.new.tail.entries c.args.entry c.args.is_free c.self.invariant c.follow.ensures.follows)
+    rw (pushed c) (beside_push (before c) c.self.inside.told c.self.inside.tail.entries c.follow.new.tail.entries c.args.entry c.args.is_free c.self.invariant c.follow.ensures.follows)
 
 pub returns-clause-pushed : goal.returns-clause-pushed
 returns-clause-pushed c = rw (← c.self.view_is) (pushed c)

@@ -1,0 +1,26 @@
+-- A recovering master, by whether a message is its adoption.
+use Rattle.std.proofs.Common.{◌≡◌, ℕ, true, false, refl}
+use Rattle.curp_cmd.specs.declared.node.NodeId.{NodeId}
+use Rattle.curp_model.specs.Recovery.{MasterStage, Recovering, RecoveryPhase, RecoveryState, Asking, Storing, Waiting, on_master, serves}
+use Rattle.curp_msg.specs.Moved.{Moved, quiet, within}
+use Rattle.curp_msg.specs.declared.body.Body.{Body}
+use Rattle.curp_msg.specs.declared.body.Body.TheVariants as body
+use Rattle.curp_recover.specs.Heard.{is_serving, recovery_in, unadopted}
+
+-- it serves by its adoption alone
+pub adopts : (n : ℕ) (s : RecoveryState) (from : NodeId) (b : Body) → is_serving (on_master n (Recovering s) from b).state ≡ true
+    → on_master n (Recovering s) from b ≡ quiet (serves s s.phase)
+unfolding on_master
+adopts n s from (body.Adopted a) is = refl
+
+unadopted_in : (s : RecoveryState) (p : RecoveryPhase) → is_serving (serves s p) ≡ false
+    → quiet (serves s p) ≡ within Recovering (within (recovery_in s) (quiet (serves s p)))
+unadopted_in s (Asking log requests) no = refl
+unadopted_in s (Storing r) no = refl
+
+-- by anything else its recovery goes on
+pub goes_on : (n : ℕ) (s : RecoveryState) (from : NodeId) (b : Body) → is_serving (on_master n (Recovering s) from b).state ≡ false
+    → on_master n (Recovering s) from b ≡ within Recovering (unadopted n s from b)
+unfolding on_master
+goes_on n s from (body.Adopted a) no = unadopted_in s s.phase no
+goes_on n s from _ no = refl
