@@ -8,3 +8,4 @@ pub mod Seen
 pub mod Stepping
 pub mod Keeping
 pub mod Marking
+pub mod Grown
