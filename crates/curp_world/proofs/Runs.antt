@@ -7,11 +7,14 @@ use Rattle.curp_script.specs.Headers.{bad_field, is_within}
 use Rattle.curp_script.specs.declared.error.FieldName.TheVariants.{Clients, F, Fast, Parts, Sets, Ways}
 use Rattle.curp_msg.specs.declared.script.Header.{Header}
 use Rattle.curp_msg.specs.declared.script.Step.{Step}
-use Rattle.curp_facts.specs.Run.{IsHeader, IsStep}
+use Rattle.curp_facts.specs.Run.{IsHeader, IsRun, IsStep}
+use Rattle.curp_law_line.specs.Line.{StandsIn}
+use Rattle.curp_law_line.proofs.Growing.{stands_self}
+use Rattle.curp_law_linear.specs.Grows.{completed_in_order}
 use Rattle.curp_msg.specs.declared.script.Protocol.{Protocol}
 use Rattle.curp_msg.specs.declared.script.Protocol.TheVariants.{One}
 use Rattle.curp_script.specs.declared.error.FieldName.{FieldName}
-use Rattle.curp_model.specs.World.{World, step, run, opening}
+use Rattle.curp_model.specs.World.{World, step, run, opening, world}
 use Rattle.curp_world.specs.Reached.{Reached}
 
 pub run_more : (w : World) (ss : List Step) (s : Step) → run w (ss ++ s ∷ []) ≡ (step (run w ss) s).world
@@ -34,6 +37,14 @@ reached_next w s named r = record {
 pub reached_after : {A E : Type 0} (result : Result A E) (w v : World) (s : Step) → IsStep s → Reached w → OnOk result (v ≡ (step w s).world) → OnErr result (v ≡ w) → Reached v
 reached_after (Ok a) w v s named r ok err = subst Reached (sym ok) (reached_next w s named r)
 reached_after (Err e) w v s named r ok err = subst Reached (sym err) r
+
+-- what is completed stands after it as before
+pub grows_after : {A E : Type 0} (result : Result A E) (w v : World) (s : Step) → IsStep s → Reached w
+    → ((h : Header) (steps : List Step) → IsRun h steps → (s : Step) → IsStep s → StandsIn (completed_in_order (world h steps)) (completed_in_order (step (world h steps) s).world))
+    → OnOk result (v ≡ (step w s).world) → OnErr result (v ≡ w) → StandsIn (completed_in_order w) (completed_in_order v)
+grows_after (Ok a) w v s named r grows ok err =
+    rw ok (subst (λ (x : World). StandsIn (completed_in_order x) (completed_in_order (step x s).world)) r.is (grows r.header r.steps r.run s named))
+grows_after (Err e) w v s named r grows ok err = rw err (stands_self (completed_in_order w))
 
 -- ---- headers
 

@@ -7,7 +7,7 @@ ghost use Rattle.curp_order.specs.Recorded.{invocation};
 ghost use Rattle.curp_world.specs.Given.{CanGet, barrier, hands, input_in, input_of};
 
 use crate::given::{Gift, Given};
-use crate::marks::{due, flag};
+use crate::marks::{Due, flag};
 use crate::nodes::Nodes;
 use crate::orders::order_of;
 use crate::sent::Sent;
@@ -126,7 +126,7 @@ impl Cluster {
         self.sent.reserve()?;
         self.history.reserve(2)?;
         let given = given_of(&self.sent, gift);
-        let due = due(self.alloc, &self.nodes, to, &given)?;
+        let due = Due::of(self.alloc, &self.nodes, to, &given)?;
         self.marks.reserve(due.most(&given))?;
         let done = self.nodes.give(to, &given)?;
         if done.refused != 0 {

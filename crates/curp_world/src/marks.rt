@@ -1,16 +1,20 @@
 // The marks of what masters push and capture, and of what the manager adopts.
-ghost use Rattle.std.specs.Prelude.{◌≡◌, ◌+◌, ◌<◌, ◌≤◌, ◌^◌, ◌++◌, length, map, option_map, IfOk};
-ghost use Rattle.curp_model.specs.Manager.{adoption};
-ghost use Rattle.curp_model.specs.Master.{MasterState};
-ghost use Rattle.curp_model.specs.World.{capture_mark, is_adopted, new_captures, op_marks, op_requests, with_completion};
+ghost use Rattle.std.specs.Prelude.{◌≡◌, ◌+◌, ◌<◌, ◌≤◌, ◌^◌, ◌++◌, [], ◌∷◌, List, None, Some, if◌then◌else◌, length, IfOk};
+ghost use Rattle.curp_base.specs.Words.{numbered};
+ghost use Rattle.curp_model.specs.Manager.{ManagerState, adopted_by};
+ghost use Rattle.curp_model.specs.Master.{Captured};
+ghost use Rattle.curp_model.specs.Recovery.{Serving};
+ghost use Rattle.curp_model.specs.World.{capture_mark, is_adopted, op_marks, op_requests, with_completion};
 ghost use Rattle.curp_world.specs.Given.{input_of};
-ghost use Rattle.curp_world.specs.Marks.{HasRoomBehind, HasRoomFor, IsSound, due_marks, due_of_adoption, due_of_master};
-ghost use Rattle.curp_world.specs.Marks.{due_by_kind, marks_by, marks_behind, master_at, most_due, most_marks, told_due};
+ghost use Rattle.curp_world.specs.Marks as spec;
+ghost use Rattle.curp_world.specs.Marks.{HasRoomBehind, HasRoomFor, IsSound, due_marks, marks_behind, marks_by};
+ghost use Rattle.curp_world.specs.Marks.{master_at, most_due, told_due};
 
 use crate::given::Given;
 use crate::nodes::Nodes;
 use curp_base::{NoMemory, past};
 use curp_cmd::{Entry, NodeId, NodeKind, Request};
+use curp_inv::MasterNode;
 use curp_line::Line;
 use curp_master::Master;
 use curp_msg::{Body, Completed, Config, GcAnswer, Message};
@@ -36,27 +40,12 @@ pub(crate) enum Due {
     Adoption(Adoption),
 }
 
-/// What will be due of the input, by the nodes before they got it.
-pub(crate) fn due(alloc: Global, nodes: &Nodes, to: NodeId, given: &Given) -> Result<Due, NoMemory>
-    ensures value { IfOk result (λ due. told_due due ≡ due_marks nodes.now to (input_of given.now)) }
-    ensures sound { IfOk result (λ due. IsSound (told_due due) (master_at to.kind to.number nodes.now.masters)) }
-{
-    match to.kind {
-        NodeKind::Master => Ok(due_of_master(nodes, to)),
-        NodeKind::Manager => match given {
-            Given::Message(message) => due_of_adoption(alloc, nodes, message),
-            Given::Order(_) => Ok(Due::Nothing),
-        },
-        _ => Ok(Due::Nothing),
-    }
-}
-
 // What an adopted master pushes and captures from now on.
 fn due_of_master(nodes: &Nodes, to: NodeId) -> Due
     requires { to.kind ≡ NodeKind.Master }
     ensures value { told_due result
-        ≡ (if is_adopted nodes.now.manager to then due_of_master (numbered nodes.now.masters to.number)
-        else Nothing) }
+        ≡ (if is_adopted nodes.now.manager to then spec.due_of_master (numbered nodes.now.masters to.number)
+        else spec.Nothing) }
     ensures sound { IsSound (told_due result) (numbered nodes.now.masters to.number) }
 {
     if !is_adopted(nodes.manager().config(), to) {
@@ -74,7 +63,7 @@ fn due_of_master(nodes: &Nodes, to: NodeId) -> Due
 // What a recovery has replayed, if the manager adopts one by that message.
 fn due_of_adoption(alloc: Global, nodes: &Nodes, message: &Message) -> Result<Due, NoMemory>
     ensures value { IfOk result (λ due. told_due due
-        ≡ due_of_adoption nodes.now.masters (adopted_by nodes.now.manager message.now.body)) }
+        ≡ spec.due_of_adoption nodes.now.masters (adopted_by nodes.now.manager message.now.body)) }
     ensures sound { IfOk result (λ due. IsSound (told_due due) None) }
 {
     let Some((master, order)) = nodes.manager().adoption(message) else {
@@ -96,9 +85,29 @@ fn due_of_adoption(alloc: Global, nodes: &Nodes, message: &Message) -> Result<Du
 }
 
 impl Due {
+    /// What will be due of the input, by the nodes before they got it.
+    pub(crate) fn of(
+        alloc: Global,
+        nodes: &Nodes,
+        to: NodeId,
+        given: &Given,
+    ) -> Result<Due, NoMemory>
+        ensures value { IfOk result (λ due. told_due due ≡ due_marks nodes.now to (input_of given.now)) }
+        ensures sound { IfOk result (λ due. IsSound (told_due due) (master_at to.kind to.number nodes.now.masters)) }
+    {
+        match to.kind {
+            NodeKind::Master => Ok(due_of_master(nodes, to)),
+            NodeKind::Manager => match given {
+                Given::Message(message) => due_of_adoption(alloc, nodes, message),
+                Given::Order(_) => Ok(Due::Nothing),
+            },
+            _ => Ok(Due::Nothing),
+        }
+    }
+
     /// So many marks come of it at most.
     pub(crate) fn most(&self, given: &Given) -> u64
-        ensures { result ≡ most_due (told_due self.now) (most_marks (input_of given.now)) }
+        ensures { result ≡ most_due (told_due self.now) (spec.most_marks (input_of given.now)) }
     {
         match self {
             Due::Nothing => 0,
@@ -138,7 +147,7 @@ pub(crate) fn flag(marks: &mut Line, completed: Option<Completed>)
 
 // So many marks come of an input to a master at most.
 fn most_marks(given: &Given) -> u64
-    ensures { result ≡ most_marks (input_of given.now) }
+    ensures { result ≡ spec.most_marks (input_of given.now) }
 {
     match given {
         Given::Message(message) => most_by_message(&message.body),
@@ -147,7 +156,7 @@ fn most_marks(given: &Given) -> u64
 }
 
 fn most_by_message(body: &Body) -> u64
-    ensures { result ≡ most_by_message body.now }
+    ensures { result ≡ spec.most_by_message body.now }
 {
     match body {
         Body::Update(_) | Body::Sync(_) | Body::Read(_) => 1,
@@ -204,8 +213,9 @@ fn add_behind(marks: &mut Line, node: NodeId, master: &Master, former: u64, capt
 // The read that the master captured last.
 fn add_capture(marks: &mut Line, node: NodeId, master: &Master)
     requires room { 1 ≤ marks.old.spare }
-    ensures { marks.new.marks ≡ marks.old.marks ++ map (capture_mark node master.now.state.part master.now.state.epoch)
-        (last_of master.now.state.captures) }
+    ensures { (older : List Captured) (capture : Captured) → master.now.state.captures ≡ older ++ capture ∷ []
+        → marks.new.marks ≡ marks.old.marks
+        ++ capture_mark node master.now.state.part master.now.state.epoch capture ∷ [] }
 {
     let (part, epoch) = (master.part(), master.epoch());
     if let Some(last) = master.last_capture() {

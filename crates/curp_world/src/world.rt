@@ -4,7 +4,10 @@ ghost use Rattle.curp_base.specs.Words.{numbered};
 ghost use Rattle.curp_order.specs.Order.{IsHistory, IsOrder};
 ghost use Rattle.curp_script.specs.declared.error.FieldName.{FieldName};
 ghost use Rattle.curp_script.specs.Headers.{bad_field};
+ghost use Rattle.curp_facts.specs.Kept.{Kept};
 ghost use Rattle.curp_facts.specs.Run.{IsStep};
+ghost use Rattle.curp_law_line.specs.Line.{StandsIn};
+ghost use Rattle.curp_law_linear.specs.Grows.{completed_in_order};
 ghost use Rattle.curp_model.specs.Causes.{IsLight, IsRunning, IsSent, IsThere, SparesManager};
 ghost use Rattle.curp_model.specs.World as world;
 
@@ -66,7 +69,8 @@ impl World {
     }
 
     /// Makes a step. Where it can't be made the outcome tells why: the first cause that
-    /// holds, in the order of these clauses. No node gets anything once all messages weigh more than 2,000,000.
+    /// holds, in the order of these clauses. No node gets anything once all messages weigh more than 2,000,000. What is
+    /// completed stands after it in the order as before.
     pub fn step(&mut self, step: &Step) -> Result<Outcome, NoMemory>
         ensures state { OnOk result (self.new ≡ (world.step self.old step.now).world) }
         ensures outcome { IfOk result (λ outcome. outcome ≡ (world.step self.old step.now).outcome) }
@@ -86,13 +90,25 @@ impl World {
             × (number ≡ world.refusal self.old step.now))) }
         ensures done { IfOk result (λ outcome. (outcome.result ≡ StepResult.Done)
             ↔ (IsLight self.old step.now × (world.refusal self.old step.now ≡ 0))) }
+        ensures grows { StandsIn (completed_in_order self.old) (completed_in_order self.new) }
         ensures unchanged { IfOk result (λ outcome. outcome.result ≢ StepResult.Done → self.new ≡ self.old) }
         ensures err { OnErr result (self.new ≡ self.old) }
     {
         names_its_keys(step);
+        laws::order_grows();
         laws::results_have_causes();
         laws::only_the_named_node_moves();
         self.cluster.step(step)
+    }
+
+    /// What holds of every world that a script leads to: from any backup and any witness of a partition's adopted lists
+    /// all can be recovered that a client has completed, or may still complete; each hash is owned once, or on its way;
+    /// what was told agrees with the order, also what a superseded master tells late. There is nothing to run: the clause
+    /// is had by the call.
+    pub fn keeps(&self)
+        ensures { Kept self.now }
+    {
+        laws::kept_stands();
     }
 
     /// What all messages weigh that were ever sent. A message weighs 1, and 1 more for each entry that it carries, each
