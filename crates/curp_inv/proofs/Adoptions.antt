@@ -1,10 +1,12 @@
 -- A recovering master, by whether a message is its adoption.
-use Rattle.std.proofs.Common.{◌≡◌, ℕ, true, false, refl}
+use Rattle.std.proofs.Common.{◌≡◌, ℕ, true, false, Result, Ok, Err, refl, ap, subst}
+use Rattle.std.specs.declared.alloc.AllocError.{AllocError}
 use Rattle.curp_cmd.specs.declared.node.NodeId.{NodeId}
 use Rattle.curp_model.specs.Recovery.{MasterStage, Recovering, RecoveryPhase, RecoveryState, Asking, Storing, Waiting, on_master, serves}
-use Rattle.curp_msg.specs.Moved.{Moved, quiet, within}
+use Rattle.curp_msg.specs.Moved.{Moved, Moves, Node, numbered_move, quiet, within}
 use Rattle.curp_msg.specs.declared.body.Body.{Body}
 use Rattle.curp_msg.specs.declared.body.Body.TheVariants as body
+use Rattle.curp_msg.specs.declared.machine.Done.{Done}
 use Rattle.curp_recover.specs.Heard.{is_serving, recovery_in, unadopted}
 
 -- it serves by its adoption alone
@@ -24,3 +26,19 @@ pub goes_on : (n : ℕ) (s : RecoveryState) (from : NodeId) (b : Body) → is_se
 unfolding on_master
 goes_on n s from (body.Adopted a) no = unadopted_in s s.phase no
 goes_on n s from _ no = refl
+
+-- ---- the same for a node that has the state inside its own
+
+-- a node with its state inside another
+abbrev pub wrapped : {S T : Type 0} → (S → T) → Node S → Node T
+wrapped wrap x = record { number = x.number; state = wrap x.state }
+
+pub moves_wrapped : {S T : Type 0} (wrap : S → T) (n : ℕ) (old new : Node S) (told : Result Done AllocError) (r : Moved S)
+    → Moves old new told (numbered_move n r) → Moves (wrapped wrap old) (wrapped wrap new) told (numbered_move n (within wrap r))
+moves_wrapped wrap n old new (Ok done) r moves = (ap (wrapped wrap) moves.0, moves.1)
+moves_wrapped wrap n old new (Err no_memory) r moves = ap (wrapped wrap) moves
+
+-- a move by another name
+pub moves_as : {S : Type 0} (n : ℕ) (old new : Node S) (told : Result Done AllocError) (r s : Moved S) → r ≡ s
+    → Moves old new told (numbered_move n r) → Moves old new told (numbered_move n s)
+moves_as n old new told r s same moves = subst (λ (m : Moved S). Moves old new told (numbered_move n m)) same moves

@@ -1,9 +1,8 @@
-//! What is proved of the nodes, of every script, and of every script of what is built. Each law is the contract of a
-//! function with nothing in it, and a caller has the law by the call.
+//! What is proved of the nodes and of every script. Each law is the contract of a function with nothing in it, and a
+//! caller has the law by the call.
 pub use curp_law_linear::{
     history_stands, kept_stands, late_replies_agree, order_grows, order_stands,
 };
-pub use curp_law_order::{messages_are_built, shape_stays};
 pub use curp_law_runs::{
     completed_is_completable, facts_kept, only_sent_to_nodes, pairs_good, silent_while_switching,
 };

@@ -1,12 +1,12 @@
 -- What backups have acknowledged, found and raised.
-use Rattle.std.proofs.Common.{◌≡◌, ℕ, zero, suc, ◌-◌, ◌≤◌, ◌==◌, ◌&&◌, nat_le, min, max, List, [], ◌∷◌, ◌++◌, map, length, get_or, set, take, drop, refl, ap, sym, ◌∙◌, subst, arith}
+use Rattle.std.proofs.Common.{◌≡◌, ℕ, zero, suc, ◌-◌, ◌≤◌, ◌==◌, ◌&&◌, nat_le, min, max, List, [], ◌∷◌, ◌++◌, length, get_or, set, take, drop, refl, ap, sym, ◌∙◌, subst, arith}
 use Rattle.std.specs.List.{fold}
 use Rattle.std.proofs.lemmas.Bool.Decides.{nat_tests}
 use Rattle.std.proofs.Math.Seq.{take-length}
 use Rattle.curp_cmd.specs.declared.node.NodeId.{NodeId}
 use Rattle.curp_model.specs.Master.{Acknowledged, from_backup, least, nothing_from, raised}
 use Rattle.curp_master.specs.Backups.{lengths, NoneBelow, IsFirst}
-use Rattle.curp_master.specs.Shells.{all_at}
+use Rattle.curp_master.specs.Shells.{all_at, all_set}
 use Rattle.curp_cmd.proofs.Nodes.{same_node-true}
 
 first_tail : (a : Acknowledged) (all : List Acknowledged) (b : NodeId) (at : ℕ) → IsFirst (a ∷ all) b (suc at) → IsFirst all b at
@@ -69,6 +69,6 @@ least_parts all (b ∷ others) d some =
 
 -- what is set for each backup is as if it had begun so
 pub set_at : (backups : List NodeId) (long round : ℕ)
-    → map (λ (a : Acknowledged). record a { length = long; round = round }) (all_at backups 0 0) ≡ all_at backups long round
+    → all_set (all_at backups 0 0) long round ≡ all_at backups long round
 set_at [] long round = refl
 set_at (b ∷ more) long round = ap (λ rest. record { backup = b; length = long; round = round } ∷ rest) (set_at more long round)

@@ -1,16 +1,20 @@
 -- What stands beside a log, as an entry is pushed.
-use Rattle.std.proofs.Common.{◌≡◌, ℕ, ◌+◌, ◌<◌, ◌≤◌, Bool, true, false, List, [], ◌∷◌, ◌++◌, length, take, Option, Some, slice_get, length-append, refl, ◌∙◌, arith}
-use Rattle.std.proofs.lemmas.List.{take-append-le}
+use Rattle.std.proofs.Common.{◌≡◌, ℕ, ◌+◌, ◌-◌, ◌<◌, ◌≤◌, ◌&&◌, ◌||◌, not, min, Bool, true, false, List, [], ◌∷◌, ◌++◌, length, take, drop, Option, Some, slice_get, length-append, refl, ap, sym, ◌∙◌, arith}
+use Rattle.std.proofs.lemmas.List.{take-append-le, take-append-drop, drop-drop, drop_min}
+use Rattle.std.proofs.lemmas.List.Folds.{list_any-append}
+use Rattle.std.specs.List.{list_any}
 use Rattle.std.proofs.Math.Seq.{take-length}
 use Rattle.curp_base.specs.Words.{Each}
 use Rattle.curp_base.proofs.Lists.{at_push, Each-append, Each-weaker}
+use Rattle.curp_cmd.specs.Hash.{hashes}
 use Rattle.curp_cmd.specs.declared.command.Answer.{Answer}
+use Rattle.curp_cmd.specs.declared.command.Command.{Command}
 use Rattle.curp_cmd.specs.declared.command.Request.{Request}
 use Rattle.curp_cmd.specs.declared.entry.Entry.{Entry}
 use Rattle.curp_cmd.specs.declared.entry.Entry.TheVariants.{Op}
 use Rattle.curp_log.specs.Content.{Content}
 use Rattle.curp_log.specs.Ops.{answer_at}
-use Rattle.curp_model.specs.Log.{answer_after}
+use Rattle.curp_model.specs.Log.{answer_after, entry_touches, is_touched}
 use Rattle.curp_tail.specs.declared.tail.TailEntry.{TailEntry}
 use Rattle.curp_tail.specs.Tail.{tail_of}
 use Rattle.curp_master.specs.Journal.{IsBeside, Journaled, free_with, journal_of, with_entry}
@@ -67,3 +71,29 @@ pub beside_push : (j : Journaled) (told : ℕ) (tail pushed : List TailEntry) (e
     → pushed ≡ tail_of (j.entries ++ e ∷ []) told → IsBeside (with_entry j e is_free) told pushed
 beside_push j told tail pushed e is_free beside its_tail =
     record { its_tail = its_tail; covers = beside.covers; stand = free_stands j.entries e j.free is_free beside.stand }
+
+-- ---- entries that aren't synced and of which no tail tells
+
+-- they stand between what is synced and what the tail tells of
+pub between_split : (entries : List Entry) (start end count : ℕ) → start ≤ end → count ≡ min (end - start) (length (drop start entries))
+    → drop start entries ≡ take count (drop start entries) ++ drop end entries
+between_split entries start end count before is =
+    let rest = drop start entries in
+    let on : start + (end - start) ≡ end = omega (arith, before) in
+    let left : drop count rest ≡ drop end entries =
+    ap (λ k. drop k rest) is ∙ drop_min (end - start) rest ∙ drop-drop (end - start) start entries ∙ ap (λ k. drop k entries) on
+    in
+    sym (take-append-drop count rest) ∙ ap (λ tail. take count rest ++ tail) left
+
+not_or : (a b : Bool) → (not a && not b) ≡ not (a || b)
+not_or true b = refl
+not_or false b = refl
+
+-- what they and the tail touch is what all that isn't synced touches
+pub touched_in_both : (entries untold : List Entry) (synced told : ℕ) (command : Command) (before behind : Bool)
+    → drop synced entries ≡ untold ++ drop told entries → before ≡ is_touched untold command → behind ≡ is_touched (drop told entries) command
+    → (not before && not behind) ≡ not (is_touched (drop synced entries) command)
+touched_in_both entries untold synced told command before behind split is_before is_behind =
+    not_or before behind
+    ∙ (λ i. not (is_before i || is_behind i))
+    ∙ ap not (sym (list_any-append (λ e. list_any (entry_touches e) (hashes command)) untold (drop told entries)) ∙ ap (λ es. is_touched es command) (sym split))

@@ -2,6 +2,7 @@ ghost use Rattle.std.specs.Prelude.{◌≡◌, ◌&&◌, nat_le, map, length, fo
 ghost use Rattle.curp_model.specs.Master.{all_have, from_backup, raised};
 ghost use Rattle.curp_cmd.specs.Node.{same_node};
 ghost use Rattle.curp_master.specs.Backups.{IsFirst, NoneBelow, stored_by_all};
+ghost use Rattle.curp_master.specs.Shells.{all_set};
 
 use curp_base::{NoMemory, TryCopy, copies_of};
 use curp_cmd::NodeId;
@@ -101,7 +102,7 @@ pub(crate) fn all_at(
 
 /// Each backup of the list has acknowledged just so much. It takes no memory.
 pub(crate) fn set_all(all: &mut [Acknowledged], long: u64, round: u64)
-    ensures { all.new ≡ map (λ a. record a { length = long; round = round }) all.old }
+    ensures { all.new ≡ all_set all.old long round }
 {
     for each in all {
         each.set(long, round);

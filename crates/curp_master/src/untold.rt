@@ -1,6 +1,7 @@
 // Entries of a log of which no tail tells.
 ghost use Rattle.std.specs.Prelude.{◌≡◌, ◌≤◌, ◌++◌, drop};
 ghost use Rattle.std.specs.List.{list_any};
+ghost use Rattle.curp_cmd.specs.Hash.{hashes};
 ghost use Rattle.curp_model.specs.Log.{entry_touches, is_touched};
 
 use curp_base::past;
@@ -22,16 +23,22 @@ pub(crate) fn between(entries: &[Entry], from: u64, to: u64) -> &[Entry]
 pub(crate) fn touch(entries: &[Entry], command: &Command) -> bool
     ensures { result ≡ is_touched entries.now command.now }
 {
-    let hashes = Hashes::of(command);
-    entries
-        .iter()
-        .any(|entry| touches_any(entry, hashes.as_slice()))
+    entries.iter().any(|entry| touches_any(entry, command))
 }
 
-fn touches_any(entry: &Entry, hashes: &[u64]) -> bool
-    ensures { result ≡ list_any (entry_touches entry.now) hashes.now }
+// Whether an entry touches a hash of the command.
+fn touches_any(entry: &Entry, command: &Command) -> bool
+    ensures { result ≡ list_any (entry_touches entry.now) (hashes command.now) }
+{
+    Hashes::of(command)
+        .as_slice()
+        .iter()
+        .any(|hash| touches(entry, *hash))
+}
+
+fn touches(entry: &Entry, hash: u64) -> bool
+    ensures { result ≡ entry_touches entry.now hash }
 {
     tail_tells_of_log();
-    let touched = Touched::of(entry);
-    hashes.iter().any(|hash| touched.touches(*hash))
+    Touched::of(entry).touches(hash)
 }

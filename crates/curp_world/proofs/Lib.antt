@@ -1,6 +1,7 @@
 pub mod BatchLaws
 pub mod ByKind
 pub mod Giving
+pub mod Grown
 pub mod Numbered
 pub mod Pushing
 pub mod Runs
