@@ -156,23 +156,16 @@ def lib_of(files):
 def row_of(script):
     """The row of an example in the table."""
     status = script.with_suffix(".status")
-    ended = status.read_text(encoding="utf-8").rstrip("\n") if status.exists() else "0 "
-    code, complaint = ended.split(" ", 1)
-    fields = [
-        f'name: "{script.stem}"',
-        f'script: r#"{script.read_text(encoding="utf-8")}"#',
-        f'out: r#"{script.with_suffix(".out").read_text(encoding="utf-8")}"#',
-        f"code: {code}",
-        f'complaint: "{complaint}"',
-    ]
-    return "    Row {\n" + "".join(f"        {field},\n" for field in fields) + "    },\n"
+    ended = status.read_text(encoding="utf-8") if status.exists() else "0\n"
+    texts = [script.read_text(encoding="utf-8"), script.with_suffix(".out").read_text(encoding="utf-8")]
+    return f"=== example {script.stem}\n{texts[0]}\n=== status {ended}{texts[1]}"
 
 
 def table_made():
-    """The table of the tests of crates/curp."""
+    """The table of the tests of crates/curp, as one text."""
     rows = "".join(row_of(script) for script in sorted(EXAMPLES.glob("*.script")))
-    head = f"// Made by examples/{Path(__file__).name}: a row for each example.\nuse super::Row;\n"
-    return f"{head}\npub(super) const ROWS: &[Row] = &[\n{rows}];\n"
+    head = f"// Made by examples/{Path(__file__).name}: a row for each example. The line feed behind its script is none of it."
+    return f'{head}\npub(super) const ROWS: &str = r#"{rows}"#;\n'
 
 
 def main():

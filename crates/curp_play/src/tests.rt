@@ -115,9 +115,9 @@ fn a_client_has_up_to_8_pending_requests(rt: HostRuntime) -> Result<(), Fail> {
     Ok(())
 }
 
-// 64 clients that aren't fast ask for eight multi-puts each, of the same four keys, and the master is given the first 401
-// requests. Each makes it send 5 appends of all that it holds, so that all messages get too heavy: the last is refused. A
-// stop isn't.
+// 64 clients that aren't fast ask for eight multi-puts each, of the same four keys, and the master is given the first
+// 401 requests. Each makes it send 5 appends of all that it holds, so that all messages get too heavy: the last is
+// refused. A stop isn't.
 #[test]
 fn a_heavy_world_takes_stops_alone(rt: HostRuntime) -> Result<(), Fail> {
     let mut script = HEADER

@@ -1,10 +1,6 @@
-// Made by examples/to_specs.py: a row for each example.
-use super::Row;
-
-pub(super) const ROWS: &[Row] = &[
-    Row {
-        name: "append-below-the-fence",
-        script: r#"{"clients":2,"f":1,"fast":true,"parts":1,"protocol":1,"sets":16,"ways":4}
+// Made by examples/to_specs.py: a row for each example. The line feed behind its script is none of it.
+pub(super) const ROWS: &str = r#"=== example append-below-the-fence
+{"clients":2,"f":1,"fast":true,"parts":1,"protocol":1,"sets":16,"ways":4}
 {"client":1,"cmd":["incr","6e"],"do":"invoke"}
 {"do":"deliver","msg":1}
 {"do":"deliver","msg":2}
@@ -34,8 +30,9 @@ pub(super) const ROWS: &[Row] = &[
 {"do":"deliver","msg":24}
 {"do":"deliver","msg":7}
 {"do":"deliver","msg":25}
-"#,
-        out: r#"s1 done
+
+=== status 0
+s1 done
 m1 C1 M1 update 1.1 f1 e1 v1 incr 6e
 m2 C1 W1 record 1.1 f1 e1 incr 6e
 s2 done
@@ -94,13 +91,8 @@ s29 done
 order 2
 1.1 incr 6e -> number 1
 1.2 incr 6e -> number 2
-"#,
-        code: 0,
-        complaint: "",
-    },
-    Row {
-        name: "collection-and-suspects",
-        script: r#"{"clients":2,"f":1,"fast":true,"parts":1,"protocol":1,"sets":16,"ways":4}
+=== example collection-and-suspects
+{"clients":2,"f":1,"fast":true,"parts":1,"protocol":1,"sets":16,"ways":4}
 {"client":1,"cmd":["put","61","31"],"do":"invoke"}
 {"do":"deliver","msg":1}
 {"do":"sync","master":1}
@@ -121,8 +113,9 @@ order 2
 {"do":"collect","master":1}
 {"do":"deliver","msg":18}
 {"do":"deliver","msg":14}
-"#,
-        out: r#"s1 done
+
+=== status 0
+s1 done
 m1 C1 M1 update 1.1 f1 e1 v1 put 61 31
 m2 C1 W1 record 1.1 f1 e1 put 61 31
 s2 done
@@ -164,13 +157,8 @@ s20 done
 m20 W1 C2 accepted 2.1 e1
 order 1
 1.1 put 61 31 -> done
-"#,
-        code: 0,
-        complaint: "",
-    },
-    Row {
-        name: "conflict",
-        script: r#"{"clients":2,"f":1,"fast":true,"parts":1,"protocol":1,"sets":16,"ways":4}
+=== example conflict
+{"clients":2,"f":1,"fast":true,"parts":1,"protocol":1,"sets":16,"ways":4}
 {"client":1,"cmd":["put","61","31"],"do":"invoke"}
 {"client":2,"cmd":["put","61","32"],"do":"invoke"}
 {"do":"deliver","msg":2}
@@ -184,8 +172,9 @@ order 1
 {"do":"deliver","msg":12}
 {"do":"deliver","msg":7}
 {"do":"deliver","msg":5}
-"#,
-        out: r#"s1 done
+
+=== status 0
+s1 done
 m1 C1 M1 update 1.1 f1 e1 v1 put 61 31
 m2 C1 W1 record 1.1 f1 e1 put 61 31
 s2 done
@@ -215,32 +204,24 @@ c 1.1 done
 order 2
 1.1 put 61 31 -> done
 2.1 put 61 32 -> done
-"#,
-        code: 0,
-        complaint: "",
-    },
-    Row {
-        name: "cut-line",
-        script: r#"{"clients":2,"f":1,"fast":true,"parts":1,"protocol":1,"sets":16,"ways":4}
+=== example cut-line
+{"clients":2,"f":1,"fast":true,"parts":1,"protocol":1,"sets":16,"ways":4}
 {"client":1,"cmd":["put","61","31"],"do":"invoke"}
-{"do":"deli"#,
-        out: r#"s1 done
+{"do":"deli
+=== status 3 curp: line 3: bad json
+s1 done
 m1 C1 M1 update 1.1 f1 e1 v1 put 61 31
 m2 C1 W1 record 1.1 f1 e1 put 61 31
-"#,
-        code: 3,
-        complaint: "curp: line 3: bad json",
-    },
-    Row {
-        name: "expired-client",
-        script: r#"{"clients":1,"f":1,"fast":true,"parts":1,"protocol":1,"sets":16,"ways":4}
+=== example expired-client
+{"clients":1,"f":1,"fast":true,"parts":1,"protocol":1,"sets":16,"ways":4}
 {"client":1,"do":"expire"}
 {"do":"deliver","msg":1}
 {"client":1,"cmd":["put","61","31"],"do":"invoke"}
 {"do":"deliver","msg":3}
 {"do":"nudge"}
-"#,
-        out: r#"s1 done
+
+=== status 0
+s1 done
 m1 G M1 expire c1
 s2 done
 m2 M1 B1 append e1 b0 n1 r1
@@ -254,21 +235,17 @@ m6 G W1 start p1 e1
 m7 G M1 adopted p1 e1 v1
 m8 G M1 expire c1
 order 0
-"#,
-        code: 0,
-        complaint: "",
-    },
-    Row {
-        name: "full-set-and-sync",
-        script: r#"{"clients":2,"f":1,"fast":true,"parts":1,"protocol":1,"sets":1,"ways":1}
+=== example full-set-and-sync
+{"clients":2,"f":1,"fast":true,"parts":1,"protocol":1,"sets":1,"ways":1}
 {"client":1,"cmd":["put","61","31"],"do":"invoke"}
 {"client":2,"cmd":["put","62","32"],"do":"invoke"}
 {"do":"deliver","msg":2}
 {"do":"deliver","msg":4}
 {"do":"deliver","msg":6}
 {"do":"deliver","msg":6}
-"#,
-        out: r#"s1 done
+
+=== status 0
+s1 done
 m1 C1 M1 update 1.1 f1 e1 v1 put 61 31
 m2 C1 W1 record 1.1 f1 e1 put 61 31
 s2 done
@@ -282,19 +259,15 @@ s5 done
 m7 C2 M1 sync 2.1 f1 e1 v1 put 62 32
 s6 done
 order 0
-"#,
-        code: 0,
-        complaint: "",
-    },
-    Row {
-        name: "full-set",
-        script: r#"{"clients":2,"f":1,"fast":true,"parts":1,"protocol":1,"sets":1,"ways":1}
+=== example full-set
+{"clients":2,"f":1,"fast":true,"parts":1,"protocol":1,"sets":1,"ways":1}
 {"client":1,"cmd":["put","61","31"],"do":"invoke"}
 {"client":1,"cmd":["put","62","32"],"do":"invoke"}
 {"do":"deliver","msg":2}
 {"do":"deliver","msg":4}
-"#,
-        out: r#"s1 done
+
+=== status 0
+s1 done
 m1 C1 M1 update 1.1 f1 e1 v1 put 61 31
 m2 C1 W1 record 1.1 f1 e1 put 61 31
 s2 done
@@ -305,39 +278,22 @@ m5 W1 C1 accepted 1.1 e1
 s4 done
 m6 W1 C1 rejected 1.2 full 0
 order 0
-"#,
-        code: 0,
-        complaint: "",
-    },
-    Row {
-        name: "header-alone",
-        script: r#"{"clients":2,"f":1,"fast":true,"parts":1,"protocol":1,"sets":16,"ways":4}
-"#,
-        out: r#"order 0
-"#,
-        code: 0,
-        complaint: "",
-    },
-    Row {
-        name: "header-out-of-range",
-        script: r#"{"clients":2,"f":6,"fast":true,"parts":1,"protocol":1,"sets":16,"ways":4}
-"#,
-        out: r#""#,
-        code: 3,
-        complaint: "curp: line 1: bad field f",
-    },
-    Row {
-        name: "key-too-long",
-        script: r#"{"clients":2,"f":1,"fast":true,"parts":1,"protocol":1,"sets":16,"ways":4}
+=== example header-alone
+{"clients":2,"f":1,"fast":true,"parts":1,"protocol":1,"sets":16,"ways":4}
+
+=== status 0
+order 0
+=== example header-out-of-range
+{"clients":2,"f":6,"fast":true,"parts":1,"protocol":1,"sets":16,"ways":4}
+
+=== status 3 curp: line 1: bad field f
+=== example key-too-long
+{"clients":2,"f":1,"fast":true,"parts":1,"protocol":1,"sets":16,"ways":4}
 {"client":1,"cmd":["put","616161616161616161616161616161616161616161616161616161616161616161","31"],"do":"invoke"}
-"#,
-        out: r#""#,
-        code: 3,
-        complaint: "curp: line 2: bad field cmd",
-    },
-    Row {
-        name: "late-reply-of-a-superseded-master",
-        script: r#"{"clients":2,"f":1,"fast":true,"parts":1,"protocol":1,"sets":16,"ways":4}
+
+=== status 3 curp: line 2: bad field cmd
+=== example late-reply-of-a-superseded-master
+{"clients":2,"f":1,"fast":true,"parts":1,"protocol":1,"sets":16,"ways":4}
 {"client":1,"cmd":["put","61","31"],"do":"invoke"}
 {"do":"deliver","msg":2}
 {"backup":1,"do":"recover","part":1,"witness":1}
@@ -363,8 +319,9 @@ order 0
 {"do":"deliver","msg":1}
 {"do":"deliver","msg":3}
 {"do":"deliver","msg":21}
-"#,
-        out: r#"s1 done
+
+=== status 0
+s1 done
 m1 C1 M1 update 1.1 f1 e1 v1 put 61 31
 m2 C1 W1 record 1.1 f1 e1 put 61 31
 s2 done
@@ -415,26 +372,17 @@ c 1.1 done
 order 2
 1.1 put 61 31 -> done
 2.1 condput 61 31 32 -> swapped
-"#,
-        code: 0,
-        complaint: "",
-    },
-    Row {
-        name: "longest-key",
-        script: r#"{"clients":2,"f":1,"fast":true,"parts":1,"protocol":1,"sets":16,"ways":4}
+=== example longest-key
+{"clients":2,"f":1,"fast":true,"parts":1,"protocol":1,"sets":16,"ways":4}
 {"client":1,"cmd":["put","6161616161616161616161616161616161616161616161616161616161616161","31"],"do":"invoke"}
-"#,
-        out: r#"s1 done
+
+=== status 0
+s1 done
 m1 C1 M1 update 1.1 f1 e1 v1 put 6161616161616161616161616161616161616161616161616161616161616161 31
 m2 C1 W1 record 1.1 f1 e1 put 6161616161616161616161616161616161616161616161616161616161616161 31
 order 0
-"#,
-        code: 0,
-        complaint: "",
-    },
-    Row {
-        name: "migration-there-and-back",
-        script: r#"{"clients":1,"f":1,"fast":true,"parts":2,"protocol":1,"sets":16,"ways":4}
+=== example migration-there-and-back
+{"clients":1,"f":1,"fast":true,"parts":2,"protocol":1,"sets":16,"ways":4}
 {"client":1,"cmd":["put","666f","31"],"do":"invoke"}
 {"do":"deliver","msg":2}
 {"do":"migrate","hi":"0fffffffffffffff","lo":"0000000000000000","to":2}
@@ -465,8 +413,9 @@ order 0
 {"do":"deliver","msg":25}
 {"do":"deliver","msg":26}
 {"do":"deliver","msg":27}
-"#,
-        out: r#"s1 done
+
+=== status 0
+s1 done
 m1 C1 M1 update 1.1 f1 e1 v1 put 666f 31
 m2 C1 W1 record 1.1 f1 e1 put 666f 31
 s2 done
@@ -527,13 +476,8 @@ s30 done
 m28 M3 B3 append e2 b0 n3 r1
 order 1
 1.1 put 666f 31 -> done
-"#,
-        code: 0,
-        complaint: "",
-    },
-    Row {
-        name: "nine-invocations",
-        script: r#"{"clients":2,"f":1,"fast":true,"parts":1,"protocol":1,"sets":16,"ways":4}
+=== example nine-invocations
+{"clients":2,"f":1,"fast":true,"parts":1,"protocol":1,"sets":16,"ways":4}
 {"client":1,"cmd":["incr","61"],"do":"invoke"}
 {"client":1,"cmd":["incr","61"],"do":"invoke"}
 {"client":1,"cmd":["incr","61"],"do":"invoke"}
@@ -543,8 +487,9 @@ order 1
 {"client":1,"cmd":["incr","61"],"do":"invoke"}
 {"client":1,"cmd":["incr","61"],"do":"invoke"}
 {"client":1,"cmd":["incr","61"],"do":"invoke"}
-"#,
-        out: r#"s1 done
+
+=== status 0
+s1 done
 m1 C1 M1 update 1.1 f1 e1 v1 incr 61
 m2 C1 W1 record 1.1 f1 e1 incr 61
 s2 done
@@ -570,49 +515,33 @@ m15 C1 M1 update 1.8 f1 e1 v1 incr 61
 m16 C1 W1 record 1.8 f1 e1 incr 61
 s9 refused call 1
 order 0
-"#,
-        code: 0,
-        complaint: "",
-    },
-    Row {
-        name: "no-input",
-        script: r#""#,
-        out: r#""#,
-        code: 3,
-        complaint: "curp: line 1: bad json",
-    },
-    Row {
-        name: "no-message",
-        script: r#"{"clients":2,"f":1,"fast":true,"parts":1,"protocol":1,"sets":16,"ways":4}
+=== example no-input
+
+=== status 3 curp: line 1: bad json
+=== example no-message
+{"clients":2,"f":1,"fast":true,"parts":1,"protocol":1,"sets":16,"ways":4}
 {"do":"deliver","msg":9}
-"#,
-        out: r#"s1 refused no-message
+
+=== status 0
+s1 refused no-message
 order 0
-"#,
-        code: 0,
-        complaint: "",
-    },
-    Row {
-        name: "no-node",
-        script: r#"{"clients":2,"f":1,"fast":true,"parts":1,"protocol":1,"sets":16,"ways":4}
+=== example no-node
+{"clients":2,"f":1,"fast":true,"parts":1,"protocol":1,"sets":16,"ways":4}
 {"do":"stop","node":"W9"}
-"#,
-        out: r#"s1 refused no-node
+
+=== status 0
+s1 refused no-node
 order 0
-"#,
-        code: 0,
-        complaint: "",
-    },
-    Row {
-        name: "one-put",
-        script: r#"{"clients":2,"f":1,"fast":true,"parts":1,"protocol":1,"sets":16,"ways":4}
+=== example one-put
+{"clients":2,"f":1,"fast":true,"parts":1,"protocol":1,"sets":16,"ways":4}
 {"client":1,"cmd":["put","61","31"],"do":"invoke"}
 {"do":"deliver","msg":1}
 {"do":"deliver","msg":2}
 {"do":"deliver","msg":3}
 {"do":"deliver","msg":4}
-"#,
-        out: r#"s1 done
+
+=== status 0
+s1 done
 m1 C1 M1 update 1.1 f1 e1 v1 put 61 31
 m2 C1 W1 record 1.1 f1 e1 put 61 31
 s2 done
@@ -624,22 +553,13 @@ s5 done
 c 1.1 done
 order 1
 1.1 put 61 31 -> done
-"#,
-        code: 0,
-        complaint: "",
-    },
-    Row {
-        name: "other-name",
-        script: r#"{"clients":2,"f":1,"fast":true,"parts":1,"protocol":1,"sets":16,"ways":4}
+=== example other-name
+{"clients":2,"f":1,"fast":true,"parts":1,"protocol":1,"sets":16,"ways":4}
 {"do":"deliver","msg":1,"x":2}
-"#,
-        out: r#""#,
-        code: 3,
-        complaint: "curp: line 2: bad field other",
-    },
-    Row {
-        name: "overflow",
-        script: r#"{"clients":2,"f":1,"fast":false,"parts":1,"protocol":1,"sets":16,"ways":4}
+
+=== status 3 curp: line 2: bad field other
+=== example overflow
+{"clients":2,"f":1,"fast":false,"parts":1,"protocol":1,"sets":16,"ways":4}
 {"client":1,"cmd":["put","6e","ffffffffffffffff"],"do":"invoke"}
 {"do":"deliver","msg":1}
 {"do":"deliver","msg":2}
@@ -650,8 +570,9 @@ order 1
 {"do":"deliver","msg":6}
 {"do":"deliver","msg":7}
 {"do":"deliver","msg":8}
-"#,
-        out: r#"s1 done
+
+=== status 0
+s1 done
 m1 C1 M1 sync 1.1 f1 e1 v1 put 6e ffffffffffffffff
 s2 done
 m2 M1 B1 append e1 b0 n1 r1
@@ -674,13 +595,8 @@ c 1.2 overflow
 order 2
 1.1 put 6e ffffffffffffffff -> done
 1.2 incr 6e -> overflow
-"#,
-        code: 0,
-        complaint: "",
-    },
-    Row {
-        name: "package-has-first-numbers",
-        script: r#"{"clients":1,"f":1,"fast":true,"parts":2,"protocol":1,"sets":16,"ways":4}
+=== example package-has-first-numbers
+{"clients":1,"f":1,"fast":true,"parts":2,"protocol":1,"sets":16,"ways":4}
 {"client":1,"cmd":["put","666f","31"],"do":"invoke"}
 {"do":"deliver","msg":2}
 {"do":"migrate","hi":"0fffffffffffffff","lo":"0000000000000000","to":2}
@@ -726,8 +642,9 @@ order 2
 {"do":"deliver","msg":38}
 {"do":"deliver","msg":39}
 {"do":"deliver","msg":14}
-"#,
-        out: r#"s1 done
+
+=== status 0
+s1 done
 m1 C1 M1 update 1.1 f1 e1 v1 put 666f 31
 m2 C1 W1 record 1.1 f1 e1 put 666f 31
 s2 done
@@ -817,13 +734,8 @@ m40 M2 C1 refuse 1.1 stale f2
 order 2
 1.1 put 666f 31 -> done
 1.2 put 666f 32 -> done
-"#,
-        code: 0,
-        complaint: "",
-    },
-    Row {
-        name: "read-at-a-superseded-master",
-        script: r#"{"clients":2,"f":1,"fast":true,"parts":1,"protocol":1,"sets":16,"ways":4}
+=== example read-at-a-superseded-master
+{"clients":2,"f":1,"fast":true,"parts":1,"protocol":1,"sets":16,"ways":4}
 {"client":1,"cmd":["put","61","31"],"do":"invoke"}
 {"do":"deliver","msg":1}
 {"do":"sync","master":1}
@@ -864,8 +776,9 @@ order 2
 {"do":"deliver","msg":30}
 {"do":"deliver","msg":31}
 {"do":"deliver","msg":32}
-"#,
-        out: r#"s1 done
+
+=== status 0
+s1 done
 m1 C1 M1 update 1.1 f1 e1 v1 put 61 31
 m2 C1 W1 record 1.1 f1 e1 put 61 31
 s2 done
@@ -944,13 +857,8 @@ order 3
 1.1 put 61 31 -> done
 2.1 put 61 32 -> done
 1.2 get 61 -> found 32
-"#,
-        code: 0,
-        complaint: "",
-    },
-    Row {
-        name: "read-by-a-round",
-        script: r#"{"clients":2,"f":1,"fast":true,"parts":1,"protocol":1,"sets":16,"ways":4}
+=== example read-by-a-round
+{"clients":2,"f":1,"fast":true,"parts":1,"protocol":1,"sets":16,"ways":4}
 {"client":1,"cmd":["put","61","31"],"do":"invoke"}
 {"do":"deliver","msg":1}
 {"client":2,"cmd":["get","61"],"do":"invoke"}
@@ -958,8 +866,9 @@ order 3
 {"do":"deliver","msg":5}
 {"do":"deliver","msg":6}
 {"do":"deliver","msg":7}
-"#,
-        out: r#"s1 done
+
+=== status 0
+s1 done
 m1 C1 M1 update 1.1 f1 e1 v1 put 61 31
 m2 C1 W1 record 1.1 f1 e1 put 61 31
 s2 done
@@ -977,18 +886,14 @@ c 2.1 found 31
 order 2
 1.1 put 61 31 -> done
 2.1 get 61 -> found 31
-"#,
-        code: 0,
-        complaint: "",
-    },
-    Row {
-        name: "recovery-gives-up-a-replacement",
-        script: r#"{"clients":2,"f":1,"fast":true,"parts":1,"protocol":1,"sets":16,"ways":4}
+=== example recovery-gives-up-a-replacement
+{"clients":2,"f":1,"fast":true,"parts":1,"protocol":1,"sets":16,"ways":4}
 {"do":"replace","kind":"witness","part":1,"place":1}
 {"backup":1,"do":"recover","part":1,"witness":1}
 {"do":"replace","kind":"witness","part":1,"place":1}
-"#,
-        out: r#"s1 done
+
+=== status 0
+s1 done
 m1 G W2 start p1 e1
 m2 G M1 prepare v2 B1 W2
 s2 done
@@ -997,13 +902,8 @@ m4 G W3 start p1 e2
 m5 G M2 recover p1 e2 v3 B1 W1 B2 W3
 s3 refused call 3
 order 0
-"#,
-        code: 0,
-        complaint: "",
-    },
-    Row {
-        name: "recovery-replays",
-        script: r#"{"clients":2,"f":1,"fast":true,"parts":1,"protocol":1,"sets":16,"ways":4}
+=== example recovery-replays
+{"clients":2,"f":1,"fast":true,"parts":1,"protocol":1,"sets":16,"ways":4}
 {"client":1,"cmd":["put","62","31"],"do":"invoke"}
 {"do":"deliver","msg":1}
 {"do":"deliver","msg":2}
@@ -1025,8 +925,9 @@ order 0
 {"do":"deliver","msg":16}
 {"do":"deliver","msg":17}
 {"do":"deliver","msg":18}
-"#,
-        out: r#"s1 done
+
+=== status 0
+s1 done
 m1 C1 M1 update 1.1 f1 e1 v1 put 62 31
 m2 C1 W1 record 1.1 f1 e1 put 62 31
 s2 done
@@ -1071,13 +972,8 @@ m19 G M2 adopted p1 e2 v2
 order 2
 1.1 put 62 31 -> done
 1.2 put 63 32 -> done
-"#,
-        code: 0,
-        complaint: "",
-    },
-    Row {
-        name: "replace-a-witness",
-        script: r#"{"clients":2,"f":1,"fast":true,"parts":1,"protocol":1,"sets":16,"ways":4}
+=== example replace-a-witness
+{"clients":2,"f":1,"fast":true,"parts":1,"protocol":1,"sets":16,"ways":4}
 {"do":"replace","kind":"witness","part":1,"place":1}
 {"do":"deliver","msg":2}
 {"do":"deliver","msg":3}
@@ -1096,8 +992,9 @@ order 2
 {"do":"deliver","msg":14}
 {"do":"deliver","msg":15}
 {"do":"deliver","msg":16}
-"#,
-        out: r#"s1 done
+
+=== status 0
+s1 done
 m1 G W2 start p1 e1
 m2 G M1 prepare v2 B1 W2
 s2 done
@@ -1134,13 +1031,8 @@ s18 done
 c 1.1 done
 order 1
 1.1 put 61 31 -> done
-"#,
-        code: 0,
-        complaint: "",
-    },
-    Row {
-        name: "replay-keeps-an-acknowledged-request",
-        script: r#"{"clients":2,"f":1,"fast":true,"parts":1,"protocol":1,"sets":16,"ways":4}
+=== example replay-keeps-an-acknowledged-request
+{"clients":2,"f":1,"fast":true,"parts":1,"protocol":1,"sets":16,"ways":4}
 {"client":1,"cmd":["put","62","31"],"do":"invoke"}
 {"do":"deliver","msg":1}
 {"do":"deliver","msg":2}
@@ -1171,8 +1063,9 @@ order 1
 {"do":"deliver","msg":23}
 {"do":"deliver","msg":24}
 {"do":"deliver","msg":25}
-"#,
-        out: r#"s1 done
+
+=== status 0
+s1 done
 m1 C1 M1 update 1.1 f1 e1 v1 put 62 31
 m2 C1 W1 record 1.1 f1 e1 put 62 31
 s2 done
@@ -1234,13 +1127,8 @@ order 3
 1.1 put 62 31 -> done
 1.2 put 63 32 -> done
 1.3 get 62 -> found 31
-"#,
-        code: 0,
-        complaint: "",
-    },
-    Row {
-        name: "retry-after-recovery",
-        script: r#"{"clients":2,"f":1,"fast":true,"parts":1,"protocol":1,"sets":16,"ways":4}
+=== example retry-after-recovery
+{"clients":2,"f":1,"fast":true,"parts":1,"protocol":1,"sets":16,"ways":4}
 {"client":1,"cmd":["incr","6e"],"do":"invoke"}
 {"do":"deliver","msg":1}
 {"do":"deliver","msg":2}
@@ -1269,8 +1157,9 @@ order 3
 {"do":"deliver","msg":22}
 {"do":"deliver","msg":23}
 {"do":"deliver","msg":24}
-"#,
-        out: r#"s1 done
+
+=== status 0
+s1 done
 m1 C1 M1 update 1.1 f1 e1 v1 incr 6e
 m2 C1 W1 record 1.1 f1 e1 incr 6e
 s2 done
@@ -1327,46 +1216,29 @@ c 1.2 number 2
 order 2
 1.1 incr 6e -> number 1
 1.2 incr 6e -> number 2
-"#,
-        code: 0,
-        complaint: "",
-    },
-    Row {
-        name: "retry-of-nothing",
-        script: r#"{"clients":2,"f":1,"fast":true,"parts":1,"protocol":1,"sets":16,"ways":4}
+=== example retry-of-nothing
+{"clients":2,"f":1,"fast":true,"parts":1,"protocol":1,"sets":16,"ways":4}
 {"client":1,"do":"retry","seq":1}
-"#,
-        out: r#"s1 refused call 1
+
+=== status 0
+s1 refused call 1
 order 0
-"#,
-        code: 0,
-        complaint: "",
-    },
-    Row {
-        name: "split-multi",
-        script: r#"{"clients":2,"f":1,"fast":true,"parts":2,"protocol":1,"sets":16,"ways":4}
+=== example split-multi
+{"clients":2,"f":1,"fast":true,"parts":2,"protocol":1,"sets":16,"ways":4}
 {"client":1,"cmd":["multi","61","31","666f","32"],"do":"invoke"}
-"#,
-        out: r#"s1 refused call 3
+
+=== status 0
+s1 refused call 3
 order 0
-"#,
-        code: 0,
-        complaint: "",
-    },
-    Row {
-        name: "stop-the-manager",
-        script: r#"{"clients":2,"f":1,"fast":true,"parts":1,"protocol":1,"sets":16,"ways":4}
+=== example stop-the-manager
+{"clients":2,"f":1,"fast":true,"parts":1,"protocol":1,"sets":16,"ways":4}
 {"do":"stop","node":"G"}
-"#,
-        out: r#"s1 refused manager
+
+=== status 0
+s1 refused manager
 order 0
-"#,
-        code: 0,
-        complaint: "",
-    },
-    Row {
-        name: "stopped-backup-replaced",
-        script: r#"{"clients":2,"f":1,"fast":true,"parts":1,"protocol":1,"sets":16,"ways":4}
+=== example stopped-backup-replaced
+{"clients":2,"f":1,"fast":true,"parts":1,"protocol":1,"sets":16,"ways":4}
 {"do":"stop","node":"B1"}
 {"client":1,"cmd":["put","61","31"],"do":"invoke"}
 {"do":"deliver","msg":1}
@@ -1381,8 +1253,9 @@ order 0
 {"do":"deliver","msg":2}
 {"do":"deliver","msg":3}
 {"do":"deliver","msg":11}
-"#,
-        out: r#"s1 done
+
+=== status 0
+s1 done
 s2 done
 m1 C1 M1 update 1.1 f1 e1 v1 put 61 31
 m2 C1 W1 record 1.1 f1 e1 put 61 31
@@ -1410,33 +1283,25 @@ s14 done
 c 1.1 done
 order 1
 1.1 put 61 31 -> done
-"#,
-        code: 0,
-        complaint: "",
-    },
-    Row {
-        name: "stopped-node",
-        script: r#"{"clients":2,"f":1,"fast":true,"parts":1,"protocol":1,"sets":16,"ways":4}
+=== example stopped-node
+{"clients":2,"f":1,"fast":true,"parts":1,"protocol":1,"sets":16,"ways":4}
 {"do":"stop","node":"M1"}
 {"do":"sync","master":1}
-"#,
-        out: r#"s1 done
+
+=== status 0
+s1 done
 s2 refused gone
 order 0
-"#,
-        code: 0,
-        complaint: "",
-    },
-    Row {
-        name: "synced-put",
-        script: r#"{"clients":2,"f":1,"fast":false,"parts":1,"protocol":1,"sets":16,"ways":4}
+=== example synced-put
+{"clients":2,"f":1,"fast":false,"parts":1,"protocol":1,"sets":16,"ways":4}
 {"client":1,"cmd":["put","61","31"],"do":"invoke"}
 {"do":"deliver","msg":1}
 {"do":"deliver","msg":2}
 {"do":"deliver","msg":3}
 {"do":"deliver","msg":4}
-"#,
-        out: r#"s1 done
+
+=== status 0
+s1 done
 m1 C1 M1 sync 1.1 f1 e1 v1 put 61 31
 s2 done
 m2 M1 B1 append e1 b0 n1 r1
@@ -1448,13 +1313,8 @@ s5 done
 c 1.1 done
 order 1
 1.1 put 61 31 -> done
-"#,
-        code: 0,
-        complaint: "",
-    },
-    Row {
-        name: "three-witnesses",
-        script: r#"{"clients":2,"f":3,"fast":true,"parts":1,"protocol":1,"sets":16,"ways":4}
+=== example three-witnesses
+{"clients":2,"f":3,"fast":true,"parts":1,"protocol":1,"sets":16,"ways":4}
 {"client":1,"cmd":["put","61","31"],"do":"invoke"}
 {"do":"deliver","msg":1}
 {"do":"deliver","msg":2}
@@ -1464,8 +1324,9 @@ order 1
 {"do":"deliver","msg":6}
 {"do":"deliver","msg":7}
 {"do":"deliver","msg":8}
-"#,
-        out: r#"s1 done
+
+=== status 0
+s1 done
 m1 C1 M1 update 1.1 f1 e1 v1 put 61 31
 m2 C1 W1 record 1.1 f1 e1 put 61 31
 m3 C1 W2 record 1.1 f1 e1 put 61 31
@@ -1485,13 +1346,8 @@ s9 done
 c 1.1 done
 order 1
 1.1 put 61 31 -> done
-"#,
-        code: 0,
-        complaint: "",
-    },
-    Row {
-        name: "two-backups",
-        script: r#"{"clients":1,"f":2,"fast":false,"parts":1,"protocol":1,"sets":16,"ways":4}
+=== example two-backups
+{"clients":1,"f":2,"fast":false,"parts":1,"protocol":1,"sets":16,"ways":4}
 {"client":1,"cmd":["put","61","31"],"do":"invoke"}
 {"do":"deliver","msg":1}
 {"do":"deliver","msg":1}
@@ -1502,8 +1358,9 @@ order 1
 {"do":"deliver","msg":1}
 {"do":"deliver","msg":7}
 {"do":"deliver","msg":8}
-"#,
-        out: r#"s1 done
+
+=== status 0
+s1 done
 m1 C1 M1 sync 1.1 f1 e1 v1 put 61 31
 s2 done
 m2 M1 B1 append e1 b0 n1 r1
@@ -1524,13 +1381,8 @@ c 1.1 done
 s10 done
 order 1
 1.1 put 61 31 -> done
-"#,
-        code: 0,
-        complaint: "",
-    },
-    Row {
-        name: "update-delivered-often",
-        script: r#"{"clients":2,"f":1,"fast":true,"parts":1,"protocol":1,"sets":16,"ways":4}
+=== example update-delivered-often
+{"clients":2,"f":1,"fast":true,"parts":1,"protocol":1,"sets":16,"ways":4}
 {"client":1,"cmd":["put","61","31"],"do":"invoke"}
 {"do":"deliver","msg":1}
 {"do":"deliver","msg":1}
@@ -1542,8 +1394,9 @@ order 1
 {"client":1,"cmd":["put","62","32"],"do":"invoke"}
 {"do":"deliver","msg":8}
 {"do":"deliver","msg":1}
-"#,
-        out: r#"s1 done
+
+=== status 0
+s1 done
 m1 C1 M1 update 1.1 f1 e1 v1 put 61 31
 m2 C1 W1 record 1.1 f1 e1 put 61 31
 s2 done
@@ -1569,17 +1422,9 @@ m11 M1 C1 refuse 1.1 stale f2
 order 2
 1.1 put 61 31 -> done
 1.2 put 62 32 -> done
-"#,
-        code: 0,
-        complaint: "",
-    },
-    Row {
-        name: "upper-case-digit",
-        script: r#"{"clients":2,"f":1,"fast":true,"parts":1,"protocol":1,"sets":16,"ways":4}
+=== example upper-case-digit
+{"clients":2,"f":1,"fast":true,"parts":1,"protocol":1,"sets":16,"ways":4}
 {"do":"migrate","hi":"0F00000000000000","lo":"0000000000000000","to":1}
-"#,
-        out: r#""#,
-        code: 3,
-        complaint: "curp: line 2: bad field hi",
-    },
-];
+
+=== status 3 curp: line 2: bad field hi
+"#;
