@@ -9,4 +9,3 @@ pub mod Seen
 pub mod Stepping
 pub mod Keeping
 pub mod Marking
-pub mod Grown
