@@ -75,7 +75,7 @@ set_at (b ∷ more) long round = ap (λ rest. record { backup = b; length = long
 
 pub set_more : (all : List Acknowledged) (at long round : ℕ) (d : Acknowledged) → at < length all
     → set (all_set (take at all) long round ++ drop at all) at (record (get_or all at d) { length = long; round = round })
-      ≡ all_set (take (suc at) all) long round ++ drop (suc at) all
+    ≡ all_set (take (suc at) all) long round ++ drop (suc at) all
 set_more [] at long round d within = absurd (omega (arith, within))
 set_more (a ∷ all) zero long round d within = refl
 set_more (a ∷ all) (suc at) long round d within = ap (λ rest. record a { length = long; round = round } ∷ rest) (set_more all at long round d (omega (arith, within)))
