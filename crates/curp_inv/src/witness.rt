@@ -31,7 +31,12 @@ impl Model for WitnessNode {
 
 impl WitnessNode {
     /// A witness of that number that wasn't started, and holds nothing. All memory for its slots is taken here.
-    pub fn fresh(alloc: Global, number: u32, sets: u32, ways: u32) -> Result<WitnessNode, ShapeError>
+    pub fn fresh(
+        alloc: Global,
+        number: u32,
+        sets: u32,
+        ways: u32,
+    ) -> Result<WitnessNode, ShapeError>
         ensures number { IfOk result (λ w. w.number ≡ number) }
         ensures state { IfOk result (λ w. w.state ≡ fresh_witness sets ways) }
         ensures bad_shape { (result ≡ Err ShapeError.BadShape)

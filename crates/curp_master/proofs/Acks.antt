@@ -1,5 +1,5 @@
 -- What backups have acknowledged, found and raised.
-use Rattle.std.proofs.Common.{◌≡◌, ℕ, zero, suc, ◌-◌, ◌≤◌, ◌==◌, ◌&&◌, nat_le, min, max, List, [], ◌∷◌, ◌++◌, length, get_or, set, take, drop, refl, ap, sym, ◌∙◌, subst, arith}
+use Rattle.std.proofs.Common.{◌≡◌, ℕ, zero, suc, ◌-◌, ◌<◌, ◌≤◌, ◌==◌, ◌&&◌, nat_le, min, max, List, [], ◌∷◌, ◌++◌, length, get_or, set, take, drop, refl, ap, sym, ◌∙◌, subst, arith}
 use Rattle.std.specs.List.{fold}
 use Rattle.std.proofs.lemmas.Bool.Decides.{nat_tests}
 use Rattle.std.proofs.Math.Seq.{take-length}
@@ -72,3 +72,17 @@ pub set_at : (backups : List NodeId) (long round : ℕ)
     → all_set (all_at backups 0 0) long round ≡ all_at backups long round
 set_at [] long round = refl
 set_at (b ∷ more) long round = ap (λ rest. record { backup = b; length = long; round = round } ∷ rest) (set_at more long round)
+
+pub set_more : (all : List Acknowledged) (at long round : ℕ) (d : Acknowledged) → at < length all
+    → set (all_set (take at all) long round ++ drop at all) at (record (get_or all at d) { length = long; round = round })
+    ≡ all_set (take (suc at) all) long round ++ drop (suc at) all
+set_more [] at long round d within = absurd (omega (arith, within))
+set_more (a ∷ all) zero long round d within = refl
+set_more (a ∷ all) (suc at) long round d within = ap (λ rest. record a { length = long; round = round } ∷ rest) (set_more all at long round d (omega (arith, within)))
+
+pub not_set : (all : List Acknowledged) (at long round : ℕ) (d : Acknowledged)
+    → get_or (all_set (take at all) long round ++ drop at all) at d ≡ get_or all at d
+not_set [] zero long round d = refl
+not_set [] (suc at) long round d = refl
+not_set (a ∷ all) zero long round d = refl
+not_set (a ∷ all) (suc at) long round d = not_set all at long round d

@@ -101,11 +101,11 @@ pub(crate) fn all_at(
 }
 
 /// Each backup of the list has acknowledged just so much. It takes no memory.
-pub(crate) fn set_all(all: &mut [Acknowledged], long: u64, round: u64)
-    ensures { all.new ≡ all_set all.old long round }
+pub(crate) fn set_all(all: &mut Vec<Acknowledged>, long: u64, round: u64)
+    ensures { all.new.items ≡ all_set all.old.items long round }
 {
-    for each in all {
-        each.set(long, round);
+    for at in 0..all.len() {
+        all[at].set(long, round);
     }
 }
 
