@@ -1,11 +1,13 @@
 #!/usr/bin/env python3
-"""Makes the specs of crates/curp_rows out of the examples in this folder.
+"""Makes the specs of crates/curp_rows, and the table of the tests of crates/curp, out of the examples in this folder.
 
 An example is NAME.script, a header and steps, a JSON line each, and NAME.out, all that `curp play` writes for it. Its
 spec has the header and the steps as terms, and the output as lines. specs/Lib.antt, which names all specs, is made too.
+An example with a line that is refused has a NAME.status, with the exit status and the line on standard error; it has no
+spec. The table has a row for each example.
 
-    examples/to_specs.py            writes the specs
-    examples/to_specs.py --check    writes nothing, names the specs that aren't what it would write, and ends with 1 if
+    examples/to_specs.py            writes the specs and the table
+    examples/to_specs.py --check    writes nothing, names the files that aren't what it would write, and ends with 1 if
                                     there are any
 """
 
@@ -16,6 +18,7 @@ from pathlib import Path
 
 EXAMPLES = Path(__file__).resolve().parent
 SPECS = EXAMPLES.parent / "crates" / "curp_rows" / "specs"
+TABLE = EXAMPLES.parent / "crates" / "curp" / "src" / "tests" / "rows.rt"
 MADE = "-- Made by examples/to_specs.py"
 USES = {
     "Example": "use Rattle.curp_rows.specs.Example.{Example, lines}",
@@ -140,13 +143,29 @@ def module_of(script):
 
 def specs_made():
     """Each spec that this program makes: its file, and its text."""
-    return {module_of(script): spec_of(script) for script in EXAMPLES.glob("*.script")}
+    scripts = [script for script in EXAMPLES.glob("*.script") if not script.with_suffix(".status").exists()]
+    return {module_of(script): spec_of(script) for script in scripts}
 
 
 def lib_of(files):
     """What specs/Lib.antt is where these are the specs beside it."""
     modules = sorted(file.removesuffix(".antt") for file in files)
     return f"{MADE}: all files of this folder.\n" + "".join(f"pub mod {module}\n" for module in modules)
+
+
+def row_of(script):
+    """The row of an example in the table."""
+    status = script.with_suffix(".status")
+    ended = status.read_text(encoding="utf-8") if status.exists() else "0\n"
+    texts = [script.read_text(encoding="utf-8"), script.with_suffix(".out").read_text(encoding="utf-8")]
+    return f"=== example {script.stem}\n{texts[0]}\n=== status {ended}{texts[1]}"
+
+
+def table_made():
+    """The table of the tests of crates/curp, as one text."""
+    rows = "".join(row_of(script) for script in sorted(EXAMPLES.glob("*.script")))
+    head = f"// Made by examples/{Path(__file__).name}: a row for each example. The line feed behind its script is none of it."
+    return f'{head}\npub(super) const ROWS: &str = r#"{rows}"#;\n'
 
 
 def main():
@@ -159,14 +178,20 @@ def main():
     made["Lib.antt"] = lib_of({*made, *by_hand})
     written = [name for name in made if there.get(name) != made[name]]
     dropped = [name for name in there if name not in made and name not in by_hand]
+    table = table_made()
+    is_stale = not TABLE.exists() or TABLE.read_text(encoding="utf-8") != table
     if checks:
-        for name in written + dropped:
+        wrong = written + dropped + ([TABLE.name] if is_stale else [])
+        for name in wrong:
             print(f"{name} isn't what examples/to_specs.py makes")
-        sys.exit(1 if written + dropped else 0)
+        sys.exit(1 if wrong else 0)
     for name in written:
         (SPECS / name).write_text(made[name], encoding="utf-8")
     for name in dropped:
         (SPECS / name).unlink()
+    if is_stale:
+        TABLE.parent.mkdir(parents=True, exist_ok=True)
+        TABLE.write_text(table, encoding="utf-8")
 
 
 if __name__ == "__main__":

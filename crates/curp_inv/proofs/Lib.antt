@@ -1,2 +1,3 @@
 pub mod Adoptions
 pub mod Told
+pub mod Adoptions

@@ -22,7 +22,7 @@ pub has_an_order : (bytes : List ℕ) (h : Header) (body : Steps)
     → HasAnOrder (script_in bytes)
 has_an_order bytes h body e valid histories orders =
     let run : IsRun h body.steps = record {
-      header = (in_order h valid).is;
+      header = in_order h valid;
       steps_are = subst (λ (s : Script). Each IsStep s.body.steps) e (script_named (lines_of bytes));
     } in
     rw e (histories h body.steps run, orders h body.steps run)

@@ -1,6 +1,5 @@
 -- Each step of a script that invokes names one to four keys.
-use Rattle.std.proofs.Common.{ℕ, ◌+◌, ◌-◌, nat_lt, nat_eq, List, [], ◌∷◌, length, Result, Ok, Err, IfOk}
-use Rattle.std.specs.List.{list_any}
+use Rattle.std.proofs.Common.{ℕ, ◌+◌, ◌-◌, nat_lt, List, [], ◌∷◌, length, Result, Ok, Err, IfOk}
 use Rattle.std.proofs.lemmas.Bool.{cond_both}
 use Rattle.std.proofs.lemmas.Result.{IfOk-weaker}
 use Rattle.curp_base.specs.Words.{Each}
@@ -10,7 +9,7 @@ use Rattle.curp_msg.specs.declared.script.Step.{Step}
 use Rattle.curp_msg.specs.declared.script.Step.TheVariants.{Invoke}
 use Rattle.curp_script.specs.declared.error.LineError.{LineError}
 use Rattle.curp_script.specs.Grammar.{header_in, step_in}
-use Rattle.curp_script.specs.Script.{Script, Steps, at_most_once, begun_with, with_step, invoked_after, line_limit, script_of, step_limit, steps_in}
+use Rattle.curp_script.specs.Script.{Script, Steps, begun_with, with_step, line_limit, script_of, step_limit, steps_in}
 use Rattle.curp_script.proofs.ReadNames.{IsNamed, read_names}
 
 is_step : (step : Step) → IsNamed step → IsStep step
@@ -19,13 +18,6 @@ is_step _ named = tt
 
 line_named : (line : List ℕ) → IfOk (step_in line) IsStep
 line_named line = IfOk-weaker (step_in line) IsNamed IsStep is_step (read_names line)
-
-once_named : (invoked : List ℕ) (r : Result Step LineError) → IfOk r IsStep → IfOk (at_most_once invoked r) IsStep
-once_named invoked (Ok (Invoke client command)) named =
-    let P : Result Step LineError → Type 0 = λ r. IfOk r IsStep in
-    cond_both (list_any (nat_eq client) invoked) _ _ P (λ yes. tt) (λ no. named)
-once_named invoked (Ok _) named = named
-once_named invoked (Err reason) named = tt
 
 first_named : (n : ℕ) (r : Result Step LineError) (more : Steps) → IfOk r IsStep → Each IsStep more.steps
     → Each IsStep (with_step n r more).steps
@@ -39,13 +31,12 @@ begun_named : (r : Result Header LineError) (more : Steps) → Each IsStep more.
 begun_named (Err reason) more named = tt
 begun_named (Ok header) more named = named
 
-steps_named : (n : ℕ) (invoked : List ℕ) (lines : List (List ℕ)) → Each IsStep (steps_in n invoked lines).steps
-steps_named n invoked [] = tt
-steps_named n invoked (line ∷ lines) =
+steps_named : (n : ℕ) (lines : List (List ℕ)) → Each IsStep (steps_in n lines).steps
+steps_named n [] = tt
+steps_named n (line ∷ lines) =
     let P : Steps → Type 0 = λ s. Each IsStep s.steps in
-    let once = once_named invoked (step_in line) (line_named line) in
-    let more = steps_named (n + 1) (invoked_after invoked (step_in line)) lines in
-    cond_both (nat_lt line_limit (length line)) _ _ P (λ yes. tt) (λ no. first_named n _ _ once more)
+    let more = steps_named (n + 1) lines in
+    cond_both (nat_lt line_limit (length line)) _ _ P (λ yes. tt) (λ no. first_named n _ _ (line_named line) more)
 
 -- each step of a script that invokes names keys
 pub script_named : (lines : List (List ℕ)) → Each IsStep (script_of lines).body.steps
@@ -53,4 +44,4 @@ script_named [] = tt
 script_named (line ∷ lines) =
     let P : Script → Type 0 = λ s. Each IsStep s.body.steps in
     cond_both (nat_lt line_limit (length line)) _ _ P (λ yes. tt)
-    (λ no. begun_named (header_in line) (steps_in 2 [] lines) (steps_named 2 [] lines))
+    (λ no. begun_named (header_in line) (steps_in 2 lines) (steps_named 2 lines))

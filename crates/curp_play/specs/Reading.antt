@@ -1,22 +1,11 @@
 -- A script that is read line by line.
-use Rattle.std.specs.Prelude.{◌≡◌, ℕ, ◌+◌, ◌||◌, nat_eq, Bool, true, false, List, [], ◌∷◌, ◌++◌, None, Result, Ok, Err, ⊤}
-use Rattle.std.specs.List.{list_any}
-use Rattle.curp_io.specs.Text.{Progress, lines_of, nothing_read}
+use Rattle.std.specs.Prelude.{◌≡◌, ℕ, ◌+◌, Bool, true, false, List, [], ◌∷◌, ◌++◌, None, Result, Ok, Err, ⊤}
+use Rattle.curp_io.specs.Text.{Progress, lines_of}
 use Rattle.curp_msg.specs.declared.script.Step.{Step}
-use Rattle.curp_msg.specs.declared.script.Step.TheVariants.{Invoke}
 use Rattle.curp_script.specs.Script.{Whole, Script, Steps, ends, steps_in}
 use Rattle.curp_play.specs.Status.{is_cut_short, status_of}
 use Rattle.curp_play.specs.declared.status.Status.{Status}
 use Rattle.curp_play.specs.declared.status.Status.TheVariants as status
-
--- how far a script was read: the lines so far, and the clients that they invoked
-pub record Reading : Type 0 where
-  pub lines : Progress
-  pub invoked : List ℕ
-
--- before the first line
-abbrev pub not_begun : Reading
-not_begun = record { lines = nothing_read; invoked = [] }
 
 -- so many lines were given, and reading goes on
 pub record IsBehind (lines : Progress) (number : ℕ) : Type 0 where
@@ -24,8 +13,8 @@ pub record IsBehind (lines : Progress) (number : ℕ) : Type 0 where
   pub numbered : lines.number ≡ number
 
 -- the steps that the bytes not read yet are
-abbrev pub due : Reading → List ℕ → Steps
-due r left = steps_in (r.lines.number + 1) r.invoked (lines_of (r.lines.ahead ++ left))
+abbrev pub due : Progress → List ℕ → Steps
+due lines left = steps_in (lines.number + 1) (lines_of (lines.ahead ++ left))
 
 -- a script ends here with that status, unless the run is cut short
 abbrev pub StopsAs : Steps → Status → Type 0
@@ -53,20 +42,3 @@ abbrev pub IsOfWriting : Status → Type 0
 IsOfWriting status.WriteFault = ⊤
 IsOfWriting status.NoMemory = ⊤
 IsOfWriting _ = ⊥
-
--- ---- clients that were invoked
-
--- the step invokes a client that was invoked before
-abbrev pub repeats : List ℕ → Step → Bool
-repeats invoked (Invoke client command) = list_any (nat_eq client) invoked
-repeats invoked _ = false
-
--- this client too is among them
-abbrev pub AddsClient : ℕ → List ℕ → List ℕ → Type 0
-AddsClient client old new =
-    (other : ℕ) → list_any (nat_eq other) new ≡ (nat_eq other client || list_any (nat_eq other) old)
-
--- the clients that were invoked after a step
-abbrev pub InvokedBy : Step → List ℕ → List ℕ → Type 0
-InvokedBy (Invoke client command) old new = AddsClient client old new
-InvokedBy _ old new = new ≡ old

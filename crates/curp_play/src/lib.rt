@@ -2,7 +2,6 @@
 #![tactic(auto)]
 
 mod command;
-mod invoked;
 mod play;
 mod process;
 mod reading;

@@ -1,11 +1,10 @@
 ghost use Rattle.std.specs.Prelude.{◌≡◌, ◌≢◌, ◌++◌, [], true, false, None, Some, Ok, Err, OnOk, IfOk, IfErr};
 ghost use Rattle.curp_io.specs.Streams.{HoldsPart, Rose, SameCount};
 ghost use Rattle.curp_script.specs.Headers.{bad_field};
-ghost use Rattle.curp_facts.specs.Built.{CanStep};
 ghost use Rattle.curp_model.specs.World as model;
 ghost use Rattle.curp_text.specs.Text.{closing_order, made_text};
 ghost use Rattle.curp_play.specs.Play.{HasAnOrder, text_from, script_in, text_of};
-ghost use Rattle.curp_play.specs.Reading.{IsBehind, IsOfWriting, due, not_begun};
+ghost use Rattle.curp_play.specs.Reading.{IsBehind, IsOfWriting, due};
 ghost use Rattle.curp_play.specs.Status.{ended, is_cut_short, status_of};
 
 use crate::reading::ScriptReader;
@@ -107,7 +106,7 @@ fn play_steps<S: Source, K: Sink>(
     world: &mut World,
     sink: &mut K,
 ) -> Result<(), Status>
-    requires { IsBehind script.old.lines 1 }
+    requires { IsBehind script.old 1 }
     ensures ends { S.tells source.old ≡ true → is_cut_short (ended result) ≡ false
         → ended result ≡ status_of (due script.old (S.left source.old)).ending }
     ensures end { S.tells source.old ≡ true → OnOk result (S.left source.new ≡ []) }
@@ -142,7 +141,6 @@ fn make_step<K: Sink>(
     text: &mut String,
     sink: &mut K,
 ) -> Result<(), Status>
-    requires { CanStep step.now }
     ensures made { OnOk result (world.new ≡ (model.step world.old step.now).world) }
     ensures wrote { K.tells sink.old ≡ true
         → OnOk result (K.held sink.new ≡ K.held sink.old ++ made_text number (model.step world.old step.now)) }

@@ -1,60 +1,56 @@
 ghost use Rattle.std.specs.Prelude.{◌≡◌, ◌≢◌, ◌+◌, ◌≤◌, [], true, false, None, Some, Ok, Err, OnOk, IfOk, IfErr};
 ghost use Rattle.curp_io.specs.Streams.{Rose, SameCount};
+ghost use Rattle.curp_io.specs.Text.{nothing_read};
 ghost use Rattle.curp_script.specs.Grammar.{header_in, step_in};
 ghost use Rattle.curp_script.specs.Headers.{bad_field};
-ghost use Rattle.curp_script.specs.Script.{Steps, at_most_once, begun_with, step_limit, with_step};
-ghost use Rattle.curp_facts.specs.Built.{CanStep};
+ghost use Rattle.curp_script.specs.Script.{Steps, begun_with, step_limit, with_step};
 ghost use Rattle.curp_play.specs.Play.{script_in};
-ghost use Rattle.curp_play.specs.Reading.{GivesStep, HasNoHeader, InvokedBy, IsBehind, IsOfReading, StopsAs};
-ghost use Rattle.curp_play.specs.Reading.{due, not_begun};
+ghost use Rattle.curp_play.specs.Reading.{GivesStep, HasNoHeader, IsBehind, IsOfReading, StopsAs, due};
 
-use crate::invoked::Invoked;
 use crate::status::Status;
 use curp_base::NoMemory;
 use curp_io::{Lines, NextLine, Source};
-use curp_script::{Header, LineError, LineReader, Step, Word};
+use curp_script::{Header, LineError, LineReader, Step};
 use std::alloc::Global;
 use std::marker::Model;
 
 /// How many steps a script may have.
 pub(crate) const STEP_LIMIT: u64 = 200_000;
 
-/// Reads a script line by line.
+/// Reads a script line by line. Contracts see the lines read so far.
 #[derive(Drop)]
 pub(crate) struct ScriptReader {
     lines: Lines,
     line_reader: LineReader,
-    invoked: Invoked,
 }
 
 impl Model for ScriptReader {
-    ghost use Rattle.curp_play.specs.Reading.{Reading};
+    ghost use Rattle.curp_io.specs.Text.{Progress};
 
-    ghost Value = { Reading };
+    ghost Value = { Progress };
 
-    ghost view = { λ r. record { lines = r.lines; invoked = r.invoked } };
+    ghost view = { λ r. r.lines };
 }
 
 impl ScriptReader {
     pub(crate) fn new(alloc: Global) -> Result<ScriptReader, NoMemory>
-        ensures { IfOk result (λ reader. reader ≡ not_begun) }
+        ensures { IfOk result (λ reader. reader ≡ nothing_read) }
     {
         Ok(ScriptReader {
             lines: Lines::new(alloc)?,
             line_reader: LineReader::new(alloc),
-            invoked: Invoked::new(alloc),
         })
     }
 
     /// Reads the header of the script, which is its first line. An input without any line is refused as if its first
     /// line were no JSON.
     pub(crate) fn read_header<S: Source>(&mut self, source: &mut S) -> Result<Header, Status>
-        requires { self.old ≡ not_begun }
+        requires { self.old ≡ nothing_read }
         ensures opened { S.tells source.old ≡ true → IfOk result (λ header. script_in (S.left source.old)
             ≡ record { header = Some header; body = due self.new (S.left source.new) }) }
         ensures refused { S.tells source.old ≡ true → IfErr result (HasNoHeader (script_in (S.left source.old))) }
         ensures valid { IfOk result (λ header. bad_field header ≡ None) }
-        ensures goes_on { OnOk result (IsBehind self.new.lines 1) }
+        ensures goes_on { OnOk result (IsBehind self.new 1) }
         ensures reading { IfErr result IsOfReading }
         ensures tells { S.tells source.old ≡ true → S.tells source.new ≡ true }
         ensures cause { result ≡ Err Status.ReadFault → Rose (S.faults source.old) (S.faults source.new) }
@@ -76,13 +72,12 @@ impl ScriptReader {
         number: u64,
         step: &mut Step,
     ) -> Result<bool, Status>
-        requires behind { IsBehind self.old.lines number }
+        requires behind { IsBehind self.old number }
         requires counted { number ≤ step_limit + 1 }
         ensures due { S.tells source.old ≡ true
             → GivesStep (due self.old (S.left source.old)) result step.new (due self.new (S.left source.new)) }
         ensures end { S.tells source.old ≡ true → result ≡ Ok false → S.left source.new ≡ [] }
-        ensures can { result ≡ Ok true → CanStep step.new }
-        ensures goes_on { result ≡ Ok true → IsBehind self.new.lines (number + 1) }
+        ensures goes_on { result ≡ Ok true → IsBehind self.new (number + 1) }
         ensures counted { result ≡ Ok true → number ≤ step_limit }
         ensures reading { IfErr result IsOfReading }
         ensures tells { S.tells source.old ≡ true → S.tells source.new ≡ true }
@@ -92,7 +87,7 @@ impl ScriptReader {
         match self.lines.next_line(source) {
             NextLine::Line => {
                 let text = self.lines.text();
-                step_of_line(&mut self.line_reader, &mut self.invoked, number, text, step)?;
+                step_of_line(&mut self.line_reader, number, text, step)?;
                 Ok(true)
             }
             NextLine::End => Ok(false),
@@ -116,22 +111,17 @@ fn header_of_line(line_reader: &mut LineReader, text: &[u8]) -> Result<Header, S
     }
 }
 
-/// Reads the step of that number that a line is, where no earlier line invoked its client.
-#[tactic(auto, using(crate::proofs::Scripts::once_by_repeats, crate::proofs::Built::step_can))]
+/// Reads the step of that number that a line is.
 fn step_of_line(
     line_reader: &mut LineReader,
-    invoked: &mut Invoked,
     number: u64,
     text: &[u8],
     step: &mut Step,
 ) -> Result<(), Status>
     requires { number ≤ step_limit + 1 }
-    ensures gives { OnOk result (at_most_once invoked.old (step_in text.now) ≡ Ok step.new) }
-    ensures can { OnOk result (CanStep step.new) }
-    ensures invoked { OnOk result (InvokedBy step.new invoked.old invoked.new) }
+    ensures gives { OnOk result (step_in text.now ≡ Ok step.new) }
     ensures counted { OnOk result (number ≤ step_limit) }
-    ensures stops { (more : Steps)
-        → IfErr result (StopsAs (with_step (number + 1) (at_most_once invoked.old (step_in text.now)) more)) }
+    ensures stops { (more : Steps) → IfErr result (StopsAs (with_step (number + 1) (step_in text.now) more)) }
     ensures reading { IfErr result IsOfReading }
     ensures never_read { result ≢ Err Status.ReadFault }
 {
@@ -139,13 +129,8 @@ fn step_of_line(
         Ok(step) => step,
         Err(reason) => return Err(Status::refused_at(number + 1, reason)),
     };
-    if invoked.repeats(step) {
-        let reason = LineError::Later { word: Word::Invoke };
-        return Err(Status::refused_at(number + 1, reason));
-    }
     if number > STEP_LIMIT {
         return Err(Status::TooManySteps);
     }
-    invoked.note(step)?;
     Ok(())
 }

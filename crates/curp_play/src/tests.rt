@@ -10,6 +10,8 @@ const HEADER: &str =
 
 const INVOKE: &str = "{\"client\":1,\"cmd\":[\"put\",\"61\",\"31\"],\"do\":\"invoke\"}";
 
+const MULTI: &str = "[\"multi\",\"61\",\"31\",\"62\",\"31\",\"63\",\"31\",\"64\",\"31\"]";
+
 const DELIVER_9: &str = "{\"do\":\"deliver\",\"msg\":9}";
 
 // How `curp play` ends for a script, and what it has written, where the calls of these numbers fail.
@@ -93,6 +95,57 @@ fn all_messages_of_64_clients_are_delivered(rt: HostRuntime) -> Result<(), Fail>
     Ok(())
 }
 
+// A ninth invocation while eight are pending is refused as a step. Once one has completed the next goes, with the least
+// number that is pending.
+#[test]
+fn a_client_has_up_to_8_pending_requests(rt: HostRuntime) -> Result<(), Fail> {
+    let mut script = format!(in rt.alloc(); "{HEADER}\n")?;
+    for _ in 1..=9 {
+        writeln!(script, "{INVOKE}")?;
+    }
+    deliver(&mut script, 1, 2)?;
+    deliver(&mut script, 17, 18)?;
+    writeln!(script, "{INVOKE}")?;
+    let (status, sink) = played(rt.alloc(), script.as_str(), &[], &[])?;
+    assert_eq!(rt; status, Status::Ok);
+    let text = std::str::from_utf8(sink.bytes())?;
+    assert!(rt; text.contains("\ns8 done\n"));
+    assert!(rt; text.contains("\ns9 refused call 1\ns10 done\n"));
+    assert!(rt; text.contains("\nc 1.1 done\ns14 done\nm19 C1 M1 update 1.9 f2 e1 v1 put 61 31\n"));
+    Ok(())
+}
+
+// 64 clients that aren't fast ask for eight multi-puts each, of the same four keys, and the master is given the first
+// 401 requests. Each makes it send 5 appends of all that it holds, so that all messages get too heavy: the last is
+// refused. A stop isn't.
+#[test]
+fn a_heavy_world_takes_stops_alone(rt: HostRuntime) -> Result<(), Fail> {
+    let mut script = HEADER
+        .replace(
+            rt.alloc(),
+            "\"clients\":2,\"f\":1",
+            "\"clients\":64,\"f\":5",
+        )?
+        .replace(rt.alloc(), "true", "false")?;
+    script.push('\n')?;
+    for client in 1..=64 {
+        for _ in 1..=8 {
+            writeln!(
+                script,
+                "{{\"client\":{client},\"cmd\":{MULTI},\"do\":\"invoke\"}}"
+            )?;
+        }
+    }
+    deliver(&mut script, 1, 401)?;
+    writeln!(script, "{{\"do\":\"stop\",\"node\":\"M1\"}}")?;
+    let (status, sink) = played(rt.alloc(), script.as_str(), &[], &[])?;
+    assert_eq!(rt; status, Status::Ok);
+    let text = std::str::from_utf8(sink.bytes())?;
+    assert!(rt; text.contains("\ns913 refused full 2007512\ns914 done\norder 400\n"));
+    assert_eq!(rt; text.len(), 125_599);
+    Ok(())
+}
+
 // The header is read in one piece; its end is looked for, and then a step. The order is written in one piece and then
 // flushed.
 #[test]
@@ -169,17 +222,18 @@ fn bad(name: FieldName) -> LineError {
     LineError::BadField { name }
 }
 
-fn later(word: Word) -> LineError {
-    LineError::Later { word }
-}
-
 #[test]
 fn headers_are_refused_by_their_first_fault(rt: HostRuntime) -> Result<(), Fail> {
     for (old, new, reason) in [
         ("\"f\":1", "\"f\":6", bad(FieldName::F)),
-        ("\"parts\":1", "\"parts\":2", later(Word::Parts)),
         ("\"parts\":1", "\"parts\":17", bad(FieldName::Parts)),
-        ("\"protocol\":1", "\"protocol\":2", later(Word::Protocol)),
+        (
+            "\"protocol\":1",
+            "\"protocol\":2",
+            LineError::Later {
+                word: Word::Protocol,
+            },
+        ),
         ("}", "", LineError::BadJson),
         (HEADER, "", LineError::BadJson),
     ] {
@@ -197,22 +251,14 @@ fn lines_are_refused_by_their_first_fault(rt: HostRuntime) -> Result<(), Fail> {
         ("\n", LineError::BadJson),
         ("{\"do\":\"deli", LineError::BadJson),
         ("{\"do\":\"dance\"}", bad(FieldName::Do)),
-        ("{\"do\":\"collect\",\"master\":1}", later(Word::Collect)),
+        ("{\"do\":\"collect\",\"master\":-1}", bad(FieldName::Master)),
         (
             "{\"do\":\"deliver\",\"msg\":1,\"x\":2}",
             bad(FieldName::Other),
         ),
         (
-            "{\"client\":2,\"cmd\":[\"get\",\"61\"],\"do\":\"invoke\"}",
-            later(Word::Get),
-        ),
-        (
             "{\"client\":2,\"cmd\":[\"put\",\"6\",\"\"],\"do\":\"invoke\"}",
             bad(FieldName::Cmd),
-        ),
-        (
-            "{\"client\":1,\"cmd\":[\"incr\",\"61\"],\"do\":\"invoke\"}",
-            later(Word::Invoke),
         ),
         (
             "{\"client\":1,\"cmd\":[\"incr\",\"61\"],\"do\":\"invoke\",\"x\":1}",

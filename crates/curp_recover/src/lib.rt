@@ -3,6 +3,7 @@
 #![tactic(auto)]
 
 mod error;
+pub mod laws;
 mod messages;
 mod phase;
 mod recovery;

@@ -1,3 +1,4 @@
+mod Behind
 mod Counting
 mod Delivery
 mod Hashes
@@ -6,7 +7,6 @@ mod Numbers
 mod Objects
 mod Parts
 mod ReadBack
-pub mod ReadIsBuilt
 pub mod ReadNames
 mod Twos
 mod Values

@@ -23,7 +23,7 @@ use Rattle.curp_script.specs.Grammar.{built, built_where, command_at, command_by
 use Rattle.curp_script.specs.Headers.{is_within}
 use Rattle.curp_script.specs.Kinds.{is_get, kind_of, names_of, verb_of, word_of}
 use Rattle.curp_script.specs.Nodes.{keeper_of, node_of}
-use Rattle.curp_script.proofs.ReadIsBuilt.{behind, of_ok, or_error, some_behind, some_map}
+use Rattle.curp_script.proofs.Behind.{behind, of_ok, or_error, some_behind, some_map}
 
 -- the command that a step invokes, if it does, names keys
 abbrev pub IsNamed : Step → Type 0

@@ -1,12 +1,9 @@
 -- A whole script: the header, the steps, and how it ends.
-use Rattle.std.specs.Prelude.{ℕ, ◌+◌, ◌-◌, nat_lt, nat_eq, if◌then◌else◌, List, [], ◌∷◌, length, Option, Some, None, Result, Ok, Err}
-use Rattle.std.specs.List.{list_any}
+use Rattle.std.specs.Prelude.{ℕ, ◌+◌, ◌-◌, nat_lt, if◌then◌else◌, List, [], ◌∷◌, length, Option, Some, None, Result, Ok, Err}
 use Rattle.curp_msg.specs.declared.script.Header.{Header}
 use Rattle.curp_msg.specs.declared.script.Step.{Step}
-use Rattle.curp_msg.specs.declared.script.Step.TheVariants.{Invoke}
-use Rattle.curp_script.specs.declared.error.Word.TheVariants as word
 use Rattle.curp_script.specs.declared.error.LineError.{LineError}
-use Rattle.curp_script.specs.declared.error.LineError.TheVariants.{BadJson, Later}
+use Rattle.curp_script.specs.declared.error.LineError.TheVariants.{BadJson}
 use Rattle.curp_script.specs.Grammar.{header_in, step_in}
 
 -- how many bytes a line may have
@@ -33,27 +30,16 @@ pub record Steps : Type 0 where
 abbrev pub ends : Ending → Steps
 ends ending = record { steps = []; ending = ending }
 
--- a client number that an earlier line invoked isn't invoked again in what is built, even if there is no such client
-abbrev pub at_most_once : List ℕ → Result Step LineError → Result Step LineError
-at_most_once invoked (Ok (Invoke client command)) = if list_any (nat_eq client) invoked then Err (Later word.Invoke) else Ok (Invoke client command)
-at_most_once invoked line = line
-
--- the client numbers that were invoked, after this line too
-abbrev pub invoked_after : List ℕ → Result Step LineError → List ℕ
-invoked_after invoked (Ok (Invoke client command)) = client ∷ invoked
-invoked_after invoked line = invoked
-
 -- line number n is that step, which is step number n - 1 and may be one too many, or is refused
 abbrev pub with_step : ℕ → Result Step LineError → Steps → Steps
 with_step n (Err reason) more = ends (Bad n reason)
 with_step n (Ok step) more = if nat_lt step_limit (n - 1) then ends TooMany else record { steps = step ∷ more.steps; ending = more.ending }
 
--- the steps that lines are, from line number n on, where these client numbers were invoked before
-abbrev pub steps_in : ℕ → List ℕ → List (List ℕ) → Steps
-steps_in n invoked [] = ends Whole
-steps_in n invoked (line ∷ lines) =
-    if nat_lt line_limit (length line) then ends (TooLong n)
-    else with_step n (at_most_once invoked (step_in line)) (steps_in (n + 1) (invoked_after invoked (step_in line)) lines)
+-- the steps that lines are, from line number n on
+abbrev pub steps_in : ℕ → List (List ℕ) → Steps
+steps_in n [] = ends Whole
+steps_in n (line ∷ lines) =
+    if nat_lt line_limit (length line) then ends (TooLong n) else with_step n (step_in line) (steps_in (n + 1) lines)
 
 -- the header, where there is one, and what stands behind it
 pub record Script : Type 0 where
@@ -70,4 +56,4 @@ abbrev pub script_of : List (List ℕ) → Script
 script_of [] = record { header = None; body = ends (Bad 1 BadJson) }
 script_of (line ∷ lines) =
     if nat_lt line_limit (length line) then record { header = None; body = ends (TooLong 1) }
-    else begun_with (header_in line) (steps_in 2 [] lines)
+    else begun_with (header_in line) (steps_in 2 lines)

@@ -110,10 +110,7 @@ impl Word {
     pub fn is_built(self) -> bool
         ensures { result ≡ is_built self }
     {
-        matches!(
-            self,
-            Word::Fast | Word::Invoke | Word::Deliver | Word::Sync | Word::Stop
-        )
+        !matches!(self, Word::Protocol)
     }
 
     /// The word as lines have it.

@@ -1,11 +1,10 @@
-// The lines of the format, written by hand: what is read, what is refused first, and what is printed. A form that isn't
-// built yet is refused as such; the tables say what it is read as once it is.
+// The lines of the format, written by hand: what is read, what is refused first, and what is printed.
 ghost use Rattle.std.specs.Prelude.{◌≡◌, IsTrue};
 ghost use Rattle.curp_script.specs.Printed.{NamesNode};
 
 use crate::{
-    FieldName as F, Header, LineError, LineReader, Protocol, Step, Word as W, bad_field,
-    print_header, print_line,
+    FieldName as F, Header, LineError, LineReader, Protocol, Step, bad_field, print_header,
+    print_line,
 };
 use curp_base::NoMemory;
 use curp_cmd::{Command, Keeper, Key, NodeId, NodeKind, Value};
@@ -22,8 +21,7 @@ const HEADER: Header = Header {
     ways: 4,
 };
 
-// Lines, one to a row, and behind each why it is refused or what it is. A third word names the form of the grammar that
-// the line needs: until that is built, the line is refused for it.
+// Lines, one to a row, and behind each why it is refused or what it is.
 const LINES: &str = r#"
  | bad json
 7 | bad json
@@ -60,29 +58,29 @@ const LINES: &str = r#"
 {"client":4294967296,"cmd":["put"],"do":"invoke"} | bad field client
 {"a":1,"client":1,"do":"invoke"} | bad field cmd
 {"client":1,"cmd":["incr","61"],"do":"invoke","msg":1} | bad field other
-{"do":"retry","seq":-1} | bad field client | retry
-{"client":1,"do":"retry","seq":-1,"z":1} | bad field seq | retry
-{"client":[],"do":"fetch"} | bad field client | fetch
-{"do":"sync","master":4294967296} | bad field master | sync
-{"client":1,"do":"collect","master":1} | bad field other | collect
-{"do":"recover","part":"1"} | bad field backup | recover
-{"backup":1,"do":"recover","part":"1"} | bad field part | recover
-{"backup":1,"do":"recover","part":1} | bad field witness | recover
-{"do":"replace","kind":"master","part":-1} | bad field kind | replace
-{"do":"replace","kind":"backup","part":1} | bad field place | replace
-{"do":"migrate","hi":"0","lo":0,"to":1} | bad field hi | migrate
-{"do":"migrate","hi":"0000000000000000","lo":"000000000000000F"} | bad field lo | migrate
-{"do":"migrate","hi":"0000000000000000","lo":"00000000000000000"} | bad field lo | migrate
-{"do":"migrate","hi":"0000000000000000","lo":"ffffffffffffffff"} | bad field to | migrate
-{"do":"nudge","client":1} | bad field other | nudge
-{"do":"expire"} | bad field client | expire
-{"do":"stop","node":""} | bad field node | stop
-{"do":"stop","node":"G0"} | bad field node | stop
-{"do":"stop","node":"M0"} | bad field node | stop
-{"do":"stop","node":"M01"} | bad field node | stop
-{"do":"stop","node":"B4294967296"} | bad field node | stop
-{"do":"stop","node":"W99999999999999999999"} | bad field node | stop
-{"do":"stop","node":"X1"} | bad field node | stop
+{"do":"retry","seq":-1} | bad field client
+{"client":1,"do":"retry","seq":-1,"z":1} | bad field seq
+{"client":[],"do":"fetch"} | bad field client
+{"do":"sync","master":4294967296} | bad field master
+{"client":1,"do":"collect","master":1} | bad field other
+{"do":"recover","part":"1"} | bad field backup
+{"backup":1,"do":"recover","part":"1"} | bad field part
+{"backup":1,"do":"recover","part":1} | bad field witness
+{"do":"replace","kind":"master","part":-1} | bad field kind
+{"do":"replace","kind":"backup","part":1} | bad field place
+{"do":"migrate","hi":"0","lo":0,"to":1} | bad field hi
+{"do":"migrate","hi":"0000000000000000","lo":"000000000000000F"} | bad field lo
+{"do":"migrate","hi":"0000000000000000","lo":"00000000000000000"} | bad field lo
+{"do":"migrate","hi":"0000000000000000","lo":"ffffffffffffffff"} | bad field to
+{"do":"nudge","client":1} | bad field other
+{"do":"expire"} | bad field client
+{"do":"stop","node":""} | bad field node
+{"do":"stop","node":"G0"} | bad field node
+{"do":"stop","node":"M0"} | bad field node
+{"do":"stop","node":"M01"} | bad field node
+{"do":"stop","node":"B4294967296"} | bad field node
+{"do":"stop","node":"W99999999999999999999"} | bad field node
+{"do":"stop","node":"X1"} | bad field node
 "#;
 
 const COMMANDS: &str = r#"
@@ -114,8 +112,8 @@ const COMMANDS: &str = r#"
 ["multi","61","31","62","","61","32"] | bad field cmd
 ["multi","61","","62","","63","","64","","65",""] | bad field cmd
 ["multi","61","","62","","63","","64","","65"] | bad field cmd
-["get"] | bad field cmd | get
-["get",61,"31"] | bad field cmd | get
+["get"] | bad field cmd
+["get",61,"31"] | bad field cmd
 "#;
 
 const HEADERS: &str = r#"
@@ -126,9 +124,9 @@ const HEADERS: &str = r#"
 {"clients":65,"f":0} | bad field clients
 {"clients":1,"f":6,"fast":0} | bad field f
 {"clients":1,"f":1,"fast":0} | bad field fast
-{"clients":1,"f":1,"fast":true,"parts":0} | bad field parts | fast
+{"clients":1,"f":1,"fast":true,"parts":0} | bad field parts
 {"clients":1,"f":1,"fast":false,"parts":17} | bad field parts
-{"clients":1,"f":1,"fast":false,"parts":2} | bad field protocol | parts
+{"clients":1,"f":1,"fast":false,"parts":2} | bad field protocol
 {"clients":1,"f":1,"fast":false,"parts":1,"protocol":2,"sets":0} | not built yet: protocol
 {"clients":1,"f":1,"fast":false,"parts":1,"protocol":3} | bad field protocol
 {"clients":1,"f":1,"fast":false,"parts":1,"protocol":1,"sets":1025} | bad field sets
@@ -137,13 +135,8 @@ const HEADERS: &str = r#"
 "#;
 
 // Whether a row tells what was read of its line.
-fn is_told(alloc: Global, row: &str, got: &str) -> Result<bool, NoMemory> {
-    let mut columns = row.split(" | ").skip(1);
-    let is_told = columns.next() == Some(got);
-    let Some(word) = columns.next() else {
-        return Ok(is_told);
-    };
-    Ok(is_told || got == format!(in alloc; "not built yet: {word}")?.as_str())
+fn is_told(row: &str, got: &str) -> bool {
+    row.split(" | ").nth(1) == Some(got)
 }
 
 #[test]
@@ -161,7 +154,7 @@ fn lines_are_read_or_refused(rt: HostRuntime) -> Result<(), Fail> {
                 Ok(step) => format!(in alloc; "{step:?}")?,
                 Err(reason) => format!(in alloc; "{reason}")?,
             };
-            assert!(rt; is_told(alloc, row, &got)?, "{row}: {got}");
+            assert!(rt; is_told(row, &got), "{row}: {got}");
         }
     }
     Ok(())
@@ -177,7 +170,7 @@ fn headers_are_refused(rt: HostRuntime) -> Result<(), Fail> {
             Ok(header) => format!(in alloc; "{header:?}")?,
             Err(reason) => format!(in alloc; "{reason}")?,
         };
-        assert!(rt; is_told(alloc, row, &got)?, "{row}: {got}");
+        assert!(rt; is_told(row, &got), "{row}: {got}");
     }
     let line = b"{\"clients\":1,\"f\":1,\"fast\":\"\xff\"}";
     assert_eq!(rt; reader.parse_header(line), Err(LineError::BadJson));
@@ -186,15 +179,6 @@ fn headers_are_refused(rt: HostRuntime) -> Result<(), Fail> {
 
 fn bad(name: F) -> LineError {
     LineError::BadField { name }
-}
-
-// The step is read, or a form of the grammar that it needs isn't built.
-fn is_read(got: Result<Step, LineError>, step: Step) -> bool {
-    match got {
-        Ok(read) => read == step,
-        Err(LineError::Later { word }) => !word.is_built(),
-        Err(_) => false,
-    }
 }
 
 fn names_node(step: &Step) -> bool
@@ -220,7 +204,7 @@ fn goes_both_ways(
     line: &str,
     step: Step,
 ) -> Result<bool, NoMemory> {
-    Ok(is_read(reader.parse_line(line.as_bytes()), step) && prints(alloc, &step, line)?)
+    Ok(reader.parse_line(line.as_bytes()) == Ok(step) && prints(alloc, &step, line)?)
 }
 
 #[test]
@@ -330,6 +314,13 @@ fn headers_are_read_and_printed(rt: HostRuntime) -> Result<(), Fail> {
     let mut reader = LineReader::new(rt.alloc());
     let line = r#"{"ways":4,"sets":16,"protocol":1,"parts":1,"fast":false,"f":1,"clients":2}"#;
     assert_eq!(rt; reader.parse_header(line.as_bytes()), Ok(HEADER));
+    let line = r#"{"clients":2,"f":1,"fast":true,"parts":16,"protocol":1,"sets":16,"ways":4}"#;
+    let header = Header {
+        fast: true,
+        parts: 16,
+        ..HEADER
+    };
+    assert_eq!(rt; reader.parse_header(line.as_bytes()), Ok(header));
     let line = r#"{"clients":2,"f":1,"fast":false,"parts":1,"protocol":1,"sets":16,"ways":4}"#;
     assert!(rt; print_header(rt.alloc(), &HEADER)?.as_slice() == line.as_bytes());
     assert_eq!(rt; reader.parse_header(line.as_bytes()), Ok(HEADER));
@@ -343,6 +334,13 @@ fn headers_are_read_and_printed(rt: HostRuntime) -> Result<(), Fail> {
             Some(F::Clients),
         ),
         (Header { f: 0, ..HEADER }, Some(F::F)),
+        (
+            Header {
+                parts: 16,
+                ..HEADER
+            },
+            None,
+        ),
         (
             Header {
                 parts: 17,

@@ -13,7 +13,7 @@ invariant-steps g l =
     let rest = due l.script (g.S.Source.left l.source) in
     record {
       counted : (1 ≤ l.number) × (l.number ≤ step_limit + 1);
-      behind : IsBehind l.script.lines l.number;
+      behind : IsBehind l.script l.number;
       source_tells : g.S.Source.tells l.fn.source ≡ true → g.S.Source.tells l.source ≡ true;
       sink_tells : g.K.Sink.tells l.fn.sink ≡ true → g.K.Sink.tells l.sink ≡ true;
       source_faults : SameCount (g.S.Source.faults l.fn.source) (g.S.Source.faults l.source);

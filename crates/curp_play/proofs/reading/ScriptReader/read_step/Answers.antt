@@ -8,8 +8,8 @@ returns-in_err-step_of_line-in-Line-clause-due g c =
     let behind = rw (← c.self.view_is) at c.requires.behind in
     let was = c.in_err-step_of_line-in-Line.was in
     rw (← c.self.view_is) (λ tells.
-    stop_passed _ (due (record { lines = c.next_line.new.self; invoked = c.step_of_line.new.invoked }) (g.S.Source.left c.next_line.new.source)) _ c.in_err-step_of_line-in-Line.field-0.0 _
-    (stop_given (record { lines = c.self.inside.lines; invoked = c.self.inside.invoked }) c.args.number _ _ _ _
+    stop_passed _ (due c.next_line.new.self (g.S.Source.left c.next_line.new.source)) _ c.in_err-step_of_line-in-Line.field-0.0 _
+    (stop_given c.self.inside.lines c.args.number _ _ _ _
     behind.numbered (c.in-Line.ensures.bytes tells behind.going_on)
     (λ more. (rw (c.text-text.ensures, was) at c.step_of_line.ensures.stops) more))
     c.from_residual.ensures.0 c.from_residual.ensures.1)
@@ -18,12 +18,10 @@ pub returns-in_ok-step_of_line-in-Line-clause-due : goal.returns-in_ok-step_of_l
 returns-in_ok-step_of_line-in-Line-clause-due g c =
     let behind = rw (← c.self.view_is) at c.requires.behind in
     rw (← c.self.view_is) (λ tells.
-    step_given (record { lines = c.self.inside.lines; invoked = c.self.inside.invoked })
-    (record { lines = c.next_line.new.self; invoked = c.step_of_line.new.invoked }) c.args.number _ _ _ _
+    step_given c.self.inside.lines c.next_line.new.self c.args.number _ _ _ _
     behind.numbered (c.in-Line.ensures.number behind.going_on) c.in_ok-step_of_line-in-Line.ensures.counted
     (c.in-Line.ensures.bytes tells behind.going_on)
-    (rw c.text-text.ensures at c.in_ok-step_of_line-in-Line.ensures.gives)
-    c.in_ok-step_of_line-in-Line.ensures.invoked)
+    (rw c.text-text.ensures at c.in_ok-step_of_line-in-Line.ensures.gives))
 
 pub returns-in-End-clause-end : goal.returns-in-End-clause-end
 returns-in-End-clause-end g c =
@@ -34,5 +32,5 @@ pub returns-in-TooLong-clause-due : goal.returns-in-TooLong-clause-due
 returns-in-TooLong-clause-due g c =
     let behind = rw (← c.self.view_is) at c.requires.behind in
     rw (← c.self.view_is) (λ tells.
-    stops_long_at (record { lines = c.self.inside.lines; invoked = c.self.inside.invoked }) c.args.number _ _
+    stops_long_at c.self.inside.lines c.args.number _ _
     c.in-TooLong.at behind.numbered (omega arith) (c.in-TooLong.ensures.bytes tells behind.going_on))
