@@ -1,5 +1,5 @@
 -- Each kind of node moves in a world as its machine does.
-use Rattle.std.proofs.Common.{◌≡◌, ◌≢◌, ℕ, ◌-◌, ◌≤◌, List, slice_set, Option, Some, None, Bor, Result, Ok, true, arith, refl, ap, sym, ◌∙◌, subst}
+use Rattle.std.proofs.Common.{◌≡◌, ◌≢◌, ℕ, ◌+◌, ◌-◌, ◌≤◌, List, slice_set, Option, Some, None, Bor, Result, Ok, true, arith, refl, ap, sym, ◌∙◌, subst}
 use Rattle.std.specs.Option.{option_copied, option_map}
 use Rattle.curp_base.specs.Words.{numbered}
 use Rattle.std.specs.declared.alloc.AllocError.{AllocError}
@@ -10,16 +10,17 @@ use Rattle.curp_cmd.specs.declared.node.NodeKind.TheVariants as kind
 use Rattle.curp_inv.specs.Machines.{backup_machine, client_machine, manager_machine, master_machine, witness_machine}
 use Rattle.curp_model.specs.Backup.{BackupState, backup_input, fresh_backup}
 use Rattle.curp_model.specs.Client.{ClientState, client_input}
-use Rattle.curp_model.specs.Manager.{ManagerState}
+use Rattle.curp_model.specs.Manager.{ManagerState, Next}
 use Rattle.curp_model.specs.Recovery.{Fresh, MasterStage, master_input}
 use Rattle.curp_model.specs.Witness.{WitnessState, fresh_witness, witness_input}
 use Rattle.curp_model.specs.World.{World, grown, has_node, is_there, moves, moves_kind, with_backup, with_client, with_master, with_witness}
 use Rattle.curp_msg.specs.Moved.{Moves, MovesAt, Node, numbered_move, within}
 use Rattle.curp_msg.specs.declared.machine.Done.{Done}
 use Rattle.curp_msg.specs.declared.machine.Input.{Input}
-use Rattle.curp_world.specs.Nodes.{HasNumbers, NodeStates, nodes_of, states, with_nodes}
+use Rattle.curp_world.specs.Nodes.{AreNumbered, HasNumbers, NodeStates, nodes_of, states, with_nodes}
 use Rattle.curp_world.specs.Marks.{IsFewOf, master_at, most_marks}
-use Rattle.curp_world.proofs.Giving.{node_moves, numbers_stay, one_moves, set_there, world_moves}
+use Rattle.curp_world.proofs.Giving.{many_stay, node_moves, numbers_stay, one_moves, set_there, world_moves}
+use Rattle.curp_world.proofs.Grown.{ahead_numbers, ahead_stays}
 use Rattle.curp_world.proofs.Numbered.{lent_numbered, map_set, numbered_at}
 use Rattle.curp_world.proofs.Pushing.{moves_few}
 
@@ -118,6 +119,62 @@ module _ (given : Input) (nodes nodes' : List (Node WitnessState)) (n : ℕ) (r 
       (λ s. witness_input n s given) (λ s. within (with_witness v n) (witness_input n s given)) v (λ s. refl)
       (one_moves (λ (s : WitnessState). s) nodes nodes' n r (λ node. witness_machine node given) (λ i s. witness_input i s given)
       (λ s. witness_input n s given) (witness_moves given) numbers low made (λ s. refl))
+
+-- ---- all nodes keep their numbers
+
+module _ (next : Next) (clients : List (Node ClientState)) (masters : List (Node MasterStage)) (backups : List (Node BackupState))
+    (witnesses ahead : List (Node WitnessState)) (sets ways : ℕ) (are : AreNumbered next clients masters backups witnesses ahead sets ways)
+    (given : Input) (n : ℕ) (r : Result Done AllocError) (low : 1 ≤ n) where
+  pub client_keeps : (after : List (Node ClientState)) → MovesAt (n - 1) clients after r (λ node. client_machine node given)
+      → AreNumbered next after masters backups witnesses ahead sets ways
+  client_keeps after made = record {
+    clients_are = clients_stay given clients after n r are.clients_are low made;
+    masters_are = are.masters_are;
+    backups_are = are.backups_are;
+    witnesses_are = are.witnesses_are;
+    next_master = are.next_master;
+    next_backup = are.next_backup;
+    next_witness = are.next_witness;
+  }
+
+  pub master_keeps : (after : List (Node MasterStage)) → MovesAt (n - 1) masters after r (λ node. master_machine node given)
+      → AreNumbered next clients after backups witnesses ahead sets ways
+  master_keeps after made = record {
+    clients_are = are.clients_are;
+    masters_are = masters_stay given masters after n r are.masters_are low made;
+    backups_are = are.backups_are;
+    witnesses_are = are.witnesses_are;
+    next_master = are.next_master ∙ ap (λ (k : ℕ). k + 1) (sym (many_stay masters after (n - 1) r (λ node. master_machine node given) made));
+    next_backup = are.next_backup;
+    next_witness = are.next_witness;
+  }
+
+  pub backup_keeps : (after : List (Node BackupState)) → MovesAt (n - 1) backups after r (λ node. backup_machine node given)
+      → AreNumbered next clients masters after witnesses ahead sets ways
+  backup_keeps after made = record {
+    clients_are = are.clients_are;
+    masters_are = are.masters_are;
+    backups_are = backups_stay given backups after n r are.backups_are low made;
+    witnesses_are = are.witnesses_are;
+    next_master = are.next_master;
+    next_backup = are.next_backup ∙ ap (λ (k : ℕ). k + 1) (sym (many_stay backups after (n - 1) r (λ node. backup_machine node given) made));
+    next_witness = are.next_witness;
+  }
+
+  pub witness_keeps : (after : List (Node WitnessState)) → MovesAt (n - 1) witnesses after r (λ node. witness_machine node given)
+      → AreNumbered next clients masters backups after ahead sets ways
+  witness_keeps after made =
+      let long = many_stay witnesses after (n - 1) r (λ node. witness_machine node given) made in
+      let numbers = witnesses_stay given witnesses after n r (ahead_numbers witnesses ahead sets ways are.witnesses_are) low made in
+      record {
+        clients_are = are.clients_are;
+        masters_are = are.masters_are;
+        backups_are = are.backups_are;
+        witnesses_are = ahead_stays witnesses after ahead sets ways are.witnesses_are numbers long;
+        next_master = are.next_master;
+        next_backup = are.next_backup;
+        next_witness = are.next_witness ∙ ap (λ (k : ℕ). k + 1) (sym long);
+      }
 
 -- ---- by the name of the node
 

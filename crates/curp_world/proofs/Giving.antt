@@ -2,7 +2,7 @@
 use Rattle.std.proofs.Common.{◌≡◌, ℕ, zero, suc, ◌-◌, ◌≤◌, List, [], ◌∷◌, length, map, slice_set, Some, Result, Ok, Err, refl, ap, sym, ◌∙◌, subst, unwrap_or, arith, true, is_some}
 use Rattle.std.specs.Global.{Vec}
 use Rattle.std.specs.Vec.{with_items}
-use Rattle.std.proofs.lemmas.List.{with_items_is}
+use Rattle.std.proofs.lemmas.List.{length-set, with_items_is}
 use Rattle.std.specs.declared.alloc.AllocError.{AllocError}
 use Rattle.curp_base.specs.Words.{At, numbered}
 use Rattle.curp_base.proofs.Lists.{at_set_same}
@@ -44,6 +44,10 @@ moves_as : {S T : Type 0} (f : S → T) (n : ℕ) (x y : Node S) (r : Result Don
     → Moves x y r (numbered_move n m) → Moves (f x.state) (f y.state) r (within f m)
 moves_as {S} f n x y (Ok done) m moved = (ap (λ (z : Node S). f z.state) moved.0, moved.1)
 moves_as {S} f n x y (Err e) m moved = ap (λ (z : Node S). f z.state) moved
+
+-- there are as many as before
+pub many_stay : {S : Type 0} (nodes nodes' : List S) (k : ℕ) (r : Result Done AllocError) (machine : S → Moved S) → MovesAt k nodes nodes' r machine → length nodes' ≡ length nodes
+many_stay nodes nodes' k r machine made = ap length made.is ∙ length-set nodes k made.after
 
 module _ {S T : Type 0} (f : S → T) (nodes nodes' : List (Node S)) (n : ℕ) (r : Result Done AllocError)
     (machine : Node S → Moved (Node S)) (act : ℕ → S → Moved S) (acts : T → Moved T)

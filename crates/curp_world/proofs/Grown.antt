@@ -1,7 +1,7 @@
 -- The manager names no more fresh nodes by an input than are bounded, and they come behind those that are there.
 use Rattle.std.proofs.Common.{◌≡◌, ℕ, zero, suc, ◌+◌, ◌-◌, ◌<◌, ◌≤◌, List, [], ◌∷◌, ◌++◌, length, map, replicate, Option, Some, None, Result, Ok, Err, ◌==◌, refl, ap, sym, ◌∙◌, subst, arith, append_assoc, append-nil, length-append, inl, inr}
 use Rattle.std.proofs.lemmas.Bool.{cond_both}
-use Rattle.std.proofs.lemmas.List.{length-map, replicate_more}
+use Rattle.std.proofs.lemmas.List.{length-map, map-append, replicate_more}
 use Rattle.curp_base.specs.Words.{Each}
 use Rattle.curp_base.proofs.Lists.{at_append, at_append_cases, at_append_right, Each-append}
 use Rattle.curp_cmd.specs.declared.node.Keeper.{Keeper}
@@ -295,3 +295,14 @@ taken_up witnesses ahead after left sets ways next is all behind long =
 pub one_taken : {A : Type 0} (before taken ahead rest : List A) (x : A) → ahead ≡ x ∷ rest → taken ≡ before ++ x ∷ [] → taken ++ rest ≡ before ++ ahead
 one_taken {A} before taken ahead rest x first push =
     ap (λ (xs : List A). xs ++ rest) push ∙ append_assoc before (x ∷ []) rest ∙ ap (λ (xs : List A). before ++ xs) (sym first)
+
+-- nodes with a fresh one more
+pub fresh_more : {S : Type 0} (old : List S) (fresh : S) (nodes pushed : List (Node S)) (x : Node S) (n : ℕ) → length old < n
+    → states nodes ≡ grown old fresh n → HasNumbers nodes → length nodes + 1 ≡ n → pushed ≡ nodes ++ x ∷ [] → x.number ≡ n → x.state ≡ fresh
+    → (states pushed ≡ grown old fresh (n + 1)) × HasNumbers pushed × (length pushed + 1 ≡ n + 1)
+fresh_more {S} old fresh nodes pushed x n behind same numbers long push number state = (
+  ap states push ∙ map-append (λ (y : Node S). y.state) nodes (x ∷ []) ∙ ap (λ (s : S). states nodes ++ s ∷ []) state
+      ∙ ap (λ (ss : List S). ss ++ fresh ∷ []) same ∙ grown_more old fresh n behind,
+  subst HasNumbers (sym push) (numbers_push nodes x numbers (number ∙ sym long)),
+  omega (arith, ap length push, length-append nodes (x ∷ []), long)
+)

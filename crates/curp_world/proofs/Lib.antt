@@ -3,6 +3,7 @@ pub mod ByKind
 pub mod Giving
 pub mod Grown
 pub mod Numbered
+pub mod Opened
 pub mod Pushing
 pub mod Runs
 pub mod Seen

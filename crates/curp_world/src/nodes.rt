@@ -57,6 +57,7 @@ impl Model for Nodes {
 
 impl Nodes {
     /// The nodes of a header as at opening.
+    #[tactic(auto, using(crate::proofs::Opened::few_keepers))]
     pub(crate) fn new(alloc: Global, header: &Header) -> Result<Nodes, NoMemory>
         requires { IsHeader header.now }
         ensures { IfOk result (λ nodes. nodes ≡ nodes_of (world.opening header.now)) }

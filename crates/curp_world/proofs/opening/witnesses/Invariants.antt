@@ -5,4 +5,4 @@ use Rattle.curp_world.proofs.opening.witnesses.Given as goal
 
 -- so many are made, with their numbers
 abbrev pub invariant-loop-made : goal.invariant-loop-made
-invariant-loop-made l = (states l.nodes.items ≡ replicate l.made (started_witness l.header.sets l.header.ways 1)) × HasNumbers l.nodes.items
+invariant-loop-made l = (states l.nodes.items ≡ replicate l.made (started_witness l.sets l.ways 1)) × HasNumbers l.nodes.items

@@ -1,0 +1,98 @@
+-- The nodes of a header as at opening.
+use Rattle.std.proofs.Common.{◌≡◌, ℕ, zero, suc, ◌+◌, ◌*◌, ◌<◌, ◌≤◌, ◌^◌, ◌-◌, List, [], get_or, length, map, replicate, Some, refl, ap, sym, ◌∙◌, arith, subst}
+use Rattle.std.proofs.Math.Nat.{mul-le-mul}
+use Rattle.std.proofs.lemmas.List.{length-map, length-replicate}
+use Rattle.std.proofs.lemmas.Option.{slice_get_read}
+use Rattle.curp_base.specs.Words.{At, numbers_from}
+use Rattle.curp_facts.specs.Run.{IsHeader}
+use Rattle.curp_model.specs.Backup.{BackupState, installed_backup}
+use Rattle.curp_model.specs.Client.{ClientState, fresh_client}
+use Rattle.curp_model.specs.Manager.{ManagerState, opening_config, opening_manager}
+use Rattle.curp_model.specs.Recovery.{MasterStage}
+use Rattle.curp_model.specs.Witness.{WitnessState, started_witness}
+use Rattle.curp_model.specs.World.{opening, opening_master, shape_of}
+use Rattle.curp_msg.specs.Moved.{Node}
+use Rattle.curp_msg.specs.declared.config.Config.{Config}
+use Rattle.curp_msg.specs.declared.script.Header.{Header}
+use Rattle.curp_world.specs.Nodes.{AreNumbered, HasNumbers, NodeStates, nodes_of, states}
+use Rattle.curp_world.proofs.Grown.{none_ahead}
+
+-- ---- what numbers name
+
+-- so many numbers
+pub length_numbers : (n k : ℕ) → length (numbers_from n k) ≡ k
+length_numbers n zero = refl
+length_numbers n (suc k) = ap suc (length_numbers (n + 1) k)
+
+named_from : {A : Type 0} (f : ℕ → A) (n count k : ℕ) (x : A) → At (map f (numbers_from n count)) k x → x ≡ f (n + k)
+named_from f n zero k x here = absurd cc
+named_from f n (suc count) zero x here = let first : f n ≡ x = cc in let same : n ≡ n + 0 = omega arith in sym first ∙ ap f same
+named_from f n (suc count) (suc k) x here =
+    let same : (n + 1) + k ≡ n + suc k = omega arith in
+    named_from f (n + 1) count k x here ∙ ap f same
+
+-- what stands at a place is named by the number that is one more
+pub named_at : {A : Type 0} (f : ℕ → A) (count k : ℕ) (x : A) → At (map f (numbers_from 1 count)) k x → x ≡ f (k + 1)
+named_at f count k x here = let same : 1 + k ≡ k + 1 = omega arith in named_from f 1 count k x here ∙ ap f same
+
+-- and there are so many
+pub named_length : {A : Type 0} (f : ℕ → A) (count : ℕ) → length (map f (numbers_from 1 count)) ≡ count
+named_length f count = length-map (numbers_from 1 count) f ∙ length_numbers 1 count
+
+-- the item of a place, as a loop reads it
+pub named_part : {A : Type 0} (f : ℕ → A) (count : ℕ) (items : List A) (k : ℕ) (x : A) → items ≡ map f (numbers_from 1 count) → k < length items → x ≡ get_or items k x
+    → (x ≡ f (k + 1)) × (k < count)
+named_part {A} f count items k x all within here = (
+  named_at f count k x (subst (λ (xs : List A). At xs k x) all (slice_get_read items (length items) k x refl within here)),
+  omega (arith, ap length all, named_length f count, within)
+)
+
+-- ---- a header
+
+-- there are at most eighty backups, and as many witnesses
+pub few_keepers : (h : Header) → IsHeader h → h.parts * h.f < 2 ^ 32 - 1
+few_keepers h is =
+    let most : h.parts * h.f ≤ 16 * 5 = mul-le-mul is.parts.1 is.f.1 in
+    omega (arith, most)
+
+-- nodes that are made as the header says are those of the opening
+pub made_opening : (h : Header) (manager : ManagerState) (clients : List (Node ClientState)) (masters : List (Node MasterStage))
+    (backups : List (Node BackupState)) (witnesses : List (Node WitnessState))
+    → manager ≡ opening_manager (shape_of h)
+    → states clients ≡ replicate h.clients (fresh_client h.fast manager.config)
+    → states masters ≡ map (opening_master (shape_of h)) (numbers_from 1 h.parts)
+    → states backups ≡ replicate (h.parts * h.f) (installed_backup 1)
+    → states witnesses ≡ replicate (h.parts * h.f) (started_witness h.sets h.ways 1)
+    → record { clients = states clients; manager = manager; masters = states masters; backups = states backups; witnesses = states witnesses; sets = h.sets; ways = h.ways }
+    ≡ nodes_of (opening h)
+unfolding opening
+made_opening h manager clients masters backups witnesses of_manager of_clients of_masters of_backups of_witnesses =
+    let c : states clients ≡ replicate h.clients (fresh_client h.fast (opening_config (shape_of h)))
+    = of_clients ∙ ap (λ (g : ManagerState). replicate h.clients (fresh_client h.fast g.config)) of_manager in
+    rw (c, of_masters, of_backups, of_witnesses, of_manager) refl
+
+-- so many nodes
+many : {S : Type 0} (nodes : List (Node S)) (s : S) (n : ℕ) → states nodes ≡ replicate n s → length nodes ≡ n
+many {S} nodes s n same = sym (length-map nodes (λ (x : Node S). x.state)) ∙ ap length same ∙ length-replicate n s
+
+-- and they are numbered
+pub opening_numbered : (h : Header) (manager : ManagerState) (clients : List (Node ClientState)) (masters : List (Node MasterStage))
+    (backups : List (Node BackupState)) (witnesses : List (Node WitnessState))
+    → manager ≡ opening_manager (shape_of h)
+    → HasNumbers clients → HasNumbers masters → HasNumbers backups → HasNumbers witnesses
+    → states masters ≡ map (opening_master (shape_of h)) (numbers_from 1 h.parts)
+    → states backups ≡ replicate (h.parts * h.f) (installed_backup 1)
+    → states witnesses ≡ replicate (h.parts * h.f) (started_witness h.sets h.ways 1)
+    → AreNumbered manager.next clients masters backups witnesses [] h.sets h.ways
+opening_numbered h manager clients masters backups witnesses of_manager c m b w of_masters of_backups of_witnesses =
+    let long : length masters ≡ h.parts
+    = sym (length-map masters (λ (x : Node MasterStage). x.state)) ∙ ap length of_masters ∙ named_length (opening_master (shape_of h)) h.parts in
+    record {
+      clients_are = c;
+      masters_are = m;
+      backups_are = b;
+      witnesses_are = none_ahead witnesses h.sets h.ways w;
+      next_master = ap (λ (g : ManagerState). g.next.master) of_manager ∙ ap (λ (n : ℕ). n + 1) (sym long);
+      next_backup = ap (λ (g : ManagerState). g.next.backup) of_manager ∙ ap (λ (n : ℕ). n + 1) (sym (many backups (installed_backup 1) (h.parts * h.f) of_backups));
+      next_witness = ap (λ (g : ManagerState). g.next.witness) of_manager ∙ ap (λ (n : ℕ). n + 1) (sym (many witnesses (started_witness h.sets h.ways 1) (h.parts * h.f) of_witnesses));
+    }
