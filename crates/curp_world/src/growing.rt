@@ -56,6 +56,7 @@ pub(crate) fn add_masters(alloc: Global, masters: &mut Vec<MasterNode>, next: u3
     requires room { next - 1 ≤ vec_capacity masters.old }
     ensures states { states masters.new.items ≡ grown (states masters.old.items) Fresh next }
     ensures numbers { HasNumbers masters.new.items }
+    ensures there { length masters.new.items + 1 ≡ next }
 {
     for number in masters.len() as u32 + 1..next {
         masters.push_reserved(MasterNode::fresh(alloc, number));
@@ -69,6 +70,7 @@ pub(crate) fn add_backups(alloc: Global, backups: &mut Vec<BackupNode>, next: u3
     requires room { next - 1 ≤ vec_capacity backups.old }
     ensures states { states backups.new.items ≡ grown (states backups.old.items) fresh_backup next }
     ensures numbers { HasNumbers backups.new.items }
+    ensures there { length backups.new.items + 1 ≡ next }
 {
     for number in backups.len() as u32 + 1..next {
         backups.push_reserved(BackupNode::fresh(alloc, number));
