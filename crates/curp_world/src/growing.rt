@@ -32,14 +32,18 @@ pub(crate) fn most_fresh(keepers: u32, given: &Given) -> Counts
 {
     let (masters, backups, witnesses) = match given {
         Given::Order(Local::Recover { .. }) => (1, keepers, keepers),
-        Given::Order(Local::Replace {
-            keeper: Keeper::Backup,
-            ..
-        }) => (0, 1, 0),
-        Given::Order(Local::Replace {
-            keeper: Keeper::Witness,
-            ..
-        }) => (0, 0, 1),
+        Given::Order(
+            Local::Replace {
+                keeper: Keeper::Backup,
+                ..
+            },
+        ) => (0, 1, 0),
+        Given::Order(
+            Local::Replace {
+                keeper: Keeper::Witness,
+                ..
+            },
+        ) => (0, 0, 1),
         _ => (0, 0, 0),
     };
     Counts {
