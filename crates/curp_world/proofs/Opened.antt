@@ -44,7 +44,7 @@ pub named_part : {A : Type 0} (f : ℕ → A) (count : ℕ) (items : List A) (k 
     → (x ≡ f (k + 1)) × (k < count)
 named_part {A} f count items k x all within here = (
   named_at f count k x (subst (λ (xs : List A). At xs k x) all (slice_get_read items (length items) k x refl within here)),
-  omega (arith, ap length all, named_length f count, within)
+  omega (arith, ap length all, named_length f count, within),
 )
 
 -- ---- a header
