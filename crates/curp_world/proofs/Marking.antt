@@ -5,6 +5,8 @@ use Rattle.std.specs.List.{filter}
 use Rattle.curp_base.specs.Words.{At, Each, numbered}
 use Rattle.curp_base.proofs.Lists.{at_set_same}
 use Rattle.curp_cmd.specs.Node.{master_node}
+use Rattle.curp_cmd.specs.declared.entry.Entry.{Entry}
+use Rattle.curp_cmd.specs.declared.entry.Entry.TheVariants.{Op, Take, Give, Expire}
 use Rattle.curp_cmd.specs.declared.node.NodeId.{NodeId}
 use Rattle.curp_cmd.specs.declared.node.NodeKind.{NodeKind}
 use Rattle.curp_cmd.specs.declared.node.NodeKind.TheVariants as kind
@@ -15,7 +17,7 @@ use Rattle.curp_model.specs.Marks.{Mark}
 use Rattle.curp_model.specs.Master.{Captured, MasterState}
 use Rattle.curp_model.specs.Recovery.{Fresh, MasterStage, Recovering, Replayed, Serving, master_input}
 use Rattle.curp_model.specs.Witness.{WitnessState, witness_input}
-use Rattle.curp_model.specs.World.{World, capture_mark, is_adopted, marks_adopted, marks_after, master_marks, moves, moves_kind, moves_one, new_captures, op_marks, replayed_in, with_adoption, with_backup, with_client, with_master, with_witness}
+use Rattle.curp_model.specs.World.{World, capture_mark, is_adopted, marks_adopted, marks_after, master_marks, moves, moves_kind, moves_one, new_captures, op_marks, op_requests, replayed_in, with_adoption, with_backup, with_client, with_master, with_witness}
 use Rattle.curp_msg.specs.Moved.{within}
 use Rattle.curp_msg.specs.declared.machine.Input.{Input}
 use Rattle.curp_world.specs.Marks.{Adopts, Behind, CapturesOne, DueMarks, HasRoomBehind, HasRoomFor, IsFew, IsFewOf, IsLastNew, IsSound, Nothing, due_marks, due_of_adoption, due_of_master, due_of_recovery, due_of_replay, marks_behind, marks_by, master_at, most_due, most_marks}
@@ -198,3 +200,17 @@ last_there {A} xs x = let long : length (xs ++ x ∷ []) - 1 ≡ length xs = ome
     at_end : (xs : List A) → slice_get (xs ++ x ∷ []) (length xs) ≡ Some x
     at_end [] = refl
     at_end (y ∷ ys) = at_end ys
+
+-- no more requests than entries
+pub ops_fit : (es : List Entry) → length (op_requests es) ≤ length es
+ops_fit [] = omega arith
+ops_fit (Op r acknowledged ∷ es) = omega (arith, ops_fit es)
+ops_fit (Take migration taken ∷ es) = omega (arith, ops_fit es)
+ops_fit (Give migration given ∷ es) = omega (arith, ops_fit es)
+ops_fit (Expire client ∷ es) = omega (arith, ops_fit es)
+
+-- the number of what is left behind a place
+pub left_behind_place : {A : Type 0} (n : ℕ) (xs : List A) → length (drop n xs) ≡ length xs - n
+left_behind_place zero xs = omega arith
+left_behind_place (suc n) [] = omega arith
+left_behind_place (suc n) (x ∷ xs) = omega (arith, left_behind_place n xs)
