@@ -1,3 +1,2 @@
 pub mod Adoptions
 pub mod Told
-pub mod Adoptions
