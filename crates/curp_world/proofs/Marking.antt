@@ -20,7 +20,7 @@ use Rattle.curp_model.specs.Witness.{WitnessState, witness_input}
 use Rattle.curp_model.specs.World.{World, capture_mark, is_adopted, marks_adopted, marks_after, master_marks, moves, moves_kind, moves_one, new_captures, op_marks, op_requests, replayed_in, with_adoption, with_backup, with_client, with_master, with_witness}
 use Rattle.curp_msg.specs.Moved.{within}
 use Rattle.curp_msg.specs.declared.machine.Input.{Input}
-use Rattle.curp_world.specs.Marks.{Adopts, Behind, CapturesOne, DueMarks, HasRoomBehind, HasRoomFor, IsFew, IsFewOf, IsLastNew, IsSound, Nothing, due_marks, due_of_adoption, due_of_master, due_of_recovery, due_of_replay, marks_behind, marks_by, master_at, most_due, most_marks}
+use Rattle.curp_world.specs.Marks.{Adopts, Behind, CapturesOne, DueMarks, HasRoomBehind, HasRoomFor, IsFew, IsFewOf, IsLastNew, IsSound, Nothing, due_by_kind, due_marks, due_of_adoption, due_of_master, due_of_recovery, due_of_replay, marks_behind, marks_by, master_at, most_due, most_marks}
 use Rattle.curp_world.specs.Nodes.{NodeStates, nodes_of, with_nodes}
 
 -- ---- the marks after a move
@@ -105,6 +105,13 @@ module _ (w : World) (n : ℕ) (given : Input) where
       let to : NodeId = record { kind = kind.Manager; number = n } in
       let v : World = (moves_kind w kind.Manager n given).state in
       ap (λ (marks : List Mark). record v { marks = marks }) (adopted_marks w.masters to v.masters w.marks (adoption w.manager given))
+
+-- what is due of the node of that name, where it is a master
+pub as_master : (nodes : NodeStates) (to : NodeId) (given : Input) → to.kind ≡ kind.Master
+    → (if is_adopted nodes.manager to then due_of_master (numbered nodes.masters to.number) else Nothing) ≡ due_marks nodes to given
+as_master nodes to given is =
+    subst (λ (k : NodeKind). (if is_adopted nodes.manager (record { kind = k; number = to.number }) then due_of_master (numbered nodes.masters to.number) else Nothing)
+    ≡ due_by_kind nodes k to.number given) (sym is) refl
 
 -- ---- room
 

@@ -1,5 +1,5 @@
 -- A step, by what it gives a node or by the node that it stops.
-use Rattle.std.proofs.Common.{◌≡◌, ◌==◌, ◌&&◌, ◌||◌, if◌then◌else◌, nat_lt, ℕ, zero, suc, Bool, true, false, not, List, [], ◌∷◌, ◌++◌, Option, Some, None, is_some, refl, ap}
+use Rattle.std.proofs.Common.{◌≡◌, ◌==◌, ◌&&◌, ◌||◌, if◌then◌else◌, nat_lt, ℕ, zero, suc, Bool, true, false, not, List, [], ◌∷◌, ◌++◌, Option, Some, None, is_some, Result, Ok, Err, IfOk, refl, ap, sym, ◌∙◌, subst}
 use Rattle.std.specs.Prelude.{⊤}
 use Rattle.std.specs.List.{list_all, list_any}
 use Rattle.std.specs.Option.{option_map}
@@ -8,11 +8,12 @@ use Rattle.curp_base.specs.Words.{At, numbered}
 use Rattle.curp_cmd.specs.Node.{client_node, manager_node, master_node, same_node}
 use Rattle.curp_cmd.specs.declared.command.Command.{Command}
 use Rattle.curp_cmd.specs.declared.node.NodeId.{NodeId}
-use Rattle.curp_model.specs.World.{Deed, World, delivery, effect, has_node, is_stopped, is_too_much, kept, messages, refused, step, steps_by, subject, weight, weight_limit}
+use Rattle.curp_model.specs.World.{Deed, World, delivery, effect, has_node, is_stopped, is_too_much, kept, messages, refused, result_of, step, steps_by, subject, weight, weight_limit}
 use Rattle.curp_msg.specs.Moved.{quiet}
 use Rattle.curp_msg.specs.declared.machine.Local.{Local}
 use Rattle.curp_msg.specs.declared.machine.Local.TheVariants as local
 use Rattle.curp_msg.specs.declared.message.Message.{Message}
+use Rattle.curp_msg.specs.declared.outcome.Outcome.{Outcome}
 use Rattle.curp_msg.specs.declared.outcome.StepResult.{StepResult}
 use Rattle.curp_msg.specs.declared.outcome.StepResult.TheVariants.{Done, Full, Gone, Manager, NoMessage, NoNode, Refused}
 use Rattle.curp_msg.specs.declared.script.Step.{Step}
@@ -135,6 +136,13 @@ message_to w number to is = message_in w number to (numbered (messages w) number
 pub no_message : (xs : Option Message) → option_map (λ (m : Message). m.to) xs ≡ None → xs ≡ None
 no_message None is = refl
 no_message (Some m) is = absurd cc
+
+-- ---- what comes of a step, by its cause
+
+pub by_cause : {E : Type 0} (r : Result Outcome E) (w : World) (s : Step) (P : StepResult → Type 0) → (step w s).outcome.result ≡ result_of w s
+    → IfOk r (λ (o : Outcome). o ≡ (step w s).outcome) → P (result_of w s) → IfOk r (λ (o : Outcome). P o.result)
+by_cause (Ok o) w s P is same holds = subst P (sym (ap (λ (x : Outcome). x.result) same ∙ is)) holds
+by_cause (Err e) w s P is same holds = tt
 
 -- ---- what a barrier lets through
 

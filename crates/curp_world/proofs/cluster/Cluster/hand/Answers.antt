@@ -16,10 +16,10 @@ use Rattle.curp_world.proofs.cluster.Cluster.hand.Goals as goal
 
 pub give-requires : goal.give-requires
 give-requires c =
-    let i = c.self.inside in (
-      seen i.nodes i.stopped i.sent.lists i.history.events i.marks.marks,
-      subst (λ (w : World). has_node w c.args.to ≡ true) (sym c.self.view_is) (passed c.args.self.now c.args.to (sym c.in_default.ensures)),
-    )
+    let i = c.self.inside in
+    let was : World = seen i.nodes i.stopped i.sent.lists i.history.events i.marks.marks in
+    let there = subst (λ (w : World). has_node w c.args.to ≡ true) (sym c.self.view_is) (passed c.args.self.now c.args.to (sym c.in_default.ensures)) in
+    record { there = (was, there) }
 
 -- what was due has room
 pub mark-requires : goal.mark-requires
