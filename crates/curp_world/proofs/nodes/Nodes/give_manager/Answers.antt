@@ -81,8 +81,18 @@ take_up-requires-clause-made c =
     let grows = made_grows g k given c.in_ok-done.done c.in_ok-done.ensures.moves in
     let most : c.most_fresh-most.result.witnesses ≡ (most_fresh g.shape.f given).witnesses
     = c.most_fresh-most.ensures.witnesses ∙ ap (λ (f : ℕ). (most_fresh f given).witnesses) c.keepers.ensures in
-    omega (arith, ap length c.reserve-3.ensures.items, c.self.invariant.next_witness, c.next_witness.ensures, c.next_witness-2.ensures, c.next_witness-2.type_inv, grows.witness_most, most,
-    c.in_ok-make_ahead.ensures.made, c.min-count.ensures)
+    omega (
+      arith,
+      ap length c.reserve-3.ensures.items,
+      c.self.invariant.next_witness,
+      c.next_witness.ensures,
+      c.next_witness-2.ensures,
+      c.next_witness-2.type_inv,
+      grows.witness_most,
+      most,
+      c.in_ok-make_ahead.ensures.made,
+      c.min-count.ensures,
+    )
 
 -- ---- what has come
 
