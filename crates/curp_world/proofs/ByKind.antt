@@ -1,5 +1,5 @@
 -- Each kind of node moves in a world as its machine does.
-use Rattle.std.proofs.Common.{◌≡◌, ◌≢◌, ℕ, ◌+◌, ◌-◌, ◌≤◌, List, length, slice_set, Option, Some, None, Bor, Result, Ok, true, arith, refl, ap, sym, ◌∙◌, subst}
+use Rattle.std.proofs.Common.{◌≡◌, ◌≢◌, ℕ, ◌+◌, ◌-◌, ◌≤◌, List, length, slice_set, Option, Some, Bor, Result, Ok, true, arith, refl, ap, sym, ◌∙◌, subst}
 use Rattle.std.specs.Option.{option_copied, option_map}
 use Rattle.curp_base.specs.Words.{numbered}
 use Rattle.std.specs.declared.alloc.AllocError.{AllocError}

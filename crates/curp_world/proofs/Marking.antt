@@ -1,8 +1,7 @@
 -- What is marked of an input, by what was due before.
-use Rattle.std.proofs.Common.{◌≡◌, ◌⊎◌, inl, inr, ℕ, zero, suc, ◌+◌, ◌-◌, ◌<◌, ◌≤◌, Bool, true, false, if◌then◌else◌, nat_lt, List, [], ◌∷◌, ◌++◌, drop, length, map, slice_set, slice_get, Option, Some, None, append-nil, length-append, arith, refl, ap, sym, ◌∙◌, subst}
+use Rattle.std.proofs.Common.{◌≡◌, ◌⊎◌, inl, inr, ℕ, zero, suc, ◌-◌, ◌<◌, ◌≤◌, Bool, true, false, if◌then◌else◌, nat_lt, List, [], ◌∷◌, ◌++◌, drop, length, slice_set, slice_get, Option, Some, None, append-nil, length-append, arith, refl, ap, sym, subst}
 use Rattle.std.proofs.lemmas.Bool.Decides.{nat_tests}
-use Rattle.std.specs.List.{filter}
-use Rattle.curp_base.specs.Words.{At, Each, numbered}
+use Rattle.curp_base.specs.Words.{Each, numbered}
 use Rattle.curp_base.proofs.Lists.{at_set_same}
 use Rattle.curp_cmd.specs.Node.{master_node}
 use Rattle.curp_cmd.specs.declared.entry.Entry.{Entry}
@@ -12,15 +11,15 @@ use Rattle.curp_cmd.specs.declared.node.NodeKind.{NodeKind}
 use Rattle.curp_cmd.specs.declared.node.NodeKind.TheVariants as kind
 use Rattle.curp_model.specs.Backup.{BackupState, backup_input}
 use Rattle.curp_model.specs.Client.{ClientState, client_input}
-use Rattle.curp_model.specs.Manager.{Attempted, adoption, manager_input}
+use Rattle.curp_model.specs.Manager.{Attempted, adoption}
 use Rattle.curp_model.specs.Marks.{Mark}
 use Rattle.curp_model.specs.Master.{Captured, MasterState}
 use Rattle.curp_model.specs.Recovery.{Fresh, MasterStage, Recovering, Replayed, Serving, master_input}
 use Rattle.curp_model.specs.Witness.{WitnessState, witness_input}
-use Rattle.curp_model.specs.World.{World, capture_mark, is_adopted, marks_adopted, marks_after, master_marks, moves, moves_kind, moves_one, new_captures, op_marks, op_requests, replayed_in, with_adoption, with_backup, with_client, with_master, with_witness}
+use Rattle.curp_model.specs.World.{World, is_adopted, marks_adopted, marks_after, master_marks, moves_kind, moves_one, new_captures, op_requests, replayed_in, with_adoption, with_backup, with_client, with_master, with_witness}
 use Rattle.curp_msg.specs.Moved.{within}
 use Rattle.curp_msg.specs.declared.machine.Input.{Input}
-use Rattle.curp_world.specs.Marks.{Adopts, Behind, CapturesOne, DueMarks, HasRoomBehind, HasRoomFor, IsFew, IsFewOf, IsLastNew, IsSound, Nothing, due_by_kind, due_marks, due_of_adoption, due_of_master, due_of_recovery, due_of_replay, marks_behind, marks_by, master_at, most_due, most_marks}
+use Rattle.curp_world.specs.Marks.{CapturesOne, HasRoomBehind, HasRoomFor, IsFew, IsFewOf, IsLastNew, IsSound, Nothing, due_by_kind, due_marks, due_of_adoption, due_of_master, due_of_recovery, due_of_replay, marks_behind, marks_by, master_at, most_due, most_marks}
 use Rattle.curp_world.specs.Nodes.{NodeStates, nodes_of, with_nodes}
 
 -- ---- the marks after a move

@@ -1,12 +1,11 @@
 -- A step, by what it gives a node or by the node that it stops.
-use Rattle.std.proofs.Common.{◌≡◌, ◌==◌, ◌&&◌, ◌||◌, if◌then◌else◌, nat_lt, ℕ, zero, suc, Bool, true, false, not, List, [], ◌∷◌, ◌++◌, Option, Some, None, is_some, Result, Ok, Err, IfOk, refl, ap, sym, ◌∙◌, subst}
+use Rattle.std.proofs.Common.{◌≡◌, ◌==◌, ◌&&◌, ◌||◌, if◌then◌else◌, nat_lt, ℕ, Bool, true, false, not, List, [], ◌∷◌, ◌++◌, Option, Some, None, is_some, Result, Ok, Err, IfOk, refl, ap, sym, ◌∙◌, subst}
 use Rattle.std.specs.Prelude.{⊤}
 use Rattle.std.specs.List.{list_all, list_any}
 use Rattle.std.specs.Option.{option_map}
 use Rattle.curp_base.specs.Cases.{first_case, only_if}
-use Rattle.curp_base.specs.Words.{At, numbered}
+use Rattle.curp_base.specs.Words.{numbered}
 use Rattle.curp_cmd.specs.Node.{client_node, manager_node, master_node, same_node}
-use Rattle.curp_cmd.specs.declared.command.Command.{Command}
 use Rattle.curp_cmd.specs.declared.node.NodeId.{NodeId}
 use Rattle.curp_model.specs.World.{Deed, World, delivery, effect, has_node, is_stopped, is_too_much, kept, messages, refused, result_of, step, steps_by, subject, weight, weight_limit}
 use Rattle.curp_msg.specs.Moved.{quiet}

@@ -6,7 +6,7 @@ use Rattle.curp_cmd.specs.declared.command.Request.{Request}
 use Rattle.curp_cmd.specs.declared.node.NodeId.{NodeId}
 use Rattle.curp_cmd.specs.declared.node.NodeKind.{NodeKind}
 use Rattle.curp_cmd.specs.declared.node.NodeKind.TheVariants as kind
-use Rattle.curp_model.specs.Manager.{Attempted, ManagerState, adoption}
+use Rattle.curp_model.specs.Manager.{Attempted, adoption}
 use Rattle.curp_model.specs.Marks as mark
 use Rattle.curp_model.specs.Marks.{Mark}
 use Rattle.curp_model.specs.Master.{Captured, MasterState}

@@ -1,8 +1,8 @@
-use Rattle.std.proofs.Common.{◌≡◌, ◌++◌, ◌∷◌, [], ◌≤◌, List, append-nil, append_assoc, arith, ap, sym, ◌∙◌, drop, map}
+use Rattle.std.proofs.Common.{◌≡◌, ◌++◌, ◌∷◌, [], List, append-nil, append_assoc, arith, ap, sym, ◌∙◌, drop, map}
 use Rattle.curp_cmd.specs.declared.entry.Entry.{Entry}
 use Rattle.curp_model.specs.Marks.{Mark}
 use Rattle.curp_model.specs.Master.{Captured}
-use Rattle.curp_model.specs.World.{capture_mark, new_captures, op_marks}
+use Rattle.curp_model.specs.World.{capture_mark, op_marks}
 use Rattle.curp_world.proofs.Marking.{last_is_new, none_captured, one_captured}
 use Rattle.curp_world.proofs.marks.add_behind.Goals as goal
 

@@ -1,6 +1,5 @@
-use Rattle.std.proofs.Common.{◌≡◌, ◌≢◌, ◌≤◌, ◌-◌, List, length, refl, arith, ap, sym, ◌∙◌, subst}
+use Rattle.std.proofs.Common.{◌≢◌, ◌≤◌, ◌-◌, List, length, refl, ap, sym, ◌∙◌, subst}
 use Rattle.std.specs.Vec.{with_items}
-use Rattle.curp_cmd.specs.declared.node.NodeKind.{NodeKind}
 use Rattle.curp_cmd.specs.declared.node.NodeKind.TheVariants.{Client, Master, Backup, Witness, Manager}
 use Rattle.curp_inv.specs.Machines.{backup_machine, client_machine, master_machine, witness_machine}
 use Rattle.curp_model.specs.Backup.{BackupState}
