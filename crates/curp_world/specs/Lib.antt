@@ -3,3 +3,4 @@ pub mod Given
 pub mod Marks
 pub mod Nodes
 pub mod Reached
+pub mod Stopped
