@@ -10,7 +10,4 @@ pub mod Nodes
 pub mod Invariant
 pub mod Run
 pub mod Silence
-pub mod Built
-pub mod Sent
-pub mod Shape
 pub mod Marked

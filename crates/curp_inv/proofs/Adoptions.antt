@@ -1,5 +1,5 @@
 -- A recovering master that isn't adopted.
-use Rattle.std.proofs.Common.{◌≡◌, ℕ, true, false, Result, Ok, Err, refl, ap, sym, subst, true≢false}
+use Rattle.std.proofs.Common.{◌≡◌, ℕ, false, Result, Ok, Err, refl, ap, sym, subst, true≢false}
 use Rattle.std.proofs.lemmas.Bool.{cond_both}
 use Rattle.std.specs.declared.alloc.AllocError.{AllocError}
 use Rattle.curp_cmd.specs.Store.{is_update}

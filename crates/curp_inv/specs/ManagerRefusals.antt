@@ -1,10 +1,10 @@
 -- How the manager refuses: a message never, an order by a small number, and then nothing has changed.
 use Rattle.std.proofs.Common.{arith, refl}
 use Rattle.std.proofs.lemmas.Bool.{cond_both}
-use Rattle.std.specs.Prelude.{◌≡◌, ℕ, ◌==◌, ◌||◌, ◌&&◌, nat_lt, nat_le, not, is_some, Bool, true, false, Option, Some, None, Result, Ok, Err}
+use Rattle.std.specs.Prelude.{◌≡◌, ℕ, ◌==◌, ◌&&◌, nat_lt, nat_le, not, is_some, Bool, true, false, Option, Some, None, Ok}
 use Rattle.std.specs.Option.{ok_or}
 use Rattle.curp_base.specs.Cases.{◌>>=◌, refuse_if}
-use Rattle.curp_base.specs.Words.{numbered, rises_past}
+use Rattle.curp_base.specs.Words.{numbered}
 use Rattle.curp_cmd.specs.declared.node.Keeper.{Keeper}
 use Rattle.curp_cmd.specs.declared.node.NodeId.{NodeId}
 use Rattle.curp_msg.specs.Moved.{Moved, Refuses, not_refused, quiet, refused_by, unless_refused}

@@ -8,3 +8,4 @@ pub use curp_law_runs::{
 };
 pub use curp_law_steps::{full_changes_nothing, only_the_named_node_moves, results_have_causes};
 pub use curp_law_trip::{one_round_trip, premises_stay, rejected_exactly, trip_can_be_met};
+pub use curp_recover::laws::recovery_reports;

@@ -1,11 +1,14 @@
 -- What `play` writes for the bytes of a script, and what its order is.
-use Rattle.std.specs.Prelude.{ℕ, List, [], Option, Some, None}
+use Rattle.std.specs.Prelude.{◌≡◌, ◌⊎◌, ℕ, List, [], Option, Some, None}
+use Rattle.curp_io.specs.Streams.{Rose}
 use Rattle.curp_io.specs.Text.{lines_of}
 use Rattle.curp_order.specs.Order.{IsHistory, IsOrder}
 use Rattle.curp_msg.specs.declared.script.Header.{Header}
 use Rattle.curp_script.specs.Script.{Ending, Whole, Bad, TooLong, TooMany, Steps, Script, script_of}
 use Rattle.curp_model.specs.World.{World, opening, order, world}
 use Rattle.curp_text.specs.Text.{closing_order, steps_text}
+use Rattle.curp_play.specs.declared.status.Status.{Status}
+use Rattle.curp_play.specs.declared.status.Status.TheVariants as status
 
 -- the script that bytes are
 abbrev pub script_in : List ℕ → Script
@@ -47,3 +50,10 @@ LeadsToAnOrder (Some header) body = OrderStands (world header body.steps)
 -- a script that has a header, and such a world at its end
 abbrev pub HasAnOrder : Script → Type 0
 HasAnOrder s = LeadsToAnOrder s.header s.body
+
+-- ---- completeness
+
+-- with no fault of its input and its output, it ends with the status 0, or for want of memory
+abbrev pub EndsWhole : Status → (read_before read_after written_before written_after : ℕ) → Type 0
+EndsWhole result read_before read_after written_before written_after =
+    (Rose read_before read_after → ⊥) → (Rose written_before written_after → ⊥) → (result ≡ status.Ok) ⊎ (result ≡ status.NoMemory)

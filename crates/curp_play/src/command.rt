@@ -1,6 +1,7 @@
 ghost use Rattle.std.specs.Prelude.{◌≡◌, ◌≢◌, ◌↔◌, ◌++◌, [], true, false};
 ghost use Rattle.curp_io.specs.Streams.{HoldsPart, Rose, SameCount};
-ghost use Rattle.curp_play.specs.Play.{HasAnOrder, script_in, text_of};
+ghost use Rattle.curp_play.specs.Play.{EndsWhole, HasAnOrder, script_in, text_of};
+ghost use Rattle.curp_script.specs.Script.{Whole};
 ghost use Rattle.curp_play.specs.Status.{is_cut_short, is_play, status_of};
 
 use crate::play::play_script;
@@ -24,6 +25,9 @@ pub fn run<S: Source, K: Sink>(
     ensures ends { is_play words.now ≡ true → S.tells source.old ≡ true → is_cut_short result ≡ false
         → result ≡ status_of (script_in (S.left source.old)).body.ending }
     ensures end { S.tells source.old ≡ true → result ≡ Status.Ok → S.left source.new ≡ [] }
+    ensures complete { is_play words.now ≡ true → S.tells source.old ≡ true
+        → (script_in (S.left source.old)).body.ending ≡ Whole
+        → EndsWhole result (S.faults source.old) (S.faults source.new) (K.faults sink.old) (K.faults sink.new) }
 
     // It writes the text of the script and passes it on; where it is cut short, it writes a front of the text.
     ensures wrote { is_play words.now ≡ true → S.tells source.old ≡ true → K.tells sink.old ≡ true

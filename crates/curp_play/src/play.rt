@@ -3,7 +3,8 @@ ghost use Rattle.curp_io.specs.Streams.{HoldsPart, Rose, SameCount};
 ghost use Rattle.curp_script.specs.Headers.{bad_field};
 ghost use Rattle.curp_model.specs.World as model;
 ghost use Rattle.curp_text.specs.Text.{closing_order, made_text};
-ghost use Rattle.curp_play.specs.Play.{HasAnOrder, text_from, script_in, text_of};
+ghost use Rattle.curp_play.specs.Play.{EndsWhole, HasAnOrder, text_from, script_in, text_of};
+ghost use Rattle.curp_script.specs.Script.{Whole};
 ghost use Rattle.curp_play.specs.Reading.{IsBehind, IsOfWriting, due};
 ghost use Rattle.curp_play.specs.Status.{ended, is_cut_short, status_of};
 
@@ -28,6 +29,9 @@ pub fn play_script<S: Source, K: Sink>(alloc: Global, source: &mut S, sink: &mut
     ensures ends { S.tells source.old ≡ true → is_cut_short result ≡ false
         → result ≡ status_of (script_in (S.left source.old)).body.ending }
     ensures end { S.tells source.old ≡ true → result ≡ Status.Ok → S.left source.new ≡ [] }
+    // So a script within the grammar and its limits is played to its end, where there is memory and no fault.
+    ensures complete { S.tells source.old ≡ true → (script_in (S.left source.old)).body.ending ≡ Whole
+        → EndsWhole result (S.faults source.old) (S.faults source.new) (K.faults sink.old) (K.faults sink.new) }
 
     // It writes the text of the script and passes it on; where it is cut short, it writes a front of the text.
     ensures wrote { S.tells source.old ≡ true → K.tells sink.old ≡ true → is_cut_short result ≡ false

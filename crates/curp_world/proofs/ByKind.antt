@@ -1,5 +1,5 @@
 -- Each kind of node moves in a world as its machine does.
-use Rattle.std.proofs.Common.{◌≡◌, ◌≢◌, ℕ, ◌+◌, ◌-◌, ◌≤◌, List, slice_set, Option, Some, None, Bor, Result, Ok, true, arith, refl, ap, sym, ◌∙◌, subst}
+use Rattle.std.proofs.Common.{◌≡◌, ◌≢◌, ℕ, ◌+◌, ◌-◌, ◌≤◌, List, length, slice_set, Option, Some, Bor, Result, Ok, true, arith, refl, ap, sym, ◌∙◌, subst}
 use Rattle.std.specs.Option.{option_copied, option_map}
 use Rattle.curp_base.specs.Words.{numbered}
 use Rattle.std.specs.declared.alloc.AllocError.{AllocError}
@@ -17,10 +17,10 @@ use Rattle.curp_model.specs.World.{World, grown, has_node, is_there, moves, move
 use Rattle.curp_msg.specs.Moved.{Moves, MovesAt, Node, numbered_move, within}
 use Rattle.curp_msg.specs.declared.machine.Done.{Done}
 use Rattle.curp_msg.specs.declared.machine.Input.{Input}
-use Rattle.curp_world.specs.Nodes.{AreNumbered, HasNumbers, NodeStates, nodes_of, states, with_nodes}
+use Rattle.curp_world.specs.Nodes.{AreNumbered, HasNumbers, NodeStates, most_fresh, nodes_of, states, with_nodes}
 use Rattle.curp_world.specs.Marks.{IsFewOf, master_at, most_marks}
 use Rattle.curp_world.proofs.Giving.{many_stay, node_moves, numbers_stay, one_moves, set_there, world_moves}
-use Rattle.curp_world.proofs.Grown.{ahead_numbers, ahead_stays}
+use Rattle.curp_world.proofs.Grown.{Grows, ahead_numbers, ahead_stays, grown_none, manager_grows}
 use Rattle.curp_world.proofs.Numbered.{lent_numbered, map_set, numbered_at}
 use Rattle.curp_world.proofs.Pushing.{moves_few}
 
@@ -235,7 +235,34 @@ grown_by nodes g = record nodes {
 
 -- it moves in a world as its machine does, and the fresh nodes that it names are there
 pub manager_gives : (nodes after : NodeStates) (w : World) (given : Input) (n : ℕ) (g : ManagerState) (done : Done)
-    → Moves nodes.manager g (Ok done) (manager_machine nodes.manager given) → after ≡ grown_by nodes g
-    → Moves nodes after (Ok done) (within nodes_of (moves_kind (with_nodes w nodes) kind.Manager n given))
+    → Moves {E = AllocError} nodes.manager g (Ok done) (manager_machine nodes.manager given) → after ≡ grown_by nodes g
+    → Moves {E = AllocError} nodes after (Ok done) (within nodes_of (moves_kind (with_nodes w nodes) kind.Manager n given))
 unfolding manager_machine
 manager_gives nodes after w given n g done moved grew = (grew ∙ ap (grown_by nodes) moved.0, moved.1)
+
+-- the fresh nodes that it names are bounded
+pub made_grows : (g k : ManagerState) (given : Input) (done : Done) → Moves {E = AllocError} g k (Ok done) (manager_machine g given) → Grows g k (most_fresh g.shape.f given)
+unfolding manager_machine
+made_grows g k given done moved = subst (λ (x : ManagerState). Grows g x (most_fresh g.shape.f given)) (sym moved.0) (manager_grows g given)
+
+-- nodes of which the fresh ones came
+pub grew : (nodes : NodeStates) (g : ManagerState) (masters : List MasterStage) (backups : List BackupState) (witnesses : List WitnessState)
+    → masters ≡ grown nodes.masters Fresh g.next.master
+    → backups ≡ grown nodes.backups fresh_backup g.next.backup
+    → witnesses ≡ grown nodes.witnesses (fresh_witness nodes.sets nodes.ways) g.next.witness
+    → record { clients = nodes.clients; manager = g; masters = masters; backups = backups; witnesses = witnesses; sets = nodes.sets; ways = nodes.ways } ≡ grown_by nodes g
+grew nodes g masters backups witnesses of_masters of_backups of_witnesses =
+    λ i. record { clients = nodes.clients; manager = g; masters = of_masters i; backups = of_backups i; witnesses = of_witnesses i; sets = nodes.sets; ways = nodes.ways }
+
+-- where the manager stays none comes
+pub none_came : (nodes : NodeStates) (g : ManagerState) → g ≡ nodes.manager
+    → nodes.manager.next.master ≡ length nodes.masters + 1 → nodes.manager.next.backup ≡ length nodes.backups + 1
+    → nodes.manager.next.witness ≡ length nodes.witnesses + 1 → grown_by nodes g ≡ nodes
+none_came nodes g same next_master next_backup next_witness =
+    let masters : grown nodes.masters Fresh g.next.master ≡ nodes.masters
+    = grown_none nodes.masters Fresh g.next.master (ap (λ (k : ManagerState). k.next.master) same ∙ next_master) in
+    let backups : grown nodes.backups fresh_backup g.next.backup ≡ nodes.backups
+    = grown_none nodes.backups fresh_backup g.next.backup (ap (λ (k : ManagerState). k.next.backup) same ∙ next_backup) in
+    let witnesses : grown nodes.witnesses (fresh_witness nodes.sets nodes.ways) g.next.witness ≡ nodes.witnesses
+    = grown_none nodes.witnesses (fresh_witness nodes.sets nodes.ways) g.next.witness (ap (λ (k : ManagerState). k.next.witness) same ∙ next_witness) in
+    λ i. record { clients = nodes.clients; manager = same i; masters = masters i; backups = backups i; witnesses = witnesses i; sets = nodes.sets; ways = nodes.ways }

@@ -1,5 +1,5 @@
 -- The manager names no more fresh nodes by an input than are bounded, and they come behind those that are there.
-use Rattle.std.proofs.Common.{◌≡◌, ℕ, zero, suc, ◌+◌, ◌-◌, ◌<◌, ◌≤◌, List, [], ◌∷◌, ◌++◌, length, map, replicate, Option, Some, None, Result, Ok, Err, ◌==◌, refl, ap, sym, ◌∙◌, subst, arith, append_assoc, append-nil, length-append, inl, inr}
+use Rattle.std.proofs.Common.{◌≡◌, ℕ, ◌+◌, ◌-◌, ◌<◌, ◌≤◌, List, [], ◌∷◌, ◌++◌, length, map, replicate, Option, Some, None, Result, Ok, Err, ◌==◌, refl, ap, sym, ◌∙◌, subst, arith, append_assoc, append-nil, length-append, inl, inr}
 use Rattle.std.proofs.lemmas.Bool.{cond_both}
 use Rattle.std.proofs.lemmas.List.{length-map, map-append, replicate_more}
 use Rattle.curp_base.specs.Words.{Each}
@@ -258,9 +258,11 @@ taken_fresh sets ways [] (y ∷ taken) left fresh all = absurd cc
 taken_fresh sets ways (x ∷ ahead) (y ∷ taken) left fresh all =
     let first : y ≡ x = cc in
     let rest : taken ++ left ≡ ahead = cc in
-    let more = taken_fresh sets ways ahead taken left fresh.1 rest in
-    (ap (λ (z : Node WitnessState). z.state ∷ states taken) first ∙ ap (λ (s : WitnessState). s ∷ states taken) fresh.0
-        ∙ ap (λ (ss : List WitnessState). fresh_witness sets ways ∷ ss) more.0, more.1)
+    let more = taken_fresh sets ways ahead taken left fresh.1 rest in (
+      ap (λ (z : Node WitnessState). z.state ∷ states taken) first ∙ ap (λ (s : WitnessState). s ∷ states taken) fresh.0
+          ∙ ap (λ (ss : List WitnessState). fresh_witness sets ways ∷ ss) more.0,
+      more.1,
+    )
 
 taken_states : (sets ways : ℕ) (witnesses ahead after left : List (Node WitnessState)) → Each (λ (x : Node WitnessState). x.state ≡ fresh_witness sets ways) ahead
     → after ++ left ≡ witnesses ++ ahead → length witnesses ≤ length after
@@ -275,10 +277,12 @@ taken_states sets ways (x ∷ witnesses) ahead (y ∷ after) left fresh all more
     let first : y ≡ x = cc in
     let rest : after ++ left ≡ witnesses ++ ahead = cc in
     let t = taken_states sets ways witnesses ahead after left fresh rest (omega arith) in
-    let count : length (y ∷ after) - length (x ∷ witnesses) ≡ length after - length witnesses = omega arith in
-    (ap (λ (z : Node WitnessState). z.state ∷ states after) first
-        ∙ ap (λ (ss : List WitnessState). x.state ∷ ss) t.0
-        ∙ ap (λ (n : ℕ). x.state ∷ states witnesses ++ replicate n (fresh_witness sets ways)) (sym count), t.1)
+    let count : length (y ∷ after) - length (x ∷ witnesses) ≡ length after - length witnesses = omega arith in (
+      ap (λ (z : Node WitnessState). z.state ∷ states after) first
+          ∙ ap (λ (ss : List WitnessState). x.state ∷ ss) t.0
+          ∙ ap (λ (n : ℕ). x.state ∷ states witnesses ++ replicate n (fresh_witness sets ways)) (sym count),
+      t.1,
+    )
 
 -- those that are named are taken up, and the others stay ahead
 pub taken_up : (witnesses ahead after left : List (Node WitnessState)) (sets ways next : ℕ) → IsAhead witnesses ahead sets ways
@@ -287,9 +291,10 @@ pub taken_up : (witnesses ahead after left : List (Node WitnessState)) (sets way
 taken_up witnesses ahead after left sets ways next is all behind long =
     let t = taken_states sets ways witnesses ahead after left is.fresh all (omega (arith, behind, long)) in
     let count : length after - length witnesses ≡ (next - 1) - length witnesses = omega (arith, long) in
-    let seen : length witnesses ≡ length (states witnesses) = sym (length-map witnesses (λ (x : Node WitnessState). x.state)) in
-    (t.0 ∙ ap (λ (n : ℕ). states witnesses ++ replicate n (fresh_witness sets ways)) (count ∙ ap (λ (n : ℕ). (next - 1) - n) seen),
-        record { numbered = subst HasNumbers (sym all) is.numbered; fresh = t.1 })
+    let seen : length witnesses ≡ length (states witnesses) = sym (length-map witnesses (λ (x : Node WitnessState). x.state)) in (
+      t.0 ∙ ap (λ (n : ℕ). states witnesses ++ replicate n (fresh_witness sets ways)) (count ∙ ap (λ (n : ℕ). (next - 1) - n) seen),
+      record { numbered = subst HasNumbers (sym all) is.numbered; fresh = t.1 },
+    )
 
 -- one that is taken up stands behind the others
 pub one_taken : {A : Type 0} (before taken ahead rest : List A) (x : A) → ahead ≡ x ∷ rest → taken ≡ before ++ x ∷ [] → taken ++ rest ≡ before ++ ahead
@@ -304,5 +309,5 @@ fresh_more {S} old fresh nodes pushed x n behind same numbers long push number s
   ap states push ∙ map-append (λ (y : Node S). y.state) nodes (x ∷ []) ∙ ap (λ (s : S). states nodes ++ s ∷ []) state
       ∙ ap (λ (ss : List S). ss ++ fresh ∷ []) same ∙ grown_more old fresh n behind,
   subst HasNumbers (sym push) (numbers_push nodes x numbers (number ∙ sym long)),
-  omega (arith, ap length push, length-append nodes (x ∷ []), long)
+  omega (arith, ap length push, length-append nodes (x ∷ []), long),
 )

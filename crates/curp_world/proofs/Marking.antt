@@ -1,24 +1,25 @@
 -- What is marked of an input, by what was due before.
-use Rattle.std.proofs.Common.{◌≡◌, ◌⊎◌, inl, inr, ℕ, zero, suc, ◌+◌, ◌-◌, ◌<◌, ◌≤◌, Bool, true, false, if◌then◌else◌, nat_lt, List, [], ◌∷◌, ◌++◌, drop, length, map, slice_set, slice_get, Option, Some, None, append-nil, length-append, arith, refl, ap, sym, ◌∙◌, subst}
+use Rattle.std.proofs.Common.{◌≡◌, ◌⊎◌, inl, inr, ℕ, zero, suc, ◌-◌, ◌<◌, ◌≤◌, Bool, true, false, if◌then◌else◌, nat_lt, List, [], ◌∷◌, ◌++◌, drop, length, slice_set, slice_get, Option, Some, None, append-nil, length-append, arith, refl, ap, sym, subst}
 use Rattle.std.proofs.lemmas.Bool.Decides.{nat_tests}
-use Rattle.std.specs.List.{filter}
-use Rattle.curp_base.specs.Words.{At, Each, numbered}
+use Rattle.curp_base.specs.Words.{Each, numbered}
 use Rattle.curp_base.proofs.Lists.{at_set_same}
 use Rattle.curp_cmd.specs.Node.{master_node}
+use Rattle.curp_cmd.specs.declared.entry.Entry.{Entry}
+use Rattle.curp_cmd.specs.declared.entry.Entry.TheVariants.{Op, Take, Give, Expire}
 use Rattle.curp_cmd.specs.declared.node.NodeId.{NodeId}
 use Rattle.curp_cmd.specs.declared.node.NodeKind.{NodeKind}
 use Rattle.curp_cmd.specs.declared.node.NodeKind.TheVariants as kind
 use Rattle.curp_model.specs.Backup.{BackupState, backup_input}
 use Rattle.curp_model.specs.Client.{ClientState, client_input}
-use Rattle.curp_model.specs.Manager.{Attempted, adoption, manager_input}
+use Rattle.curp_model.specs.Manager.{Attempted, adoption}
 use Rattle.curp_model.specs.Marks.{Mark}
 use Rattle.curp_model.specs.Master.{Captured, MasterState}
 use Rattle.curp_model.specs.Recovery.{Fresh, MasterStage, Recovering, Replayed, Serving, master_input}
 use Rattle.curp_model.specs.Witness.{WitnessState, witness_input}
-use Rattle.curp_model.specs.World.{World, capture_mark, is_adopted, marks_adopted, marks_after, master_marks, moves, moves_kind, moves_one, new_captures, op_marks, replayed_in, with_adoption, with_backup, with_client, with_master, with_witness}
+use Rattle.curp_model.specs.World.{World, is_adopted, marks_adopted, marks_after, master_marks, moves_kind, moves_one, new_captures, op_requests, replayed_in, with_adoption, with_backup, with_client, with_master, with_witness}
 use Rattle.curp_msg.specs.Moved.{within}
 use Rattle.curp_msg.specs.declared.machine.Input.{Input}
-use Rattle.curp_world.specs.Marks.{Adopts, Behind, CapturesOne, DueMarks, HasRoomBehind, HasRoomFor, IsFew, IsFewOf, IsLastNew, IsSound, Nothing, due_marks, due_of_adoption, due_of_master, due_of_recovery, due_of_replay, marks_behind, marks_by, master_at, most_due, most_marks}
+use Rattle.curp_world.specs.Marks.{CapturesOne, HasRoomBehind, HasRoomFor, IsFew, IsFewOf, IsLastNew, IsSound, Nothing, due_by_kind, due_marks, due_of_adoption, due_of_master, due_of_recovery, due_of_replay, marks_behind, marks_by, master_at, most_due, most_marks}
 use Rattle.curp_world.specs.Nodes.{NodeStates, nodes_of, with_nodes}
 
 -- ---- the marks after a move
@@ -103,6 +104,13 @@ module _ (w : World) (n : ℕ) (given : Input) where
       let to : NodeId = record { kind = kind.Manager; number = n } in
       let v : World = (moves_kind w kind.Manager n given).state in
       ap (λ (marks : List Mark). record v { marks = marks }) (adopted_marks w.masters to v.masters w.marks (adoption w.manager given))
+
+-- what is due of the node of that name, where it is a master
+pub as_master : (nodes : NodeStates) (to : NodeId) (given : Input) → to.kind ≡ kind.Master
+    → (if is_adopted nodes.manager to then due_of_master (numbered nodes.masters to.number) else Nothing) ≡ due_marks nodes to given
+as_master nodes to given is =
+    subst (λ (k : NodeKind). (if is_adopted nodes.manager (record { kind = k; number = to.number }) then due_of_master (numbered nodes.masters to.number) else Nothing)
+    ≡ due_by_kind nodes k to.number given) (sym is) refl
 
 -- ---- room
 
@@ -198,3 +206,17 @@ last_there {A} xs x = let long : length (xs ++ x ∷ []) - 1 ≡ length xs = ome
     at_end : (xs : List A) → slice_get (xs ++ x ∷ []) (length xs) ≡ Some x
     at_end [] = refl
     at_end (y ∷ ys) = at_end ys
+
+-- no more requests than entries
+pub ops_fit : (es : List Entry) → length (op_requests es) ≤ length es
+ops_fit [] = omega arith
+ops_fit (Op r acknowledged ∷ es) = omega (arith, ops_fit es)
+ops_fit (Take migration taken ∷ es) = omega (arith, ops_fit es)
+ops_fit (Give migration given ∷ es) = omega (arith, ops_fit es)
+ops_fit (Expire client ∷ es) = omega (arith, ops_fit es)
+
+-- the number of what is left behind a place
+pub left_behind_place : {A : Type 0} (n : ℕ) (xs : List A) → length (drop n xs) ≡ length xs - n
+left_behind_place zero xs = omega arith
+left_behind_place (suc n) [] = omega arith
+left_behind_place (suc n) (x ∷ xs) = omega (arith, left_behind_place n xs)

@@ -1,5 +1,5 @@
 -- The nodes of a header as at opening.
-use Rattle.std.proofs.Common.{◌≡◌, ℕ, zero, suc, ◌+◌, ◌*◌, ◌<◌, ◌≤◌, ◌^◌, ◌-◌, List, [], get_or, length, map, replicate, Some, refl, ap, sym, ◌∙◌, arith, subst}
+use Rattle.std.proofs.Common.{◌≡◌, ℕ, zero, suc, ◌+◌, ◌*◌, ◌<◌, ◌≤◌, ◌^◌, ◌-◌, List, [], get_or, length, map, replicate, refl, ap, sym, ◌∙◌, arith, subst}
 use Rattle.std.proofs.Math.Nat.{mul-le-mul}
 use Rattle.std.proofs.lemmas.List.{length-map, length-replicate}
 use Rattle.std.proofs.lemmas.Option.{slice_get_read}
@@ -12,9 +12,8 @@ use Rattle.curp_model.specs.Recovery.{MasterStage}
 use Rattle.curp_model.specs.Witness.{WitnessState, started_witness}
 use Rattle.curp_model.specs.World.{opening, opening_master, shape_of}
 use Rattle.curp_msg.specs.Moved.{Node}
-use Rattle.curp_msg.specs.declared.config.Config.{Config}
 use Rattle.curp_msg.specs.declared.script.Header.{Header}
-use Rattle.curp_world.specs.Nodes.{AreNumbered, HasNumbers, NodeStates, nodes_of, states}
+use Rattle.curp_world.specs.Nodes.{AreNumbered, HasNumbers, nodes_of, states}
 use Rattle.curp_world.proofs.Grown.{none_ahead}
 
 -- ---- what numbers name
@@ -44,7 +43,7 @@ pub named_part : {A : Type 0} (f : ℕ → A) (count : ℕ) (items : List A) (k 
     → (x ≡ f (k + 1)) × (k < count)
 named_part {A} f count items k x all within here = (
   named_at f count k x (subst (λ (xs : List A). At xs k x) all (slice_get_read items (length items) k x refl within here)),
-  omega (arith, ap length all, named_length f count, within)
+  omega (arith, ap length all, named_length f count, within),
 )
 
 -- ---- a header

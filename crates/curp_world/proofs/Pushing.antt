@@ -1,5 +1,5 @@
 -- How much of an input a master pushes and captures.
-use Rattle.std.proofs.Common.{◌≡◌, ◌⊎◌, inl, inr, ℕ, ◌+◌, ◌-◌, ◌≤◌, Bool, true, false, not, ◌&&◌, ◌||◌, ◌==◌, nat_le, nat_lt, List, [], ◌∷◌, ◌++◌, length, Option, Some, None, Result, Ok, Err, length-append, arith, refl, ap, sym, ◌∙◌, subst}
+use Rattle.std.proofs.Common.{◌≡◌, inl, inr, ℕ, ◌+◌, ◌≤◌, Bool, true, false, not, ◌&&◌, ◌||◌, ◌==◌, nat_le, nat_lt, List, [], ◌∷◌, ◌++◌, length, Option, Some, None, Result, Ok, Err, length-append, arith, refl, ap, sym, ◌∙◌, subst}
 use Rattle.std.proofs.lemmas.Bool.{cond_both}
 use Rattle.std.specs.declared.alloc.AllocError.{AllocError}
 use Rattle.curp_base.specs.Words.{rises_past}
@@ -16,13 +16,13 @@ use Rattle.curp_model.specs.declared.Check.TheVariants.{Expired, Stale, Known, N
 use Rattle.curp_model.specs.Log.{LastGive, LastTake}
 use Rattle.curp_model.specs.Master.{MasterState, Acknowledged, AtOnce, Deny, Execute, HoldBack, Open, Phase, Switch, Switching, Tell, TellAgain, Verdict, WhenSynced, Wish, adopted_in, all_have, carries_out, collect_in, executes, give_after, goes_on, is_clean, is_open, last_round, on_appended, on_collected, on_expire, on_give, on_read, on_serving, on_stored, on_take, on_update, prepare_in, prepares, push_take, raised, read_command, read_of, read_refusal, serving_ordered, settle, state_of, stored_on, sync_in, synced, take_after, told_again, treat, treated, treats, unless_it_ends, verdict}
 use Rattle.curp_model.specs.Ranges.{owns_all}
-use Rattle.curp_model.specs.Recovery.{Fresh, MasterStage, Recovering, RecoveryPhase, RecoveryState, Serving, master_input, on_master, master_ordered}
+use Rattle.curp_model.specs.Recovery.{Fresh, MasterStage, Recovering, Serving, master_input, on_master, master_ordered}
 use Rattle.curp_model.specs.Table.{check, is_gone}
 use Rattle.curp_msg.specs.Moved.{Moved, Moves, Node, numbered_move}
 use Rattle.curp_msg.specs.declared.answer.AppendAnswer.{AppendAnswer}
 use Rattle.curp_msg.specs.declared.answer.AppendAnswer.TheVariants as answer
 use Rattle.curp_msg.specs.declared.answer.GcAnswer.{GcAnswer}
-use Rattle.curp_msg.specs.declared.answer.GcAnswer.TheVariants.{Suspects, Stranger}
+use Rattle.curp_msg.specs.declared.answer.GcAnswer.TheVariants.{Suspects}
 use Rattle.curp_msg.specs.declared.answer.Refusal.{Refusal}
 use Rattle.curp_msg.specs.declared.body.Ask.{Ask}
 use Rattle.curp_msg.specs.declared.body.Body.{Body}
@@ -37,7 +37,7 @@ use Rattle.curp_msg.specs.declared.machine.Local.{Local}
 use Rattle.curp_msg.specs.declared.machine.Local.TheVariants as local
 use Rattle.curp_msg.specs.declared.message.Message.{Message}
 use Rattle.curp_range.specs.Spans.{is_covered}
-use Rattle.curp_world.specs.Marks.{CapturesOne, IsFew, IsFewOf, most_by_message, most_marks, most_suspects}
+use Rattle.curp_world.specs.Marks.{IsFew, IsFewOf, most_by_message, most_marks, most_suspects}
 
 -- ---- a master that pushes, and one that captures
 

@@ -1,22 +1,23 @@
 -- A step, by what it gives a node or by the node that it stops.
-use Rattle.std.proofs.Common.{◌≡◌, ◌==◌, ◌&&◌, ◌||◌, if◌then◌else◌, nat_lt, ℕ, zero, suc, Bool, true, false, not, List, [], ◌∷◌, ◌++◌, Option, Some, None, is_some, refl, ap}
+use Rattle.std.proofs.Common.{◌≡◌, ◌==◌, ◌&&◌, ◌||◌, if◌then◌else◌, nat_lt, ℕ, Bool, true, false, not, List, [], ◌∷◌, ◌++◌, Option, Some, None, is_some, Result, Ok, Err, IfOk, refl, ap, sym, ◌∙◌, subst}
+use Rattle.std.specs.Prelude.{⊤}
 use Rattle.std.specs.List.{list_all, list_any}
 use Rattle.std.specs.Option.{option_map}
 use Rattle.curp_base.specs.Cases.{first_case, only_if}
-use Rattle.curp_base.specs.Words.{At, numbered}
+use Rattle.curp_base.specs.Words.{numbered}
 use Rattle.curp_cmd.specs.Node.{client_node, manager_node, master_node, same_node}
-use Rattle.curp_cmd.specs.declared.command.Command.{Command}
 use Rattle.curp_cmd.specs.declared.node.NodeId.{NodeId}
-use Rattle.curp_model.specs.World.{Deed, World, delivery, effect, has_node, is_stopped, is_too_much, kept, messages, refused, step, steps_by, subject, weight, weight_limit}
+use Rattle.curp_model.specs.World.{Deed, World, delivery, effect, has_node, is_stopped, is_too_much, kept, messages, refused, result_of, step, steps_by, subject, weight, weight_limit}
 use Rattle.curp_msg.specs.Moved.{quiet}
 use Rattle.curp_msg.specs.declared.machine.Local.{Local}
 use Rattle.curp_msg.specs.declared.machine.Local.TheVariants as local
 use Rattle.curp_msg.specs.declared.message.Message.{Message}
+use Rattle.curp_msg.specs.declared.outcome.Outcome.{Outcome}
 use Rattle.curp_msg.specs.declared.outcome.StepResult.{StepResult}
 use Rattle.curp_msg.specs.declared.outcome.StepResult.TheVariants.{Done, Full, Gone, Manager, NoMessage, NoNode, Refused}
 use Rattle.curp_msg.specs.declared.script.Step.{Step}
 use Rattle.curp_msg.specs.declared.script.Step.TheVariants as steps
-use Rattle.curp_world.specs.Given.{CanGet, IsMessageTo, barrier, gift_deed, goes, hands, order_of}
+use Rattle.curp_world.specs.Given.{CanGet, IsMessageTo, barrier, expires_nobody, gift_deed, goes, hands, order_of}
 use Rattle.curp_world.specs.declared.given.Gift.TheVariants as gift
 
 -- ---- the result of what gives a node something
@@ -54,6 +55,14 @@ as_goes w deed true false false = taken ((effect w deed).refused == 0) (effect w
 
 -- ---- each step that gives a node something
 
+not-true : (b : Bool) → not b ≡ true → b ≡ false
+not-true false is = refl
+not-true true is = absurd cc
+
+not-false : (b : Bool) → not b ≡ false → b ≡ true
+not-false true is = refl
+not-false false is = absurd cc
+
 handed : (w : World) (to : NodeId) (order : Local)
     → steps_by w (gift_deed w to (gift.Order order)) (causes_of w false (to ∷ []) (gift_deed w to (gift.Order order))) ≡ hands w to (gift.Order order)
 unfolding causes_of
@@ -61,17 +70,12 @@ handed w to order =
     let deed = gift_deed w to (gift.Order order) in
     ap (steps_by w deed) (as_goes w deed (has_node w to) (is_stopped w to) (nat_lt weight_limit (weight w)))
 
--- the client that is declared gone is there
-abbrev pub NamesWhoIsThere : World → Step → Type 0
-NamesWhoIsThere w (steps.Expire n) = has_node w (client_node n) ≡ true
-NamesWhoIsThere w s = ⊤
-
 -- a step is the order that it gives, which its node may get
 abbrev pub IsOrdered : World → Step → Option (NodeId × Local) → Type 0
 IsOrdered w s None = ⊤
 IsOrdered w s (Some given) = (step w s ≡ hands w given.0 (gift.Order given.1)) × CanGet w given.0 (gift.Order given.1)
 
-pub orders : (w : World) (s : Step) → NamesWhoIsThere w s → IsOrdered w s (order_of s)
+pub orders : (w : World) (s : Step) → expires_nobody w s ≡ false → IsOrdered w s (order_of s)
 unfolding step causes_of
 orders w (steps.Invoke n command) there = (handed w (client_node n) (local.Invoke command), refl)
 orders w (steps.Retry n seq) there = (handed w (client_node n) (local.Retry seq), tt)
@@ -82,14 +86,25 @@ orders w (steps.Recover part backup witness) there = (handed w manager_node (loc
 orders w (steps.Replace keeper part place) there = (handed w manager_node (local.Replace keeper part place), tt)
 orders w (steps.Migrate lo hi to) there = (handed w manager_node (local.Migrate lo hi to), tt)
 orders w steps.Nudge there = (handed w manager_node local.Nudge, tt)
-orders w (steps.Expire n) there = (rw there (handed w manager_node (local.Expire n)), tt)
+orders w (steps.Expire n) there = (rw (not-false (has_node w (client_node n)) there) (handed w manager_node (local.Expire n)), tt)
 orders w (steps.Deliver number) there = tt
 orders w (steps.Stop node) there = tt
 
--- where the client that is declared gone isn't there
-pub expires_nobody : (w : World) (n : ℕ) → has_node w (client_node n) ≡ false → step w (steps.Expire n) ≡ refused w NoNode
+-- where the client that it declares gone isn't there
+pub names_nobody : (w : World) (s : Step) → expires_nobody w s ≡ true → step w s ≡ refused w NoNode
 unfolding step
-expires_nobody w n there = rw there refl
+names_nobody w (steps.Expire n) gone = rw (not-true (has_node w (client_node n)) gone) refl
+names_nobody w (steps.Invoke n command) gone = absurd cc
+names_nobody w (steps.Retry n seq) gone = absurd cc
+names_nobody w (steps.Fetch n) gone = absurd cc
+names_nobody w (steps.Sync n) gone = absurd cc
+names_nobody w (steps.Collect n) gone = absurd cc
+names_nobody w (steps.Recover part backup witness) gone = absurd cc
+names_nobody w (steps.Replace keeper part place) gone = absurd cc
+names_nobody w (steps.Migrate lo hi to) gone = absurd cc
+names_nobody w steps.Nudge gone = absurd cc
+names_nobody w (steps.Deliver number) gone = absurd cc
+names_nobody w (steps.Stop node) gone = absurd cc
 
 delivered : (w : World) (o : Option Message) (m : Message) (to : NodeId) → o ≡ Some m → m.to ≡ to
     → steps_by w (delivery o) (causes_of w (not (is_some o)) (subject (delivery o)) (delivery o)) ≡ steps_by w (delivery o) (goes w (delivery o) (barrier w to))
@@ -120,6 +135,13 @@ message_to w number to is = message_in w number to (numbered (messages w) number
 pub no_message : (xs : Option Message) → option_map (λ (m : Message). m.to) xs ≡ None → xs ≡ None
 no_message None is = refl
 no_message (Some m) is = absurd cc
+
+-- ---- what comes of a step, by its cause
+
+pub by_cause : {E : Type 0} (r : Result Outcome E) (w : World) (s : Step) (P : StepResult → Type 0) → (step w s).outcome.result ≡ result_of w s
+    → IfOk r (λ (o : Outcome). o ≡ (step w s).outcome) → P (result_of w s) → IfOk r (λ (o : Outcome). P o.result)
+by_cause (Ok o) w s P is same holds = subst P (sym (ap (λ (x : Outcome). x.result) same ∙ is)) holds
+by_cause (Err e) w s P is same holds = tt
 
 -- ---- what a barrier lets through
 

@@ -1,5 +1,5 @@
 -- One input to one node: a message, or an order.
-use Rattle.std.specs.Prelude.{◌≡◌, ℕ, nat_lt, ◌==◌, if◌then◌else◌, not, List, [], ◌∷◌, Option, Some, None, ⊤}
+use Rattle.std.specs.Prelude.{◌≡◌, ℕ, nat_lt, ◌==◌, if◌then◌else◌, Bool, false, not, List, [], ◌∷◌, Option, Some, None, ⊤}
 use Rattle.std.specs.Option.{option_map}
 use Rattle.curp_base.specs.Cases.{first_case, only_if}
 use Rattle.curp_base.specs.Words.{numbered}
@@ -58,6 +58,11 @@ order_of step.Nudge = Some (manager_node, local.Nudge)
 order_of (step.Expire n) = Some (manager_node, local.Expire n)
 order_of (step.Deliver number) = None
 order_of (step.Stop node) = None
+
+-- the step declares a client gone that isn't there
+abbrev pub expires_nobody : World → Step → Bool
+expires_nobody w (step.Expire n) = not (has_node w (client_node n))
+expires_nobody w s = false
 
 -- ---- what comes of it
 

@@ -6,7 +6,7 @@ use Rattle.curp_cmd.specs.declared.command.Request.{Request}
 use Rattle.curp_cmd.specs.declared.node.NodeId.{NodeId}
 use Rattle.curp_cmd.specs.declared.node.NodeKind.{NodeKind}
 use Rattle.curp_cmd.specs.declared.node.NodeKind.TheVariants as kind
-use Rattle.curp_model.specs.Manager.{Attempted, ManagerState, adoption}
+use Rattle.curp_model.specs.Manager.{Attempted, adoption}
 use Rattle.curp_model.specs.Marks as mark
 use Rattle.curp_model.specs.Marks.{Mark}
 use Rattle.curp_model.specs.Master.{Captured, MasterState}
@@ -61,7 +61,7 @@ pub record CapturesOne (before after : MasterState) : Type 0 where
 
 -- no more than so many entries and reads are new, and at most one read
 pub record IsFew (before after : MasterState) (most : ℕ) : Type 0 where
-  pub few : length after.log + (after.captured - before.captured) ≤ length before.log + most
+  pub few : (length after.log - length before.log) + (after.captured - before.captured) ≤ most
   pub captures : (after.captured ≡ before.captured) ⊎ CapturesOne before after
 
 -- the same of a master that served before: it serves still
@@ -152,7 +152,7 @@ IsLastNew captured m = (older : List Captured) × (capture : Captured) × (m.cap
 
 -- what a master has pushed and captured behind a length and a number has room
 pub record HasRoomBehind (former captured : ℕ) (m : MasterState) (spare : ℕ) : Type 0 where
-  pub room : length m.log + (m.captured - captured) ≤ former + spare
+  pub room : (length m.log - former) + (m.captured - captured) ≤ spare
   pub captures : (m.captured ≡ captured) ⊎ ((captured < m.captured) × IsLastNew captured m)
 
 -- what is due has room, and is sound

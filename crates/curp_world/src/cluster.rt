@@ -4,7 +4,7 @@ ghost use Rattle.curp_base.specs.Words.{all_of, numbered};
 ghost use Rattle.curp_facts.specs.Run.{IsHeader};
 ghost use Rattle.curp_model.specs.World as world;
 ghost use Rattle.curp_order.specs.Recorded.{invocation};
-ghost use Rattle.curp_world.specs.Given.{CanGet, barrier, hands, input_in, input_of};
+ghost use Rattle.curp_world.specs.Given.{CanGet, barrier, expires_nobody, hands, input_in, input_of};
 
 use crate::given::{Gift, Given};
 use crate::marks::{Due, flag};
@@ -90,19 +90,39 @@ impl Cluster {
         ensures outcome { IfOk result (λ outcome. outcome ≡ (world.step self.old step.now).outcome) }
         ensures err { OnErr result (self.new ≡ self.old) }
     {
-        match step {
-            Step::Deliver { message } => match self.addressee(*message) {
-                None => Ok(self.silent(StepResult::NoMessage)),
-                Some(to) => self.hand(to, &Gift::Message(*message)),
-            },
-            Step::Stop { node } => self.stop(*node),
-            Step::Expire { client } if !self.has_node(NodeId::client(*client)) => {
-                Ok(self.silent(StepResult::NoNode))
+        if let Some((to, order)) = order_of(step) {
+            if self.expires_nobody(step) {
+                return Ok(self.silent(StepResult::NoNode));
             }
-            _ => match order_of(step) {
-                Some((to, order)) => self.hand(to, &Gift::Order(order)),
-                None => unreachable!(),
-            },
+            return self.hand(to, &Gift::Order(order));
+        }
+        match step {
+            Step::Deliver { message } => self.deliver(*message),
+            Step::Stop { node } => self.stop(*node),
+            // Every other step is an order.
+            _ => unreachable!(),
+        }
+    }
+
+    // The message of that number comes to its addressee.
+    fn deliver(&mut self, message: u64) -> Result<Outcome, NoMemory>
+        ensures state { OnOk result (self.new ≡ (world.step self.old (Step.Deliver message)).world) }
+        ensures outcome { IfOk result (λ outcome. outcome ≡ (world.step self.old (Step.Deliver message)).outcome) }
+        ensures err { OnErr result (self.new ≡ self.old) }
+    {
+        match self.addressee(message) {
+            None => Ok(self.silent(StepResult::NoMessage)),
+            Some(to) => self.hand(to, &Gift::Message(message)),
+        }
+    }
+
+    // Whether the step declares a client gone that isn't there.
+    fn expires_nobody(&self, step: &Step) -> bool
+        ensures { result ≡ expires_nobody self.now step.now }
+    {
+        match step {
+            Step::Expire { client } => !self.has_node(NodeId::client(*client)),
+            _ => false,
         }
     }
 

@@ -32,14 +32,18 @@ pub(crate) fn most_fresh(keepers: u32, given: &Given) -> Counts
 {
     let (masters, backups, witnesses) = match given {
         Given::Order(Local::Recover { .. }) => (1, keepers, keepers),
-        Given::Order(Local::Replace {
-            keeper: Keeper::Backup,
-            ..
-        }) => (0, 1, 0),
-        Given::Order(Local::Replace {
-            keeper: Keeper::Witness,
-            ..
-        }) => (0, 0, 1),
+        Given::Order(
+            Local::Replace {
+                keeper: Keeper::Backup,
+                ..
+            },
+        ) => (0, 1, 0),
+        Given::Order(
+            Local::Replace {
+                keeper: Keeper::Witness,
+                ..
+            },
+        ) => (0, 0, 1),
         _ => (0, 0, 0),
     };
     Counts {
@@ -56,6 +60,7 @@ pub(crate) fn add_masters(alloc: Global, masters: &mut Vec<MasterNode>, next: u3
     requires room { next - 1 ≤ vec_capacity masters.old }
     ensures states { states masters.new.items ≡ grown (states masters.old.items) Fresh next }
     ensures numbers { HasNumbers masters.new.items }
+    ensures there { length masters.new.items + 1 ≡ next }
 {
     for number in masters.len() as u32 + 1..next {
         masters.push_reserved(MasterNode::fresh(alloc, number));
@@ -69,6 +74,7 @@ pub(crate) fn add_backups(alloc: Global, backups: &mut Vec<BackupNode>, next: u3
     requires room { next - 1 ≤ vec_capacity backups.old }
     ensures states { states backups.new.items ≡ grown (states backups.old.items) fresh_backup next }
     ensures numbers { HasNumbers backups.new.items }
+    ensures there { length backups.new.items + 1 ≡ next }
 {
     for number in backups.len() as u32 + 1..next {
         backups.push_reserved(BackupNode::fresh(alloc, number));

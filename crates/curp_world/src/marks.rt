@@ -1,7 +1,9 @@
 // The marks of what masters push and capture, and of what the manager adopts.
 ghost use Rattle.std.specs.Prelude.{◌≡◌, ◌+◌, ◌<◌, ◌≤◌, ◌^◌, ◌++◌, [], ◌∷◌, List, None, Some, if◌then◌else◌, length, IfOk};
+ghost use Rattle.std.specs.List.{list_any};
 ghost use Rattle.curp_base.specs.Words.{numbered};
-ghost use Rattle.curp_model.specs.Manager.{ManagerState, adopted_by};
+ghost use Rattle.curp_cmd.specs.Node.{same_node};
+ghost use Rattle.curp_model.specs.Manager.{adopted_by};
 ghost use Rattle.curp_model.specs.Master.{Captured};
 ghost use Rattle.curp_model.specs.Recovery.{Serving};
 ghost use Rattle.curp_model.specs.World.{capture_mark, is_adopted, op_marks, op_requests, with_completion};
@@ -171,7 +173,7 @@ fn most_by_message(body: &Body) -> u64
 
 // Whether the master stands in the adopted configuration.
 fn is_adopted(config: &Config, master: NodeId) -> bool
-    ensures { (g : ManagerState) → g.config ≡ config.now → result ≡ is_adopted g master }
+    ensures { result ≡ list_any (λ part. same_node part.master master) config.now.parts }
 {
     config
         .parts

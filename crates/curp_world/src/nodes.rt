@@ -145,11 +145,22 @@ impl Nodes {
         // No number comes past the last one.
         let count = most.witnesses.min(u32::MAX - self.manager.next_witness());
         let there = &self.witnesses;
-        make_ahead(self.alloc, &mut self.ahead, there, count, self.sets, self.ways)?;
+        make_ahead(
+            self.alloc,
+            &mut self.ahead,
+            there,
+            count,
+            self.sets,
+            self.ways,
+        )?;
         let done = give_one(&mut self.manager, given)?;
         add_masters(self.alloc, &mut self.masters, self.manager.next_master());
         add_backups(self.alloc, &mut self.backups, self.manager.next_backup());
-        take_up(&mut self.witnesses, &mut self.ahead, self.manager.next_witness());
+        take_up(
+            &mut self.witnesses,
+            &mut self.ahead,
+            self.manager.next_witness(),
+        );
         Ok(done)
     }
 

@@ -26,7 +26,7 @@ use std::marker::Model;
 /// Why no world begins.
 #[derive(Clone, Copy, Debug, PartialEq, Eq)]
 pub enum BeginError {
-    /// The header's value of that name is out of its range or isn't built yet. It is the first such name, in byte
+    /// The header's value of that name is out of its range. It is the first such name, in byte
     /// order.
     BadHeader { field: FieldName },
     /// There was no memory for it.
@@ -68,9 +68,9 @@ impl World {
         }
     }
 
-    /// Makes a step. Where it can't be made the outcome tells why: the first cause that
-    /// holds, in the order of these clauses. No node gets anything once all messages weigh more than 2,000,000. What is
-    /// completed stands after it in the order as before.
+    /// Makes a step. Where it can't be made the outcome tells why: the first cause that holds, in the order of these
+    /// clauses. No node gets anything once all messages weigh more than 2,000,000. What is completed stands in the order
+    /// after it as before.
     pub fn step(&mut self, step: &Step) -> Result<Outcome, NoMemory>
         ensures state { OnOk result (self.new ≡ (world.step self.old step.now).world) }
         ensures outcome { IfOk result (λ outcome. outcome ≡ (world.step self.old step.now).outcome) }
@@ -109,6 +109,8 @@ impl World {
         ensures { Kept self.now }
     {
         laws::kept_stands();
+        // For what the world's type keeps.
+        let _history = self.cluster.history();
     }
 
     /// What all messages weigh that were ever sent. A message weighs 1, and 1 more for each entry that it carries, each

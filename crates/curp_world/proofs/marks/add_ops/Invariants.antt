@@ -7,4 +7,5 @@ abbrev pub invariant-loop-at : goal.invariant-loop-at
 invariant-loop-at l = record {
   marks : l.marks.marks ++ op_marks l.node l.part l.epoch (l.index + l.at) (drop l.at l.entries) ≡ l.fn.marks.marks ++ op_marks l.node l.part l.epoch l.index l.entries;
   room : length (drop l.at l.entries) ≤ l.marks.spare;
+  spare : l.fn.marks.spare + length (drop l.at l.entries) ≤ l.marks.spare + length l.entries;
 }

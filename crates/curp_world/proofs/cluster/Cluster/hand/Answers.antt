@@ -7,19 +7,19 @@ use Rattle.curp_msg.specs.declared.outcome.StepResult.TheVariants.{Done, Refused
 use Rattle.curp_order.specs.Recorded.{invocation}
 use Rattle.curp_order.specs.declared.Event.{Event}
 use Rattle.curp_world.specs.Given.{input_in, input_of}
-use Rattle.curp_world.specs.Marks.{DueMarks, HasRoomFor, IsSound, marks_by, master_at, most_due, most_marks}
+use Rattle.curp_world.specs.Marks.{DueMarks, HasRoomFor, IsSound, due_marks, marks_by, told_due, master_at, most_due, most_marks}
 use Rattle.curp_world.specs.Nodes.{seen}
 use Rattle.curp_world.proofs.Keeping.{hands_done, hands_refused, in_any_case, seen_same}
 use Rattle.curp_world.proofs.Marking.{has_room}
 use Rattle.curp_world.proofs.Stepping.{passed}
 use Rattle.curp_world.proofs.cluster.Cluster.hand.Goals as goal
 
-pub give-requires-clause-there : goal.give-requires-clause-there
-give-requires-clause-there c =
-    let i = c.self.inside in (
-      seen i.nodes i.stopped i.sent.lists i.history.events i.marks.marks,
-      subst (λ (w : World). has_node w c.args.to ≡ true) (sym c.self.view_is) (passed c.args.self.now c.args.to (sym c.in_default.ensures)),
-    )
+pub give-requires : goal.give-requires
+give-requires c =
+    let i = c.self.inside in
+    let was : World = seen i.nodes i.stopped i.sent.lists i.history.events i.marks.marks in
+    let there = subst (λ (w : World). has_node w c.args.to ≡ true) (sym c.self.view_is) (passed c.args.self.now c.args.to (sym c.in_default.ensures)) in
+    record { there = (was, there) }
 
 -- what was due has room
 pub mark-requires : goal.mark-requires
@@ -30,7 +30,7 @@ mark-requires c =
     let due = c.in_ok-due.ensures.value in
     let spare = c.reserve-3.new.self.spare in
     let after = c.give.new.self.masters in
-    let room : most_due _ (most_marks given) ≤ spare = omega (arith, c.most.ensures, c.in_ok-reserve-3.ensures.room) in
+    let room : most_due (told_due c.in_ok-due.due) (most_marks given) ≤ spare = omega (arith, c.most.ensures, c.in_ok-reserve-3.ensures.room) in
     subst (λ (d : DueMarks). HasRoomFor d (numbered after to.number) spare) (sym due)
     (has_room i.nodes after to.kind to.number given spare c.in_ok-done.ensures.few
     (subst (λ (d : DueMarks). IsSound d (master_at to.kind to.number i.nodes.masters)) due c.in_ok-due.ensures.sound)
@@ -51,7 +51,7 @@ returns-clause-state c =
     record { result = Done; first = length (all_of lists) + 1; sent = length done.sent; completed = done.completed }) c.reserve.ensures.lists in
     let adds = c.mark.ensures
     ∙ ap (λ (d : DueMarks). marks_by d c.args.to c.give.new.self.masters c.reserve-3.new.self.marks) c.in_ok-due.ensures.value
-    ∙ ap (marks_by _ c.args.to c.give.new.self.masters) c.reserve-3.ensures.marks in
+    ∙ ap (λ (marks : List Mark). marks_by (due_marks i.nodes c.args.to (input_of c.given_of-given.result)) c.args.to c.give.new.self.masters marks) c.reserve-3.ensures.marks in
     (hands_done i.nodes c.give.new.self i.stopped sent c.keep.new.sent.lists i.history.events c.keep.new.history.events
     i.marks.marks c.mark.new.marks.marks c.flag.new.marks.marks c.args.self.now
     c.args.to c.args.gift.now (input_of c.given_of-given.result) done event c.keep.result
@@ -73,7 +73,7 @@ returns-clause-outcome c =
     record { result = Done; first = length (all_of lists) + 1; sent = length done.sent; completed = done.completed }) c.reserve.ensures.lists in
     let adds = c.mark.ensures
     ∙ ap (λ (d : DueMarks). marks_by d c.args.to c.give.new.self.masters c.reserve-3.new.self.marks) c.in_ok-due.ensures.value
-    ∙ ap (marks_by _ c.args.to c.give.new.self.masters) c.reserve-3.ensures.marks in
+    ∙ ap (λ (marks : List Mark). marks_by (due_marks i.nodes c.args.to (input_of c.given_of-given.result)) c.args.to c.give.new.self.masters marks) c.reserve-3.ensures.marks in
     (hands_done i.nodes c.give.new.self i.stopped sent c.keep.new.sent.lists i.history.events c.keep.new.history.events
     i.marks.marks c.mark.new.marks.marks c.flag.new.marks.marks c.args.self.now
     c.args.to c.args.gift.now (input_of c.given_of-given.result) done event c.keep.result

@@ -1,6 +1,5 @@
-use Rattle.std.proofs.Common.{◌≡◌, ◌≢◌, ◌≤◌, ◌-◌, List, length, refl, arith, ap, sym, ◌∙◌, subst}
+use Rattle.std.proofs.Common.{◌≢◌, ◌≤◌, ◌-◌, List, length, refl, ap, sym, ◌∙◌, subst}
 use Rattle.std.specs.Vec.{with_items}
-use Rattle.curp_cmd.specs.declared.node.NodeKind.{NodeKind}
 use Rattle.curp_cmd.specs.declared.node.NodeKind.TheVariants.{Client, Master, Backup, Witness, Manager}
 use Rattle.curp_inv.specs.Machines.{backup_machine, client_machine, master_machine, witness_machine}
 use Rattle.curp_model.specs.Backup.{BackupState}
@@ -52,67 +51,67 @@ returns-in-Client-clause-few c =
 -- ---- a master
 
 pub give-requires-in-Master-clause-low : goal.give-requires-in-Master-clause-low
-give-requires-in-Master-clause-low c = (in_range (λ (x : Node MasterStage). x.state) c.self.inside.masters.items c.args.to.number (is_here _ _ _ Master c.self.view_is c.in-Master.is c.requires.there).1).0
+give-requires-in-Master-clause-low c = (in_range (λ (x : Node MasterStage). x.state) c.self-in-Master.inside.masters.items c.args.to.number (is_here _ _ _ Master c.self-in-Master.view_is c.in-Master.is c.requires.there).1).0
 
 pub give-requires-in-Master-clause-high : goal.give-requires-in-Master-clause-high
 give-requires-in-Master-clause-high c =
     subst (λ (list : List (Node MasterStage)). c.args.to.number ≤ length list) (sym c.deref_mut-in-Master.ensures.value)
-    (in_range (λ (x : Node MasterStage). x.state) c.self.inside.masters.items c.args.to.number (is_here _ _ _ Master c.self.view_is c.in-Master.is c.requires.there).1).1
+    (in_range (λ (x : Node MasterStage). x.state) c.self-in-Master.inside.masters.items c.args.to.number (is_here _ _ _ Master c.self-in-Master.view_is c.in-Master.is c.requires.there).1).1
 
 pub invariant_of-self-in-Master : goal.invariant_of-self-in-Master
 invariant_of-self-in-Master c =
-    let low = (in_range (λ (x : Node MasterStage). x.state) c.self.inside.masters.items c.args.to.number (is_here _ _ _ Master c.self.view_is c.in-Master.is c.requires.there).1).0 in
-    let made = vec_moves c.self.inside.masters c.deref_mut-in-Master.result.now c.give-in-Master.new.nodes (c.args.to.number - 1) c.give-in-Master.result
+    let low = (in_range (λ (x : Node MasterStage). x.state) c.self-in-Master.inside.masters.items c.args.to.number (is_here _ _ _ Master c.self-in-Master.view_is c.in-Master.is c.requires.there).1).0 in
+    let made = vec_moves c.self-in-Master.inside.masters c.deref_mut-in-Master.result.now c.give-in-Master.new.nodes (c.args.to.number - 1) c.give-in-Master.result
     (λ node. master_machine node (input_of c.args.given.now)) c.deref_mut-in-Master.ensures.value (c.give-in-Master.auto.nodes ∙ c.deref_mut-in-Master.ensures.len) c.give-in-Master.ensures.moves in
-    let after = (with_items c.self.inside.masters c.give-in-Master.new.nodes).items in
-    master_keeps _ c.self.inside.clients.items c.self.inside.masters.items c.self.inside.backups.items c.self.inside.witnesses.items c.self.inside.ahead.items
-    c.self.inside.sets c.self.inside.ways c.self.invariant (input_of c.args.given.now) c.args.to.number c.give-in-Master.result low after made
+    let after = (with_items c.self-in-Master.inside.masters c.give-in-Master.new.nodes).items in
+    master_keeps _ c.self-in-Master.inside.clients.items c.self-in-Master.inside.masters.items c.self-in-Master.inside.backups.items c.self-in-Master.inside.witnesses.items c.self-in-Master.inside.ahead.items
+    c.self-in-Master.inside.sets c.self-in-Master.inside.ways c.self-in-Master.invariant (input_of c.args.given.now) c.args.to.number c.give-in-Master.result low after made
 
 pub returns-in-Master-clause-moves : goal.returns-in-Master-clause-moves
 returns-in-Master-clause-moves c = λ w.
-    let low = (in_range (λ (x : Node MasterStage). x.state) c.self.inside.masters.items c.args.to.number (is_here _ _ _ Master c.self.view_is c.in-Master.is c.requires.there).1).0 in
-    let made = vec_moves c.self.inside.masters c.deref_mut-in-Master.result.now c.give-in-Master.new.nodes (c.args.to.number - 1) c.give-in-Master.result
+    let low = (in_range (λ (x : Node MasterStage). x.state) c.self-in-Master.inside.masters.items c.args.to.number (is_here _ _ _ Master c.self-in-Master.view_is c.in-Master.is c.requires.there).1).0 in
+    let made = vec_moves c.self-in-Master.inside.masters c.deref_mut-in-Master.result.now c.give-in-Master.new.nodes (c.args.to.number - 1) c.give-in-Master.result
     (λ node. master_machine node (input_of c.args.given.now)) c.deref_mut-in-Master.ensures.value (c.give-in-Master.auto.nodes ∙ c.deref_mut-in-Master.ensures.len) c.give-in-Master.ensures.moves in
-    let after = (with_items c.self.inside.masters c.give-in-Master.new.nodes).items in
-    seen_moves _ _ _ c.args.to Master (input_of c.args.given.now) c.give-in-Master.result w c.self.view_is c.in-Master.is
-    (masters_give (input_of c.args.given.now) c.self.inside.masters.items after c.args.to.number c.give-in-Master.result c.self.invariant.masters_are low made w (the_view c.self.inside))
+    let after = (with_items c.self-in-Master.inside.masters c.give-in-Master.new.nodes).items in
+    seen_moves _ _ _ c.args.to Master (input_of c.args.given.now) c.give-in-Master.result w c.self-in-Master.view_is c.in-Master.is
+    (masters_give (input_of c.args.given.now) c.self-in-Master.inside.masters.items after c.args.to.number c.give-in-Master.result c.self-in-Master.invariant.masters_are low made w (the_view c.self-in-Master.inside))
 
 pub returns-in-Master-clause-few : goal.returns-in-Master-clause-few
 returns-in-Master-clause-few c =
-    let low = (in_range (λ (x : Node MasterStage). x.state) c.self.inside.masters.items c.args.to.number (is_here _ _ _ Master c.self.view_is c.in-Master.is c.requires.there).1).0 in
-    let made = vec_moves c.self.inside.masters c.deref_mut-in-Master.result.now c.give-in-Master.new.nodes (c.args.to.number - 1) c.give-in-Master.result
+    let low = (in_range (λ (x : Node MasterStage). x.state) c.self-in-Master.inside.masters.items c.args.to.number (is_here _ _ _ Master c.self-in-Master.view_is c.in-Master.is c.requires.there).1).0 in
+    let made = vec_moves c.self-in-Master.inside.masters c.deref_mut-in-Master.result.now c.give-in-Master.new.nodes (c.args.to.number - 1) c.give-in-Master.result
     (λ node. master_machine node (input_of c.args.given.now)) c.deref_mut-in-Master.ensures.value (c.give-in-Master.auto.nodes ∙ c.deref_mut-in-Master.ensures.len) c.give-in-Master.ensures.moves in
-    let after = (with_items c.self.inside.masters c.give-in-Master.new.nodes).items in
-    seen_few _ _ _ c.args.to Master _ (ap (λ (n : NodeStates). n.masters) c.self.view_is) c.in-Master.is
-    (masters_few (input_of c.args.given.now) c.self.inside.masters.items after c.args.to.number c.give-in-Master.result c.self.invariant.masters_are low made)
+    let after = (with_items c.self-in-Master.inside.masters c.give-in-Master.new.nodes).items in
+    seen_few _ _ _ c.args.to Master _ (ap (λ (n : NodeStates). n.masters) c.self-in-Master.view_is) c.in-Master.is
+    (masters_few (input_of c.args.given.now) c.self-in-Master.inside.masters.items after c.args.to.number c.give-in-Master.result c.self-in-Master.invariant.masters_are low made)
 
 -- ---- a backup
 
 pub give-requires-in-Backup-clause-low : goal.give-requires-in-Backup-clause-low
-give-requires-in-Backup-clause-low c = (in_range (λ (x : Node BackupState). x.state) c.self.inside.backups.items c.args.to.number (is_here _ _ _ Backup c.self.view_is c.in-Backup.is c.requires.there).1).0
+give-requires-in-Backup-clause-low c = (in_range (λ (x : Node BackupState). x.state) c.self-in-Backup.inside.backups.items c.args.to.number (is_here _ _ _ Backup c.self-in-Backup.view_is c.in-Backup.is c.requires.there).1).0
 
 pub give-requires-in-Backup-clause-high : goal.give-requires-in-Backup-clause-high
 give-requires-in-Backup-clause-high c =
     subst (λ (list : List (Node BackupState)). c.args.to.number ≤ length list) (sym c.deref_mut-in-Backup.ensures.value)
-    (in_range (λ (x : Node BackupState). x.state) c.self.inside.backups.items c.args.to.number (is_here _ _ _ Backup c.self.view_is c.in-Backup.is c.requires.there).1).1
+    (in_range (λ (x : Node BackupState). x.state) c.self-in-Backup.inside.backups.items c.args.to.number (is_here _ _ _ Backup c.self-in-Backup.view_is c.in-Backup.is c.requires.there).1).1
 
 pub invariant_of-self-in-Backup : goal.invariant_of-self-in-Backup
 invariant_of-self-in-Backup c =
-    let low = (in_range (λ (x : Node BackupState). x.state) c.self.inside.backups.items c.args.to.number (is_here _ _ _ Backup c.self.view_is c.in-Backup.is c.requires.there).1).0 in
-    let made = vec_moves c.self.inside.backups c.deref_mut-in-Backup.result.now c.give-in-Backup.new.nodes (c.args.to.number - 1) c.give-in-Backup.result
+    let low = (in_range (λ (x : Node BackupState). x.state) c.self-in-Backup.inside.backups.items c.args.to.number (is_here _ _ _ Backup c.self-in-Backup.view_is c.in-Backup.is c.requires.there).1).0 in
+    let made = vec_moves c.self-in-Backup.inside.backups c.deref_mut-in-Backup.result.now c.give-in-Backup.new.nodes (c.args.to.number - 1) c.give-in-Backup.result
     (λ node. backup_machine node (input_of c.args.given.now)) c.deref_mut-in-Backup.ensures.value (c.give-in-Backup.auto.nodes ∙ c.deref_mut-in-Backup.ensures.len) c.give-in-Backup.ensures.moves in
-    let after = (with_items c.self.inside.backups c.give-in-Backup.new.nodes).items in
-    backup_keeps _ c.self.inside.clients.items c.self.inside.masters.items c.self.inside.backups.items c.self.inside.witnesses.items c.self.inside.ahead.items
-    c.self.inside.sets c.self.inside.ways c.self.invariant (input_of c.args.given.now) c.args.to.number c.give-in-Backup.result low after made
+    let after = (with_items c.self-in-Backup.inside.backups c.give-in-Backup.new.nodes).items in
+    backup_keeps _ c.self-in-Backup.inside.clients.items c.self-in-Backup.inside.masters.items c.self-in-Backup.inside.backups.items c.self-in-Backup.inside.witnesses.items c.self-in-Backup.inside.ahead.items
+    c.self-in-Backup.inside.sets c.self-in-Backup.inside.ways c.self-in-Backup.invariant (input_of c.args.given.now) c.args.to.number c.give-in-Backup.result low after made
 
 pub returns-in-Backup-clause-moves : goal.returns-in-Backup-clause-moves
 returns-in-Backup-clause-moves c = λ w.
-    let low = (in_range (λ (x : Node BackupState). x.state) c.self.inside.backups.items c.args.to.number (is_here _ _ _ Backup c.self.view_is c.in-Backup.is c.requires.there).1).0 in
-    let made = vec_moves c.self.inside.backups c.deref_mut-in-Backup.result.now c.give-in-Backup.new.nodes (c.args.to.number - 1) c.give-in-Backup.result
+    let low = (in_range (λ (x : Node BackupState). x.state) c.self-in-Backup.inside.backups.items c.args.to.number (is_here _ _ _ Backup c.self-in-Backup.view_is c.in-Backup.is c.requires.there).1).0 in
+    let made = vec_moves c.self-in-Backup.inside.backups c.deref_mut-in-Backup.result.now c.give-in-Backup.new.nodes (c.args.to.number - 1) c.give-in-Backup.result
     (λ node. backup_machine node (input_of c.args.given.now)) c.deref_mut-in-Backup.ensures.value (c.give-in-Backup.auto.nodes ∙ c.deref_mut-in-Backup.ensures.len) c.give-in-Backup.ensures.moves in
-    let after = (with_items c.self.inside.backups c.give-in-Backup.new.nodes).items in
-    seen_moves _ _ _ c.args.to Backup (input_of c.args.given.now) c.give-in-Backup.result w c.self.view_is c.in-Backup.is
-    (backups_give (input_of c.args.given.now) c.self.inside.backups.items after c.args.to.number c.give-in-Backup.result c.self.invariant.backups_are low made w (the_view c.self.inside))
+    let after = (with_items c.self-in-Backup.inside.backups c.give-in-Backup.new.nodes).items in
+    seen_moves _ _ _ c.args.to Backup (input_of c.args.given.now) c.give-in-Backup.result w c.self-in-Backup.view_is c.in-Backup.is
+    (backups_give (input_of c.args.given.now) c.self-in-Backup.inside.backups.items after c.args.to.number c.give-in-Backup.result c.self-in-Backup.invariant.backups_are low made w (the_view c.self-in-Backup.inside))
 
 pub returns-in-Backup-clause-few : goal.returns-in-Backup-clause-few
 returns-in-Backup-clause-few c =
@@ -122,30 +121,30 @@ returns-in-Backup-clause-few c =
 -- ---- a witness
 
 pub give-requires-in-Witness-clause-low : goal.give-requires-in-Witness-clause-low
-give-requires-in-Witness-clause-low c = (in_range (λ (x : Node WitnessState). x.state) c.self.inside.witnesses.items c.args.to.number (is_here _ _ _ Witness c.self.view_is c.in-Witness.is c.requires.there).1).0
+give-requires-in-Witness-clause-low c = (in_range (λ (x : Node WitnessState). x.state) c.self-in-Witness.inside.witnesses.items c.args.to.number (is_here _ _ _ Witness c.self-in-Witness.view_is c.in-Witness.is c.requires.there).1).0
 
 pub give-requires-in-Witness-clause-high : goal.give-requires-in-Witness-clause-high
 give-requires-in-Witness-clause-high c =
     subst (λ (list : List (Node WitnessState)). c.args.to.number ≤ length list) (sym c.deref_mut-in-Witness.ensures.value)
-    (in_range (λ (x : Node WitnessState). x.state) c.self.inside.witnesses.items c.args.to.number (is_here _ _ _ Witness c.self.view_is c.in-Witness.is c.requires.there).1).1
+    (in_range (λ (x : Node WitnessState). x.state) c.self-in-Witness.inside.witnesses.items c.args.to.number (is_here _ _ _ Witness c.self-in-Witness.view_is c.in-Witness.is c.requires.there).1).1
 
 pub invariant_of-self-in-Witness : goal.invariant_of-self-in-Witness
 invariant_of-self-in-Witness c =
-    let low = (in_range (λ (x : Node WitnessState). x.state) c.self.inside.witnesses.items c.args.to.number (is_here _ _ _ Witness c.self.view_is c.in-Witness.is c.requires.there).1).0 in
-    let made = vec_moves c.self.inside.witnesses c.deref_mut-in-Witness.result.now c.give-in-Witness.new.nodes (c.args.to.number - 1) c.give-in-Witness.result
+    let low = (in_range (λ (x : Node WitnessState). x.state) c.self-in-Witness.inside.witnesses.items c.args.to.number (is_here _ _ _ Witness c.self-in-Witness.view_is c.in-Witness.is c.requires.there).1).0 in
+    let made = vec_moves c.self-in-Witness.inside.witnesses c.deref_mut-in-Witness.result.now c.give-in-Witness.new.nodes (c.args.to.number - 1) c.give-in-Witness.result
     (λ node. witness_machine node (input_of c.args.given.now)) c.deref_mut-in-Witness.ensures.value (c.give-in-Witness.auto.nodes ∙ c.deref_mut-in-Witness.ensures.len) c.give-in-Witness.ensures.moves in
-    let after = (with_items c.self.inside.witnesses c.give-in-Witness.new.nodes).items in
-    witness_keeps _ c.self.inside.clients.items c.self.inside.masters.items c.self.inside.backups.items c.self.inside.witnesses.items c.self.inside.ahead.items
-    c.self.inside.sets c.self.inside.ways c.self.invariant (input_of c.args.given.now) c.args.to.number c.give-in-Witness.result low after made
+    let after = (with_items c.self-in-Witness.inside.witnesses c.give-in-Witness.new.nodes).items in
+    witness_keeps _ c.self-in-Witness.inside.clients.items c.self-in-Witness.inside.masters.items c.self-in-Witness.inside.backups.items c.self-in-Witness.inside.witnesses.items c.self-in-Witness.inside.ahead.items
+    c.self-in-Witness.inside.sets c.self-in-Witness.inside.ways c.self-in-Witness.invariant (input_of c.args.given.now) c.args.to.number c.give-in-Witness.result low after made
 
 pub returns-in-Witness-clause-moves : goal.returns-in-Witness-clause-moves
 returns-in-Witness-clause-moves c = λ w.
-    let low = (in_range (λ (x : Node WitnessState). x.state) c.self.inside.witnesses.items c.args.to.number (is_here _ _ _ Witness c.self.view_is c.in-Witness.is c.requires.there).1).0 in
-    let made = vec_moves c.self.inside.witnesses c.deref_mut-in-Witness.result.now c.give-in-Witness.new.nodes (c.args.to.number - 1) c.give-in-Witness.result
+    let low = (in_range (λ (x : Node WitnessState). x.state) c.self-in-Witness.inside.witnesses.items c.args.to.number (is_here _ _ _ Witness c.self-in-Witness.view_is c.in-Witness.is c.requires.there).1).0 in
+    let made = vec_moves c.self-in-Witness.inside.witnesses c.deref_mut-in-Witness.result.now c.give-in-Witness.new.nodes (c.args.to.number - 1) c.give-in-Witness.result
     (λ node. witness_machine node (input_of c.args.given.now)) c.deref_mut-in-Witness.ensures.value (c.give-in-Witness.auto.nodes ∙ c.deref_mut-in-Witness.ensures.len) c.give-in-Witness.ensures.moves in
-    let after = (with_items c.self.inside.witnesses c.give-in-Witness.new.nodes).items in
-    seen_moves _ _ _ c.args.to Witness (input_of c.args.given.now) c.give-in-Witness.result w c.self.view_is c.in-Witness.is
-    (witnesses_give (input_of c.args.given.now) c.self.inside.witnesses.items after c.args.to.number c.give-in-Witness.result (ahead_numbers c.self.inside.witnesses.items c.self.inside.ahead.items c.self.inside.sets c.self.inside.ways c.self.invariant.witnesses_are) low made w (the_view c.self.inside))
+    let after = (with_items c.self-in-Witness.inside.witnesses c.give-in-Witness.new.nodes).items in
+    seen_moves _ _ _ c.args.to Witness (input_of c.args.given.now) c.give-in-Witness.result w c.self-in-Witness.view_is c.in-Witness.is
+    (witnesses_give (input_of c.args.given.now) c.self-in-Witness.inside.witnesses.items after c.args.to.number c.give-in-Witness.result (ahead_numbers c.self-in-Witness.inside.witnesses.items c.self-in-Witness.inside.ahead.items c.self-in-Witness.inside.sets c.self-in-Witness.inside.ways c.self-in-Witness.invariant.witnesses_are) low made w (the_view c.self-in-Witness.inside))
 
 pub returns-in-Witness-clause-few : goal.returns-in-Witness-clause-few
 returns-in-Witness-clause-few c =

@@ -1,4 +1,14 @@
+use Rattle.std.proofs.Common.{◌≡◌, ◌≢◌, ◌↔◌, ℕ, true, subst, IfOk}
+use Rattle.curp_law_line.specs.Line.{StandsIn}
+use Rattle.curp_law_linear.specs.Grows.{completed_in_order}
+use Rattle.curp_model.specs.Causes.{IsLight, IsRunning, IsThere, SparesManager}
+use Rattle.curp_model.specs.World as world
+use Rattle.curp_model.specs.World.{World}
+use Rattle.curp_msg.specs.declared.outcome.Outcome.{Outcome}
+use Rattle.curp_msg.specs.declared.outcome.StepResult.{StepResult}
+use Rattle.curp_msg.specs.declared.outcome.StepResult.TheVariants.{Full, Gone, Manager, Refused}
 use Rattle.curp_world.proofs.Runs.{grows_after, reached_after}
+use Rattle.curp_world.proofs.Stepping.{by_cause}
 use Rattle.curp_world.proofs.world.World.step.Goals as goal
 
 pub invariant_of-self : goal.invariant_of-self
@@ -7,5 +17,42 @@ invariant_of-self c =
 
 pub returns-clause-grows : goal.returns-clause-grows
 returns-clause-grows c =
-    grows_after c.step.result c.self.inside.cluster c.step.new.self c.args.step.now c.names_its_keys.ensures c.self.invariant c.order_grows.ensures.grows
-    c.step.ensures.state c.step.ensures.err
+    subst (λ (w : World). StandsIn (completed_in_order w) (completed_in_order c.step.new.self)) c.self.view_is
+    (grows_after c.step.result c.self.inside.cluster c.step.new.self c.args.step.now c.names_its_keys.ensures c.self.invariant c.order_grows.ensures.grows
+    c.step.ensures.state c.step.ensures.err)
+
+pub returns-clause-manager : goal.returns-clause-manager
+returns-clause-manager c =
+    let w = c.self.inside.cluster in
+    let s = c.args.step.now in
+    let law = c.results_have_causes.ensures in
+    subst (λ (w : World). IfOk c.step.result (λ (o : Outcome). (o.result ≡ Manager) ↔ (IsThere w s × (world.stops_manager s ≡ true)))) c.self.view_is
+    (by_cause c.step.result w s (λ (x : StepResult). (x ≡ Manager) ↔ (IsThere w s × (world.stops_manager s ≡ true))) (law.result w s) c.step.ensures.outcome (law.manager w s))
+
+pub returns-clause-gone : goal.returns-clause-gone
+returns-clause-gone c =
+    let w = c.self.inside.cluster in
+    let s = c.args.step.now in
+    let law = c.results_have_causes.ensures in
+    subst (λ (w : World). IfOk c.step.result (λ (o : Outcome). (o.result ≡ Gone) ↔ (SparesManager w s × (world.names_stopped w s ≡ true)))) c.self.view_is
+    (by_cause c.step.result w s (λ (x : StepResult). (x ≡ Gone) ↔ (SparesManager w s × (world.names_stopped w s ≡ true))) (law.result w s) c.step.ensures.outcome (law.gone w s))
+
+pub returns-clause-full : goal.returns-clause-full
+returns-clause-full c =
+    let w = c.self.inside.cluster in
+    let s = c.args.step.now in
+    let law = c.results_have_causes.ensures in
+    subst (λ (w : World). IfOk c.step.result (λ (o : Outcome). (much : ℕ) → (o.result ≡ Full much)
+    ↔ (IsRunning w s × (world.is_too_much w (world.deed_of w s) ≡ true) × (much ≡ world.weight w)))) c.self.view_is
+    (by_cause c.step.result w s (λ (x : StepResult). (much : ℕ) → (x ≡ Full much)
+    ↔ (IsRunning w s × (world.is_too_much w (world.deed_of w s) ≡ true) × (much ≡ world.weight w))) (law.result w s) c.step.ensures.outcome (law.full w s))
+
+pub returns-clause-refused : goal.returns-clause-refused
+returns-clause-refused c =
+    let w = c.self.inside.cluster in
+    let s = c.args.step.now in
+    let law = c.results_have_causes.ensures in
+    subst (λ (w : World). IfOk c.step.result (λ (o : Outcome). (number : ℕ) → (o.result ≡ Refused number)
+    ↔ (IsLight w s × (world.refusal w s ≢ 0) × (number ≡ world.refusal w s)))) c.self.view_is
+    (by_cause c.step.result w s (λ (x : StepResult). (number : ℕ) → (x ≡ Refused number)
+    ↔ (IsLight w s × (world.refusal w s ≢ 0) × (number ≡ world.refusal w s))) (law.result w s) c.step.ensures.outcome (law.refused w s))
