@@ -1,6 +1,7 @@
 -- What is kept of clients, as the definition has it: two lists out of one.
-use Rattle.std.specs.Prelude.{ℕ, nat_lt, Bool, true, false, List, map}
+use Rattle.std.specs.Prelude.{ℕ, nat_lt, Bool, true, false, List, [], map}
 use Rattle.std.specs.List.{filter}
+use Rattle.curp_model.specs.Table.{Table}
 use Rattle.curp_rifl.specs.declared.clients.ClientMark.{ClientMark}
 use Rattle.curp_rifl.specs.declared.clients.Presence.{Presence}
 use Rattle.curp_rifl.specs.declared.clients.Presence.TheVariants.{Present, Gone}
@@ -25,3 +26,7 @@ firsts_of clients = map (λ (e : Client). (e.0, e.1.first)) (filter (λ (e : Cli
 -- the clients that are gone
 abbrev pub gone_of : List Client → List ℕ
 gone_of clients = map (λ (e : Client). e.0) (filter (λ (e : Client). has_left e.1.presence) clients)
+
+-- the table of these clients, without records
+abbrev pub clients_alone : List Client → Table
+clients_alone clients = record { records = []; firsts = firsts_of clients; gone = gone_of clients }

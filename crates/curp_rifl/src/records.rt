@@ -1,12 +1,12 @@
 //! The records of requests that are done, in ascending order of the ids, so that those of a client stand together.
-ghost use Rattle.std.specs.Prelude.{◌≡◌, ◌+◌, ◌==◌, ◌≤◌, true, false, not, [], length, map, IfOk, vec_len, vec_capacity};
+ghost use Rattle.std.specs.Prelude.{◌≡◌, ◌+◌, ◌==◌, ◌≤◌, true, false, not, length, map, IfOk, vec_len, vec_capacity};
 ghost use Rattle.std.specs.List.{filter};
 ghost use Rattle.std.specs.List.Sorted.{IsPartitionPoint};
 ghost use Rattle.std.specs.Ordering.{nat_cmp};
 ghost use Rattle.curp_base.specs.Words.{KeysAscend};
 ghost use Rattle.curp_cmd.specs.RequestId.{id_cmp};
 ghost use Rattle.curp_model.specs.Table.{is_below, is_of_use};
-ghost use Rattle.curp_rifl.specs.Clients.{firsts_of, gone_of};
+ghost use Rattle.curp_rifl.specs.Clients.{clients_alone};
 ghost use Rattle.curp_rifl.specs.Records.{is_before, is_up_to, is_before_first, with_records};
 
 use crate::ascending::{drop_run, put_once};
@@ -89,7 +89,7 @@ pub fn add_records(records: &mut Vec<(RequestId, Kept)>, added: &[(RequestId, An
 /// Whether a record of that id is of use: its client isn't gone, and hasn't acknowledged it.
 fn is_of_use(clients: &[(u32, ClientMark)], id: &RequestId) -> bool
     requires { KeysAscend nat_cmp clients.now }
-    ensures { result ≡ is_of_use (record { records = []; firsts = firsts_of clients.now; gone = gone_of clients.now }) id.now }
+    ensures { result ≡ is_of_use (clients_alone clients.now) id.now }
 {
     let mark = mark_of(clients, id.client);
     !mark.is_gone() && mark.first <= id.seq
@@ -99,9 +99,7 @@ fn is_of_use(clients: &[(u32, ClientMark)], id: &RequestId) -> bool
 pub fn keep_of_use(records: &mut Vec<(RequestId, Kept)>, clients: &[(u32, ClientMark)])
     requires ascend { KeysAscend id_cmp records.old.items }
     requires clients { KeysAscend nat_cmp clients.now }
-    ensures items { records.new.items
-        ≡ filter (λ e. is_of_use (record { records = []; firsts = firsts_of clients.now; gone = gone_of clients.now }) e.0)
-        records.old.items }
+    ensures items { records.new.items ≡ filter (λ e. is_of_use (clients_alone clients.now) e.0) records.old.items }
     ensures ascend { KeysAscend id_cmp records.new.items }
     ensures len { vec_len records.new ≤ vec_len records.old }
     ensures capacity { vec_capacity records.new ≡ vec_capacity records.old }

@@ -15,9 +15,9 @@ use curp_model::Check;
 use std::alloc::Global;
 use std::marker::Model;
 
-/// The reply table of a master (RIFL): the answer to each request that is done and not acknowledged, each client's first
-/// request that isn't acknowledged, and the clients that are expired. Contracts see it as the definition's table, and for
-/// how many more requests and clients each it has room.
+/// The reply table of a master (RIFL): the answer to each request that is done and not acknowledged, each client's
+/// first request that isn't acknowledged, and the clients that are expired. Contracts see it as the definition's table,
+/// and for how many more requests and clients each it has room.
 #[derive(Drop)]
 pub struct Table {
     alloc: Global,
@@ -219,8 +219,7 @@ mod tests {
         }
     }
 
-    // Clients 1, 2 and 3 have done requests; client 1 has acknowledged those below 3, and client 3 one that it never made,
-    // before it was expired.
+    // Clients 1, 2 and 3 have done requests; clients 1 and 3 have acknowledged those below 3, and client 3 is expired.
     fn three_clients(rt: &impl Abort, alloc: Global) -> Result<Table, Fail> {
         let mut table = Table::new(alloc);
         for (index, (client, seq)) in [(1, 1), (2, 1), (1, 3), (3, 1), (1, 2), (2, 7)]

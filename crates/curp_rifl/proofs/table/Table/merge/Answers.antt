@@ -1,9 +1,9 @@
-use Rattle.std.proofs.Common.{◌≡◌, ◌∙◌, [], fold}
+use Rattle.std.proofs.Common.{◌≡◌, ◌∙◌, fold}
 use Rattle.std.specs.BTreeSet.{insert_key}
 use Rattle.std.specs.List.{filter}
 use Rattle.std.specs.Ordering.{nat_cmp}
 use Rattle.curp_model.specs.Table.{Table, is_of_use, of_use}
-use Rattle.curp_rifl.specs.Clients.{firsts_of, gone_of}
+use Rattle.curp_rifl.specs.Clients.{clients_alone, firsts_of, gone_of}
 use Rattle.curp_rifl.specs.Records.{Record, with_firsts, with_records}
 use Rattle.curp_rifl.proofs.Changes.{merged}
 use Rattle.curp_rifl.proofs.table.Table.merge.Goals as goal
@@ -16,7 +16,7 @@ returns-clause-table c =
     let gone : gone_of c.mark_all_gone.new.clients.items ≡ fold (insert_key nat_cmp) before.gone c.args.part.now.gone =
     rw (← c.raise_firsts.ensures.gone, ← c.as_slice-3.ensures.value) c.mark_all_gone.ensures.gone in
     let kept : c.keep_of_use.new.records.items
-    ≡ filter (λ (e : Record). is_of_use (record { records = []; firsts = firsts_of c.mark_all_gone.new.clients.items; gone = gone_of c.mark_all_gone.new.clients.items }) e.0) c.add_records.new.records.items =
+    ≡ filter (λ (e : Record). is_of_use (clients_alone c.mark_all_gone.new.clients.items) e.0) c.add_records.new.records.items =
     rw (← c.deref.ensures.value) c.keep_of_use.ensures.items in
     rw (← c.self.view_is)
     ((λ i. record { records = kept i; firsts = firsts_of c.mark_all_gone.new.clients.items; gone = gone_of c.mark_all_gone.new.clients.items })
