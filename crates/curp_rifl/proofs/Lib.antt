@@ -1,3 +1,5 @@
 pub mod Changes
+pub mod Marks
+pub mod Picked
 pub mod Places
 pub mod Runs

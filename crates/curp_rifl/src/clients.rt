@@ -1,78 +1,159 @@
-//! What is kept of clients: first numbers, and which clients are expired.
-ghost use Rattle.std.specs.Prelude.{◌≡◌, ◌+◌, ◌==◌, ◌<◌, ◌≤◌, length, fold, vec_len, vec_capacity};
+//! What is kept of clients: first numbers, and which clients are gone.
+ghost use Rattle.std.specs.Prelude.{◌≡◌, ◌+◌, ◌==◌, ◌<◌, ◌≤◌, IfOk, length, fold, unwrap_or, vec_len, vec_capacity};
 ghost use Rattle.std.specs.BTreeSet.{insert_key};
+ghost use Rattle.std.specs.FinMap.Entries.{find};
 ghost use Rattle.std.specs.List.{list_any};
 ghost use Rattle.std.specs.Ordering.{nat_cmp};
 ghost use Rattle.curp_base.specs.Words.{Ascend, KeysAscend};
 ghost use Rattle.curp_model.specs.Table.{raise_first};
+ghost use Rattle.curp_rifl.specs.Clients.{firsts_of, gone_of, has_left};
 ghost use Rattle.curp_rifl.specs.Records.{with_firsts};
 
-use crate::ascending::place_of;
+use crate::ascending::{place_of, value_of};
+use curp_base::NoMemory;
+use std::alloc::Global;
+
+/// Whether a client is gone for good.
+#[derive(Clone, Copy, Debug)]
+pub enum Presence {
+    Present,
+    Gone,
+}
+
+/// What is kept of a client: its first request that isn't acknowledged, at first 0, and whether it is gone.
+#[derive(Clone, Copy, Debug)]
+pub struct ClientMark {
+    pub first: u32,
+    pub presence: Presence,
+}
+
+impl ClientMark {
+    /// Whether the client is gone for good.
+    pub fn is_gone(&self) -> bool
+        ensures { result ≡ has_left self.now.presence }
+    {
+        match self.presence {
+            Presence::Present => false,
+            Presence::Gone => true,
+        }
+    }
+}
+
+/// What is kept of the client, by one binary search.
+pub fn mark_of(clients: &[(u32, ClientMark)], client: u32) -> ClientMark
+    requires { KeysAscend nat_cmp clients.now }
+    ensures first { result.first ≡ unwrap_or (find nat_cmp client (firsts_of clients.now)) 0 }
+    ensures gone { has_left result.presence ≡ list_any (λ c. c == client) (gone_of clients.now) }
+{
+    value_of(clients, &client).unwrap_or(ClientMark {
+        first: 0,
+        presence: Presence::Present,
+    })
+}
 
 /// The client's first number counts from this one on, if it isn't larger already. It takes no memory.
-pub fn raise_first(firsts: &mut Vec<(u32, u32)>, client: u32, first: u32)
-    requires ascend { KeysAscend nat_cmp firsts.old.items }
-    requires room { vec_len firsts.old < vec_capacity firsts.old }
-    ensures items { firsts.new.items ≡ raise_first firsts.old.items client first }
-    ensures ascend { KeysAscend nat_cmp firsts.new.items }
-    ensures len { vec_len firsts.new ≤ vec_len firsts.old + 1 }
-    ensures capacity { vec_capacity firsts.new ≡ vec_capacity firsts.old }
+pub fn raise_first(clients: &mut Vec<(u32, ClientMark)>, client: u32, first: u32)
+    requires ascend { KeysAscend nat_cmp clients.old.items }
+    requires room { vec_len clients.old < vec_capacity clients.old }
+    ensures firsts { firsts_of clients.new.items ≡ raise_first (firsts_of clients.old.items) client first }
+    ensures gone { gone_of clients.new.items ≡ gone_of clients.old.items }
+    ensures ascend { KeysAscend nat_cmp clients.new.items }
+    ensures len { vec_len clients.new ≤ vec_len clients.old + 1 }
+    ensures capacity { vec_capacity clients.new ≡ vec_capacity clients.old }
 {
     if first == 0 {
         return;
     }
-    match place_of(firsts, &client) {
-        Ok(at) => firsts[at].1 = first.max(firsts[at].1),
-        Err(gap) => firsts.insert(gap, (client, first)).unwrap(),
+    match place_of(clients, &client) {
+        Ok(at) => clients[at].1.first = first.max(clients[at].1.first),
+        Err(gap) => {
+            let mark = ClientMark {
+                first,
+                presence: Presence::Present,
+            };
+            clients.insert(gap, (client, mark)).unwrap()
+        }
     }
 }
 
 /// The first numbers that come are counted too. It takes no memory.
-pub fn raise_firsts(firsts: &mut Vec<(u32, u32)>, raised: &[(u32, u32)])
-    requires ascend { KeysAscend nat_cmp firsts.old.items }
-    requires room { vec_len firsts.old + length raised.now ≤ vec_capacity firsts.old }
-    ensures items { firsts.new.items ≡ with_firsts firsts.old.items raised.now }
-    ensures ascend { KeysAscend nat_cmp firsts.new.items }
-    ensures len { vec_len firsts.new ≤ vec_len firsts.old + length raised.now }
-    ensures capacity { vec_capacity firsts.new ≡ vec_capacity firsts.old }
+pub fn raise_firsts(clients: &mut Vec<(u32, ClientMark)>, raised: &[(u32, u32)])
+    requires ascend { KeysAscend nat_cmp clients.old.items }
+    requires room { vec_len clients.old + length raised.now ≤ vec_capacity clients.old }
+    ensures firsts { firsts_of clients.new.items ≡ with_firsts (firsts_of clients.old.items) raised.now }
+    ensures gone { gone_of clients.new.items ≡ gone_of clients.old.items }
+    ensures ascend { KeysAscend nat_cmp clients.new.items }
+    ensures len { vec_len clients.new ≤ vec_len clients.old + length raised.now }
+    ensures capacity { vec_capacity clients.new ≡ vec_capacity clients.old }
 {
     for (client, first) in raised {
-        raise_first(firsts, *client, *first);
+        raise_first(clients, *client, *first);
     }
 }
 
-/// Whether the client is one of them.
-pub fn has_client(clients: &[u32], client: u32) -> bool
-    requires { Ascend nat_cmp clients.now }
-    ensures { result ≡ list_any (λ c. c == client) clients.now }
-{
-    clients.binary_search(&client).is_ok()
-}
-
-/// The client is one of them. It takes no memory.
-pub fn add_client(clients: &mut Vec<u32>, client: u32)
-    requires ascend { Ascend nat_cmp clients.old.items }
+/// The client is gone for good. It takes no memory.
+pub fn mark_gone(clients: &mut Vec<(u32, ClientMark)>, client: u32)
+    requires ascend { KeysAscend nat_cmp clients.old.items }
     requires room { vec_len clients.old < vec_capacity clients.old }
-    ensures items { clients.new.items ≡ insert_key nat_cmp clients.old.items client }
-    ensures ascend { Ascend nat_cmp clients.new.items }
+    ensures firsts { firsts_of clients.new.items ≡ firsts_of clients.old.items }
+    ensures gone { gone_of clients.new.items ≡ insert_key nat_cmp (gone_of clients.old.items) client }
+    ensures ascend { KeysAscend nat_cmp clients.new.items }
     ensures len { vec_len clients.new ≤ vec_len clients.old + 1 }
     ensures capacity { vec_capacity clients.new ≡ vec_capacity clients.old }
 {
-    if let Err(gap) = clients.binary_search(&client) {
-        clients.insert(gap, client).unwrap();
+    match place_of(clients, &client) {
+        Ok(at) => clients[at].1.presence = Presence::Gone,
+        Err(gap) => {
+            let mark = ClientMark {
+                first: 0,
+                presence: Presence::Gone,
+            };
+            clients.insert(gap, (client, mark)).unwrap()
+        }
     }
 }
 
-/// The clients that come are among them too. It takes no memory.
-pub fn add_clients(clients: &mut Vec<u32>, added: &[u32])
-    requires ascend { Ascend nat_cmp clients.old.items }
-    requires room { vec_len clients.old + length added.now ≤ vec_capacity clients.old }
-    ensures items { clients.new.items ≡ fold (insert_key nat_cmp) clients.old.items added.now }
-    ensures ascend { Ascend nat_cmp clients.new.items }
-    ensures len { vec_len clients.new ≤ vec_len clients.old + length added.now }
+/// The clients that come are gone too. It takes no memory.
+pub fn mark_all_gone(clients: &mut Vec<(u32, ClientMark)>, gone: &[u32])
+    requires ascend { KeysAscend nat_cmp clients.old.items }
+    requires room { vec_len clients.old + length gone.now ≤ vec_capacity clients.old }
+    ensures firsts { firsts_of clients.new.items ≡ firsts_of clients.old.items }
+    ensures gone { gone_of clients.new.items ≡ fold (insert_key nat_cmp) (gone_of clients.old.items) gone.now }
+    ensures ascend { KeysAscend nat_cmp clients.new.items }
+    ensures len { vec_len clients.new ≤ vec_len clients.old + length gone.now }
     ensures capacity { vec_capacity clients.new ≡ vec_capacity clients.old }
 {
-    for client in added {
-        add_client(clients, *client);
+    for client in gone {
+        mark_gone(clients, *client);
     }
+}
+
+/// The first numbers, without those that are 0.
+pub fn firsts_in(alloc: Global, clients: &[(u32, ClientMark)]) -> Result<Vec<(u32, u32)>, NoMemory>
+    requires { KeysAscend nat_cmp clients.now }
+    ensures firsts { IfOk result (λ firsts. firsts.items ≡ firsts_of clients.now) }
+    ensures ascend { IfOk result (λ firsts. KeysAscend nat_cmp firsts.items) }
+{
+    let mut firsts = Vec::new(alloc);
+    for (client, mark) in clients {
+        if mark.first > 0 {
+            firsts.push((*client, mark.first))?;
+        }
+    }
+    Ok(firsts)
+}
+
+/// The clients that are gone.
+pub fn gone_in(alloc: Global, clients: &[(u32, ClientMark)]) -> Result<Vec<u32>, NoMemory>
+    requires { KeysAscend nat_cmp clients.now }
+    ensures gone { IfOk result (λ gone. gone.items ≡ gone_of clients.now) }
+    ensures ascend { IfOk result (λ gone. Ascend nat_cmp gone.items) }
+{
+    let mut gone = Vec::new(alloc);
+    for (client, mark) in clients {
+        if mark.is_gone() {
+            gone.push(*client)?;
+        }
+    }
+    Ok(gone)
 }

@@ -1,15 +1,16 @@
 //! The records of requests that are done, in ascending order of the ids, so that those of a client stand together.
-ghost use Rattle.std.specs.Prelude.{◌≡◌, ◌+◌, ◌==◌, ◌≤◌, true, false, not, [], length, map, IfOk, vec_len, vec_capacity};
+ghost use Rattle.std.specs.Prelude.{◌≡◌, ◌+◌, ◌==◌, ◌≤◌, true, false, not, length, map, IfOk, vec_len, vec_capacity};
 ghost use Rattle.std.specs.List.{filter};
 ghost use Rattle.std.specs.List.Sorted.{IsPartitionPoint};
 ghost use Rattle.std.specs.Ordering.{nat_cmp};
-ghost use Rattle.curp_base.specs.Words.{Ascend, KeysAscend};
+ghost use Rattle.curp_base.specs.Words.{KeysAscend};
 ghost use Rattle.curp_cmd.specs.RequestId.{id_cmp};
 ghost use Rattle.curp_model.specs.Table.{is_below, is_of_use};
+ghost use Rattle.curp_rifl.specs.Clients.{clients_alone};
 ghost use Rattle.curp_rifl.specs.Records.{is_before, is_up_to, is_before_first, with_records};
 
-use crate::ascending::{drop_run, put_once, value_of};
-use crate::clients::has_client;
+use crate::ascending::{drop_run, put_once};
+use crate::clients::{ClientMark, mark_of};
 use crate::kept::Kept;
 use curp_base::NoMemory;
 use curp_cmd::{Answer, RequestId};
@@ -86,22 +87,19 @@ pub fn add_records(records: &mut Vec<(RequestId, Kept)>, added: &[(RequestId, An
 }
 
 /// Whether a record of that id is of use: its client isn't gone, and hasn't acknowledged it.
-fn is_of_use(firsts: &[(u32, u32)], gone: &[u32], id: &RequestId) -> bool
-    requires firsts { KeysAscend nat_cmp firsts.now }
-    requires gone { Ascend nat_cmp gone.now }
-    ensures { result ≡ is_of_use (record { records = []; firsts = firsts.now; gone = gone.now }) id.now }
+fn is_of_use(clients: &[(u32, ClientMark)], id: &RequestId) -> bool
+    requires { KeysAscend nat_cmp clients.now }
+    ensures { result ≡ is_of_use (clients_alone clients.now) id.now }
 {
-    let first = value_of(firsts, &id.client).unwrap_or(0);
-    !has_client(gone, id.client) && first <= id.seq
+    let mark = mark_of(clients, id.client);
+    !mark.is_gone() && mark.first <= id.seq
 }
 
 /// Keeps only the records that are of use.
-pub fn keep_of_use(records: &mut Vec<(RequestId, Kept)>, firsts: &[(u32, u32)], gone: &[u32])
+pub fn keep_of_use(records: &mut Vec<(RequestId, Kept)>, clients: &[(u32, ClientMark)])
     requires ascend { KeysAscend id_cmp records.old.items }
-    requires firsts { KeysAscend nat_cmp firsts.now }
-    requires gone { Ascend nat_cmp gone.now }
-    ensures items { records.new.items
-        ≡ filter (λ e. is_of_use (record { records = []; firsts = firsts.now; gone = gone.now }) e.0) records.old.items }
+    requires clients { KeysAscend nat_cmp clients.now }
+    ensures items { records.new.items ≡ filter (λ e. is_of_use (clients_alone clients.now) e.0) records.old.items }
     ensures ascend { KeysAscend id_cmp records.new.items }
     ensures len { vec_len records.new ≤ vec_len records.old }
     ensures capacity { vec_capacity records.new ≡ vec_capacity records.old }
@@ -109,7 +107,7 @@ pub fn keep_of_use(records: &mut Vec<(RequestId, Kept)>, firsts: &[(u32, u32)], 
     let mut kept = 0;
     for at in 0..records.len() {
         let record = records[at];
-        if is_of_use(firsts, gone, &record.0) {
+        if is_of_use(clients, &record.0) {
             records[kept] = record;
             kept += 1;
         }

@@ -4,7 +4,9 @@ ghost use Rattle.curp_model.specs.declared.Check.TheVariants.{New};
 ghost use Rattle.curp_rifl.specs.Stored.{room_of};
 
 use crate::ascending::{put_once, value_of};
-use crate::clients::{add_client, add_clients, has_client, raise_first, raise_firsts};
+use crate::clients::{
+    ClientMark, firsts_in, gone_in, mark_all_gone, mark_gone, mark_of, raise_first, raise_firsts,
+};
 use crate::kept::Kept;
 use crate::records::{add_records, answers_of, drop_below, drop_client, keep_of_use};
 use curp_base::{AscendingKeys, AscendingPairs, NoMemory};
@@ -13,33 +15,31 @@ use curp_model::Check;
 use std::alloc::Global;
 use std::marker::Model;
 
-/// The reply table of a master (RIFL): the answer to each request that is done and not acknowledged, each client's first
-/// request that isn't acknowledged, and the clients that are expired. Contracts see it as the definition's table, and for
-/// how many more requests, first numbers and expired clients each it has room.
+/// The reply table of a master (RIFL): the answer to each request that is done and not acknowledged, each client's
+/// first request that isn't acknowledged, and the clients that are expired. Contracts see it as the definition's table,
+/// and for how many more requests and clients each it has room.
 #[derive(Drop)]
 pub struct Table {
     alloc: Global,
     // In ascending order of the ids.
     records: Vec<(RequestId, Kept)>,
     // In ascending order of the clients.
-    firsts: Vec<(u32, u32)>,
-    // In ascending order.
-    gone: Vec<u32>,
+    clients: Vec<(u32, ClientMark)>,
 }
 
 impl Model for Table {
     ghost use Rattle.std.specs.Prelude.{◌-◌, min, vec_len, vec_capacity};
+    ghost use Rattle.curp_rifl.specs.Clients.{firsts_of, gone_of};
     ghost use Rattle.curp_rifl.specs.Stored.{StoredTable, IsAscending};
 
     ghost Value = { StoredTable };
 
     ghost view = { λ t. record {
-      table = record { records = t.records.items; firsts = t.firsts.items; gone = t.gone.items };
-      spare = min (vec_capacity t.records - vec_len t.records)
-          (min (vec_capacity t.firsts - vec_len t.firsts) (vec_capacity t.gone - vec_len t.gone));
+      table = record { records = t.records.items; firsts = firsts_of t.clients.items; gone = gone_of t.clients.items };
+      spare = min (vec_capacity t.records - vec_len t.records) (vec_capacity t.clients - vec_len t.clients);
     } };
 
-    ghost invariant = { λ t. IsAscending t.records.items t.firsts.items t.gone.items };
+    ghost invariant = { λ t. IsAscending t.records.items t.clients.items };
 }
 
 impl Table {
@@ -50,33 +50,31 @@ impl Table {
         Table {
             alloc,
             records: Vec::new(alloc),
-            firsts: Vec::new(alloc),
-            gone: Vec::new(alloc),
+            clients: Vec::new(alloc),
         }
     }
 
-    /// Makes room for so many more requests, first numbers and expired clients each.
+    /// Makes room for so many more requests and clients each.
     pub fn reserve(&mut self, spare: u64) -> Result<(), NoMemory>
         ensures table { self.new.table ≡ self.old.table }
         ensures room { OnOk result (spare ≤ self.new.spare) }
         ensures kept { self.old.spare ≤ self.new.spare }
     {
         self.records.reserve(spare as usize)?;
-        self.firsts.reserve(spare as usize)?;
-        self.gone.reserve(spare as usize)
+        self.clients.reserve(spare as usize)
     }
 
-    /// The duplicate check (RIFL). It makes no more than three binary searches.
+    /// The duplicate check (RIFL). It makes no more than two binary searches.
     #[tactic(auto, unfolding(curp_model::specs::Table::check))]
     pub fn check(&self, id: &RequestId) -> Check
         ensures { result ≡ check self.now.table id.now }
     {
-        if has_client(&self.gone, id.client) {
+        let mark = mark_of(&self.clients, id.client);
+        if mark.is_gone() {
             return Check::Expired;
         }
-        let first = value_of(&self.firsts, &id.client).unwrap_or(0);
-        if id.seq < first {
-            return Check::Stale { first };
+        if id.seq < mark.first {
+            return Check::Stale { first: mark.first };
         }
         match value_of(&self.records, id) {
             Some(kept) => Check::Known {
@@ -91,7 +89,7 @@ impl Table {
     pub fn is_gone(&self, client: u32) -> bool
         ensures { result ≡ is_gone self.now.table client }
     {
-        has_client(&self.gone, client)
+        mark_of(&self.clients, client).is_gone()
     }
 
     /// A request is done, with that answer, by the entry with that index. It takes no memory, since there is room.
@@ -112,7 +110,7 @@ impl Table {
         ensures spare { self.old.spare ≤ self.new.spare + 1 }
     {
         drop_below(&mut self.records, client, first);
-        raise_first(&mut self.firsts, client, first);
+        raise_first(&mut self.clients, client, first);
     }
 
     /// A request is done, and its client has the answers to all its requests below a number: a note and an
@@ -125,7 +123,7 @@ impl Table {
     {
         put_once(&mut self.records, id, Kept::new(answer, index));
         drop_below(&mut self.records, id.client, first);
-        raise_first(&mut self.firsts, id.client, first);
+        raise_first(&mut self.clients, id.client, first);
     }
 
     /// The client is gone for good, and its records with it. It takes no memory, since there is room.
@@ -135,7 +133,7 @@ impl Table {
         ensures spare { self.old.spare ≤ self.new.spare + 1 }
     {
         drop_client(&mut self.records, client);
-        add_client(&mut self.gone, client);
+        mark_gone(&mut self.clients, client);
     }
 
     /// What a migration takes along.
@@ -143,8 +141,8 @@ impl Table {
         ensures { IfOk result (λ part. part ≡ packed self.now.table) }
     {
         let records = answers_of(self.alloc, &self.records)?;
-        let firsts = Vec::from_slice(self.alloc, &self.firsts)?;
-        let gone = Vec::from_slice(self.alloc, &self.gone)?;
+        let firsts = firsts_in(self.alloc, &self.clients)?;
+        let gone = gone_in(self.alloc, &self.clients)?;
         Ok(TablePart {
             records: AscendingPairs::new(records),
             firsts: AscendingPairs::new(firsts),
@@ -162,9 +160,9 @@ impl Table {
         ensures spare { self.old.spare ≤ self.new.spare + room_of part.now }
     {
         add_records(&mut self.records, part.records.as_slice(), index);
-        raise_firsts(&mut self.firsts, part.firsts.as_slice());
-        add_clients(&mut self.gone, part.gone.as_slice());
-        keep_of_use(&mut self.records, &self.firsts, &self.gone);
+        raise_firsts(&mut self.clients, part.firsts.as_slice());
+        mark_all_gone(&mut self.clients, part.gone.as_slice());
+        keep_of_use(&mut self.records, &self.clients);
     }
 }
 
@@ -221,7 +219,7 @@ mod tests {
         }
     }
 
-    // Clients 1, 2 and 3 have done requests; client 1 has acknowledged those below 3, and client 3 is expired.
+    // Clients 1, 2 and 3 have done requests; clients 1 and 3 have acknowledged those below 3, and client 3 is expired.
     fn three_clients(rt: &impl Abort, alloc: Global) -> Result<Table, Fail> {
         let mut table = Table::new(alloc);
         for (index, (client, seq)) in [(1, 1), (2, 1), (1, 3), (3, 1), (1, 2), (2, 7)]
@@ -231,6 +229,7 @@ mod tests {
             note(rt, &mut table, id(*client, *seq), index as u64)?;
         }
         acknowledge(&mut table, 1, 3)?;
+        acknowledge(&mut table, 3, 3)?;
         expire(&mut table, 3)?;
         Ok(table)
     }
@@ -258,7 +257,7 @@ mod tests {
             Answer::Number(number),
         ));
         assert_eq!(rt; part.records.as_slice(), records.as_slice());
-        assert_eq!(rt; part.firsts.as_slice(), [(1, 3)].as_slice());
+        assert_eq!(rt; part.firsts.as_slice(), [(1, 3), (3, 3)].as_slice());
         assert_eq!(rt; part.gone.as_slice(), [3].as_slice());
         Ok(())
     }

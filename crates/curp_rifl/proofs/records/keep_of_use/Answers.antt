@@ -1,6 +1,7 @@
-use Rattle.std.proofs.Common.{◌∙◌, sym, [], arith, rules}
+use Rattle.std.proofs.Common.{◌∙◌, sym, arith, rules}
 use Rattle.std.proofs.lemmas.List.Filters.{FiltersInPlace-more_no, FiltersInPlace-more_set, FiltersInPlace-all}
 use Rattle.curp_model.specs.Table.{is_of_use}
+use Rattle.curp_rifl.specs.Clients.{clients_alone}
 use Rattle.curp_rifl.proofs.Runs.{ascend_picked}
 use Rattle.curp_rifl.proofs.records.keep_of_use.Goals.{then-is_of_use, else-is_of_use}
 use Rattle.curp_rifl.proofs.records.keep_of_use.Goals as goal
@@ -22,4 +23,4 @@ loop-at-preserved c = elim c.if-is_of_use.branch [
 pub returns-clause-ascend : goal.returns-clause-ascend
 returns-clause-ascend c =
     rw (c.truncate.ensures.items, FiltersInPlace-all c.loop-at.invariant.kept (omega arith))
-    (ascend_picked (is_of_use (record { records = []; firsts = c.args.firsts.now; gone = c.args.gone.now })) c.args.records.now.items c.requires.ascend)
+    (ascend_picked (is_of_use (clients_alone c.args.clients.now)) c.args.records.now.items c.requires.ascend)
