@@ -1,4 +1,5 @@
 // Whole scripts with all that the program writes for them, from outside.
+mod pairs;
 mod rows;
 
 use curp_io::{MemorySink, MemorySource};

@@ -1,6 +1,4 @@
 // What no clause says: that there is an answer where there is memory, also at the largest sizes.
-mod pairs;
-
 use crate::{Status, run};
 use curp_io::{MemorySink, MemorySource};
 use curp_script::{FieldName, LineError, Word};

@@ -1,8 +1,8 @@
 // From any one backup and any one witness all is recovered that has completed, after each front of a script.
-use curp_cmd::NodeId;
-use curp_order::Event;
-use curp_script::{LineReader, Step};
-use curp_world::World;
+use curp_io::{MemorySink, MemorySource};
+use curp_play::run;
+use std::alloc::Global;
+use std::str;
 use std::test::Fail;
 
 const HEADER: &str =
@@ -72,61 +72,80 @@ const SCRIPT: &str = r#"{"client":1,"cmd":["put","61","31"],"do":"invoke"}
 {"do":"deliver","msg":51}"#;
 
 // More messages than a recovery and what comes of it send here.
-const MOST_SENT: u64 = 100;
+const MOST_SENT: usize = 100;
 
-// The world after so many steps of the script.
-fn played(rt: &HostRuntime, steps: usize) -> Result<World, Fail> {
-    let mut reader = LineReader::new(rt.alloc());
-    let header = reader.parse_header(HEADER.as_bytes())?;
-    let mut world = World::begin(rt.alloc(), &header)?;
-    for line in SCRIPT.split('\n').take(steps) {
-        let step = reader.parse_line(line.as_bytes())?;
-        world.step(&step)?;
+// What `curp play` writes for a script.
+fn played(alloc: Global, script: &str) -> Result<MemorySink, Fail> {
+    let mut source = MemorySource::new(alloc, script.as_bytes(), &[])?;
+    let mut sink = MemorySink::new(alloc, &[])?;
+    let _status = run(alloc, &["play"], &mut source, &mut sink);
+    Ok(sink)
+}
+
+// The header and so many steps.
+fn front(alloc: Global, steps: usize) -> Result<String, Fail> {
+    let mut script = String::new(alloc);
+    writeln!(script, "{HEADER}")?;
+    for line in SCRIPT.lines().take(steps) {
+        writeln!(script, "{line}")?;
     }
-    Ok(world)
+    Ok(script)
+}
+
+// How many messages a text tells of.
+fn sent(text: &str) -> usize {
+    text.lines().filter(|line| line.starts_with('m')).count()
 }
 
 // The master is stopped and replaced, and all that is sent from then on is delivered, in order.
-fn recover(world: &mut World, backup: u32, witness: u32) -> Result<(), Fail> {
-    let node = NodeId::master(1);
-    world.step(&Step::Stop { node })?;
-    let part = 1;
-    let ordered = world.step(&Step::Recover {
-        part,
-        backup,
-        witness,
-    })?;
-    for sent in 0..MOST_SENT {
-        let message = ordered.first.saturating_add(sent);
-        world.step(&Step::Deliver { message })?;
+fn recover(script: &mut String, backup: u32, witness: u32, sent: usize) -> Result<(), Fail> {
+    writeln!(script, "{{\"do\":\"stop\",\"node\":\"M1\"}}")?;
+    writeln!(
+        script,
+        "{{\"backup\":{backup},\"do\":\"recover\",\"part\":1,\"witness\":{witness}}}"
+    )?;
+    for more in 1..=MOST_SENT {
+        let message = sent.saturating_add(more);
+        writeln!(script, "{{\"do\":\"deliver\",\"msg\":{message}}}")?;
     }
     Ok(())
 }
 
-// Whether each of the first events that completes a request stands in the order, with its answer.
-fn has_all(rt: &HostRuntime, world: &World, events: usize) -> Result<bool, Fail> {
-    let order = world.order(rt.alloc())?;
-    Ok(world
-        .history()
-        .events()
-        .iter()
-        .take(events)
-        .all(|event| match event {
-            Event::Complete { id, answer } => order
-                .iter()
-                .any(|(ordered, _, told)| ordered == id && told == answer),
-            Event::Invoke { .. } => true,
-        }))
+// Whether a line of an order is that request with that answer.
+fn is_of(line: &str, id: &str, answer: &str) -> bool {
+    line.strip_prefix(id)
+        .and_then(|rest| rest.strip_suffix(answer))
+        .is_some_and(|command| command.starts_with(' ') && command.ends_with(" -> "))
+}
+
+// Whether what the line of a completion says stands in the order that ends the text.
+fn stands(text: &str, completion: &str) -> bool {
+    match completion.split_once(' ') {
+        Some((id, answer)) => text.lines().any(|line| is_of(line, id, answer)),
+        None => false,
+    }
+}
+
+// Whether the new master is adopted, and each completed request stands in the order with its answer.
+fn is_whole(text: &str) -> bool {
+    let adopted = text.lines().any(|line| line.contains(" G M2 adopted "));
+    adopted
+        && text
+            .lines()
+            .filter_map(|line| line.strip_prefix("c "))
+            .all(|completion| stands(text, completion))
 }
 
 #[test]
 fn each_pair_recovers_what_has_completed(rt: HostRuntime) -> Result<(), Fail> {
     for steps in 0..=60 {
+        let before = played(rt.alloc(), &front(rt.alloc(), steps)?)?;
+        let sent = sent(str::from_utf8(before.bytes())?);
         for (backup, witness) in [(1, 1), (1, 2), (2, 1), (2, 2)] {
-            let mut world = played(&rt, steps)?;
-            let events = world.history().events().len();
-            recover(&mut world, backup, witness)?;
-            let whole = has_all(&rt, &world, events)?;
+            let mut script = front(rt.alloc(), steps)?;
+            recover(&mut script, backup, witness, sent)?;
+            let after = played(rt.alloc(), &script)?;
+            let whole = is_whole(str::from_utf8(after.bytes())?);
             assert!(rt; whole, "{steps} steps, backup {backup}, witness {witness}");
         }
     }
