@@ -32,7 +32,6 @@ fn the_largest_world_begins_and_recovers(rt: HostRuntime) -> Result<(), Fail> {
         witness: 5,
     })?;
     assert_eq!(rt; ordered, made(1, 11));
-    assert_eq!(rt; world.sent(1).len(), 11);
     Ok(())
 }
 
