@@ -11,8 +11,6 @@ mod ordered;
 mod orders;
 mod sent;
 mod stopped;
-#[cfg(test)]
-mod tests;
 mod world;
 
 pub use curp_msg::{Header, Outcome, Step, StepResult};
