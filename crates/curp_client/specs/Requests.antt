@@ -1,5 +1,5 @@
 -- Requests that are pending: their numbers, and what is sent for them.
-use Rattle.std.specs.Prelude.{◌≡◌, ℕ, ◌<◌, false, List, [], ◌∷◌, MatchOption, ⊤}
+use Rattle.std.specs.Prelude.{◌≡◌, ℕ, ◌<◌, false, min, List, [], ◌∷◌, fold, Option, Some, None, MatchOption, ⊤}
 use Rattle.curp_base.specs.Words.{Each}
 use Rattle.curp_cmd.specs.Node.{client_node}
 use Rattle.curp_cmd.specs.declared.command.Request.{Request}
@@ -14,6 +14,11 @@ use Rattle.curp_model.specs.Client.{Attempt, Pending, attempt_at, replaced, with
 abbrev pub NumbersRise : List Pending → Type 0
 NumbersRise [] = ⊤
 NumbersRise (p ∷ rest) = Each (λ (q : Pending). p.request.id.seq < q.request.id.seq) rest × NumbersRise rest
+
+-- the least number of requests that are pending
+abbrev pub least_of : List Pending → Option ℕ
+least_of [] = None
+least_of (p ∷ rest) = Some (fold (λ least q. min least q.request.id.seq) p.request.id.seq rest)
 
 -- the request of that id, if it is pending, is replaced by what becomes of it
 abbrev pub Changes : (old new : List Pending) → RequestId → (Pending → Pending) → Type 0

@@ -1,7 +1,8 @@
-ghost use Rattle.std.specs.Prelude.{◌≡◌, ◌<◌, Ok, Err, IfOk, IfErr, IfSome, OnOk};
+ghost use Rattle.std.specs.Prelude.{◌≡◌, ◌<◌, length, Ok, Err, IfOk, IfErr, IfSome, OnOk};
 ghost use Rattle.curp_model.specs.Client as model;
 ghost use Rattle.curp_msg.specs.Moved.{Makes, Moves, numbered_move, quiet};
 ghost use Rattle.curp_client.specs.Evidence.{completes_if, kept};
+ghost use Rattle.curp_client.specs.Requests.{least_of};
 ghost use Rattle.curp_client.specs.Refusals.{TellsInvoke, TellsRetry, invoke_number};
 
 use crate::owner::owner_of;
@@ -69,6 +70,20 @@ impl Client {
         ensures { result ≡ self.now.state.last }
     {
         self.last
+    }
+
+    /// How many requests are pending: 8 at most.
+    pub fn pending(&self) -> usize
+        ensures { result ≡ length self.now.state.pending }
+    {
+        self.pending.len()
+    }
+
+    /// The least number that is pending.
+    pub fn least_pending(&self) -> Option<u32>
+        ensures { result ≡ least_of self.now.state.pending }
+    {
+        self.pending.least()
     }
 
     /// No request that is pending has a number behind the client's last one, whatever was done.

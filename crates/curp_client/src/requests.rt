@@ -6,7 +6,7 @@ ghost use Rattle.curp_base.specs.Words.{Each};
 ghost use Rattle.curp_cmd.specs.RequestId.{same_id};
 ghost use Rattle.curp_model.specs.Client as model;
 ghost use Rattle.curp_client.specs.Evidence.{kept, Proves};
-ghost use Rattle.curp_client.specs.Requests.{Changes};
+ghost use Rattle.curp_client.specs.Requests.{Changes, least_of};
 
 use crate::pending::{Attempt, Evidence, Pending};
 use curp_base::NoMemory;
@@ -54,6 +54,18 @@ impl Requests {
         self.items
             .iter()
             .fold(seq, |least, pending| least.min(pending.request().id.seq))
+    }
+
+    /// The least number of these requests.
+    pub(crate) fn least(&self) -> Option<u32>
+        ensures { result ≡ least_of self.now }
+    {
+        let (first, rest) = self.items.split_first()?;
+        let seq = first.request().id.seq;
+        Some(
+            rest.iter()
+                .fold(seq, |least, pending| least.min(pending.request().id.seq)),
+        )
     }
 
     /// The request of that id.

@@ -1,4 +1,5 @@
-ghost use Rattle.std.specs.Prelude.{◌≡◌, IfOk};
+ghost use Rattle.std.specs.Prelude.{◌≡◌, length, IfOk};
+ghost use Rattle.curp_client.specs.Requests.{least_of};
 ghost use Rattle.curp_model.specs.Client.{NumbersAreUsed, fresh_client};
 ghost use Rattle.curp_inv.specs.Refusals.{Tells};
 
@@ -42,6 +43,20 @@ impl ClientNode {
         ensures { result ≡ self.now.state.last }
     {
         self.client.last()
+    }
+
+    /// How many requests are pending: 8 at most.
+    pub fn pending(&self) -> usize
+        ensures { result ≡ length self.now.state.pending }
+    {
+        self.client.pending()
+    }
+
+    /// The least number that is pending.
+    pub fn least_pending(&self) -> Option<u32>
+        ensures { result ≡ least_of self.now.state.pending }
+    {
+        self.client.least_pending()
     }
 
     /// No number of what is pending is behind its last one, whatever came.

@@ -5,6 +5,7 @@ ghost use Rattle.curp_facts.specs.Run.{IsHeader};
 ghost use Rattle.curp_model.specs.World as world;
 ghost use Rattle.curp_order.specs.Recorded.{invocation};
 ghost use Rattle.curp_world.specs.Given.{CanGet, barrier, expires_nobody, hands, input_in, input_of};
+ghost use Rattle.curp_world.specs.Nodes.{nodes_of};
 
 use crate::given::{Gift, Given};
 use crate::marks::{Due, flag};
@@ -63,6 +64,12 @@ impl Cluster {
         ensures { result.now.lists ≡ self.now.sent }
     {
         &self.sent
+    }
+
+    pub(crate) fn nodes(&self) -> &Nodes
+        ensures { result.now ≡ nodes_of self.now }
+    {
+        &self.nodes
     }
 
     pub(crate) fn history(&self) -> &History

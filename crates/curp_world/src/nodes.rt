@@ -1,4 +1,4 @@
-ghost use Rattle.std.specs.Prelude.{◌≡◌, ◌≢◌, ◌&&◌, nat_le, nat_lt, true, IfOk};
+ghost use Rattle.std.specs.Prelude.{◌≡◌, ◌≢◌, ◌&&◌, nat_le, nat_lt, true, length, IfOk};
 ghost use Rattle.std.specs.Option.{option_copied, option_map};
 ghost use Rattle.curp_base.specs.Words.{numbered};
 ghost use Rattle.curp_cmd.specs.Node.{manager_node};
@@ -91,6 +91,20 @@ impl Nodes {
         &self.manager
     }
 
+    /// The client of that number.
+    pub(crate) fn client(&self, number: u32) -> Option<&ClientNode>
+        ensures { option_map (λ c. c.now.state) result ≡ numbered self.now.clients number }
+    {
+        numbered(&self.clients, number)
+    }
+
+    /// How many masters there are.
+    pub(crate) fn master_count(&self) -> usize
+        ensures { result ≡ length self.now.masters }
+    {
+        self.masters.len()
+    }
+
     /// The master of that number.
     pub(crate) fn master(&self, number: u32) -> Option<&MasterNode>
         ensures { option_map (λ m. m.now.state) result ≡ numbered self.now.masters number }
@@ -171,7 +185,7 @@ impl Nodes {
         let Gift::Order(Local::Invoke(command)) = gift else {
             return None;
         };
-        let client = numbered(&self.clients, to.number)?;
+        let client = self.client(to.number)?;
         let id = RequestId {
             client: to.number,
             seq: client.last(),

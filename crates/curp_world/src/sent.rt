@@ -80,6 +80,13 @@ impl Sent {
         self.batches.push_reserved(messages);
     }
 
+    /// How many messages were sent.
+    pub(crate) fn count(&self) -> u64
+        ensures { result ≡ length (all_of self.now.lists) }
+    {
+        self.next - 1
+    }
+
     /// The number that the next message gets.
     pub(crate) fn next(&self) -> u64
         ensures { result ≡ length (all_of self.now.lists) + 1 }

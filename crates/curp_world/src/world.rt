@@ -1,5 +1,5 @@
 ghost use Rattle.std.specs.Prelude.{◌≡◌, ◌≢◌, ◌+◌, ◌<◌, ◌^◌, ◌↔◌, ℕ, true, [], length, OnOk, OnErr, IfOk};
-ghost use Rattle.std.specs.Option.{option_copied};
+ghost use Rattle.std.specs.Option.{option_copied, option_map};
 ghost use Rattle.curp_base.specs.Words.{numbered};
 ghost use Rattle.curp_order.specs.Order.{IsHistory, IsOrder};
 ghost use Rattle.curp_script.specs.declared.error.FieldName.{FieldName};
@@ -16,7 +16,7 @@ use crate::ordered;
 use curp_base::NoMemory;
 use curp_cmd::laws::names_one_to_four_keys;
 use curp_cmd::{Answer, Command, RequestId};
-use curp_inv::laws;
+use curp_inv::{ClientNode, laws};
 use curp_msg::{Header, Message, Outcome, Step, StepResult};
 use curp_order::History;
 use curp_script::{FieldName, bad_field};
@@ -120,6 +120,27 @@ impl World {
         ensures { result ≡ world.weight self.now }
     {
         self.cluster.weight()
+    }
+
+    /// The client of that number, counted from 1. A stopped one is as it was when it was stopped.
+    pub fn client(&self, number: u32) -> Option<&ClientNode>
+        ensures { option_map (λ client. client.now.state) result ≡ numbered self.now.clients number }
+    {
+        self.cluster.nodes().client(number)
+    }
+
+    /// How many masters were made so far, the stopped and the fresh ones too.
+    pub fn master_count(&self) -> usize
+        ensures { result ≡ length self.now.masters }
+    {
+        self.cluster.nodes().master_count()
+    }
+
+    /// How many messages were ever sent.
+    pub fn message_count(&self) -> u64
+        ensures { result ≡ length (world.messages self.now) }
+    {
+        self.cluster.sent().count()
     }
 
     /// The message of that number, counted from 1.
