@@ -1,0 +1,25 @@
+-- The plan of `make`.
+use Rattle.std.specs.Prelude.{◌≤◌, ◌^◌, ◌-◌, ⊤}
+use Rattle.curp_words.specs.declared.order.MakePlan.{MakePlan}
+use Rattle.curp_words.specs.declared.order.Order.{Order}
+use Rattle.curp_words.specs.declared.order.Order.TheVariants.{Play, Make}
+
+-- the plan of `make` with no option
+abbrev pub default_plan : MakePlan
+default_plan = record { number = 1; f = 3; sets = 64; ways = 4; clients = 8; parts = 2; steps = 4000; recoveries = 3 }
+
+-- each number of a plan is in its range
+pub record IsPlan (plan : MakePlan) : Type 0 where
+  pub number : plan.number ≤ 2 ^ 64 - 1
+  pub f : (1 ≤ plan.f) × (plan.f ≤ 5)
+  pub sets : (1 ≤ plan.sets) × (plan.sets ≤ 1024)
+  pub ways : (1 ≤ plan.ways) × (plan.ways ≤ 16)
+  pub clients : (1 ≤ plan.clients) × (plan.clients ≤ 64)
+  pub parts : (1 ≤ plan.parts) × (plan.parts ≤ 16)
+  pub steps : (1 ≤ plan.steps) × (plan.steps ≤ 200000)
+  pub recoveries : plan.recoveries ≤ 64
+
+-- an order to make a script has a plan in range
+abbrev pub fits : Order → Type 0
+fits Play = ⊤
+fits (Make plan output) = IsPlan plan

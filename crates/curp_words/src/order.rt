@@ -1,0 +1,78 @@
+ghost use Rattle.std.specs.Prelude.{◌≡◌};
+
+use std::alloc::AllocError;
+use thiserror::Error;
+
+/// What a run of the program is to do.
+#[derive(Clone, Copy, Debug, PartialEq, Eq)]
+pub enum Order {
+    /// A script is read from standard input and played.
+    Play,
+    /// A script is made by the plan.
+    Make(MakePlan, Output),
+}
+
+/// From what a script is made: a number that everything in it follows from, the size of the world, and how much
+/// happens. Contracts see the range of each with `IsPlan`.
+#[derive(Clone, Copy, Debug, PartialEq, Eq)]
+pub struct MakePlan {
+    pub number: u64,
+    pub f: u32,
+    pub sets: u32,
+    pub ways: u32,
+    pub clients: u32,
+    pub parts: u32,
+    pub steps: u32,
+    pub recoveries: u32,
+}
+
+/// What `make` writes.
+#[derive(Clone, Copy, Debug, PartialEq, Eq)]
+pub enum Output {
+    /// The script, for `play` to read.
+    Script,
+    /// What happens in it, in numbers.
+    Summary,
+}
+
+/// Why there is no order.
+#[derive(Clone, Copy, Debug, PartialEq, Eq, Error)]
+pub enum WordsError {
+    /// The words are no command line.
+    #[error("the words are no command line")]
+    Usage,
+    /// There was no memory to read them.
+    #[error("out of memory")]
+    NoMemory,
+}
+
+impl Default for MakePlan {
+    ghost use Rattle.std.specs.Prelude.{◌≡◌};
+    ghost use Rattle.curp_words.specs.Plan.{default_plan};
+
+    ghost is_default = { λ plan. plan ≡ default_plan };
+
+    fn default() -> MakePlan {
+        MakePlan {
+            number: 1,
+            f: 3,
+            sets: 64,
+            ways: 4,
+            clients: 8,
+            parts: 2,
+            steps: 4_000,
+            recoveries: 3,
+        }
+    }
+}
+
+impl From<AllocError> for WordsError {
+    ghost use Rattle.std.specs.Prelude.{◌≡◌};
+    ghost use Rattle.curp_words.specs.declared.order.WordsError.TheVariants as error;
+
+    ghost from_gives = { λ _ e. e ≡ error.NoMemory };
+
+    fn from(_error: AllocError) -> WordsError {
+        WordsError::NoMemory
+    }
+}
