@@ -99,10 +99,10 @@ impl Nodes {
     }
 
     /// How many masters there are.
-    pub(crate) fn master_count(&self) -> usize
+    pub(crate) fn master_count(&self) -> u32
         ensures { result ≡ length self.now.masters }
     {
-        self.masters.len()
+        self.manager.next_master() - 1
     }
 
     /// The master of that number.

@@ -82,7 +82,8 @@ impl Sent {
 
     /// How many messages were sent.
     pub(crate) fn count(&self) -> u64
-        ensures { result ≡ length (all_of self.now.lists) }
+        ensures count { result ≡ length (all_of self.now.lists) }
+        ensures fits { result < u64.MAX }
     {
         self.next - 1
     }

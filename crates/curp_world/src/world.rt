@@ -130,15 +130,16 @@ impl World {
     }
 
     /// How many masters were made so far, the stopped and the fresh ones too.
-    pub fn master_count(&self) -> usize
+    pub fn master_count(&self) -> u32
         ensures { result ≡ length self.now.masters }
     {
         self.cluster.nodes().master_count()
     }
 
-    /// How many messages were ever sent.
+    /// How many messages were ever sent. Their numbers and the next one fit a `u64`.
     pub fn message_count(&self) -> u64
-        ensures { result ≡ length (world.messages self.now) }
+        ensures count { result ≡ length (world.messages self.now) }
+        ensures fits { result < u64.MAX }
     {
         self.cluster.sent().count()
     }

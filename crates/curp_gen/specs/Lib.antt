@@ -1,0 +1,4 @@
+pub mod Commands
+pub mod Draws
+pub mod Making
+pub mod Texts

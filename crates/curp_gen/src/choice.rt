@@ -1,0 +1,1 @@
+// Which step comes next in a script that is being made.
