@@ -4,7 +4,7 @@
 #[cfg(test)]
 mod tests;
 
-use curp_play::start;
+use curp_run::start;
 use std::process::ExitCode;
 
 fn main(rt: HostRuntime) -> ExitCode {

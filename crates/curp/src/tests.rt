@@ -3,7 +3,7 @@ mod pairs;
 mod rows;
 
 use curp_io::{MemorySink, MemorySource};
-use curp_play::run;
+use curp_run::run;
 use rows::ROWS;
 use std::str;
 use std::test::Fail;

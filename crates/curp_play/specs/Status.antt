@@ -1,29 +1,12 @@
--- The command line, and what the program tells of how a run ended.
+-- How a run ended, and what the program tells of it.
 use Rattle.std.specs.Prelude.{◌≡◌, ℕ, ◌++◌, codes, Bool, true, false, List, [], ◌∷◌, Option, Some, None, Result, Ok, Err, ⊤}
-use Rattle.std.specs.Borrow.{Bor}
 use Rattle.std.specs.Fmt.{decimal}
-use Rattle.std.specs.Str.{bytes_eq}
-use Rattle.std.specs.declared.io.ErrorKind.{ErrorKind}
-use Rattle.std.specs.declared.io.ErrorKind.TheVariants as kind
 use Rattle.curp_script.specs.declared.error.LineError.{LineError}
 use Rattle.curp_script.specs.declared.error.LineError.TheVariants.{NoMemory}
 use Rattle.curp_script.specs.Script.{Ending, Whole, Bad, TooLong, TooMany, step_limit}
 use Rattle.curp_script.specs.Text.{reason_text}
 use Rattle.curp_play.specs.declared.status.Status.{Status}
 use Rattle.curp_play.specs.declared.status.Status.TheVariants as status
-
--- ---- the words
-
--- the words are the one word `play`
-abbrev pub is_play : List (Bor (List ℕ)) → Bool
-is_play [] = false
-is_play (word ∷ []) = bytes_eq word.now (codes "play")
-is_play (word ∷ next ∷ more) = false
-
--- words that are no text are no command line; any other error of reading them is want of memory
-abbrev pub unread_words : ErrorKind → Status
-unread_words kind.InvalidData = status.Usage
-unread_words _ = status.NoMemory
 
 -- ---- how a run ends
 
@@ -72,7 +55,7 @@ pub record TellsStatus (number : ℕ) : Type 0 where
 -- how the run ended, in words
 abbrev pub status_text : Status → List ℕ
 status_text status.Ok = codes "done"
-status_text status.Usage = codes "usage: curp play"
+status_text status.Usage = codes "usage: curp play, curp make [options]"
 status_text (status.BadLine line reason) = codes "line " ++ decimal line ++ codes ": " ++ reason_text reason
 status_text status.ReadFault = codes "reading failed"
 status_text status.WriteFault = codes "writing failed"

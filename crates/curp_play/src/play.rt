@@ -10,8 +10,9 @@ ghost use Rattle.curp_play.specs.Status.{ended, is_cut_short, status_of};
 
 use crate::reading::ScriptReader;
 use crate::status::Status;
+use crate::writing::{close, write};
 use curp_inv::laws;
-use curp_io::{Flushed, Sink, Source, Written, write_piece};
+use curp_io::{Sink, Source};
 use curp_report::{order_text, push_step_text};
 use curp_script::{Header, LineError, Step};
 use curp_world::{BeginError, World};
@@ -51,14 +52,8 @@ pub fn play_script<S: Source, K: Sink>(alloc: Global, source: &mut S, sink: &mut
     ensures no_write_fault { result ≢ Status.WriteFault → SameCount (K.faults sink.old) (K.faults sink.new) }
     ensures never_usage { result ≢ Status.Usage }
 {
-    let status = Status::of_run(play(alloc, source, sink));
-    if status.is_cut_short() {
-        return status;
-    }
-    match sink.flush() {
-        Flushed::Done => status,
-        Flushed::Failed => Status::WriteFault,
-    }
+    let played = play(alloc, source, sink);
+    close(sink, played)
 }
 
 /// Plays the script, and writes its text.
@@ -174,20 +169,4 @@ fn write_order<K: Sink>(alloc: Global, world: &World, sink: &mut K) -> Result<()
     let order = world.order(alloc)?;
     let text = order_text(alloc, &order)?;
     write(sink, &text)
-}
-
-/// Writes a piece.
-fn write<K: Sink>(sink: &mut K, bytes: &[u8]) -> Result<(), Status>
-    ensures wrote { K.tells sink.old ≡ true → OnOk result (K.held sink.new ≡ K.held sink.old ++ bytes.now) }
-    ensures front { K.tells sink.old ≡ true → HoldsPart (K.held sink.old) (K.held sink.new) bytes.now }
-    ensures writing { IfErr result IsOfWriting }
-    ensures tells { K.tells sink.old ≡ true → K.tells sink.new ≡ true }
-    ensures fault { result ≡ Err Status.WriteFault → Rose (K.faults sink.old) (K.faults sink.new) }
-    ensures no_fault { result ≢ Err Status.WriteFault → SameCount (K.faults sink.old) (K.faults sink.new) }
-{
-    match write_piece(sink, bytes) {
-        Written::Whole => Ok(()),
-        Written::WriteFault => Err(Status::WriteFault),
-        Written::NoMemory => Err(Status::NoMemory),
-    }
 }

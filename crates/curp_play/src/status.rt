@@ -1,12 +1,11 @@
 ghost use Rattle.std.specs.Prelude.{◌≡◌, option_map};
-ghost use Rattle.std.specs.IoError.{error_kind};
-ghost use Rattle.curp_play.specs.Status.{code_of, complaint_of, ended, is_cut_short, refused_at, unread_words};
+ghost use Rattle.curp_play.specs.Status.{code_of, complaint_of, ended, is_cut_short, refused_at};
 
 use crate::reading::STEP_LIMIT;
 use curp_base::NoMemory;
 use curp_script::LineError;
 use std::process::ExitCode;
-use std::{fmt, io};
+use std::fmt;
 
 /// How a run ended.
 #[derive(Clone, Copy, Debug, PartialEq, Eq)]
@@ -53,16 +52,6 @@ impl Status {
         match self {
             Status::Ok => None,
             _ => Some(Complaint(*self)),
-        }
-    }
-
-    /// The status of a run whose words can't be read, by std's error.
-    pub(crate) fn of_unread_words(error: &io::Error) -> Status
-        ensures { result ≡ unread_words (error_kind error.now) }
-    {
-        match error.kind() {
-            io::ErrorKind::InvalidData => Status::Usage,
-            _ => Status::NoMemory,
         }
     }
 
@@ -129,7 +118,7 @@ impl fmt::Display for Status {
     fn fmt<W: fmt::Write>(&self, f: &mut fmt::Formatter<W>) -> fmt::Result {
         match self {
             Status::Ok => write!(f, "done"),
-            Status::Usage => write!(f, "usage: curp play"),
+            Status::Usage => write!(f, "usage: curp play, curp make [options]"),
             Status::BadLine { line, reason } => write!(f, "line {line}: {reason}"),
             Status::ReadFault => write!(f, "reading failed"),
             Status::WriteFault => write!(f, "writing failed"),

@@ -1,5 +1,5 @@
 // What no clause says: that there is an answer where there is memory, also at the largest sizes.
-use crate::{Status, run};
+use crate::{Status, play_script};
 use curp_io::{MemorySink, MemorySource};
 use curp_script::{FieldName, LineError, Word};
 use std::alloc::Global;
@@ -23,7 +23,7 @@ fn played(
 ) -> Result<(Status, MemorySink), Fail> {
     let mut source = MemorySource::new(alloc, script.as_bytes(), reads)?;
     let mut sink = MemorySink::new(alloc, writes)?;
-    let status = run(alloc, &["play"], &mut source, &mut sink);
+    let status = play_script(alloc, &mut source, &mut sink);
     Ok((status, sink))
 }
 
@@ -197,23 +197,6 @@ fn lines_have_up_to_65536_bytes(rt: HostRuntime) -> Result<(), Fail> {
         (second, Status::LineTooLong { line: 2 }),
     ] {
         assert_eq!(rt; ends(rt.alloc(), script.as_str())?, status);
-    }
-    Ok(())
-}
-
-#[test]
-fn other_words_are_refused(rt: HostRuntime) -> Result<(), Fail> {
-    let none: [&str; 0] = [];
-    for words in [
-        none.as_slice(),
-        &["plya"],
-        &["play", "--f"],
-        &["play", "play"],
-    ] {
-        let mut source = MemorySource::new(rt.alloc(), HEADER.as_bytes(), &[])?;
-        let mut sink = MemorySink::new(rt.alloc(), &[])?;
-        let status = run(rt.alloc(), words, &mut source, &mut sink);
-        assert_eq!(rt; status, Status::Usage);
     }
     Ok(())
 }

@@ -1,6 +1,6 @@
 // From any one backup and any one witness all is recovered that has completed, after each front of a script.
 use curp_io::{MemorySink, MemorySource};
-use curp_play::run;
+use curp_run::run;
 use std::alloc::Global;
 use std::str;
 use std::test::Fail;

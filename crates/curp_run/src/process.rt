@@ -1,10 +1,12 @@
 ghost use Rattle.std.specs.Prelude.{◌≡◌};
 ghost use Rattle.std.specs.Process.{exit_status};
+ghost use Rattle.std.specs.IoError.{error_kind};
 ghost use Rattle.curp_play.specs.Status.{TellsStatus, code_of};
+ghost use Rattle.curp_run.specs.Run.{unread_words};
 
 use crate::command::run;
-use crate::status::Status;
 use curp_io::{StdSink, StdSource};
+use curp_play::Status;
 use std::process::ExitCode;
 use std::rt::Env;
 use std::{env, io};
@@ -16,7 +18,7 @@ pub fn start(rt: &(impl Env + Input + Print + Eprint + AllocGlobal)) -> ExitCode
 {
     let status = match run_words(rt) {
         Ok(status) => status,
-        Err(error) => Status::of_unread_words(&error),
+        Err(error) => of_unread_words(&error),
     };
     finish(rt, status)
 }
@@ -45,4 +47,14 @@ fn finish(rt: &impl Eprint, status: Status) -> ExitCode
         let _ = eprintln!(rt; "{complaint}");
     }
     ExitCode::from(status)
+}
+
+/// The status of a run whose words can't be read, by std's error.
+fn of_unread_words(error: &io::Error) -> Status
+    ensures { result ≡ unread_words (error_kind error.now) }
+{
+    match error.kind() {
+        io::ErrorKind::InvalidData => Status::Usage,
+        _ => Status::NoMemory,
+    }
 }

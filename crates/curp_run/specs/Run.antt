@@ -1,0 +1,27 @@
+-- How a run of the program ends.
+use Rattle.std.specs.Prelude.{◌≡◌, ◌⊎◌, ℕ, Option, Some, None, List, map}
+use Rattle.std.specs.Borrow.{Bor}
+use Rattle.std.specs.declared.io.ErrorKind.{ErrorKind}
+use Rattle.std.specs.declared.io.ErrorKind.TheVariants as kind
+use Rattle.curp_io.specs.Streams.{Rose}
+use Rattle.curp_play.specs.declared.status.Status.{Status}
+use Rattle.curp_play.specs.declared.status.Status.TheVariants as status
+use Rattle.curp_words.specs.Words.{order_in}
+use Rattle.curp_words.specs.declared.order.Order.{Order}
+
+-- what words ask for
+abbrev pub asked : List (Bor (List ℕ)) → Option Order
+asked words = order_in (map (λ word. word.now) words)
+
+-- words that are no text are no command line; any other error of reading them is want of memory
+abbrev pub unread_words : ErrorKind → Status
+unread_words kind.InvalidData = status.Usage
+unread_words _ = status.NoMemory
+
+-- what is made is written, or writing failed, or there was no memory
+abbrev pub IsOfMaking : Status → Type 0
+IsOfMaking result = (result ≡ status.Ok) ⊎ ((result ≡ status.WriteFault) ⊎ (result ≡ status.NoMemory))
+
+-- with no fault of its output, it ends with the status 0, or for want of memory
+abbrev pub EndsMade : Status → (before after : ℕ) → Type 0
+EndsMade result before after = (Rose before after → ⊥) → (result ≡ status.Ok) ⊎ (result ≡ status.NoMemory)

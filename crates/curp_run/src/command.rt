@@ -1,0 +1,77 @@
+ghost use Rattle.std.specs.Prelude.{◌≡◌, ◌≢◌, ◌⊎◌, ◌↔◌, ◌++◌, [], true, false, Some, None};
+ghost use Rattle.curp_io.specs.Streams.{HoldsPart, Rose, SameCount};
+ghost use Rattle.curp_gen.specs.Texts.{made_text};
+ghost use Rattle.curp_play.specs.Play.{EndsWhole, HasAnOrder, script_in, text_of};
+ghost use Rattle.curp_play.specs.Status.{is_cut_short, status_of};
+ghost use Rattle.curp_run.specs.Run.{EndsMade, IsOfMaking, asked};
+ghost use Rattle.curp_script.specs.Script.{Whole};
+ghost use Rattle.curp_words.specs.declared.order.MakePlan.{MakePlan};
+ghost use Rattle.curp_words.specs.declared.order.Output.{Output};
+
+use crate::script::make_script;
+use curp_io::{Sink, Source};
+use curp_play::{Status, play_script};
+use curp_words::{Order, WordsError, read};
+use std::alloc::Global;
+
+/// Does what the words of the command line say, those behind the program's name: `play` reads a script from the source
+/// and writes its text to the sink, as `play_script`; `make`, with its options, writes a script or its summary, as
+/// `make_script`.
+pub fn run<S: Source, K: Sink>(
+    alloc: Global,
+    words: &[&str],
+    source: &mut S,
+    sink: &mut K,
+) -> Status
+    // Words that are no command line are refused, and nothing is read or written then.
+    ensures usage { result ≡ Status.Usage → asked words.now ≡ None }
+    ensures no_order { asked words.now ≡ None → (result ≡ Status.Usage) ⊎ (result ≡ Status.NoMemory) }
+    ensures untouched { asked words.now ≡ None → (source.new ≡ source.old) × (sink.new ≡ sink.old) }
+
+    // With `play` it ends as the script does, unless a fault or want of memory cuts it short.
+    ensures ends { asked words.now ≡ Some Order.Play → S.tells source.old ≡ true → is_cut_short result ≡ false
+        → result ≡ status_of (script_in (S.left source.old)).body.ending }
+    ensures end { asked words.now ≡ Some Order.Play → S.tells source.old ≡ true → result ≡ Status.Ok
+        → S.left source.new ≡ [] }
+    ensures complete { asked words.now ≡ Some Order.Play → S.tells source.old ≡ true
+        → (script_in (S.left source.old)).body.ending ≡ Whole
+        → EndsWhole result (S.faults source.old) (S.faults source.new) (K.faults sink.old) (K.faults sink.new) }
+
+    // It writes the text of the script; where it is cut short, it writes a front of the text.
+    ensures wrote { asked words.now ≡ Some Order.Play → S.tells source.old ≡ true → K.tells sink.old ≡ true
+        → is_cut_short result ≡ false → K.held sink.new ≡ K.held sink.old ++ text_of (script_in (S.left source.old)) }
+    ensures front { asked words.now ≡ Some Order.Play → S.tells source.old ≡ true → K.tells sink.old ≡ true
+        → HoldsPart (K.held sink.old) (K.held sink.new) (text_of (script_in (S.left source.old))) }
+
+    // The order that it prints is one of the history.
+    ensures order { asked words.now ≡ Some Order.Play → S.tells source.old ≡ true → result ≡ Status.Ok
+        → HasAnOrder (script_in (S.left source.old)) }
+
+    // With `make` it writes what the plan gives, or a front of it, and reads nothing.
+    ensures made { (plan : MakePlan) (output : Output) → asked words.now ≡ Some (Order.Make plan output)
+        → K.tells sink.old ≡ true → result ≡ Status.Ok → K.held sink.new ≡ K.held sink.old ++ made_text plan output }
+    ensures made_front { (plan : MakePlan) (output : Output) → asked words.now ≡ Some (Order.Make plan output)
+        → K.tells sink.old ≡ true → HoldsPart (K.held sink.old) (K.held sink.new) (made_text plan output) }
+    ensures unread { (plan : MakePlan) (output : Output) → asked words.now ≡ Some (Order.Make plan output)
+        → source.new ≡ source.old }
+    ensures of_making { (plan : MakePlan) (output : Output) → asked words.now ≡ Some (Order.Make plan output)
+        → IsOfMaking result }
+    ensures complete_making { (plan : MakePlan) (output : Output) → asked words.now ≡ Some (Order.Make plan output)
+        → EndsMade result (K.faults sink.old) (K.faults sink.new) }
+
+    // What it wrote is passed on.
+    ensures flushed { asked words.now ≢ None → is_cut_short result ≡ false → K.flushed sink.new ≡ true }
+
+    // A fault comes exactly where the count of faults rose first.
+    ensures read_fault { result ≡ Status.ReadFault → Rose (S.faults source.old) (S.faults source.new) }
+    ensures no_read_fault { result ≢ Status.ReadFault → SameCount (S.faults source.old) (S.faults source.new) }
+    ensures write_fault { result ≡ Status.WriteFault → Rose (K.faults sink.old) (K.faults sink.new) }
+    ensures no_write_fault { result ≢ Status.WriteFault → SameCount (K.faults sink.old) (K.faults sink.new) }
+{
+    match read(alloc, words) {
+        Ok(Order::Play) => play_script(alloc, source, sink),
+        Ok(Order::Make(plan, output)) => make_script(alloc, &plan, output, sink),
+        Err(WordsError::Usage) => Status::Usage,
+        Err(WordsError::NoMemory) => Status::NoMemory,
+    }
+}

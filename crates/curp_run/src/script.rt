@@ -1,0 +1,120 @@
+ghost use Rattle.std.specs.Prelude.{◌≡◌, ◌≢◌, ◌++◌, true, false, Err, OnOk, IfErr};
+ghost use Rattle.curp_io.specs.Streams.{HoldsPart, Rose, SameCount};
+ghost use Rattle.curp_gen.specs.Texts.{made_text, script_text, summary_text};
+ghost use Rattle.curp_gen.specs.Making.{after, begun, summary_of};
+ghost use Rattle.curp_play.specs.Reading.{IsOfWriting};
+ghost use Rattle.curp_play.specs.Status.{is_cut_short};
+ghost use Rattle.curp_run.specs.Run.{EndsMade, IsOfMaking};
+ghost use Rattle.curp_words.specs.Plan.{IsPlan};
+
+use curp_gen::Maker;
+use curp_io::Sink;
+use curp_play::{Status, close, write};
+use curp_script::{print_header, print_line};
+use curp_words::{MakePlan, Output};
+use std::alloc::Global;
+
+/// Writes the script of a plan, or its summary: what happens in it, in numbers. It takes no handle, and returns.
+///
+/// The script is written line by line, as its steps are made.
+pub fn make_script<K: Sink>(
+    alloc: Global,
+    plan: &MakePlan,
+    output: Output,
+    sink: &mut K,
+) -> Status
+    requires { IsPlan plan.now }
+    // It writes what the plan gives and passes it on; where it is cut short, it writes a front of it.
+    ensures wrote { K.tells sink.old ≡ true → result ≡ Status.Ok
+        → K.held sink.new ≡ K.held sink.old ++ made_text plan.now output }
+    ensures front { K.tells sink.old ≡ true
+        → HoldsPart (K.held sink.old) (K.held sink.new) (made_text plan.now output) }
+    ensures flushed { result ≡ Status.Ok → K.flushed sink.new ≡ true }
+
+    // A write fault comes exactly where the count of faults rose; want of memory is the one other failure.
+    ensures of_making { IsOfMaking result }
+    ensures complete { EndsMade result (K.faults sink.old) (K.faults sink.new) }
+    ensures write_fault { result ≡ Status.WriteFault → Rose (K.faults sink.old) (K.faults sink.new) }
+    ensures no_write_fault { result ≢ Status.WriteFault → SameCount (K.faults sink.old) (K.faults sink.new) }
+{
+    let made = match output {
+        Output::Script => write_script(alloc, plan, sink),
+        Output::Summary => write_summary(alloc, plan, sink),
+    };
+    close(sink, made)
+}
+
+// Writes the script of a plan.
+fn write_script<K: Sink>(alloc: Global, plan: &MakePlan, sink: &mut K) -> Result<(), Status>
+    requires { IsPlan plan.now }
+    ensures wrote { K.tells sink.old ≡ true
+        → OnOk result (K.held sink.new ≡ K.held sink.old ++ script_text plan.now) }
+    ensures front { K.tells sink.old ≡ true → HoldsPart (K.held sink.old) (K.held sink.new) (script_text plan.now) }
+    ensures writing { IfErr result IsOfWriting }
+    ensures tells { K.tells sink.old ≡ true → K.tells sink.new ≡ true }
+    ensures fault { result ≡ Err Status.WriteFault → Rose (K.faults sink.old) (K.faults sink.new) }
+    ensures no_fault { result ≢ Err Status.WriteFault → SameCount (K.faults sink.old) (K.faults sink.new) }
+{
+    let mut maker = Maker::new(alloc, plan)?;
+    let header = print_header(alloc, &maker.header())?;
+    write_line(header, sink)?;
+    write_steps(alloc, plan.steps, &mut maker, sink)
+}
+
+// Writes so many steps more.
+fn write_steps<K: Sink>(
+    alloc: Global,
+    count: u32,
+    maker: &mut Maker,
+    sink: &mut K,
+) -> Result<(), Status>
+    requires { maker.old.made + count ≤ maker.old.plan.steps }
+    ensures wrote { K.tells sink.old ≡ true
+        → OnOk result (K.held sink.new ≡ K.held sink.old ++ lines_text (steps_from count maker.old)) }
+    ensures front { K.tells sink.old ≡ true
+        → HoldsPart (K.held sink.old) (K.held sink.new) (lines_text (steps_from count maker.old)) }
+    ensures writing { IfErr result IsOfWriting }
+    ensures tells { K.tells sink.old ≡ true → K.tells sink.new ≡ true }
+    ensures fault { result ≡ Err Status.WriteFault → Rose (K.faults sink.old) (K.faults sink.new) }
+    ensures no_fault { result ≢ Err Status.WriteFault → SameCount (K.faults sink.old) (K.faults sink.new) }
+{
+    for _ in 0..count {
+        let step = maker.next_step()?;
+        let line = print_line(alloc, &step)?;
+        write_line(line, sink)?;
+    }
+    Ok(())
+}
+
+// Writes a line, with a line feed.
+fn write_line<K: Sink>(mut line: Vec<u8>, sink: &mut K) -> Result<(), Status>
+    ensures wrote { K.tells sink.old ≡ true → OnOk result (K.held sink.new ≡ K.held sink.old ++ line_text line.items) }
+    ensures front { K.tells sink.old ≡ true → HoldsPart (K.held sink.old) (K.held sink.new) (line_text line.items) }
+    ensures writing { IfErr result IsOfWriting }
+    ensures tells { K.tells sink.old ≡ true → K.tells sink.new ≡ true }
+    ensures fault { result ≡ Err Status.WriteFault → Rose (K.faults sink.old) (K.faults sink.new) }
+    ensures no_fault { result ≢ Err Status.WriteFault → SameCount (K.faults sink.old) (K.faults sink.new) }
+{
+    line.push(b'\n')?;
+    write(sink, &line)
+}
+
+// Makes the script of a plan, and writes what happened in it.
+fn write_summary<K: Sink>(alloc: Global, plan: &MakePlan, sink: &mut K) -> Result<(), Status>
+    requires { IsPlan plan.now }
+    ensures wrote { K.tells sink.old ≡ true → OnOk result (K.held sink.new
+        ≡ K.held sink.old ++ summary_text (summary_of (after plan.now.steps (begun plan.now)))) }
+    ensures front { K.tells sink.old ≡ true → HoldsPart (K.held sink.old) (K.held sink.new)
+        (summary_text (summary_of (after plan.now.steps (begun plan.now)))) }
+    ensures writing { IfErr result IsOfWriting }
+    ensures fault { result ≡ Err Status.WriteFault → Rose (K.faults sink.old) (K.faults sink.new) }
+    ensures no_fault { result ≢ Err Status.WriteFault → SameCount (K.faults sink.old) (K.faults sink.new) }
+{
+    let mut maker = Maker::new(alloc, plan)?;
+    for _ in 0..plan.steps {
+        maker.next_step()?;
+    }
+    let summary = maker.summary(alloc)?;
+    let text = format!(in alloc; "{summary}")?;
+    write(sink, text.as_bytes())
+}
