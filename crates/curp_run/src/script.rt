@@ -1,9 +1,8 @@
-ghost use Rattle.std.specs.Prelude.{◌≡◌, ◌≢◌, ◌++◌, true, false, Err, OnOk, IfErr};
+ghost use Rattle.std.specs.Prelude.{◌≡◌, ◌≢◌, ◌≤◌, ◌+◌, ◌++◌, true, Err, OnOk, IfErr};
 ghost use Rattle.curp_io.specs.Streams.{HoldsPart, Rose, SameCount};
-ghost use Rattle.curp_gen.specs.Texts.{made_text, script_text, summary_text};
-ghost use Rattle.curp_gen.specs.Making.{after, begun, summary_of};
+ghost use Rattle.curp_gen.specs.Texts.{line_text, lines_text, made_text, script_text, summary_text};
+ghost use Rattle.curp_gen.specs.Making.{after, begun, steps_from, summary_of};
 ghost use Rattle.curp_play.specs.Reading.{IsOfWriting};
-ghost use Rattle.curp_play.specs.Status.{is_cut_short};
 ghost use Rattle.curp_run.specs.Run.{EndsMade, IsOfMaking};
 ghost use Rattle.curp_words.specs.Plan.{IsPlan};
 
@@ -37,11 +36,31 @@ pub fn make_script<K: Sink>(
     ensures write_fault { result ≡ Status.WriteFault → Rose (K.faults sink.old) (K.faults sink.new) }
     ensures no_write_fault { result ≢ Status.WriteFault → SameCount (K.faults sink.old) (K.faults sink.new) }
 {
-    let made = match output {
+    let made = write_made(alloc, plan, output, sink);
+    close(sink, made)
+}
+
+// Writes the script of a plan, or its summary.
+fn write_made<K: Sink>(
+    alloc: Global,
+    plan: &MakePlan,
+    output: Output,
+    sink: &mut K,
+) -> Result<(), Status>
+    requires { IsPlan plan.now }
+    ensures wrote { K.tells sink.old ≡ true
+        → OnOk result (K.held sink.new ≡ K.held sink.old ++ made_text plan.now output) }
+    ensures front { K.tells sink.old ≡ true
+        → HoldsPart (K.held sink.old) (K.held sink.new) (made_text plan.now output) }
+    ensures writing { IfErr result IsOfWriting }
+    ensures tells { K.tells sink.old ≡ true → K.tells sink.new ≡ true }
+    ensures fault { result ≡ Err Status.WriteFault → Rose (K.faults sink.old) (K.faults sink.new) }
+    ensures no_fault { result ≢ Err Status.WriteFault → SameCount (K.faults sink.old) (K.faults sink.new) }
+{
+    match output {
         Output::Script => write_script(alloc, plan, sink),
         Output::Summary => write_summary(alloc, plan, sink),
-    };
-    close(sink, made)
+    }
 }
 
 // Writes the script of a plan.
@@ -95,7 +114,8 @@ fn write_line<K: Sink>(mut line: Vec<u8>, sink: &mut K) -> Result<(), Status>
     ensures fault { result ≡ Err Status.WriteFault → Rose (K.faults sink.old) (K.faults sink.new) }
     ensures no_fault { result ≢ Err Status.WriteFault → SameCount (K.faults sink.old) (K.faults sink.new) }
 {
-    line.push(b'\n')?;
+    line.reserve(1)?;
+    line.push_reserved(b'\n');
     write(sink, &line)
 }
 
@@ -106,6 +126,7 @@ fn write_summary<K: Sink>(alloc: Global, plan: &MakePlan, sink: &mut K) -> Resul
         ≡ K.held sink.old ++ summary_text (summary_of (after plan.now.steps (begun plan.now)))) }
     ensures front { K.tells sink.old ≡ true → HoldsPart (K.held sink.old) (K.held sink.new)
         (summary_text (summary_of (after plan.now.steps (begun plan.now)))) }
+    ensures tells { K.tells sink.old ≡ true → K.tells sink.new ≡ true }
     ensures writing { IfErr result IsOfWriting }
     ensures fault { result ≡ Err Status.WriteFault → Rose (K.faults sink.old) (K.faults sink.new) }
     ensures no_fault { result ≢ Err Status.WriteFault → SameCount (K.faults sink.old) (K.faults sink.new) }

@@ -1,0 +1,45 @@
+use Rattle.std.proofs.Common.{rules, ◌≡◌, ◌+◌, ◌-◌, ◌++◌, ◌∙◌, List, ℕ, subst, sym, ap}
+use Rattle.curp_gen.specs.Making.{Making, next_step, steps_from, with_next}
+use Rattle.curp_gen.specs.Texts.{line_text, lines_text, step_line}
+use Rattle.curp_io.specs.Streams.{HoldsPart}
+use Rattle.curp_play.proofs.SoFar.{SoFar}
+use Rattle.curp_run.proofs.Pieces.{goes_further, is_whole, still_front}
+use Rattle.curp_run.proofs.Steps.{counted_more, next_line, no_line, printed_line}
+use Rattle.curp_run.proofs.script.write_steps.Goals as goal
+
+pub returns-in_err-write_line-clause-front : goal.returns-in_err-write_line-clause-front
+returns-in_err-write_line-clause-front g c = λ tells.
+    let text = lines_text (steps_from c.args.count c.args.maker.now) in
+    let old = g.K.Sink.held c.args.sink.now in
+    let now = g.K.Sink.held c.loop.sink in
+    let new = g.K.Sink.held c.write_line.new.sink in
+    let piece = step_line (next_step c.loop.maker) in
+    let rest = lines_text (steps_from (c.args.count - (c.loop.counter + 1)) (with_next c.loop.maker)) in
+    let due : SoFar text old now (piece ++ rest) =
+        subst (λ d. SoFar text old now d) (next_line c.loop.maker c.loop.counter c.args.count c.loop-test.true) (c.loop.invariant.written tells) in
+    let line = printed_line c.loop.maker c.in_ok-step.step c.in_ok-line.line.items c.in_ok-line.ensures.text c.in_ok-step.ensures.step in
+    let wrote : HoldsPart now new piece = subst (λ l. HoldsPart now new l) line (c.write_line.ensures.front (c.loop.invariant.sink_tells tells)) in
+    still_front text old now new piece rest due wrote
+
+pub loop-preserved : goal.loop-preserved
+loop-preserved g c = record {
+  counted = counted_more c.loop.maker c.next_step.new.self c.loop.counter c.args.count c.in_ok-step.ensures.state c.loop-test.true c.loop.invariant.counted.1;
+  sink_tells = search rules;
+  sink_faults = search rules;
+  written = λ tells.
+      let text = lines_text (steps_from c.args.count c.args.maker.now) in
+      let old = g.K.Sink.held c.args.sink.now in
+      let now = g.K.Sink.held c.loop.sink in
+      let new = g.K.Sink.held c.write_line.new.sink in
+      let piece = step_line (next_step c.loop.maker) in
+      let left = λ (m : Making). lines_text (steps_from (c.args.count - (c.loop.counter + 1)) m) in
+      let due : SoFar text old now (piece ++ left (with_next c.loop.maker)) =
+          subst (λ d. SoFar text old now d) (next_line c.loop.maker c.loop.counter c.args.count c.loop-test.true) (c.loop.invariant.written tells) in
+      let line = printed_line c.loop.maker c.in_ok-step.step c.in_ok-line.line.items c.in_ok-line.ensures.text c.in_ok-step.ensures.step in
+      let wrote : new ≡ now ++ piece = c.in_ok-write_line.ensures.wrote (c.loop.invariant.sink_tells tells) ∙ ap (λ l. now ++ l) line in
+      subst (λ m. SoFar text old new (left m)) (sym c.in_ok-step.ensures.state) (goes_further text old now new piece (left (with_next c.loop.maker)) due wrote);
+}
+
+pub returns-clause-wrote : goal.returns-clause-wrote
+returns-clause-wrote g c = λ tells.
+    is_whole _ _ _ _ (c.loop.invariant.written tells) (no_line c.loop.maker c.loop.counter c.args.count (search rules))
