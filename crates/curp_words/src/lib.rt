@@ -1,7 +1,9 @@
 //! The words of the command line, and what they ask for.
 #![tactic(auto)]
 
+mod make;
 mod order;
+mod setting;
 mod words;
 
 pub use order::{MakePlan, Order, Output, WordsError};
