@@ -9,8 +9,8 @@ abbrev pub valued_rule : Text → Rule
 valued_rule name = record (new_rule name) { long = Some name; action = Some Set }
 
 -- the word that stands for itself
-abbrev pub command_rule : Rule
-command_rule = record (new_rule (codes "command")) { action = Some Set }
+abbrev pub bare_rule : Text → Rule
+bare_rule name = record (new_rule name) { action = Some Set }
 
 -- an option with no value
 abbrev pub flag_rule : Text → Rule
@@ -23,7 +23,7 @@ bare_app = on_top (λ top. record top { no_binary_name = true; disable_help_flag
 -- `make` with its options
 abbrev pub make_app : App
 make_app = with_rule (with_rule (with_rule (with_rule (with_rule (with_rule (with_rule (with_rule (with_rule (with_rule bare_app
-    command_rule)
+    (bare_rule (codes "command")))
     (valued_rule (codes "number"))) (valued_rule (codes "f"))) (valued_rule (codes "sets"))) (valued_rule (codes "ways")))
     (valued_rule (codes "clients"))) (valued_rule (codes "parts"))) (valued_rule (codes "steps")))
     (valued_rule (codes "recoveries"))) (flag_rule (codes "summary"))

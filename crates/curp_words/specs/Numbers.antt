@@ -2,11 +2,11 @@
 use Rattle.std.specs.Prelude.{◌^◌, ◌&&◌, ℕ, Bool, List, Option, Some, None, if◌then◌else◌, option_and_then, length, nat_le, nat_lt}
 use Rattle.std.specs.List.{list_all}
 use Rattle.std.specs.Str.Parse.{digits_value}
-use Rattle.clap.specs.Lexer.{is_digit}
+use Rattle.std.specs.Char.{is_ascii_digit}
 
 -- one to twenty decimal digits
 abbrev pub is_number : List ℕ → Bool
-is_number text = nat_le 1 (length text) && (nat_le (length text) 20 && list_all is_digit text)
+is_number text = nat_le 1 (length text) && (nat_le (length text) 20 && list_all is_ascii_digit text)
 
 -- their number, below 2^64
 abbrev pub number_of : List ℕ → Option ℕ

@@ -1,7 +1,8 @@
-ghost use Rattle.std.specs.Prelude.{◌≡◌, IfOk};
+ghost use Rattle.std.specs.Prelude.{◌≡◌, IfOk, false};
 ghost use Rattle.clap.specs.Matches.{first_value, found_of};
 ghost use Rattle.clap.specs.Simple.{app_of};
-ghost use Rattle.curp_words.specs.Command.{make_app};
+ghost use Rattle.clap.specs.Walk.{rule_of};
+ghost use Rattle.curp_words.specs.Command.{bare_app, bare_rule, flag_rule, make_app};
 ghost use Rattle.curp_words.specs.Words.{order_by, output_by, plan_by};
 
 use crate::order::{MakePlan, Order, Output};
@@ -69,14 +70,8 @@ const RECOVERIES: Setting = Setting {
 pub(crate) fn make_command<'a>(alloc: Global) -> Result<Command<'a>, AllocError>
     ensures { IfOk result (λ command. app_of command ≡ make_app) }
 {
-    let word = Arg::new(alloc, "command").action(ArgAction::Set);
-    let summary = Arg::new(alloc, "summary")
-        .long("summary")
-        .action(ArgAction::SetTrue);
-    Command::new(alloc, "curp")
-        .no_binary_name(true)
-        .disable_help_flag(true)
-        .arg(word)?
+    bare_command(alloc)
+        .arg(bare(alloc, "command"))?
         .arg(NUMBER.arg(alloc))?
         .arg(F.arg(alloc))?
         .arg(SETS.arg(alloc))?
@@ -85,7 +80,33 @@ pub(crate) fn make_command<'a>(alloc: Global) -> Result<Command<'a>, AllocError>
         .arg(PARTS.arg(alloc))?
         .arg(STEPS.arg(alloc))?
         .arg(RECOVERIES.arg(alloc))?
-        .arg(summary)
+        .arg(flag(alloc, "summary"))
+}
+
+fn bare_command<'a>(alloc: Global) -> Command<'a>
+    ensures { app_of result ≡ bare_app }
+{
+    Command::new(alloc, "curp")
+        .no_binary_name(true)
+        .disable_help_flag(true)
+}
+
+// The word that stands for itself.
+fn bare<'a>(alloc: Global, name: &'a str) -> Arg<'a>
+    ensures rule { rule_of result ≡ bare_rule name.now }
+    ensures local { result.global ≡ false }
+{
+    Arg::new(alloc, name).action(ArgAction::Set)
+}
+
+// An option without a value.
+fn flag<'a>(alloc: Global, name: &'a str) -> Arg<'a>
+    ensures rule { rule_of result ≡ flag_rule name.now }
+    ensures local { result.global ≡ false }
+{
+    Arg::new(alloc, name)
+        .long(name)
+        .action(ArgAction::SetTrue)
 }
 
 /// The order that the values of the words are.

@@ -1,4 +1,6 @@
 ghost use Rattle.std.specs.Prelude.{◌≡◌, ◌<◌, ◌^◌, ◌&&◌, false, nat_le};
+ghost use Rattle.std.specs.Char.{is_ascii_digit};
+ghost use Rattle.std.specs.List.{list_all};
 ghost use Rattle.clap.specs.Matches.{first_value, found_of};
 ghost use Rattle.clap.specs.Walk.{rule_of};
 ghost use Rattle.curp_words.specs.Command.{valued_rule};
@@ -58,9 +60,14 @@ impl Setting {
 fn number_of(text: &str) -> Option<u64>
     ensures { result ≡ number_of text.now }
 {
-    let digits = text.as_bytes();
-    if digits.len() > 20 || !digits.iter().all(|digit| digit.is_ascii_digit()) {
+    if text.len() > 20 || !are_digits(text.as_bytes()) {
         return None;
     }
     text.parse().ok()
+}
+
+fn are_digits(bytes: &[u8]) -> bool
+    ensures { result ≡ list_all is_ascii_digit bytes.now }
+{
+    bytes.iter().all(|byte| byte.is_ascii_digit())
 }
