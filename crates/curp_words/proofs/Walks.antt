@@ -1,7 +1,7 @@
 -- What clap makes of the words of a command with one word, options and flags: its walk over them gives what `given_from`
 -- says, and fails where that says that nothing is given, or something twice.
 use Rattle.std.proofs.Common.{◌≡◌, ◌∙◌, ◌⊎◌, ◌&&◌, ◌||◌, ◌++◌, ℕ, Bool, cond, true, false, not, refl, sym, ap, ap₂, subst, List, [], ◌∷◌, Option, Some, None, inl, inr, codes, true≢false, append-nil, fold}
-use Rattle.std.specs.Prelude.{find, option_and_then, option_map, is_some, unwrap_or, ⊤}
+use Rattle.std.specs.Prelude.{find, option_and_then, nat_lt, option_map, is_some, unwrap_or, ⊤}
 use Rattle.std.specs.List.{list_all, list_any}
 use Rattle.std.specs.Option.{option_map_or}
 use Rattle.std.specs.Str.{bytes_eq}
@@ -9,8 +9,10 @@ use Rattle.std.proofs.lemmas.List.Folds.{list_any-append}
 use Rattle.std.proofs.lemmas.Slice.Eq.{bytes_eq-Decides}
 use Rattle.clap.specs.Lexer.{long_of, short_of, strip_byte}
 use Rattle.clap.specs.Kinds.{Kinds, or_else}
-use Rattle.clap.specs.Walk.{Held, Row, Rule, Text, Waiting, Walk, after_step, arg_by_id, arg_by_index, arg_by_long, at_row, has_row, idle, is_pending, long_word, more_values, nothing_held, option, plain_word, pushed, reacted, settled, subcommand_met, to_positional, used, used_by_id, walked, with_values, without}
+use Rattle.clap.specs.Walk.{Held, Row, Rule, Text, Waiting, Walk, next as next_step, after_flag, after_step, long_met, arg_by_id, arg_by_index, arg_by_long, at_row, has_row, idle, is_pending, long_word, more_values, nothing_held, option, option_word, plain_word, pushed, reacted, settled, subcommand_met, to_positional, used, used_by_id, walk_from, walked, with_values, without}
 use Rattle.clap.specs.Faults.{long_fault, positional_fault, react_fault, repeat_fault, settle_fault, step_fault, turn_fault, use_fault, walk_fault}
+use Rattle.clap.proofs.FaultLemmas.{past}
+use Rattle.clap.proofs.WalkLemmas.{both}
 use Rattle.clap.specs.Simple.{Shape, filled, with_index}
 use Rattle.clap.specs.declared.builder.value_parser.Reading.TheVariants.{AsWritten}
 use Rattle.clap.specs.declared.error.kind.ErrorKind.TheVariants as kind
@@ -396,3 +398,220 @@ module _ (c : List Rule) where
             walk_is = bare_walk h idle 1 word is
                 ∙ ap (λ (o : Option Rule). to_positional c o word (stands h idle 1) h) knows.first
                 ∙ ap (λ b. stands (pushed (codes "command") word (cond b h (settled c h))) idle 2) (and_false (is_pending bare_built h.pending))
+
+      -- an option, where no other waits
+      module _ (h : Held) (given : Given) (word name : Text) (v : Option Text) (rest : List Text) (is : IsOption word name v) (next : Rest rest) where
+        abbrev here : Walk
+        here = stands h idle (position_of given)
+
+        abbrev turn_by : Option Rule → Kinds
+        turn_by o = or_else (long_fault c false o v h)
+            (step_fault (with_rules c) (position_of given) (after_flag c idle word (long_met c o v h).0 (long_met c o v h).1).0
+            (after_flag c idle word (long_met c o v h).0 (long_met c o v h).1).1)
+
+        abbrev walk_by : Option Rule → Walk
+        walk_by o = after_step c word here (after_flag c idle word (long_met c o v h).0 (long_met c o v h).1).0
+            (after_flag c idle word (long_met c o v h).0 (long_met c o v h).1).1
+
+        turn_is : (o : Option Rule) → arg_by_long c name ≡ o → fault_at here word ≡ turn_by o
+        turn_is o e = option_turn h idle (position_of given) word name v is ∙ ap turn_by e
+
+        walk_is : (o : Option Rule) → arg_by_long c name ≡ o → walked c [] here word ≡ walk_by o
+        walk_is o e = option_walk h idle (position_of given) word name v is ∙ ap walk_by e
+
+        abbrev Then : Option Given → Type 0
+        Then o = Ends (kinds_from here (word ∷ rest)) (rows_from here (word ∷ rest)) o
+
+        -- it is refused
+        refused_option : (o : Option Rule) → arg_by_long c name ≡ o → (turn_by o ≡ [] → ⊥) → Then None
+        refused_option o e fails = fails_at here word rest None (λ none. fails (sym (turn_is o e) ∙ none)) tt
+
+        -- it has its value
+        reacts : (a : Rule) (values : List Text) (value : Text) → arg_by_long c name ≡ Some a
+            → turn_by (Some a) ≡ react_fault c false a values h → walk_by (Some a) ≡ stands (reacted c a values h) idle (position_of given)
+            → use_fault false a values (settled c h).rows ≡ repeat_fault false name (settled c h).rows
+            → used a values (settled c h).rows ≡ with_values name AsWritten CommandLine (value ∷ []) (without name (settled c h).rows)
+            → bytes_eq name (codes "command") ≡ false → FollowsOnce (settle_fault c false h) (settled c h).rows given
+            → Then (given_from options None ((name, value) ∷ given) rest)
+        reacts a values value e turn walk fault is_used apart follows = elim follows [
+          | inr twice ↦ fails_at here word rest _ (λ none. fails_first _ _ twice.1 (sym fault_is ∙ none))
+              (from_twice rest None ((name, value) ∷ given) (twice_more (name, value) given twice.0))
+          | inl once ↦ elim (used_once name value (settled c h).rows given once.0 once.2) [
+            | inr twice ↦ fails_at here word rest _ (λ none. twice.1 (sym (fault_is ∙ past _ _ once.1 ∙ fault) ∙ none))
+                (from_twice rest None ((name, value) ∷ given) twice.0)
+            | inl more ↦ moves here (stands (reacted c a values h) idle (position_of given)) word rest _
+                (fault_is ∙ past _ _ once.1 ∙ fault ∙ more.1) (walk_is (Some a) e ∙ walk)
+                (next (stands (reacted c a values h) idle (position_of given)) None ((name, value) ∷ given)
+                (reacted c a values h, ap (λ b. stands (reacted c a values h) idle (cond (b || is_given (codes "command") given) 2 1)) (sym apart),
+                inl (more.0, refl, is_used ∙ more.2)))
+          ]
+        ]
+          where
+            fault_is : fault_at here word ≡ react_fault c false a values h
+            fault_is = turn_is (Some a) e ∙ turn
+
+        -- it waits for its value
+        starts : is_among options.valued name ≡ true → arg_by_long c name ≡ Some (valued_built name)
+            → turn_by (Some (valued_built name)) ≡ settle_fault c false h
+            → walk_by (Some (valued_built name)) ≡ stands (waits name (settled c h).rows h.skip) (option name) (position_of given)
+            → FollowsOnce (settle_fault c false h) (settled c h).rows given → Then (given_from options (Some name) given rest)
+        starts known e turn walk follows = elim follows [
+          | inr twice ↦ fails_at here word rest _ (λ none. twice.1 (sym (turn_is _ e ∙ turn) ∙ none)) (from_twice rest (Some name) given twice.0)
+          | inl once ↦ moves here (stands (waits name (settled c h).rows h.skip) (option name) (position_of given)) word rest _
+              (turn_is _ e ∙ turn ∙ once.1) (walk_is _ e ∙ walk)
+              (next (stands (waits name (settled c h).rows h.skip) (option name) (position_of given)) (Some name) given
+              ((settled c h).rows, h.skip, refl, once.0, once.2, known))
+        ]
+
+      -- what follows where the words were read as far as this
+      abbrev go_on : List Text → Option Reading → Option Given
+      go_on rest o = option_and_then (λ (reading : Reading). given_from options reading.waiting reading.given rest) o
+
+
+      abbrev flag_given : Text → Given → Bool → Option Reading
+      flag_given name given b = cond b (Some (gives ((name, codes "true") ∷ given))) None
+
+      idle_option : (h : Held) (given : Given) (word name : Text) (v : Option Text) (rest : List Text) (is : IsOption word name v) (next : Rest rest)
+          → FollowsOnce (settle_fault c false h) (settled c h).rows given
+          → Then h given word name v rest is next (go_on rest (with_option options given name v))
+      idle_option h given word name (Some value) rest is next follows = by_test (is_among options.valued name)
+          (λ known. subst (λ b. Then h given word name (Some value) rest is next (go_on rest (cond b (Some (gives ((name, value) ∷ given))) None))) (sym known)
+          (reacts h given word name (Some value) rest is next (valued_built name) (value ∷ []) value (knows.valued name known) (or_else_none _) refl
+          (valued_use name value (settled c h).rows) (valued_used name value (settled c h).rows) (knows.valued_apart name known) follows))
+          (λ other. subst (λ b. Then h given word name (Some value) rest is next (go_on rest (cond b (Some (gives ((name, value) ∷ given))) None))) (sym other)
+          (by_test (is_among options.flags name)
+          (λ flag. refused_option h given word name (Some value) rest is next (Some (flag_built name)) (knows.flags name other flag) cons≢nil)
+          (λ none. refused_option h given word name (Some value) rest is next None (knows.others name other none) cons≢nil)))
+      idle_option h given word name None rest is next follows = by_test (is_among options.valued name)
+          (λ known. subst (λ b. Then h given word name None rest is next (go_on rest (cond b (Some (record { given = given; waiting = Some name })) (flag_given name given (is_among options.flags name))))) (sym known)
+          (starts h given word name None rest is next known (knows.valued name known) (or_else_none _) refl follows))
+          (λ other. subst (λ b. Then h given word name None rest is next (go_on rest (cond b (Some (record { given = given; waiting = Some name })) (flag_given name given (is_among options.flags name))))) (sym other)
+          (by_test (is_among options.flags name)
+          (λ flag. subst (λ b. Then h given word name None rest is next (go_on rest (flag_given name given b))) (sym flag)
+          (reacts h given word name None rest is next (flag_built name) [] (codes "true") (knows.flags name other flag) (or_else_none _) refl
+          (flag_use name (settled c h).rows) (flag_used name (settled c h).rows) (knows.flags_apart name flag) follows))
+          (λ none. subst (λ b. Then h given word name None rest is next (go_on rest (flag_given name given b))) (sym none)
+          (refused_option h given word name None rest is next None (knows.others name other none) cons≢nil))))
+
+      -- ---- a word where an option waits
+
+      module _ (waiting : Text) (rows : List Row) (skip : ℕ) (given : Given) (known : is_among options.valued waiting ≡ true)
+          (once : is_once given ≡ true) (rows_are : rows ≡ rows_for given) where
+        abbrev held : Held
+        held = waits waiting rows skip
+
+        abbrev there : Walk
+        there = stands held (option waiting) (position_of given)
+
+        empty_fault : settle_fault c false held ≡ kind.InvalidValue ∷ []
+        empty_fault = ap (λ (o : Option Rule). option_map_or (λ (a : Rule). use_fault false a [] rows) o []) (knows.waiting waiting known)
+
+        empty_fails : settle_fault c false held ≡ [] → ⊥
+        empty_fails e = cons≢nil (sym empty_fault ∙ e)
+
+        waiting_ends : Ends (kinds_from there []) (rows_from there []) None
+        unfolding walk_fault
+        waiting_ends = empty_fails
+
+        -- the fault of an option that comes there
+        option_fails : (o : Option Rule) (name : Text) (v : Option Text) → (arg_by_long c name ≡ o) → ((o ≡ None) ⊎ ((o ≡ Some (flag_built name)) ⊎ (o ≡ Some (valued_built name))))
+            → long_fault c false (arg_by_long c name) v held ≡ [] → ⊥
+        option_fails o name v e (inl none) f = cons≢nil (ap (λ (x : Option Rule). long_fault c false x v held) (sym (e ∙ none)) ∙ f)
+        option_fails o name (Some v) e (inr (inl flag)) f = cons≢nil (ap (λ (x : Option Rule). long_fault c false x (Some v) held) (sym (e ∙ flag)) ∙ f)
+        option_fails o name None e (inr (inl flag)) f = fails_first _ _ empty_fails (ap (λ (x : Option Rule). long_fault c false x None held) (sym (e ∙ flag)) ∙ f)
+        option_fails o name (Some v) e (inr (inr valued)) f = fails_first _ _ empty_fails (ap (λ (x : Option Rule). long_fault c false x (Some v) held) (sym (e ∙ valued)) ∙ f)
+        option_fails o name None e (inr (inr valued)) f = empty_fails (ap (λ (x : Option Rule). long_fault c false x None held) (sym (e ∙ valued)) ∙ f)
+
+        long_is : (name : Text) → (arg_by_long c name ≡ None) ⊎ ((arg_by_long c name ≡ Some (flag_built name)) ⊎ (arg_by_long c name ≡ Some (valued_built name)))
+        long_is name = by_test (is_among options.valued name)
+            (λ valued. inr (inr (knows.valued name valued)))
+            (λ other. by_test (is_among options.flags name) (λ flag. inr (inl (knows.flags name other flag))) (λ none. inl (knows.others name other none)))
+
+        waiting_option : (word name : Text) (v : Option Text) (rest : List Text) → IsOption word name v
+            → Ends (kinds_from there (word ∷ rest)) (rows_from there (word ∷ rest)) None
+        waiting_option word name v rest is = fails_at there word rest None
+            (λ e. fails_first _ _ (option_fails (arg_by_long c name) name v refl (long_is name))
+            (sym (option_turn held (option waiting) (position_of given) word name v is) ∙ e)) tt
+
+        waiting_bare : (word : Text) (rest : List Text) → IsBare word → Rest rest
+            → Ends (kinds_from there (word ∷ rest)) (rows_from there (word ∷ rest)) (given_from options None ((waiting, word) ∷ given) rest)
+        waiting_bare word rest is next = moves there (stands after idle (position_of given)) word rest _
+            (bare_turn held (option waiting) (position_of given) word is) walk_is
+            (next (stands after idle (position_of given)) None ((waiting, word) ∷ given)
+            (after, ap (λ b. stands after idle (cond (b || is_given (codes "command") given) 2 1)) (sym (knows.valued_apart waiting known)),
+            pending_value (valued_built waiting) waiting word rows skip given (knows.waiting waiting known) (valued_use waiting word rows) (valued_used waiting word rows) once rows_are))
+          where
+            after : Held
+            after = record { rows = rows; pending = Some (waiting, word ∷ []); skip = skip }
+
+            walk_is : walked c [] there word ≡ stands after idle (position_of given)
+            walk_is = bare_walk held (option waiting) (position_of given) word is
+                ∙ ap (λ (o : Option Rule). after_step c word there (option_word o waiting word held).0 (next_step (option_word o waiting word held).1)) (knows.waiting waiting known)
+                ∙ ap (λ b. stands after (cond (nat_lt (cond b 1 0) 1) (option waiting) idle) (position_of given)) (same waiting)
+              where
+                same : (text : Text) → bytes_eq text text ≡ true
+                same text = (bytes_eq-Decides text text).1 refl
+
+      -- ---- all the words
+
+      idle_ends : (h : Held) (position : ℕ) (given : Given) → FollowsOnce (settle_fault c false h) (settled c h).rows given
+          → Ends (kinds_from (stands h idle position) []) (rows_from (stands h idle position) []) (Some given)
+      unfolding walk_fault
+      idle_ends h position given follows = follows
+
+      idle_bare : (h : Held) (given : Given) (word : Text) (rest : List Text) → IsBare word → Rest rest
+          → FollowsOnce (settle_fault c false h) (settled c h).rows given
+          → Ends (kinds_from (stands h idle (position_of given)) (word ∷ rest)) (rows_from (stands h idle (position_of given)) (word ∷ rest))
+          (given_from options None ((codes "command", word) ∷ given) rest)
+      idle_bare h given word rest is next follows = by_test (is_given (codes "command") given)
+          (λ there. subst (λ b. Ends (kinds_from (stands h idle (cond b 2 1)) (word ∷ rest)) (rows_from (stands h idle (cond b 2 1)) (word ∷ rest))
+          (given_from options None ((codes "command", word) ∷ given) rest)) (sym there) (second_word h given word rest is next there))
+          (λ none. subst (λ b. Ends (kinds_from (stands h idle (cond b 2 1)) (word ∷ rest)) (rows_from (stands h idle (cond b 2 1)) (word ∷ rest))
+          (given_from options None ((codes "command", word) ∷ given) rest)) (sym none) (first_word h given word rest is next none follows))
+
+      idle_word : (h : Held) (given : Given) (word : Text) (rest : List Text) → is_well_formed word ≡ true → Rest rest
+          → FollowsOnce (settle_fault c false h) (settled c h).rows given
+          → Ends (kinds_from (stands h idle (position_of given)) (word ∷ rest)) (rows_from (stands h idle (position_of given)) (word ∷ rest))
+          (given_from options None given (word ∷ rest))
+      idle_word h given word rest well next follows = elim (word_is word well) [
+        | inl is ↦ subst (λ o. Ends (kinds_from (stands h idle (position_of given)) (word ∷ rest)) (rows_from (stands h idle (position_of given)) (word ∷ rest))
+            (go_on rest (with_next options None given word o))) (sym is.2.0) (idle_option h given word is.0 is.1 rest is.2 next follows)
+        | inr is ↦ subst (λ o. Ends (kinds_from (stands h idle (position_of given)) (word ∷ rest)) (rows_from (stands h idle (position_of given)) (word ∷ rest))
+            (go_on rest (with_next options None given word o))) (sym is.0) (idle_bare h given word rest is next follows)
+      ]
+
+      waiting_word : (name : Text) (rows : List Row) (skip : ℕ) (given : Given) (known : is_among options.valued name ≡ true)
+          (once : is_once given ≡ true) (rows_are : rows ≡ rows_for given) (word : Text) (rest : List Text) → is_well_formed word ≡ true → Rest rest
+          → (let w : Walk = stands (waits name rows skip) (option name) (position_of given) in
+          Ends (kinds_from w (word ∷ rest)) (rows_from w (word ∷ rest)) (given_from options (Some name) given (word ∷ rest)))
+      waiting_word name rows skip given known once rows_are word rest well next = elim (word_is word well) [
+        | inl is ↦ subst (λ o. Ends (kinds_from (stands (waits name rows skip) (option name) (position_of given)) (word ∷ rest))
+            (rows_from (stands (waits name rows skip) (option name) (position_of given)) (word ∷ rest))
+            (go_on rest (with_next options (Some name) given word o))) (sym is.2.0)
+            (waiting_option name rows skip given known once rows_are word is.0 is.1 rest is.2)
+        | inr is ↦ subst (λ o. Ends (kinds_from (stands (waits name rows skip) (option name) (position_of given)) (word ∷ rest))
+            (rows_from (stands (waits name rows skip) (option name) (position_of given)) (word ∷ rest))
+            (go_on rest (with_next options (Some name) given word o))) (sym is.0)
+            (waiting_bare name rows skip given known once rows_are word rest is next)
+      ]
+
+      agrees : (words : List Text) → list_all is_well_formed words ≡ true → Rest words
+      agrees [] well w None given follows =
+          subst (λ (from : Walk). Ends (kinds_from from []) (rows_from from []) (Some given)) (sym follows.1)
+          (idle_ends follows.0 (position_of given) given follows.2)
+      agrees [] well w (Some name) given follows =
+          subst (λ (from : Walk). Ends (kinds_from from []) (rows_from from []) None) (sym follows.2)
+          (waiting_ends name follows.0 follows.1 given follows.5 follows.3 follows.4)
+      agrees (word ∷ words) well w None given follows =
+          let parts = both (is_well_formed word) (list_all is_well_formed words) well in
+          subst (λ (from : Walk). Ends (kinds_from from (word ∷ words)) (rows_from from (word ∷ words)) (given_from options None given (word ∷ words)))
+          (sym follows.1) (idle_word follows.0 given word words parts.0 (agrees words parts.1) follows.2)
+      agrees (word ∷ words) well w (Some name) given follows =
+          let parts = both (is_well_formed word) (list_all is_well_formed words) well in
+          subst (λ (from : Walk). Ends (kinds_from from (word ∷ words)) (rows_from from (word ∷ words)) (given_from options (Some name) given (word ∷ words)))
+          (sym follows.2) (waiting_word name follows.0 follows.1 given follows.5 follows.3 follows.4 word words parts.0 (agrees words parts.1))
+
+      -- the walk over all the words, from the first
+      pub all_agree : (words : List Text) → list_all is_well_formed words ≡ true
+          → Ends (kinds_from (walk_from nothing_held) words) (rows_from (walk_from nothing_held) words) (given_from options None [] words)
+      all_agree words well = agrees words well (walk_from nothing_held) None [] (nothing_held, refl, inl (refl, refl, refl))
