@@ -37,7 +37,7 @@ or_swap false true = refl
 or_swap false false = refl
 
 -- each way of a test
-by_test : {P : Type 0} (b : Bool) → (b ≡ true → P) → (b ≡ false → P) → P
+pub by_test : {P : Type 0} (b : Bool) → (b ≡ true → P) → (b ≡ false → P) → P
 by_test true yes_ no_ = yes_ refl
 by_test false yes_ no_ = no_ refl
 
@@ -50,14 +50,14 @@ fails_first : (a b : Kinds) → (a ≡ [] → ⊥) → or_else a b ≡ [] → �
 fails_first [] b fails e = fails refl
 fails_first (k ∷ ks) b fails e = fails e
 
-then_none : (a b : Kinds) → a ≡ [] → b ≡ [] → or_else a b ≡ []
+pub then_none : (a b : Kinds) → a ≡ [] → b ≡ [] → or_else a b ≡ []
 then_none a b x y = rw (x, y) refl
 
 or_else_again : (a b c : Kinds) → or_else (or_else a b) c ≡ or_else a (or_else b c)
 or_else_again [] b c = refl
 or_else_again (k ∷ ks) b c = refl
 
-or_else_none : (a : Kinds) → or_else a [] ≡ a
+pub or_else_none : (a : Kinds) → or_else a [] ≡ a
 or_else_none [] = refl
 or_else_none (k ∷ ks) = refl
 
@@ -72,11 +72,11 @@ cons≢nil e = true≢false (ap is_cons e)
 -- ---- rows
 
 -- the row of a value
-abbrev row_for : Text × Text → Row
+abbrev pub row_for : Text × Text → Row
 row_for value = record { id = value.0; values = value.1 ∷ []; count = None; source = Some CommandLine; reading = AsWritten }
 
 -- the rows of what is given
-abbrev rows_for : Given → List Row
+abbrev pub rows_for : Given → List Row
 rows_for [] = []
 rows_for (value ∷ given) = rows_for given ++ row_for value ∷ []
 
@@ -87,7 +87,7 @@ has_row_for id (value ∷ given) =
     ∙ ap₂ (λ a b. a || b) (has_row_for id given) (or_false (bytes_eq value.0 id)) ∙ or_swap (is_given id given) (bytes_eq value.0 id)
 
 -- where no row has the id, the row that is missing joins
-at_none : (id : Text) (change : Row → List Row) (missing rows : List Row) → has_row id rows ≡ false → at_row id change missing rows ≡ rows ++ missing
+pub at_none : (id : Text) (change : Row → List Row) (missing rows : List Row) → has_row id rows ≡ false → at_row id change missing rows ≡ rows ++ missing
 at_none id change missing [] none = refl
 at_none id change missing (r ∷ rs) none = by_test (bytes_eq r.id id)
     (λ same. absurd (true≢false (sym (ap (λ b. b || has_row id rs) same) ∙ none)))
@@ -229,14 +229,14 @@ module _ (c : List Rule) where
   -- ---- all steps
 
   -- the kinds of a walk over the words, with what is pending at its end, and the rows then
-  abbrev kinds_from : Walk → List Text → Kinds
+  abbrev pub kinds_from : Walk → List Text → Kinds
   kinds_from w words = or_else (walk_fault (with_rules c) [] w words) (settle_fault c false (fold (walked c []) w words).held)
 
-  abbrev rows_from : Walk → List Text → List Row
+  abbrev pub rows_from : Walk → List Text → List Row
   rows_from w words = (settled c (fold (walked c []) w words).held).rows
 
   -- the walk fails where nothing is given or something twice, and else it ends with the rows of what is given
-  abbrev Ends : Kinds → List Row → Option Given → Type 0
+  abbrev pub Ends : Kinds → List Row → Option Given → Type 0
   Ends kinds rows None = kinds ≡ [] → ⊥
   Ends kinds rows (Some given) = FollowsOnce kinds rows given
 
