@@ -1,13 +1,14 @@
 -- What clap makes of the words of `make`.
-use Rattle.std.proofs.Common.{◌≡◌, ◌∙◌, ◌⊎◌, ◌&&◌, ◌||◌, ◌++◌, ℕ, Bool, cond, true, false, not, refl, sym, ap, ap₂, subst, List, [], ◌∷◌, map, Option, Some, None, inl, inr, codes, true≢false, append-nil, fold}
+use Rattle.std.proofs.Common.{◌≡◌, ◌≢◌, ◌∙◌, ◌⊎◌, ◌&&◌, ◌||◌, ◌++◌, ℕ, Bool, cond, true, false, not, refl, sym, ap, ap₂, subst, List, [], ◌∷◌, map, Option, Some, None, inl, inr, codes, true≢false, append-nil, fold, IfOk, IfErr, ok_or}
 use Rattle.std.specs.Prelude.{find, is_some, option_and_then, option_map, slice_get}
 use Rattle.std.specs.List.{list_all, list_any}
+use Rattle.std.specs.Borrow.{Bor}
 use Rattle.std.specs.Str.{bytes_eq}
 use Rattle.std.proofs.lemmas.Slice.Eq.{bytes_eq-Decides}
 use Rattle.clap.proofs.FaultLemmas.{leaf_fault}
 use Rattle.clap.specs.Faults.{check_fault, default_fault, defaults_fault, fault_of, given_default_fault, settle_fault, walk_fault}
 use Rattle.clap.specs.Kinds.{Kinds, or_else}
-use Rattle.clap.specs.Walk.{Held, Row, Rule, Text, arg_by_id, arg_by_index, arg_by_long, finished, first_of, has_row, more_values, nothing_held, rows_of, settled, walk, walk_from, walked, with_default}
+use Rattle.clap.specs.Walk.{Held, Row, Rule, Text, arg_by_id, arg_by_index, arg_by_long, finished, first_of, has_row, more_values, nothing_held, rows_of, settled, texts, walk, walk_from, walked, with_default}
 use Rattle.clap.specs.Matches.{first_value}
 use Rattle.clap.specs.declared.builder.value_parser.Reading.TheVariants.{AsWritten}
 use Rattle.clap.specs.declared.parser.matches.Found.{Found}
@@ -19,6 +20,7 @@ use Rattle.curp_words.specs.Words.{Given, given_from, if_once, is_among, is_give
 use Rattle.curp_words.specs.declared.order.Order.{Order}
 use Rattle.curp_words.specs.declared.order.Order.TheVariants.{Make}
 use Rattle.curp_words.specs.declared.order.Output.TheVariants.{Script, Summary}
+use Rattle.curp_words.specs.declared.order.WordsError.TheVariants.{NoMemory, Usage}
 use Rattle.curp_words.proofs.Walks.{Ends, Knows, all_agree, at_none, bare_built, by_test, flag_built, has_row_for, kinds_from, or_else_none, row_for, rows_for, rows_from, then_none, valued_built, with_rules}
 
 -- ---- the rules
@@ -286,3 +288,16 @@ refused words well fails = make_is words well ∙ go (given_from make_options No
 
 pub ill_formed : (words : List Text) → list_all is_well_formed words ≡ false → make_in words ≡ None
 ill_formed words bad = rw bad refl
+
+pub all_texts : (p : Text → Bool) (words : List (Bor Text)) → list_all (λ word. p word.now) words ≡ list_all p (texts words)
+all_texts p [] = refl
+all_texts p (word ∷ words) = ap (λ b. p word.now && b) (all_texts p words)
+
+-- an option as a result
+pub gives_order : {m : Option Order} (o : Option Order) → m ≡ o → IfOk (ok_or o Usage) (λ order. m ≡ Some order)
+gives_order None e = tt
+gives_order (Some order) e = e
+
+pub gives_usage : {m : Option Order} (o : Option Order) → m ≡ o → IfErr (ok_or o Usage) (λ error. error ≢ NoMemory → m ≡ None)
+gives_usage None e = λ other. e
+gives_usage (Some order) e = tt

@@ -1,8 +1,8 @@
-use Rattle.std.proofs.Common.{◌≡◌, ◌∙◌, ap₂, rules, codes}
+use Rattle.std.proofs.Common.{◌≡◌, ◌∙◌, ap₂, codes}
 use Rattle.std.proofs.lemmas.Result.{IfOk-weaker}
-use Rattle.clap.specs.Walk.{Rule, rule_of}
-use Rattle.clap.specs.Simple.{App, app_of, with_rule}
-use Rattle.curp_words.specs.Command.{bare_app, bare_rule, flag_rule, make_app, valued_rule}
+use Rattle.clap.specs.Walk.{rule_of}
+use Rattle.clap.specs.Simple.{app_of, with_rule}
+use Rattle.curp_words.specs.Command.{bare_app, valued_rule}
 use Rattle.curp_words.proofs.make.make_command.Goals as goal
 
 pub returns : goal.returns
