@@ -233,8 +233,16 @@ record SameValues (f g : Text → Option Text) : Type 0 where
   summary : is_text (codes "true") (f (codes "summary")) ≡ is_text (codes "true") (g (codes "summary"))
 
 same_plan : (f g : Text → Option Text) → SameValues f g → plan_by f ≡ plan_by g
-same_plan f g same = rw (same.values (codes "number") refl, same.values (codes "f") refl, same.values (codes "sets") refl, same.values (codes "ways") refl,
-    same.values (codes "clients") refl, same.values (codes "parts") refl, same.values (codes "steps") refl, same.values (codes "recoveries") refl) refl
+same_plan f g same = rw (
+  same.values (codes "number") refl,
+  same.values (codes "f") refl,
+  same.values (codes "sets") refl,
+  same.values (codes "ways") refl,
+  same.values (codes "clients") refl,
+  same.values (codes "parts") refl,
+  same.values (codes "steps") refl,
+  same.values (codes "recoveries") refl,
+) refl
 
 same_output : (f g : Text → Option Text) → SameValues f g → output_by f ≡ output_by g
 same_output f g same = ap (λ b. cond b Summary Script) same.summary

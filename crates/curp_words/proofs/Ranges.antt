@@ -37,7 +37,7 @@ number_in_range least most default (Some text) low high = go (number_of text)
 abbrev plan_from : (number f sets ways clients parts steps recoveries : Option ℕ) → Option MakePlan
 plan_from a b c d e f g h =
     option_and_then (λ number. option_and_then (λ replicas. option_and_then (λ sets. option_and_then (λ ways. option_and_then (λ clients.
-    option_and_then (λ parts. option_and_then (λ steps. option_map (λ recoveries. record {
+    option_and_then (λ parts. option_and_then (λ steps. option_and_then (λ recoveries. Some (record {
       number = number;
       f = replicas;
       sets = sets;
@@ -46,7 +46,7 @@ plan_from a b c d e f g h =
       parts = parts;
       steps = steps;
       recoveries = recoveries;
-    }) h) g) f) e) d) c) b) a
+    })) h) g) f) e) d) c) b) a
 
 from_fits : (a b c d e f g h : Option ℕ)
     → IfSomeIs a (λ n. (0 ≤ n) × (n ≤ 2 ^ 64 - 1))

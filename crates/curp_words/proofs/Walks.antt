@@ -113,8 +113,12 @@ used_once id value rows given once is = by_test (is_given id given) twice fresh
     fresh none =
         let nowhere = has ∙ none in
         let kept : without id rows ≡ rows = at_none id (λ _. []) [] rows nowhere ∙ append-nil rows in
-        inl (rw (none, once) refl, rw nowhere refl, ap (with_values id AsWritten CommandLine (value ∷ [])) kept
-        ∙ at_none id (more_values CommandLine (value ∷ [])) (row_for (id, value) ∷ []) rows nowhere ∙ ap (λ r. r ++ row_for (id, value) ∷ []) is)
+        inl (
+          rw (none, once) refl,
+          rw nowhere refl,
+          ap (with_values id AsWritten CommandLine (value ∷ [])) kept
+              ∙ at_none id (more_values CommandLine (value ∷ [])) (row_for (id, value) ∷ []) rows nowhere ∙ ap (λ r. r ++ row_for (id, value) ∷ []) is,
+        )
 
 -- ---- the command
 
@@ -382,8 +386,11 @@ module _ (c : List Rule) where
         first_word none follows = elim follows [
           | inr twice ↦ fails_at (stands h idle 1) word rest _ (λ e. twice.1 (sym fault_is ∙ e)) (from_twice rest None (command ∷ given) (twice_more command given twice.0))
           | inl once ↦ moves (stands h idle 1) (stands after idle 2) word rest _ (fault_is ∙ once.1) walk_is
-              (next (stands after idle 2) None (command ∷ given) (after, refl,
-              pending_value bare_built (codes "command") word (settled c h).rows h.skip given knows.command (bare_use word (settled c h).rows) refl once.0 once.2))
+              (next (stands after idle 2) None (command ∷ given) (
+                after,
+                refl,
+                pending_value bare_built (codes "command") word (settled c h).rows h.skip given knows.command (bare_use word (settled c h).rows) refl once.0 once.2,
+              ))
         ]
           where
             after : Held
@@ -441,9 +448,11 @@ module _ (c : List Rule) where
                 (from_twice rest None ((name, value) ∷ given) twice.0)
             | inl more ↦ moves here (stands (reacted c a values h) idle (position_of given)) word rest _
                 (fault_is ∙ past _ _ once.1 ∙ fault ∙ more.1) (walk_is (Some a) e ∙ walk)
-                (next (stands (reacted c a values h) idle (position_of given)) None ((name, value) ∷ given)
-                (reacted c a values h, ap (λ b. stands (reacted c a values h) idle (cond (b || is_given (codes "command") given) 2 1)) (sym apart),
-                inl (more.0, refl, is_used ∙ more.2)))
+                (next (stands (reacted c a values h) idle (position_of given)) None ((name, value) ∷ given) (
+                  reacted c a values h,
+                  ap (λ b. stands (reacted c a values h) idle (cond (b || is_given (codes "command") given) 2 1)) (sym apart),
+                  inl (more.0, refl, is_used ∙ more.2),
+                ))
           ]
         ]
           where
@@ -466,7 +475,6 @@ module _ (c : List Rule) where
       -- what follows where the words were read as far as this
       abbrev go_on : List Text → Option Reading → Option Given
       go_on rest o = option_and_then (λ (reading : Reading). given_from options reading.waiting reading.given rest) o
-
 
       abbrev flag_given : Text → Given → Bool → Option Reading
       flag_given name given b = cond b (Some (gives ((name, codes "true") ∷ given))) None
@@ -537,9 +545,11 @@ module _ (c : List Rule) where
             → Ends (kinds_from there (word ∷ rest)) (rows_from there (word ∷ rest)) (given_from options None ((waiting, word) ∷ given) rest)
         waiting_bare word rest is next = moves there (stands after idle (position_of given)) word rest _
             (bare_turn held (option waiting) (position_of given) word is) walk_is
-            (next (stands after idle (position_of given)) None ((waiting, word) ∷ given)
-            (after, ap (λ b. stands after idle (cond (b || is_given (codes "command") given) 2 1)) (sym (knows.valued_apart waiting known)),
-            pending_value (valued_built waiting) waiting word rows skip given (knows.waiting waiting known) (valued_use waiting word rows) (valued_used waiting word rows) once rows_are))
+            (next (stands after idle (position_of given)) None ((waiting, word) ∷ given) (
+              after,
+              ap (λ b. stands after idle (cond (b || is_given (codes "command") given) 2 1)) (sym (knows.valued_apart waiting known)),
+              pending_value (valued_built waiting) waiting word rows skip given (knows.waiting waiting known) (valued_use waiting word rows) (valued_used waiting word rows) once rows_are,
+            ))
           where
             after : Held
             after = record { rows = rows; pending = Some (waiting, word ∷ []); skip = skip }

@@ -109,18 +109,22 @@ given_by options words =
 
 -- ---- the orders
 
--- the plan, by the values of the options: each number in its range, or what it is where it isn't given
+-- what comes of x, where there is an x
+abbrev pub with : {X Y : Type 0} → Option X → (X → Option Y) → Option Y
+with x f = option_and_then f x
+
+-- the plan, by the values of the options: for each its least and its most number, and the one where it isn't given
 abbrev pub plan_by : (Text → Option Text) → Option MakePlan
 plan_by value =
-    option_and_then (λ number.
-    option_and_then (λ f.
-    option_and_then (λ sets.
-    option_and_then (λ ways.
-    option_and_then (λ clients.
-    option_and_then (λ parts.
-    option_and_then (λ steps.
-    option_map (λ recoveries.
-    record {
+    with (number_within 0 (2 ^ 64 - 1) 1 (value (codes "number"))) (λ number.
+    with (number_within 1 5 3 (value (codes "f"))) (λ f.
+    with (number_within 1 1024 64 (value (codes "sets"))) (λ sets.
+    with (number_within 1 16 4 (value (codes "ways"))) (λ ways.
+    with (number_within 1 64 8 (value (codes "clients"))) (λ clients.
+    with (number_within 1 16 2 (value (codes "parts"))) (λ parts.
+    with (number_within 1 200000 4000 (value (codes "steps"))) (λ steps.
+    with (number_within 0 64 3 (value (codes "recoveries"))) (λ recoveries.
+    Some (record {
       number = number;
       f = f;
       sets = sets;
@@ -129,15 +133,7 @@ plan_by value =
       parts = parts;
       steps = steps;
       recoveries = recoveries;
-    })
-    (number_within 0 64 3 (value (codes "recoveries"))))
-    (number_within 1 200000 4000 (value (codes "steps"))))
-    (number_within 1 16 2 (value (codes "parts"))))
-    (number_within 1 64 8 (value (codes "clients"))))
-    (number_within 1 16 4 (value (codes "ways"))))
-    (number_within 1 1024 64 (value (codes "sets"))))
-    (number_within 1 5 3 (value (codes "f"))))
-    (number_within 0 (2 ^ 64 - 1) 1 (value (codes "number")))
+    })))))))))
 
 -- the text, and where there is none another
 abbrev pub is_text : Text → Option Text → Bool

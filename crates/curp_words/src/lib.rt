@@ -4,6 +4,8 @@
 mod make;
 mod order;
 mod setting;
+#[cfg(test)]
+mod tests;
 mod words;
 
 pub use order::{MakePlan, Order, Output, WordsError};
