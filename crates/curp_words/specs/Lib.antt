@@ -1,1 +1,4 @@
+pub mod Command
+pub mod Numbers
 pub mod Plan
+pub mod Words

@@ -1,7 +1,11 @@
 //! The words of the command line, and what they ask for.
 #![tactic(auto)]
 
+mod make;
 mod order;
+mod setting;
+#[cfg(test)]
+mod tests;
 mod words;
 
 pub use order::{MakePlan, Order, Output, WordsError};

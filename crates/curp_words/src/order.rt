@@ -76,3 +76,18 @@ impl From<AllocError> for WordsError {
         WordsError::NoMemory
     }
 }
+
+impl From<clap::Error> for WordsError {
+    ghost use Rattle.std.specs.Prelude.{◌≡◌};
+    ghost use Rattle.clap.specs.Values.{kind_of};
+    ghost use Rattle.curp_words.specs.Words.{refusal};
+
+    ghost from_gives = { λ error e. e ≡ refusal (kind_of error) };
+
+    fn from(error: clap::Error) -> WordsError {
+        match error.kind() {
+            clap::error::ErrorKind::OutOfMemory => WordsError::NoMemory,
+            _ => WordsError::Usage,
+        }
+    }
+}

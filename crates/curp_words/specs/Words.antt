@@ -1,0 +1,171 @@
+-- What the words of the command line ask for.
+use Rattle.std.specs.Prelude.{◌^◌, ◌-◌, ◌&&◌, ◌||◌, ℕ, Bool, true, false, not, List, [], ◌∷◌, map, codes, Option, Some, None, is_some, find}
+use Rattle.std.specs.Prelude.{if◌then◌else◌, option_and_then, option_map, unwrap_or}
+use Rattle.std.specs.List.{list_all, list_any}
+use Rattle.std.specs.Str.{bytes_eq}
+use Rattle.clap.specs.Lexer.{long_of, strip_byte}
+use Rattle.clap.specs.Walk.{Text}
+use Rattle.clap.specs.declared.error.kind.ErrorKind.{ErrorKind}
+use Rattle.clap.specs.declared.error.kind.ErrorKind.TheVariants as kind
+use Rattle.curp_words.specs.Numbers.{number_within}
+use Rattle.curp_words.specs.declared.order.MakePlan.{MakePlan}
+use Rattle.curp_words.specs.declared.order.Order.{Order}
+use Rattle.curp_words.specs.declared.order.Order.TheVariants.{Play, Make}
+use Rattle.curp_words.specs.declared.order.Output.{Output}
+use Rattle.curp_words.specs.declared.order.Output.TheVariants.{Script, Summary}
+use Rattle.curp_words.specs.declared.order.WordsError.{WordsError}
+use Rattle.curp_words.specs.declared.order.WordsError.TheVariants.{Usage, NoMemory}
+
+-- ---- the options
+
+-- which options a word of the command line has: those with a value, and those without
+pub record Options : Type 0 where
+  pub valued : List Text
+  pub flags : List Text
+
+-- the options of `make`
+abbrev pub make_options : Options
+make_options = record {
+  valued = codes "number" ∷ codes "f" ∷ codes "sets" ∷ codes "ways" ∷ codes "clients" ∷ codes "parts" ∷ codes "steps"
+      ∷ codes "recoveries" ∷ [];
+  flags = codes "summary" ∷ [];
+}
+
+-- ---- what is given
+
+-- a name with its value
+abbrev pub Value : Type 0
+Value = Text × Text
+
+-- what is given by some words, the last first: the value of an option by the option's name, the word that stands for
+-- itself by the name `command`, and an option without a value with the value `true`
+abbrev pub Given : Type 0
+Given = List Value
+
+-- one of the names
+abbrev pub is_among : List Text → Text → Bool
+is_among names name = list_any (λ each. bytes_eq each name) names
+
+-- something is given by the name
+abbrev pub is_given : Text → Given → Bool
+is_given name given = list_any (λ value. bytes_eq value.0 name) given
+
+-- the value that is given by the name
+abbrev pub value_of : Given → Text → Option Text
+value_of given name = option_map (λ value. value.1) (find (λ value. bytes_eq value.0 name) given)
+
+-- nothing is given twice
+abbrev pub is_once : Given → Bool
+is_once [] = true
+is_once (value ∷ given) = not (is_given value.0 given) && is_once given
+
+-- ---- the words, one by one
+
+-- a word that begins with a hyphen, which is 45, is `--name` or `--name=value`
+abbrev pub is_well_formed : Text → Bool
+is_well_formed word = is_some (long_of word) || not (is_some (strip_byte 45 word))
+
+-- what is given by the words so far, and the option that waits for its value
+pub record Reading : Type 0 where
+  pub given : Given
+  pub waiting : Option Text
+
+-- so much is given, and no option waits
+abbrev pub gives : Given → Reading
+gives given = record { given = given; waiting = None }
+
+-- a word with no hyphen is the value that an option waits for, and else it stands for itself
+abbrev pub with_bare : Option Text → Given → Text → Reading
+with_bare waiting given word = gives ((unwrap_or waiting (codes "command"), word) ∷ given)
+
+-- an option: its value is behind `=`, or it is the next word, or it has none
+abbrev pub with_option : Options → Given → Text → Option Text → Option Reading
+with_option options given name (Some value) = if is_among options.valued name then Some (gives ((name, value) ∷ given)) else None
+with_option options given name None =
+    if is_among options.valued name then Some (record { given = given; waiting = Some name })
+    else (if is_among options.flags name then Some (gives ((name, codes "true") ∷ given)) else None)
+
+-- no option stands where another one waits for its value
+abbrev pub with_next : Options → Option Text → Given → Text → Option (Text × Option Text) → Option Reading
+with_next options waiting given word None = Some (with_bare waiting given word)
+with_next options None given word (Some option) = with_option options given option.0 option.1
+with_next options (Some name) given word (Some option) = None
+
+-- what is given by all the words, if no option waits for its value at their end
+abbrev pub given_from : Options → Option Text → Given → List Text → Option Given
+given_from options None given [] = Some given
+given_from options (Some name) given [] = None
+given_from options waiting given (word ∷ words) =
+    option_and_then (λ (reading : Reading). given_from options reading.waiting reading.given words) (with_next options waiting given word (long_of word))
+
+-- and nothing is given twice
+abbrev pub if_once : Given → Option Given
+if_once given = if is_once given then Some given else None
+
+-- what is given by the words of a command line with these options
+abbrev pub given_by : Options → List Text → Option Given
+given_by options words =
+    if list_all is_well_formed words then option_and_then if_once (given_from options None [] words) else None
+
+-- ---- the orders
+
+-- what comes of x, where there is an x
+abbrev pub with : {X Y : Type 0} → Option X → (X → Option Y) → Option Y
+with x f = option_and_then f x
+
+-- the plan, by the values of the options: for each its least and its most number, and the one where it isn't given
+abbrev pub plan_by : (Text → Option Text) → Option MakePlan
+plan_by value =
+    with (number_within 0 (2 ^ 64 - 1) 1 (value (codes "number"))) (λ number.
+    with (number_within 1 5 3 (value (codes "f"))) (λ f.
+    with (number_within 1 1024 64 (value (codes "sets"))) (λ sets.
+    with (number_within 1 16 4 (value (codes "ways"))) (λ ways.
+    with (number_within 1 64 8 (value (codes "clients"))) (λ clients.
+    with (number_within 1 16 2 (value (codes "parts"))) (λ parts.
+    with (number_within 1 200000 4000 (value (codes "steps"))) (λ steps.
+    with (number_within 0 64 3 (value (codes "recoveries"))) (λ recoveries.
+    Some (record {
+      number = number;
+      f = f;
+      sets = sets;
+      ways = ways;
+      clients = clients;
+      parts = parts;
+      steps = steps;
+      recoveries = recoveries;
+    })))))))))
+
+-- the text, and where there is none another
+abbrev pub is_text : Text → Option Text → Bool
+is_text text None = false
+is_text text (Some other) = bytes_eq other text
+
+-- the summary, where it is asked for
+abbrev pub output_by : (Text → Option Text) → Output
+output_by value = if is_text (codes "true") (value (codes "summary")) then Summary else Script
+
+-- the order of a command line with values by these names, if its word is `make`
+abbrev pub order_by : (Text → Option Text) → Option Order
+order_by value =
+    if is_text (codes "make") (value (codes "command")) then option_map (λ plan. Make plan (output_by value)) (plan_by value) else None
+
+-- the one word `play`
+abbrev pub is_play : List Text → Bool
+is_play [] = false
+is_play (word ∷ []) = bytes_eq word (codes "play")
+is_play (word ∷ next ∷ words) = false
+
+-- the word `make` with options
+abbrev pub make_in : List Text → Option Order
+make_in words = option_and_then (λ given. order_by (value_of given)) (given_by make_options words)
+
+-- what the words behind the program's name ask for; none where they are no command line
+abbrev pub order_in : List Text → Option Order
+order_in words = if is_play words then Some Play else make_in words
+
+-- ---- what is no order
+
+-- the error of words that the parser refuses
+abbrev pub refusal : ErrorKind → WordsError
+refusal kind.OutOfMemory = NoMemory
+refusal _ = Usage

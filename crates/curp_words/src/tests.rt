@@ -1,0 +1,136 @@
+// What no clause says: that there is an order where there is memory.
+use crate::{Order, WordsError, read};
+use std::alloc::Global;
+use std::test::Fail;
+
+// Command lines that are none, a line each. A bar stands between two words, so the first has one word, which is empty.
+const REFUSED: &str = "
+help
+-h
+--help
+--version
+--
+play|play
+play|make
+play|x
+play|
+play|--
+play|--f|3
+play|--summary
+live
+live|--commands|5
+Make
+make|make
+make|x
+make|
+|make
+make|--
+make|--|--f|3
+--|make
+make|-f|3
+make|-
+make|-h
+make|--help
+make|--version
+make|--f
+make|--f|
+make|--f=
+make|--f|--sets|3
+make|--f|--
+make|--f|+3
+make|--f|-3
+make|--f| 3
+make|--f|3 4
+make|--f|\u{0663}
+make|--f|3.0
+make|--f|0x3
+make|--f|000000000000000000003
+make|--f|3|--f|3
+make|--f=3|--f=4
+make|--summary|--summary
+make|--summary=true
+make|--summary|yes
+make|--commands|5
+make|--command|make
+make|--clients5
+make|--F|3
+make|--=3
+make|--f|0
+make|--f|6
+make|--sets|0
+make|--sets|1025
+make|--ways|0
+make|--ways|17
+make|--clients|0
+make|--clients|65
+make|--parts|0
+make|--parts|17
+make|--steps|0
+make|--steps|200001
+make|--recoveries|65
+make|--number|18446744073709551616
+make|--number|99999999999999999999
+--f|3
+--summary";
+
+// Command lines of `make`, with the numbers of their plans and what is written.
+const TAKEN: &str = "make: 1 3 64 4 8 2 4000 3 Script
+make|--number|0: 0 3 64 4 8 2 4000 3 Script
+make|--number|18446744073709551615: 18446744073709551615 3 64 4 8 2 4000 3 Script
+make|--number|00000000000000000007: 7 3 64 4 8 2 4000 3 Script
+make|--f|1|--sets|1|--ways|1|--clients|1: 1 1 1 1 1 2 4000 3 Script
+make|--parts|1|--steps|1|--recoveries|0: 1 3 64 4 8 1 1 0 Script
+make|--f|5|--sets|1024|--ways|16|--clients|64: 1 5 1024 16 64 2 4000 3 Script
+make|--parts=16|--steps=200000|--recoveries=64: 1 3 64 4 8 16 200000 64 Script
+make|--summary: 1 3 64 4 8 2 4000 3 Summary
+--summary|make: 1 3 64 4 8 2 4000 3 Summary
+--f|2|make: 1 2 64 4 8 2 4000 3 Script
+--f=2|make|--sets|8: 1 2 8 4 8 2 4000 3 Script
+--sets=8|--summary|--f|2|make|--number=5: 5 2 8 4 8 2 4000 3 Summary
+make|--f|03: 1 3 64 4 8 2 4000 3 Script";
+
+fn read_line(alloc: Global, line: &str) -> Result<Result<Order, WordsError>, Fail> {
+    let words: Vec<&str> = line.split('|').collect(alloc)?;
+    Ok(read(alloc, words.as_slice()))
+}
+
+// The numbers of the plan that a command line of `make` gives, and what is written.
+fn made(alloc: Global, line: &str) -> Result<String, Fail> {
+    match read_line(alloc, line)? {
+        Ok(Order::Make(plan, output)) => {
+            let world = format!(in alloc;
+                "{} {} {} {}",
+                plan.number, plan.f, plan.sets, plan.ways
+            )?;
+            let run = format!(in alloc;
+                "{} {} {} {}",
+                plan.clients, plan.parts, plan.steps, plan.recoveries
+            )?;
+            Ok(format!(in alloc; "{world} {run} {output:?}")?)
+        }
+        other => Ok(format!(in alloc; "{other:?}")?),
+    }
+}
+
+#[test]
+fn other_words_are_refused(rt: HostRuntime) -> Result<(), Fail> {
+    assert_eq!(rt; read(rt.alloc(), &[]), Err(WordsError::Usage));
+    for line in REFUSED.split('\n') {
+        assert_eq!(rt;
+            read_line(rt.alloc(), line)?,
+            Err(WordsError::Usage),
+            "{line}"
+        );
+    }
+    Ok(())
+}
+
+#[test]
+fn orders_are_read(rt: HostRuntime) -> Result<(), Fail> {
+    assert_eq!(rt; read(rt.alloc(), &["play"]), Ok(Order::Play));
+    for row in TAKEN.lines() {
+        let (line, plan) = row.split_once(": ").ok_or("a row without a plan")?;
+        assert_eq!(rt; made(rt.alloc(), line)?.as_str(), plan, "{line}");
+    }
+    Ok(())
+}
