@@ -60,3 +60,23 @@ fn made_key(digit: u32) -> Key
         Err(_) => unreachable!(),
     }
 }
+
+// The value that is the next word.
+fn word_value(words: &mut Pcg32) -> Value
+    ensures { (Put key result, words.new) ≡ commands.put_of_word key words.old }
+{
+    let mut bytes = [0; 4];
+    BigEndian::write_u32(&mut bytes, next_word(words));
+    value(&bytes)
+}
+
+// The value that is these few bytes.
+fn value(bytes: &[u8]) -> Value
+    requires { length bytes.now ≤ 128 }
+    ensures { result ≡ bytes.now }
+{
+    match Value::new(bytes) {
+        Ok(value) => value,
+        Err(_) => unreachable!(),
+    }
+}
