@@ -24,6 +24,7 @@ impl Maker {
     ghost use Rattle.curp_gen.specs.Making as making;
 
     /// The next step.
+    #[tactic(auto, unfolding(crate::specs::Making::choice))]
     pub(crate) fn choice(&self, words: &mut Pcg32) -> Choice
         ensures { (result, words.new) ≡ making.choice self.now words.old }
     {
@@ -63,6 +64,7 @@ impl Maker {
     // ---- deliveries
 
     // A message comes; where none was ever sent, the manager is nudged.
+    #[tactic(auto, unfolding(crate::specs::Making::delivery))]
     fn delivery(&self, words: &mut Pcg32) -> Choice
         ensures { (result, words.new) ≡ making.delivery self.now words.old }
     {

@@ -1,4 +1,8 @@
-ghost use Rattle.std.specs.Prelude.{◌≡◌, ◌<◌, ◌×◌, OnErr, OnOk, IfOk};
+ghost use Rattle.std.specs.Prelude.{◌≡◌, ◌<◌, ◌≤◌, ◌-◌, ◌^◌, length, Ok, OnErr, OnOk, IfOk};
+ghost use Rattle.curp_client.specs.Requests.{least_of};
+ghost use Rattle.curp_model.specs.World.{order};
+ghost use Rattle.curp_script.specs.Headers.{InRange};
+ghost use Rattle.curp_script.specs.Printed.{NamesNode, checked, checked_header};
 ghost use Rattle.curp_words.specs.Plan.{IsPlan};
 ghost use Rattle.curp_gen.specs.Making as making;
 
@@ -82,6 +86,7 @@ impl Maker {
     pub fn header(&self) -> Header
         ensures header { result ≡ making.header_of self.now.plan }
         ensures in_range { InRange result }
+        ensures reads_back { checked_header result ≡ Ok result }
     {
         header_of(&self.plan)
     }
@@ -90,19 +95,26 @@ impl Maker {
     pub fn next_step(&mut self) -> Result<Step, NoMemory>
         requires { self.old.made < self.old.plan.steps }
         ensures step { IfOk result (λ step. step ≡ making.next_step self.old) }
+        ensures names_node { IfOk result NamesNode }
+        ensures reads_back { IfOk result (λ step. checked step ≡ Ok step) }
         ensures state { OnOk result (self.new ≡ making.with_next self.old) }
         ensures err { OnErr result (self.new ≡ self.old) }
     {
         let mut words = self.words.clone()?;
         let choice = self.choice(&mut words);
-        let outcome = self.world.step(&choice.step)?;
-        self.recoveries = plus_if(self.is_recovery_due(), self.recoveries);
-        self.refused = plus_if(outcome.result != StepResult::Done, self.refused);
-        self.completed = plus_if(outcome.completed.is_some(), self.completed);
-        self.made += 1;
-        self.words = words;
-        self.cursor = choice.cursor;
-        Ok(choice.step)
+        let is_recovery = self.is_recovery_due();
+        match self.world.step(&choice.step) {
+            Ok(outcome) => {
+                self.words = words;
+                self.cursor = choice.cursor;
+                self.made += 1;
+                self.recoveries = plus_if(is_recovery, self.recoveries);
+                self.refused = plus_if(outcome.result != StepResult::Done, self.refused);
+                self.completed = plus_if(outcome.completed.is_some(), self.completed);
+                Ok(choice.step)
+            }
+            Err(error) => Err(error),
+        }
     }
 
     /// What happened in it so far.
@@ -115,8 +127,16 @@ impl Maker {
             messages: self.world.message_count(),
             weight: self.world.weight(),
             completed: u64::from(self.completed),
-            order: self.world.order(alloc)?.len() as u64,
+            order: self.order_length(alloc)?,
         })
+    }
+
+    // How many requests stand in the order.
+    fn order_length(&self, alloc: Global) -> Result<u64, NoMemory>
+        ensures { IfOk result (λ count. count ≡ length (order self.now.world)) }
+    {
+        let order = self.world.order(alloc)?;
+        Ok(order.len() as u64)
     }
 
     // ---- what choices go by
@@ -185,8 +205,9 @@ pub fn make(alloc: Global, plan: &MakePlan) -> Result<(Header, Vec<Step>), NoMem
 {
     let mut maker = Maker::new(alloc, plan)?;
     let mut list = Vec::with_capacity(alloc, plan.steps as usize)?;
-    'steps: for _ in 0..plan.steps {
-        list.push(maker.next_step()?)?;
+    'steps: for _made in 0..plan.steps {
+        let step = maker.next_step()?;
+        list.extend_from_slice(&[step])?;
     }
     Ok((maker.header(), list))
 }
