@@ -10,11 +10,17 @@ use Rattle.curp_gen.specs.Draws.{Draw, ◌>>=◌, drawn, generator, next_word, p
 abbrev pub made_key : ℕ → List ℕ
 made_key digit = codes "k" ++ take 1 (drop digit (codes "0123456789abcdef"))
 
+-- the four bytes of the next word, the highest first
+abbrev pub word_value : Draw (List ℕ)
+word_value = do
+  word ← next_word
+  drawn (big_bytes 4 word)
+
 -- a put of the next word
 abbrev pub put_of_word : List ℕ → Draw Command
 put_of_word key = do
-  word ← next_word
-  drawn (Put key (big_bytes 4 word))
+  value ← word_value
+  drawn (Put key value)
 
 -- a command on a key, of eight kinds: two of them read, and two put a word
 abbrev pub command_of : ℕ → List ℕ → Draw Command
@@ -27,7 +33,7 @@ command_of kind key =
     else drawn (CondPut key None (codes "1"))))))
 
 -- a made command
-abbrev pub made_command : Draw Command
+unfoldable pub made_command : Draw Command
 made_command = do
   kind ← pick 8
   digit ← pick 16

@@ -15,6 +15,7 @@ use Rattle.curp_msg.specs.declared.script.Step.TheVariants.{Collect, Deliver, Fe
 use Rattle.curp_words.specs.Plan.{IsPlan}
 use Rattle.curp_words.specs.declared.order.MakePlan.{MakePlan}
 use Rattle.curp_gen.specs.Commands.{made_command}
+use Rattle.curp_gen.specs.declared.choice.Choice.{Choice}
 use Rattle.curp_gen.specs.declared.summary.Summary.{Summary}
 use Rattle.curp_gen.specs.Draws.{Draw, ◌>>=◌, drawn, generator, pick, pick_to}
 
@@ -32,9 +33,10 @@ pub record Making : Type 0 where
   pub refused : ℕ
   pub completed : ℕ
 
--- no more was counted than was made
+-- no more was counted than was made, and there is a master
 pub record IsCounted (m : Making) : Type 0 where
   pub plan : IsPlan m.plan
+  pub masters : 1 ≤ length m.world.masters
   pub made : m.made ≤ m.plan.steps
   pub recoveries : m.recoveries ≤ m.plan.recoveries
   pub refused : m.refused ≤ m.made
@@ -70,11 +72,6 @@ begun plan = record {
 }
 
 -- ---- choosing a step
-
--- a step, and the number of the message that comes next after it
-pub record Choice : Type 0 where
-  pub step : Step
-  pub cursor : ℕ
 
 -- a step that leaves the cursor where it is
 abbrev pub keeping : Making → Step → Choice
@@ -112,7 +109,7 @@ delivery_by m luck =
     else (if luck == 1 then message_at m (passing m) else message_at m m.cursor)
 
 -- a message comes; where none was ever sent, the manager is nudged
-abbrev pub delivery : Making → Draw Choice
+unfoldable pub delivery : Making → Draw Choice
 delivery m = if sent m == 0 then drawn (keeping m Nudge) else (pick 8 >>= delivery_by m)
 
 -- ---- orders
@@ -197,7 +194,7 @@ choice_by m kind =
     else delivery m))))))
 
 -- the next step
-abbrev pub choice : Making → Draw Choice
+unfoldable pub choice : Making → Draw Choice
 choice m = if is_recovery_due m then recovery m else (pick 64 >>= choice_by m)
 
 -- ---- the script

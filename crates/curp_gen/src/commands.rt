@@ -1,4 +1,4 @@
-ghost use Rattle.std.specs.Prelude.{◌≡◌, ◌<◌, IfOk};
+ghost use Rattle.std.specs.Prelude.{◌≡◌, ◌<◌, ◌≤◌, length, IfOk};
 ghost use Rattle.curp_gen.specs.Commands as commands;
 
 use crate::draws::{next_word, pick};
@@ -20,13 +20,14 @@ pub fn workload(
 {
     let mut words = Pcg32::new(number, u64::from(client));
     let mut list = Vec::with_capacity(alloc, count as usize)?;
-    for _ in 0..count {
-        list.push(made_command(&mut words))?;
+    'commands: for _made in 0..count {
+        list.extend_from_slice(&[made_command(&mut words)])?;
     }
     Ok(list)
 }
 
 /// A made command.
+#[tactic(auto, unfolding(crate::specs::Commands::made_command))]
 pub(crate) fn made_command(words: &mut Pcg32) -> Command
     ensures { (result, words.new) ≡ commands.made_command words.old }
 {
@@ -57,6 +58,26 @@ fn made_key(digit: u32) -> Key
     let digit = b"0123456789abcdef"[digit as usize];
     match Key::new(&[b'k', digit]) {
         Ok(key) => key,
+        Err(_) => unreachable!(),
+    }
+}
+
+// The value that is the next word.
+fn word_value(words: &mut Pcg32) -> Value
+    ensures { (result, words.new) ≡ commands.word_value words.old }
+{
+    let mut bytes = [0; 4];
+    BigEndian::write_u32(&mut bytes, next_word(words));
+    value(&bytes)
+}
+
+// The value that is these few bytes.
+fn value(bytes: &[u8]) -> Value
+    requires { length bytes.now ≤ 128 }
+    ensures { result ≡ bytes.now }
+{
+    match Value::new(bytes) {
+        Ok(value) => value,
         Err(_) => unreachable!(),
     }
 }

@@ -1,4 +1,8 @@
-ghost use Rattle.std.specs.Prelude.{◌≡◌, ◌<◌, ◌×◌, OnErr, OnOk, IfOk};
+ghost use Rattle.std.specs.Prelude.{◌≡◌, ◌<◌, ◌≤◌, ◌-◌, ◌^◌, length, Ok, OnErr, OnOk, IfOk};
+ghost use Rattle.curp_client.specs.Requests.{least_of};
+ghost use Rattle.curp_model.specs.World.{order};
+ghost use Rattle.curp_script.specs.Headers.{InRange};
+ghost use Rattle.curp_script.specs.Printed.{NamesNode, checked, checked_header};
 ghost use Rattle.curp_words.specs.Plan.{IsPlan};
 ghost use Rattle.curp_gen.specs.Making as making;
 
@@ -7,7 +11,8 @@ use curp_msg::{Header, Protocol, Step, StepResult};
 use curp_words::MakePlan;
 use curp_world::{BeginError, World};
 use rand_pcg::Pcg32;
-use std::alloc::Global;
+use crate::summary::Summary;
+use std::alloc::{AllocError, Global};
 use std::marker::Model;
 
 /// The stream of words that scripts are made from.
@@ -61,31 +66,134 @@ impl Maker {
         requires { IsPlan plan.now }
         ensures { IfOk result (λ maker. maker ≡ making.begun plan.now) }
     {
-        todo!()
+        match World::begin(alloc, &header_of(plan)) {
+            Ok(world) => Ok(Maker {
+                plan: *plan,
+                world,
+                words: Pcg32::new(plan.number, SCRIPT_STREAM),
+                cursor: 1,
+                made: 0,
+                recoveries: 0,
+                refused: 0,
+                completed: 0,
+            }),
+            Err(BeginError::NoMemory) => Err(AllocError),
+            Err(BeginError::BadHeader { .. }) => unreachable!(),
+        }
     }
 
     /// The header of the script.
     pub fn header(&self) -> Header
-        ensures { result ≡ making.header_of self.now.plan }
+        ensures header { result ≡ making.header_of self.now.plan }
+        ensures in_range { InRange result }
+        ensures reads_back { checked_header result ≡ Ok result }
     {
-        todo!()
+        header_of(&self.plan)
     }
 
     /// Makes the next step. Where there is no memory for it, nothing has changed.
     pub fn next_step(&mut self) -> Result<Step, NoMemory>
         requires { self.old.made < self.old.plan.steps }
         ensures step { IfOk result (λ step. step ≡ making.next_step self.old) }
+        ensures names_node { IfOk result NamesNode }
+        ensures reads_back { IfOk result (λ step. checked step ≡ Ok step) }
         ensures state { OnOk result (self.new ≡ making.with_next self.old) }
         ensures err { OnErr result (self.new ≡ self.old) }
     {
-        todo!()
+        let mut words = self.words.clone()?;
+        let choice = self.choice(&mut words);
+        let is_recovery = self.is_recovery_due();
+        match self.world.step(&choice.step) {
+            Ok(outcome) => {
+                self.words = words;
+                self.cursor = choice.cursor;
+                self.made += 1;
+                self.recoveries = plus_if(is_recovery, self.recoveries);
+                self.refused = plus_if(outcome.result != StepResult::Done, self.refused);
+                self.completed = plus_if(outcome.completed.is_some(), self.completed);
+                Ok(choice.step)
+            }
+            Err(error) => Err(error),
+        }
     }
 
     /// What happened in it so far.
     pub fn summary(&self, alloc: Global) -> Result<Summary, NoMemory>
         ensures { IfOk result (λ summary. summary ≡ making.summary_of self.now) }
     {
-        todo!()
+        Ok(Summary {
+            steps: u64::from(self.made),
+            refused: u64::from(self.refused),
+            messages: self.world.message_count(),
+            weight: self.world.weight(),
+            completed: u64::from(self.completed),
+            order: self.order_length(alloc)?,
+        })
+    }
+
+    // How many requests stand in the order.
+    fn order_length(&self, alloc: Global) -> Result<u64, NoMemory>
+        ensures { IfOk result (λ count. count ≡ length (order self.now.world)) }
+    {
+        let order = self.world.order(alloc)?;
+        Ok(order.len() as u64)
+    }
+
+    // ---- what choices go by
+
+    /// The plan of the script.
+    pub(crate) fn plan(&self) -> MakePlan
+        ensures plan { result ≡ self.now.plan }
+        ensures in_range { IsPlan result }
+    {
+        self.plan
+    }
+
+    /// The number of the message that comes next.
+    pub(crate) fn cursor(&self) -> u64
+        ensures { result ≡ self.now.cursor }
+    {
+        self.cursor
+    }
+
+    /// How many messages were sent.
+    pub(crate) fn sent(&self) -> u64
+        ensures count { result ≡ making.sent self.now }
+        ensures fits { result < u64.MAX }
+    {
+        self.world.message_count()
+    }
+
+    /// How many masters were made so far.
+    pub(crate) fn master_count(&self) -> u32
+        ensures count { result ≡ length self.now.world.masters }
+        ensures least { 1 ≤ result }
+    {
+        self.world.master_count()
+    }
+
+    /// How many requests the client of that number waits for.
+    pub(crate) fn pending(&self, client: u32) -> usize
+        ensures { result ≡ length (making.pending_of self.now client) }
+    {
+        self.world.client(client).map_or(0, |client| client.pending())
+    }
+
+    /// The least of these requests.
+    pub(crate) fn least_pending(&self, client: u32) -> Option<u32>
+        ensures { result ≡ least_of (making.pending_of self.now client) }
+    {
+        self.world.client(client)?.least_pending()
+    }
+
+    /// Whether the next step is to be a recovery.
+    pub(crate) fn is_recovery_due(&self) -> bool
+        ensures { result ≡ making.is_recovery_due self.now }
+    {
+        let interval = self.plan.steps / (self.plan.recoveries + 1);
+        interval >= 1
+            && (self.made + 1) % interval == 0
+            && self.recoveries < self.plan.recoveries
     }
 }
 
@@ -95,5 +203,34 @@ pub fn make(alloc: Global, plan: &MakePlan) -> Result<(Header, Vec<Step>), NoMem
     ensures header { IfOk result (λ script. script.0 ≡ making.header_of plan.now) }
     ensures steps { IfOk result (λ script. script.1.items ≡ making.made_steps plan.now) }
 {
-    todo!()
+    let mut maker = Maker::new(alloc, plan)?;
+    let mut list = Vec::with_capacity(alloc, plan.steps as usize)?;
+    'steps: for _made in 0..plan.steps {
+        let step = maker.next_step()?;
+        list.extend_from_slice(&[step])?;
+    }
+    Ok((maker.header(), list))
+}
+
+// The header: clients are fast.
+fn header_of(plan: &MakePlan) -> Header
+    ensures { result ≡ making.header_of plan.now }
+{
+    Header {
+        clients: plan.clients,
+        f: plan.f,
+        fast: true,
+        parts: plan.parts,
+        protocol: Protocol::One,
+        sets: plan.sets,
+        ways: plan.ways,
+    }
+}
+
+// So much, and one more where it is so.
+fn plus_if(so: bool, count: u32) -> u32
+    requires { count < 2 ^ 32 - 1 }
+    ensures { result ≡ making.plus_if so count }
+{
+    if so { count + 1 } else { count }
 }

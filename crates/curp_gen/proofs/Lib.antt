@@ -1,0 +1,6 @@
+pub mod Answered
+pub mod Built
+pub mod Headers
+pub mod Made
+pub mod Masters
+pub mod Named
