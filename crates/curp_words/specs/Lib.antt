@@ -1,3 +1,4 @@
+pub mod Blame
 pub mod Command
 pub mod Numbers
 pub mod Plan

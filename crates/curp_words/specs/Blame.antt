@@ -1,0 +1,24 @@
+-- Which word it is about, where words are no command line.
+use Rattle.std.specs.Prelude.{◌≡◌, ◌<◌, ◌≤◌, ◌+◌, ℕ, Bool, true, false, List, [], ◌∷◌, ◌++◌, codes, length, take, Option, Some, None, is_some}
+use Rattle.std.specs.List.{list_any}
+use Rattle.clap.specs.Walk.{Text}
+use Rattle.curp_words.specs.Words.{order_in}
+
+-- what can be missing behind words with which a command line begins: its word, an option's value, both, or nothing. The
+-- number 1 is in the range of each option
+abbrev pub endings : List (List Text)
+endings = [] ∷ (codes "make" ∷ []) ∷ (codes "1" ∷ []) ∷ (codes "1" ∷ codes "make" ∷ []) ∷ []
+
+-- a command line can begin with the words
+unfoldable pub is_beginning : List Text → Bool
+is_beginning words = list_any (λ ending. is_some (order_in (words ++ ending))) endings
+
+-- a command line can begin with each so many of the words, up to a number
+abbrev pub BeginsUpTo : ℕ → List Text → Type 0
+BeginsUpTo most words = (count : ℕ) → 1 ≤ count → count ≤ most → is_beginning (take count words) ≡ true
+
+-- it is about the first word with which the words are no beginning, or about what is missing at their end
+abbrev pub IsBlamed : List Text → Option ℕ → Type 0
+IsBlamed words None = BeginsUpTo (length words) words
+IsBlamed words (Some place) =
+    (place < length words) × BeginsUpTo place words × (is_beginning (take (place + 1) words) ≡ false)

@@ -1,0 +1,47 @@
+ghost use Rattle.std.specs.Prelude.{◌≡◌, ◌++◌, IfOk, is_some};
+ghost use Rattle.clap.specs.Walk.{texts};
+ghost use Rattle.curp_words.specs.Blame.{IsBlamed, is_beginning};
+ghost use Rattle.curp_words.specs.Words.{order_in};
+
+use crate::order::WordsError;
+use crate::words::read;
+use curp_base::NoMemory;
+use std::alloc::{AllocError, Global};
+
+/// The place of the word that it is about where words are no command line, counted from 0: the first with which no
+/// command line can begin. Without one something is missing at the end.
+pub fn blamed(alloc: Global, words: &[&str]) -> Result<Option<usize>, NoMemory>
+    ensures { IfOk result (IsBlamed (texts words.now)) }
+{
+    for place in 0..words.len() {
+        if !is_beginning(alloc, &words[..=place])? {
+            return Ok(Some(place));
+        }
+    }
+    Ok(None)
+}
+
+// Whether a command line can begin with the words.
+#[tactic(auto, unfolding(crate::specs::Blame::is_beginning))]
+fn is_beginning(alloc: Global, words: &[&str]) -> Result<bool, NoMemory>
+    ensures { IfOk result (λ so. so ≡ is_beginning (texts words.now)) }
+{
+    Ok(is_line(alloc, words, &[])?
+        || is_line(alloc, words, &["make"])?
+        || is_line(alloc, words, &["1"])?
+        || is_line(alloc, words, &["1", "make"])?)
+}
+
+// Whether the words are a command line with these behind them.
+fn is_line(alloc: Global, words: &[&str], ending: &[&str]) -> Result<bool, NoMemory>
+    ensures { IfOk result (λ so. so ≡ is_some (order_in (texts words.now ++ texts ending.now))) }
+{
+    let mut line = Vec::new(alloc);
+    line.extend_from_slice(words)?;
+    line.extend_from_slice(ending)?;
+    match read(alloc, &line) {
+        Ok(_) => Ok(true),
+        Err(WordsError::Usage) => Ok(false),
+        Err(WordsError::NoMemory) => Err(AllocError),
+    }
+}
