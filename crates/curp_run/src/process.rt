@@ -7,12 +7,18 @@ ghost use Rattle.curp_run.specs.Run.{unread_words};
 use crate::command::run;
 use curp_io::{StdSink, StdSource};
 use curp_play::Status;
+use curp_words::blamed;
 use std::process::ExitCode;
 use std::rt::Env;
 use std::{env, io};
 
+// What a newcomer can write behind `curp make`.
+const OPTIONS: &str = "make takes --number, --f, --sets, --ways, --clients, --parts, --steps and --recoveries, \
+    each with a number, and --summary";
+
 /// Does all that `main` does: runs the command line over the standard streams, writes what there is to complain of to
-/// standard error, and says with which number the process ends.
+/// standard error, and says with which number the process ends. Where the words are no command line, one more line
+/// says which word it is about, and one which options there are.
 pub fn start(rt: &(impl Env + Input + Print + Eprint + AllocGlobal)) -> ExitCode
     ensures { TellsStatus (exit_status result) }
 {
@@ -24,7 +30,7 @@ pub fn start(rt: &(impl Env + Input + Print + Eprint + AllocGlobal)) -> ExitCode
 }
 
 /// Runs the words of the process over the standard streams.
-fn run_words(rt: &(impl Env + Input + Print + AllocGlobal)) -> io::Result<Status> {
+fn run_words(rt: &(impl Env + Input + Print + Eprint + AllocGlobal)) -> io::Result<Status> {
     let mut arguments = Vec::new(rt.alloc());
     for argument in env::args(rt)?.skip(1) {
         arguments.push(argument)?;
@@ -35,7 +41,23 @@ fn run_words(rt: &(impl Env + Input + Print + AllocGlobal)) -> io::Result<Status
     }
     let mut source = StdSource::new(rt.reader());
     let mut sink = StdSink::new(io::writer(rt));
-    Ok(run(rt.alloc(), &words, &mut source, &mut sink))
+    let status = run(rt.alloc(), &words, &mut source, &mut sink);
+    if status == Status::Usage {
+        tell_blame(rt, &words);
+    }
+    Ok(status)
+}
+
+/// Says which word it is about that the words are no command line. Where standard error can't be written, or there is
+/// no memory, the number with which the process ends still tells.
+fn tell_blame(rt: &(impl Eprint + AllocGlobal), words: &[&str]) {
+    let Ok(place) = blamed(rt.alloc(), words) else {
+        return;
+    };
+    let _ = match place.and_then(|place| words.get(place)) {
+        Some(word) => eprintln!(rt; "curp: this can't stand there: {word}"),
+        None => eprintln!(rt; "curp: something is missing at the end"),
+    };
 }
 
 /// Writes the complaint of a status, if it has one, to standard error.
@@ -45,6 +67,9 @@ fn finish(rt: &impl Eprint, status: Status) -> ExitCode
     if let Some(complaint) = status.complaint() {
         // Where standard error can't be written, the number still tells.
         let _ = eprintln!(rt; "{complaint}");
+    }
+    if status == Status::Usage {
+        let _ = eprintln!(rt; "curp: {OPTIONS}");
     }
     ExitCode::from(status)
 }
