@@ -43,19 +43,12 @@ by_test false yes_ no_ = no_ refl
 
 -- ---- kinds
 
-Fails : Kinds → Type 0
-Fails kinds = kinds ≡ [] → ⊥
-
 fails_first : (a b : Kinds) → (a ≡ [] → ⊥) → or_else a b ≡ [] → ⊥
 fails_first [] b fails e = fails refl
 fails_first (k ∷ ks) b fails e = fails e
 
 pub then_none : (a b : Kinds) → a ≡ [] → b ≡ [] → or_else a b ≡ []
 then_none a b x y = rw (x, y) refl
-
-or_else_again : (a b c : Kinds) → or_else (or_else a b) c ≡ or_else a (or_else b c)
-or_else_again [] b c = refl
-or_else_again (k ∷ ks) b c = refl
 
 pub or_else_none : (a : Kinds) → or_else a [] ≡ a
 or_else_none [] = refl
