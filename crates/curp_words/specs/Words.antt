@@ -111,7 +111,7 @@ given_by options words =
 
 -- ---- the orders
 
--- what comes of x, where there is an x
+-- what f gives for x, where there is an x
 abbrev pub with : {X Y : Type 0} → Option X → (X → Option Y) → Option Y
 with x f = option_and_then f x
 
@@ -137,7 +137,7 @@ plan_by value =
       recoveries = recoveries;
     })))))))))
 
--- the text, and where there is none another
+-- there is a text, and it is this one
 abbrev pub is_text : Text → Option Text → Bool
 is_text text None = false
 is_text text (Some other) = bytes_eq other text
