@@ -1,12 +1,12 @@
 -- What std reads of a text of digits.
-use Rattle.std.proofs.Common.{◌≡◌, ◌∙◌, ◌<◌, ◌≤◌, ◌^◌, ◌&&◌, ℕ, Bool, cond, true, false, refl, sym, ap, arith, List, [], ◌∷◌, length, Option, Some, None, Result, Ok, Err, le-ltb, lt-ltb, le-leb, leb, leb-false, inl, inr}
+use Rattle.std.proofs.Common.{◌≡◌, ◌∙◌, ◌<◌, ◌≤◌, ◌^◌, ◌&&◌, ℕ, true, false, refl, sym, ap, List, [], ◌∷◌, length, Some, None, Result, Ok, Err, le-ltb, lt-ltb, le-leb, leb, inl, inr}
 use Rattle.std.specs.List.{list_all}
 use Rattle.std.specs.Char.{is_ascii_digit}
 use Rattle.std.specs.Result.{OkIff, result_ok}
 use Rattle.std.specs.Str.{all_ascii_digits}
 use Rattle.std.specs.Str.Parse.{ParsesUnsigned, digits_value}
 use Rattle.std.proofs.lemmas.Bool.{cases_lt}
-use Rattle.std.proofs.lemmas.Str.Parse.{IsDigitsTest, numerals_by_value, parse_digits, tells_all_ascii_digits}
+use Rattle.std.proofs.lemmas.Str.Parse.{numerals_by_value, parse_digits, tells_all_ascii_digits}
 use Rattle.curp_words.specs.Numbers.{number_of}
 
 same_test : (text : List ℕ) → list_all is_ascii_digit text ≡ all_ascii_digits text

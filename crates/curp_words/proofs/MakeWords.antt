@@ -1,6 +1,6 @@
 -- What clap makes of the words of `make`.
-use Rattle.std.proofs.Common.{◌≡◌, ◌≢◌, ◌∙◌, ◌⊎◌, ◌&&◌, ◌||◌, ◌++◌, ℕ, Bool, cond, true, false, not, refl, sym, ap, ap₂, subst, List, [], ◌∷◌, map, Option, Some, None, inl, inr, codes, true≢false, append-nil, fold, IfOk, IfErr, ok_or}
-use Rattle.std.specs.Prelude.{find, is_some, option_and_then, option_map, slice_get}
+use Rattle.std.proofs.Common.{◌≡◌, ◌≢◌, ◌∙◌, ◌&&◌, ◌||◌, ◌++◌, Bool, cond, true, false, not, refl, sym, ap, ap₂, List, [], ◌∷◌, map, Option, Some, None, inl, inr, codes, true≢false, fold, IfOk, IfErr, ok_or}
+use Rattle.std.specs.Prelude.{find, option_and_then, option_map, slice_get}
 use Rattle.std.specs.List.{list_all, list_any}
 use Rattle.std.specs.Borrow.{Bor}
 use Rattle.std.specs.Str.{bytes_eq}
@@ -8,13 +8,13 @@ use Rattle.std.proofs.lemmas.Slice.Eq.{bytes_eq-Decides}
 use Rattle.clap.proofs.FaultLemmas.{leaf_fault}
 use Rattle.clap.specs.Faults.{check_fault, default_fault, defaults_fault, fault_of, given_default_fault, settle_fault, walk_fault}
 use Rattle.clap.specs.Kinds.{Kinds, or_else}
-use Rattle.clap.specs.Walk.{Held, Row, Rule, Text, arg_by_id, arg_by_index, arg_by_long, finished, first_of, has_row, more_values, nothing_held, rows_of, settled, texts, walk, walk_from, walked, with_default}
+use Rattle.clap.specs.Walk.{Held, Row, Rule, Text, arg_by_id, arg_by_long, finished, first_of, has_row, more_values, nothing_held, rows_of, settled, texts, walk, walk_from, walked, with_default}
 use Rattle.clap.specs.Matches.{first_value}
 use Rattle.clap.specs.declared.builder.value_parser.Reading.TheVariants.{AsWritten}
 use Rattle.clap.specs.declared.parser.matches.Found.{Found}
 use Rattle.clap.specs.declared.parser.matches.ValueSource.TheVariants.{DefaultValue}
 use Rattle.clap.proofs.WalkLemmas.{both, first_value-rows}
-use Rattle.clap.specs.Simple.{App, built, matches_of}
+use Rattle.clap.specs.Simple.{built, matches_of}
 use Rattle.curp_words.specs.Command.{make_app}
 use Rattle.curp_words.specs.Words.{Given, given_from, if_once, is_among, is_given, is_once, is_text, is_well_formed, make_in, make_options, order_by, output_by, plan_by, value_of}
 use Rattle.curp_words.specs.declared.order.Order.{Order}

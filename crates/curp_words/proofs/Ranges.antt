@@ -1,14 +1,14 @@
 -- The ranges of a plan.
-use Rattle.std.proofs.Common.{◌≡◌, ◌∙◌, ◌≤◌, ◌&&◌, ◌^◌, ◌-◌, ℕ, Bool, cond, true, false, refl, sym, ap, arith, List, Option, Some, None, leb, leb-true, le-leb, true≢false, IfOk, Result, Ok, Err, codes, subst}
-use Rattle.std.specs.Prelude.{option_and_then, option_map, is_some, ⊤}
+use Rattle.std.proofs.Common.{◌≡◌, ◌≤◌, ◌&&◌, ◌^◌, ◌-◌, ℕ, Bool, cond, true, false, refl, arith, List, Option, Some, None, leb, leb-true, IfOk, Result, Ok, Err, codes, subst}
+use Rattle.std.specs.Prelude.{option_and_then, option_map, ⊤}
 use Rattle.clap.proofs.WalkLemmas.{both}
 use Rattle.clap.specs.Walk.{Text}
 use Rattle.curp_words.specs.Numbers.{number_of, number_within, within}
 use Rattle.curp_words.specs.Plan.{IsPlan, fits}
-use Rattle.curp_words.specs.Words.{Given, given_by, is_play, is_text, make_in, make_options, order_by, order_in, output_by, plan_by, value_of}
+use Rattle.curp_words.specs.Words.{Given, given_by, is_text, make_in, make_options, order_by, output_by, plan_by, value_of}
 use Rattle.curp_words.specs.declared.order.MakePlan.{MakePlan}
 use Rattle.curp_words.specs.declared.order.Order.{Order}
-use Rattle.curp_words.specs.declared.order.Order.TheVariants.{Make, Play}
+use Rattle.curp_words.specs.declared.order.Order.TheVariants.{Make}
 use Rattle.curp_words.specs.declared.order.Output.{Output}
 use Rattle.curp_words.specs.declared.order.WordsError.{WordsError}
 

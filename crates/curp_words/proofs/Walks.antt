@@ -1,8 +1,8 @@
 -- What clap makes of the words of a command with one word, options and flags: its walk over them gives what `given_from`
 -- says, and fails where that says that nothing is given, or something twice.
 use Rattle.std.proofs.Common.{◌≡◌, ◌∙◌, ◌⊎◌, ◌&&◌, ◌||◌, ◌++◌, ℕ, Bool, cond, true, false, not, refl, sym, ap, ap₂, subst, List, [], ◌∷◌, Option, Some, None, inl, inr, codes, true≢false, append-nil, fold}
-use Rattle.std.specs.Prelude.{find, option_and_then, nat_lt, option_map, is_some, unwrap_or, ⊤}
-use Rattle.std.specs.List.{list_all, list_any}
+use Rattle.std.specs.Prelude.{option_and_then, nat_lt, is_some, unwrap_or, ⊤}
+use Rattle.std.specs.List.{list_all}
 use Rattle.std.specs.Option.{option_map_or}
 use Rattle.std.specs.Str.{bytes_eq}
 use Rattle.std.proofs.lemmas.List.Folds.{list_any-append}
@@ -18,7 +18,7 @@ use Rattle.clap.specs.declared.builder.value_parser.Reading.TheVariants.{AsWritt
 use Rattle.clap.specs.declared.error.kind.ErrorKind.TheVariants as kind
 use Rattle.clap.specs.declared.parser.matches.ValueSource.TheVariants.{CommandLine}
 use Rattle.curp_words.specs.Command.{bare_rule, flag_rule, valued_rule}
-use Rattle.curp_words.specs.Words.{Given, Options, Reading, given_from, gives, is_among, is_given, is_once, is_well_formed, with_bare, with_next, with_option}
+use Rattle.curp_words.specs.Words.{Given, Options, Reading, given_from, gives, is_among, is_given, is_once, is_well_formed, with_next, with_option}
 
 -- ---- tests
 
@@ -43,19 +43,12 @@ by_test false yes_ no_ = no_ refl
 
 -- ---- kinds
 
-Fails : Kinds → Type 0
-Fails kinds = kinds ≡ [] → ⊥
-
 fails_first : (a b : Kinds) → (a ≡ [] → ⊥) → or_else a b ≡ [] → ⊥
 fails_first [] b fails e = fails refl
 fails_first (k ∷ ks) b fails e = fails e
 
 pub then_none : (a b : Kinds) → a ≡ [] → b ≡ [] → or_else a b ≡ []
 then_none a b x y = rw (x, y) refl
-
-or_else_again : (a b c : Kinds) → or_else (or_else a b) c ≡ or_else a (or_else b c)
-or_else_again [] b c = refl
-or_else_again (k ∷ ks) b c = refl
 
 pub or_else_none : (a : Kinds) → or_else a [] ≡ a
 or_else_none [] = refl

@@ -1,7 +1,8 @@
 -- The command as the parser of words has it.
-use Rattle.std.specs.Prelude.{Some, codes, true}
+use Rattle.std.specs.Prelude.{Some, codes, fold, true}
 use Rattle.clap.specs.Walk.{Rule, Text}
 use Rattle.clap.specs.Simple.{App, new_app, new_rule, on_top, with_rule}
+use Rattle.curp_words.specs.Words.{make_options}
 use Rattle.clap.specs.declared.builder.action.ArgAction.TheVariants.{Set, SetTrue}
 
 -- an option with a value
@@ -22,8 +23,6 @@ bare_app = on_top (λ top. record top { no_binary_name = true; disable_help_flag
 
 -- `make` with its options
 abbrev pub make_app : App
-make_app = with_rule (with_rule (with_rule (with_rule (with_rule (with_rule (with_rule (with_rule (with_rule (with_rule bare_app
-    (bare_rule (codes "command")))
-    (valued_rule (codes "number"))) (valued_rule (codes "f"))) (valued_rule (codes "sets"))) (valued_rule (codes "ways")))
-    (valued_rule (codes "clients"))) (valued_rule (codes "parts"))) (valued_rule (codes "steps")))
-    (valued_rule (codes "recoveries"))) (flag_rule (codes "summary"))
+make_app =
+    let word = with_rule bare_app (bare_rule (codes "command")) in
+    with_rule (fold (λ app name. with_rule app (valued_rule name)) word make_options.valued) (flag_rule (codes "summary"))

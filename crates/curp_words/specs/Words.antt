@@ -1,5 +1,5 @@
 -- What the words of the command line ask for.
-use Rattle.std.specs.Prelude.{◌^◌, ◌-◌, ◌&&◌, ◌||◌, ℕ, Bool, true, false, not, List, [], ◌∷◌, map, codes, Option, Some, None, is_some, find}
+use Rattle.std.specs.Prelude.{◌^◌, ◌-◌, ◌&&◌, ◌||◌, Bool, true, false, not, List, [], ◌∷◌, codes, Option, Some, None, is_some, find}
 use Rattle.std.specs.Prelude.{if◌then◌else◌, option_and_then, option_map, unwrap_or}
 use Rattle.std.specs.List.{list_all, list_any}
 use Rattle.std.specs.Str.{bytes_eq}
@@ -80,7 +80,8 @@ with_bare waiting given word = gives ((unwrap_or waiting (codes "command"), word
 
 -- an option: its value is behind `=`, or it is the next word, or it has none
 abbrev pub with_option : Options → Given → Text → Option Text → Option Reading
-with_option options given name (Some value) = if is_among options.valued name then Some (gives ((name, value) ∷ given)) else None
+with_option options given name (Some value) =
+    if is_among options.valued name then Some (gives ((name, value) ∷ given)) else None
 with_option options given name None =
     if is_among options.valued name then Some (record { given = given; waiting = Some name })
     else (if is_among options.flags name then Some (gives ((name, codes "true") ∷ given)) else None)
@@ -96,7 +97,8 @@ abbrev pub given_from : Options → Option Text → Given → List Text → Opti
 given_from options None given [] = Some given
 given_from options (Some name) given [] = None
 given_from options waiting given (word ∷ words) =
-    option_and_then (λ (reading : Reading). given_from options reading.waiting reading.given words) (with_next options waiting given word (long_of word))
+    option_and_then (λ (reading : Reading). given_from options reading.waiting reading.given words)
+    (with_next options waiting given word (long_of word))
 
 -- and nothing is given twice
 abbrev pub if_once : Given → Option Given
@@ -109,7 +111,7 @@ given_by options words =
 
 -- ---- the orders
 
--- what comes of x, where there is an x
+-- what f gives for x, where there is an x
 abbrev pub with : {X Y : Type 0} → Option X → (X → Option Y) → Option Y
 with x f = option_and_then f x
 
@@ -135,7 +137,7 @@ plan_by value =
       recoveries = recoveries;
     })))))))))
 
--- the text, and where there is none another
+-- there is a text, and it is this one
 abbrev pub is_text : Text → Option Text → Bool
 is_text text None = false
 is_text text (Some other) = bytes_eq other text
@@ -147,7 +149,8 @@ output_by value = if is_text (codes "true") (value (codes "summary")) then Summa
 -- the order of a command line with values by these names, if its word is `make`
 abbrev pub order_by : (Text → Option Text) → Option Order
 order_by value =
-    if is_text (codes "make") (value (codes "command")) then option_map (λ plan. Make plan (output_by value)) (plan_by value) else None
+    if is_text (codes "make") (value (codes "command"))
+    then option_map (λ plan. Make plan (output_by value)) (plan_by value) else None
 
 -- the one word `play`
 abbrev pub is_play : List Text → Bool

@@ -41,9 +41,10 @@ impl Setting {
         }
     }
 
-    /// The same, of an option whose numbers are small.
+    /// The same, of an option whose numbers are all below 2^32.
     pub fn read_small(&self, matches: &ArgMatches<'_>) -> Option<u32>
-        ensures { self.now.most < 2 ^ 32 → self.now.default < 2 ^ 32 → result ≡ number_within self.now.least self.now.most self.now.default
+        ensures { self.now.most < 2 ^ 32 → self.now.default < 2 ^ 32
+            → result ≡ number_within self.now.least self.now.most self.now.default
             (first_value (found_of matches.now) self.now.name.now) }
     {
         u32::try_from(self.read(matches)?).ok()

@@ -13,7 +13,11 @@ use crate::order::{Order, WordsError};
 use clap::ArgMatches;
 use std::alloc::Global;
 
-/// What the words behind the program's name ask for.
+/// What the words behind the program's name ask for: `play`, or `make` with its options, which stand before the word or
+/// behind it, in any order and each at most once. An option has its value behind `=` or as the next word. The value is
+/// a number of one to twenty decimal digits. Only `--summary` has no value.
+///
+/// Want of memory may come for any words.
 pub fn read(alloc: Global, words: &[&str]) -> Result<Order, WordsError>
     ensures order { IfOk result (λ order. order_in (texts words.now) ≡ Some order) }
     ensures usage { result ≡ Err WordsError.Usage → order_in (texts words.now) ≡ None }
@@ -37,6 +41,7 @@ fn is_play(words: &[&str]) -> bool
     }
 }
 
+// The same, of `make` alone.
 fn read_make(alloc: Global, words: &[&str]) -> Result<Order, WordsError>
     ensures order { IfOk result (λ order. make_in (texts words.now) ≡ Some order) }
     ensures err { IfErr result (λ error. error ≢ WordsError.NoMemory → make_in (texts words.now) ≡ None) }
@@ -48,10 +53,12 @@ fn read_make(alloc: Global, words: &[&str]) -> Result<Order, WordsError>
     make_order(&matches).ok_or(WordsError::Usage)
 }
 
+// What the parser takes; the words are well formed.
 fn make_matches<'a>(alloc: Global, words: &'a [&'a str]) -> Result<ArgMatches<'a>, WordsError>
     ensures ok { IfOk result (λ matches. (fault_of make_app (texts words.now) ≡ [])
         × (rows_of (found_of matches) ≡ matches_of make_app (texts words.now))) }
-    ensures err { IfErr result (λ error. error ≢ WordsError.NoMemory → fault_of make_app (texts words.now) ≢ []) }
+    ensures err { IfErr result (λ error. error ≢ WordsError.NoMemory
+        → fault_of make_app (texts words.now) ≢ []) }
 {
     let matches = make_command(alloc)?.try_get_matches_from(words)?;
     Ok(matches)

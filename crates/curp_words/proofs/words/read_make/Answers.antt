@@ -1,11 +1,11 @@
-use Rattle.std.proofs.Common.{◌≡◌, ◌≢◌, ◌∙◌, IfErr, IfOk, List, Result, Err, None, Some, rules, subst, sym, true}
+use Rattle.std.proofs.Common.{◌≡◌, ◌≢◌, ◌∙◌, IfErr, IfOk, Result, Err, None, Some, rules, subst, sym, true}
 use Rattle.std.specs.List.{list_all}
 use Rattle.clap.specs.Matches.{found_of}
-use Rattle.clap.specs.Walk.{Text, texts}
+use Rattle.clap.specs.Walk.{texts}
 use Rattle.curp_words.specs.Words.{is_well_formed, make_in}
 use Rattle.curp_words.specs.declared.order.Order.{Order}
 use Rattle.curp_words.specs.declared.order.WordsError.{WordsError}
-use Rattle.curp_words.specs.declared.order.WordsError.TheVariants.{NoMemory, Usage}
+use Rattle.curp_words.specs.declared.order.WordsError.TheVariants.{NoMemory}
 use Rattle.curp_words.proofs.MakeWords.{gives_order, gives_usage, refused, taken}
 use Rattle.curp_words.proofs.words.read_make.Goals as goal
 
