@@ -13,5 +13,5 @@ length-with_answers [] answered e = refl
 length-with_answers (o ∷ os) [] e = absurd (omega arith)
 length-with_answers (o ∷ os) (a ∷ answered) e = ap suc (length-with_answers os answered (omega arith))
 
-pub length-answered_order : (w : World) → length (answered_order w) ≡ length (order w)
-length-answered_order w = length-with_answers (order w) (answers (order w)) (length-answers nothing (order w))
+pub as_many_answers : (w : World) → length (answered_order w) ≡ length (order w)
+as_many_answers w = length-with_answers (order w) (answers (order w)) (length-answers nothing (order w))

@@ -12,8 +12,7 @@ fn the_script_of_the_default_plan(rt: HostRuntime) -> Result<(), Fail> {
         maker.next_step()?;
     }
     let summary = maker.summary(rt.alloc())?.to_string(rt.alloc())?;
-    assert_eq!(
-        rt;
+    assert_eq!(rt;
         summary.as_str(),
         "steps 4000\nrefused 4\nmessages 3757\nweight 21033\ncompleted 79\norder 114\n"
     );
