@@ -1,4 +1,4 @@
-use Rattle.std.proofs.Common.{◌≡◌, ◌+◌, ◌-◌, ℕ, List, [], ◌∷◌, ◌++◌, append-nil, arith, ap, refl, sym, ◌∙◌}
+use Rattle.std.proofs.Common.{◌-◌, arith}
 use Rattle.curp_gen.proofs.Made.{commands_go_on, no_commands}
 use Rattle.curp_gen.proofs.commands.workload.Goals as goal
 
