@@ -10,9 +10,12 @@ use std::test::Fail;
 fn the_script_of_the_default_plan(rt: HostRuntime) -> Result<(), Fail> {
     let plan = MakePlan::default();
     let mut maker = Maker::new(rt.alloc(), &plan)?;
-    for _ in 0..plan.steps {
-        maker.next_step()?;
+    let mut steps = Vec::with_capacity(rt.alloc(), plan.steps as usize)?;
+    'steps: for _made in 0..plan.steps {
+        let step = maker.next_step()?;
+        steps.extend_from_slice(&[step])?;
     }
+    assert_eq!(rt; steps.len(), 4_000);
     let summary = maker.summary(rt.alloc())?.to_string(rt.alloc())?;
     assert_eq!(rt;
         summary.as_str(),
