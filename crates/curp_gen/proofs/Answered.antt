@@ -1,5 +1,5 @@
 -- The order with its answers is as long as the order.
-use Rattle.std.proofs.Common.{◌≡◌, ℕ, suc, List, [], ◌∷◌, length, refl, ap, arith}
+use Rattle.std.proofs.Common.{◌≡◌, suc, List, [], ◌∷◌, length, refl, ap, arith}
 use Rattle.curp_cmd.specs.Store.{nothing}
 use Rattle.curp_cmd.specs.declared.command.Answer.{Answer}
 use Rattle.curp_cmd.specs.declared.command.Command.{Command}
@@ -13,5 +13,5 @@ length-with_answers [] answered e = refl
 length-with_answers (o ∷ os) [] e = absurd (omega arith)
 length-with_answers (o ∷ os) (a ∷ answered) e = ap suc (length-with_answers os answered (omega arith))
 
-pub length-answered_order : (w : World) → length (answered_order w) ≡ length (order w)
-length-answered_order w = length-with_answers (order w) (answers (order w)) (length-answers nothing (order w))
+pub as_many_answers : (w : World) → length (answered_order w) ≡ length (order w)
+as_many_answers w = length-with_answers (order w) (answers (order w)) (length-answers nothing (order w))

@@ -1,7 +1,6 @@
 -- What is printed for a step is read as that step, and for a header as that header: all their forms are built.
-use Rattle.std.proofs.Common.{◌≡◌, Bool, true, false, List, [], ◌∷◌, if◌then◌else◌, Ok, refl}
+use Rattle.std.proofs.Common.{◌≡◌, Bool, true, false, [], ◌∷◌, if◌then◌else◌, Ok, refl}
 use Rattle.std.specs.Prelude.{nat_lt}
-use Rattle.curp_cmd.specs.declared.command.Command.{Command}
 use Rattle.curp_cmd.specs.declared.command.Command.TheVariants.{Append, CondPut, Delete, Get, Incr, Multi, Put}
 use Rattle.curp_msg.specs.declared.script.Header.{Header}
 use Rattle.curp_msg.specs.declared.script.Step.{Step}

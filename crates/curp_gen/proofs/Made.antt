@@ -1,13 +1,14 @@
 -- One step more, and one command more.
-use Rattle.std.proofs.Common.{◌≡◌, ◌≤◌, ◌<◌, ◌+◌, ◌-◌, ◌++◌, ℕ, suc, Bool, true, false, List, [], ◌∷◌, refl, sym, ap, ◌∙◌, arith, append_assoc}
-use Rattle.std.specs.Prelude.{not, is_some}
+use Rattle.std.proofs.Common.{◌≡◌, ◌≤◌, ◌<◌, ◌+◌, ◌-◌, ◌++◌, ℕ, suc, Bool, true, false, List, [], ◌∷◌, refl, sym, ap, ◌∙◌, arith, append_assoc, append-nil}
+use Rattle.std.proofs.lemmas.Bool.Decides.{nat_tests}
+use Rattle.std.specs.Prelude.{◌==◌, ◌%◌, ◌&&◌, nat_le, nat_lt, not, is_some}
 use Rattle.rand_pcg.specs.Lcg.{Lcg}
 use Rattle.curp_cmd.specs.declared.command.Command.{Command}
 use Rattle.curp_model.specs.World.{World, step}
 use Rattle.curp_msg.specs.declared.outcome.Outcome.{Outcome}
 use Rattle.curp_msg.specs.declared.script.Step.{Step}
 use Rattle.curp_gen.specs.Commands.{made_command, made_commands}
-use Rattle.curp_gen.specs.Making.{Making, choice, is_done, is_recovery_due, next_step, plus_if, steps_from, with_next}
+use Rattle.curp_gen.specs.Making.{Making, choice, interval, is_done, is_recovery_due, next_step, plus_if, steps_from, with_next}
 use Rattle.curp_gen.specs.declared.choice.Choice.{Choice}
 
 first_command : (count at : ℕ) (words : Lcg) → at < count
@@ -58,7 +59,13 @@ pub state_is_next : (m : Making) (chosen : Choice) (after : Lcg) (w : World) (o 
     → recoveries ≡ plus_if (is_recovery_due m) m.recoveries → refused ≡ plus_if (not (is_done o.result)) m.refused
     → completed ≡ plus_if (is_some o.completed) m.completed
     → record m {
-      world = w; words = after; cursor = chosen.cursor; made = m.made + 1; recoveries = recoveries; refused = refused; completed = completed;
+      world = w;
+      words = after;
+      cursor = chosen.cursor;
+      made = m.made + 1;
+      recoveries = recoveries;
+      refused = refused;
+      completed = completed;
     } ≡ with_next m
 unfolding with_next
 state_is_next m chosen after w o recoveries refused completed is world outcome more_recoveries more_refused more_completed =
@@ -72,3 +79,25 @@ plus_if_most false count most below = omega arith
 pub plus_if_within : (so : Bool) (count most : ℕ) → (so ≡ true → count < most) → count ≤ most → plus_if so count ≤ most
 plus_if_within true count most room below = let above : count < most = room refl in omega arith
 plus_if_within false count most room below = below
+
+-- no more of them follow
+pub no_commands : (before : List Command) (left : ℕ) (words : Lcg) (all : List Command) → left ≡ 0 → before ++ made_commands left words ≡ all → before ≡ all
+unfolding made_commands
+no_commands before left words all none so = sym (append-nil before) ∙ (rw none at so)
+
+pub no_steps : (before : List Step) (left : ℕ) (m : Making) (all : List Step) → left ≡ 0 → before ++ steps_from left m ≡ all → before ≡ all
+unfolding steps_from
+no_steps before left m all none so = sym (append-nil before) ∙ (rw none at so)
+
+second_holds : (a b : Bool) → a && b ≡ true → b ≡ true
+second_holds true b both = both
+second_holds false b both = absurd cc
+
+-- a recovery is due only while fewer were made than the plan asks for
+pub recovery_room : (m : Making) → is_recovery_due m ≡ true → m.recoveries < m.plan.recoveries
+recovery_room m due =
+    let later : ((m.made + 1) % interval m.plan == 0 && nat_lt m.recoveries m.plan.recoveries) ≡ true
+    = second_holds (nat_le 1 (interval m.plan)) ((m.made + 1) % interval m.plan == 0 && nat_lt m.recoveries m.plan.recoveries) due in
+    let fewer : nat_lt m.recoveries m.plan.recoveries ≡ true
+    = second_holds ((m.made + 1) % interval m.plan == 0) (nat_lt m.recoveries m.plan.recoveries) later in
+    grind (arith, nat_tests)

@@ -1,7 +1,7 @@
 -- No step takes a master away.
-use Rattle.std.proofs.Common.{◌≡◌, ◌≤◌, ◌+◌, ◌-◌, ◌++◌, ℕ, zero, suc, List, length, Option, Some, None, refl, ap, ◌∙◌, arith, length-append}
-use Rattle.std.proofs.lemmas.List.{length-set}
-use Rattle.std.specs.Prelude.{map, replicate, slice_set}
+use Rattle.std.proofs.Common.{◌≡◌, ◌≤◌, ◌+◌, ◌-◌, ℕ, zero, suc, List, length, Option, Some, None, refl, ap, ◌∙◌, arith, length-append}
+use Rattle.std.proofs.lemmas.List.{length-map, length-set}
+use Rattle.std.specs.Prelude.{replicate, slice_set}
 use Rattle.curp_cmd.specs.declared.node.NodeKind.{NodeKind}
 use Rattle.curp_cmd.specs.declared.node.NodeKind.TheVariants as kind
 use Rattle.curp_base.specs.Words.{numbered, numbers_from}

@@ -1,5 +1,5 @@
 -- No made step stops a node, so each names what a line can name.
-use Rattle.std.proofs.Common.{◌≡◌, ℕ, Bool, true, false, Option, Some, None, length, nat_lt, nat_eq, if◌then◌else◌, ◌==◌}
+use Rattle.std.proofs.Common.{ℕ, Bool, true, false, Option, Some, None, length, nat_lt, if◌then◌else◌, ◌==◌}
 use Rattle.std.specs.Prelude.{nat_le, ◌+◌}
 use Rattle.rand_pcg.specs.Lcg.{Lcg}
 use Rattle.curp_client.specs.Requests.{least_of}

@@ -92,7 +92,11 @@ impl Maker {
         ensures { result ≡ making.passing self.now }
     {
         let cursor = self.cursor();
-        if cursor <= self.sent() { cursor + 1 } else { cursor }
+        if cursor <= self.sent() {
+            cursor + 1
+        } else {
+            cursor
+        }
     }
 
     // The message at the cursor comes; behind the last one, any message.

@@ -1,7 +1,8 @@
 // What is drawn from a stream of random words.
-ghost use Rattle.std.specs.Prelude.{◌≡◌, ◌≤◌, ◌<◌, ◌^◌, ℕ};
+ghost use Rattle.std.specs.Prelude.{IfOk, ◌≡◌, ◌≤◌, ◌<◌, ◌^◌, ℕ};
 ghost use Rattle.curp_gen.specs.Draws as draws;
 
+use curp_base::NoMemory;
 use rand_core::utils::NextWord;
 use rand_pcg::Pcg32;
 
@@ -38,4 +39,11 @@ pub(crate) fn pick_message(words: &mut Pcg32, count: u64) -> u64
     ensures in_range { (1 ≤ result) × (result ≤ count) }
 {
     1 + u64::from(next_word(words)) % count
+}
+
+/// A generator whose next words are the same.
+pub(crate) fn copy_of(words: &Pcg32) -> Result<Pcg32, NoMemory>
+    ensures { IfOk result (λ copy. copy ≡ words.now) }
+{
+    Ok(words.clone()?)
 }

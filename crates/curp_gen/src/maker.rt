@@ -6,12 +6,13 @@ ghost use Rattle.curp_script.specs.Printed.{NamesNode, checked, checked_header};
 ghost use Rattle.curp_words.specs.Plan.{IsPlan};
 ghost use Rattle.curp_gen.specs.Making as making;
 
+use crate::draws::copy_of;
+use crate::summary::Summary;
 use curp_base::NoMemory;
-use curp_msg::{Header, Protocol, Step, StepResult};
+use curp_msg::{Header, Outcome, Protocol, Step, StepResult};
 use curp_words::MakePlan;
 use curp_world::{BeginError, World};
 use rand_pcg::Pcg32;
-use crate::summary::Summary;
 use std::alloc::{AllocError, Global};
 use std::marker::Model;
 
@@ -100,7 +101,7 @@ impl Maker {
         ensures state { OnOk result (self.new ≡ making.with_next self.old) }
         ensures err { OnErr result (self.new ≡ self.old) }
     {
-        let mut words = self.words.clone()?;
+        let mut words = copy_of(&self.words)?;
         let choice = self.choice(&mut words);
         let is_recovery = self.is_recovery_due();
         match self.world.step(&choice.step) {
@@ -109,7 +110,7 @@ impl Maker {
                 self.cursor = choice.cursor;
                 self.made += 1;
                 self.recoveries = plus_if(is_recovery, self.recoveries);
-                self.refused = plus_if(outcome.result != StepResult::Done, self.refused);
+                self.refused = plus_if(!is_done(&outcome), self.refused);
                 self.completed = plus_if(outcome.completed.is_some(), self.completed);
                 Ok(choice.step)
             }
@@ -132,6 +133,7 @@ impl Maker {
     }
 
     // How many requests stand in the order.
+    #[tactic(auto, using(crate::proofs::Answered::as_many_answers))]
     fn order_length(&self, alloc: Global) -> Result<u64, NoMemory>
         ensures { IfOk result (λ count. count ≡ length (order self.now.world)) }
     {
@@ -176,7 +178,9 @@ impl Maker {
     pub(crate) fn pending(&self, client: u32) -> usize
         ensures { result ≡ length (making.pending_of self.now client) }
     {
-        self.world.client(client).map_or(0, |client| client.pending())
+        self.world
+            .client(client)
+            .map_or(0, |client| client.pending())
     }
 
     /// The least of these requests.
@@ -191,9 +195,7 @@ impl Maker {
         ensures { result ≡ making.is_recovery_due self.now }
     {
         let interval = self.plan.steps / (self.plan.recoveries + 1);
-        interval >= 1
-            && (self.made + 1) % interval == 0
-            && self.recoveries < self.plan.recoveries
+        interval >= 1 && (self.made + 1) % interval == 0 && self.recoveries < self.plan.recoveries
     }
 }
 
@@ -233,4 +235,11 @@ fn plus_if(so: bool, count: u32) -> u32
     ensures { result ≡ making.plus_if so count }
 {
     if so { count + 1 } else { count }
+}
+
+// A step was done.
+fn is_done(outcome: &Outcome) -> bool
+    ensures { result ≡ making.is_done outcome.now.result }
+{
+    matches!(outcome.result, StepResult::Done)
 }
