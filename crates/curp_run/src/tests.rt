@@ -17,6 +17,11 @@ fn written(alloc: Global, words: &[&str], input: &[u8]) -> Result<MemorySink, Fa
     }
 }
 
+// How many lines begin so.
+fn count(text: &str, front: &str) -> usize {
+    text.lines().filter(|line| line.starts_with(front)).count()
+}
+
 // The numbers are those of another program.
 #[test]
 fn the_default_script_in_numbers(rt: HostRuntime) -> Result<(), Fail> {
@@ -38,10 +43,9 @@ fn the_default_script_is_played(rt: HostRuntime) -> Result<(), Fail> {
     let script = written(rt.alloc(), &["make"], b"")?;
     let text = written(rt.alloc(), &["play"], script.bytes())?;
     let text = str::from_utf8(text.bytes())?;
-    let count = |front: &str| text.lines().filter(|line| line.starts_with(front)).count();
-    assert_eq!(rt; count("s"), 4000);
-    assert_eq!(rt; count("m"), 3757);
-    assert_eq!(rt; count("c "), 79);
+    assert_eq!(rt; count(text, "s"), 4000);
+    assert_eq!(rt; count(text, "m"), 3757);
+    assert_eq!(rt; count(text, "c "), 79);
     assert!(rt; text.contains("\norder 114\n"));
     Ok(())
 }
