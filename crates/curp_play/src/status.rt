@@ -4,8 +4,8 @@ ghost use Rattle.curp_play.specs.Status.{code_of, complaint_of, ended, is_cut_sh
 use crate::reading::STEP_LIMIT;
 use curp_base::NoMemory;
 use curp_script::LineError;
-use std::process::ExitCode;
 use std::fmt;
+use std::process::ExitCode;
 
 /// How a run ended.
 #[derive(Clone, Copy, Debug, PartialEq, Eq)]

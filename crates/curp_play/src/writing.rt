@@ -29,7 +29,8 @@ pub fn close<K: Sink>(sink: &mut K, outcome: Result<(), Status>) -> Status
     ensures ends_or_fails { result ≢ Status.WriteFault → result ≡ ended outcome }
     ensures held { K.tells sink.old ≡ true → K.held sink.new ≡ K.held sink.old }
     ensures flushed { is_cut_short result ≡ false → K.flushed sink.new ≡ true }
-    ensures fault { result ≡ Status.WriteFault → outcome ≢ Err Status.WriteFault → Rose (K.faults sink.old) (K.faults sink.new) }
+    ensures fault { result ≡ Status.WriteFault → outcome ≢ Err Status.WriteFault
+        → Rose (K.faults sink.old) (K.faults sink.new) }
     ensures no_fault { result ≢ Status.WriteFault → SameCount (K.faults sink.old) (K.faults sink.new) }
     ensures stays { outcome ≡ Err Status.WriteFault → (result ≡ Status.WriteFault) × (sink.new ≡ sink.old) }
 {

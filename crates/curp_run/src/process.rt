@@ -13,7 +13,8 @@ use std::rt::Env;
 use std::{env, io};
 
 // What a newcomer can write behind `curp make`.
-const OPTIONS: &str = "make takes --number, --f, --sets, --ways, --clients, --parts, --steps and --recoveries, \
+const OPTIONS: &str =
+    "make takes --number, --f, --sets, --ways, --clients, --parts, --steps and --recoveries, \
     each with a number, and --summary";
 
 /// Does all that `main` does: runs the command line over the standard streams, writes what there is to complain of to

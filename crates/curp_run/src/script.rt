@@ -16,12 +16,7 @@ use std::alloc::Global;
 /// Writes the script of a plan, or its summary: what happens in it, in numbers. It takes no handle, and returns.
 ///
 /// The script is written line by line, as its steps are made.
-pub fn make_script<K: Sink>(
-    alloc: Global,
-    plan: &MakePlan,
-    output: Output,
-    sink: &mut K,
-) -> Status
+pub fn make_script<K: Sink>(alloc: Global, plan: &MakePlan, output: Output, sink: &mut K) -> Status
     requires { IsPlan plan.now }
     // It writes what the plan gives and passes it on; where it is cut short, it writes a front of it.
     ensures wrote { K.tells sink.old ≡ true → result ≡ Status.Ok

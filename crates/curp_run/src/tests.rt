@@ -27,13 +27,16 @@ fn count(text: &str, front: &str) -> usize {
 fn the_default_script_in_numbers(rt: HostRuntime) -> Result<(), Fail> {
     let sink = written(rt.alloc(), &["make", "--summary"], b"")?;
     assert!(rt; sink.is_flushed());
-    assert_eq!(rt; str::from_utf8(sink.bytes())?, "steps 4000
+    assert_eq!(rt;
+        str::from_utf8(sink.bytes())?,
+        "steps 4000
 refused 4
 messages 3757
 weight 21033
 completed 79
 order 114
-");
+"
+    );
     Ok(())
 }
 

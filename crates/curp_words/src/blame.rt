@@ -26,10 +26,12 @@ pub fn blamed(alloc: Global, words: &[&str]) -> Result<Option<usize>, NoMemory>
 fn is_beginning(alloc: Global, words: &[&str]) -> Result<bool, NoMemory>
     ensures { IfOk result (λ so. so ≡ is_beginning (texts words.now)) }
 {
-    Ok(is_line(alloc, words, &[])?
-        || is_line(alloc, words, &["make"])?
-        || is_line(alloc, words, &["1"])?
-        || is_line(alloc, words, &["1", "make"])?)
+    Ok(
+        is_line(alloc, words, &[])?
+            || is_line(alloc, words, &["make"])?
+            || is_line(alloc, words, &["1"])?
+            || is_line(alloc, words, &["1", "make"])?,
+    )
 }
 
 // Whether the words are a command line with these behind them.

@@ -16,7 +16,7 @@ returns-in_err-write_line-clause-front g c = λ tells.
     let piece = step_line (next_step c.loop.maker) in
     let rest = lines_text (steps_from (c.args.count - (c.loop.counter + 1)) (with_next c.loop.maker)) in
     let due : SoFar text old now (piece ++ rest) =
-        subst (λ d. SoFar text old now d) (next_line c.loop.maker c.loop.counter c.args.count c.loop-test.true) (c.loop.invariant.written tells) in
+    subst (λ d. SoFar text old now d) (next_line c.loop.maker c.loop.counter c.args.count c.loop-test.true) (c.loop.invariant.written tells) in
     let line = printed_line c.loop.maker c.in_ok-step.step c.in_ok-line.line.items c.in_ok-line.ensures.text c.in_ok-step.ensures.step in
     let wrote : HoldsPart now new piece = subst (λ l. HoldsPart now new l) line (c.write_line.ensures.front (c.loop.invariant.sink_tells tells)) in
     still_front text old now new piece rest due wrote
@@ -34,7 +34,7 @@ loop-preserved g c = record {
       let piece = step_line (next_step c.loop.maker) in
       let left = λ (m : Making). lines_text (steps_from (c.args.count - (c.loop.counter + 1)) m) in
       let due : SoFar text old now (piece ++ left (with_next c.loop.maker)) =
-          subst (λ d. SoFar text old now d) (next_line c.loop.maker c.loop.counter c.args.count c.loop-test.true) (c.loop.invariant.written tells) in
+      subst (λ d. SoFar text old now d) (next_line c.loop.maker c.loop.counter c.args.count c.loop-test.true) (c.loop.invariant.written tells) in
       let line = printed_line c.loop.maker c.in_ok-step.step c.in_ok-line.line.items c.in_ok-line.ensures.text c.in_ok-step.ensures.step in
       let wrote : new ≡ now ++ piece = c.in_ok-write_line.ensures.wrote (c.loop.invariant.sink_tells tells) ∙ ap (λ l. now ++ l) line in
       subst (λ m. SoFar text old new (left m)) (sym c.in_ok-step.ensures.state) (goes_further text old now new piece (left (with_next c.loop.maker)) due wrote);
