@@ -21,8 +21,8 @@ use Rattle.curp_gen.specs.Draws.{Draw, ◌>>=◌, drawn, generator, pick, pick_t
 
 -- ---- a script that is being made
 
--- The plan, the world after the steps made so far, where the random words are, the number of the message that comes next,
--- and how many steps were made, of these recoveries, steps that couldn't be made, and steps that completed a request
+-- The plan, the world after the steps made so far, where the random words are, the number of the message that comes
+-- next, and how many steps were made, of these recoveries, steps that couldn't be done, and steps that completed a request
 pub record Making : Type 0 where
   pub plan : MakePlan
   pub world : World
@@ -96,7 +96,8 @@ any_message m cursor = do
 -- the message at the cursor comes; behind the last one, any message
 abbrev pub message_at : Making → ℕ → Draw Choice
 message_at m cursor =
-    if nat_le cursor (sent m) then drawn (record { step = Deliver cursor; cursor = cursor + 1 }) else any_message m cursor
+    if nat_le cursor (sent m) then drawn (record { step = Deliver cursor; cursor = cursor + 1 })
+    else any_message m cursor
 
 -- the cursor behind a message that is passed over: it is lost, unless any message that comes later is that one
 abbrev pub passing : Making → ℕ
@@ -244,7 +245,7 @@ made_steps plan = steps_from plan.steps (begun plan)
 
 -- ---- what happened in it
 
--- how many steps there were, how many of them couldn't be made, the messages that were sent and their weight, how many
+-- how many steps there were, how many of them couldn't be done, the messages that were sent and their weight, how many
 -- requests completed, and how many stand in the order
 abbrev pub summary_of : Making → Summary
 summary_of m = record {

@@ -39,8 +39,9 @@ count_text name count = line_text (name ++ codes " " ++ decimal count)
 -- the six numbers
 abbrev pub summary_text : Summary → List ℕ
 summary_text s =
-    count_text (codes "steps") s.steps ++ count_text (codes "refused") s.refused ++ count_text (codes "messages") s.messages
-    ++ count_text (codes "weight") s.weight ++ count_text (codes "completed") s.completed ++ count_text (codes "order") s.order
+    count_text (codes "steps") s.steps ++ count_text (codes "refused") s.refused
+    ++ count_text (codes "messages") s.messages ++ count_text (codes "weight") s.weight
+    ++ count_text (codes "completed") s.completed ++ count_text (codes "order") s.order
 
 -- what `make` writes by a plan
 abbrev pub made_text : MakePlan → Output → List ℕ

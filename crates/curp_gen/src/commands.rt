@@ -21,6 +21,7 @@ pub fn workload(
     let mut words = Pcg32::new(number, u64::from(client));
     let mut list = Vec::with_capacity(alloc, count as usize)?;
     'commands: for _made in 0..count {
+        // By a slice: no proof is generated where a lone command goes through a `?`.
         list.extend_from_slice(&[made_command(&mut words)])?;
     }
     Ok(list)

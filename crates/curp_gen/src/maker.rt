@@ -209,6 +209,7 @@ pub fn make(alloc: Global, plan: &MakePlan) -> Result<(Header, Vec<Step>), NoMem
     let mut list = Vec::with_capacity(alloc, plan.steps as usize)?;
     'steps: for _made in 0..plan.steps {
         let step = maker.next_step()?;
+        // By a slice: no proof is generated where a lone step goes through a `?`.
         list.extend_from_slice(&[step])?;
     }
     Ok((maker.header(), list))

@@ -1,5 +1,5 @@
-// What no clause says: that there is an answer where there is memory, and what an outside program gives. The numbers of the
-// script, the commands and the steps come from programs that were written apart, in another language.
+// What no clause says: that there is an answer where there is memory, and that it is the one of programs that were written
+// apart, in another language.
 use crate::{Maker, make, workload};
 use curp_cmd::{Command, Key, Value};
 use curp_msg::Step;
