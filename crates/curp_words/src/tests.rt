@@ -1,5 +1,5 @@
 // What no clause says: that there is an order where there is memory.
-use crate::{Order, WordsError, read};
+use crate::{Order, WordsError, blamed, read};
 use std::alloc::Global;
 use std::test::Fail;
 
@@ -131,6 +131,25 @@ fn orders_are_read(rt: HostRuntime) -> Result<(), Fail> {
     for row in TAKEN.lines() {
         let (line, plan) = row.split_once(": ").ok_or("a row without a plan")?;
         assert_eq!(rt; made(rt.alloc(), line)?.as_str(), plan, "{line}");
+    }
+    Ok(())
+}
+
+// The first word with which no command line can begin; none where the line breaks off.
+#[test]
+fn a_word_is_blamed(rt: HostRuntime) -> Result<(), Fail> {
+    for (line, place) in [
+        ("plya", Some(0)),
+        ("play|--f|1", Some(1)),
+        ("make|--f|6", Some(2)),
+        ("make|--f|1|--f|1", Some(3)),
+        ("--clients|64|--parts|make", Some(3)),
+        ("make|--summary|--", Some(2)),
+        ("make|--steps", None),
+        ("--f=3", None),
+    ] {
+        let words: Vec<&str> = line.split('|').collect(rt.alloc())?;
+        assert_eq!(rt; blamed(rt.alloc(), words.as_slice())?, place, "{line}");
     }
     Ok(())
 }
