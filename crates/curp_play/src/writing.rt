@@ -25,14 +25,13 @@ pub fn write<K: Sink>(sink: &mut K, bytes: &[u8]) -> Result<(), Status>
 
 /// How a run ends that gave this. What it wrote is passed on, unless a fault or want of memory cut it short.
 pub fn close<K: Sink>(sink: &mut K, outcome: Result<(), Status>) -> Status
-    ensures ends { is_cut_short result ≡ false → result ≡ ended outcome }
-    ensures ends_or_fails { result ≢ Status.WriteFault → result ≡ ended outcome }
+    ensures ends { result ≢ Status.WriteFault → result ≡ ended outcome }
+    ensures stays { is_cut_short (ended outcome) ≡ true → (result ≡ ended outcome) × (sink.new ≡ sink.old) }
     ensures held { K.tells sink.old ≡ true → K.held sink.new ≡ K.held sink.old }
     ensures flushed { is_cut_short result ≡ false → K.flushed sink.new ≡ true }
     ensures fault { result ≡ Status.WriteFault → outcome ≢ Err Status.WriteFault
         → Rose (K.faults sink.old) (K.faults sink.new) }
     ensures no_fault { result ≢ Status.WriteFault → SameCount (K.faults sink.old) (K.faults sink.new) }
-    ensures stays { outcome ≡ Err Status.WriteFault → (result ≡ Status.WriteFault) × (sink.new ≡ sink.old) }
 {
     let status = Status::of_run(outcome);
     if status.is_cut_short() {
