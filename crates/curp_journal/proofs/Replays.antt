@@ -1,5 +1,5 @@
 -- Lemmas on the replay of a journal.
-use Rattle.std.proofs.Common.{◌≡◌, ◌≢◌, ℕ, zero, suc, ◌+◌, ◌<◌, ◌≤◌, max, List, [], ◌∷◌, ◌++◌, length, take, refl, ap, sym, ◌∙◌, subst, arith}
+use Rattle.std.proofs.Common.{◌≡◌, ◌≢◌, ℕ, zero, suc, ◌+◌, ◌<◌, max, List, [], ◌∷◌, ◌++◌, take, refl, ap, sym, ◌∙◌, arith}
 use Rattle.curp_base.specs.Words.{At}
 use Rattle.curp_msg.specs.Moved.{Moved, Refuses, done_of, within}
 use Rattle.curp_msg.specs.declared.machine.Done.{Done}
