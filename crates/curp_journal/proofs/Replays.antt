@@ -1,5 +1,5 @@
 -- Lemmas on the replay of a journal.
-use Rattle.std.proofs.Common.{◌≡◌, ◌≢◌, ℕ, zero, suc, ◌+◌, ◌<◌, max, List, [], ◌∷◌, ◌++◌, take, refl, ap, sym, ◌∙◌, arith}
+use Rattle.std.proofs.Common.{◌≡◌, ◌≢◌, ℕ, zero, suc, ◌+◌, ◌<◌, List, [], ◌∷◌, ◌++◌, take, refl, ap, sym, ◌∙◌, arith, ◌≤◌, add-one}
 use Rattle.curp_base.specs.Words.{At}
 use Rattle.curp_msg.specs.Moved.{Moved, Refuses, done_of, within}
 use Rattle.curp_msg.specs.declared.machine.Done.{Done}
@@ -22,6 +22,14 @@ refused-snoc (first ∷ items) item = let e = refused-snoc items item in omega a
 pub last_stamp-snoc : (last : ℕ) (items : List Item) (item : Item) → last_stamp last (items ++ item ∷ []) ≡ item.stamp
 last_stamp-snoc last [] item = refl
 last_stamp-snoc last (first ∷ items) item = last_stamp-snoc first.stamp items item
+
+take_next : {A : Type 0} (xs : List A) (t : ℕ) (x : A) → At xs t x → take (suc t) xs ≡ take t xs ++ x ∷ []
+take_next [] t x at = absurd cc
+take_next (y ∷ xs) zero x at = let same : y ≡ x = cc in ap (λ z. z ∷ []) same
+take_next (y ∷ xs) (suc t) x at = ap (λ zs. y ∷ zs) (take_next xs t x at)
+
+take_on : {A : Type 0} (xs : List A) (t : ℕ) (x : A) → At xs t x → take (t + 1) xs ≡ take t xs ++ x ∷ []
+take_on xs t x at = rw add-one (take_next xs t x at)
 
 module _ {N : Type 0} (machine : N → Input → Moved N) where
   pub after-snoc : (node : N) (items : List Item) (item : Item) → after machine node (items ++ item ∷ []) ≡ (machine (after machine node items) (given item.input)).state
@@ -48,17 +56,12 @@ module _ {N : Type 0} (machine : N → Input → Moved N) where
   }
 
   -- the same by equations, as code gives them
-  pub keeps : (opening : N) (items : List Item) (node : N) (last : ℕ) (arrived : Arrived) (input : Input) (before : ℕ) (done : Done) (node' : N) (items' : List Item)
+  pub keeps : (opening : N) (items : List Item) (node : N) (last : ℕ) (arrived : Arrived) (item : Item) (next : N) (more : List Item)
       → IsReplay machine opening items node last
-      → input ≡ given arrived → before ≡ max last (stamp_of arrived)
-      → done ≡ done_of (machine node input) → node' ≡ (machine node input).state → done.refused ≡ 0
-      → items' ≡ items ++ record { stamp = before + 1; input = arrived; done = done } ∷ []
-      → IsReplay machine opening items' node' (before + 1)
-  keeps opening items node last arrived input before done node' items' is input_is before_is done_is node_is taken items_are =
-      let e : done ≡ done_of (machine node (given arrived)) = done_is ∙ ap (λ i. done_of (machine node i)) input_is in
-      let n : node' ≡ (machine node (given arrived)).state = node_is ∙ ap (λ i. (machine node i).state) input_is in
-      let t : (machine node (given arrived)).refused ≡ 0 = ap (λ (d : Done). d.refused) (sym e) ∙ taken in
-      rw (items_are, n, before_is, e) (one_more opening items node last arrived is t)
+      → item ≡ made machine node last arrived → next ≡ (machine node (given arrived)).state → (machine node (given arrived)).refused ≡ 0 → more ≡ items ++ item ∷ []
+      → IsReplay machine opening more next item.stamp
+  keeps opening items node last arrived item next more is item_is next_is taken more_is =
+      rw (more_is, next_is, item_is) (one_more opening items node last arrived is taken)
 
   -- what is refused is an order, and leaves the node as it was
   pub refused_stays : ((s : N) (order : Local) → Refuses s (machine s (input.Local order))) → ((s : N) (message : Message) → (machine s (input.Message message)).refused ≡ 0)
@@ -88,6 +91,29 @@ module _ {N : Type 0} (machine : N → Input → Moved N) where
       let tail : items ≡ replayed machine (machine node (given first.input)).state (next_stamp last first.input) items = cc in
       done_at (machine node (given first.input)).state (next_stamp last first.input) items t item tail at
 
+  -- ---- replaying what was replayed
+
+  pub after-replayed : (node : N) (last : ℕ) (items : List Item) → after machine node (replayed machine node last items) ≡ after machine node items
+  after-replayed node last [] = refl
+  after-replayed node last (item ∷ items) = after-replayed (machine node (given item.input)).state (next_stamp last item.input) items
+
+  -- one more item is replayed, as code makes it
+  pub replays_on : (node : N) (items : List Item) (t : ℕ) (item : Item) → At items t item
+      → replayed machine node 0 (take t items) ++ made machine (after machine node (replayed machine node 0 (take t items))) (last_stamp 0 (replayed machine node 0 (take t items))) item.input ∷ []
+      ≡ replayed machine node 0 (take (t + 1) items)
+  replays_on node items t item at =
+      ap (λ n. replayed machine node 0 (take t items) ++ made machine n (last_stamp 0 (replayed machine node 0 (take t items))) item.input ∷ []) (after-replayed node 0 (take t items))
+      ∙ (sym (replayed-snoc node 0 (take t items) item) ∙ ap (replayed machine node 0) (sym (take_on items t item at)))
+
+  -- the beginning of a journal is one
+  pub replayed-take : (node : N) (last : ℕ) (items : List Item) (t : ℕ) → items ≡ replayed machine node last items → take t items ≡ replayed machine node last (take t items)
+  replayed-take node last items zero is = refl
+  replayed-take node last [] (suc t) is = refl
+  replayed-take node last (first ∷ items) (suc t) is =
+      let head : first ≡ made machine node last first.input = cc in
+      let tail : items ≡ replayed machine (machine node (given first.input)).state (next_stamp last first.input) items = cc in
+      cc (head, replayed-take (machine node (given first.input)).state (next_stamp last first.input) items t tail)
+
 pub none_refused_at : (items : List Item) (t : ℕ) (item : Item) → refused items ≡ 0 → At items t item → item.done.refused ≡ 0
 none_refused_at [] t item none at = absurd cc
 none_refused_at (first ∷ items) zero item none at = let same : first ≡ item = cc in rw (sym same) (omega (arith, none))
@@ -111,6 +137,36 @@ rising last (first ∷ items) zero (suc u) a b is at bt below =
     let same : first ≡ a = cc in
     rw (sym same) (stamp_above first.stamp items u b is.1 bt).1
 rising last (first ∷ items) (suc t) (suc u) a b is at bt below = rising first.stamp items t u a b is.1 at bt (omega arith)
+
+-- the stamp of an item, by the last one before it
+pub stamp_at : (last : ℕ) (items : List Item) (t : ℕ) (item : Item) → Stamped last items → At items t item → item.stamp ≡ next_stamp (last_stamp last (take t items)) item.input
+stamp_at last [] t item is at = absurd cc
+stamp_at last (first ∷ items) zero item is at = let same : first ≡ item = cc in rw (sym same) is.0
+stamp_at last (first ∷ items) (suc t) item is at = stamp_at first.stamp items t item is.1 at
+
+-- no stamp is above the last
+pub last_above : (last : ℕ) (items : List Item) (t : ℕ) (item : Item) → Stamped last items → At items t item → item.stamp ≤ last_stamp last items
+last_above last items t item is at = at_most last items t item is at
+  where
+    from : (last : ℕ) (items : List Item) → Stamped last items → last ≤ last_stamp last items
+    from last [] is = omega arith
+    from last (first ∷ items) is = let r = from first.stamp items is.1 in omega (arith, is.0, r)
+
+    at_most : (last : ℕ) (items : List Item) (t : ℕ) (item : Item) → Stamped last items → At items t item → item.stamp ≤ last_stamp last items
+    at_most last [] t item is at = absurd cc
+    at_most last (first ∷ items) zero item is at = let same : first ≡ item = cc in rw (sym same) (from first.stamp items is.1)
+    at_most last (first ∷ items) (suc t) item is at = at_most first.stamp items t item is.1 at
+
+-- an item of a journal is taken again by the node that its beginning leads to
+pub taken_again : {N : Type 0} (machine : N → Input → Moved N) (opening : N) (items : List Item) (t : ℕ) (item : Item) → IsJournal machine opening items → At items t item
+    → (next_stamp (last_stamp 0 (replayed machine opening 0 (take t items))) item.input ≡ item.stamp)
+    × ((machine (after machine opening (replayed machine opening 0 (take t items))) (given item.input)).refused ≡ 0)
+taken_again machine opening items t item is at =
+    let front = replayed-take machine opening 0 items t is.items_are in
+    let stamps = stamp_at 0 items t item (stamped machine opening 0 items is.items_are) at in
+    let done = done_at machine opening 0 items t item is.items_are at in
+    let none = none_refused_at items t item is.none_refused at in
+    (rw (sym front) (sym stamps), rw (sym front) (ap (λ (d : Done). d.refused) (sym done) ∙ none))
 
 -- ---- the same journal of a node that has the state inside its own
 
