@@ -1,0 +1,4 @@
+pub mod Expiring
+pub mod Moves
+pub mod Turns
+pub mod Weaving

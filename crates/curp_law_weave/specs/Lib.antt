@@ -1,0 +1,2 @@
+pub mod NodeStates
+pub mod Run
