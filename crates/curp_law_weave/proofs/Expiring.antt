@@ -1,6 +1,6 @@
 -- The manager takes the order that declares a client gone only of a client of the header.
-use Rattle.std.proofs.Common.{◌≡◌, ◌<◌, ◌≤◌, ◌&&◌, ℕ, nat_lt, Bool, true, false, not, refl, ap, sym, ◌∙◌, arith}
-use Rattle.std.specs.Prelude.{nat_le, Result, Ok}
+use Rattle.std.proofs.Common.{◌≡◌, ◌≤◌, ◌&&◌, ℕ, nat_lt, Bool, true, false, not, refl, ap, arith}
+use Rattle.std.specs.Prelude.{nat_le, Ok}
 use Rattle.std.proofs.lemmas.Bool.{and_parts}
 use Rattle.std.proofs.lemmas.Bool.Decides.{nat_tests}
 use Rattle.curp_base.specs.Cases.{◌>>=◌, refuse_if}
@@ -8,7 +8,7 @@ use Rattle.curp_base.proofs.Ends.{never_rises}
 use Rattle.curp_msg.specs.Moved.{Moved, refuses, unless_refused}
 use Rattle.curp_msg.specs.declared.machine.Input.TheVariants as input
 use Rattle.curp_msg.specs.declared.machine.Local.TheVariants as local
-use Rattle.curp_model.specs.Manager.{ManagerState, Next, client_for, counter_ends, expire, expires, last_number, manager_input, manager_ordered, unless_numbers_end}
+use Rattle.curp_model.specs.Manager.{ManagerState, Next, counter_ends, expire, expires, last_number, manager_input, manager_ordered, unless_numbers_end}
 
 counters_stay : (n : Next) → counter_ends n n ≡ false
 counters_stay n = rw (

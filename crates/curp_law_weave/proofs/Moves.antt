@@ -1,5 +1,5 @@
 -- One step: it is made where its node is there, runs, and takes what it is given, and then that node alone has moved.
-use Rattle.std.proofs.Common.{◌≡◌, ◌≢◌, ℕ, ◌==◌, ◌&&◌, ◌||◌, not, ltb, if◌then◌else◌, Bool, true, false, List, [], ◌∷◌, ◌++◌, Option, Some, None, is_some, refl, ap, sym, ◌∙◌, subst, arith}
+use Rattle.std.proofs.Common.{◌≡◌, ◌≢◌, ℕ, ◌==◌, not, ltb, if◌then◌else◌, Bool, true, false, List, [], ◌++◌, Option, Some, None, is_some, refl, ap, sym, ◌∙◌, subst, arith}
 use Rattle.std.specs.Prelude.{option_map}
 use Rattle.std.specs.List.{list_all, list_any}
 use Rattle.std.proofs.lemmas.Bool.Decides.{nat_tests}
@@ -14,19 +14,17 @@ use Rattle.curp_msg.specs.declared.machine.Input.{Input}
 use Rattle.curp_msg.specs.declared.message.Message.{Message}
 use Rattle.curp_msg.specs.declared.outcome.StepResult.{StepResult}
 use Rattle.curp_msg.specs.declared.outcome.StepResult.TheVariants.{Done}
-use Rattle.curp_msg.specs.declared.outcome.StepResult.TheVariants as result
 use Rattle.curp_msg.specs.declared.script.Header.{Header}
 use Rattle.curp_msg.specs.declared.script.Step.{Step}
 use Rattle.curp_msg.specs.declared.script.Step.TheVariants as steps
 use Rattle.curp_order.specs.declared.Event.{Event}
 use Rattle.curp_model.specs.Backup.{BackupState, backup_input}
 use Rattle.curp_model.specs.Client.{ClientState, client_input}
-use Rattle.curp_model.specs.Manager.{manager_input}
 use Rattle.curp_model.specs.Recovery.{MasterStage, master_input}
 use Rattle.curp_model.specs.Witness.{WitnessState, witness_input}
-use Rattle.curp_model.specs.World.{Deed, Nothing, Gives, Stepped, Stops, World, deed_of, delivery, effect, events_of, has_node, is_lost, is_stopped, is_too_much, kept, messages, moves, moves_kind, moves_one, named_by, names_nobody, names_stopped, refusal, result_of, step, steps_by, stops_manager, subject, weight, weight_limit}
+use Rattle.curp_model.specs.World.{Deed, Gives, Stepped, Stops, World, deed_of, delivery, effect, events_of, has_node, is_lost, is_stopped, is_too_much, kept, messages, moves, moves_kind, moves_one, names_nobody, result_of, step, steps_by, stops_manager, subject, weight, weight_limit}
 use Rattle.curp_model.proofs.Batches.{all_of-kept}
-use Rattle.curp_law_growth.specs.After.{After, ClientAfter, ClientStays, ClientMoves, MasterStays, MasterMoves, MasterNew, BackupStays, BackupMoves, BackupNew, WitnessStays, WitnessMoves, WitnessNew}
+use Rattle.curp_law_growth.specs.After.{After, ClientStays, ClientMoves, MasterStays, MasterMoves, MasterNew, BackupStays, BackupMoves, BackupNew, WitnessStays, WitnessMoves, WitnessNew}
 use Rattle.curp_law_growth.proofs.After.{step_after}
 use Rattle.curp_law_steps.specs.Named.{StopsNone}
 use Rattle.curp_law_steps.proofs.Moving.{OnlyMoves, Spares, only_moves, stops_only_by_stop}

@@ -1,11 +1,10 @@
 -- Lists of turns.
-use Rattle.std.proofs.Common.{◌≡◌, ◌≢◌, ℕ, zero, suc, if◌then◌else◌, Bool, true, false, List, [], ◌∷◌, ◌++◌, length, take, map, refl, ap, sym, ◌∙◌, subst, arith, append-nil, append_assoc}
+use Rattle.std.proofs.Common.{◌≡◌, ◌≢◌, if◌then◌else◌, Bool, true, false, List, [], ◌∷◌, ◌++◌, length, take, map, refl, ap, sym, ◌∙◌, append-nil, append_assoc}
 use Rattle.std.specs.Prelude.{⊤}
 use Rattle.curp_base.specs.Words.{At}
 use Rattle.curp_cmd.specs.Node.{same_node}
 use Rattle.curp_cmd.specs.declared.node.NodeId.{NodeId}
 use Rattle.curp_cmd.proofs.Nodes.{same_node-self, same_node-true}
-use Rattle.curp_msg.specs.declared.message.Message.{Message}
 use Rattle.curp_journal.specs.declared.item.Item.{Item}
 use Rattle.curp_law_weave.specs.Run.{Did, Placed, Quits, Turn, of, said, sent_by}
 

@@ -1,5 +1,5 @@
 -- Steps that are legal as lists are a run: each node is in the state that its turns so far lead to.
-use Rattle.std.proofs.Common.{◌≡◌, ◌≢◌, ◌⊎◌, inl, inr, ℕ, zero, suc, ◌+◌, ◌<◌, ◌≤◌, ◌==◌, ◌||◌, ltb, min, Bool, true, false, List, [], ◌∷◌, ◌++◌, length, take, map, Option, Some, None, is_some, refl, ap, sym, ◌∙◌, subst, arith, append_assoc, append-nil}
+use Rattle.std.proofs.Common.{◌≡◌, ◌≢◌, ◌⊎◌, inl, inr, ℕ, zero, suc, ◌+◌, ◌≤◌, ◌||◌, ltb, min, Bool, true, false, List, [], ◌∷◌, ◌++◌, length, map, Option, Some, None, is_some, refl, ap, sym, ◌∙◌, subst, arith, append_assoc, append-nil}
 use Rattle.std.specs.Prelude.{◌^◌, ◌-◌, option_map}
 use Rattle.std.proofs.lemmas.List.{map-append}
 use Rattle.std.proofs.lemmas.List.Sums.{fold-append}
@@ -13,7 +13,7 @@ use Rattle.curp_cmd.specs.declared.node.NodeId.{NodeId}
 use Rattle.curp_cmd.specs.declared.node.NodeKind.{NodeKind}
 use Rattle.curp_cmd.specs.declared.node.NodeKind.TheVariants as kind
 use Rattle.curp_cmd.proofs.Nodes.{same_node-self, same_node-true}
-use Rattle.curp_msg.specs.Moved.{Moved, done_of}
+use Rattle.curp_msg.specs.Moved.{done_of}
 use Rattle.curp_msg.specs.Weight.{weight_of}
 use Rattle.curp_msg.specs.declared.machine.Done.{Done}
 use Rattle.curp_msg.specs.declared.machine.Input.{Input}
@@ -27,8 +27,7 @@ use Rattle.curp_msg.specs.declared.script.Step.TheVariants as steps
 use Rattle.curp_model.specs.Client.{ClientState}
 use Rattle.curp_model.specs.Manager.{manager_input}
 use Rattle.curp_model.specs.Named.{IsNode, IsNodeOf}
-use Rattle.curp_model.specs.World.{Deed, Gives, Stepped, Stops, World, deed_of, delivery, effect, has_node, is_stopped, is_there, kept, messages, moves, opening, result_of, step, weight, weight_limit}
-use Rattle.curp_model.proofs.Batches.{all_of-kept}
+use Rattle.curp_model.specs.World.{Gives, Stepped, Stops, World, deed_of, delivery, effect, has_node, is_stopped, is_there, kept, messages, moves, opening, result_of, step, weight, weight_limit}
 use Rattle.curp_facts.specs.Run.{IsHeader}
 use Rattle.curp_law_names.specs.Nodes.{IsBetweenNodes}
 use Rattle.curp_law_names.proofs.Laws.{only_sent_to_nodes}
@@ -42,7 +41,7 @@ use Rattle.curp_journal.specs.declared.arrived.Arrived.TheVariants as arrived
 use Rattle.curp_journal.specs.declared.item.Item.{Item}
 use Rattle.curp_journal.proofs.Replays.{after-snoc, done_at, none_refused_at}
 use Rattle.curp_law_weave.specs.NodeStates.{ABackup, AClient, AManager, AMaster, AWitness, NodeState, fresh_state, machine_of, opening_of, state_by, state_of}
-use Rattle.curp_law_weave.specs.Run.{Did, IsJournalOf, IsKnown, IsMade, IsMessage, Journal, Legal, LegalFrom, Placed, Quits, RunOf, Runs, TakesFirst, Turn, completed_by, deed_by, deed_for, of, said, sent_by, turns_of}
+use Rattle.curp_law_weave.specs.Run.{Did, IsJournalOf, IsKnown, IsMade, IsMessage, Journal, Legal, LegalFrom, Placed, Quits, RunOf, Runs, TakesFirst, Turn, deed_by, deed_for, of, said, turns_of}
 use Rattle.curp_law_weave.proofs.Expiring.{expired_client}
 use Rattle.curp_law_weave.proofs.Moves.{Moves, deed_is, gives_done, manager_there, move_says, moved, stop_done, stop_is, stop_world}
 use Rattle.curp_law_weave.proofs.Turns.{HasQuit, ending, item_next, items_in, items_in-did, items_in-quits, none_after, of-append, of_first, of_here, of_there, quit_more, quit_now, said-append, said-snoc}

@@ -1,5 +1,5 @@
 -- What it is that steps are a run of journals: one step for each thing that a journal holds (this project's own).
-use Rattle.std.specs.Prelude.{◌≡◌, ◌≢◌, ◌≤◌, ◌⊎◌, ℕ, if◌then◌else◌, Bool, true, false, List, [], ◌∷◌, ◌++◌, map, Option, Some, None, ⊤}
+use Rattle.std.specs.Prelude.{◌≡◌, ◌≢◌, ◌≤◌, ◌⊎◌, ℕ, if◌then◌else◌, Bool, false, List, [], ◌∷◌, ◌++◌, map, Option, Some, None, ⊤}
 use Rattle.std.specs.List.{sum}
 use Rattle.curp_base.specs.Words.{At, Each, first_of, numbered}
 use Rattle.curp_cmd.specs.Node.{manager_node, same_node}
