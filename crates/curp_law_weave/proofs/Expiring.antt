@@ -12,13 +12,13 @@ use Rattle.curp_model.specs.Manager.{ManagerState, Next, counter_ends, expire, e
 
 counters_stay : (n : Next) → counter_ends n n ≡ false
 counters_stay n = rw (
-    never_rises last_number n.epoch n.epoch refl,
-    never_rises last_number n.version n.version refl,
-    never_rises last_number n.master n.master refl,
-    never_rises last_number n.backup n.backup refl,
-    never_rises last_number n.witness n.witness refl,
-    never_rises last_number n.migration n.migration refl,
-  ) refl
+  never_rises last_number n.epoch n.epoch refl,
+  never_rises last_number n.version n.version refl,
+  never_rises last_number n.master n.master refl,
+  never_rises last_number n.backup n.backup refl,
+  never_rises last_number n.witness n.witness refl,
+  never_rises last_number n.migration n.migration refl,
+) refl
 
 refusal_stands : (g : ManagerState) (number : ℕ) → unless_numbers_end g (refuses g number) ≡ refuses g number
 refusal_stands g number = rw (counters_stay g.next, never_rises last_number g.config.serial g.config.serial refl) refl

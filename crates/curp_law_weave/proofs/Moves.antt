@@ -86,13 +86,16 @@ module _ (w : World) (s : Step) where
 
     pub gives_done : has_node w k ≡ true → ((n : ℕ) → s ≡ steps.Expire n → has_node w (client_node n) ≡ true) → is_stopped w k ≡ false → ltb weight_limit (weight w) ≡ false
         → (moves w k given).refused ≡ 0 → result_of w s ≡ Done
-    gives_done here client runs light taken = (done w s).1 (record {
-      running = record {
-        spares = record { there = record { sent = isnt_lost s deed; named = isnt_nobody s deed here client }; other = isnt_manager s deed };
-        runs = its_subject (λ (d : Deed). list_any (is_stopped w) (subject d) ≡ false) (rw runs refl);
-      };
-      light = its_subject (λ (d : Deed). is_too_much w d ≡ false) light;
-    }, its_subject (λ (d : Deed). (effect w d).refused ≡ 0) taken)
+    gives_done here client runs light taken = (done w s).1 (
+      record {
+        running = record {
+          spares = record { there = record { sent = isnt_lost s deed; named = isnt_nobody s deed here client }; other = isnt_manager s deed };
+          runs = its_subject (λ (d : Deed). list_any (is_stopped w) (subject d) ≡ false) (rw runs refl);
+        };
+        light = its_subject (λ (d : Deed). is_too_much w d ≡ false) light;
+      },
+      its_subject (λ (d : Deed). (effect w d).refused ≡ 0) taken,
+    )
 
     pub gives_stops_none : StopsNone s
     gives_stops_none node e = let f : deed_of w s ≡ Stops node = ap (deed_of w) e in absurd (cc (deed, f))
@@ -114,13 +117,16 @@ module _ (w : World) (s : Step) where
     stop_is t e = absurd cc
 
     pub stop_done : has_node w k ≡ true → is_stopped w k ≡ false → same_node k manager_node ≡ false → result_of w (steps.Stop k) ≡ Done
-    stop_done here runs other = (done w (steps.Stop k)).1 (record {
-      running = record {
-        spares = record { there = record { sent = refl; named = rw here refl }; other = other };
-        runs = rw runs refl;
-      };
-      light = refl;
-    }, refl)
+    stop_done here runs other = (done w (steps.Stop k)).1 (
+      record {
+        running = record {
+          spares = record { there = record { sent = refl; named = rw here refl }; other = other };
+          runs = rw runs refl;
+        };
+        light = refl;
+      },
+      refl,
+    )
 
     pub stop_world : (P : Stepped → Type 0) → result_of w (steps.Stop k) ≡ Done → P (kept w [] (effect w (Stops k))) → P (step w (steps.Stop k))
     unfolding step
@@ -315,7 +321,7 @@ moved h w s k given x sets ways deed made at =
     let out : List Message = (moves w k given).messages in
     record {
       sent = gives_world w s k given deed (λ (v : Stepped). messages v.world ≡ messages w ++ (machine_of k x given).messages) made
-        (all_of-kept w.sent out ∙ ap (λ ms. messages w ++ ms) says.messages);
+          (all_of-kept w.sent out ∙ ap (λ ms. messages w ++ ms) says.messages);
       completed = gives_world w s k given deed (λ (v : Stepped). v.outcome.completed ≡ (machine_of k x given).completed) made says.completed;
       made = gives_world w s k given deed (λ (v : Stepped). v.outcome.result ≡ Done) made refl;
       here = gives_world w s k given deed (λ (v : Stepped). state_of v.world k ≡ Some (machine_of k x given).state) made (move_here w events k given x at);

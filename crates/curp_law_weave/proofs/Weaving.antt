@@ -234,9 +234,9 @@ module _ (h : Header) where
         ];
         none_are = λ j none. elim (cases_option (state_of w j)) [
           | inl never ↦ elim (cases_node j k) [
-              | inl same ↦ absurd (none_some (state_of w k) x (subst (λ (i : NodeId). state_of w i ≡ None) same never) at)
-              | inr other ↦ of_there j before p (λ e. other (sym e)) ∙ woven.none_are j never
-            ]
+            | inl same ↦ absurd (none_some (state_of w k) x (subst (λ (i : NodeId). state_of w i ≡ None) same never) at)
+            | inr other ↦ of_there j before p (λ e. other (sym e)) ∙ woven.none_are j never
+          ]
           | inr some ↦ let t = still j some in absurd (none_some (state_of v j) t.0 none t.1)
         ];
         messages_are = m.sent ∙ (ap (λ ms. ms ++ (machine_of k x (given item.input)).messages) woven.messages_are ∙ (ap (λ (d : Done). said before ++ d.sent) (sym done) ∙ sym (said-snoc before p)));
@@ -373,12 +373,12 @@ module _ (h : Header) (w : World) (before : List Placed) (woven : Woven h w befo
   item_there item rest items ended deed turns begins = elim (cases_option (state_of w k)) [
     | inr there ↦ there
     | inl none ↦ elim begins [
-        | inl opening ↦ absurd (was_there none opening)
-        | inr takes ↦
-            let turns_are : Did item ∷ rest ≡ map Did items ++ ending ended = subst (λ (ts : List Turn). ts ++ Did item ∷ rest ≡ map Did items ++ ending ended) (woven.none_are k none) turns in
-            let same : takes.item ≡ item = first_same items item takes.item ended rest turns_are takes.first in
-            message_there w woven.both k item.input s (subst (λ (i : Item). IsMessage i.input) same takes.message) deed
-      ]
+      | inl opening ↦ absurd (was_there none opening)
+      | inr takes ↦
+          let turns_are : Did item ∷ rest ≡ map Did items ++ ending ended = subst (λ (ts : List Turn). ts ++ Did item ∷ rest ≡ map Did items ++ ending ended) (woven.none_are k none) turns in
+          let same : takes.item ≡ item = first_same items item takes.item ended rest turns_are takes.first in
+          message_there w woven.both k item.input s (subst (λ (i : Item). IsMessage i.input) same takes.message) deed
+    ]
   ]
 
   pub one_item : (item : Item) (rest : List Turn) (items : List Item) (ended : Bool) → deed_of w s ≡ Gives k (given item.input) → of k before ++ Did item ∷ rest ≡ map Did items ++ ending ended
@@ -390,10 +390,10 @@ module _ (h : Header) (w : World) (before : List Placed) (woven : Woven h w befo
       let place = item_next (of k before) item rest items ended turns in
       let was : x ≡ after (machine_of k) (opening_of h k) (items_in (of k before)) = woven.nodes_are k x there.1 in
       let done : item.done ≡ done_of (machine_of k x (given item.input)) =
-        done_at (machine_of k) (opening_of h k) 0 items (length (items_in (of k before))) item journal.items_are place.0
-        ∙ (ap (λ is. done_of (machine_of k (after (machine_of k) (opening_of h k) is) (given item.input))) place.1 ∙ ap (λ z. done_of (machine_of k z (given item.input))) (sym was)) in
+      done_at (machine_of k) (opening_of h k) 0 items (length (items_in (of k before))) item journal.items_are place.0
+      ∙ (ap (λ is. done_of (machine_of k (after (machine_of k) (opening_of h k) is) (given item.input))) place.1 ∙ ap (λ z. done_of (machine_of k z (given item.input))) (sym was)) in
       let taken : (machine_of k x (given item.input)).refused ≡ 0 =
-        ap (λ (d : Done). d.refused) (sym done) ∙ none_refused_at items (length (items_in (of k before))) item journal.none_refused place.0 in
+      ap (λ (d : Done). d.refused) (sym done) ∙ none_refused_at items (length (items_in (of k before))) item journal.none_refused place.0 in
       let free : (moves w k (given item.input)).refused ≡ 0 = (move_says w k (given item.input) x there.1).refused ∙ taken in
       let made : result_of w s ≡ result.Done = gives_done w s k (given item.input) deed (has w k x there.1) (expired_there w woven.both s k (given item.input) deed free) (runs_on (Did item) rest items ended turns) light free in
       (did h w before woven s k item x deed made there.1 done, woven_did h w before woven s k item x deed made there.1 done)
@@ -402,9 +402,9 @@ module _ (h : Header) (w : World) (before : List Placed) (woven : Woven h w befo
   stop_there rest items ended turns begins = elim (cases_option (state_of w k)) [
     | inr there ↦ there
     | inl none ↦ elim begins [
-        | inl opening ↦ absurd (was_there none opening)
-        | inr takes ↦ absurd (no_stop_first items takes.item ended rest (subst (λ (ts : List Turn). ts ++ Quits ∷ rest ≡ map Did items ++ ending ended) (woven.none_are k none) turns) takes.first)
-      ]
+      | inl opening ↦ absurd (was_there none opening)
+      | inr takes ↦ absurd (no_stop_first items takes.item ended rest (subst (λ (ts : List Turn). ts ++ Quits ∷ rest ≡ map Did items ++ ending ended) (woven.none_are k none) turns) takes.first)
+    ]
   ]
     where
       no_stop_first : (is : List Item) (first : Item) (b : Bool) (ts : List Turn) → Quits ∷ ts ≡ map Did is ++ ending b → first_of is ≡ Some first → ⊥
@@ -464,11 +464,12 @@ module _ (journals : List Journal) (h : Header) (are : (i : ℕ) (j : Journal) �
       let front = sum_front (said before) (said (p ∷ ps)) in
       let low : sum (map weight_of (said before)) ≤ weight_limit = omega (arith, front, subst (λ (ms : List Message). sum (map weight_of ms) ≤ weight_limit) (said-append before (p ∷ ps)) light) in
       let first = one w before s p.node p.turn (of p.node ps) j woven (are known.0.place j known.0.stands) known.0.its_name deed turns (light_world w (said before) woven.messages_are low) in
-      let same : (before ++ p ∷ []) ++ ps ≡ before ++ p ∷ ps = append_assoc before (p ∷ []) ps in
-      (first.0,
+      let same : (before ++ p ∷ []) ++ ps ≡ before ++ p ∷ ps = append_assoc before (p ∷ []) ps in (
+        first.0,
         weave ss (before ++ p ∷ []) ps (step w s).world first.1 legal.1 known.1
-        (λ i k at. ap (of k.id) same ∙ whole i k at)
-        (subst (λ (qs : List Placed). sum (map weight_of (said qs)) ≤ weight_limit) (sym same) light))
+            (λ i k at. ap (of k.id) same ∙ whole i k at)
+            (subst (λ (qs : List Placed). sum (map weight_of (said qs)) ≤ weight_limit) (sym same) light),
+      )
 
 pub legal_runs : (journals : List Journal) (h : Header) (ss : List Step) (placed : List Placed) → Legal journals h ss placed → RunOf journals h ss
 legal_runs journals h ss placed l = record {
