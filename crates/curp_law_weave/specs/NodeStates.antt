@@ -54,6 +54,6 @@ fresh_state h kind.Master = AMaster Fresh
 fresh_state h kind.Backup = ABackup fresh_backup
 fresh_state h kind.Witness = AWitness (fresh_witness h.sets h.ways)
 
--- the state that a node begins with: that in the world of the header before any step, or a fresh one where it isn't there yet
+-- the state that a node begins with: that in the world of the header before any step, or a fresh one where it isn't there
 abbrev pub opening_of : Header → NodeId → NodeState
 opening_of h node = unwrap_or (state_of (opening h) node) (fresh_state h node.kind)

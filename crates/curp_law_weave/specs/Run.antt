@@ -65,8 +65,8 @@ said (p ∷ ps) = sent_by p.turn ++ said ps
 
 -- ---- runs
 
--- what the step of a turn is to do: it gives the node the input that came, so a delivery names the message that the node
--- took, or it stops the node
+-- what the step of a turn is to do: it gives the node the input that came, so that a delivery names the message that the
+-- node took, or it stops the node
 abbrev pub deed_for : Placed → Deed
 deed_for p = by p.node p.turn
   where
@@ -98,8 +98,8 @@ pub record IsKnown (journals : List Journal) (node : NodeId) : Type 0 where
   pub stands : At journals place journal
   pub its_name : journal.id ≡ node
 
--- The steps are a run of the journals: there is one step for each item and for each last stop, those of a node are in the order
--- of its journal, and the world does on each what the journal says
+-- The steps are a run of the journals: there is one step for each item and for each last stop, those of a node are in the
+-- order of its journal, and the world does on each what the journal says
 pub record RunOf (journals : List Journal) (h : Header) (ss : List Step) : Type 0 where
   pub placed : List Placed
   pub apart : AreApart journals
@@ -141,15 +141,15 @@ pub record TakesFirst (items : List Item) : Type 0 where
   pub first : first_of items ≡ Some item
   pub message : IsMessage item.input
 
--- A journal that a node of the header's worlds can have: replayed from the state that the node begins with it gives itself, a node
--- that isn't there at opening takes a message first, and the manager doesn't stop
+-- A journal that a node of the header's worlds can have: replayed from the state that the node begins with, it gives
+-- itself; a node that isn't there at opening takes a message first; and the manager doesn't stop
 pub record IsJournalOf (h : Header) (j : Journal) : Type 0 where
   pub replay : IsJournal (machine_of j.id) (opening_of h j.id) j.items
   pub begins : (state_of (opening h) j.id ≢ None) ⊎ TakesFirst j.items
   pub stops : j.id ≡ manager_node → j.ended ≡ false
 
--- The steps have the turns of the journals, each step is to do what its turn says, and what was sent isn't too heavy. No world is
--- run here
+-- The steps have the turns of the journals, each step is to do what its turn says, and what was sent isn't too heavy. No
+-- world is run here
 pub record Legal (journals : List Journal) (h : Header) (ss : List Step) (placed : List Placed) : Type 0 where
   pub header : IsHeader h
   pub apart : AreApart journals

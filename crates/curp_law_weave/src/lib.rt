@@ -1,5 +1,5 @@
-//! What the journals of nodes show, merged by their stamps, is a run of the world. There is no code here: a law is the contract
-//! of a function with nothing in it, and a caller has the law by the call.
+//! What the journals of nodes show, merged by their stamps, is a run of the world. There is no code here: a law is the
+//! contract of a function with nothing in it, and a caller has the law by the call.
 #![tactic(auto)]
 
 ghost use Rattle.std.specs.Prelude.{ℕ, ◌*◌, ◌<◌, ◌≤◌, List};
@@ -21,19 +21,26 @@ ghost use Rattle.curp_msg.specs.declared.script.Step.{Step};
 
 /// Steps that have the turns of journals in an order that is legal as lists are a run of the journals.
 pub fn legal_steps_are_a_run()
-    ensures run { (journals : List Journal) (h : Header) (ss : List Step) (placed : List Placed) → Legal journals h ss placed → RunOf journals h ss }
+    ensures run { (journals : List Journal) (h : Header) (ss : List Step) (placed : List Placed) → Legal journals h ss placed
+        → RunOf journals h ss }
 {}
 
 /// Which nodes are there before any step, and how each begins.
 pub fn nodes_begin_by_the_header()
-    ensures clients { (h : Header) (n : ℕ) → 1 ≤ n → n ≤ h.clients → OpensAs h (client_node n) (AClient (fresh_client h.fast (opening_config (shape_of h)))) }
+    ensures clients { (h : Header) (n : ℕ) → 1 ≤ n → n ≤ h.clients
+        → OpensAs h (client_node n) (AClient (fresh_client h.fast (opening_config (shape_of h)))) }
     ensures manager { (h : Header) → OpensAs h manager_node (AManager (opening_manager (shape_of h))) }
-    ensures masters { (h : Header) (n : ℕ) → 1 ≤ n → n ≤ h.parts → OpensAs h (master_node n) (AMaster (opening_master (shape_of h) n)) }
-    ensures backups { (h : Header) (n : ℕ) → 1 ≤ n → n ≤ h.parts * h.f → OpensAs h (backup_node n) (ABackup (installed_backup 1)) }
-    ensures witnesses { (h : Header) (n : ℕ) → 1 ≤ n → n ≤ h.parts * h.f → OpensAs h (witness_node n) (AWitness (started_witness h.sets h.ways 1)) }
+    ensures masters { (h : Header) (n : ℕ) → 1 ≤ n → n ≤ h.parts
+        → OpensAs h (master_node n) (AMaster (opening_master (shape_of h) n)) }
+    ensures backups { (h : Header) (n : ℕ) → 1 ≤ n → n ≤ h.parts * h.f
+        → OpensAs h (backup_node n) (ABackup (installed_backup 1)) }
+    ensures witnesses { (h : Header) (n : ℕ) → 1 ≤ n → n ≤ h.parts * h.f
+        → OpensAs h (witness_node n) (AWitness (started_witness h.sets h.ways 1)) }
     ensures fresh_masters { (h : Header) (n : ℕ) → h.parts < n → ComesAs h (master_node n) (AMaster Fresh) }
-    ensures fresh_backups { (h : Header) (n : ℕ) → h.parts * h.f < n → ComesAs h (backup_node n) (ABackup fresh_backup) }
-    ensures fresh_witnesses { (h : Header) (n : ℕ) → h.parts * h.f < n → ComesAs h (witness_node n) (AWitness (fresh_witness h.sets h.ways)) }
+    ensures fresh_backups { (h : Header) (n : ℕ) → h.parts * h.f < n
+        → ComesAs h (backup_node n) (ABackup fresh_backup) }
+    ensures fresh_witnesses { (h : Header) (n : ℕ) → h.parts * h.f < n
+        → ComesAs h (witness_node n) (AWitness (fresh_witness h.sets h.ways)) }
 {}
 
 /// A journal of a node by the machine of its own kind is one by the machine of all kinds.

@@ -14,8 +14,8 @@ use std::alloc::Global;
 use std::marker::Model;
 use std::snapshot::Snapshot;
 
-/// A node with its journal. Contracts see its name, the state that it began with, its items, and whether it has stopped for
-/// good. The journal, replayed from that state, gives the node and all that it did.
+/// A node with its journal. Contracts see its name, the state that it began with, its items, and whether it has stopped
+/// for good. The journal, replayed from that state, gives the node and all that it did.
 #[derive(Drop)]
 pub struct Kept<N: Core> {
     alloc: Global,
@@ -55,8 +55,8 @@ impl<N: Core> Kept<N> {
         }
     }
 
-    /// Gives the node an input, and keeps it with what was done. The answer is 0 then, else the number by which the node
-    /// refused it, or 255 where no stamp is left.
+    /// Gives the node an input, and keeps it with what was done. The answer is 0 then, else the number by which the
+    /// node refused it, or 255 where no stamp is left.
     pub fn step(&mut self, arrived: Arrived) -> Result<u8, NoMemory>
         requires { self.old.ended ≡ false }
         ensures full { IfOk result (λ n. 2 ^ 64 ≤ next_stamp (last_stamp 0 self.old.items) arrived → n ≡ 255) }

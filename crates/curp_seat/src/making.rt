@@ -21,7 +21,8 @@ pub(crate) fn made<N: Core>(
     ensures room { IfOk result (λ r. IfOk r (λ item. next_stamp last arrived < 2 ^ 64)) }
     ensures refused { IfOk result (λ r. IfErr r (λ n. n ≢ 0)) }
     ensures full { IfOk result (λ r. IfErr r (λ n. 2 ^ 64 ≤ next_stamp last arrived → n ≡ 255)) }
-    ensures number { IfOk result (λ r. IfErr r (λ n. next_stamp last arrived < 2 ^ 64 → n ≡ (N.machine node.old (given arrived)).refused)) }
+    ensures number { IfOk result (λ r. IfErr r (λ n. next_stamp last arrived < 2 ^ 64
+        → n ≡ (N.machine node.old (given arrived)).refused)) }
     ensures stays { IfOk result (λ r. IfErr r (λ n. node.new ≡ node.old)) }
     ensures err { OnErr result (node.new ≡ node.old) }
 {

@@ -6,8 +6,8 @@ use curp_base::NoMemory;
 use curp_msg::Core;
 use std::alloc::Global;
 
-/// Gives a node the inputs of a journal again, and makes a journal of it that hasn't stopped. None where the node refuses one
-/// of them, which the node that the journal was begun with never does.
+/// Gives a node the inputs of a journal again, and makes a journal of it that hasn't stopped. None where the node refuses
+/// one of them, which the node that the journal was begun with never does.
 pub fn again<N: Core + Drop>(
     alloc: Global,
     kept: &Kept<N>,
