@@ -1,0 +1,189 @@
+-- Lemmas on the replay of a journal.
+use Rattle.std.proofs.Common.{◌≡◌, ◌≢◌, ℕ, zero, suc, ◌+◌, ◌<◌, List, [], ◌∷◌, ◌++◌, take, refl, ap, sym, ◌∙◌, arith, ◌≤◌, add-one}
+use Rattle.curp_base.specs.Words.{At}
+use Rattle.curp_msg.specs.Moved.{Moved, Refuses, done_of, within}
+use Rattle.curp_msg.specs.declared.machine.Done.{Done}
+use Rattle.curp_msg.specs.declared.machine.Input.{Input}
+use Rattle.curp_msg.specs.declared.machine.Input.TheVariants as input
+use Rattle.curp_msg.specs.declared.machine.Local.{Local}
+use Rattle.curp_msg.specs.declared.message.Message.{Message}
+use Rattle.curp_journal.specs.Given.{given, stamp_of}
+use Rattle.curp_journal.specs.Journal.{IsJournal, IsReplay, Stamped, after, last_stamp, made, next_stamp, refused, replayed}
+use Rattle.curp_journal.specs.declared.arrived.Arrived.{Arrived}
+use Rattle.curp_journal.specs.declared.arrived.Arrived.TheVariants as arrived
+use Rattle.curp_journal.specs.declared.item.Item.{Item}
+
+-- ---- one item more
+
+pub refused-snoc : (items : List Item) (item : Item) → refused (items ++ item ∷ []) ≡ refused items + item.done.refused
+refused-snoc [] item = omega arith
+refused-snoc (first ∷ items) item = let e = refused-snoc items item in omega arith
+
+pub last_stamp-snoc : (last : ℕ) (items : List Item) (item : Item) → last_stamp last (items ++ item ∷ []) ≡ item.stamp
+last_stamp-snoc last [] item = refl
+last_stamp-snoc last (first ∷ items) item = last_stamp-snoc first.stamp items item
+
+take_next : {A : Type 0} (xs : List A) (t : ℕ) (x : A) → At xs t x → take (suc t) xs ≡ take t xs ++ x ∷ []
+take_next [] t x at = absurd cc
+take_next (y ∷ xs) zero x at = let same : y ≡ x = cc in ap (λ z. z ∷ []) same
+take_next (y ∷ xs) (suc t) x at = ap (λ zs. y ∷ zs) (take_next xs t x at)
+
+take_on : {A : Type 0} (xs : List A) (t : ℕ) (x : A) → At xs t x → take (t + 1) xs ≡ take t xs ++ x ∷ []
+take_on xs t x at = rw add-one (take_next xs t x at)
+
+module _ {N : Type 0} (machine : N → Input → Moved N) where
+  pub after-snoc : (node : N) (items : List Item) (item : Item) → after machine node (items ++ item ∷ []) ≡ (machine (after machine node items) (given item.input)).state
+  after-snoc node [] item = refl
+  after-snoc node (first ∷ items) item = after-snoc (machine node (given first.input)).state items item
+
+  pub replayed-snoc : (node : N) (last : ℕ) (items : List Item) (item : Item)
+      → replayed machine node last (items ++ item ∷ []) ≡ replayed machine node last items ++ made machine (after machine node items) (last_stamp last (replayed machine node last items)) item.input ∷ []
+  replayed-snoc node last [] item = refl
+  replayed-snoc node last (first ∷ items) item =
+      ap (λ xs. made machine node last first.input ∷ xs) (replayed-snoc (machine node (given first.input)).state (next_stamp last first.input) items item)
+
+  pub nothing_yet : (opening : N) → IsReplay machine opening [] opening 0
+  nothing_yet opening = record { node_is = refl; items_are = refl; none_refused = refl; last_is = refl }
+
+  -- one more item, made of its input
+  pub one_more : (opening : N) (items : List Item) (node : N) (last : ℕ) (arrived : Arrived) → IsReplay machine opening items node last → (machine node (given arrived)).refused ≡ 0
+      → IsReplay machine opening (items ++ made machine node last arrived ∷ []) (machine node (given arrived)).state (next_stamp last arrived)
+  one_more opening items node last arrived is taken = record {
+    node_is = sym (after-snoc opening items (made machine node last arrived) ∙ ap (λ n. (machine n (given arrived)).state) (sym is.node_is));
+    items_are = sym (replayed-snoc opening 0 items (made machine node last arrived) ∙ cc (is.node_is, is.items_are, is.last_is));
+    none_refused = refused-snoc items (made machine node last arrived) ∙ omega (arith, is.none_refused, taken);
+    last_is = sym (last_stamp-snoc 0 items (made machine node last arrived));
+  }
+
+  -- the same by equations, as code gives them
+  pub keeps : (opening : N) (items : List Item) (node : N) (last : ℕ) (arrived : Arrived) (item : Item) (next : N) (more : List Item)
+      → IsReplay machine opening items node last
+      → item ≡ made machine node last arrived → next ≡ (machine node (given arrived)).state → (machine node (given arrived)).refused ≡ 0 → more ≡ items ++ item ∷ []
+      → IsReplay machine opening more next item.stamp
+  keeps opening items node last arrived item next more is item_is next_is taken more_is =
+      rw (more_is, next_is, item_is) (one_more opening items node last arrived is taken)
+
+  -- what is refused is an order, and leaves the node as it was
+  pub refused_stays : ((s : N) (order : Local) → Refuses s (machine s (input.Local order))) → ((s : N) (message : Message) → (machine s (input.Message message)).refused ≡ 0)
+      → (s : N) (arrived : Arrived) → (machine s (given arrived)).refused ≢ 0 → (machine s (given arrived)).state ≡ s
+  refused_stays refuses taken s (arrived.Local order stamp) h = (refuses s order).same h
+  refused_stays refuses taken s (arrived.Message named) h = absurd (h (taken s named.message))
+
+  -- ---- the items one by one
+
+  pub stamped : (node : N) (last : ℕ) (items : List Item) → items ≡ replayed machine node last items → Stamped last items
+  stamped node last [] is = tt
+  stamped node last (item ∷ items) is =
+      let head : item ≡ made machine node last item.input = cc in
+      let tail : items ≡ replayed machine (machine node (given item.input)).state (next_stamp last item.input) items = cc in
+      let e : item.stamp ≡ next_stamp last item.input = ap (λ (i : Item). i.stamp) head in
+      (e, stamped (machine node (given item.input)).state item.stamp items (rw e tail))
+
+  -- what an item did is the machine's answer to its input, in the state that the items before it lead to
+  pub done_at : (node : N) (last : ℕ) (items : List Item) (t : ℕ) (item : Item) → items ≡ replayed machine node last items → At items t item
+      → item.done ≡ done_of (machine (after machine node (take t items)) (given item.input))
+  done_at node last [] t item is at = absurd cc
+  done_at node last (first ∷ items) zero item is at =
+      let head : first ≡ made machine node last first.input = cc in
+      let same : first ≡ item = cc in
+      rw (sym same) (ap (λ (i : Item). i.done) head)
+  done_at node last (first ∷ items) (suc t) item is at =
+      let tail : items ≡ replayed machine (machine node (given first.input)).state (next_stamp last first.input) items = cc in
+      done_at (machine node (given first.input)).state (next_stamp last first.input) items t item tail at
+
+  -- ---- replaying what was replayed
+
+  pub after-replayed : (node : N) (last : ℕ) (items : List Item) → after machine node (replayed machine node last items) ≡ after machine node items
+  after-replayed node last [] = refl
+  after-replayed node last (item ∷ items) = after-replayed (machine node (given item.input)).state (next_stamp last item.input) items
+
+  -- one more item is replayed, as code makes it
+  pub replays_on : (node : N) (items : List Item) (t : ℕ) (item : Item) → At items t item
+      → replayed machine node 0 (take t items) ++ made machine (after machine node (replayed machine node 0 (take t items))) (last_stamp 0 (replayed machine node 0 (take t items))) item.input ∷ []
+      ≡ replayed machine node 0 (take (t + 1) items)
+  replays_on node items t item at =
+      ap (λ n. replayed machine node 0 (take t items) ++ made machine n (last_stamp 0 (replayed machine node 0 (take t items))) item.input ∷ []) (after-replayed node 0 (take t items))
+      ∙ (sym (replayed-snoc node 0 (take t items) item) ∙ ap (replayed machine node 0) (sym (take_on items t item at)))
+
+  -- the beginning of a journal is one
+  pub replayed-take : (node : N) (last : ℕ) (items : List Item) (t : ℕ) → items ≡ replayed machine node last items → take t items ≡ replayed machine node last (take t items)
+  replayed-take node last items zero is = refl
+  replayed-take node last [] (suc t) is = refl
+  replayed-take node last (first ∷ items) (suc t) is =
+      let head : first ≡ made machine node last first.input = cc in
+      let tail : items ≡ replayed machine (machine node (given first.input)).state (next_stamp last first.input) items = cc in
+      cc (head, replayed-take (machine node (given first.input)).state (next_stamp last first.input) items t tail)
+
+pub none_refused_at : (items : List Item) (t : ℕ) (item : Item) → refused items ≡ 0 → At items t item → item.done.refused ≡ 0
+none_refused_at [] t item none at = absurd cc
+none_refused_at (first ∷ items) zero item none at = let same : first ≡ item = cc in rw (sym same) (omega (arith, none))
+none_refused_at (first ∷ items) (suc t) item none at = none_refused_at items t item (omega (arith, none)) at
+
+-- ---- stamps rise
+
+-- what came to a node has a lesser stamp than its item, and so has what the node did before
+pub stamp_above : (last : ℕ) (items : List Item) (t : ℕ) (item : Item) → Stamped last items → At items t item → (stamp_of item.input < item.stamp) × (last < item.stamp)
+stamp_above last [] t item is at = absurd cc
+stamp_above last (first ∷ items) zero item is at =
+    let same : first ≡ item = cc in
+    rw (sym same) (omega (arith, is.0), omega (arith, is.0))
+stamp_above last (first ∷ items) (suc t) item is at = let r = stamp_above first.stamp items t item is.1 at in (r.0, omega (arith, is.0, r.1))
+
+-- a later item has a greater stamp
+pub rising : (last : ℕ) (items : List Item) (t u : ℕ) (a b : Item) → Stamped last items → At items t a → At items u b → t < u → a.stamp < b.stamp
+rising last [] t u a b is at bt below = absurd cc
+rising last (first ∷ items) t zero a b is at bt below = absurd (omega arith)
+rising last (first ∷ items) zero (suc u) a b is at bt below =
+    let same : first ≡ a = cc in
+    rw (sym same) (stamp_above first.stamp items u b is.1 bt).1
+rising last (first ∷ items) (suc t) (suc u) a b is at bt below = rising first.stamp items t u a b is.1 at bt (omega arith)
+
+-- the stamp of an item, by the last one before it
+pub stamp_at : (last : ℕ) (items : List Item) (t : ℕ) (item : Item) → Stamped last items → At items t item → item.stamp ≡ next_stamp (last_stamp last (take t items)) item.input
+stamp_at last [] t item is at = absurd cc
+stamp_at last (first ∷ items) zero item is at = let same : first ≡ item = cc in rw (sym same) is.0
+stamp_at last (first ∷ items) (suc t) item is at = stamp_at first.stamp items t item is.1 at
+
+-- no stamp is above the last
+pub last_above : (last : ℕ) (items : List Item) (t : ℕ) (item : Item) → Stamped last items → At items t item → item.stamp ≤ last_stamp last items
+last_above last items t item is at = at_most last items t item is at
+  where
+    from : (last : ℕ) (items : List Item) → Stamped last items → last ≤ last_stamp last items
+    from last [] is = omega arith
+    from last (first ∷ items) is = let r = from first.stamp items is.1 in omega (arith, is.0, r)
+
+    at_most : (last : ℕ) (items : List Item) (t : ℕ) (item : Item) → Stamped last items → At items t item → item.stamp ≤ last_stamp last items
+    at_most last [] t item is at = absurd cc
+    at_most last (first ∷ items) zero item is at = let same : first ≡ item = cc in rw (sym same) (from first.stamp items is.1)
+    at_most last (first ∷ items) (suc t) item is at = at_most first.stamp items t item is.1 at
+
+-- an item of a journal is taken again by the node that its beginning leads to
+pub taken_again : {N : Type 0} (machine : N → Input → Moved N) (opening : N) (items : List Item) (t : ℕ) (item : Item) → IsJournal machine opening items → At items t item
+    → (next_stamp (last_stamp 0 (replayed machine opening 0 (take t items))) item.input ≡ item.stamp)
+    × ((machine (after machine opening (replayed machine opening 0 (take t items))) (given item.input)).refused ≡ 0)
+taken_again machine opening items t item is at =
+    let front = replayed-take machine opening 0 items t is.items_are in
+    let stamps = stamp_at 0 items t item (stamped machine opening 0 items is.items_are) at in
+    let done = done_at machine opening 0 items t item is.items_are at in
+    let none = none_refused_at items t item is.none_refused at in
+    (rw (sym front) (sym stamps), rw (sym front) (ap (λ (d : Done). d.refused) (sym done) ∙ none))
+
+-- ---- the same journal of a node that has the state inside its own
+
+module _ {S N : Type 0} (wrap : S → N) (inner : S → Input → Moved S) (outer : N → Input → Moved N) (is : (s : S) (i : Input) → outer (wrap s) i ≡ within wrap (inner s i)) where
+  pub after-within : (s : S) (items : List Item) → after outer (wrap s) items ≡ wrap (after inner s items)
+  after-within s [] = refl
+  after-within s (item ∷ items) = rw (is s (given item.input)) (after-within (inner s (given item.input)).state items)
+
+  pub replayed-within : (s : S) (last : ℕ) (items : List Item) → replayed outer (wrap s) last items ≡ replayed inner s last items
+  replayed-within s last [] = refl
+  replayed-within s last (item ∷ items) =
+      rw (is s (given item.input)) (ap (λ xs. made inner s last item.input ∷ xs) (replayed-within (inner s (given item.input)).state (next_stamp last item.input) items))
+
+  pub journal-within : (s : S) (items : List Item) → IsJournal inner s items → IsJournal outer (wrap s) items
+  journal-within s items j = record {
+    node_is = refl;
+    items_are = j.items_are ∙ sym (replayed-within s 0 items);
+    none_refused = j.none_refused;
+    last_is = refl;
+  }

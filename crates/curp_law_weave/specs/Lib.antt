@@ -1,0 +1,3 @@
+pub mod NodeStates
+pub mod Openings
+pub mod Run

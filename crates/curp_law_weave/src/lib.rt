@@ -1,0 +1,58 @@
+//! What the journals of nodes show, merged by their stamps, is a run of the world. There is no code here: a law is the
+//! contract of a function with nothing in it, and a caller has the law by the call.
+#![tactic(auto)]
+
+ghost use Rattle.std.specs.Prelude.{ℕ, ◌*◌, ◌<◌, ◌≤◌, List};
+ghost use Rattle.curp_cmd.specs.Node.{backup_node, client_node, manager_node, master_node, witness_node};
+ghost use Rattle.curp_journal.specs.Journal.{IsJournal};
+ghost use Rattle.curp_journal.specs.declared.item.Item.{Item};
+ghost use Rattle.curp_law_weave.specs.NodeStates.{ABackup, AClient, AManager, AMaster, AWitness, machine_of};
+ghost use Rattle.curp_law_weave.specs.Openings.{ComesAs, OpensAs, numbered_machine};
+ghost use Rattle.curp_law_weave.specs.Run.{Journal, Legal, Placed, RunOf};
+ghost use Rattle.curp_model.specs.Backup.{BackupState, backup_input, fresh_backup, installed_backup};
+ghost use Rattle.curp_model.specs.Client.{ClientState, client_input, fresh_client};
+ghost use Rattle.curp_model.specs.Manager.{ManagerState, manager_input, opening_config, opening_manager};
+ghost use Rattle.curp_model.specs.Recovery.{Fresh, MasterStage, master_input};
+ghost use Rattle.curp_model.specs.Witness.{WitnessState, fresh_witness, started_witness, witness_input};
+ghost use Rattle.curp_model.specs.World.{opening_master, shape_of};
+ghost use Rattle.curp_msg.specs.Moved.{Node};
+ghost use Rattle.curp_msg.specs.declared.script.Header.{Header};
+ghost use Rattle.curp_msg.specs.declared.script.Step.{Step};
+
+/// Steps that have the turns of journals in an order that is legal as lists are a run of the journals.
+pub fn legal_steps_are_a_run()
+    ensures run { (journals : List Journal) (h : Header) (ss : List Step) (placed : List Placed) → Legal journals h ss placed
+        → RunOf journals h ss }
+{}
+
+/// Which nodes are there before any step, and how each begins.
+pub fn nodes_begin_by_the_header()
+    ensures clients { (h : Header) (n : ℕ) → 1 ≤ n → n ≤ h.clients
+        → OpensAs h (client_node n) (AClient (fresh_client h.fast (opening_config (shape_of h)))) }
+    ensures manager { (h : Header) → OpensAs h manager_node (AManager (opening_manager (shape_of h))) }
+    ensures masters { (h : Header) (n : ℕ) → 1 ≤ n → n ≤ h.parts
+        → OpensAs h (master_node n) (AMaster (opening_master (shape_of h) n)) }
+    ensures backups { (h : Header) (n : ℕ) → 1 ≤ n → n ≤ h.parts * h.f
+        → OpensAs h (backup_node n) (ABackup (installed_backup 1)) }
+    ensures witnesses { (h : Header) (n : ℕ) → 1 ≤ n → n ≤ h.parts * h.f
+        → OpensAs h (witness_node n) (AWitness (started_witness h.sets h.ways 1)) }
+    ensures fresh_masters { (h : Header) (n : ℕ) → h.parts < n → ComesAs h (master_node n) (AMaster Fresh) }
+    ensures fresh_backups { (h : Header) (n : ℕ) → h.parts * h.f < n
+        → ComesAs h (backup_node n) (ABackup fresh_backup) }
+    ensures fresh_witnesses { (h : Header) (n : ℕ) → h.parts * h.f < n
+        → ComesAs h (witness_node n) (AWitness (fresh_witness h.sets h.ways)) }
+{}
+
+/// A journal of a node by the machine of its own kind is one by the machine of all kinds.
+pub fn journals_of_a_kind_are_journals()
+    ensures clients { (c : Node ClientState) (items : List Item) → IsJournal (numbered_machine client_input) c items
+        → IsJournal (machine_of (client_node c.number)) (AClient c.state) items }
+    ensures manager { (g : ManagerState) (items : List Item) → IsJournal manager_input g items
+        → IsJournal (machine_of manager_node) (AManager g) items }
+    ensures masters { (m : Node MasterStage) (items : List Item) → IsJournal (numbered_machine master_input) m items
+        → IsJournal (machine_of (master_node m.number)) (AMaster m.state) items }
+    ensures backups { (b : Node BackupState) (items : List Item) → IsJournal (numbered_machine backup_input) b items
+        → IsJournal (machine_of (backup_node b.number)) (ABackup b.state) items }
+    ensures witnesses { (x : Node WitnessState) (items : List Item) → IsJournal (numbered_machine witness_input) x items
+        → IsJournal (machine_of (witness_node x.number)) (AWitness x.state) items }
+{}

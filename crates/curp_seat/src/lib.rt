@@ -1,0 +1,17 @@
+//! Nodes with their journals, each behind a lock, so that threads can run them.
+#![tactic(auto)]
+
+mod gate;
+mod kept;
+mod making;
+mod naming;
+mod replay;
+mod seat;
+#[cfg(test)]
+mod tests;
+
+pub use gate::{Gate, OpenGate, Point};
+pub use kept::Kept;
+pub use naming::Sent;
+pub use replay::again;
+pub use seat::{Seat, Worked};
