@@ -1,8 +1,12 @@
 -- A text that is written piece by piece.
-use Rattle.std.proofs.Common.{◌≡◌, List, ℕ, [], ◌++◌, Result, Ok, Err, OnOk, ap, sym, ◌∙◌, subst, append_assoc, append-nil}
+use Rattle.std.proofs.Common.{◌≡◌, List, ℕ, [], ◌++◌, Result, Ok, Err, OnOk, refl, ap, sym, ◌∙◌, subst, append_assoc, append-nil}
 use Rattle.curp_base.specs.Words.{IsPrefix}
 use Rattle.curp_io.specs.Streams.{HoldsPart}
 use Rattle.curp_play.proofs.SoFar.{SoFar}
+
+-- nothing is written
+pub nothing : (old piece : List ℕ) → HoldsPart old old piece
+nothing old piece = record { part = []; front = record { rest = piece; is = refl }; added = sym (append-nil old) }
 
 -- of two pieces a front of the first is written
 pub first_of_two : (old new first second : List ℕ) → HoldsPart old new first → HoldsPart old new (first ++ second)

@@ -1,7 +1,8 @@
-use Rattle.std.proofs.Common.{◌≡◌, ◌++◌, ◌∙◌, OnOk, subst, ap}
+use Rattle.std.proofs.Common.{◌≡◌, ◌++◌, ◌∙◌, OnOk, subst, sym, ap}
 use Rattle.curp_gen.specs.Making.{begun, header_of, made_steps, steps_from}
 use Rattle.curp_gen.specs.Texts.{header_line, lines_text}
 use Rattle.curp_io.specs.Streams.{HoldsPart}
+use Rattle.curp_run.proofs.Ends.{ends_with, of_memory, passed_on}
 use Rattle.curp_run.proofs.Pieces.{both_if_ok, first_of_two, second_of_two}
 use Rattle.curp_run.proofs.Steps.{printed_header}
 use Rattle.curp_run.proofs.script.write_script.Goals as goal
@@ -40,3 +41,20 @@ returns-clause-front g c = λ tells.
     let steps = ap (λ m. lines_text (steps_from c.args.plan.now.steps m)) c.in_ok-maker.ensures in
     second_of_two old mid new first (lines_text (made_steps c.args.plan.now)) wrote
     (subst (λ t. HoldsPart mid new t) steps (c.write_steps.ensures.front (c.write_line.ensures.tells tells)))
+
+pub returns-in_err-header-clause-writing : goal.returns-in_err-header-clause-writing
+returns-in_err-header-clause-writing g c = of_memory c.from_residual-in_err-header.result c.from_residual-in_err-header.ensures.1
+
+pub returns-in_err-write_line-clause-writing : goal.returns-in_err-write_line-clause-writing
+returns-in_err-write_line-clause-writing g c =
+    passed_on c.from_residual-in_err-write_line.result c.write_line.result c.in_err-write_line.field-0.0
+    c.from_residual-in_err-write_line.ensures.1 c.in_err-write_line.was c.write_line.ensures.writing
+
+pub returns-in_err-write_line-clause-no_fault : goal.returns-in_err-write_line-clause-no_fault
+returns-in_err-write_line-clause-no_fault g c = λ other.
+    let same = ends_with c.from_residual-in_err-write_line.result c.in_err-write_line.field-0.0 c.from_residual-in_err-write_line.ensures.1 in
+    c.write_line.ensures.no_fault (λ is. other (same ∙ sym c.in_err-write_line.was ∙ is))
+
+pub returns-clause-no_fault : goal.returns-clause-no_fault
+returns-clause-no_fault g c = λ other.
+    c.write_steps.ensures.no_fault other ∙ c.write_line.ensures.no_fault (λ e. absurd (cc (c.in_ok-write_line.was, e)))

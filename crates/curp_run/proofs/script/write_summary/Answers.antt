@@ -2,6 +2,8 @@ use Rattle.std.proofs.Common.{rules, ◌≡◌, ◌+◌, ◌-◌, ◌++◌, ◌�
 use Rattle.curp_gen.specs.Making.{after, begun, summary_of}
 use Rattle.curp_gen.specs.Texts.{summary_text}
 use Rattle.curp_io.specs.Streams.{HoldsPart}
+use Rattle.curp_run.proofs.Ends.{of_memory}
+use Rattle.curp_run.proofs.Pieces.{nothing}
 use Rattle.curp_run.proofs.Steps.{after_more, counted_more, no_more}
 use Rattle.curp_run.proofs.script.write_summary.Goals as goal
 
@@ -24,3 +26,24 @@ returns-clause-front g c = λ tells.
     let made = sym (no_more c.loop.maker c.loop.counter c.args.plan.now.steps (search rules)) ∙ c.loop.invariant.leads in
     let text = c.as_bytes.ensures.value ∙ (c.in_ok-text.ensures.ok ∙ ap summary_text (c.in_ok-summary.ensures ∙ ap summary_of made)) in
     subst (λ t. HoldsPart (g.K.Sink.held c.args.sink.now) (g.K.Sink.held c.write.new.sink) t) text (c.write.ensures.front tells)
+
+pub returns-in_err-next_step-clause-front : goal.returns-in_err-next_step-clause-front
+returns-in_err-next_step-clause-front g c = λ tells.
+    nothing (g.K.Sink.held c.args.sink.now) (summary_text (summary_of (after c.args.plan.now.steps (begun c.args.plan.now))))
+
+pub returns-in_err-next_step-clause-writing : goal.returns-in_err-next_step-clause-writing
+returns-in_err-next_step-clause-writing g c = of_memory c.from_residual-in_err-next_step.result c.from_residual-in_err-next_step.ensures.1
+
+pub returns-in_err-summary-clause-front : goal.returns-in_err-summary-clause-front
+returns-in_err-summary-clause-front g c = λ tells.
+    nothing (g.K.Sink.held c.args.sink.now) (summary_text (summary_of (after c.args.plan.now.steps (begun c.args.plan.now))))
+
+pub returns-in_err-summary-clause-writing : goal.returns-in_err-summary-clause-writing
+returns-in_err-summary-clause-writing g c = of_memory c.from_residual-in_err-summary.result c.from_residual-in_err-summary.ensures.1
+
+pub returns-in_err-text-clause-front : goal.returns-in_err-text-clause-front
+returns-in_err-text-clause-front g c = λ tells.
+    nothing (g.K.Sink.held c.args.sink.now) (summary_text (summary_of (after c.args.plan.now.steps (begun c.args.plan.now))))
+
+pub returns-in_err-text-clause-writing : goal.returns-in_err-text-clause-writing
+returns-in_err-text-clause-writing g c = of_memory c.from_residual-in_err-text.result c.from_residual-in_err-text.ensures.1
