@@ -30,7 +30,7 @@ use Rattle.curp_law_steps.specs.Named.{StopsNone}
 use Rattle.curp_law_steps.proofs.Moving.{OnlyMoves, Spares, only_moves, stops_only_by_stop}
 use Rattle.curp_law_steps.proofs.Results.{done}
 use Rattle.curp_law_weave.specs.NodeStates.{ABackup, AClient, AManager, AMaster, AWitness, NodeState, fresh_state, machine_by, machine_of, state_by, state_of}
-use Rattle.curp_law_weave.specs.Run.{deed_by}
+use Rattle.curp_turns.specs.Legal.{deed_by}
 
 -- ---- options
 

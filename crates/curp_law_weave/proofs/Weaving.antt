@@ -41,10 +41,13 @@ use Rattle.curp_journal.specs.declared.arrived.Arrived.TheVariants as arrived
 use Rattle.curp_journal.specs.declared.item.Item.{Item}
 use Rattle.curp_journal.proofs.Replays.{after-snoc, done_at, none_refused_at}
 use Rattle.curp_law_weave.specs.NodeStates.{ABackup, AClient, AManager, AMaster, AWitness, NodeState, fresh_state, machine_of, opening_of, state_by, state_of}
-use Rattle.curp_law_weave.specs.Run.{Did, IsJournalOf, IsKnown, IsMade, IsMessage, Journal, Legal, LegalFrom, Placed, Quits, RunOf, Runs, TakesFirst, Turn, deed_by, deed_for, of, said, turns_of}
+use Rattle.curp_turns.specs.Legal.{LegalFrom, deed_by, deed_for}
+use Rattle.curp_turns.specs.Turns.{Did, IsKnown, Journal, Placed, Quits, Turn, of, said, turns_of}
+use Rattle.curp_turns.proofs.Turns.{of-append, of_first, of_here, of_there, said-append, said-snoc}
+use Rattle.curp_law_weave.specs.Run.{IsJournalOf, IsMade, IsMessage, Legal, RunOf, Runs, TakesFirst}
 use Rattle.curp_law_weave.proofs.Expiring.{expired_client}
 use Rattle.curp_law_weave.proofs.Moves.{Moves, deed_is, gives_done, manager_there, move_says, moved, stop_done, stop_is, stop_world}
-use Rattle.curp_law_weave.proofs.Turns.{HasQuit, ending, item_next, items_in, items_in-did, items_in-quits, none_after, of-append, of_first, of_here, of_there, quit_more, quit_now, said-append, said-snoc}
+use Rattle.curp_law_weave.proofs.Turns.{HasQuit, ending, item_next, items_in, items_in-did, items_in-quits, none_after, quit_more, quit_now}
 
 -- ---- names
 
@@ -471,11 +474,9 @@ module _ (journals : List Journal) (h : Header) (are : (i : ℕ) (j : Journal) �
             (subst (λ (qs : List Placed). sum (map weight_of (said qs)) ≤ weight_limit) (sym same) light),
       )
 
-pub legal_runs : (journals : List Journal) (h : Header) (ss : List Step) (placed : List Placed) → Legal journals h ss placed → RunOf journals h ss
+pub legal_runs : (journals : List Journal) (h : Header) (ss : List Step) (placed : List Placed) → Legal journals h ss placed → RunOf journals h ss placed
 legal_runs journals h ss placed l = record {
-  placed = placed;
   apart = l.apart;
-  known = l.known;
-  whole = l.whole;
-  runs = weave journals h l.journals_are ss [] placed (opening h) (opened h l.header) l.legal l.known l.whole l.light;
+  turns = l.turns;
+  runs = weave journals h l.journals_are ss [] placed (opening h) (opened h l.header) l.legal l.turns.known l.turns.whole l.light;
 }

@@ -8,7 +8,7 @@ ghost use Rattle.curp_journal.specs.Journal.{IsJournal};
 ghost use Rattle.curp_journal.specs.declared.item.Item.{Item};
 ghost use Rattle.curp_law_weave.specs.NodeStates.{ABackup, AClient, AManager, AMaster, AWitness, machine_of};
 ghost use Rattle.curp_law_weave.specs.Openings.{ComesAs, OpensAs, numbered_machine};
-ghost use Rattle.curp_law_weave.specs.Run.{Journal, Legal, Placed, RunOf};
+ghost use Rattle.curp_law_weave.specs.Run.{Legal, RunOf};
 ghost use Rattle.curp_model.specs.Backup.{BackupState, backup_input, fresh_backup, installed_backup};
 ghost use Rattle.curp_model.specs.Client.{ClientState, client_input, fresh_client};
 ghost use Rattle.curp_model.specs.Manager.{ManagerState, manager_input, opening_config, opening_manager};
@@ -18,11 +18,12 @@ ghost use Rattle.curp_model.specs.World.{opening_master, shape_of};
 ghost use Rattle.curp_msg.specs.Moved.{Node};
 ghost use Rattle.curp_msg.specs.declared.script.Header.{Header};
 ghost use Rattle.curp_msg.specs.declared.script.Step.{Step};
+ghost use Rattle.curp_turns.specs.Turns.{Journal, Placed};
 
 /// Steps that have the turns of journals in an order that is legal as lists are a run of the journals.
 pub fn legal_steps_are_a_run()
     ensures run { (journals : List Journal) (h : Header) (ss : List Step) (placed : List Placed) → Legal journals h ss placed
-        → RunOf journals h ss }
+        → RunOf journals h ss placed }
 {}
 
 /// Which nodes are there before any step, and how each begins.

@@ -1,0 +1,66 @@
+-- What a merge of journals is (this project's own).
+use Rattle.std.specs.Prelude.{◌≡◌, ◌≢◌, ◌≤◌, ◌^◌, ℕ, Bool, true, false, List, [], ◌∷◌, length, map, ⊤}
+use Rattle.std.specs.List.{sum}
+use Rattle.curp_base.specs.Words.{At}
+use Rattle.curp_cmd.specs.declared.node.NodeId.{NodeId}
+use Rattle.curp_cmd.specs.declared.node.NodeKind.{NodeKind}
+use Rattle.curp_cmd.specs.declared.node.NodeKind.TheVariants as kind
+use Rattle.curp_cmd.specs.Node.{manager_node}
+use Rattle.curp_msg.specs.Weight.{weight_of}
+use Rattle.curp_msg.specs.declared.machine.Local.{Local}
+use Rattle.curp_msg.specs.declared.machine.Local.TheVariants as local
+use Rattle.curp_msg.specs.declared.script.Step.{Step}
+use Rattle.curp_journal.specs.Journal.{Stamped}
+use Rattle.curp_journal.specs.declared.arrived.Arrived.{Arrived}
+use Rattle.curp_journal.specs.declared.arrived.Arrived.TheVariants as arrived
+use Rattle.curp_journal.specs.declared.item.Item.{Item}
+use Rattle.curp_turns.specs.Legal.{LegalFrom}
+use Rattle.curp_turns.specs.Turns.{AreApart, AreTurns, InOrder, Journal, Placed, Turn, sent_by, turns_of}
+
+-- a script has a step that gives the order to a node of the kind
+abbrev pub is_order_of : NodeKind → Local → Bool
+is_order_of kind.Client (local.Invoke command) = true
+is_order_of kind.Client (local.Retry seq) = true
+is_order_of kind.Client local.Fetch = true
+is_order_of kind.Master local.Sync = true
+is_order_of kind.Master local.Collect = true
+is_order_of kind.Manager (local.Recover part backup witness) = true
+is_order_of kind.Manager (local.Replace keeper part place) = true
+is_order_of kind.Manager (local.Migrate lo hi to) = true
+is_order_of kind.Manager local.Nudge = true
+is_order_of kind.Manager (local.Expire client) = true
+is_order_of _ _ = false
+
+-- what comes to a node is its own: a message that is addressed to it, or an order that a script can give to it
+abbrev pub IsOwn : NodeId → Arrived → Type 0
+IsOwn node (arrived.Local order stamp) = is_order_of node.kind order ≡ true
+IsOwn node (arrived.Message named) = named.message.to ≡ node
+
+-- Journals that can be merged: no two are of one node, there is one manager, stamps rise as a node gives them, and what
+-- came to each node is its own
+pub record AreJournals (journals : List Journal) : Type 0 where
+  pub apart : AreApart journals
+  pub one_manager : (k : ℕ) (j : Journal) → At journals k j → j.id.kind ≡ kind.Manager → j.id ≡ manager_node
+  pub stamped : (k : ℕ) (j : Journal) → At journals k j → Stamped 0 j.items
+  pub own : (k : ℕ) (j : Journal) (t : ℕ) (item : Item) → At journals k j → At j.items t item → IsOwn j.id item.input
+
+-- how much the journals hold, and how much what they sent weighs
+abbrev pub turn_count : List Journal → ℕ
+turn_count journals = sum (map (λ (j : Journal). length (turns_of j)) journals)
+
+abbrev pub turn_weight : Turn → ℕ
+turn_weight turn = sum (map weight_of (sent_by turn))
+
+abbrev pub weight_sent : List Journal → ℕ
+weight_sent journals = sum (map (λ (j : Journal). sum (map turn_weight (turns_of j))) journals)
+
+-- The steps are the turns of the journals, in order of stamps and then of journals, and each is to do what its turn says
+pub record IsMerge (journals : List Journal) (ss : List Step) (placed : List Placed) : Type 0 where
+  pub turns : AreTurns journals placed
+  pub legal : LegalFrom [] ss placed
+  pub in_order : InOrder journals placed
+
+-- some order of the turns is such a merge
+pub record Merged (journals : List Journal) (ss : List Step) : Type 0 where
+  pub placed : List Placed
+  pub is : IsMerge journals ss placed

@@ -1,0 +1,32 @@
+use curp_cmd::NodeId;
+use curp_journal::Named;
+use std::alloc::AllocError;
+
+/// Why journals aren't a script.
+#[derive(Debug, Drop)]
+pub enum GatherError {
+    /// The item of that number of the node, counted from 1, took a message that isn't the one that its sender's journal
+    /// holds by its name.
+    Mismatch {
+        node: NodeId,
+        step: u64,
+        got: Named,
+        kept: Option<Named>,
+    },
+    /// There are more than 200,000 items and last stops.
+    TooManySteps,
+    /// All that was sent weighs more than 2,000,000.
+    TooLarge { weight: u64 },
+    NoMemory,
+}
+
+impl From<AllocError> for GatherError {
+    ghost use Rattle.std.specs.Prelude.{◌≡◌};
+    ghost use Rattle.curp_merge.specs.declared.error.GatherError.TheVariants as error;
+
+    ghost from_gives = { λ _ e. e ≡ error.NoMemory };
+
+    fn from(_error: AllocError) -> GatherError {
+        GatherError::NoMemory
+    }
+}

@@ -1,0 +1,49 @@
+ghost use Rattle.std.specs.Prelude.{◌≡◌};
+
+use curp_cmd::NodeId;
+use curp_journal::Item;
+use std::marker::Model;
+
+/// A node's journal, to be merged with others. Contracts see a `Journal`.
+#[derive(Clone, Copy, Debug)]
+pub struct Line<'a> {
+    id: NodeId,
+    items: &'a [Item],
+    ended: bool,
+}
+
+impl Model for Line<'_> {
+    ghost use Rattle.curp_turns.specs.Turns.{Journal};
+
+    ghost Value = { Journal };
+
+    ghost view = { λ line. record { id = line.id; items = line.items.now; ended = line.ended } };
+}
+
+impl<'a> Line<'a> {
+    /// The journal of that node, with these items; `ended` where it has a last stop.
+    pub fn new(id: NodeId, items: &'a [Item], ended: bool) -> Line<'a>
+        ensures { result ≡ record { id = id; items = items.now; ended = ended } }
+    {
+        Line { id, items, ended }
+    }
+
+    pub fn id(&self) -> NodeId
+        ensures { result ≡ self.now.id }
+    {
+        self.id
+    }
+
+    pub fn items(&self) -> &'a [Item]
+        ensures { result.now ≡ self.now.items }
+    {
+        self.items
+    }
+
+    /// Whether there is a last stop.
+    pub fn ended(&self) -> bool
+        ensures { result ≡ self.now.ended }
+    {
+        self.ended
+    }
+}

@@ -1,0 +1,6 @@
+//! Whether two messages are the same.
+#![tactic(auto)]
+
+mod same;
+
+pub use same::Same;
