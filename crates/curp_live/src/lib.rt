@@ -1,6 +1,6 @@
 //! A world's nodes on threads, each behind a lock, and the clients' work done by them.
 #![tactic(auto)]
 
-mod live;
+mod run;
 
-pub use live::live;
+pub use run::live;

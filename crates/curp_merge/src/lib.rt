@@ -3,9 +3,9 @@
 
 mod error;
 mod line;
-mod merge;
+mod script;
 mod weave;
 
 pub use error::GatherError;
 pub use line::Line;
-pub use merge::merge;
+pub use script::merge;

@@ -5,14 +5,14 @@ use curp_journal::Item;
 use std::marker::Model;
 
 /// A node's journal, to be merged with others. Contracts see a `Journal`.
-#[derive(Clone, Copy, Debug)]
+#[derive(Debug, Drop)]
 pub struct Line<'a> {
     id: NodeId,
     items: &'a [Item],
     ended: bool,
 }
 
-impl Model for Line<'_> {
+impl<'a> Model for Line<'a> {
     ghost use Rattle.curp_turns.specs.Turns.{Journal};
 
     ghost Value = { Journal };
