@@ -17,7 +17,8 @@ use Rattle.curp_model.specs.World.{World, grown, has_node, is_there, moves, move
 use Rattle.curp_msg.specs.Moved.{Moves, MovesAt, Node, numbered_move, within}
 use Rattle.curp_msg.specs.declared.machine.Done.{Done}
 use Rattle.curp_msg.specs.declared.machine.Input.{Input}
-use Rattle.curp_world.specs.Nodes.{AreNumbered, HasNumbers, NodeStates, most_fresh, nodes_of, states, with_nodes}
+use Rattle.curp_opening.specs.Nodes.{HasNumbers, states}
+use Rattle.curp_world.specs.Nodes.{AreNumbered, NodeStates, most_fresh, nodes_of, with_nodes}
 use Rattle.curp_world.specs.Marks.{IsFewOf, master_at, most_marks}
 use Rattle.curp_world.proofs.Giving.{many_stay, node_moves, numbers_stay, one_moves, set_there, world_moves}
 use Rattle.curp_world.proofs.Grown.{Grows, ahead_numbers, ahead_stays, grown_none, manager_grows}

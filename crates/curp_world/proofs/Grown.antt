@@ -22,8 +22,9 @@ use Rattle.curp_model.specs.Manager as model
 use Rattle.curp_model.specs.Manager.{Attempted, ManagerState, Migration, Move, NewLists, unless_numbers_end}
 use Rattle.curp_model.specs.Witness.{WitnessState, fresh_witness}
 use Rattle.curp_model.specs.World.{grown}
-use Rattle.curp_world.specs.Nodes.{Counts, HasNumbers, IsAhead, most_fresh, named_by_order, no_nodes, states}
-use Rattle.curp_world.proofs.Numbered.{numbers_push}
+use Rattle.curp_opening.specs.Nodes.{HasNumbers, states}
+use Rattle.curp_world.specs.Nodes.{Counts, IsAhead, most_fresh, named_by_order, no_nodes}
+use Rattle.curp_opening.proofs.Numbers.{numbers_push}
 
 -- ---- the numbers that the manager gives
 

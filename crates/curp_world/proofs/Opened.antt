@@ -1,10 +1,7 @@
 -- The nodes of a header as at opening.
-use Rattle.std.proofs.Common.{◌≡◌, ℕ, zero, suc, ◌+◌, ◌*◌, ◌<◌, ◌≤◌, ◌^◌, ◌-◌, List, [], get_or, length, map, replicate, refl, ap, sym, ◌∙◌, arith, subst}
-use Rattle.std.proofs.Math.Nat.{mul-le-mul}
+use Rattle.std.proofs.Common.{◌≡◌, ℕ, ◌+◌, ◌*◌, List, [], length, map, replicate, refl, ap, sym, ◌∙◌}
 use Rattle.std.proofs.lemmas.List.{length-map, length-replicate}
-use Rattle.std.proofs.lemmas.Option.{slice_get_read}
-use Rattle.curp_base.specs.Words.{At, numbers_from}
-use Rattle.curp_facts.specs.Run.{IsHeader}
+use Rattle.curp_base.specs.Words.{numbers_from}
 use Rattle.curp_model.specs.Backup.{BackupState, installed_backup}
 use Rattle.curp_model.specs.Client.{ClientState, fresh_client}
 use Rattle.curp_model.specs.Manager.{ManagerState, opening_config, opening_manager}
@@ -13,46 +10,10 @@ use Rattle.curp_model.specs.Witness.{WitnessState, started_witness}
 use Rattle.curp_model.specs.World.{opening, opening_master, shape_of}
 use Rattle.curp_msg.specs.Moved.{Node}
 use Rattle.curp_msg.specs.declared.script.Header.{Header}
-use Rattle.curp_world.specs.Nodes.{AreNumbered, HasNumbers, nodes_of, states}
+use Rattle.curp_opening.specs.Nodes.{HasNumbers, states}
+use Rattle.curp_opening.proofs.Numbers.{named_length}
+use Rattle.curp_world.specs.Nodes.{AreNumbered, nodes_of}
 use Rattle.curp_world.proofs.Grown.{none_ahead}
-
--- ---- what numbers name
-
--- so many numbers
-pub length_numbers : (n k : ℕ) → length (numbers_from n k) ≡ k
-length_numbers n zero = refl
-length_numbers n (suc k) = ap suc (length_numbers (n + 1) k)
-
-named_from : {A : Type 0} (f : ℕ → A) (n count k : ℕ) (x : A) → At (map f (numbers_from n count)) k x → x ≡ f (n + k)
-named_from f n zero k x here = absurd cc
-named_from f n (suc count) zero x here = let first : f n ≡ x = cc in let same : n ≡ n + 0 = omega arith in sym first ∙ ap f same
-named_from f n (suc count) (suc k) x here =
-    let same : (n + 1) + k ≡ n + suc k = omega arith in
-    named_from f (n + 1) count k x here ∙ ap f same
-
--- what stands at a place is named by the number that is one more
-pub named_at : {A : Type 0} (f : ℕ → A) (count k : ℕ) (x : A) → At (map f (numbers_from 1 count)) k x → x ≡ f (k + 1)
-named_at f count k x here = let same : 1 + k ≡ k + 1 = omega arith in named_from f 1 count k x here ∙ ap f same
-
--- and there are so many
-pub named_length : {A : Type 0} (f : ℕ → A) (count : ℕ) → length (map f (numbers_from 1 count)) ≡ count
-named_length f count = length-map (numbers_from 1 count) f ∙ length_numbers 1 count
-
--- the item of a place, as a loop reads it
-pub named_part : {A : Type 0} (f : ℕ → A) (count : ℕ) (items : List A) (k : ℕ) (x : A) → items ≡ map f (numbers_from 1 count) → k < length items → x ≡ get_or items k x
-    → (x ≡ f (k + 1)) × (k < count)
-named_part {A} f count items k x all within here = (
-  named_at f count k x (subst (λ (xs : List A). At xs k x) all (slice_get_read items (length items) k x refl within here)),
-  omega (arith, ap length all, named_length f count, within),
-)
-
--- ---- a header
-
--- there are at most eighty backups, and as many witnesses
-pub few_keepers : (h : Header) → IsHeader h → h.parts * h.f < 2 ^ 32 - 1
-few_keepers h is =
-    let most : h.parts * h.f ≤ 16 * 5 = mul-le-mul is.parts.1 is.f.1 in
-    omega (arith, most)
 
 -- nodes that are made as the header says are those of the opening
 pub made_opening : (h : Header) (manager : ManagerState) (clients : List (Node ClientState)) (masters : List (Node MasterStage))

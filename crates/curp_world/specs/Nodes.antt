@@ -7,29 +7,19 @@ use Rattle.curp_model.specs.Backup.{BackupState}
 use Rattle.curp_model.specs.Client.{ClientState}
 use Rattle.curp_model.specs.Manager.{ManagerState, Next}
 use Rattle.curp_model.specs.Marks.{Mark}
-use Rattle.curp_model.specs.Master.{beginning}
-use Rattle.curp_model.specs.Ranges.{opening_range}
-use Rattle.curp_model.specs.Recovery.{MasterStage, Serving}
+use Rattle.curp_model.specs.Recovery.{MasterStage}
 use Rattle.curp_model.specs.Witness.{WitnessState, fresh_witness}
 use Rattle.curp_model.specs.World.{World}
 use Rattle.curp_msg.specs.Moved.{Node}
-use Rattle.curp_msg.specs.declared.config.PartConfig.{PartConfig}
 use Rattle.curp_msg.specs.declared.machine.Input.{Input}
 use Rattle.curp_msg.specs.declared.machine.Input.TheVariants as input
 use Rattle.curp_msg.specs.declared.machine.Local.{Local}
 use Rattle.curp_msg.specs.declared.machine.Local.TheVariants as local
 use Rattle.curp_msg.specs.declared.message.Message.{Message}
+use Rattle.curp_opening.specs.Nodes.{HasNumbers, states}
 use Rattle.curp_order.specs.declared.Event.{Event}
 
 -- ---- nodes of one kind
-
--- nodes of one kind stand in the order of their numbers, from 1
-abbrev pub HasNumbers : {S : Type 0} → List (Node S) → Type 0
-HasNumbers {S} nodes = (k : ℕ) (x : Node S) → At nodes k x → x.number ≡ k + 1
-
--- the states of nodes
-abbrev pub states : {S : Type 0} → List (Node S) → List S
-states nodes = map (λ x. x.state) nodes
 
 -- witnesses that are made ahead: they are fresh, and numbered behind those that are there
 pub record IsAhead (witnesses ahead : List (Node WitnessState)) (sets ways : ℕ) : Type 0 where
@@ -46,13 +36,6 @@ pub record AreNumbered (next : Next) (clients : List (Node ClientState)) (master
   pub next_master : next.master ≡ length masters + 1
   pub next_backup : next.backup ≡ length backups + 1
   pub next_witness : next.witness ≡ length witnesses + 1
-
--- ---- at opening
-
--- the master of one of so many partitions, by its entry, before anything was asked
-abbrev pub begins : ℕ → PartConfig → MasterStage
-begins parts c =
-    Serving (beginning c.part 1 1 c.backups c.witnesses (opening_range parts c.part).lo (opening_range parts c.part).hi [] 0)
 
 -- ---- fresh nodes
 

@@ -5,7 +5,8 @@ ghost use Rattle.curp_model.specs.Recovery.{Fresh};
 ghost use Rattle.curp_model.specs.Witness.{fresh_witness};
 ghost use Rattle.curp_model.specs.World.{grown};
 ghost use Rattle.curp_world.specs.Given.{input_of};
-ghost use Rattle.curp_world.specs.Nodes.{HasNumbers, IsAhead, most_fresh, states};
+ghost use Rattle.curp_opening.specs.Nodes.{HasNumbers, states};
+ghost use Rattle.curp_world.specs.Nodes.{IsAhead, most_fresh};
 
 use crate::given::Given;
 use curp_base::NoMemory;

@@ -6,7 +6,6 @@ mod given;
 mod growing;
 mod marks;
 mod nodes;
-mod opening;
 mod ordered;
 mod orders;
 mod sent;

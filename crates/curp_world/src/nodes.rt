@@ -12,10 +12,8 @@ ghost use Rattle.curp_world.specs.Nodes.{nodes_of, with_nodes};
 
 use crate::given::{Gift, Given, give, give_one};
 use crate::growing::{add_backups, add_masters, make_ahead, most_fresh, take_up};
-use crate::opening;
 use curp_base::NoMemory;
 use curp_cmd::{Command, NodeId, NodeKind, RequestId};
-use curp_config::Shape;
 use curp_inv::{BackupNode, ClientNode, ManagerNode, MasterNode, WitnessNode};
 use curp_msg::{Done, Header, Local};
 use std::alloc::Global;
@@ -37,7 +35,8 @@ pub(crate) struct Nodes {
 }
 
 impl Model for Nodes {
-    ghost use Rattle.curp_world.specs.Nodes.{AreNumbered, NodeStates, states};
+    ghost use Rattle.curp_opening.specs.Nodes.{states};
+    ghost use Rattle.curp_world.specs.Nodes.{AreNumbered, NodeStates};
 
     ghost Value = { NodeStates };
 
@@ -57,28 +56,23 @@ impl Model for Nodes {
 
 impl Nodes {
     /// The nodes of a header as at opening.
-    #[tactic(auto, using(crate::proofs::Opened::few_keepers))]
+    #[tactic(auto, using(curp_opening::proofs::Numbers::few_keepers))]
     pub(crate) fn new(alloc: Global, header: &Header) -> Result<Nodes, NoMemory>
         requires { IsHeader header.now }
         ensures { IfOk result (λ nodes. nodes ≡ nodes_of (world.opening header.now)) }
     {
         let keepers = header.parts * header.f;
-        let shape = Shape {
-            f: header.f,
-            parts: header.parts,
-            clients: header.clients,
-        };
-        let manager = ManagerNode::new(alloc, &shape)?;
+        let manager = curp_opening::manager(alloc, header)?;
         let config = manager.config();
-        let clients = opening::clients(alloc, header, config)?;
-        let masters = opening::masters(alloc, header, config)?;
+        let clients = curp_opening::clients(alloc, header, config)?;
+        let masters = curp_opening::masters(alloc, header, config)?;
         Ok(Nodes {
             alloc,
             manager,
             clients,
             masters,
-            backups: opening::backups(alloc, keepers)?,
-            witnesses: opening::witnesses(alloc, keepers, header.sets, header.ways)?,
+            backups: curp_opening::backups(alloc, keepers)?,
+            witnesses: curp_opening::witnesses(alloc, keepers, header.sets, header.ways)?,
             ahead: Vec::new(alloc),
             sets: header.sets,
             ways: header.ways,

@@ -2,7 +2,7 @@ use Rattle.std.proofs.Common.{◌≡◌, ◌<◌, ◌+◌, ℕ, length, ap, sym,
 use Rattle.std.proofs.lemmas.List.{length-map}
 use Rattle.curp_model.specs.Recovery.{Fresh, MasterStage}
 use Rattle.curp_msg.specs.Moved.{Node}
-use Rattle.curp_world.specs.Nodes.{states}
+use Rattle.curp_opening.specs.Nodes.{states}
 use Rattle.curp_world.proofs.Grown.{fresh_more, grown_none}
 use Rattle.curp_world.proofs.growing.add_masters.Goals as goal
 

@@ -1,7 +1,7 @@
 use Rattle.std.proofs.Common.{◌≡◌, ◌≤◌, ◌+◌, length, vec_capacity}
 use Rattle.curp_model.specs.Recovery.{Fresh}
 use Rattle.curp_model.specs.World.{grown}
-use Rattle.curp_world.specs.Nodes.{HasNumbers, states}
+use Rattle.curp_opening.specs.Nodes.{HasNumbers, states}
 use Rattle.curp_world.proofs.growing.add_masters.Given as goal
 
 -- those below the number are there, and the room stays

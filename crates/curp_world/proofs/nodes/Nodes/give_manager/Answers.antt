@@ -8,7 +8,8 @@ use Rattle.curp_model.specs.Witness.{WitnessState, fresh_witness}
 use Rattle.curp_model.specs.World.{grown, moves}
 use Rattle.curp_msg.specs.Moved.{Moves, Node, within}
 use Rattle.curp_world.specs.Given.{input_of}
-use Rattle.curp_world.specs.Nodes.{IsAhead, NodeStates, most_fresh, nodes_of, states, with_nodes}
+use Rattle.curp_opening.specs.Nodes.{states}
+use Rattle.curp_world.specs.Nodes.{IsAhead, NodeStates, most_fresh, nodes_of, with_nodes}
 use Rattle.curp_world.specs.contracts.nodes.Nodes.{the_view}
 use Rattle.curp_world.proofs.ByKind.{grew, made_grows, manager_gives, none_came}
 use Rattle.curp_world.proofs.Grown.{taken_up}

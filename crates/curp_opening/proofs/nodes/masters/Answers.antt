@@ -7,10 +7,9 @@ use Rattle.curp_model.specs.World.{opening_master, shape_of}
 use Rattle.curp_msg.specs.Moved.{Node}
 use Rattle.curp_msg.specs.declared.config.Config.{Config}
 use Rattle.curp_msg.specs.declared.config.PartConfig.{PartConfig}
-use Rattle.curp_world.specs.Nodes.{begins, states}
-use Rattle.curp_world.proofs.Numbered.{named_push, numbers_push}
-use Rattle.curp_world.proofs.Opened.{named_length, named_part}
-use Rattle.curp_world.proofs.opening.masters.Goals as goal
+use Rattle.curp_opening.specs.Nodes.{begins, states}
+use Rattle.curp_opening.proofs.Numbers.{named_length, named_part, named_push, numbers_push}
+use Rattle.curp_opening.proofs.nodes.masters.Goals as goal
 
 pub master-requires-clause-first : goal.master-requires-clause-first
 master-requires-clause-first c =

@@ -1,7 +1,7 @@
 use Rattle.std.proofs.Common.{◌≡◌, replicate}
 use Rattle.curp_model.specs.Witness.{started_witness}
-use Rattle.curp_world.specs.Nodes.{HasNumbers, states}
-use Rattle.curp_world.proofs.opening.witnesses.Given as goal
+use Rattle.curp_opening.specs.Nodes.{HasNumbers, states}
+use Rattle.curp_opening.proofs.nodes.witnesses.Given as goal
 
 -- so many are made, with their numbers
 abbrev pub invariant-loop-made : goal.invariant-loop-made

@@ -1,7 +1,7 @@
 use Rattle.std.proofs.Common.{◌≡◌, replicate}
 use Rattle.curp_model.specs.Backup.{installed_backup}
-use Rattle.curp_world.specs.Nodes.{HasNumbers, states}
-use Rattle.curp_world.proofs.opening.backups.Given as goal
+use Rattle.curp_opening.specs.Nodes.{HasNumbers, states}
+use Rattle.curp_opening.proofs.nodes.backups.Given as goal
 
 -- so many are made, with their numbers
 abbrev pub invariant-loop-made : goal.invariant-loop-made

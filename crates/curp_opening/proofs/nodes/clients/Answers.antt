@@ -1,7 +1,7 @@
 use Rattle.std.proofs.Common.{ap, ◌∙◌}
 use Rattle.curp_model.specs.Client.{fresh_client}
-use Rattle.curp_world.proofs.Numbered.{made_more}
-use Rattle.curp_world.proofs.opening.clients.Goals as goal
+use Rattle.curp_opening.proofs.Numbers.{made_more}
+use Rattle.curp_opening.proofs.nodes.clients.Goals as goal
 
 pub loop-made-preserved : goal.loop-made-preserved
 loop-made-preserved c =

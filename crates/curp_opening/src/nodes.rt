@@ -1,16 +1,16 @@
-// The nodes of a header as at opening: each partition has a master of its own number, and all nodes are numbered from 1.
 ghost use Rattle.std.specs.Prelude.{◌≡◌, ◌≤◌, map, replicate, IfOk};
 ghost use Rattle.curp_base.specs.Words.{numbers_from};
 ghost use Rattle.curp_model.specs.Backup.{installed_backup};
 ghost use Rattle.curp_model.specs.Client.{fresh_client};
-ghost use Rattle.curp_model.specs.Manager.{opening_config, opening_part};
+ghost use Rattle.curp_facts.specs.Run.{IsHeader};
+ghost use Rattle.curp_model.specs.Manager.{opening_config, opening_manager};
 ghost use Rattle.curp_model.specs.Witness.{started_witness};
 ghost use Rattle.curp_model.specs.World.{opening_master, shape_of};
-ghost use Rattle.curp_world.specs.Nodes.{HasNumbers, begins, states};
+ghost use Rattle.curp_opening.specs.Nodes.{HasNumbers, begins, states};
 
 use curp_base::NoMemory;
-use curp_config::opening_hashes;
-use curp_inv::{BackupNode, ClientNode, MasterNode, WitnessNode};
+use curp_config::{Shape, opening_hashes};
+use curp_inv::{BackupNode, ClientNode, ManagerNode, MasterNode, WitnessNode};
 use curp_msg::{Config, Header, PartConfig};
 use curp_slots::ShapeError;
 use std::alloc::{AllocError, Global};
@@ -18,8 +18,22 @@ use std::alloc::{AllocError, Global};
 /// The first epoch, version and serial.
 const FIRST: u32 = 1;
 
+/// The manager of a header.
+#[tactic(auto, using(crate::proofs::Numbers::few_keepers))]
+pub fn manager(alloc: Global, header: &Header) -> Result<ManagerNode, NoMemory>
+    requires { IsHeader header.now }
+    ensures { IfOk result (λ manager. manager ≡ opening_manager (shape_of header.now)) }
+{
+    let shape = Shape {
+        f: header.f,
+        parts: header.parts,
+        clients: header.clients,
+    };
+    ManagerNode::new(alloc, &shape)
+}
+
 /// The clients of a header, each with a copy of the configuration.
-pub(crate) fn clients(
+pub fn clients(
     alloc: Global,
     header: &Header,
     config: &Config,
@@ -37,7 +51,7 @@ pub(crate) fn clients(
 }
 
 /// The masters of a header's partitions.
-pub(crate) fn masters(
+pub fn masters(
     alloc: Global,
     header: &Header,
     config: &Config,
@@ -68,7 +82,7 @@ fn master(alloc: Global, parts: u32, part: &PartConfig) -> Result<MasterNode, No
 }
 
 /// So many backups, which are installed.
-pub(crate) fn backups(alloc: Global, count: u32) -> Result<Vec<BackupNode>, NoMemory>
+pub fn backups(alloc: Global, count: u32) -> Result<Vec<BackupNode>, NoMemory>
     ensures states { IfOk result (λ nodes. states nodes.items ≡ replicate count (installed_backup 1)) }
     ensures numbers { IfOk result (λ nodes. HasNumbers nodes.items) }
 {
@@ -80,7 +94,7 @@ pub(crate) fn backups(alloc: Global, count: u32) -> Result<Vec<BackupNode>, NoMe
 }
 
 /// So many witnesses of that shape, which are started. All memory for their slots is taken here.
-pub(crate) fn witnesses(
+pub fn witnesses(
     alloc: Global,
     count: u32,
     sets: u32,

@@ -1,6 +1,6 @@
 use Rattle.curp_model.specs.Witness.{started_witness}
-use Rattle.curp_world.proofs.Numbered.{made_more}
-use Rattle.curp_world.proofs.opening.witnesses.Goals as goal
+use Rattle.curp_opening.proofs.Numbers.{made_more}
+use Rattle.curp_opening.proofs.nodes.witnesses.Goals as goal
 
 pub loop-made-preserved : goal.loop-made-preserved
 loop-made-preserved c =

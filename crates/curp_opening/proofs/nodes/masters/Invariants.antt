@@ -1,8 +1,8 @@
 use Rattle.std.proofs.Common.{◌≡◌, length, map}
 use Rattle.curp_base.specs.Words.{numbers_from}
 use Rattle.curp_model.specs.World.{opening_master, shape_of}
-use Rattle.curp_world.specs.Nodes.{HasNumbers, states}
-use Rattle.curp_world.proofs.opening.masters.Given as goal
+use Rattle.curp_opening.specs.Nodes.{HasNumbers, states}
+use Rattle.curp_opening.proofs.nodes.masters.Given as goal
 
 -- so many are made, with their numbers
 abbrev pub invariant-loop-part : goal.invariant-loop-part
