@@ -2,6 +2,7 @@
 #![tactic(auto)]
 
 mod journals;
+mod lines;
 mod script;
 
 pub use curp_merge::GatherError;

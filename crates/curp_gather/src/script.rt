@@ -3,7 +3,8 @@ ghost use Rattle.curp_gather.specs.Journals.{AreOf, IsScriptOf, journals_of};
 ghost use Rattle.curp_merge.specs.Causes.{IsCause};
 
 use crate::Journals;
-use curp_merge::GatherError;
+use crate::lines::lines_of;
+use curp_merge::{GatherError, merge};
 use curp_msg::{Header, Step};
 use std::alloc::Global;
 
@@ -11,14 +12,14 @@ use std::alloc::Global;
 /// `GatherError`; want of memory comes before each.
 pub fn gather(
     alloc: Global,
-    header: &Header,
+    _header: &Header,
     journals: &Journals,
 ) -> Result<Vec<Step>, GatherError>
-    requires { AreOf header.now journals.now }
-    ensures script { IfOk result (λ steps. IsScriptOf header.now (journals_of journals.now) steps.items) }
+    requires { AreOf _header.now journals.now }
+    ensures script { IfOk result (λ steps. IsScriptOf _header.now (journals_of journals.now) steps.items) }
     ensures few { IfOk result (λ steps. length steps.items ≤ 200000) }
     ensures cause { IfErr result (IsCause (journals_of journals.now)) }
 {
-    let _ = header;
-    Err(GatherError::NoMemory)
+    let lines = lines_of(alloc, journals)?;
+    merge(alloc, &lines)
 }

@@ -46,3 +46,13 @@ pub record IsMismatch (journals : List Journal) (node : NodeId) (step : ℕ) (go
   pub came : item.input ≡ arrived.Message got
   pub kept_is : kept ≡ kept_at journals got
   pub differs : kept ≢ Some got
+
+-- what came by each of these items is held
+abbrev pub ItemsHeld : List Journal → List Item → Type 0
+ItemsHeld journals items = (t : ℕ) (item : Item) → At items t item → IsHeld journals item.input
+
+-- what came is a message which isn't the one that its sender's journal holds by its name
+pub record IsOther (journals : List Journal) (input : Arrived) (got : Named) (kept : Option Named) : Type 0 where
+  pub came : input ≡ arrived.Message got
+  pub kept_is : kept ≡ kept_at journals got
+  pub differs : kept ≢ Some got

@@ -1,3 +1,4 @@
 pub mod Causes
+pub mod Example
 pub mod Held
 pub mod Merging

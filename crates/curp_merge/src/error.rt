@@ -1,3 +1,4 @@
+use crate::mismatch::Mismatch;
 use curp_cmd::NodeId;
 use curp_journal::Named;
 use std::alloc::AllocError;
@@ -16,7 +17,9 @@ pub enum GatherError {
     /// There are more than 200,000 items and last stops.
     TooManySteps,
     /// All that was sent weighs more than 2,000,000.
-    TooLarge { weight: u64 },
+    TooLarge {
+        weight: u64,
+    },
     NoMemory,
 }
 
@@ -28,5 +31,27 @@ impl From<AllocError> for GatherError {
 
     fn from(_error: AllocError) -> GatherError {
         GatherError::NoMemory
+    }
+}
+
+impl From<Mismatch> for GatherError {
+    ghost use Rattle.std.specs.Prelude.{◌≡◌};
+    ghost use Rattle.curp_merge.specs.declared.error.GatherError.TheVariants as error;
+
+    ghost from_gives = { λ m e. e ≡ error.Mismatch m.node m.step m.got m.kept };
+
+    fn from(mismatch: Mismatch) -> GatherError {
+        let Mismatch {
+            node,
+            step,
+            got,
+            kept,
+        } = mismatch;
+        GatherError::Mismatch {
+            node,
+            step,
+            got,
+            kept,
+        }
     }
 }

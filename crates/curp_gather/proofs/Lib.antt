@@ -1,0 +1,2 @@
+pub mod ByMachine
+pub mod Ready

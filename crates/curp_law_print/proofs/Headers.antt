@@ -1,0 +1,82 @@
+-- The line of a header.
+use Rattle.std.proofs.Common.{◌≡◌, ◌≤◌, ◌<◌, ◌^◌, ◌∙◌, ℕ, Bool, true, false, nat_lt, Some, Ok, length, refl, arith}
+use Rattle.std.proofs.lemmas.Bool.Decides.{nat_tests}
+use Rattle.serde_json.proofs.Numbers.{number_of-decimal}
+use Rattle.serde_json.specs.Read.{of_json}
+use Rattle.serde_json.specs.Written.{compact_text, outline}
+use Rattle.curp_msg.specs.declared.script.Header.{Header}
+use Rattle.curp_msg.specs.declared.script.Protocol.{Protocol}
+use Rattle.curp_msg.specs.declared.script.Protocol.TheVariants.{One}
+use Rattle.curp_script.specs.Built.{is_built}
+use Rattle.curp_script.specs.Grammar.{built_where, header_in, header_of, number_within}
+use Rattle.curp_script.specs.Headers.{InRange, is_within}
+use Rattle.curp_script.specs.Printed.{count, header_data, protocol_number}
+use Rattle.curp_script.specs.Script.{line_limit}
+use Rattle.curp_script.specs.declared.error.Word.TheVariants as word
+use Rattle.curp_law_print.proofs.Bytes.{are_shown}
+use Rattle.curp_law_print.proofs.Data.{IsPlain, short, shown}
+use Rattle.curp_law_print.proofs.Reading.{reads_as}
+
+fast_is_built : (fast : Bool) → built_where fast word.Fast ≡ Ok tt
+unfolding is_built
+fast_is_built true = refl
+fast_is_built false = refl
+
+parts_are_built : (many : Bool) → built_where many word.Parts ≡ Ok tt
+unfolding is_built
+parts_are_built true = refl
+parts_are_built false = refl
+
+count_read : (low high n : ℕ) → (low ≤ n) × (n ≤ high) → number_within low high (count n) ≡ Some n
+count_read low high n range =
+    let fits : is_within low high n ≡ true = grind (arith, nat_tests, range) in
+    rw fits refl
+
+header_read : (h : Header) → InRange h → header_of (header_data h) ≡ Ok h
+header_read h range = by h.protocol refl
+  where
+    by : (protocol : Protocol) → h.protocol ≡ protocol → header_of (header_data h) ≡ Ok h
+    by One is =
+        rw (
+          is,
+          count_read 1 64 h.clients range.clients,
+          count_read 1 5 h.f range.f,
+          fast_is_built h.fast,
+          count_read 1 16 h.parts range.parts,
+          parts_are_built (nat_lt 1 h.parts),
+          count_read 1 1024 h.sets range.sets,
+          count_read 1 16 h.ways range.ways,
+        ) refl
+
+protocol_small : (protocol : Protocol) → protocol_number protocol < 2 ^ 64
+protocol_small One = omega arith
+
+header_plain : (h : Header) → InRange h → IsPlain (header_data h)
+header_plain h range =
+    (refl, omega (arith, range.clients), (refl, omega (arith, range.f), (refl, tt, (refl, omega (arith, range.parts), (refl, protocol_small h.protocol, (refl, omega (arith, range.sets), (refl, omega (arith, range.ways), tt)))))))
+
+header_written : (h : Header) → InRange h → of_json (outline (header_data h)) ≡ Some (header_data h)
+header_written h range =
+    rw (
+      number_of-decimal h.clients (omega (arith, range.clients)),
+      number_of-decimal h.f (omega (arith, range.f)),
+      number_of-decimal h.parts (omega (arith, range.parts)),
+      number_of-decimal (protocol_number h.protocol) (protocol_small h.protocol),
+      number_of-decimal h.sets (omega (arith, range.sets)),
+      number_of-decimal h.ways (omega (arith, range.ways)),
+    ) refl
+
+-- a header's text is a line that is read as the header
+pub record IsHeaderLine (h : Header) : Type 0 where
+  pub all_shown : are_shown (compact_text (header_data h)) ≡ true
+  pub fits : length (compact_text (header_data h)) ≤ line_limit
+  pub read : header_in (compact_text (header_data h)) ≡ Ok h
+
+pub header_is_line : (h : Header) → InRange h → IsHeaderLine h
+header_is_line h range =
+    let plain = header_plain h range in
+    record {
+      all_shown = shown (header_data h) plain;
+      fits = omega (arith, short (header_data h) plain);
+      read = reads_as header_of (header_data h) plain (omega arith) refl (header_written h range) ∙ header_read h range;
+    }

@@ -1,0 +1,7 @@
+pub mod Built
+mod Bytes
+mod Data
+mod Headers
+mod Lines
+mod Reading
+mod Steps
