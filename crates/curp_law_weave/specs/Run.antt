@@ -1,12 +1,15 @@
 -- What it is that steps are a run of journals: one step for each thing that a journal holds (this project's own).
-use Rattle.std.specs.Prelude.{◌≡◌, ◌≢◌, ◌≤◌, ◌⊎◌, ℕ, false, List, [], ◌∷◌, ◌++◌, map, Option, Some, None, ⊤}
+use Rattle.std.specs.Prelude.{◌≡◌, ◌≢◌, ◌≤◌, ◌⊎◌, ℕ, false, List, [], ◌∷◌, ◌++◌, map, Option, Some, None, option_to_list, ⊤}
 use Rattle.std.specs.List.{sum}
 use Rattle.curp_base.specs.Words.{At, first_of}
 use Rattle.curp_cmd.specs.Node.{manager_node}
+use Rattle.curp_cmd.specs.declared.command.RequestId.{RequestId}
 use Rattle.curp_msg.specs.Weight.{weight_of}
+use Rattle.curp_msg.specs.declared.machine.Completed.{Completed}
 use Rattle.curp_msg.specs.declared.outcome.StepResult.TheVariants.{Done}
 use Rattle.curp_msg.specs.declared.script.Header.{Header}
 use Rattle.curp_msg.specs.declared.script.Step.{Step}
+use Rattle.curp_msg.specs.declared.script.Step.TheVariants as steps
 use Rattle.curp_model.specs.World.{World, deed_of, messages, opening, step, weight_limit}
 use Rattle.curp_facts.specs.Run.{IsHeader}
 use Rattle.curp_journal.specs.Journal.{IsJournal}
@@ -38,6 +41,25 @@ pub record RunOf (journals : List Journal) (h : Header) (ss : List Step) (placed
   pub apart : AreApart journals
   pub turns : AreTurns journals placed
   pub runs : Runs (opening h) ss placed
+
+-- ---- what a run completes
+
+-- what steps complete, from a world on
+abbrev pub completions : World → List Step → List Completed
+completions w [] = []
+completions w (s ∷ ss) = option_to_list (step w s).outcome.completed ++ completions (step w s).world ss
+
+-- the script completes the request
+pub record IsCompletedBy (h : Header) (ss : List Step) (id : RequestId) : Type 0 where
+  pub place : ℕ
+  pub completed : Completed
+  pub stands : At (completions (opening h) ss) place completed
+  pub its_id : completed.id ≡ id
+
+-- a step that stops no node
+abbrev pub IsNoStop : Step → Type 0
+IsNoStop (steps.Stop node) = ⊥
+IsNoStop _ = ⊤
 
 -- ---- what is asked of lists alone
 

@@ -2,13 +2,15 @@
 //! contract of a function with nothing in it, and a caller has the law by the call.
 #![tactic(auto)]
 
-ghost use Rattle.std.specs.Prelude.{ℕ, ◌*◌, ◌<◌, ◌≤◌, List};
+ghost use Rattle.std.specs.Prelude.{◌≡◌, ℕ, ◌*◌, ◌<◌, ◌≤◌, false, List};
+ghost use Rattle.curp_base.specs.Words.{At, Each};
 ghost use Rattle.curp_cmd.specs.Node.{backup_node, client_node, manager_node, master_node, witness_node};
+ghost use Rattle.curp_cmd.specs.declared.command.RequestId.{RequestId};
 ghost use Rattle.curp_journal.specs.Journal.{IsJournal};
 ghost use Rattle.curp_journal.specs.declared.item.Item.{Item};
 ghost use Rattle.curp_law_weave.specs.NodeStates.{ABackup, AClient, AManager, AMaster, AWitness, machine_of};
 ghost use Rattle.curp_law_weave.specs.Openings.{ComesAs, OpensAs, numbered_machine};
-ghost use Rattle.curp_law_weave.specs.Run.{Legal, RunOf};
+ghost use Rattle.curp_law_weave.specs.Run.{IsCompletedBy, IsNoStop, Legal, RunOf};
 ghost use Rattle.curp_model.specs.Backup.{BackupState, backup_input, fresh_backup, installed_backup};
 ghost use Rattle.curp_model.specs.Client.{ClientState, client_input, fresh_client};
 ghost use Rattle.curp_model.specs.Manager.{ManagerState, manager_input, opening_config, opening_manager};
@@ -19,6 +21,7 @@ ghost use Rattle.curp_msg.specs.Moved.{Node};
 ghost use Rattle.curp_msg.specs.declared.script.Header.{Header};
 ghost use Rattle.curp_msg.specs.declared.script.Step.{Step};
 ghost use Rattle.curp_turns.specs.Turns.{Journal, Placed};
+ghost use Rattle.curp_turns.specs.Work.{IsCompletedIn, invocations, invoked_in, recoveries, recoveries_in};
 
 /// Steps that have the turns of journals in an order that is legal as lists are a run of the journals.
 pub fn legal_steps_are_a_run()
@@ -56,4 +59,21 @@ pub fn journals_of_a_kind_are_journals()
         → IsJournal (machine_of (backup_node b.number)) (ABackup b.state) items }
     ensures witnesses { (x : Node WitnessState) (items : List Item) → IsJournal (numbered_machine witness_input) x items
         → IsJournal (machine_of (witness_node x.number)) (AWitness x.state) items }
+{}
+
+/// A run shows what its journals hold: the orders that came, and what completed; and it stops no node where no journal
+/// has a last stop.
+pub fn runs_show_their_journals()
+    ensures invocations { (journals : List Journal) (h : Header) (ss : List Step) (placed : List Placed)
+        → RunOf journals h ss placed → (k n : ℕ) (j : Journal) → At journals k j → j.id ≡ client_node n
+        → invocations n ss ≡ invoked_in j.items }
+    ensures recoveries { (journals : List Journal) (h : Header) (ss : List Step) (placed : List Placed)
+        → RunOf journals h ss placed → (k : ℕ) (j : Journal) → At journals k j → j.id ≡ manager_node
+        → recoveries ss ≡ recoveries_in j.items }
+    ensures completed { (journals : List Journal) (h : Header) (ss : List Step) (placed : List Placed)
+        → RunOf journals h ss placed → (k : ℕ) (j : Journal) (id : RequestId) → At journals k j
+        → IsCompletedIn j.items id → IsCompletedBy h ss id }
+    ensures none_stopped { (journals : List Journal) (h : Header) (ss : List Step) (placed : List Placed)
+        → RunOf journals h ss placed → ((k : ℕ) (j : Journal) → At journals k j → j.ended ≡ false)
+        → Each IsNoStop ss }
 {}

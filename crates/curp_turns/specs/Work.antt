@@ -1,15 +1,20 @@
 -- What journals and steps show of the work that clients were given (this project's own).
-use Rattle.std.specs.Prelude.{◌≡◌, ◌≤◌, ℕ, ◌+◌, ◌==◌, if◌then◌else◌, List, [], ◌∷◌, ◌++◌, length, Some}
+use Rattle.std.specs.Prelude.{◌≡◌, ◌≤◌, ℕ, ◌+◌, if◌then◌else◌, List, [], ◌∷◌, ◌++◌, length, Some}
 use Rattle.curp_base.specs.Words.{At}
+use Rattle.curp_cmd.specs.Node.{client_node, manager_node, same_node}
 use Rattle.curp_cmd.specs.declared.command.Command.{Command}
 use Rattle.curp_cmd.specs.declared.command.RequestId.{RequestId}
+use Rattle.curp_cmd.specs.declared.node.NodeId.{NodeId}
 use Rattle.curp_msg.specs.declared.machine.Completed.{Completed}
+use Rattle.curp_msg.specs.declared.machine.Input.TheVariants as input
+use Rattle.curp_msg.specs.declared.machine.Local.{Local}
 use Rattle.curp_msg.specs.declared.machine.Local.TheVariants as local
 use Rattle.curp_msg.specs.declared.script.Step.{Step}
-use Rattle.curp_msg.specs.declared.script.Step.TheVariants as steps
+use Rattle.curp_model.specs.World.{Deed, Gives}
 use Rattle.curp_journal.specs.declared.arrived.Arrived.{Arrived}
 use Rattle.curp_journal.specs.declared.arrived.Arrived.TheVariants as arrived
 use Rattle.curp_journal.specs.declared.item.Item.{Item}
+use Rattle.curp_turns.specs.Legal.{deed_by}
 
 -- ---- in a journal
 
@@ -49,14 +54,32 @@ pub record DidWork (number : ℕ) (commands : List Command) (items : List Item) 
 
 -- ---- in a script
 
+-- the order that a node gets by what a step is to do
+abbrev pub ordered : NodeId → Deed → List Local
+ordered node (Gives to (input.Local order)) = if same_node to node then order ∷ [] else []
+ordered node _ = []
+
+-- the orders that steps give to a node; which message a delivery takes makes no difference here
+abbrev pub orders_to : NodeId → List Step → List Local
+orders_to node [] = []
+orders_to node (s ∷ ss) = ordered node (deed_by [] s) ++ orders_to node ss
+
+-- the commands among orders
+abbrev pub commands_among : List Local → List Command
+commands_among [] = []
+commands_among (local.Invoke command ∷ orders) = command ∷ commands_among orders
+commands_among (_ ∷ orders) = commands_among orders
+
+-- how many recoveries are among orders
+abbrev pub recoveries_among : List Local → ℕ
+recoveries_among [] = 0
+recoveries_among (local.Recover part backup witness ∷ orders) = 1 + recoveries_among orders
+recoveries_among (_ ∷ orders) = recoveries_among orders
+
 -- the commands that steps have a client invoke, in order
 abbrev pub invocations : ℕ → List Step → List Command
-invocations n [] = []
-invocations n (steps.Invoke client command ∷ ss) = if client == n then command ∷ invocations n ss else invocations n ss
-invocations n (_ ∷ ss) = invocations n ss
+invocations n ss = commands_among (orders_to (client_node n) ss)
 
 -- how many recoveries steps order
 abbrev pub recoveries : List Step → ℕ
-recoveries [] = 0
-recoveries (steps.Recover part backup witness ∷ ss) = 1 + recoveries ss
-recoveries (_ ∷ ss) = recoveries ss
+recoveries ss = recoveries_among (orders_to manager_node ss)
