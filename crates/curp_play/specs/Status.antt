@@ -55,7 +55,7 @@ pub record TellsStatus (number : ℕ) : Type 0 where
 -- how the run ended, in words
 abbrev pub status_text : Status → List ℕ
 status_text status.Ok = codes "done"
-status_text status.Usage = codes "usage: curp play, curp make [options]"
+status_text status.Usage = codes "usage: curp play, curp make [options], curp live [options]"
 status_text (status.BadLine line reason) = codes "line " ++ decimal line ++ codes ": " ++ reason_text reason
 status_text status.ReadFault = codes "reading failed"
 status_text status.WriteFault = codes "writing failed"

@@ -5,9 +5,12 @@ use Rattle.clap.specs.Walk.{Text}
 use Rattle.curp_words.specs.Words.{order_in}
 
 -- what can be missing behind words with which a command line begins: its word, an option's value, both, or nothing. The
--- number 1 is in the range of each option
+-- number 1 is in the range of each option but the recoveries of `live`, which are 0
 abbrev pub endings : List (List Text)
-endings = [] ∷ (codes "make" ∷ []) ∷ (codes "1" ∷ []) ∷ (codes "1" ∷ codes "make" ∷ []) ∷ []
+endings =
+    [] ∷ (codes "make" ∷ []) ∷ (codes "live" ∷ [])
+    ∷ (codes "1" ∷ []) ∷ (codes "1" ∷ codes "make" ∷ []) ∷ (codes "1" ∷ codes "live" ∷ [])
+    ∷ (codes "0" ∷ []) ∷ (codes "0" ∷ codes "live" ∷ []) ∷ []
 
 -- a command line can begin with the words
 unfoldable pub is_beginning : List Text → Bool

@@ -1,14 +1,19 @@
--- The plan of `make`.
-use Rattle.std.specs.Prelude.{◌≤◌, ◌^◌, ◌-◌, ⊤}
+-- The plans of `make` and `live`.
+use Rattle.std.specs.Prelude.{◌≡◌, ◌≤◌, ◌^◌, ◌-◌, ⊤}
+use Rattle.curp_words.specs.declared.order.LivePlan.{LivePlan}
 use Rattle.curp_words.specs.declared.order.MakePlan.{MakePlan}
 use Rattle.curp_words.specs.declared.order.Order.{Order}
-use Rattle.curp_words.specs.declared.order.Order.TheVariants.{Play, Make}
+use Rattle.curp_words.specs.declared.order.Order.TheVariants.{Play, Make, Live}
 
 -- the plan of `make` with no option
 abbrev pub default_plan : MakePlan
 default_plan = record { number = 1; f = 3; sets = 64; ways = 4; clients = 8; parts = 2; steps = 4000; recoveries = 3 }
 
--- each number of a plan is in its range
+-- the plan of `live` with no option
+abbrev pub default_live_plan : LivePlan
+default_live_plan = record { number = 1; f = 3; sets = 64; ways = 4; clients = 8; parts = 2; commands = 50; recoveries = 0 }
+
+-- each number of a plan of `make` is in its range
 pub record IsPlan (plan : MakePlan) : Type 0 where
   pub number : plan.number ≤ 2 ^ 64 - 1
   pub f : (1 ≤ plan.f) × (plan.f ≤ 5)
@@ -19,7 +24,19 @@ pub record IsPlan (plan : MakePlan) : Type 0 where
   pub steps : (1 ≤ plan.steps) × (plan.steps ≤ 200000)
   pub recoveries : plan.recoveries ≤ 64
 
--- an order to make a script has a plan in range
+-- each number of a plan of `live` is in its range
+pub record IsLivePlan (plan : LivePlan) : Type 0 where
+  pub number : plan.number ≤ 2 ^ 64 - 1
+  pub f : (1 ≤ plan.f) × (plan.f ≤ 5)
+  pub sets : (1 ≤ plan.sets) × (plan.sets ≤ 1024)
+  pub ways : (1 ≤ plan.ways) × (plan.ways ≤ 16)
+  pub clients : (1 ≤ plan.clients) × (plan.clients ≤ 16)
+  pub parts : (1 ≤ plan.parts) × (plan.parts ≤ 16)
+  pub commands : (1 ≤ plan.commands) × (plan.commands ≤ 100)
+  pub recoveries : plan.recoveries ≡ 0
+
+-- an order with a plan has one in range
 abbrev pub fits : Order → Type 0
 fits Play = ⊤
 fits (Make plan output) = IsPlan plan
+fits (Live plan) = IsLivePlan plan

@@ -2,15 +2,17 @@
 use Rattle.std.specs.Prelude.{◌^◌, ◌-◌, ◌&&◌, ◌||◌, Bool, true, false, not, List, [], ◌∷◌, codes, Option, Some, None, is_some, find}
 use Rattle.std.specs.Prelude.{if◌then◌else◌, option_and_then, option_map, unwrap_or}
 use Rattle.std.specs.List.{list_all, list_any}
+use Rattle.std.specs.Option.{option_or}
 use Rattle.std.specs.Str.{bytes_eq}
 use Rattle.clap.specs.Lexer.{long_of, strip_byte}
 use Rattle.clap.specs.Walk.{Text}
 use Rattle.clap.specs.declared.error.kind.ErrorKind.{ErrorKind}
 use Rattle.clap.specs.declared.error.kind.ErrorKind.TheVariants as kind
 use Rattle.curp_words.specs.Numbers.{number_within}
+use Rattle.curp_words.specs.declared.order.LivePlan.{LivePlan}
 use Rattle.curp_words.specs.declared.order.MakePlan.{MakePlan}
 use Rattle.curp_words.specs.declared.order.Order.{Order}
-use Rattle.curp_words.specs.declared.order.Order.TheVariants.{Play, Make}
+use Rattle.curp_words.specs.declared.order.Order.TheVariants.{Play, Make, Live}
 use Rattle.curp_words.specs.declared.order.Output.{Output}
 use Rattle.curp_words.specs.declared.order.Output.TheVariants.{Script, Summary}
 use Rattle.curp_words.specs.declared.order.WordsError.{WordsError}
@@ -29,6 +31,14 @@ make_options = record {
   valued = codes "number" ∷ codes "f" ∷ codes "sets" ∷ codes "ways" ∷ codes "clients" ∷ codes "parts" ∷ codes "steps"
       ∷ codes "recoveries" ∷ [];
   flags = codes "summary" ∷ [];
+}
+
+-- the options of `live`
+abbrev pub live_options : Options
+live_options = record {
+  valued = codes "number" ∷ codes "f" ∷ codes "sets" ∷ codes "ways" ∷ codes "clients" ∷ codes "parts" ∷ codes "commands"
+      ∷ codes "recoveries" ∷ [];
+  flags = [];
 }
 
 -- ---- what is given
@@ -115,7 +125,8 @@ given_by options words =
 abbrev pub with : {X Y : Type 0} → Option X → (X → Option Y) → Option Y
 with x f = option_and_then f x
 
--- the plan, by the values of the options: for each its least and its most number, and the one where it isn't given
+-- the plan of `make`, by the values of the options: for each its least and its most number, and the one where it isn't
+-- given
 abbrev pub plan_by : (Text → Option Text) → Option MakePlan
 plan_by value =
     with (number_within 0 (2 ^ 64 - 1) 1 (value (codes "number"))) (λ number.
@@ -137,6 +148,28 @@ plan_by value =
       recoveries = recoveries;
     })))))))))
 
+-- the same for the plan of `live`
+abbrev pub live_plan_by : (Text → Option Text) → Option LivePlan
+live_plan_by value =
+    with (number_within 0 (2 ^ 64 - 1) 1 (value (codes "number"))) (λ number.
+    with (number_within 1 5 3 (value (codes "f"))) (λ f.
+    with (number_within 1 1024 64 (value (codes "sets"))) (λ sets.
+    with (number_within 1 16 4 (value (codes "ways"))) (λ ways.
+    with (number_within 1 16 8 (value (codes "clients"))) (λ clients.
+    with (number_within 1 16 2 (value (codes "parts"))) (λ parts.
+    with (number_within 1 100 50 (value (codes "commands"))) (λ commands.
+    with (number_within 0 0 0 (value (codes "recoveries"))) (λ recoveries.
+    Some (record {
+      number = number;
+      f = f;
+      sets = sets;
+      ways = ways;
+      clients = clients;
+      parts = parts;
+      commands = commands;
+      recoveries = recoveries;
+    })))))))))
+
 -- there is a text, and it is this one
 abbrev pub is_text : Text → Option Text → Bool
 is_text text None = false
@@ -152,19 +185,33 @@ order_by value =
     if is_text (codes "make") (value (codes "command"))
     then option_map (λ plan. Make plan (output_by value)) (plan_by value) else None
 
+-- the same, if its word is `live`
+abbrev pub live_order_by : (Text → Option Text) → Option Order
+live_order_by value =
+    if is_text (codes "live") (value (codes "command"))
+    then option_map (λ plan. Live plan) (live_plan_by value) else None
+
 -- the one word `play`
 abbrev pub is_play : List Text → Bool
 is_play [] = false
 is_play (word ∷ []) = bytes_eq word (codes "play")
 is_play (word ∷ next ∷ words) = false
 
+-- the order of a command line with these options, where `order` says it by their values
+abbrev pub order_with : Options → ((Text → Option Text) → Option Order) → List Text → Option Order
+order_with options order words = option_and_then (λ given. order (value_of given)) (given_by options words)
+
 -- the word `make` with options
 abbrev pub make_in : List Text → Option Order
-make_in words = option_and_then (λ given. order_by (value_of given)) (given_by make_options words)
+make_in words = order_with make_options order_by words
+
+-- the word `live` with options
+abbrev pub live_in : List Text → Option Order
+live_in words = order_with live_options live_order_by words
 
 -- what the words behind the program's name ask for; none where they are no command line
 abbrev pub order_in : List Text → Option Order
-order_in words = if is_play words then Some Play else make_in words
+order_in words = if is_play words then Some Play else option_or (make_in words) (live_in words)
 
 -- ---- what is no order
 

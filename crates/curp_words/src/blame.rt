@@ -29,8 +29,12 @@ fn is_beginning(alloc: Global, words: &[&str]) -> Result<bool, NoMemory>
     Ok(
         is_line(alloc, words, &[])?
             || is_line(alloc, words, &["make"])?
+            || is_line(alloc, words, &["live"])?
             || is_line(alloc, words, &["1"])?
-            || is_line(alloc, words, &["1", "make"])?,
+            || is_line(alloc, words, &["1", "make"])?
+            || is_line(alloc, words, &["1", "live"])?
+            || is_line(alloc, words, &["0"])?
+            || is_line(alloc, words, &["0", "live"])?,
     )
 }
 

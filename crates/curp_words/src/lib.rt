@@ -2,7 +2,9 @@
 #![tactic(auto)]
 
 mod blame;
+mod live;
 mod make;
+mod options;
 mod order;
 mod setting;
 #[cfg(test)]
@@ -10,5 +12,5 @@ mod tests;
 mod words;
 
 pub use blame::blamed;
-pub use order::{MakePlan, Order, Output, WordsError};
+pub use order::{LivePlan, MakePlan, Order, Output, WordsError};
 pub use words::read;

@@ -10,6 +10,8 @@ pub enum Order {
     Play,
     /// A script is made by the plan.
     Make(MakePlan, Output),
+    /// Nodes run on threads by the plan.
+    Live(LivePlan),
 }
 
 /// From what a script is made: a number that everything in it follows from, the size of the world, and how much
@@ -23,6 +25,20 @@ pub struct MakePlan {
     pub clients: u32,
     pub parts: u32,
     pub steps: u32,
+    pub recoveries: u32,
+}
+
+/// What runs on threads: a number that the commands of the clients follow from, the size of the world, and how much
+/// happens. Contracts see the range of each with `IsLivePlan`.
+#[derive(Clone, Copy, Debug, PartialEq, Eq)]
+pub struct LivePlan {
+    pub number: u64,
+    pub f: u32,
+    pub sets: u32,
+    pub ways: u32,
+    pub clients: u32,
+    pub parts: u32,
+    pub commands: u32,
     pub recoveries: u32,
 }
 
@@ -62,6 +78,26 @@ impl Default for MakePlan {
             parts: 2,
             steps: 4_000,
             recoveries: 3,
+        }
+    }
+}
+
+impl Default for LivePlan {
+    ghost use Rattle.std.specs.Prelude.{◌≡◌};
+    ghost use Rattle.curp_words.specs.Plan.{default_live_plan};
+
+    ghost is_default = { λ plan. plan ≡ default_live_plan };
+
+    fn default() -> LivePlan {
+        LivePlan {
+            number: 1,
+            f: 3,
+            sets: 64,
+            ways: 4,
+            clients: 8,
+            parts: 2,
+            commands: 50,
+            recoveries: 0,
         }
     }
 }

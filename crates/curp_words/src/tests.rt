@@ -1,5 +1,5 @@
 // What no clause says: that there is an order where there is memory.
-use crate::{Order, WordsError, blamed, read};
+use crate::{LivePlan, MakePlan, Order, Output, WordsError, blamed, read};
 use std::alloc::Global;
 use std::test::Fail;
 
@@ -17,10 +17,10 @@ play|
 play|--
 play|--f|3
 play|--summary
-live
-live|--commands|5
+play|live
 Make
 make|make
+make|live
 make|x
 make|
 |make
@@ -70,10 +70,35 @@ make|--steps|200001
 make|--recoveries|65
 make|--number|18446744073709551616
 make|--number|99999999999999999999
+Live
+live|live
+live|make
+live|play
+live|x
+live|
+live|--
+live|--f
+live|--f|0
+live|--f|6
+live|--sets|1025
+live|--ways|17
+live|--clients|0
+live|--clients|17
+live|--parts|17
+live|--commands|0
+live|--commands|101
+live|--recoveries|1
+live|--commands|5|--commands|5
+live|--steps|5
+live|--summary
+live|--number|18446744073709551616
+--commands|5
+--commands|5|make
+--steps|5|live
 --f|3
 --summary";
 
-// Command lines of `make`, with the numbers of their plans and what is written.
+// Command lines of `make` and `live`, with the numbers of their plans and what is written.
 const TAKEN: &str = "make: 1 3 64 4 8 2 4000 3 Script
 make|--number|0: 0 3 64 4 8 2 4000 3 Script
 make|--number|18446744073709551615: 18446744073709551615 3 64 4 8 2 4000 3 Script
@@ -87,29 +112,45 @@ make|--summary: 1 3 64 4 8 2 4000 3 Summary
 --f|2|make: 1 2 64 4 8 2 4000 3 Script
 --f=2|make|--sets|8: 1 2 8 4 8 2 4000 3 Script
 --sets=8|--summary|--f|2|make|--number=5: 5 2 8 4 8 2 4000 3 Summary
-make|--f|03: 1 3 64 4 8 2 4000 3 Script";
+make|--f|03: 1 3 64 4 8 2 4000 3 Script
+live: 1 3 64 4 8 2 50 0 Live
+live|--number|0|--f|1|--sets|1|--ways|1: 0 1 1 1 8 2 50 0 Live
+live|--clients|1|--parts|1|--commands|1|--recoveries|0: 1 3 64 4 1 1 1 0 Live
+live|--number|18446744073709551615: 18446744073709551615 3 64 4 8 2 50 0 Live
+live|--f|5|--sets|1024|--ways|16|--clients|16: 1 5 1024 16 16 2 50 0 Live
+--parts=16|live|--commands=100: 1 3 64 4 8 16 100 0 Live
+--commands|5|live: 1 3 64 4 8 2 5 0 Live";
 
 fn read_line(alloc: Global, line: &str) -> Result<Result<Order, WordsError>, Fail> {
     let words: Vec<&str> = line.split('|').collect(alloc)?;
     Ok(read(alloc, words.as_slice()))
 }
 
-// The numbers of the plan that a command line of `make` gives, and what is written.
-fn made(alloc: Global, line: &str) -> Result<String, Fail> {
+// The numbers of the plan that a command line gives, and what is written.
+fn planned(alloc: Global, line: &str) -> Result<String, Fail> {
     match read_line(alloc, line)? {
-        Ok(Order::Make(plan, output)) => {
-            let world = format!(in alloc;
-                "{} {} {} {}",
-                plan.number, plan.f, plan.sets, plan.ways
-            )?;
-            let run = format!(in alloc;
-                "{} {} {} {}",
-                plan.clients, plan.parts, plan.steps, plan.recoveries
-            )?;
-            Ok(format!(in alloc; "{world} {run} {output:?}")?)
-        }
+        Ok(Order::Make(plan, output)) => made(alloc, &plan, output),
+        Ok(Order::Live(plan)) => run(alloc, &plan),
         other => Ok(format!(in alloc; "{other:?}")?),
     }
+}
+
+fn made(alloc: Global, plan: &MakePlan, output: Output) -> Result<String, Fail> {
+    let world = format!(in alloc; "{} {} {} {}", plan.number, plan.f, plan.sets, plan.ways)?;
+    let run = format!(in alloc;
+        "{} {} {} {}",
+        plan.clients, plan.parts, plan.steps, plan.recoveries
+    )?;
+    Ok(format!(in alloc; "{world} {run} {output:?}")?)
+}
+
+fn run(alloc: Global, plan: &LivePlan) -> Result<String, Fail> {
+    let world = format!(in alloc; "{} {} {} {}", plan.number, plan.f, plan.sets, plan.ways)?;
+    let run = format!(in alloc;
+        "{} {} {} {}",
+        plan.clients, plan.parts, plan.commands, plan.recoveries
+    )?;
+    Ok(format!(in alloc; "{world} {run} Live")?)
 }
 
 #[test]
@@ -130,7 +171,7 @@ fn orders_are_read(rt: HostRuntime) -> Result<(), Fail> {
     assert_eq!(rt; read(rt.alloc(), &["play"]), Ok(Order::Play));
     for row in TAKEN.lines() {
         let (line, plan) = row.split_once(": ").ok_or("a row without a plan")?;
-        assert_eq!(rt; made(rt.alloc(), line)?.as_str(), plan, "{line}");
+        assert_eq!(rt; planned(rt.alloc(), line)?.as_str(), plan, "{line}");
     }
     Ok(())
 }
@@ -147,6 +188,19 @@ fn a_word_is_blamed(rt: HostRuntime) -> Result<(), Fail> {
         ("make|--summary|--", Some(2)),
         ("make|--steps", None),
         ("--f=3", None),
+        ("live|--f", None),
+        ("live|--recoveries", None),
+        ("--commands|5|--recoveries", None),
+        ("--recoveries|0|--commands", None),
+        ("live|--recoveries|1", Some(2)),
+        ("live|--commands|101", Some(2)),
+        ("live|--steps|5", Some(1)),
+        ("live|--summary", Some(1)),
+        ("live|make", Some(1)),
+        ("make|--commands|5", Some(1)),
+        ("--commands|5|make", Some(2)),
+        ("--commands|5|--steps", Some(2)),
+        ("--clients|17|live", Some(2)),
     ] {
         let words: Vec<&str> = line.split('|').collect(rt.alloc())?;
         assert_eq!(rt; blamed(rt.alloc(), words.as_slice())?, place, "{line}");

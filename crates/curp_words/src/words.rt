@@ -1,21 +1,21 @@
-ghost use Rattle.std.specs.Prelude.{◌≡◌, ◌≢◌, ◌⊎◌, IfErr, IfOk, [], Err, None, Some};
+ghost use Rattle.std.specs.Prelude.{◌≡◌, ◌≢◌, ◌⊎◌, IfErr, IfOk, Err, None, Some, true};
 ghost use Rattle.std.specs.List.{list_all};
-ghost use Rattle.clap.specs.Faults.{fault_of};
-ghost use Rattle.clap.specs.Matches.{found_of};
-ghost use Rattle.clap.specs.Simple.{matches_of};
-ghost use Rattle.clap.specs.Walk.{rows_of, texts};
-ghost use Rattle.curp_words.specs.Command.{make_app};
+ghost use Rattle.clap.specs.Faults.{is_simple_and_free};
+ghost use Rattle.clap.specs.Simple.{app_of};
+ghost use Rattle.clap.specs.Walk.{texts};
+ghost use Rattle.curp_words.specs.Command.{IsRefused, IsTaken};
 ghost use Rattle.curp_words.specs.Plan.{fits};
-ghost use Rattle.curp_words.specs.Words.{is_play, is_well_formed, make_in, order_in};
+ghost use Rattle.curp_words.specs.Words.{is_play, is_well_formed, live_in, make_in, order_in};
 
+use crate::live::{live_command, live_order};
 use crate::make::{make_command, make_order};
 use crate::order::{Order, WordsError};
-use clap::ArgMatches;
+use clap::{ArgMatches, Command};
 use std::alloc::Global;
 
-/// What the words behind the program's name ask for: `play`, or `make` with its options, which stand before the word or
-/// behind it, in any order and each at most once. An option has its value behind `=` or as the next word. The value is
-/// a number of one to twenty decimal digits. Only `--summary` has no value.
+/// What the words behind the program's name ask for: `play`, or `make` or `live` with its options, which stand before
+/// the word or behind it, in any order and each at most once. An option has its value behind `=` or as the next word.
+/// The value is a number of one to twenty decimal digits. Only `--summary` has no value.
 ///
 /// Want of memory may come for any words.
 pub fn read(alloc: Global, words: &[&str]) -> Result<Order, WordsError>
@@ -26,9 +26,11 @@ pub fn read(alloc: Global, words: &[&str]) -> Result<Order, WordsError>
     ensures in_range { IfOk result fits }
 {
     if is_play(words) {
-        Ok(Order::Play)
-    } else {
-        read_make(alloc, words)
+        return Ok(Order::Play);
+    }
+    match read_make(alloc, words) {
+        Err(WordsError::Usage) => read_live(alloc, words),
+        made => made,
     }
 }
 
@@ -46,21 +48,30 @@ fn read_make(alloc: Global, words: &[&str]) -> Result<Order, WordsError>
     ensures order { IfOk result (λ order. make_in (texts words.now) ≡ Some order) }
     ensures err { IfErr result (λ error. error ≢ WordsError.NoMemory → make_in (texts words.now) ≡ None) }
 {
-    if !are_well_formed(words) {
-        return Err(WordsError::Usage);
-    }
-    let matches = make_matches(alloc, words)?;
+    let matches = parsed(make_command(alloc)?, words)?;
     make_order(&matches).ok_or(WordsError::Usage)
 }
 
-// What the parser takes; the words are well formed.
-fn make_matches<'a>(alloc: Global, words: &'a [&'a str]) -> Result<ArgMatches<'a>, WordsError>
-    ensures ok { IfOk result (λ matches. (fault_of make_app (texts words.now) ≡ [])
-        × (rows_of (found_of matches) ≡ matches_of make_app (texts words.now))) }
-    ensures err { IfErr result (λ error. error ≢ WordsError.NoMemory
-        → fault_of make_app (texts words.now) ≢ []) }
+// The same, of `live` alone.
+fn read_live(alloc: Global, words: &[&str]) -> Result<Order, WordsError>
+    ensures order { IfOk result (λ order. live_in (texts words.now) ≡ Some order) }
+    ensures err { IfErr result (λ error. error ≢ WordsError.NoMemory → live_in (texts words.now) ≡ None) }
 {
-    let matches = make_command(alloc)?.try_get_matches_from(words)?;
+    let matches = parsed(live_command(alloc)?, words)?;
+    live_order(&matches).ok_or(WordsError::Usage)
+}
+
+// What the parser takes, of words that are well formed.
+fn parsed<'a>(command: Command<'a>, words: &'a [&'a str]) -> Result<ArgMatches<'a>, WordsError>
+    ensures ok { is_simple_and_free (app_of command.entry) ≡ true
+        → IfOk result (IsTaken (app_of command.entry) (texts words.now)) }
+    ensures err { is_simple_and_free (app_of command.entry) ≡ true
+        → IfErr result (λ error. error ≢ WordsError.NoMemory → IsRefused (app_of command.entry) (texts words.now)) }
+{
+    if !are_well_formed(words) {
+        return Err(WordsError::Usage);
+    }
+    let matches = command.try_get_matches_from(words)?;
     Ok(matches)
 }
 

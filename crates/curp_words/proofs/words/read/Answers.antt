@@ -1,6 +1,10 @@
+use Rattle.std.proofs.lemmas.Result.{IfOk-weaker}
 use Rattle.clap.specs.Walk.{texts}
-use Rattle.curp_words.proofs.Ranges.{read_fits}
+use Rattle.curp_words.proofs.Ranges.{live_fits, make_fits}
 use Rattle.curp_words.proofs.words.read.Goals as goal
 
-pub returns-else-is_play-clause-in_range : goal.returns-else-is_play-clause-in_range
-returns-else-is_play-clause-in_range c = read_fits (texts c.args.words.now) c.read_make.result c.read_make.ensures.order
+pub returns-in-Err-Usage-clause-in_range : goal.returns-in-Err-Usage-clause-in_range
+returns-in-Err-Usage-clause-in_range c = IfOk-weaker c.read_live.result _ _ (live_fits (texts c.args.words.now)) c.read_live.ensures.order
+
+pub returns-in_default-2-clause-in_range : goal.returns-in_default-2-clause-in_range
+returns-in_default-2-clause-in_range c = IfOk-weaker c.read_make.result _ _ (make_fits (texts c.args.words.now)) c.read_make.ensures.order
