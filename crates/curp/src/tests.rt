@@ -4,6 +4,7 @@ mod rows;
 
 use curp_io::{MemorySink, MemorySource};
 use curp_run::run;
+use curp_seat::OpenGate;
 use rows::ROWS;
 use std::str;
 use std::test::Fail;
@@ -20,7 +21,14 @@ fn each_example_has_its_output(rt: HostRuntime) -> Result<(), Fail> {
         let (ends, out) = row.split_once('\n').ok_or("a row without an output")?;
         let mut source = MemorySource::new(rt.alloc(), script.as_bytes(), &[])?;
         let mut sink = MemorySink::new(rt.alloc(), &[])?;
-        let status = run(rt.alloc(), &["play"], &mut source, &mut sink);
+        let status = run(
+            &rt,
+            rt.alloc(),
+            &["play"],
+            &mut source,
+            &mut sink,
+            &OpenGate,
+        );
         assert!(rt; sink.bytes() == out.as_bytes(), "the output of {name}");
         let code = status.code();
         let ended = match status.complaint() {
@@ -43,7 +51,14 @@ const LARGEST: &str =
 fn the_largest_world_recovers(rt: HostRuntime) -> Result<(), Fail> {
     let mut source = MemorySource::new(rt.alloc(), LARGEST.as_bytes(), &[])?;
     let mut sink = MemorySink::new(rt.alloc(), &[])?;
-    let status = run(rt.alloc(), &["play"], &mut source, &mut sink);
+    let status = run(
+        &rt,
+        rt.alloc(),
+        &["play"],
+        &mut source,
+        &mut sink,
+        &OpenGate,
+    );
     assert_eq!(rt; status.code(), 0);
     let text = str::from_utf8(sink.bytes())?;
     assert_eq!(rt; text.lines().count(), 13);

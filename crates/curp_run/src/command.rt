@@ -3,25 +3,34 @@ ghost use Rattle.curp_io.specs.Streams.{HoldsPart, Rose, SameCount};
 ghost use Rattle.curp_gen.specs.Texts.{made_text};
 ghost use Rattle.curp_play.specs.Play.{EndsWhole, HasAnOrder, script_in, text_of};
 ghost use Rattle.curp_play.specs.Status.{is_cut_short, status_of};
+ghost use Rattle.curp_run.specs.Live.{IsLive};
 ghost use Rattle.curp_run.specs.Run.{EndsMade, IsOfMaking, asked};
 ghost use Rattle.curp_script.specs.Script.{Whole};
+ghost use Rattle.curp_words.specs.declared.order.LivePlan.{LivePlan};
 ghost use Rattle.curp_words.specs.declared.order.MakePlan.{MakePlan};
 ghost use Rattle.curp_words.specs.declared.order.Output.{Output};
 
+use crate::live::live_script;
 use crate::script::make_script;
 use curp_io::{Sink, Source};
 use curp_play::{Status, play_script};
+use curp_seat::Gate;
 use curp_words::{Order, WordsError, read};
 use std::alloc::Global;
+use std::sync::Wait;
+use std::thread::Threads;
 
 /// Does what the words of the command line say, those behind the program's name: `play` reads a script from the source
 /// and writes its text to the sink, as `play_script`; `make`, with its options, writes a script or its summary, as
-/// `make_script`.
-pub fn run<S: Source, K: Sink>(
+/// `make_script`; `live` runs nodes on threads, and writes the script of what they did and its text, as `live_script`.
+/// The gate is told of each step that a node on a thread makes.
+pub fn run<R: Threads + Wait + Sync, G: Gate + Sync, S: Source, K: Sink>(
+    rt: &R,
     alloc: Global,
     words: &[&str],
     source: &mut S,
     sink: &mut K,
+    gate: &G,
 ) -> Status
     // Words that are no command line are refused, and nothing is read or written then.
     ensures usage { result ≡ Status.Usage → asked words.now ≡ None }
@@ -59,6 +68,15 @@ pub fn run<S: Source, K: Sink>(
     ensures complete_making { (plan : MakePlan) (output : Output) → asked words.now ≡ Some (Order.Make plan output)
         → EndsMade result (K.faults sink.old) (K.faults sink.new) }
 
+    // With `live` it writes a script, an empty line, and what `play` writes for that script, and reads nothing. In the
+    // script each client invokes its workload in order, and each of these requests completes.
+    ensures lived { (plan : LivePlan) → asked words.now ≡ Some (Order.Live plan) → K.tells sink.old ≡ true
+        → result ≡ Status.Ok → IsLive plan (K.held sink.old) (K.held sink.new) }
+    ensures unread_living { (plan : LivePlan) → asked words.now ≡ Some (Order.Live plan) → source.new ≡ source.old }
+    ensures of_living { (plan : LivePlan) → asked words.now ≡ Some (Order.Live plan) → IsOfMaking result }
+    ensures complete_living { (plan : LivePlan) → asked words.now ≡ Some (Order.Live plan)
+        → EndsMade result (K.faults sink.old) (K.faults sink.new) }
+
     // What it wrote is passed on.
     ensures flushed { asked words.now ≢ None → is_cut_short result ≡ false → K.flushed sink.new ≡ true }
 
@@ -71,6 +89,7 @@ pub fn run<S: Source, K: Sink>(
     match read(alloc, words) {
         Ok(Order::Play) => play_script(alloc, source, sink),
         Ok(Order::Make(plan, output)) => make_script(alloc, &plan, output, sink),
+        Ok(Order::Live(plan)) => live_script(rt, alloc, &plan, gate, sink),
         Err(WordsError::Usage) => Status::Usage,
         Err(WordsError::NoMemory) => Status::NoMemory,
     }

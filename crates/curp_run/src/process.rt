@@ -7,20 +7,26 @@ ghost use Rattle.curp_run.specs.Run.{unread_words};
 use crate::command::run;
 use curp_io::{StdSink, StdSource};
 use curp_play::Status;
+use curp_seat::OpenGate;
 use curp_words::blamed;
 use std::process::ExitCode;
 use std::rt::Env;
+use std::sync::Wait;
+use std::thread::Threads;
 use std::{env, io};
 
 // What a newcomer can write behind `curp make`.
 const OPTIONS: &str =
     "make takes --number, --f, --sets, --ways, --clients, --parts, --steps and --recoveries, \
-    each with a number, and --summary";
+    each with a number, and --summary; live takes the same but --steps and --summary, and \
+    --commands with a number";
 
 /// Does all that `main` does: runs the command line over the standard streams, writes what there is to complain of to
 /// standard error, and says with which number the process ends. Where the words are no command line, one more line
 /// says which word it is about, and one which options there are.
-pub fn start(rt: &(impl Env + Input + Print + Eprint + AllocGlobal)) -> ExitCode
+pub fn start(
+    rt: &(impl Env + Input + Print + Eprint + AllocGlobal + Threads + Wait + Sync),
+) -> ExitCode
     ensures { TellsStatus (exit_status result) }
 {
     let status = match run_words(rt) {
@@ -31,7 +37,9 @@ pub fn start(rt: &(impl Env + Input + Print + Eprint + AllocGlobal)) -> ExitCode
 }
 
 /// Runs the words of the process over the standard streams.
-fn run_words(rt: &(impl Env + Input + Print + Eprint + AllocGlobal)) -> io::Result<Status> {
+fn run_words(
+    rt: &(impl Env + Input + Print + Eprint + AllocGlobal + Threads + Wait + Sync),
+) -> io::Result<Status> {
     let mut arguments = Vec::new(rt.alloc());
     for argument in env::args(rt)?.skip(1) {
         arguments.push(argument)?;
@@ -42,7 +50,14 @@ fn run_words(rt: &(impl Env + Input + Print + Eprint + AllocGlobal)) -> io::Resu
     }
     let mut source = StdSource::new(rt.reader());
     let mut sink = StdSink::new(io::writer(rt));
-    let status = run(rt.alloc(), &words, &mut source, &mut sink);
+    let status = run(
+        rt,
+        rt.alloc(),
+        &words,
+        &mut source,
+        &mut sink,
+        &OpenGate,
+    );
     if status == Status::Usage {
         tell_blame(rt, &words);
     }

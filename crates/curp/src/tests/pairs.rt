@@ -1,6 +1,6 @@
 // From any one backup and any one witness all is recovered that has completed, after each front of a script.
 use curp_io::{MemorySink, MemorySource};
-use curp_run::run;
+use curp_play::play_script;
 use std::alloc::Global;
 use std::str;
 use std::test::Fail;
@@ -78,7 +78,7 @@ const MOST_SENT: usize = 100;
 fn played(alloc: Global, script: &str) -> Result<MemorySink, Fail> {
     let mut source = MemorySource::new(alloc, script.as_bytes(), &[])?;
     let mut sink = MemorySink::new(alloc, &[])?;
-    let _status = run(alloc, &["play"], &mut source, &mut sink);
+    let _status = play_script(alloc, &mut source, &mut sink);
     Ok(sink)
 }
 
