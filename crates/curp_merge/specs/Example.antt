@@ -1,5 +1,5 @@
 -- Journals for the tests (this project's own).
-use Rattle.std.specs.Prelude.{◌≡◌, ◌≢◌, List}
+use Rattle.std.specs.Prelude.{◌≢◌}
 use Rattle.curp_base.specs.Words.{Each}
 use Rattle.curp_cmd.specs.declared.node.NodeKind.TheVariants as kind
 use Rattle.curp_journal.specs.Journal.{Stamped}

@@ -1,5 +1,5 @@
 -- Which message a journal holds by a name, and whether what a node took is that (this project's own).
-use Rattle.std.specs.Prelude.{◌≡◌, ◌≢◌, ℕ, zero, suc, ◌+◌, ◌==◌, if◌then◌else◌, List, [], ◌∷◌, find, Option, Some, None, option_and_then, ⊤}
+use Rattle.std.specs.Prelude.{◌≡◌, ◌≢◌, ℕ, List, find, Option, Some, option_and_then, ⊤}
 use Rattle.curp_base.specs.Words.{At, numbered}
 use Rattle.curp_cmd.specs.Node.{same_node}
 use Rattle.curp_cmd.specs.declared.node.NodeId.{NodeId}

@@ -1,5 +1,5 @@
 -- What a merge of journals is (this project's own).
-use Rattle.std.specs.Prelude.{◌≡◌, ◌≢◌, ◌≤◌, ◌^◌, ℕ, Bool, true, false, List, [], ◌∷◌, length, map, ⊤}
+use Rattle.std.specs.Prelude.{◌≡◌, ℕ, Bool, true, false, List, [], length, map}
 use Rattle.std.specs.List.{sum}
 use Rattle.curp_base.specs.Words.{At}
 use Rattle.curp_cmd.specs.declared.node.NodeId.{NodeId}

@@ -2,13 +2,16 @@
 #![tactic(auto)]
 
 mod count;
+mod due;
 mod error;
 mod held;
 mod line;
 mod mismatch;
 mod script;
+mod step;
 #[cfg(test)]
 mod tests;
+mod track;
 mod weave;
 
 pub use error::GatherError;

@@ -9,6 +9,8 @@ mod entries;
 mod lists;
 mod plain;
 mod same;
+#[cfg(test)]
+mod tests;
 
 pub use lists::all_same;
 pub use same::Same;

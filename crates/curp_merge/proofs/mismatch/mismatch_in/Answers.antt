@@ -1,4 +1,4 @@
-use Rattle.std.proofs.Common.{◌≡◌, ◌+◌, inl, inr, ℕ, sym, ◌∙◌, subst, ap, arith, refl, add-one, MatchOption}
+use Rattle.std.proofs.Common.{◌≡◌, inl, inr, sym, ◌∙◌, subst, ap, arith, refl, add-one, MatchOption}
 use Rattle.std.proofs.lemmas.Bool.{cases_eq}
 use Rattle.std.proofs.lemmas.Option.{slice_get_read, slice_get_within}
 use Rattle.curp_base.specs.Words.{At}
