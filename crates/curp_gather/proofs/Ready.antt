@@ -28,7 +28,7 @@ use Rattle.curp_law_weave.proofs.Openings.{backup_comes, backup_opens, client_op
 use Rattle.curp_merge.specs.Merging.{AreJournals, Merged, weight_sent}
 use Rattle.curp_merge.proofs.Sums.{weight_of_turns}
 use Rattle.curp_inv.specs.Machines.{backup_machine, client_machine, manager_machine, master_machine, witness_machine}
-use Rattle.curp_gather.specs.Journals.{AreOf, Begins, IsBackupOf, IsClientOf, IsMasterOf, IsScriptOf, IsWitnessOf, NumbersRise, journal_of, journals_of}
+use Rattle.curp_gather.specs.Journals.{AreOf, Begins, IsBackupJournal, IsClientJournal, IsMasterJournal, IsScriptOf, IsWitnessJournal, NodesAscend, journal_of, journals_of}
 use Rattle.curp_gather.specs.Replays.{AreReplayed, IsReplayed}
 use Rattle.curp_gather.specs.declared.journals.Journals.{Journals}
 use Rattle.curp_gather.proofs.ByMachine.{backup_is, client_is, manager_is, master_is, witness_is}
@@ -80,7 +80,7 @@ one_apart x i k a b at bt same = let p = only i a at in let q = only k b bt in o
 abbrev named : {S : Type 0} → NodeKind → Log (Node S) → Type 0
 named K log = log.id ≡ record { kind = K; number = log.opening.number }
 
-kind_apart : {S : Type 0} (K : NodeKind) (logs : List (Log (Node S))) → Each (named K) logs → NumbersRise logs → AreApart (map journal_of logs)
+kind_apart : {S : Type 0} (K : NodeKind) (logs : List (Log (Node S))) → Each (named K) logs → NodesAscend logs → AreApart (map journal_of logs)
 kind_apart {S} K logs names rise i k a b at bt same =
     let p = at_mapped journal_of logs i a at in
     let q = at_mapped journal_of logs k b bt in
@@ -106,16 +106,16 @@ other_kind K L differ xs of = Each-weaker (λ (x : Journal). x.id.kind ≡ L) (�
 
 module _ (h : Header) (j : Journals) (are : AreOf h j) where
   client_names : Each (named kind.Client) j.clients.items
-  client_names = Each-weaker (IsClientOf h) (named kind.Client) (λ log is. is.its_name) j.clients.items are.clients
+  client_names = Each-weaker (IsClientJournal h) (named kind.Client) (λ log is. is.its_name) j.clients.items are.clients
 
   master_names : Each (named kind.Master) j.masters.items
-  master_names = Each-weaker (IsMasterOf h) (named kind.Master) (λ log is. is.its_name) j.masters.items are.masters
+  master_names = Each-weaker (IsMasterJournal h) (named kind.Master) (λ log is. is.its_name) j.masters.items are.masters
 
   backup_names : Each (named kind.Backup) j.backups.items
-  backup_names = Each-weaker (IsBackupOf h) (named kind.Backup) (λ log is. is.its_name) j.backups.items are.backups
+  backup_names = Each-weaker (IsBackupJournal h) (named kind.Backup) (λ log is. is.its_name) j.backups.items are.backups
 
   witness_names : Each (named kind.Witness) j.witnesses.items
-  witness_names = Each-weaker (IsWitnessOf h) (named kind.Witness) (λ log is. is.its_name) j.witnesses.items are.witnesses
+  witness_names = Each-weaker (IsWitnessJournal h) (named kind.Witness) (λ log is. is.its_name) j.witnesses.items are.witnesses
 
   abbrev cs : List Journal
   cs = map journal_of j.clients.items
@@ -198,13 +198,13 @@ module _ (h : Header) (j : Journals) (are : AreOf h j) where
       opens_so j.manager manager_node (AManager j.manager.opening) are.manager.its_name
       (rw are.manager.begins (manager_opens h)) (manager_journal j.manager.opening j.manager.items (manager_is j.manager.opening j.manager.items r.replay)) (λ e. are.manager.runs)
 
-  of_client : (log : Log (Node ClientState)) → IsClientOf h log → IsReplayed client_machine log → IsJournalOf h (journal_of log)
+  of_client : (log : Log (Node ClientState)) → IsClientJournal h log → IsReplayed client_machine log → IsJournalOf h (journal_of log)
   of_client log is r =
       let n = log.opening.number in
       opens_so log (client_node n) (AClient log.opening.state) is.its_name
       (rw is.begins (client_opens h n is.there.0 is.there.1)) (client_journal log.opening log.items (client_is log.opening log.items r.replay)) (not_manager (client_node n) (λ k. absurd cc))
 
-  of_master : (log : Log (Node MasterStage)) → IsMasterOf h log → IsReplayed master_machine log → IsJournalOf h (journal_of log)
+  of_master : (log : Log (Node MasterStage)) → IsMasterJournal h log → IsReplayed master_machine log → IsJournalOf h (journal_of log)
   of_master log is r = go is.begins
     where
       journal : IsJournal (machine_of (master_node log.opening.number)) (AMaster log.opening.state) log.items
@@ -215,7 +215,7 @@ module _ (h : Header) (j : Journals) (are : AreOf h j) where
           opens_so log (master_node log.opening.number) (AMaster log.opening.state) is.its_name (rw p.2 (master_opens h log.opening.number p.0 p.1)) journal (not_manager (master_node log.opening.number) (λ k. absurd cc))
       go (inr p) = comes_so log (master_node log.opening.number) (AMaster log.opening.state) is.its_name (rw p.1 (master_comes h log.opening.number p.0)) journal p.2 (not_manager (master_node log.opening.number) (λ k. absurd cc))
 
-  of_backup : (log : Log (Node BackupState)) → IsBackupOf h log → IsReplayed backup_machine log → IsJournalOf h (journal_of log)
+  of_backup : (log : Log (Node BackupState)) → IsBackupJournal h log → IsReplayed backup_machine log → IsJournalOf h (journal_of log)
   of_backup log is r = go is.begins
     where
       journal : IsJournal (machine_of (backup_node log.opening.number)) (ABackup log.opening.state) log.items
@@ -226,7 +226,7 @@ module _ (h : Header) (j : Journals) (are : AreOf h j) where
           opens_so log (backup_node log.opening.number) (ABackup log.opening.state) is.its_name (rw p.2 (backup_opens h log.opening.number p.0 p.1)) journal (not_manager (backup_node log.opening.number) (λ k. absurd cc))
       go (inr p) = comes_so log (backup_node log.opening.number) (ABackup log.opening.state) is.its_name (rw p.1 (backup_comes h log.opening.number p.0)) journal p.2 (not_manager (backup_node log.opening.number) (λ k. absurd cc))
 
-  of_witness : (log : Log (Node WitnessState)) → IsWitnessOf h log → IsReplayed witness_machine log → IsJournalOf h (journal_of log)
+  of_witness : (log : Log (Node WitnessState)) → IsWitnessJournal h log → IsReplayed witness_machine log → IsJournalOf h (journal_of log)
   of_witness log is r = go is.begins
     where
       journal : IsJournal (machine_of (witness_node log.opening.number)) (AWitness log.opening.state) log.items

@@ -42,51 +42,51 @@ Begins count there fresh node items =
     ⊎ ((count < node.number) × (node.state ≡ fresh) × TakesFirst items)
 
 -- the manager begins as it is before any step, and never stops
-pub record IsManagerOf (h : Header) (log : Log ManagerState) : Type 0 where
+pub record IsManagerJournal (h : Header) (log : Log ManagerState) : Type 0 where
   pub its_name : log.id ≡ manager_node
   pub begins : log.opening ≡ opening_manager (shape_of h)
   pub runs : log.ended ≡ false
 
 -- a client is there before any step
-pub record IsClientOf (h : Header) (log : Log (Node ClientState)) : Type 0 where
+pub record IsClientJournal (h : Header) (log : Log (Node ClientState)) : Type 0 where
   pub its_name : log.id ≡ client_node log.opening.number
   pub there : (1 ≤ log.opening.number) × (log.opening.number ≤ h.clients)
   pub begins : log.opening.state ≡ fresh_client h.fast (opening_config (shape_of h))
 
 -- a master
-pub record IsMasterOf (h : Header) (log : Log (Node MasterStage)) : Type 0 where
+pub record IsMasterJournal (h : Header) (log : Log (Node MasterStage)) : Type 0 where
   pub its_name : log.id ≡ master_node log.opening.number
   pub begins : Begins h.parts (opening_master (shape_of h)) Fresh log.opening log.items
 
 -- a backup
-pub record IsBackupOf (h : Header) (log : Log (Node BackupState)) : Type 0 where
+pub record IsBackupJournal (h : Header) (log : Log (Node BackupState)) : Type 0 where
   pub its_name : log.id ≡ backup_node log.opening.number
   pub begins : Begins (h.parts * h.f) (λ _. installed_backup 1) fresh_backup log.opening log.items
 
 -- a witness
-pub record IsWitnessOf (h : Header) (log : Log (Node WitnessState)) : Type 0 where
+pub record IsWitnessJournal (h : Header) (log : Log (Node WitnessState)) : Type 0 where
   pub its_name : log.id ≡ witness_node log.opening.number
   pub begins : Begins (h.parts * h.f) (λ _. started_witness h.sets h.ways 1) (fresh_witness h.sets h.ways) log.opening log.items
 
 -- ---- all of them
 
 -- the numbers of the nodes rise
-abbrev pub NumbersRise : {S : Type 0} → List (Log (Node S)) → Type 0
-NumbersRise {S} logs = (i k : ℕ) (a b : Log (Node S)) → At logs i a → At logs k b → i < k → a.opening.number < b.opening.number
+abbrev pub NodesAscend : {S : Type 0} → List (Log (Node S)) → Type 0
+NodesAscend {S} logs = (i k : ℕ) (a b : Log (Node S)) → At logs i a → At logs k b → i < k → a.opening.number < b.opening.number
 
 -- Journals that nodes of the header's world can have: each was begun with the node that the world has by its name, the
 -- lists ascend, and what came to a node is its own
 pub record AreOf (h : Header) (j : Journals) : Type 0 where
   pub header : IsHeader h
-  pub manager : IsManagerOf h j.manager
-  pub clients : Each (IsClientOf h) j.clients.items
-  pub masters : Each (IsMasterOf h) j.masters.items
-  pub backups : Each (IsBackupOf h) j.backups.items
-  pub witnesses : Each (IsWitnessOf h) j.witnesses.items
-  pub clients_rise : NumbersRise j.clients.items
-  pub masters_rise : NumbersRise j.masters.items
-  pub backups_rise : NumbersRise j.backups.items
-  pub witnesses_rise : NumbersRise j.witnesses.items
+  pub manager : IsManagerJournal h j.manager
+  pub clients : Each (IsClientJournal h) j.clients.items
+  pub masters : Each (IsMasterJournal h) j.masters.items
+  pub backups : Each (IsBackupJournal h) j.backups.items
+  pub witnesses : Each (IsWitnessJournal h) j.witnesses.items
+  pub clients_rise : NodesAscend j.clients.items
+  pub masters_rise : NodesAscend j.masters.items
+  pub backups_rise : NodesAscend j.backups.items
+  pub witnesses_rise : NodesAscend j.witnesses.items
   pub own : (k : ℕ) (one : Journal) (t : ℕ) (item : Item) → At (journals_of j) k one → At one.items t item → IsOwn one.id item.input
 
 -- the script is a run of the journals, in the order of stamps and then of nodes

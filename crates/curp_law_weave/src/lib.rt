@@ -25,8 +25,8 @@ ghost use Rattle.curp_turns.specs.Work.{IsCompletedIn, invocations, invoked_in, 
 
 /// Steps that have the turns of journals in an order that is legal as lists are a run of the journals.
 pub fn legal_steps_are_a_run()
-    ensures run { (journals : List Journal) (h : Header) (ss : List Step) (placed : List Placed) → Legal journals h ss placed
-        → RunOf journals h ss placed }
+    ensures run { (journals : List Journal) (h : Header) (ss : List Step) (placed : List Placed)
+        → Legal journals h ss placed → RunOf journals h ss placed }
 {}
 
 /// Which nodes are there before any step, and how each begins.
@@ -57,7 +57,8 @@ pub fn journals_of_a_kind_are_journals()
         → IsJournal (machine_of (master_node m.number)) (AMaster m.state) items }
     ensures backups { (b : Node BackupState) (items : List Item) → IsJournal (numbered_machine backup_input) b items
         → IsJournal (machine_of (backup_node b.number)) (ABackup b.state) items }
-    ensures witnesses { (x : Node WitnessState) (items : List Item) → IsJournal (numbered_machine witness_input) x items
+    ensures witnesses { (x : Node WitnessState) (items : List Item)
+        → IsJournal (numbered_machine witness_input) x items
         → IsJournal (machine_of (witness_node x.number)) (AWitness x.state) items }
 {}
 

@@ -21,7 +21,7 @@ use Rattle.curp_journal.proofs.Replays.{stamp_above}
 use Rattle.curp_turns.specs.Turns.{AreApart, Did, Journal, turn_stamp, turns_of}
 use Rattle.curp_merge.specs.Held.{AllHeld, IsHeld, held_by, journal_of, kept_at}
 use Rattle.curp_merge.specs.Merging.{AreJournals}
-use Rattle.curp_merge.specs.Weaving.{IsFirst, IsNumberOf, IsSent, WasSent, Woven}
+use Rattle.curp_merge.specs.Weaving.{IsFirst, IsNumberOf, IsSent, SentBefore, Woven}
 use Rattle.curp_merge.proofs.Stamps.{turn_of_item, turns_rise}
 
 -- ---- searches
@@ -138,10 +138,10 @@ module _ (journals : List Journal) (rows : List (List ℕ)) (ss : List Step) (ne
       ]
 
   pub was_sent : AllHeld journals → next < 2 ^ 64 → (k : ℕ) (j : Journal) (row : List ℕ) (item : Item)
-      → At journals k j → At rows k row → At j.items (length row) item → IsFirst journals rows (length journals) k item.stamp → WasSent journals rows item.input
+      → At journals k j → At rows k row → At j.items (length row) item → IsFirst journals rows (length journals) k item.stamp → SentBefore journals rows item.input
   was_sent held fits k j row item stands its_row at first = go item.input refl
     where
-      go : (input : Arrived) → item.input ≡ input → WasSent journals rows input
+      go : (input : Arrived) → item.input ≡ input → SentBefore journals rows input
       go (arrived.Local order stamp) e = tt
       go (arrived.Message named) e =
           let is : kept_at journals named ≡ Some named = subst (λ (a : Arrived). IsHeld journals a) e (held k j (length row) item stands at) in

@@ -119,13 +119,13 @@ pub record IsSent (journals : List Journal) (rows : List (List ℕ)) (named : Na
   pub fits : before + named.place < 2 ^ 64
 
 -- what came is an order, or an item that was taken sent it
-abbrev pub WasSent : List Journal → List (List ℕ) → Arrived → Type 0
-WasSent journals rows (arrived.Local order stamp) = ⊤
-WasSent journals rows (arrived.Message named) = IsSent journals rows named
+abbrev pub SentBefore : List Journal → List (List ℕ) → Arrived → Type 0
+SentBefore journals rows (arrived.Local order stamp) = ⊤
+SentBefore journals rows (arrived.Message named) = IsSent journals rows named
 
 -- a node can be given what came to it by the turn
 abbrev pub CanBeGiven : List Journal → List (List ℕ) → NodeId → Turn → Type 0
-CanBeGiven journals rows node (Did item) = IsOwn node item.input × WasSent journals rows item.input
+CanBeGiven journals rows node (Did item) = IsOwn node item.input × SentBefore journals rows item.input
 CanBeGiven journals rows node Quits = ⊤
 
 -- the journal has a turn behind so many, and its node can be given what came to it then

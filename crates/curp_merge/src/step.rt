@@ -4,7 +4,7 @@ ghost use Rattle.curp_cmd.specs.Node.{manager_node, same_node};
 ghost use Rattle.curp_cmd.specs.declared.node.NodeKind.TheVariants as kind;
 ghost use Rattle.curp_turns.specs.Turns.{AreApart, Journal, sent_by, turns_of};
 ghost use Rattle.curp_merge.specs.Merging.{IsOwn, is_order_of};
-ghost use Rattle.curp_merge.specs.Weaving.{IsNextStep, IsNumberOf, IsOrderTo, IsReady, IsSent, IsStepForInput, WasSent};
+ghost use Rattle.curp_merge.specs.Weaving.{IsNextStep, IsNumberOf, IsOrderTo, IsReady, IsSent, IsStepForInput, SentBefore};
 
 use crate::Line;
 use crate::track::Track;
@@ -46,7 +46,7 @@ fn step_of(lines: &[Line<'_>], tracks: &[Track], node: NodeId, input: &Arrived) 
     requires apart { AreApart lines.now }
     requires one_manager { node.kind ≡ kind.Manager → node ≡ manager_node }
     requires own { IsOwn node input.now }
-    requires sent { WasSent lines.now tracks.now input.now }
+    requires sent { SentBefore lines.now tracks.now input.now }
     ensures { IsStepForInput lines.now tracks.now node input.now result }
 {
     match input {
