@@ -1,7 +1,7 @@
 -- A made script, and what happened in it, as text.
 use Rattle.std.specs.Prelude.{ℕ, List, ◌++◌, codes}
 use Rattle.std.specs.Fmt.{decimal}
-use Rattle.curp_law_print.specs.Texts.{line_text, script_lines}
+use Rattle.curp_script.specs.Texts.{line_text, script_lines}
 use Rattle.curp_words.specs.declared.order.MakePlan.{MakePlan}
 use Rattle.curp_words.specs.declared.order.Output.{Output}
 use Rattle.curp_words.specs.declared.order.Output.TheVariants as output

@@ -1,4 +1,3 @@
-pub mod Built
 mod Bytes
 mod Data
 mod Headers

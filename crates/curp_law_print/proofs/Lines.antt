@@ -12,7 +12,7 @@ use Rattle.curp_script.specs.Printed.{header_data, step_data}
 use Rattle.curp_script.specs.Script.{Whole, line_limit, script_of, step_limit, steps_in}
 use Rattle.curp_law_print.proofs.Bytes.{are_shown, is_shown}
 use Rattle.curp_law_print.proofs.Headers.{IsHeaderLine}
-use Rattle.curp_law_print.specs.Texts.{header_line, line_text, lines_text, script_lines}
+use Rattle.curp_script.specs.Texts.{header_line, line_text, lines_text, script_lines}
 
 -- shown bytes up to a line feed are a line
 first_line : (line rest : List ℕ) → are_shown line ≡ true → lines_of (line ++ 10 ∷ rest) ≡ line ∷ lines_of rest

@@ -28,7 +28,7 @@ use Rattle.curp_script.specs.Nodes.{keeper_of, keeper_text, numbered_text}
 use Rattle.curp_script.specs.Printed.{CommandReadsBack, NamesNode, ReadsBack, bytes_data, command_parts, count, pair_data, step_data}
 use Rattle.curp_script.specs.Script.{line_limit}
 use Rattle.curp_script.specs.declared.error.Word.TheVariants as word
-use Rattle.curp_law_print.proofs.Built.{step_is_built}
+use Rattle.curp_script.proofs.AllBuilt.{step_is_built}
 use Rattle.curp_law_print.proofs.Bytes.{are_clear, decimal_clear, decimal_short, hash_small, hex_clear, hex_length}
 use Rattle.curp_law_print.proofs.Data.{IsPlain, ItemsArePlain, items_weight, short, shown, weight}
 use Rattle.curp_law_print.proofs.Lines.{IsLine}

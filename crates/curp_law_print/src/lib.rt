@@ -13,7 +13,7 @@ ghost use Rattle.curp_script.specs.Headers.{InRange};
 ghost use Rattle.curp_script.specs.Printed.{NamesNode, checked_header};
 ghost use Rattle.curp_script.specs.Script.{Whole, script_of, step_limit};
 ghost use Rattle.curp_law_print.specs.Ranges.{StepInRange};
-ghost use Rattle.curp_law_print.specs.Texts.{script_lines};
+ghost use Rattle.curp_script.specs.Texts.{script_lines};
 
 pub use ranges::step_is_in_range;
 

@@ -5,7 +5,7 @@ use Rattle.curp_msg.specs.declared.script.Header.{Header}
 use Rattle.curp_msg.specs.declared.script.Step.{Step}
 use Rattle.curp_script.specs.Printed.{header_data, step_data}
 use Rattle.curp_gen.specs.Making.{Making, after, next_step, steps_from, with_next}
-use Rattle.curp_law_print.specs.Texts.{header_line, line_text, lines_text, step_line}
+use Rattle.curp_script.specs.Texts.{header_line, line_text, lines_text, step_line}
 
 -- one more step is made
 made_more : (m : Making) → (with_next m).made ≡ m.made + 1

@@ -1,7 +1,7 @@
 ghost use Rattle.std.specs.Prelude.{◌≡◌, ◌≢◌, ◌≤◌, ◌+◌, ◌++◌, true, Err, OnOk, IfErr};
 ghost use Rattle.curp_io.specs.Streams.{HoldsPart, Rose, SameCount};
 ghost use Rattle.curp_gen.specs.Texts.{made_text, script_text, summary_text};
-ghost use Rattle.curp_law_print.specs.Texts.{line_text, lines_text};
+ghost use Rattle.curp_script.specs.Texts.{line_text, lines_text};
 ghost use Rattle.curp_gen.specs.Making.{after, begun, steps_from, summary_of};
 ghost use Rattle.curp_play.specs.Reading.{IsOfWriting};
 ghost use Rattle.curp_run.specs.Run.{EndsMade, IsOfMaking};

@@ -1,3 +1,4 @@
+pub mod AllBuilt
 mod Behind
 mod Counting
 mod Delivery

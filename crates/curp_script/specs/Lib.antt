@@ -7,4 +7,5 @@ pub mod Nodes
 pub mod Printed
 pub mod Script
 pub mod Text
+pub mod Texts
 pub mod Values

@@ -5,7 +5,7 @@ use Rattle.curp_model.specs.World.{step}
 use Rattle.curp_script.specs.Printed.{NamesNode}
 use Rattle.curp_gen.specs.Making.{Making, choice, is_recovery_due, plus_if, with_next}
 use Rattle.curp_gen.specs.declared.choice.Choice.{Choice}
-use Rattle.curp_law_print.proofs.Built.{step_is_built}
+use Rattle.curp_script.proofs.AllBuilt.{step_is_built}
 use Rattle.curp_gen.proofs.Made.{plus_if_most, plus_if_within, recovery_room, state_is_next, step_is_next}
 use Rattle.curp_gen.proofs.Masters.{masters_stay}
 use Rattle.curp_gen.proofs.Named.{next_names_node}

@@ -1,4 +1,4 @@
--- A script as text.
+-- A script as it is printed: a line each for its header and its steps.
 use Rattle.std.specs.Prelude.{ℕ, List, [], ◌∷◌, ◌++◌}
 use Rattle.serde_json.specs.Written.{compact_text}
 use Rattle.curp_msg.specs.declared.script.Header.{Header}
