@@ -45,7 +45,7 @@ of_all P j g c m b w k one at = Each-at P (journals_of j) (g, rest) k one at
     rest =
         Each-append P _ _ (Each-map P journal_of j.clients.items c)
         (Each-append P _ _ (Each-map P journal_of j.masters.items m)
-            (Each-append P _ _ (Each-map P journal_of j.backups.items b) (Each-map P journal_of j.witnesses.items w)))
+        (Each-append P _ _ (Each-map P journal_of j.backups.items b) (Each-map P journal_of j.witnesses.items w)))
 
 -- ---- no two are of one node
 
@@ -87,13 +87,13 @@ kind_apart {S} K logs names rise i k a b at bt same =
     let x : Log (Node S) = p.0 in
     let y : Log (Node S) = q.0 in
     let number : x.opening.number ≡ y.opening.number =
-        ap (λ (id : NodeId). id.number) (sym (Each-at (named K) logs names i x p.1) ∙ (ap (λ (z : Journal). z.id) p.2 ∙ (same ∙ (ap (λ (z : Journal). z.id) (sym q.2) ∙ Each-at (named K) logs names k y q.1)))) in
+    ap (λ (id : NodeId). id.number) (sym (Each-at (named K) logs names i x p.1) ∙ (ap (λ (z : Journal). z.id) p.2 ∙ (same ∙ (ap (λ (z : Journal). z.id) (sym q.2) ∙ Each-at (named K) logs names k y q.1)))) in
     elim (cases_lt i k) [
       | inl h ↦ let r = rise i k x y p.1 q.1 h in absurd (omega (arith, number, r))
       | inr h ↦ elim (cases_lt k i) [
-          | inl g ↦ let r = rise k i y x q.1 p.1 g in absurd (omega (arith, number, r))
-          | inr g ↦ omega (arith, g, h)
-        ]
+        | inl g ↦ let r = rise k i y x q.1 p.1 g in absurd (omega (arith, number, r))
+        | inr g ↦ omega (arith, g, h)
+      ]
     ]
 
 of_kind : {S : Type 0} (K : NodeKind) (logs : List (Log (Node S))) → Each (named K) logs → OfKind K (map journal_of logs)
@@ -136,18 +136,18 @@ module _ (h : Header) (j : Journals) (are : AreOf h j) where
       let b = of_kind kind.Backup j.backups.items backup_names in
       let w = of_kind kind.Witness j.witnesses.items witness_names in
       let bw = apart_both kind.Backup bs ws (kind_apart kind.Backup j.backups.items backup_names are.backups_rise)
-          (kind_apart kind.Witness j.witnesses.items witness_names are.witnesses_rise) b (other_kind kind.Backup kind.Witness (λ e. absurd cc) ws w) in
+      (kind_apart kind.Witness j.witnesses.items witness_names are.witnesses_rise) b (other_kind kind.Backup kind.Witness (λ e. absurd cc) ws w) in
       let not_master : NotOfKind kind.Master (bs ++ ws) =
-          Each-append (λ (x : Journal). x.id.kind ≢ kind.Master) bs ws (other_kind kind.Master kind.Backup (λ e. absurd cc) bs b) (other_kind kind.Master kind.Witness (λ e. absurd cc) ws w) in
+      Each-append (λ (x : Journal). x.id.kind ≢ kind.Master) bs ws (other_kind kind.Master kind.Backup (λ e. absurd cc) bs b) (other_kind kind.Master kind.Witness (λ e. absurd cc) ws w) in
       let mbw = apart_both kind.Master ms (bs ++ ws) (kind_apart kind.Master j.masters.items master_names are.masters_rise) bw m not_master in
       let not_client : NotOfKind kind.Client (ms ++ (bs ++ ws)) =
-          Each-append (λ (x : Journal). x.id.kind ≢ kind.Client) ms (bs ++ ws) (other_kind kind.Client kind.Master (λ e. absurd cc) ms m)
-          (Each-append (λ (x : Journal). x.id.kind ≢ kind.Client) bs ws (other_kind kind.Client kind.Backup (λ e. absurd cc) bs b) (other_kind kind.Client kind.Witness (λ e. absurd cc) ws w)) in
+      Each-append (λ (x : Journal). x.id.kind ≢ kind.Client) ms (bs ++ ws) (other_kind kind.Client kind.Master (λ e. absurd cc) ms m)
+      (Each-append (λ (x : Journal). x.id.kind ≢ kind.Client) bs ws (other_kind kind.Client kind.Backup (λ e. absurd cc) bs b) (other_kind kind.Client kind.Witness (λ e. absurd cc) ws w)) in
       let cmbw = apart_both kind.Client cs (ms ++ (bs ++ ws)) (kind_apart kind.Client j.clients.items client_names are.clients_rise) mbw c not_client in
       let not_manager : NotOfKind kind.Manager (cs ++ (ms ++ (bs ++ ws))) =
-          Each-append (λ (x : Journal). x.id.kind ≢ kind.Manager) cs (ms ++ (bs ++ ws)) (other_kind kind.Manager kind.Client (λ e. absurd cc) cs c)
-          (Each-append (λ (x : Journal). x.id.kind ≢ kind.Manager) ms (bs ++ ws) (other_kind kind.Manager kind.Master (λ e. absurd cc) ms m)
-              (Each-append (λ (x : Journal). x.id.kind ≢ kind.Manager) bs ws (other_kind kind.Manager kind.Backup (λ e. absurd cc) bs b) (other_kind kind.Manager kind.Witness (λ e. absurd cc) ws w))) in
+      Each-append (λ (x : Journal). x.id.kind ≢ kind.Manager) cs (ms ++ (bs ++ ws)) (other_kind kind.Manager kind.Client (λ e. absurd cc) cs c)
+      (Each-append (λ (x : Journal). x.id.kind ≢ kind.Manager) ms (bs ++ ws) (other_kind kind.Manager kind.Master (λ e. absurd cc) ms m)
+      (Each-append (λ (x : Journal). x.id.kind ≢ kind.Manager) bs ws (other_kind kind.Manager kind.Backup (λ e. absurd cc) bs b) (other_kind kind.Manager kind.Witness (λ e. absurd cc) ws w))) in
       apart_both kind.Manager (journal_of j.manager ∷ []) (cs ++ (ms ++ (bs ++ ws))) (one_apart (journal_of j.manager)) cmbw
       (ap (λ (id : NodeId). id.kind) are.manager.its_name, tt) not_manager
 

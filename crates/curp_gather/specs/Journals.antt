@@ -30,7 +30,7 @@ abbrev pub journals_of : Journals → List Journal
 journals_of j =
     journal_of j.manager
     ∷ (map journal_of j.clients.items
-        ++ (map journal_of j.masters.items ++ (map journal_of j.backups.items ++ map journal_of j.witnesses.items)))
+    ++ (map journal_of j.masters.items ++ (map journal_of j.backups.items ++ map journal_of j.witnesses.items)))
 
 -- ---- how nodes begin
 

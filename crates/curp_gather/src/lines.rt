@@ -11,10 +11,7 @@ use curp_seat::Kept;
 use std::alloc::Global;
 
 /// The journals of all nodes as lines: the manager's, the clients', the masters', the backups' and the witnesses'.
-pub(crate) fn lines_of<'a>(
-    alloc: Global,
-    journals: &'a Journals,
-) -> Result<Vec<Line<'a>>, NoMemory>
+pub(crate) fn lines_of<'a>(alloc: Global, journals: &'a Journals) -> Result<Vec<Line<'a>>, NoMemory>
     ensures lines { IfOk result (λ lines. lines.items ≡ journals_of journals.now) }
     ensures replayed { IfOk result (λ lines. AreReplayed journals.now) }
 {
@@ -34,10 +31,7 @@ fn line_of<N: Core>(kept: &Kept<N>) -> Line<'_>
     Line::new(kept.id(), kept.journal(), kept.ended())
 }
 
-fn add_lines<'a, N: Core>(
-    kepts: &'a [Kept<N>],
-    lines: &mut Vec<Line<'a>>,
-) -> Result<(), NoMemory>
+fn add_lines<'a, N: Core>(kepts: &'a [Kept<N>], lines: &mut Vec<Line<'a>>) -> Result<(), NoMemory>
     ensures lines { OnOk result (lines.new.items ≡ lines.old.items ++ map journal_of kepts.now) }
     ensures replayed { OnOk result (Each (IsReplayed N.machine) kepts.now) }
 {

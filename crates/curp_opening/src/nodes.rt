@@ -33,11 +33,7 @@ pub fn manager(alloc: Global, header: &Header) -> Result<ManagerNode, NoMemory>
 }
 
 /// The clients of a header, each with a copy of the configuration.
-pub fn clients(
-    alloc: Global,
-    header: &Header,
-    config: &Config,
-) -> Result<Vec<ClientNode>, NoMemory>
+pub fn clients(alloc: Global, header: &Header, config: &Config) -> Result<Vec<ClientNode>, NoMemory>
     ensures states { IfOk result (λ nodes. states nodes.items
         ≡ replicate header.now.clients (fresh_client header.now.fast config.now)) }
     ensures numbers { IfOk result (λ nodes. HasNumbers nodes.items) }
@@ -51,11 +47,7 @@ pub fn clients(
 }
 
 /// The masters of a header's partitions.
-pub fn masters(
-    alloc: Global,
-    header: &Header,
-    config: &Config,
-) -> Result<Vec<MasterNode>, NoMemory>
+pub fn masters(alloc: Global, header: &Header, config: &Config) -> Result<Vec<MasterNode>, NoMemory>
     requires { config.now ≡ opening_config (shape_of header.now) }
     ensures states { IfOk result (λ nodes. states nodes.items
         ≡ map (opening_master (shape_of header.now)) (numbers_from 1 header.now.parts)) }

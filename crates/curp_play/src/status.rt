@@ -118,7 +118,10 @@ impl fmt::Display for Status {
     fn fmt<W: fmt::Write>(&self, f: &mut fmt::Formatter<W>) -> fmt::Result {
         match self {
             Status::Ok => write!(f, "done"),
-            Status::Usage => write!(f, "usage: curp play, curp make [options], curp live [options]"),
+            Status::Usage => write!(
+                f,
+                "usage: curp play, curp make [options], curp live [options]"
+            ),
             Status::BadLine { line, reason } => write!(f, "line {line}: {reason}"),
             Status::ReadFault => write!(f, "reading failed"),
             Status::WriteFault => write!(f, "writing failed"),

@@ -50,14 +50,7 @@ fn run_words(
     }
     let mut source = StdSource::new(rt.reader());
     let mut sink = StdSink::new(io::writer(rt));
-    let status = run(
-        rt,
-        rt.alloc(),
-        &words,
-        &mut source,
-        &mut sink,
-        &OpenGate,
-    );
+    let status = run(rt, rt.alloc(), &words, &mut source, &mut sink, &OpenGate);
     if status == Status::Usage {
         tell_blame(rt, &words);
     }

@@ -1,7 +1,7 @@
 // What no clause says: that there is an answer where there is memory.
 use crate::run;
-use curp_io::{MemorySink, MemorySource};
 use curp_cmd::NodeId;
+use curp_io::{MemorySink, MemorySource};
 use curp_play::Status;
 use curp_seat::{Gate, OpenGate, Point};
 use std::str;

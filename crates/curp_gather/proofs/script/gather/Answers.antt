@@ -21,8 +21,8 @@ returns-clause-script c =
     let same : c.deref.result.now ≡ journals_of c.args.journals.now = c.deref.ensures.value ∙ c.in_ok-lines.ensures.lines in
     both_ok c.merge.result _ _ _
     (λ steps merged light.
-        scripted c.args._header.now c.args.journals.now c.requires legal_runs c.in_ok-lines.ensures.replayed steps.items
-        (subst (λ (ls : List Journal). weight_sent ls ≤ weight_limit) same light) (subst (λ (ls : List Journal). Merged ls steps.items) same merged))
+    scripted c.args._header.now c.args.journals.now c.requires legal_runs c.in_ok-lines.ensures.replayed steps.items
+    (subst (λ (ls : List Journal). weight_sent ls ≤ weight_limit) same light) (subst (λ (ls : List Journal). Merged ls steps.items) same merged))
     c.merge.ensures.merged c.merge.ensures.light
 
 pub returns-clause-few : goal.returns-clause-few
