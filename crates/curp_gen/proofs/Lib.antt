@@ -4,3 +4,4 @@ pub mod Headers
 pub mod Made
 pub mod Masters
 pub mod Named
+pub mod Workloads
