@@ -62,13 +62,13 @@ impl Nodes {
         ensures { IfOk result (λ nodes. nodes ≡ nodes_of (world.opening header.now)) }
     {
         let keepers = header.parts * header.f;
-        let manager = curp_opening::manager(alloc, header)?;
-        let config = manager.config();
+        let managing = curp_opening::manager(alloc, header)?;
+        let config = managing.config();
         let clients = curp_opening::clients(alloc, header, config)?;
         let masters = curp_opening::masters(alloc, header, config)?;
         Ok(Nodes {
             alloc,
-            manager,
+            manager: managing,
             clients,
             masters,
             backups: curp_opening::backups(alloc, keepers)?,
