@@ -1,3 +1,6 @@
 pub mod Ends
 pub mod Pieces
+pub mod Printing
+pub mod Runs
+pub mod Shown
 pub mod Steps

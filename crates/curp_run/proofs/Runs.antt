@@ -1,0 +1,58 @@
+-- What a run on threads shows, and what is written of it.
+use Rattle.std.proofs.Common.{◌≡◌, ◌++◌, ℕ, List, Some, Global, Vec, length, map, ap, sym, ◌∙◌, subst}
+use Rattle.std.proofs.lemmas.List.{length-map}
+use Rattle.curp_cmd.specs.declared.command.Command.{Command}
+use Rattle.curp_msg.specs.declared.script.Header.{Header}
+use Rattle.curp_msg.specs.declared.script.Step.{Step}
+use Rattle.curp_model.specs.World.{world}
+use Rattle.curp_script.specs.Script.{Script}
+use Rattle.curp_words.specs.Plan.{IsLivePlan}
+use Rattle.curp_words.specs.declared.order.LivePlan.{LivePlan}
+use Rattle.curp_gather.specs.Journals.{IsScriptOf, journals_of}
+use Rattle.curp_gather.specs.declared.journals.Journals.{Journals}
+use Rattle.curp_gen.specs.Commands.{workload_of}
+use Rattle.curp_live.specs.Live.{IsLiveRun, live_header}
+use Rattle.curp_script.specs.Texts.{script_lines}
+use Rattle.curp_opening.proofs.Numbers.{named_length}
+use Rattle.curp_play.specs.Play.{HasAnOrder, LeadsToAnOrder, OrderStands, script_in}
+use Rattle.curp_run.specs.Live.{IsLive, IsLiveText, Shows, played, whole_script, work_of}
+use Rattle.curp_run.proofs.Shown.{shown}
+
+-- vectors as lists
+abbrev pub lists_of : List (Vec Command Global) → List (List Command)
+lists_of work = map (λ (list : Vec Command Global). list.items) work
+
+-- there is a list for each client
+pub work_length : (plan : LivePlan) (work : List (Vec Command Global)) → lists_of work ≡ work_of plan → length work ≡ plan.clients
+work_length plan work is =
+    sym (length-map work (λ (list : Vec Command Global). list.items))
+    ∙ (ap length is ∙ named_length (λ (n : ℕ). workload_of plan.number n plan.commands) plan.clients)
+
+-- the script of a run shows the work
+pub shows : (plan : LivePlan) (journals : Journals) (steps : List Step) → IsLivePlan plan → IsLiveRun plan (work_of plan) journals
+    → IsScriptOf (live_header plan) (journals_of journals) steps → Shows plan steps
+shows plan journals steps fits run script = shown plan journals steps run script
+
+-- as the program has it: the work as vectors, and a header that is the plan's
+pub run_shows : (plan : LivePlan) (h : Header) (work : List (Vec Command Global)) (journals : Journals) (steps : List Step) → IsLivePlan plan
+    → h ≡ live_header plan → lists_of work ≡ work_of plan → IsLiveRun plan (lists_of work) journals → IsScriptOf h (journals_of journals) steps
+    → Shows plan steps
+run_shows plan h work journals steps fits header same run script =
+    shows plan journals steps fits (subst (λ (w : List (List Command)). IsLiveRun plan w journals) same run)
+    (subst (λ (x : Header). IsScriptOf x (journals_of journals) steps) header script)
+
+-- what is read back is played to an order
+order_stands : (plan : LivePlan) (steps : List Step) (s : Script) → s ≡ whole_script plan steps → HasAnOrder s → OrderStands (world (live_header plan) steps)
+order_stands plan steps s reads order = subst HasAnOrder reads order
+
+-- a text that shows the work was written, and what playing it writes
+pub is_live : (plan : LivePlan) (text old new : List ℕ) → IsLiveText plan text → HasAnOrder (script_in text) → new ≡ old ++ played text → IsLive plan old new
+is_live plan text old new live order wrote = record {
+  steps = live.steps;
+  text = wrote ∙ ap (λ (t : List ℕ). old ++ played t) live.printed;
+  reads = subst (λ (t : List ℕ). script_in t ≡ whole_script plan live.steps) live.printed live.reads;
+  order = order_stands plan live.steps (script_in text) live.reads order;
+  invoked = live.shows.invoked;
+  completed = live.shows.completed;
+  recovered = live.shows.recovered;
+}

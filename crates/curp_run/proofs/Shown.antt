@@ -1,0 +1,81 @@
+-- A run of journals shows the work that was done.
+use Rattle.std.proofs.Common.{◌≡◌, ◌↔◌, ℕ, zero, suc, ◌+◌, ◌<◌, ◌≤◌, List, [], ◌∷◌, ◌++◌, length, map, Some, refl, ap, sym, ◌∙◌, subst, arith}
+use Rattle.std.proofs.lemmas.List.{length-map}
+use Rattle.curp_base.specs.Words.{At, Each, numbers_from}
+use Rattle.curp_base.proofs.Lists.{Each-at, Each-weaker, at_append, at_map, at_some}
+use Rattle.curp_base.proofs.Numbered.{numbers_at}
+use Rattle.curp_cmd.specs.Node.{client_node}
+use Rattle.curp_cmd.specs.declared.command.Command.{Command}
+use Rattle.curp_msg.specs.Moved.{Node}
+use Rattle.curp_msg.specs.declared.script.Step.{Step}
+use Rattle.curp_msg.specs.declared.script.Step.TheVariants.{Collect, Deliver, Expire, Fetch, Invoke, Migrate, Nudge, Recover, Replace, Retry, Stop, Sync}
+use Rattle.curp_journal.specs.Journal.{Log}
+use Rattle.curp_model.specs.Client.{ClientState}
+use Rattle.curp_script.specs.Printed.{NamesNode}
+use Rattle.curp_turns.specs.Turns.{Journal}
+use Rattle.curp_turns.specs.Work.{DidWork, invocations, recoveries}
+use Rattle.curp_law_weave.specs.Run.{IsCompletedBy, IsNoStop}
+use Rattle.curp_law_weave.proofs.Shown.{completed_are, invocations_are, none_stopped, recoveries_are}
+use Rattle.curp_gather.specs.Journals.{IsClientJournal, IsScriptOf, journal_of, journals_of}
+use Rattle.curp_gather.specs.declared.journals.Journals.{Journals}
+use Rattle.curp_gen.specs.Commands.{workload_of}
+use Rattle.curp_gen.proofs.Workloads.{length-workload}
+use Rattle.curp_live.specs.Live.{IsLiveRun, live_header}
+use Rattle.curp_opening.proofs.Numbers.{named_length}
+use Rattle.curp_words.specs.declared.order.LivePlan.{LivePlan}
+use Rattle.curp_run.specs.Live.{Shows, work_of}
+
+-- a step that stops no node names none
+can_be_printed : (s : Step) → IsNoStop s → NamesNode s
+can_be_printed (Stop id) no_stop = absurd no_stop
+can_be_printed (Invoke client command) no_stop = tt
+can_be_printed (Deliver number) no_stop = tt
+can_be_printed (Retry client seq) no_stop = tt
+can_be_printed (Fetch client) no_stop = tt
+can_be_printed (Sync master) no_stop = tt
+can_be_printed (Collect master) no_stop = tt
+can_be_printed (Recover part backup witness) no_stop = tt
+can_be_printed (Replace keeper part place) no_stop = tt
+can_be_printed (Migrate lo hi to) no_stop = tt
+can_be_printed Nudge no_stop = tt
+can_be_printed (Expire client) no_stop = tt
+
+module _ (plan : LivePlan) (j : Journals) (ss : List Step) (run : IsLiveRun plan (work_of plan) j) (script : IsScriptOf (live_header plan) (journals_of j) ss) where
+  -- a client's journal, and what it did
+  record Worked (n : ℕ) : Type 0 where
+    k : ℕ
+    log : Log (Node ClientState)
+    stands : At (journals_of j) k (journal_of log)
+    its_name : log.id ≡ client_node n
+    did : DidWork n (workload_of plan.number n plan.commands) log.items
+
+  worked : (n : ℕ) → 1 ≤ n → n ≤ plan.clients → Worked n
+  worked zero low high = absurd (omega arith)
+  worked (suc k) low high =
+      let e : suc k ≡ k + 1 = omega arith in
+      let one : 1 + k ≡ suc k = omega arith in
+      let many : length j.clients.items ≡ plan.clients = run.did.count ∙ named_length (λ (n : ℕ). workload_of plan.number n plan.commands) plan.clients in
+      let found = at_some j.clients.items k (omega (arith, many)) in
+      let commands = at_map (λ (n : ℕ). workload_of plan.number n plan.commands) (numbers_from 1 plan.clients) k (1 + k) (numbers_at 1 plan.clients k (omega arith)) in
+      let did = run.did.each k found.0 (workload_of plan.number (1 + k) plan.commands) found.1 commands in
+      let is = Each-at (IsClientJournal (live_header plan)) j.clients.items run.are.clients k found.0 found.1 in
+      record {
+        k = suc k;
+        log = found.0;
+        stands = at_append (map journal_of j.clients.items) _ k (journal_of found.0) (at_map journal_of j.clients.items k found.0 found.1);
+        its_name = is.its_name ∙ ap client_node (did.0 ∙ sym e);
+        did = subst (λ (n : ℕ). DidWork n (workload_of plan.number n plan.commands) (found.0).items) (sym e) (subst (λ (n : ℕ). DidWork (k + 1) (workload_of plan.number n plan.commands) (found.0).items) (one ∙ e) did.1);
+      }
+
+  pub shown : Shows plan ss
+  shown = record {
+    invoked = λ n low high.
+        let w = worked n low high in
+        invocations_are (journals_of j) (live_header plan) ss script.placed script.run w.k n (journal_of w.log) w.stands w.its_name ∙ w.did.invoked;
+    completed = λ n seq low high first last.
+        let w = worked n low high in
+        let many : length (workload_of plan.number n plan.commands) ≡ plan.commands = length-workload plan.number n plan.commands in
+        completed_are (journals_of j) (live_header plan) ss script.placed script.run w.k (journal_of w.log) (record { client = n; seq = seq }) w.stands (w.did.completed seq first (omega (arith, many, last)));
+    recovered = recoveries_are (journals_of j) (live_header plan) ss script.placed script.run 0 (journal_of j.manager) refl run.are.manager.its_name ∙ run.recoveries;
+    none_stop = Each-weaker IsNoStop NamesNode can_be_printed ss (none_stopped (journals_of j) (live_header plan) ss script.placed script.run run.none_ended);
+  }

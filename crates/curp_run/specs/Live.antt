@@ -1,0 +1,55 @@
+-- What `live` writes, and what the script in it shows of the work.
+use Rattle.std.specs.Prelude.{◌≡◌, ◌≤◌, ℕ, List, [], ◌∷◌, ◌++◌, map, Some}
+use Rattle.curp_base.specs.Words.{Each, numbers_from}
+use Rattle.curp_cmd.specs.declared.command.Command.{Command}
+use Rattle.curp_msg.specs.declared.script.Step.{Step}
+use Rattle.curp_script.specs.Printed.{NamesNode}
+use Rattle.curp_script.specs.Script.{Script, Whole}
+use Rattle.curp_script.specs.Texts.{script_lines}
+use Rattle.curp_model.specs.World.{world}
+use Rattle.curp_turns.specs.Work.{invocations, recoveries}
+use Rattle.curp_law_weave.specs.Run.{IsCompletedBy}
+use Rattle.curp_words.specs.declared.order.LivePlan.{LivePlan}
+use Rattle.curp_live.specs.Live.{live_header}
+use Rattle.curp_gen.specs.Commands.{workload_of}
+use Rattle.curp_play.specs.Play.{OrderStands, script_in, text_of}
+
+-- the work of each client, that of client 1 first
+abbrev pub work_of : LivePlan → List (List Command)
+work_of plan = map (λ n. workload_of plan.number n plan.commands) (numbers_from 1 plan.clients)
+
+-- In the steps each client invokes its workload in order, and each of these requests completes. As many recoveries are
+-- ordered as the plan asks, and each step can be printed
+pub record Shows (plan : LivePlan) (steps : List Step) : Type 0 where
+  pub invoked : (n : ℕ) → 1 ≤ n → n ≤ plan.clients → invocations n steps ≡ workload_of plan.number n plan.commands
+  pub completed : (n seq : ℕ) → 1 ≤ n → n ≤ plan.clients → 1 ≤ seq → seq ≤ plan.commands
+      → IsCompletedBy (live_header plan) steps (record { client = n; seq = seq })
+  pub recovered : recoveries steps ≡ plan.recoveries
+  pub none_stop : Each NamesNode steps
+
+-- the script of these steps, read to its end
+abbrev pub whole_script : LivePlan → List Step → Script
+whole_script plan steps = record { header = Some (live_header plan); body = record { steps = steps; ending = Whole } }
+
+-- a text is that of a script that shows the work, and it is read back whole
+pub record IsLiveText (plan : LivePlan) (text : List ℕ) : Type 0 where
+  pub steps : List Step
+  pub printed : text ≡ script_lines (live_header plan) steps
+  pub reads : script_in text ≡ whole_script plan steps
+  pub shows : Shows plan steps
+
+-- a text, an empty line, and what playing the text writes
+abbrev pub played : List ℕ → List ℕ
+played text = text ++ (10 ∷ [] ++ text_of (script_in text))
+
+-- What was written is a script, an empty line, and the script's text. In the script each client invokes its workload in
+-- order, and each of these requests completes
+pub record IsLive (plan : LivePlan) (old new : List ℕ) : Type 0 where
+  pub steps : List Step
+  pub text : new ≡ old ++ played (script_lines (live_header plan) steps)
+  pub reads : script_in (script_lines (live_header plan) steps) ≡ whole_script plan steps
+  pub order : OrderStands (world (live_header plan) steps)
+  pub invoked : (n : ℕ) → 1 ≤ n → n ≤ plan.clients → invocations n steps ≡ workload_of plan.number n plan.commands
+  pub completed : (n seq : ℕ) → 1 ≤ n → n ≤ plan.clients → 1 ≤ seq → seq ≤ plan.commands
+      → IsCompletedBy (live_header plan) steps (record { client = n; seq = seq })
+  pub recovered : recoveries steps ≡ plan.recoveries

@@ -1,0 +1,115 @@
+ghost use Rattle.std.specs.Prelude.{◌≡◌, ◌≢◌, ◌++◌, ◌∷◌, [], true, Err, OnOk, IfOk, IfErr};
+ghost use Rattle.curp_io.specs.Streams.{Rose, SameCount};
+ghost use Rattle.curp_play.specs.Play.{HasAnOrder, script_in, text_of};
+ghost use Rattle.curp_play.specs.Reading.{IsOfWriting};
+ghost use Rattle.curp_run.specs.Live.{IsLive, IsLiveText, played};
+ghost use Rattle.curp_run.specs.Run.{EndsMade, IsOfMaking};
+ghost use Rattle.curp_script.specs.Script.{Whole};
+ghost use Rattle.curp_words.specs.Plan.{IsLivePlan};
+
+mod lines;
+mod steps;
+
+use crate::live::lines::script_text;
+use crate::live::steps::{header_of, steps_of_run};
+use curp_base::NoMemory;
+use curp_io::{Sink, SureSource};
+use curp_law_print::printed_scripts_are_read;
+use curp_play::{Status, close, play_script, write};
+use curp_seat::Gate;
+use curp_words::LivePlan;
+use std::alloc::Global;
+use std::sync::Wait;
+use std::thread::Threads;
+
+/// Runs the nodes of a plan on threads until each client has done its work, and writes the script of what they did, an
+/// empty line, and what `play_script` writes for that script. The gate hears of each step of a node before it is made.
+/// Nothing says that it returns: a run whose journals are no script is made anew.
+pub fn live_script<R: Threads + Wait + Sync, G: Gate + Sync, K: Sink>(
+    rt: &R,
+    alloc: Global,
+    plan: &LivePlan,
+    gate: &G,
+    sink: &mut K,
+) -> Status
+    requires { IsLivePlan plan.now }
+    // What it writes is the script of a run in which the work was done, and its text; that is passed on.
+    ensures wrote { K.tells sink.old ≡ true → result ≡ Status.Ok
+        → IsLive plan.now (K.held sink.old) (K.held sink.new) }
+    ensures flushed { result ≡ Status.Ok → K.flushed sink.new ≡ true }
+
+    // A write fault comes exactly where the count of faults rose; want of memory is the one other failure.
+    ensures of_making { IsOfMaking result }
+    ensures complete { EndsMade result (K.faults sink.old) (K.faults sink.new) }
+    ensures write_fault { result ≡ Status.WriteFault → Rose (K.faults sink.old) (K.faults sink.new) }
+    ensures no_write_fault { result ≢ Status.WriteFault → SameCount (K.faults sink.old) (K.faults sink.new) }
+{
+    match live_text(rt, alloc, plan, gate) {
+        Ok(text) => write_played(alloc, &text, sink),
+        Err(_) => close(sink, Err(Status::NoMemory)),
+    }
+}
+
+// The script of a run, as text.
+fn live_text<R: Threads + Wait + Sync, G: Gate + Sync>(
+    rt: &R,
+    alloc: Global,
+    plan: &LivePlan,
+    gate: &G,
+) -> Result<Vec<u8>, NoMemory>
+    requires { IsLivePlan plan.now }
+    ensures { IfOk result (λ text. IsLiveText plan.now text.items) }
+{
+    printed_scripts_are_read();
+    let steps = steps_of_run(rt, alloc, plan, gate)?;
+    script_text(alloc, &header_of(plan), &steps)
+}
+
+// Writes a script, an empty line, and what playing the script writes.
+fn write_played<K: Sink>(alloc: Global, text: &[u8], sink: &mut K) -> Status
+    requires { (script_in text.now).body.ending ≡ Whole }
+    ensures wrote { K.tells sink.old ≡ true → result ≡ Status.Ok
+        → K.held sink.new ≡ K.held sink.old ++ played text.now }
+    ensures order { result ≡ Status.Ok → HasAnOrder (script_in text.now) }
+    ensures flushed { result ≡ Status.Ok → K.flushed sink.new ≡ true }
+    ensures of_making { IsOfMaking result }
+    ensures complete { EndsMade result (K.faults sink.old) (K.faults sink.new) }
+    ensures write_fault { result ≡ Status.WriteFault → Rose (K.faults sink.old) (K.faults sink.new) }
+    ensures no_write_fault { result ≢ Status.WriteFault → SameCount (K.faults sink.old) (K.faults sink.new) }
+{
+    match write_script(text, sink) {
+        Ok(()) => play_text(alloc, text, sink),
+        Err(stop) => close(sink, Err(stop)),
+    }
+}
+
+// Writes a script, and an empty line.
+fn write_script<K: Sink>(text: &[u8], sink: &mut K) -> Result<(), Status>
+    ensures wrote { K.tells sink.old ≡ true
+        → OnOk result (K.held sink.new ≡ K.held sink.old ++ (text.now ++ 10 ∷ [])) }
+    ensures writing { IfErr result IsOfWriting }
+    ensures tells { K.tells sink.old ≡ true → K.tells sink.new ≡ true }
+    ensures fault { result ≡ Err Status.WriteFault → Rose (K.faults sink.old) (K.faults sink.new) }
+    ensures no_fault { result ≢ Err Status.WriteFault → SameCount (K.faults sink.old) (K.faults sink.new) }
+{
+    write(sink, text)?;
+    write(sink, b"\n")
+}
+
+// Plays a script that is read to its end. Nothing that is read can fail.
+fn play_text<K: Sink>(alloc: Global, text: &[u8], sink: &mut K) -> Status
+    requires { (script_in text.now).body.ending ≡ Whole }
+    ensures wrote { K.tells sink.old ≡ true → result ≡ Status.Ok
+        → K.held sink.new ≡ K.held sink.old ++ text_of (script_in text.now) }
+    ensures order { result ≡ Status.Ok → HasAnOrder (script_in text.now) }
+    ensures flushed { result ≡ Status.Ok → K.flushed sink.new ≡ true }
+    ensures of_making { IsOfMaking result }
+    ensures complete { EndsMade result (K.faults sink.old) (K.faults sink.new) }
+    ensures write_fault { result ≡ Status.WriteFault → Rose (K.faults sink.old) (K.faults sink.new) }
+    ensures no_write_fault { result ≢ Status.WriteFault → SameCount (K.faults sink.old) (K.faults sink.new) }
+{
+    match SureSource::new(alloc, text) {
+        Ok(mut source) => play_script(alloc, &mut source, sink),
+        Err(_) => close(sink, Err(Status::NoMemory)),
+    }
+}

@@ -1,0 +1,75 @@
+// The steps of a run on threads.
+ghost use Rattle.std.specs.Prelude.{◌≡◌, ◌≤◌, length, map, IfOk};
+ghost use Rattle.curp_live.specs.Live.{live_header};
+ghost use Rattle.curp_run.specs.Live.{Shows, work_of};
+ghost use Rattle.curp_script.specs.Headers.{InRange};
+ghost use Rattle.curp_script.specs.Script.{step_limit};
+ghost use Rattle.curp_words.specs.Plan.{IsLivePlan};
+
+use curp_base::NoMemory;
+use curp_cmd::Command;
+use curp_gather::{GatherError, gather};
+use curp_gen::workload;
+use curp_live::live;
+use curp_msg::{Header, Protocol, Step};
+use curp_seat::Gate;
+use curp_words::LivePlan;
+use std::alloc::{AllocError, Global};
+use std::sync::Wait;
+use std::thread::Threads;
+
+/// The steps of a run on threads in which the clients of a plan do their work. A run whose journals are no script, or
+/// one that is too long or too heavy, is made anew.
+pub(crate) fn steps_of_run<R: Threads + Wait + Sync, G: Gate + Sync>(
+    rt: &R,
+    alloc: Global,
+    plan: &LivePlan,
+    gate: &G,
+) -> Result<Vec<Step>, NoMemory>
+    requires { IsLivePlan plan.now }
+    ensures shows { IfOk result (λ steps. Shows plan.now steps.items) }
+    ensures few { IfOk result (λ steps. length steps.items ≤ step_limit) }
+{
+    let header = header_of(plan);
+    let work = work_of(alloc, plan)?;
+    for _ in rt.forever() {
+        let journals = live(rt, alloc, plan, &work, gate)?;
+        match gather(alloc, &header, &journals) {
+            Ok(steps) => return Ok(steps),
+            Err(GatherError::NoMemory) => return Err(AllocError),
+            Err(_) => {}
+        }
+    }
+    unreachable!()
+}
+
+/// The header of a plan: clients are fast.
+pub(crate) fn header_of(plan: &LivePlan) -> Header
+    requires { IsLivePlan plan.now }
+    ensures header { result ≡ live_header plan.now }
+    ensures in_range { InRange result }
+{
+    Header {
+        clients: plan.clients,
+        f: plan.f,
+        fast: true,
+        parts: plan.parts,
+        protocol: Protocol::One,
+        sets: plan.sets,
+        ways: plan.ways,
+    }
+}
+
+// The work of each client, that of client 1 first.
+fn work_of(alloc: Global, plan: &LivePlan) -> Result<Vec<Vec<Command>>, NoMemory>
+    requires { IsLivePlan plan.now }
+    ensures work { IfOk result (λ work. map (λ list. list.items) work.items ≡ work_of plan.now) }
+    ensures count { IfOk result (λ work. length work.items ≡ plan.now.clients) }
+{
+    let mut work = Vec::new(alloc);
+    for before in 0..plan.clients {
+        work.reserve(1)?;
+        work.push_reserved(workload(alloc, plan.number, before + 1, plan.commands)?);
+    }
+    Ok(work)
+}
