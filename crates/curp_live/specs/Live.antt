@@ -31,6 +31,12 @@ pub record DidAll (work : List (List Command)) (clients : List (Log (Node Client
   pub each : (k : ℕ) (log : Log (Node ClientState)) (commands : List Command) → At clients k log → At work k commands
       → (log.opening.number ≡ k + 1) × DidWork (k + 1) commands log.items
 
+-- the same, where the clients are taken to have the numbers from 1 on
+pub record DidInOrder (work : List (List Command)) (clients : List (Log (Node ClientState))) : Type 0 where
+  pub count : length clients ≡ length work
+  pub each : (k : ℕ) (log : Log (Node ClientState)) (commands : List Command) → At clients k log → At work k commands
+      → DidWork (k + 1) commands log.items
+
 -- the journals are of the header's nodes, all work was done, as many recoveries were ordered as the plan asks, and no node stopped
 pub record IsLiveRun (plan : LivePlan) (work : List (List Command)) (journals : Journals) : Type 0 where
   pub are : AreOf (live_header plan) journals

@@ -1,6 +1,19 @@
 //! A world's nodes on threads, each behind a lock, and the clients' work done by them.
 #![tactic(auto)]
 
+mod anew;
+mod board;
+mod checked;
+mod floor;
+mod job;
+mod master;
+mod nodes;
+mod once;
+mod own;
 mod run;
+mod seats;
+#[cfg(test)]
+mod tests;
+mod work;
 
 pub use run::live;

@@ -2,12 +2,14 @@ ghost use Rattle.std.specs.Prelude.{◌≡◌, length, map, IfOk};
 ghost use Rattle.curp_live.specs.Live.{IsLiveRun};
 ghost use Rattle.curp_words.specs.Plan.{IsLivePlan};
 
+use crate::checked::{checked, header_of};
+use crate::once::once;
 use curp_base::NoMemory;
 use curp_cmd::Command;
 use curp_gather::Journals;
 use curp_seat::Gate;
 use curp_words::LivePlan;
-use std::alloc::{AllocError, Global};
+use std::alloc::Global;
 use std::sync::Wait;
 use std::thread::Threads;
 
@@ -23,5 +25,12 @@ pub fn live<R: Threads + Wait + Sync, G: Gate + Sync>(
     requires work { length work.now ≡ plan.now.clients }
     ensures { IfOk result (IsLiveRun plan.now (map (λ list. list.items) work.now)) }
 {
-    Err(AllocError)
+    let header = header_of(plan);
+    for _ in rt.forever() {
+        let taken = once(rt, alloc, &header, work, gate)?;
+        if let Some(journals) = checked(alloc, plan, work, &taken)? {
+            return Ok(journals);
+        }
+    }
+    unreachable!()
 }

@@ -1,0 +1,4 @@
+mod Begun
+mod Counts
+mod Runs
+mod Scans

@@ -1,0 +1,58 @@
+-- The nodes that a run begins with, and the journals of such nodes (this project's own).
+use Rattle.std.specs.Prelude.{◌≡◌, ◌*◌, ◌+◌, ℕ, false, List, length, map, replicate}
+use Rattle.curp_base.specs.Words.{At, numbers_from}
+use Rattle.curp_cmd.specs.Node.{manager_node}
+use Rattle.curp_cmd.specs.declared.node.NodeId.{NodeId}
+use Rattle.curp_cmd.specs.declared.node.NodeKind.{NodeKind}
+use Rattle.curp_cmd.specs.declared.node.NodeKind.TheVariants as kind
+use Rattle.curp_msg.specs.declared.script.Header.{Header}
+use Rattle.curp_journal.specs.Journal.{Log}
+use Rattle.curp_journal.specs.declared.item.Item.{Item}
+use Rattle.curp_model.specs.Backup.{installed_backup}
+use Rattle.curp_model.specs.Client.{fresh_client}
+use Rattle.curp_model.specs.Manager.{opening_config, opening_manager}
+use Rattle.curp_model.specs.Witness.{started_witness}
+use Rattle.curp_model.specs.World.{opening_master, shape_of}
+use Rattle.curp_merge.specs.Merging.{IsOwn}
+use Rattle.curp_opening.specs.Nodes.{HasNumbers, states}
+use Rattle.curp_gather.specs.declared.journals.Journals.{Journals}
+use Rattle.curp_live.specs.declared.nodes.Nodes.{Nodes}
+
+-- the nodes of a header's world before any step
+pub record IsOpening (h : Header) (nodes : Nodes) : Type 0 where
+  pub manager : nodes.manager ≡ opening_manager (shape_of h)
+  pub clients : states nodes.clients.items ≡ replicate h.clients (fresh_client h.fast (opening_config (shape_of h)))
+  pub masters : states nodes.masters.items ≡ map (opening_master (shape_of h)) (numbers_from 1 h.parts)
+  pub backups : states nodes.backups.items ≡ replicate (h.parts * h.f) (installed_backup 1)
+  pub witnesses : states nodes.witnesses.items ≡ replicate (h.parts * h.f) (started_witness h.sets h.ways 1)
+  pub client_numbers : HasNumbers nodes.clients.items
+  pub master_numbers : HasNumbers nodes.masters.items
+  pub backup_numbers : HasNumbers nodes.backups.items
+  pub witness_numbers : HasNumbers nodes.witnesses.items
+
+-- what came to the node is its own
+abbrev pub AllOwn : NodeId → List Item → Type 0
+AllOwn node items = (t : ℕ) (item : Item) → At items t item → IsOwn node item.input
+
+-- the journal of that node, begun in that state: the node didn't stop, and what came to it is its own
+pub record IsAnew {N : Type 0} (id : NodeId) (node : N) (log : Log N) : Type 0 where
+  pub its_name : log.id ≡ id
+  pub begins : log.opening ≡ node
+  pub runs : log.ended ≡ false
+  pub own : AllOwn id log.items
+
+-- the journals of nodes of a kind, in the order of their numbers, from 1
+pub record AreAnew {N : Type 0} (kind : NodeKind) (nodes : List N) (logs : List (Log N)) : Type 0 where
+  pub count : length logs ≡ length nodes
+  pub each : (k : ℕ) (node : N) (log : Log N) → At nodes k node → At logs k log
+      → IsAnew (record { kind = kind; number = k + 1 }) node log
+
+-- the journals of all nodes of a header's world, begun before any step
+pub record AreAllAnew (h : Header) (journals : Journals) : Type 0 where
+  pub nodes : Nodes
+  pub opening : IsOpening h nodes
+  pub manager : IsAnew manager_node nodes.manager journals.manager
+  pub clients : AreAnew kind.Client nodes.clients.items journals.clients.items
+  pub masters : AreAnew kind.Master nodes.masters.items journals.masters.items
+  pub backups : AreAnew kind.Backup nodes.backups.items journals.backups.items
+  pub witnesses : AreAnew kind.Witness nodes.witnesses.items journals.witnesses.items

@@ -1,0 +1,56 @@
+ghost use Rattle.std.specs.Prelude.{◌≡◌, ◌+◌, ◌<◌, ◌^◌, length, IfOk, IfSome};
+ghost use Rattle.curp_live.specs.Opening.{AreAnew, IsAnew};
+
+use crate::own::all_own;
+use curp_base::NoMemory;
+use curp_cmd::{NodeId, NodeKind};
+use curp_msg::Core;
+use curp_seat::{Kept, again};
+use std::alloc::Global;
+
+/// The same journals of nodes of a kind, begun with these nodes. None where one isn't that of a node.
+pub(crate) fn all_anew<N: Core + Drop>(
+    alloc: Global,
+    kind: NodeKind,
+    nodes: Vec<N>,
+    taken: &[Kept<N>],
+) -> Result<Option<Vec<Kept<N>>>, NoMemory>
+    requires { length nodes.items + 1 < 2 ^ 32 }
+    ensures { IfOk result (λ made. IfSome made (λ logs. AreAnew kind nodes.items logs.items)) }
+{
+    let mut logs = Vec::with_capacity(alloc, nodes.len())?;
+    for node in nodes {
+        let index = logs.len();
+        let Some(kept) = taken.get(index) else {
+            return Ok(None);
+        };
+        let number = index as u32 + 1;
+        let Some(log) = anew(alloc, NodeId { kind, number }, node, kept)? else {
+            return Ok(None);
+        };
+        logs.push(log)?;
+    }
+    Ok(Some(logs))
+}
+
+/// The same journal, begun with this node. None where it isn't that node's, or something came that isn't its own.
+pub(crate) fn anew<N: Core + Drop>(
+    alloc: Global,
+    id: NodeId,
+    node: N,
+    taken: &Kept<N>,
+) -> Result<Option<Kept<N>>, NoMemory>
+    ensures { IfOk result (λ made. IfSome made (λ log. IsAnew id node log)) }
+{
+    if taken.id() != id {
+        return Ok(None);
+    }
+    let Some(log) = again(alloc, taken, node)? else {
+        return Ok(None);
+    };
+    if all_own(id, log.journal()) {
+        Ok(Some(log))
+    } else {
+        Ok(None)
+    }
+}

@@ -1,0 +1,89 @@
+ghost use Rattle.std.specs.Prelude.{◌≡◌, length, map, IfOk, IfSome, IsTrue};
+ghost use Rattle.curp_facts.specs.Run.{IsHeader};
+ghost use Rattle.curp_live.specs.Live.{IsLiveRun, live_header};
+ghost use Rattle.curp_live.specs.Opening.{AreAllAnew};
+ghost use Rattle.curp_words.specs.Plan.{IsLivePlan};
+
+use crate::anew::{all_anew, anew};
+use crate::nodes::Nodes;
+use crate::work::{did_all, recovery_count};
+use curp_base::NoMemory;
+use curp_cmd::{Command, NodeId, NodeKind};
+use curp_gather::Journals;
+use curp_msg::{Header, Protocol};
+use curp_words::LivePlan;
+use std::alloc::Global;
+
+/// The header of a plan's run.
+pub(crate) fn header_of(plan: &LivePlan) -> Header
+    ensures { result ≡ live_header plan.now }
+{
+    Header {
+        clients: plan.clients,
+        f: plan.f,
+        fast: true,
+        parts: plan.parts,
+        protocol: Protocol::One,
+        sets: plan.sets,
+        ways: plan.ways,
+    }
+}
+
+/// The same journals of nodes as at opening. None where they differ from a run of the plan in which the work was done.
+pub(crate) fn checked(
+    alloc: Global,
+    plan: &LivePlan,
+    work: &[Vec<Command>],
+    taken: &Journals,
+) -> Result<Option<Journals>, NoMemory>
+    requires plan { IsLivePlan plan.now }
+    requires work { length work.now ≡ plan.now.clients }
+    ensures { IfOk result (λ checked. IfSome checked (IsLiveRun plan.now (map (λ list. list.items) work.now))) }
+{
+    let Some(journals) = all_as_at_opening(alloc, &header_of(plan), taken)? else {
+        return Ok(None);
+    };
+    if did_all(work, &journals.clients)
+        && recovery_count(journals.manager.journal()) == plan.recoveries as u64
+    {
+        Ok(Some(journals))
+    } else {
+        Ok(None)
+    }
+}
+
+/// The same journals of a header's nodes as at opening. None where one isn't such a node's.
+fn all_as_at_opening(
+    alloc: Global,
+    header: &Header,
+    taken: &Journals,
+) -> Result<Option<Journals>, NoMemory>
+    requires { IsHeader header.now }
+    ensures { IfOk result (λ made. IfSome made (λ journals. AreAllAnew header.now journals)) }
+{
+    let nodes = Nodes::opening(alloc, header)?;
+    let Some(manager) = anew(alloc, NodeId::manager(), nodes.manager, &taken.manager)? else {
+        return Ok(None);
+    };
+    let Some(clients) = all_anew(alloc, NodeKind::Client, nodes.clients, &taken.clients)? else {
+        return Ok(None);
+    };
+    let Some(masters) = all_anew(alloc, NodeKind::Master, nodes.masters, &taken.masters)? else {
+        return Ok(None);
+    };
+    let Some(backups) = all_anew(alloc, NodeKind::Backup, nodes.backups, &taken.backups)? else {
+        return Ok(None);
+    };
+    let Some(witnesses) =
+        all_anew(alloc, NodeKind::Witness, nodes.witnesses, &taken.witnesses)?
+    else {
+        return Ok(None);
+    };
+    Ok(Some(Journals {
+        manager,
+        clients,
+        masters,
+        backups,
+        witnesses,
+    }))
+}
