@@ -1,6 +1,9 @@
-ghost use Rattle.std.specs.Prelude.{◌≤◌, length, IfOk, IfErr};
+ghost use Rattle.std.specs.Prelude.{◌≡◌, ◌≤◌, length, IfOk, IfErr};
 ghost use Rattle.curp_gather.specs.Journals.{AreOf, IsScriptOf, journals_of};
 ghost use Rattle.curp_merge.specs.Causes.{IsCause};
+ghost use Rattle.curp_merge.specs.Held.{AllHeld};
+ghost use Rattle.curp_merge.specs.Merging.{turn_count, weight_sent};
+ghost use Rattle.curp_model.specs.World.{weight_limit};
 
 use crate::Journals;
 use crate::lines::lines_of;
@@ -9,7 +12,8 @@ use curp_msg::{Header, Step};
 use std::alloc::Global;
 
 /// The script that the journals of a header's nodes are. An error comes exactly by its cause, the first in the order of
-/// `GatherError`; want of memory comes before each.
+/// `GatherError`; want of memory comes before each. The header is there for the contract: how nodes begin by it is
+/// what the journals show.
 pub fn gather(
     alloc: Global,
     _header: &Header,
@@ -17,7 +21,10 @@ pub fn gather(
 ) -> Result<Vec<Step>, GatherError>
     requires { AreOf _header.now journals.now }
     ensures script { IfOk result (λ steps. IsScriptOf _header.now (journals_of journals.now) steps.items) }
+    ensures counted { IfOk result (λ steps. length steps.items ≡ turn_count (journals_of journals.now)) }
+    ensures held { IfOk result (λ steps. AllHeld (journals_of journals.now)) }
     ensures few { IfOk result (λ steps. length steps.items ≤ 200000) }
+    ensures light { IfOk result (λ steps. weight_sent (journals_of journals.now) ≤ weight_limit) }
     ensures cause { IfErr result (IsCause (journals_of journals.now)) }
 {
     let lines = lines_of(alloc, journals)?;

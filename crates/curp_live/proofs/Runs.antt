@@ -44,13 +44,12 @@ module _ (h : Header) (j : Journals) (are : AreAllAnew h j) where
       let clients = all_whole kind.Client are.nodes.clients.items j.clients.items are.clients in
       let masters = all_whole kind.Master are.nodes.masters.items j.masters.items are.masters in
       let backups = all_whole kind.Backup are.nodes.backups.items j.backups.items are.backups in
-      let witnesses = all_whole kind.Witness are.nodes.witnesses.items j.witnesses.items are.witnesses in
-      (
+      let witnesses = all_whole kind.Witness are.nodes.witnesses.items j.witnesses.items are.witnesses in (
         whole manager_node are.nodes.manager j.manager are.manager,
         Each-append IsWhole (map journal_of j.clients.items) _ (Each-map IsWhole journal_of j.clients.items clients)
-        (Each-append IsWhole (map journal_of j.masters.items) _ (Each-map IsWhole journal_of j.masters.items masters)
-        (Each-append IsWhole (map journal_of j.backups.items) _ (Each-map IsWhole journal_of j.backups.items backups)
-        (Each-map IsWhole journal_of j.witnesses.items witnesses))),
+            (Each-append IsWhole (map journal_of j.masters.items) _ (Each-map IsWhole journal_of j.masters.items masters)
+            (Each-append IsWhole (map journal_of j.backups.items) _ (Each-map IsWhole journal_of j.backups.items backups)
+            (Each-map IsWhole journal_of j.witnesses.items witnesses))),
       )
 
   pub none_ended : (k : ℕ) (one : Journal) → At (journals_of j) k one → one.ended ≡ false

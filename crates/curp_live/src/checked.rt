@@ -74,8 +74,7 @@ fn all_as_at_opening(
     let Some(backups) = all_anew(alloc, NodeKind::Backup, nodes.backups, &taken.backups)? else {
         return Ok(None);
     };
-    let Some(witnesses) =
-        all_anew(alloc, NodeKind::Witness, nodes.witnesses, &taken.witnesses)?
+    let Some(witnesses) = all_anew(alloc, NodeKind::Witness, nodes.witnesses, &taken.witnesses)?
     else {
         return Ok(None);
     };

@@ -45,7 +45,11 @@ fn run_all<'a, R: Threads + Wait + Sync, G: Gate + Sync>(
     gate: &G,
 ) -> Result<Vec<End>, NoMemory> {
     let jobs = jobs(alloc, &floor.seats, work)?;
-    thread::map_vec(rt, jobs, &|job: Job<'_>| -> End { floor.run(rt, gate, job) })
+    thread::map_vec(
+        rt,
+        jobs,
+        &|job: Job<'_>| -> End { floor.run(rt, gate, job) },
+    )
 }
 
 /// How many commands the lists have.

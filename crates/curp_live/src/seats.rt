@@ -89,10 +89,7 @@ fn seated<N: Core + Drop>(
     Ok(seats)
 }
 
-fn counting(
-    alloc: Global,
-    seats: Vec<Seat<MasterNode, End>>,
-) -> Result<Vec<MasterSeat>, NoMemory> {
+fn counting(alloc: Global, seats: Vec<Seat<MasterNode, End>>) -> Result<Vec<MasterSeat>, NoMemory> {
     let mut masters = Vec::with_capacity(alloc, seats.len())?;
     for seat in seats {
         masters.push(MasterSeat::new(seat))?;
@@ -122,10 +119,7 @@ fn stop_each<N: Core, R: Wait>(rt: &R, seats: &[Seat<N, End>], end: End) {
     }
 }
 
-fn kept<N: Core + Drop>(
-    alloc: Global,
-    seats: Vec<Seat<N, End>>,
-) -> Result<Vec<Kept<N>>, NoMemory> {
+fn kept<N: Core + Drop>(alloc: Global, seats: Vec<Seat<N, End>>) -> Result<Vec<Kept<N>>, NoMemory> {
     let mut journals = Vec::with_capacity(alloc, seats.len())?;
     for seat in seats {
         journals.push(seat.into_kept())?;

@@ -2,6 +2,7 @@ use Rattle.std.proofs.Common.{◌≡◌, ◌≤◌, ◌∙◌, IfErr, IfOk, List
 use Rattle.curp_model.specs.World.{weight_limit}
 use Rattle.curp_law_weave.proofs.Weaving.{legal_runs}
 use Rattle.curp_merge.specs.Causes.{IsCause}
+use Rattle.curp_merge.specs.Held.{AllHeld}
 use Rattle.curp_merge.specs.Merging.{Merged, turn_count, weight_sent}
 use Rattle.curp_turns.specs.Turns.{Journal}
 use Rattle.curp_gather.specs.Journals.{journals_of}
@@ -24,6 +25,21 @@ returns-clause-script c =
     scripted c.args._header.now c.args.journals.now c.requires legal_runs c.in_ok-lines.ensures.replayed steps.items
     (subst (λ (ls : List Journal). weight_sent ls ≤ weight_limit) same light) (subst (λ (ls : List Journal). Merged ls steps.items) same merged))
     c.merge.ensures.merged c.merge.ensures.light
+
+pub returns-clause-counted : goal.returns-clause-counted
+returns-clause-counted c =
+    let same : c.deref.result.now ≡ journals_of c.args.journals.now = c.deref.ensures.value ∙ c.in_ok-lines.ensures.lines in
+    subst (λ (ls : List Journal). IfOk c.merge.result (λ steps. length steps.items ≡ turn_count ls)) same c.merge.ensures.steps
+
+pub returns-clause-held : goal.returns-clause-held
+returns-clause-held c =
+    let same : c.deref.result.now ≡ journals_of c.args.journals.now = c.deref.ensures.value ∙ c.in_ok-lines.ensures.lines in
+    subst (λ (ls : List Journal). IfOk c.merge.result (λ steps. AllHeld ls)) same c.merge.ensures.held
+
+pub returns-clause-light : goal.returns-clause-light
+returns-clause-light c =
+    let same : c.deref.result.now ≡ journals_of c.args.journals.now = c.deref.ensures.value ∙ c.in_ok-lines.ensures.lines in
+    subst (λ (ls : List Journal). IfOk c.merge.result (λ steps. weight_sent ls ≤ weight_limit)) same c.merge.ensures.light
 
 pub returns-clause-few : goal.returns-clause-few
 returns-clause-few c = both_ok c.merge.result _ _ _ (λ steps count few. omega (arith, count, few)) c.merge.ensures.steps c.merge.ensures.few

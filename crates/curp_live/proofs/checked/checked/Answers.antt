@@ -20,5 +20,5 @@ returns-then-recovery_count-plan c =
     let are : AreAllAnew (live_header plan) journals = subst (λ (h : Header). AreAllAnew h journals) c.header_of.ensures anew in
     let did = subst (λ (clients : List (Log (Node ClientState))). DidInOrder work clients) c.deref.ensures.value (c.did_all.ensures c.if-did_all.true) in
     let counted : recoveries_in journals.manager.items ≡ plan.recoveries =
-        ap (λ (items : List Item). recoveries_in items) (sym c.journal.ensures.items) ∙ sym c.recovery_count.ensures ∙ c.if-recovery_count-plan.true in
+    ap (λ (items : List Item). recoveries_in items) (sym c.journal.ensures.items) ∙ sym c.recovery_count.ensures ∙ c.if-recovery_count-plan.true in
     live_run plan work journals c.requires.plan are did counted

@@ -20,9 +20,9 @@ loop-index-preserved c =
     let same : length clients ≡ length work = search rules in
     let at_list : At work index list = slice_get_read work (length work) index list refl (omega (arith, same, c.loop-index-test.true)) c.index-work-index.is in
     let did : DidWork (index + 1) list.items client.items =
-        subst (λ (items : List Item). DidWork (index + 1) list.items items) c.journal.ensures.items
-        (subst (λ (commands : List Command). DidWork (index + 1) commands c.journal.result.now) c.as_slice.ensures.value
-        (c.did_work.ensures c.if-not-did_work.false)) in
+    subst (λ (items : List Item). DidWork (index + 1) list.items items) c.journal.ensures.items
+    (subst (λ (commands : List Command). DidWork (index + 1) commands c.journal.result.now) c.as_slice.ensures.value
+    (c.did_work.ensures c.if-not-did_work.false)) in
     did_more (map (λ (list : Vec Command Global). list.items) work) clients index client list.items at_client
     (at_map (λ (list : Vec Command Global). list.items) work index list at_list) did c.loop-index.invariant
 
