@@ -15,7 +15,7 @@ invariant_of-result c =
     subst
     (λ (ahead : List (Node WitnessState)). AreNumbered c.managing.inside.manager.next c.in_ok-clients.clients.items c.in_ok-masters.masters.items
     c.in_ok-backups.field-0.items c.in_ok-witnesses.field-0.items ahead c.args.header.now.sets c.args.header.now.ways)
-    (sym c.new-2.ensures.items)
+    (sym c.new.ensures.items)
     (opening_numbered c.args.header.now c.managing.inside.manager c.in_ok-clients.clients.items c.in_ok-masters.masters.items
     c.in_ok-backups.field-0.items c.in_ok-witnesses.field-0.items of_manager
     c.in_ok-clients.ensures.numbers c.in_ok-masters.ensures.numbers c.in_ok-backups.ensures.numbers c.in_ok-witnesses.ensures.numbers
