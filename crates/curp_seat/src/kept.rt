@@ -6,13 +6,13 @@ ghost use Rattle.curp_journal.specs.Sending.{named_of};
 use crate::Sent;
 use crate::making::made;
 use crate::naming::named_of;
+use crate::opening::Opening;
 use curp_base::NoMemory;
 use curp_cmd::NodeId;
 use curp_journal::{Arrived, Item};
 use curp_msg::Core;
 use std::alloc::Global;
 use std::marker::Model;
-use std::snapshot::Snapshot;
 
 /// A node with its journal. Contracts see its name, the state that it began with, its items, and whether it has stopped
 /// for good. The journal, replayed from that state, gives the node and all that it did.
@@ -21,7 +21,7 @@ pub struct Kept<N: Core> {
     alloc: Global,
     node: N,
     id: NodeId,
-    opening: Snapshot<N>,
+    opening: Opening<N>,
     items: Vec<Item>,
     last: u64,
     ended: bool,
@@ -43,7 +43,7 @@ impl<N: Core> Kept<N> {
     pub fn begin(alloc: Global, node: N, id: NodeId) -> Kept<N>
         ensures { result ≡ record { id = id; opening = node; items = []; ended = false } }
     {
-        let opening = Snapshot::of(&node);
+        let opening = Opening::of(&node);
         Kept {
             alloc,
             node,

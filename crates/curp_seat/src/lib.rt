@@ -5,6 +5,7 @@ mod gate;
 mod kept;
 mod making;
 mod naming;
+mod opening;
 mod replay;
 mod seat;
 #[cfg(test)]
