@@ -3,8 +3,7 @@ mod pairs;
 mod rows;
 
 use curp_io::{MemorySink, MemorySource};
-use curp_run::run;
-use curp_seat::OpenGate;
+use curp_play::play_script;
 use rows::ROWS;
 use std::str;
 use std::test::Fail;
@@ -21,14 +20,7 @@ fn each_example_has_its_output(rt: HostRuntime) -> Result<(), Fail> {
         let (ends, out) = row.split_once('\n').ok_or("a row without an output")?;
         let mut source = MemorySource::new(rt.alloc(), script.as_bytes(), &[])?;
         let mut sink = MemorySink::new(rt.alloc(), &[])?;
-        let status = run(
-            &rt,
-            rt.alloc(),
-            &["play"],
-            &mut source,
-            &mut sink,
-            &OpenGate,
-        );
+        let status = play_script(rt.alloc(), &mut source, &mut sink);
         assert!(rt; sink.bytes() == out.as_bytes(), "the output of {name}");
         let code = status.code();
         let ended = match status.complaint() {
@@ -51,14 +43,7 @@ const LARGEST: &str =
 fn the_largest_world_recovers(rt: HostRuntime) -> Result<(), Fail> {
     let mut source = MemorySource::new(rt.alloc(), LARGEST.as_bytes(), &[])?;
     let mut sink = MemorySink::new(rt.alloc(), &[])?;
-    let status = run(
-        &rt,
-        rt.alloc(),
-        &["play"],
-        &mut source,
-        &mut sink,
-        &OpenGate,
-    );
+    let status = play_script(rt.alloc(), &mut source, &mut sink);
     assert_eq!(rt; status.code(), 0);
     let text = str::from_utf8(sink.bytes())?;
     assert_eq!(rt; text.lines().count(), 13);

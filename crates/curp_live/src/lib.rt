@@ -12,8 +12,6 @@ mod once;
 mod own;
 mod run;
 mod seats;
-#[cfg(test)]
-mod tests;
 mod work;
 
 pub use run::live;

@@ -1,31 +1,31 @@
 // What no clause says: that there is an answer where there is memory.
-use crate::run;
-use curp_cmd::NodeId;
+use crate::make_script;
 use curp_io::{MemorySink, MemorySource};
-use curp_play::Status;
-use curp_seat::{Gate, OpenGate, Point};
+use curp_play::{Status, play_script};
+use curp_words::{Order, read};
+use std::alloc::Global;
 use std::str;
-use std::sync::atomic::{AtomicU64, Ordering};
 use std::test::Fail;
 
-// What the program writes for words and an input, where it ends well.
-fn written(rt: &HostRuntime, words: &[&str], input: &[u8]) -> Result<MemorySink, Fail> {
-    through_gate(rt, words, input, &OpenGate)
+// What is written for a script that is played to its end.
+fn played(alloc: Global, script: &[u8]) -> Result<MemorySink, Fail> {
+    let mut source = MemorySource::new(alloc, script, &[])?;
+    let mut sink = MemorySink::new(alloc, &[])?;
+    match play_script(alloc, &mut source, &mut sink) {
+        Status::Ok => Ok(sink),
+        _ => Err("the script didn't end well".into()),
+    }
 }
 
-// The same, with a gate that is told of each step on a thread.
-fn through_gate<G: Gate + Sync>(
-    rt: &HostRuntime,
-    words: &[&str],
-    input: &[u8],
-    gate: &G,
-) -> Result<MemorySink, Fail> {
-    let mut source = MemorySource::new(rt.alloc(), input, &[])?;
-    let mut sink = MemorySink::new(rt.alloc(), &[])?;
-    let status = run(rt, rt.alloc(), words, &mut source, &mut sink, gate);
-    match status {
+// What `make` writes for its words.
+fn made(alloc: Global, words: &[&str]) -> Result<MemorySink, Fail> {
+    let mut sink = MemorySink::new(alloc, &[])?;
+    let Ok(Order::Make(plan, output)) = read(alloc, words) else {
+        return Err("the words don't ask for a script".into());
+    };
+    match make_script(alloc, &plan, output, &mut sink) {
         Status::Ok => Ok(sink),
-        _ => Err("the program didn't end well".into()),
+        _ => Err("the script wasn't made".into()),
     }
 }
 
@@ -37,7 +37,7 @@ fn count(text: &str, front: &str) -> usize {
 // The numbers are those of another program.
 #[test]
 fn the_default_script_in_numbers(rt: HostRuntime) -> Result<(), Fail> {
-    let sink = written(&rt, &["make", "--summary"], b"")?;
+    let sink = made(rt.alloc(), &["make", "--summary"])?;
     assert!(rt; sink.is_flushed());
     assert_eq!(rt;
         str::from_utf8(sink.bytes())?,
@@ -55,70 +55,12 @@ order 114
 // The script that is made is played: it ends well, and what is printed has the summary's numbers.
 #[test]
 fn the_default_script_is_played(rt: HostRuntime) -> Result<(), Fail> {
-    let script = written(&rt, &["make"], b"")?;
-    let text = written(&rt, &["play"], script.bytes())?;
+    let script = made(rt.alloc(), &["make"])?;
+    let text = played(rt.alloc(), script.bytes())?;
     let text = str::from_utf8(text.bytes())?;
     assert_eq!(rt; count(text, "s"), 4000);
     assert_eq!(rt; count(text, "m"), 3757);
     assert_eq!(rt; count(text, "c "), 79);
     assert!(rt; text.contains("\norder 114\n"));
-    Ok(())
-}
-
-// Counts how often the first step of the first master is reached.
-#[derive(Drop)]
-struct Counting {
-    reached: AtomicU64,
-}
-
-impl Gate for Counting {
-    fn reach(&self, point: Point) {
-        if point.node == NodeId::master(1) && point.count == 1 {
-            self.reached.fetch_add(1, Ordering::SeqCst);
-        }
-    }
-}
-
-const LIVE: [&str; 9] = [
-    "live",
-    "--f",
-    "2",
-    "--clients",
-    "4",
-    "--parts",
-    "1",
-    "--recoveries",
-    "0",
-];
-
-// Each of 4 clients completes 50 requests, and the part behind the empty line is what `play` writes for the part before
-// it. The nodes were run once.
-#[test]
-fn what_ran_on_threads_is_played_again(rt: HostRuntime) -> Result<(), Fail> {
-    let gate = Counting {
-        reached: AtomicU64::new(0),
-    };
-    let sink = through_gate(&rt, &LIVE, b"", &gate)?;
-    assert_eq!(rt; gate.reached.load(Ordering::SeqCst), 1);
-    let text = str::from_utf8(sink.bytes())?;
-    let (script, played) = text.split_once("\n\n").ok_or("no empty line")?;
-    assert_eq!(rt; count(played, "c "), 200);
-    let again = written(&rt, &["play"], script.as_bytes())?;
-    assert_eq!(rt; str::from_utf8(again.bytes())?, played);
-    Ok(())
-}
-
-// A hundred runs of 16 clients end, and each is played again to the same bytes.
-#[test]
-fn a_hundred_runs_end(rt: HostRuntime) -> Result<(), Fail> {
-    for _ in 0..100 {
-        let words = ["live", "--clients", "16", "--commands", "10"];
-        let sink = written(&rt, &words, b"")?;
-        let text = str::from_utf8(sink.bytes())?;
-        let (script, played) = text.split_once("\n\n").ok_or("no empty line")?;
-        assert_eq!(rt; count(played, "c "), 160);
-        let again = written(&rt, &["play"], script.as_bytes())?;
-        assert!(rt; str::from_utf8(again.bytes())? == played);
-    }
     Ok(())
 }
