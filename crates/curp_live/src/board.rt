@@ -25,7 +25,7 @@ pub(crate) struct Board {
 }
 
 impl Board {
-    pub fn new(total: u64) -> Board {
+    pub(crate) fn new(total: u64) -> Board {
         Board {
             total,
             told: Mutex::new(Told {
@@ -37,21 +37,21 @@ impl Board {
     }
 
     /// One more request is completed.
-    pub fn tell_completion<R: Wait>(&self, rt: &R) {
+    pub(crate) fn tell_completion<R: Wait>(&self, rt: &R) {
         let mut told = self.told.lock(rt);
         told.completed = told.completed.saturating_add(1);
         self.changed.notify_all();
     }
 
     /// A worker found no memory.
-    pub fn tell_no_memory<R: Wait>(&self, rt: &R) {
+    pub(crate) fn tell_no_memory<R: Wait>(&self, rt: &R) {
         let mut told = self.told.lock(rt);
         told.no_memory = true;
         self.changed.notify_all();
     }
 
     /// Waits until all requests are completed, or a worker found no memory.
-    pub fn wait<R: Wait>(&self, rt: &R) -> End {
+    pub(crate) fn wait<R: Wait>(&self, rt: &R) -> End {
         let mut told = self.told.lock(rt);
         for _ in rt.forever() {
             if told.no_memory {

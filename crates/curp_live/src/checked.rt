@@ -53,7 +53,7 @@ pub(crate) fn checked(
 }
 
 /// The same journals of a header's nodes as at opening. None where one isn't such a node's.
-fn all_as_at_opening(
+pub(crate) fn all_as_at_opening(
     alloc: Global,
     header: &Header,
     taken: &Journals,

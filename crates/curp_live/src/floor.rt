@@ -21,7 +21,7 @@ pub(crate) struct Floor {
 
 impl Floor {
     /// Does a job until the run ends.
-    pub fn run<R: Wait, G: Gate>(&self, rt: &R, gate: &G, job: Job<'_>) -> End {
+    pub(crate) fn run<R: Wait, G: Gate>(&self, rt: &R, gate: &G, job: Job<'_>) -> End {
         match job {
             Job::Driver => self.drive(rt),
             Job::Manager(seat) => self.serve(rt, gate, seat, &[]),

@@ -12,6 +12,8 @@ mod once;
 mod own;
 mod run;
 mod seats;
+#[cfg(test)]
+mod tests;
 mod work;
 
 pub use run::live;

@@ -21,7 +21,7 @@ pub(crate) struct MasterSeat {
 }
 
 impl MasterSeat {
-    pub fn new(seat: Seat<MasterNode, End>) -> MasterSeat {
+    pub(crate) fn new(seat: Seat<MasterNode, End>) -> MasterSeat {
         MasterSeat {
             seat,
             asked: AtomicU64::new(0),
@@ -29,7 +29,7 @@ impl MasterSeat {
     }
 
     /// Posts a message, and behind it the orders that are due.
-    pub fn post<R: Wait>(&self, rt: &R, named: Named) -> Result<(), NoMemory> {
+    pub(crate) fn post<R: Wait>(&self, rt: &R, named: Named) -> Result<(), NoMemory> {
         let asks = matches!(&named.message.body, Body::Update(_) | Body::Sync(_));
         self.seat.post(rt, Arrived::Message(named))?;
         if asks {
@@ -50,7 +50,7 @@ impl MasterSeat {
         Ok(())
     }
 
-    pub fn into_kept(self) -> Kept<MasterNode> {
+    pub(crate) fn into_kept(self) -> Kept<MasterNode> {
         self.seat.into_kept()
     }
 }

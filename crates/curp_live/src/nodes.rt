@@ -19,7 +19,7 @@ pub(crate) struct Nodes {
 
 impl Nodes {
     /// Those of a header, before any step.
-    pub fn opening(alloc: Global, header: &Header) -> Result<Nodes, NoMemory>
+    pub(crate) fn opening(alloc: Global, header: &Header) -> Result<Nodes, NoMemory>
         requires { IsHeader header.now }
         ensures { IfOk result (λ nodes. IsOpening header.now nodes) }
     {

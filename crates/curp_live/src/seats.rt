@@ -22,7 +22,7 @@ pub(crate) struct Seats {
 }
 
 impl Seats {
-    pub fn new(alloc: Global, nodes: Nodes) -> Result<Seats, NoMemory> {
+    pub(crate) fn new(alloc: Global, nodes: Nodes) -> Result<Seats, NoMemory> {
         let manager = Kept::begin(alloc, nodes.manager, NodeId::manager());
         let masters = seated(alloc, NodeKind::Master, nodes.masters)?;
         Ok(Seats {
@@ -35,7 +35,7 @@ impl Seats {
     }
 
     /// Posts a message to its addressee. One to a node that isn't there is lost.
-    pub fn post<R: Wait>(&self, rt: &R, named: Named) -> Result<(), NoMemory> {
+    pub(crate) fn post<R: Wait>(&self, rt: &R, named: Named) -> Result<(), NoMemory> {
         match named.message.to.kind {
             NodeKind::Manager => self.manager.post(rt, Arrived::Message(named)),
             NodeKind::Client => post_among(rt, &self.clients, named),
@@ -49,7 +49,7 @@ impl Seats {
     }
 
     /// Ends the work of all nodes.
-    pub fn stop<R: Wait>(&self, rt: &R, end: End) {
+    pub(crate) fn stop<R: Wait>(&self, rt: &R, end: End) {
         self.manager.stop(rt, end);
         stop_each(rt, &self.clients, end);
         for master in &self.masters {
@@ -60,7 +60,7 @@ impl Seats {
     }
 
     /// The nodes with their journals.
-    pub fn into_journals(self, alloc: Global) -> Result<Journals, NoMemory> {
+    pub(crate) fn into_journals(self, alloc: Global) -> Result<Journals, NoMemory> {
         let mut masters = Vec::with_capacity(alloc, self.masters.len())?;
         for master in self.masters {
             masters.push(master.into_kept())?;

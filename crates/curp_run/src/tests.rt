@@ -1,4 +1,6 @@
 // What no clause says: that there is an answer where there is memory.
+mod threads;
+
 use crate::make_script;
 use curp_io::{MemorySink, MemorySource};
 use curp_play::{Status, play_script};

@@ -1,0 +1,104 @@
+// Journals in which a master took another value than its client sent.
+ghost use Rattle.std.specs.Prelude.{◌≡◌, true, false, IfOk};
+ghost use Rattle.curp_msg.specs.declared.script.Protocol.TheVariants.{One};
+
+use crate::checked::all_as_at_opening;
+use crate::nodes::Nodes;
+use curp_cmd::{Command, Key, NodeId, Value};
+use curp_gather::{GatherError, Journals, gather};
+use curp_inv::ClientNode;
+use curp_journal::{Arrived, Named};
+use curp_msg::{Core, Header, Local, Protocol};
+use curp_same::Same;
+use curp_seat::Kept;
+use std::alloc::Global;
+use std::test::Fail;
+
+// A node of each kind.
+fn smallest() -> Header
+    ensures { result ≡ record { clients = 1; f = 1; fast = true; parts = 1; protocol = One; sets = 1; ways = 1 } }
+{
+    Header {
+        clients: 1,
+        f: 1,
+        fast: true,
+        parts: 1,
+        protocol: Protocol::One,
+        sets: 1,
+        ways: 1,
+    }
+}
+
+// The last of these nodes, with an empty journal.
+fn begun<N: Core + Drop>(alloc: Global, id: NodeId, mut nodes: Vec<N>) -> Result<Kept<N>, Fail>
+    ensures { IfOk result (λ kept. kept.ended ≡ false) }
+{
+    let node = nodes.pop().ok_or("no such node")?;
+    Ok(Kept::begin(alloc, node, id))
+}
+
+// Client 1, which invoked a put of this value, and the update that it sent to its master.
+fn putting(
+    alloc: Global,
+    clients: Vec<ClientNode>,
+    value: u8,
+) -> Result<(Kept<ClientNode>, Named), Fail> {
+    let mut client = begun(alloc, NodeId::client(1), clients)?;
+    let put = Command::Put(Key::new(&[0x61])?, Value::new(&[value])?);
+    client.step(Arrived::Local(Local::Invoke(put), 0))?;
+    if client.journal().is_empty() {
+        return Err(Fail::new("the put is refused"));
+    }
+    let sent = client.sent(0)?;
+    let update = sent.named.into_iter().next().ok_or("nothing is sent")?;
+    Ok((client, update))
+}
+
+fn alone<T: Drop>(alloc: Global, item: T) -> Result<Vec<T>, Fail> {
+    let mut items = Vec::with_capacity(alloc, 1)?;
+    items.push(item)?;
+    Ok(items)
+}
+
+fn is_same(a: &Named, b: &Named) -> bool {
+    a.from == b.from
+        && (a.step, a.place, a.stamp) == (b.step, b.place, b.stamp)
+        && a.message.same(&b.message)
+}
+
+#[test]
+#[tactic(auto, using(curp_live::proofs::Runs::are_of))]
+fn a_changed_value_is_told_with_the_kept_one(rt: HostRuntime) -> Result<(), Fail> {
+    let alloc = rt.alloc();
+    let nodes = Nodes::opening(alloc, &smallest())?;
+    let (client, kept_update) = putting(alloc, nodes.clients, 0x31)?;
+    let (_, update) = putting(alloc, Nodes::opening(alloc, &smallest())?.clients, 0x32)?;
+    let mut master = begun(alloc, NodeId::master(1), nodes.masters)?;
+    master.step(Arrived::Message(update.copy(alloc)?))?;
+    let taken = Journals {
+        manager: Kept::begin(alloc, nodes.manager, NodeId::manager()),
+        clients: alone(alloc, client)?,
+        masters: alone(alloc, master)?,
+        backups: alone(alloc, begun(alloc, NodeId::backup(1), nodes.backups)?)?,
+        witnesses: alone(alloc, begun(alloc, NodeId::witness(1), nodes.witnesses)?)?,
+    };
+    let Some(journals) = all_as_at_opening(alloc, &smallest(), &taken)? else {
+        return Err(Fail::new("the journals aren't those of nodes"));
+    };
+    match gather(alloc, &smallest(), &journals) {
+        Err(
+            GatherError::Mismatch {
+                node,
+                step,
+                got,
+                kept,
+            },
+        ) => {
+            assert_eq!(rt; (node, step), (NodeId::master(1), 1));
+            assert!(rt; is_same(&got, &update));
+            assert!(rt; kept.is_some_and(|kept| is_same(&kept, &kept_update)));
+            Ok(())
+        }
+        _ => Err(Fail::new("no mismatch")),
+    }
+}

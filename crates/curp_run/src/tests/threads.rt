@@ -1,0 +1,153 @@
+// Nodes on threads: that a run ends, and that its nodes don't wait for each other.
+use super::played;
+use crate::run;
+use curp_cmd::{NodeId, NodeKind};
+use curp_io::{MemorySink, MemorySource};
+use curp_play::Status;
+use curp_seat::{Gate, OpenGate, Point};
+use std::alloc::Global;
+use std::sync::atomic::{AtomicU64, Ordering};
+use std::test::Fail;
+use std::{str, thread};
+
+const FIRST_MASTER: NodeId = NodeId {
+    kind: NodeKind::Master,
+    number: 1,
+};
+
+const FIRST_WITNESS: NodeId = NodeId {
+    kind: NodeKind::Witness,
+    number: 1,
+};
+
+// How many turns a wait for another thread may take.
+const TURNS: u32 = 1_000_000;
+
+// A gate that counts the steps it hears of.
+#[derive(Drop)]
+struct Counting {
+    steps: AtomicU64,
+    // The first step of the first master: one for each time that the run is made.
+    beginnings: AtomicU64,
+}
+
+impl Counting {
+    fn new() -> Counting {
+        Counting {
+            steps: AtomicU64::new(0),
+            beginnings: AtomicU64::new(0),
+        }
+    }
+}
+
+impl Gate for Counting {
+    fn reach(&self, point: Point) {
+        self.steps.fetch_add(1, Ordering::SeqCst);
+        if point.node == FIRST_MASTER && point.count == 1 {
+            self.beginnings.fetch_add(1, Ordering::SeqCst);
+        }
+    }
+}
+
+// A gate that holds the first step of the first master until the first witness is about to make one.
+#[derive(Drop)]
+struct Holding {
+    reached: AtomicU64,
+    missed: AtomicU64,
+}
+
+impl Holding {
+    fn new() -> Holding {
+        Holding {
+            reached: AtomicU64::new(0),
+            missed: AtomicU64::new(0),
+        }
+    }
+
+    fn hold(&self) {
+        for _ in 0..TURNS {
+            if self.reached.load(Ordering::SeqCst) > 0 {
+                return;
+            }
+            thread::yield_now();
+        }
+        self.missed.fetch_add(1, Ordering::SeqCst);
+    }
+}
+
+impl Gate for Holding {
+    fn reach(&self, point: Point) {
+        if point.node == FIRST_WITNESS {
+            self.reached.fetch_add(1, Ordering::SeqCst);
+        }
+        if point.node == FIRST_MASTER && point.count == 1 {
+            self.hold();
+        }
+    }
+}
+
+// Whether what stands behind the empty line is what is written for the script before it.
+fn is_played_again(alloc: Global, text: &str) -> Result<bool, Fail> {
+    let (script, rest) = text
+        .split_once("\n\n")
+        .ok_or("a text without an empty line")?;
+    let script = format!(in alloc; "{script}\n")?;
+    let again = played(alloc, script.as_bytes())?;
+    Ok(again.bytes() == rest.as_bytes())
+}
+
+// Four clients with 50 commands each: all complete, the run was made once, and no node steps when it has ended.
+#[test]
+fn each_command_completes_in_one_run(rt: HostRuntime) -> Result<(), Fail> {
+    let words = [
+        "live",
+        "--f",
+        "2",
+        "--clients",
+        "4",
+        "--parts",
+        "1",
+        "--recoveries",
+        "0",
+    ];
+    let gate = Counting::new();
+    let mut source = MemorySource::new(rt.alloc(), b"", &[])?;
+    let mut sink = MemorySink::new(rt.alloc(), &[])?;
+    let status = run(&rt, rt.alloc(), &words, &mut source, &mut sink, &gate);
+    let steps = gate.steps.load(Ordering::SeqCst);
+    assert!(rt; status == Status::Ok);
+    let text = str::from_utf8(sink.bytes())?;
+    assert_eq!(rt; super::count(text, "c "), 200);
+    assert!(rt; is_played_again(rt.alloc(), text)?);
+    assert_eq!(rt; gate.beginnings.load(Ordering::SeqCst), 1);
+    for _ in 0..TURNS {
+        thread::yield_now();
+    }
+    assert_eq!(rt; gate.steps.load(Ordering::SeqCst), steps);
+    Ok(())
+}
+
+// The first master's first step waits for a step of the first witness, which comes to it in the meantime.
+#[test]
+fn a_witness_steps_while_the_master_is_held(rt: HostRuntime) -> Result<(), Fail> {
+    let gate = Holding::new();
+    let mut source = MemorySource::new(rt.alloc(), b"", &[])?;
+    let mut sink = MemorySink::new(rt.alloc(), &[])?;
+    let status = run(&rt, rt.alloc(), &["live"], &mut source, &mut sink, &gate);
+    assert!(rt; status == Status::Ok);
+    assert_eq!(rt; gate.missed.load(Ordering::SeqCst), 0);
+    Ok(())
+}
+
+#[test]
+fn a_hundred_runs_of_sixteen_clients_end(rt: HostRuntime) -> Result<(), Fail> {
+    let words = ["live", "--clients", "16", "--commands", "10"];
+    for _ in 0..100 {
+        let mut source = MemorySource::new(rt.alloc(), b"", &[])?;
+        let mut sink = MemorySink::new(rt.alloc(), &[])?;
+        let status = run(&rt, rt.alloc(), &words, &mut source, &mut sink, &OpenGate);
+        assert!(rt; status == Status::Ok);
+        assert!(rt; is_played_again(rt.alloc(), str::from_utf8(sink.bytes())?)?);
+    }
+    Ok(())
+}
