@@ -1,8 +1,8 @@
 -- What loops over journals find, one item or one node further.
-use Rattle.std.proofs.Common.{◌≡◌, ◌⊎◌, inl, inr, ◌+◌, ◌<◌, ℕ, zero, suc, List, [], ◌∷◌, ◌++◌, length, get_or, false, refl, ap, ◌∙◌, subst, sym, arith}
+use Rattle.std.proofs.Common.{◌≡◌, ◌⊎◌, inl, inr, ◌+◌, ◌<◌, ℕ, zero, suc, List, [], ◌∷◌, ◌++◌, length, take, get_or, false, refl, ap, ◌∙◌, subst, sym, add-one, arith}
 use Rattle.std.proofs.lemmas.Option.{slice_get_read}
 use Rattle.curp_base.specs.Words.{At}
-use Rattle.curp_base.proofs.Lists.{at_push_cases, at_same}
+use Rattle.curp_base.proofs.Lists.{at_map, at_push_cases, at_same}
 use Rattle.curp_cmd.specs.declared.command.Command.{Command}
 use Rattle.curp_cmd.specs.declared.node.NodeId.{NodeId}
 use Rattle.curp_cmd.specs.declared.node.NodeKind.{NodeKind}
@@ -11,7 +11,7 @@ use Rattle.curp_journal.specs.Journal.{Log}
 use Rattle.curp_journal.specs.declared.item.Item.{Item}
 use Rattle.curp_model.specs.Client.{ClientState}
 use Rattle.curp_turns.specs.Work.{DidWork}
-use Rattle.curp_live.specs.Opening.{AllOwn, IsAnew}
+use Rattle.curp_live.specs.Opening.{AllOwn, IsAnew, outputs_of}
 
 -- below one more is below, or there
 below_or_at : (t k : ℕ) → t < k + 1 → (t < k) ⊎ (t ≡ k)
@@ -31,6 +31,28 @@ scan_more {A} P xs k x within is good before t y below at = by_case (below_or_at
         let here : At xs k x = slice_get_read xs (length xs) k x refl within is in
         let there : At xs k y = subst (λ n. At xs n y) same at in
         subst P (at_same xs k x y here there) good
+
+-- two lists that are the same so far, and hold the same next, are the same one further
+same_next : {A : Type 0} (xs ys : List A) (k : ℕ) (x : A) → At xs k x → At ys k x → take k xs ≡ take k ys → take (suc k) xs ≡ take (suc k) ys
+same_next [] ys k x at_x at_y before = absurd cc
+same_next (a ∷ xs) [] k x at_x at_y before = absurd cc
+same_next (a ∷ xs) (b ∷ ys) zero x at_x at_y before =
+    let one : a ≡ x = cc in
+    let other : b ≡ x = cc in
+    ap (λ z. z ∷ []) (one ∙ sym other)
+same_next (a ∷ xs) (b ∷ ys) (suc k) x at_x at_y before =
+    let first : a ≡ b = cc in
+    let rest : take k xs ≡ take k ys = cc in
+    ap (λ z. z ∷ take (suc k) xs) first ∙ ap (λ zs. b ∷ zs) (same_next xs ys k x at_x at_y rest)
+
+-- the outputs are the same so far, and of the items that were read
+pub outputs_more : (xs ys : List Item) (k : ℕ) (x y : Item) → k < length xs → k < length ys → x ≡ get_or xs k x → y ≡ get_or ys k y
+    → (get_or xs k x).done ≡ (get_or ys k y).done → take k (outputs_of xs) ≡ take k (outputs_of ys) → take (k + 1) (outputs_of xs) ≡ take (k + 1) (outputs_of ys)
+outputs_more xs ys k x y in_xs in_ys is_x is_y same before =
+    let one : x.done ≡ y.done = ap (λ (item : Item). item.done) is_x ∙ (same ∙ sym (ap (λ (item : Item). item.done) is_y)) in
+    let at_x = at_map (λ (item : Item). item.done) xs k x (slice_get_read xs (length xs) k x refl in_xs is_x) in
+    let at_y = at_map (λ (item : Item). item.done) ys k y (slice_get_read ys (length ys) k y refl in_ys is_y) in
+    rw add-one (same_next (outputs_of xs) (outputs_of ys) k x.done at_x (subst (λ done. At (outputs_of ys) k done) (sym one) at_y) before)
 
 -- the journals of the nodes so far
 abbrev pub SoFar : {N : Type 0} → NodeKind → List N → List (Log N) → Type 0

@@ -1,6 +1,7 @@
 ghost use Rattle.std.specs.Prelude.{◌≡◌, ◌+◌, ◌<◌, ◌^◌, length, IfOk, IfSome};
-ghost use Rattle.curp_live.specs.Opening.{AreAnew, IsAnew};
+ghost use Rattle.curp_live.specs.Opening.{AreAnew, IsAnew, outputs_of};
 
+use crate::outputs::did_same;
 use crate::own::all_own;
 use curp_base::NoMemory;
 use curp_cmd::{NodeId, NodeKind};
@@ -33,14 +34,16 @@ pub(crate) fn all_anew<N: Core + Drop>(
     Ok(Some(logs))
 }
 
-/// The same journal, begun with this node. None where it isn't that node's, or something came that isn't its own.
+/// The same journal, begun with this node. None where it isn't that node's: where it has another name, the node does
+/// otherwise on what came, or something came that isn't its own.
 pub(crate) fn anew<N: Core + Drop>(
     alloc: Global,
     id: NodeId,
     node: N,
     taken: &Kept<N>,
 ) -> Result<Option<Kept<N>>, NoMemory>
-    ensures { IfOk result (λ made. IfSome made (λ log. IsAnew id node log)) }
+    ensures anew { IfOk result (λ made. IfSome made (λ log. IsAnew id node log)) }
+    ensures outputs { IfOk result (λ made. IfSome made (λ log. outputs_of log.items ≡ outputs_of taken.now.items)) }
 {
     if taken.id() != id {
         return Ok(None);
@@ -48,7 +51,7 @@ pub(crate) fn anew<N: Core + Drop>(
     let Some(log) = again(alloc, taken, node)? else {
         return Ok(None);
     };
-    if all_own(id, log.journal()) {
+    if did_same(log.journal(), taken.journal()) && all_own(id, log.journal()) {
         Ok(Some(log))
     } else {
         Ok(None)

@@ -8,7 +8,7 @@ use curp_seat::Seat;
 use std::alloc::Global;
 
 /// What one thread of a run does.
-#[derive(Drop)]
+#[derive(Clone, Copy)]
 pub(crate) enum Job<'a> {
     /// It ends the run.
     Driver,
@@ -32,14 +32,21 @@ pub(crate) fn jobs<'a>(
     for (seat, commands) in seats.clients.iter().zip(work) {
         jobs.push(Job::Client(seat, commands.as_slice()))?;
     }
-    for seat in &seats.masters {
-        jobs.push(Job::Master(seat))?;
-    }
-    for seat in &seats.backups {
-        jobs.push(Job::Backup(seat))?;
-    }
-    for seat in &seats.witnesses {
-        jobs.push(Job::Witness(seat))?;
-    }
+    add(&mut jobs, &seats.masters, |seat| Job::Master(seat))?;
+    add(&mut jobs, &seats.backups, |seat| Job::Backup(seat))?;
+    add(&mut jobs, &seats.witnesses, |seat| Job::Witness(seat))?;
     Ok(jobs)
+}
+
+fn add<'a, T, F: Fn(&'a T) -> Job<'a>>(
+    jobs: &mut Vec<Job<'a>>,
+    seats: &'a [T],
+    job: F,
+) -> Result<(), NoMemory>
+    requires { F.IsAlwaysCallable job }
+{
+    for seat in seats {
+        jobs.push(job(seat))?;
+    }
+    Ok(())
 }

@@ -9,6 +9,7 @@ mod job;
 mod master;
 mod nodes;
 mod once;
+mod outputs;
 mod own;
 mod run;
 mod seats;

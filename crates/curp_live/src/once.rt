@@ -1,8 +1,9 @@
+ghost use Rattle.std.specs.Prelude.{◌<◌, vec_len};
 ghost use Rattle.curp_facts.specs.Run.{IsHeader};
 
 use crate::board::{Board, End};
 use crate::floor::Floor;
-use crate::job::{Job, jobs};
+use crate::job::jobs;
 use crate::nodes::Nodes;
 use crate::seats::Seats;
 use curp_base::NoMemory;
@@ -29,27 +30,28 @@ pub(crate) fn once<R: Threads + Wait + Sync, G: Gate + Sync>(
         seats: Seats::new(alloc, Nodes::opening(alloc, header)?)?,
         board: Board::new(command_count(work)),
     };
-    let ends = run_all(rt, alloc, &floor, work, gate)?;
-    if ends.contains(&End::NoMemory) {
-        return Err(AllocError);
+    run_all(rt, alloc, &floor, work, gate)?;
+    match floor.board.wait(rt) {
+        End::Finished => floor.seats.into_journals(alloc),
+        End::NoMemory => Err(AllocError),
     }
-    floor.seats.into_journals(alloc)
 }
 
-/// Does all jobs of a run, each on a thread of its own, until it ends.
-fn run_all<'a, R: Threads + Wait + Sync, G: Gate + Sync>(
+/// Does all jobs of a run, each on a thread of its own, until it ends. The threads have ended then.
+fn run_all<R: Threads + Wait + Sync, G: Gate + Sync>(
     rt: &R,
     alloc: Global,
-    floor: &'a Floor,
-    work: &'a [Vec<Command>],
+    floor: &Floor,
+    work: &[Vec<Command>],
     gate: &G,
-) -> Result<Vec<End>, NoMemory> {
-    let jobs = jobs(alloc, &floor.seats, work)?;
-    thread::map_vec(
-        rt,
-        jobs,
-        &|job: Job<'_>| -> End { floor.run(rt, gate, job) },
-    )
+) -> Result<(), NoMemory> {
+    let all = jobs(alloc, &floor.seats, work)?;
+    thread::map_indices(rt, alloc, all.len(), &|at: usize| -> End
+        requires { at < vec_len all }
+    {
+        floor.run(rt, gate, all[at])
+    })?;
+    Ok(())
 }
 
 /// How many commands the lists have.

@@ -1,5 +1,5 @@
 -- What a run on threads shows, and what is written of it.
-use Rattle.std.proofs.Common.{◌≡◌, ◌++◌, ℕ, List, Some, Global, Vec, length, map, ap, sym, ◌∙◌, subst}
+use Rattle.std.proofs.Common.{◌≡◌, inr, [], ◌∷◌, ◌++◌, ℕ, List, Some, Global, Vec, length, map, ap, sym, ◌∙◌, subst, append_assoc}
 use Rattle.std.proofs.lemmas.List.{length-map}
 use Rattle.curp_cmd.specs.declared.command.Command.{Command}
 use Rattle.curp_msg.specs.declared.script.Header.{Header}
@@ -14,8 +14,10 @@ use Rattle.curp_gen.specs.Commands.{workload_of}
 use Rattle.curp_live.specs.Live.{IsLiveRun, live_header}
 use Rattle.curp_script.specs.Texts.{script_lines}
 use Rattle.curp_opening.proofs.Numbers.{named_length}
-use Rattle.curp_play.specs.Play.{HasAnOrder, LeadsToAnOrder, OrderStands, script_in}
-use Rattle.curp_run.specs.Live.{IsLive, IsLiveText, Shows, played, whole_script, work_of}
+use Rattle.curp_io.specs.Streams.{HoldsPart}
+use Rattle.curp_play.specs.Play.{HasAnOrder, LeadsToAnOrder, OrderStands, script_in, text_of}
+use Rattle.curp_run.specs.Live.{IsLive, IsLiveFront, IsLiveText, Shows, played, whole_script, work_of}
+use Rattle.curp_run.proofs.Pieces.{first_of_two, second_of_two}
 use Rattle.curp_run.proofs.Shown.{shown}
 
 -- vectors as lists
@@ -52,7 +54,21 @@ is_live plan text old new live order wrote = record {
   text = wrote ∙ ap (λ (t : List ℕ). old ++ played t) live.printed;
   reads = subst (λ (t : List ℕ). script_in t ≡ whole_script plan live.steps) live.printed live.reads;
   order = order_stands plan live.steps (script_in text) live.reads order;
-  invoked = live.shows.invoked;
-  completed = live.shows.completed;
-  recovered = live.shows.recovered;
+  shows = live.shows;
 }
+
+-- a front of a script that shows the work was written, an empty line, and what playing it writes
+pub live_front : (plan : LivePlan) (text old new : List ℕ) → IsLiveText plan text → HoldsPart old new (played text) → IsLiveFront plan old new
+live_front plan text old new live part = inr (record { text = text; is = live; part = part })
+
+-- a front of a script and the empty line
+pub script_front : (text old new : List ℕ) → HoldsPart old new (text ++ 10 ∷ []) → HoldsPart old new (played text)
+script_front text old new h =
+    subst (λ (t : List ℕ). HoldsPart old new t) (append_assoc text (10 ∷ []) (text_of (script_in text)))
+    (first_of_two old new (text ++ 10 ∷ []) (text_of (script_in text)) h)
+
+-- both, and a front of what is played
+pub played_front : (text old mid new : List ℕ) → mid ≡ old ++ (text ++ 10 ∷ []) → HoldsPart mid new (text_of (script_in text)) → HoldsPart old new (played text)
+played_front text old mid new whole h =
+    subst (λ (t : List ℕ). HoldsPart old new t) (append_assoc text (10 ∷ []) (text_of (script_in text)))
+    (second_of_two old mid new (text ++ 10 ∷ []) (text_of (script_in text)) whole h)

@@ -77,5 +77,5 @@ module _ (plan : LivePlan) (j : Journals) (ss : List Step) (run : IsLiveRun plan
         let many : length (workload_of plan.number n plan.commands) ≡ plan.commands = length-workload plan.number n plan.commands in
         completed_are (journals_of j) (live_header plan) ss script.placed script.run w.k (journal_of w.log) (record { client = n; seq = seq }) w.stands (w.did.completed seq first (omega (arith, many, last)));
     recovered = recoveries_are (journals_of j) (live_header plan) ss script.placed script.run 0 (journal_of j.manager) refl run.are.manager.its_name ∙ run.recoveries;
-    none_stop = Each-weaker IsNoStop NamesNode can_be_printed ss (none_stopped (journals_of j) (live_header plan) ss script.placed script.run run.none_ended);
+    printable = Each-weaker IsNoStop NamesNode can_be_printed ss (none_stopped (journals_of j) (live_header plan) ss script.placed script.run run.none_ended);
   }

@@ -1,6 +1,7 @@
 -- What `live` writes, and what the script in it shows of the work.
-use Rattle.std.specs.Prelude.{◌≡◌, ◌≤◌, ℕ, List, [], ◌∷◌, ◌++◌, map, Some}
+use Rattle.std.specs.Prelude.{◌≡◌, ◌≤◌, ◌⊎◌, ℕ, List, [], ◌∷◌, ◌++◌, map, Some}
 use Rattle.curp_base.specs.Words.{Each, numbers_from}
+use Rattle.curp_io.specs.Streams.{HoldsPart}
 use Rattle.curp_cmd.specs.declared.command.Command.{Command}
 use Rattle.curp_msg.specs.declared.script.Step.{Step}
 use Rattle.curp_script.specs.Printed.{NamesNode}
@@ -25,7 +26,7 @@ pub record Shows (plan : LivePlan) (steps : List Step) : Type 0 where
   pub completed : (n seq : ℕ) → 1 ≤ n → n ≤ plan.clients → 1 ≤ seq → seq ≤ plan.commands
       → IsCompletedBy (live_header plan) steps (record { client = n; seq = seq })
   pub recovered : recoveries steps ≡ plan.recoveries
-  pub none_stop : Each NamesNode steps
+  pub printable : Each NamesNode steps
 
 -- the script of these steps, read to its end
 abbrev pub whole_script : LivePlan → List Step → Script
@@ -42,14 +43,20 @@ pub record IsLiveText (plan : LivePlan) (text : List ℕ) : Type 0 where
 abbrev pub played : List ℕ → List ℕ
 played text = text ++ (10 ∷ [] ++ text_of (script_in text))
 
--- What was written is a script, an empty line, and the script's text. In the script each client invokes its workload in
--- order, and each of these requests completes
+-- what was written is a script, an empty line, and the script's text; the script shows the work
 pub record IsLive (plan : LivePlan) (old new : List ℕ) : Type 0 where
   pub steps : List Step
   pub text : new ≡ old ++ played (script_lines (live_header plan) steps)
   pub reads : script_in (script_lines (live_header plan) steps) ≡ whole_script plan steps
   pub order : OrderStands (world (live_header plan) steps)
-  pub invoked : (n : ℕ) → 1 ≤ n → n ≤ plan.clients → invocations n steps ≡ workload_of plan.number n plan.commands
-  pub completed : (n seq : ℕ) → 1 ≤ n → n ≤ plan.clients → 1 ≤ seq → seq ≤ plan.commands
-      → IsCompletedBy (live_header plan) steps (record { client = n; seq = seq })
-  pub recovered : recoveries steps ≡ plan.recoveries
+  pub shows : Shows plan steps
+
+-- a front of such a script, an empty line, and the script's text was written
+pub record IsLivePart (plan : LivePlan) (old new : List ℕ) : Type 0 where
+  pub text : List ℕ
+  pub is : IsLiveText plan text
+  pub part : HoldsPart old new (played text)
+
+-- nothing was written, or such a front
+abbrev pub IsLiveFront : LivePlan → List ℕ → List ℕ → Type 0
+IsLiveFront plan old new = (new ≡ old) ⊎ IsLivePart plan old new

@@ -3,7 +3,7 @@ ghost use Rattle.curp_io.specs.Streams.{HoldsPart, Rose, SameCount};
 ghost use Rattle.curp_gen.specs.Texts.{made_text};
 ghost use Rattle.curp_play.specs.Play.{EndsWhole, HasAnOrder, script_in, text_of};
 ghost use Rattle.curp_play.specs.Status.{is_cut_short, status_of};
-ghost use Rattle.curp_run.specs.Live.{IsLive};
+ghost use Rattle.curp_run.specs.Live.{IsLive, IsLiveFront};
 ghost use Rattle.curp_run.specs.Run.{EndsMade, IsOfMaking, asked};
 ghost use Rattle.curp_script.specs.Script.{Whole};
 ghost use Rattle.curp_words.specs.declared.order.LivePlan.{LivePlan};
@@ -72,6 +72,8 @@ pub fn run<R: Threads + Wait + Sync, G: Gate + Sync, S: Source, K: Sink>(
     // script each client invokes its workload in order, and each of these requests completes.
     ensures lived { (plan : LivePlan) → asked words.now ≡ Some (Order.Live plan) → K.tells sink.old ≡ true
         → result ≡ Status.Ok → IsLive plan (K.held sink.old) (K.held sink.new) }
+    ensures lived_front { (plan : LivePlan) → asked words.now ≡ Some (Order.Live plan) → K.tells sink.old ≡ true
+        → IsLiveFront plan (K.held sink.old) (K.held sink.new) }
     ensures unread_living { (plan : LivePlan) → asked words.now ≡ Some (Order.Live plan) → source.new ≡ source.old }
     ensures of_living { (plan : LivePlan) → asked words.now ≡ Some (Order.Live plan) → IsOfMaking result }
     ensures complete_living { (plan : LivePlan) → asked words.now ≡ Some (Order.Live plan)

@@ -1,8 +1,8 @@
 ghost use Rattle.std.specs.Prelude.{◌≡◌, ◌≢◌, ◌++◌, ◌∷◌, [], true, Err, OnOk, IfOk, IfErr};
-ghost use Rattle.curp_io.specs.Streams.{Rose, SameCount};
+ghost use Rattle.curp_io.specs.Streams.{HoldsPart, Rose, SameCount};
 ghost use Rattle.curp_play.specs.Play.{HasAnOrder, script_in, text_of};
 ghost use Rattle.curp_play.specs.Reading.{IsOfWriting};
-ghost use Rattle.curp_run.specs.Live.{IsLive, IsLiveText, played};
+ghost use Rattle.curp_run.specs.Live.{IsLive, IsLiveFront, IsLiveText, played};
 ghost use Rattle.curp_run.specs.Run.{EndsMade, IsOfMaking};
 ghost use Rattle.curp_script.specs.Script.{Whole};
 ghost use Rattle.curp_words.specs.Plan.{IsLivePlan};
@@ -36,6 +36,8 @@ pub fn live_script<R: Threads + Wait + Sync, G: Gate + Sync, K: Sink>(
     // What it writes is the script of a run in which the work was done, and its text; that is passed on.
     ensures wrote { K.tells sink.old ≡ true → result ≡ Status.Ok
         → IsLive plan.now (K.held sink.old) (K.held sink.new) }
+    // Where it is cut short, it has written a front of that, or nothing.
+    ensures front { K.tells sink.old ≡ true → IsLiveFront plan.now (K.held sink.old) (K.held sink.new) }
     ensures flushed { result ≡ Status.Ok → K.flushed sink.new ≡ true }
 
     // A write fault comes exactly where the count of faults rose; want of memory is the one other failure.
@@ -70,6 +72,7 @@ fn write_played<K: Sink>(alloc: Global, text: &[u8], sink: &mut K) -> Status
     requires { (script_in text.now).body.ending ≡ Whole }
     ensures wrote { K.tells sink.old ≡ true → result ≡ Status.Ok
         → K.held sink.new ≡ K.held sink.old ++ played text.now }
+    ensures front { K.tells sink.old ≡ true → HoldsPart (K.held sink.old) (K.held sink.new) (played text.now) }
     ensures order { result ≡ Status.Ok → HasAnOrder (script_in text.now) }
     ensures flushed { result ≡ Status.Ok → K.flushed sink.new ≡ true }
     ensures of_making { IsOfMaking result }
@@ -87,6 +90,7 @@ fn write_played<K: Sink>(alloc: Global, text: &[u8], sink: &mut K) -> Status
 fn write_script<K: Sink>(text: &[u8], sink: &mut K) -> Result<(), Status>
     ensures wrote { K.tells sink.old ≡ true
         → OnOk result (K.held sink.new ≡ K.held sink.old ++ (text.now ++ 10 ∷ [])) }
+    ensures front { K.tells sink.old ≡ true → HoldsPart (K.held sink.old) (K.held sink.new) (text.now ++ 10 ∷ []) }
     ensures writing { IfErr result IsOfWriting }
     ensures tells { K.tells sink.old ≡ true → K.tells sink.new ≡ true }
     ensures fault { result ≡ Err Status.WriteFault → Rose (K.faults sink.old) (K.faults sink.new) }
@@ -101,6 +105,8 @@ fn play_text<K: Sink>(alloc: Global, text: &[u8], sink: &mut K) -> Status
     requires { (script_in text.now).body.ending ≡ Whole }
     ensures wrote { K.tells sink.old ≡ true → result ≡ Status.Ok
         → K.held sink.new ≡ K.held sink.old ++ text_of (script_in text.now) }
+    ensures front { K.tells sink.old ≡ true
+        → HoldsPart (K.held sink.old) (K.held sink.new) (text_of (script_in text.now)) }
     ensures order { result ≡ Status.Ok → HasAnOrder (script_in text.now) }
     ensures flushed { result ≡ Status.Ok → K.flushed sink.new ≡ true }
     ensures of_making { IsOfMaking result }

@@ -49,24 +49,27 @@ impl Gate for Counting {
     }
 }
 
-// A gate that holds the first step of the first master until the first witness is about to make one.
+// A gate at which the first steps of the first master and the first witness meet: each is held until the other is due.
 #[derive(Drop)]
-struct Holding {
-    reached: AtomicU64,
+struct Meeting {
+    master: AtomicU64,
+    witness: AtomicU64,
     missed: AtomicU64,
 }
 
-impl Holding {
-    fn new() -> Holding {
-        Holding {
-            reached: AtomicU64::new(0),
+impl Meeting {
+    fn new() -> Meeting {
+        Meeting {
+            master: AtomicU64::new(0),
+            witness: AtomicU64::new(0),
             missed: AtomicU64::new(0),
         }
     }
 
-    fn hold(&self) {
+    fn meet(&self, own: &AtomicU64, other: &AtomicU64) {
+        own.fetch_add(1, Ordering::SeqCst);
         for _ in 0..TURNS {
-            if self.reached.load(Ordering::SeqCst) > 0 {
+            if other.load(Ordering::SeqCst) > 0 {
                 return;
             }
             thread::yield_now();
@@ -75,13 +78,16 @@ impl Holding {
     }
 }
 
-impl Gate for Holding {
+impl Gate for Meeting {
     fn reach(&self, point: Point) {
-        if point.node == FIRST_WITNESS {
-            self.reached.fetch_add(1, Ordering::SeqCst);
+        if point.count > 1 {
+            return;
         }
-        if point.node == FIRST_MASTER && point.count == 1 {
-            self.hold();
+        if point.node == FIRST_MASTER {
+            self.meet(&self.master, &self.witness);
+        }
+        if point.node == FIRST_WITNESS {
+            self.meet(&self.witness, &self.master);
         }
     }
 }
@@ -127,14 +133,19 @@ fn each_command_completes_in_one_run(rt: HostRuntime) -> Result<(), Fail> {
     Ok(())
 }
 
-// The first master's first step waits for a step of the first witness, which comes to it in the meantime.
+// Nodes run beside each other: the first steps of a master and of a witness are due at one time.
 #[test]
-fn a_witness_steps_while_the_master_is_held(rt: HostRuntime) -> Result<(), Fail> {
-    let gate = Holding::new();
+fn a_master_and_a_witness_meet(rt: HostRuntime) -> Result<(), Fail> {
+    let gate = Meeting::new();
     let mut source = MemorySource::new(rt.alloc(), b"", &[])?;
     let mut sink = MemorySink::new(rt.alloc(), &[])?;
     let status = run(&rt, rt.alloc(), &["live"], &mut source, &mut sink, &gate);
     assert!(rt; status == Status::Ok);
+    let begun = (
+        gate.master.load(Ordering::SeqCst),
+        gate.witness.load(Ordering::SeqCst),
+    );
+    assert_eq!(rt; begun, (1, 1));
     assert_eq!(rt; gate.missed.load(Ordering::SeqCst), 0);
     Ok(())
 }

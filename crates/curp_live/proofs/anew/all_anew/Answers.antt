@@ -20,7 +20,7 @@ loop-node-preserved g c =
     let turn : (length c.loop-node.yielded < length nodes) × (node ≡ get_or nodes (length c.loop-node.yielded) node) = YieldsList-turn (YieldsList-from_vec nodes from.0 long) c.loop-node.yielded c.loop-node.node-iterator c.loop-node.yielded_by c.next.result c.next.new.self node c.in-Some.is c.next.ensures.steps in
     let made = c.loop-node.invariant.made in
     let pushed : c.push.new.self.items ≡ logs ++ log ∷ [] = c.in_ok-push.ensures.items in
-    let made_anew = rw c.in-Some-2.is at c.in_ok-log.ensures in
+    let made_anew = rw c.in-Some-2.is at c.in_ok-log.ensures.anew in
     let new = subst (λ (n : ℕ). IsAnew (record { kind = c.args.kind; number = n + 1 }) node log) index made_anew in
     let here : node ≡ get_or nodes (length logs) node = rw made turn.1 in
     record {

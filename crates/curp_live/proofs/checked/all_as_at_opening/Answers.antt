@@ -15,7 +15,7 @@ all_anew-requires-4 c = (few_nodes c.args.header.now c.in_ok-nodes.nodes c.requi
 
 pub returns : goal.returns
 returns c =
-    let manager = rw c.in-Some.is at c.in_ok-manager.ensures in
+    let manager = rw c.in-Some.is at c.in_ok-manager.ensures.anew in
     record {
       nodes = c.in_ok-nodes.nodes;
       opening = c.in_ok-nodes.ensures;

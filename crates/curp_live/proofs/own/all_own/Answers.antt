@@ -1,4 +1,4 @@
-use Rattle.std.proofs.Common.{rules, ◌<◌, length, arith}
+use Rattle.std.proofs.Common.{arith}
 use Rattle.curp_base.proofs.Lists.{at_within}
 use Rattle.curp_journal.specs.declared.item.Item.{Item}
 use Rattle.curp_merge.specs.Merging.{IsOwn}
