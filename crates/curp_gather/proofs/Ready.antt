@@ -264,4 +264,5 @@ module _ (h : Header) (j : Journals) (are : AreOf h j) where
       legal = merged.is.legal;
     });
     in_order = merged.is.in_order;
+    names = merged.is.names;
   }

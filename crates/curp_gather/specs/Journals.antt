@@ -16,7 +16,7 @@ use Rattle.curp_model.specs.World.{opening_master, shape_of}
 use Rattle.curp_facts.specs.Run.{IsHeader}
 use Rattle.curp_turns.specs.Turns.{InOrder, Journal, Placed}
 use Rattle.curp_law_weave.specs.Run.{RunOf, TakesFirst}
-use Rattle.curp_merge.specs.Merging.{IsOwn}
+use Rattle.curp_merge.specs.Merging.{IsOwn, NameTaken}
 use Rattle.curp_gather.specs.declared.journals.Journals.{Journals}
 
 -- ---- the journals
@@ -89,8 +89,10 @@ pub record AreOf (h : Header) (j : Journals) : Type 0 where
   pub witnesses_rise : NodesAscend j.witnesses.items
   pub own : (k : ℕ) (one : Journal) (t : ℕ) (item : Item) → At (journals_of j) k one → At one.items t item → IsOwn one.id item.input
 
--- the script is a run of the journals, in the order of stamps and then of nodes
+-- The script is a run of the journals, in the order of stamps and then of nodes; a delivery names just the message that
+-- the item took
 pub record IsScriptOf (h : Header) (journals : List Journal) (ss : List Step) : Type 0 where
   pub placed : List Placed
   pub run : RunOf journals h ss placed
   pub in_order : InOrder journals placed
+  pub names : NameTaken ss placed

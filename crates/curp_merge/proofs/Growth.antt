@@ -1,18 +1,24 @@
 -- What taking the turn that is due keeps of a merge.
 use Rattle.std.proofs.Common.{◌≡◌, inl, inr, ℕ, zero, suc, ◌+◌, ◌≤◌, List, [], ◌∷◌, ◌++◌, length, set, take, replicate, refl, ap, sym, ◌∙◌, subst, arith, add-one, append_assoc, append-nil, length-append}
 use Rattle.std.proofs.lemmas.Bool.{cases_lt}
-use Rattle.std.proofs.lemmas.List.{take_all}
+use Rattle.std.proofs.lemmas.List.{length-take-le, take_all}
 use Rattle.curp_base.specs.Words.{At}
 use Rattle.curp_base.proofs.Lists.{Each-append, at_append, at_append_right, at_push_cases, at_replicate, at_same, at_set_cases, at_some, at_within}
 use Rattle.curp_msg.specs.declared.message.Message.{Message}
 use Rattle.curp_msg.specs.declared.script.Step.{Step}
+use Rattle.curp_journal.specs.declared.arrived.Arrived.{Arrived}
+use Rattle.curp_journal.specs.declared.arrived.Arrived.TheVariants as arrived
+use Rattle.curp_journal.specs.declared.arrived.Named.{Named}
+use Rattle.curp_journal.specs.declared.item.Item.{Item}
 use Rattle.curp_turns.specs.Legal.{LegalFrom, deed_by, deed_for}
-use Rattle.curp_turns.specs.Turns.{AreApart, InOrder, IsKnown, Journal, Placed, Precedes, Turn, of, said, sent_by, turn_stamp, turns_of}
+use Rattle.curp_turns.specs.Turns.{AreApart, Did, InOrder, IsKnown, Journal, Placed, Precedes, Turn, of, said, sent_by, turn_stamp, turns_of}
 use Rattle.curp_turns.proofs.Turns.{of_here, of_there, said-snoc}
-use Rattle.curp_merge.specs.Merging.{AreJournals, Merged, turn_weight, weight_sent}
-use Rattle.curp_merge.specs.Weaving.{Comes, IsFirst, IsStepOf, NoneLeft, Numbers, Woven}
+use Rattle.curp_merge.specs.Merging.{AreJournals, Delivers, Merged, NameTaken, turn_weight, weight_sent}
+use Rattle.curp_merge.specs.Weaving.{CanBeGiven, Comes, Counted, DeliversBy, IsCounted, IsFirst, IsSent, IsStepOf, NamesInput, NamesTurn, NoneLeft, Numbers, SentBefore, Woven}
 use Rattle.curp_merge.proofs.Left.{all_left, all_weigh, left_after, length-push}
-use Rattle.curp_merge.proofs.Stamps.{turns_rise}
+use Rattle.curp_merge.proofs.Naming.{counted_more, delivers_more, delivers_sent}
+use Rattle.curp_merge.proofs.Stamps.{turn_of_item, turns_rise}
+use Rattle.curp_merge.proofs.Sums.{legal_length}
 
 -- ---- lists
 
@@ -82,6 +88,8 @@ woven_none journals rows empty =
       in_order = λ t u p q at_p. absurd cc;
       precede = λ t p k j row turn at_p. absurd cc;
       numbers = λ k j row t before turn i m at at_row counted. let e = row_is k row at_row in absurd cc;
+      counted = λ k j row t before turn at at_row counted. let e = row_is k row at_row in absurd cc;
+      names = λ t s p item named at_s. absurd cc;
       next_is = refl;
       light = rw empty (omega (arith, all));
     }
@@ -108,6 +116,63 @@ module _ (journals : List Journal) (rows : List (List ℕ)) (ss : List Step) (ne
             let e : a ≡ j = at_same journals k a j (subst (λ (n : ℕ). At journals n a) same.0 at) stands in
             let n : length r ≡ length row + 1 = ap (λ (x : List ℕ). length x) (sym same.1) ∙ length-push row next in
             rw (e, n) (of_here woven.placed here ∙ (ap (λ ts. ts ++ turn ∷ []) (woven.parts k j row stands its_row) ∙ sym (take_next (turns_of j) (length row) turn its_turn)))
+      ]
+
+  -- where the turn stands then
+  counted_here : IsCounted taken j.id turn (length row) next
+  counted_here = record {
+    pre = woven.placed;
+    post = [];
+    parts = refl;
+    its_place = (let within = at_within (turns_of j) (length row) turn its_turn in
+        ap (λ (ts : List Turn). length ts) (woven.parts k j row stands its_row) ∙ length-take-le (length row) (turns_of j) (omega (arith, within)));
+    its_number = sym woven.next_is;
+  }
+
+  counted_after : Counted journals new_rows taken
+  counted_after i a r t before sender at at_r counted at_sender =
+      elim (at_set_cases rows k (row ++ next ∷ []) i r at_r) [
+        | inl other ↦ counted_more woven.placed here a.id sender t before (woven.counted i a r t before sender at other.1 counted at_sender)
+        | inr same ↦
+            let e : a ≡ j = at_same journals k a j (subst (λ (n : ℕ). At journals n a) same.0 at) stands in
+            let at_j : At (turns_of j) t sender = subst (λ (y : Journal). At (turns_of y) t sender) e at_sender in
+            elim (at_push_cases row next t before (subst (λ (y : List ℕ). At y t before) (sym same.1) counted)) [
+              | inl old ↦ rw e (counted_more woven.placed here j.id sender t before (woven.counted k j row t before sender stands its_row old at_j))
+              | inr new ↦
+                  let s : sender ≡ turn = at_same (turns_of j) (length row) sender turn (subst (λ (n : ℕ). At (turns_of j) n sender) new.0 at_j) its_turn in
+                  rw (e, s, new.0, ← new.1) counted_here
+            ]
+      ]
+
+  -- the step of the turn delivers what came by it, where that is a message
+  names_here : (s : Step) (item : Item) (named : Named) → CanBeGiven journals rows j.id turn → NamesTurn journals rows turn s
+      → turn ≡ Did item → item.input ≡ arrived.Message named → Delivers woven.placed named s
+  names_here s item named given made did came =
+      let before : SentBefore journals rows item.input = (subst (λ (x : Turn). CanBeGiven journals rows j.id x) did given).1 in
+      let sent : IsSent journals rows named = subst (λ (a : Arrived). SentBefore journals rows a) came before in
+      let input : NamesInput journals rows item.input s = subst (λ (x : Turn). NamesTurn journals rows x s) did made in
+      let delivers : DeliversBy journals rows named s = subst (λ (a : Arrived). NamesInput journals rows a s) came input in
+      let at = turn_of_item sent.journal sent.t sent.item sent.taken in
+      let counted = woven.counted sent.place sent.journal sent.row sent.t sent.before (Did sent.item) sent.stands sent.its_row sent.counted at in
+      delivers_sent journals rows woven.placed named sent counted s delivers
+
+  names_after : (s : Step) → CanBeGiven journals rows j.id turn → NamesTurn journals rows turn s → NameTaken (ss ++ s ∷ []) taken
+  names_after s given made t q p item named at_s at_p did came =
+      let level = legal_length [] ss woven.placed woven.legal in
+      elim (at_push_cases ss s t q at_s) [
+        | inl old_step ↦
+            elim (at_push_cases woven.placed here t p at_p) [
+              | inl old ↦ delivers_more woven.placed here named q (woven.names t q p item named old_step old did came)
+              | inr new ↦ absurd (omega (arith, level, new.0, at_within ss t q old_step))
+            ]
+        | inr new_step ↦
+            elim (at_push_cases woven.placed here t p at_p) [
+              | inl old ↦ absurd (omega (arith, level, new_step.0, at_within woven.placed t p old))
+              | inr new ↦
+                  let here_did : turn ≡ Did item = ap (λ (x : Placed). x.turn) new.1 ∙ did in
+                  let delivers = delivers_more woven.placed here named s (names_here s item named given made here_did came) in
+                  subst (λ (z : Step). Delivers taken named z) new_step.1 delivers
+            ]
       ]
 
   in_order_after : InOrder journals taken
@@ -181,8 +246,9 @@ module _ (journals : List Journal) (rows : List (List ℕ)) (ss : List Step) (ne
               ]
         ]
 
-    pub woven_more : (s : Step) → IsStepOf journals rows here s → Woven journals new_rows (ss ++ s ∷ []) (next + length (sent_by turn))
-    woven_more s is =
+    pub woven_more : (s : Step) → IsStepOf journals rows here s → CanBeGiven journals rows j.id turn → NamesTurn journals rows turn s
+        → Woven journals new_rows (ss ++ s ∷ []) (next + length (sent_by turn))
+    woven_more s is given made =
         let left = left_after turn_weight journals rows k j row turn next stands its_row its_turn in
         let weight = all_weigh (sent_by turn) in
         record {
@@ -193,6 +259,8 @@ module _ (journals : List Journal) (rows : List (List ℕ)) (ss : List Step) (ne
           in_order = in_order_after;
           precede = precede_after;
           numbers = numbers_after;
+          counted = counted_after;
+          names = names_after s given made;
           next_is = sym (ap (λ (ms : List Message). length ms) (said-snoc woven.placed here) ∙ (length-append (said woven.placed) (sent_by turn) ∙ ap (λ n. n + length (sent_by turn)) (sym woven.next_is)));
           light = omega (arith, woven.light, left, weight);
         }
@@ -219,5 +287,6 @@ woven_whole journals rows ss next woven lengths none = record {
     };
     legal = woven.legal;
     in_order = woven.in_order;
+    names = woven.names;
   };
 }

@@ -1,6 +1,7 @@
 pub mod Examples
 pub mod Growth
 pub mod Left
+pub mod Naming
 pub mod Readiness
 pub mod Scanning
 pub mod Senders

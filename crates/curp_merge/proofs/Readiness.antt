@@ -6,7 +6,7 @@ use Rattle.curp_msg.specs.declared.script.Step.{Step}
 use Rattle.curp_turns.specs.Turns.{Journal, Turn, sent_by, turn_stamp, turns_of}
 use Rattle.curp_merge.specs.Held.{AllHeld}
 use Rattle.curp_merge.specs.Merging.{AreJournals, weight_sent}
-use Rattle.curp_merge.specs.Weaving.{CanBeGiven, IsDue, IsFirst, IsReady, IsStepOf, Woven, turns_left}
+use Rattle.curp_merge.specs.Weaving.{CanBeGiven, IsDue, IsFirst, IsReady, IsStepOf, NamesTurn, Woven, turns_left}
 use Rattle.curp_merge.proofs.Growth.{next_within, woven_more}
 use Rattle.curp_merge.proofs.Left.{fewer_left}
 use Rattle.curp_merge.proofs.Scanning.{read_at}
@@ -57,19 +57,18 @@ module _ (journals : List Journal) (rows : List (List ℕ)) (k : ℕ) (due : IsD
     same = read_taken ∙ ap (λ (r : List ℕ). length r) (sym read_row)
 
     -- the node can be given what came to it
+    can_be_given : AllHeld journals → length rows ≡ length journals → next < 2 ^ 64 → CanBeGiven journals rows line.id turn
+    can_be_given held lengths fits =
+        elim (turn_cases line (length row) turn its_turn) [
+          | inl did ↦
+              let first = comes_first did.0.stamp (its_stamp ∙ ap (turn_stamp line.items) did.1) in
+              subst (λ (x : Turn). CanBeGiven journals rows line.id x) (sym did.1)
+              (are.own k line (length row) did.0 stands did.2, was_sent journals rows ss next are woven lengths held fits k line row did.0 stands its_row did.2 first)
+          | inr stop ↦ subst (λ (x : Turn). CanBeGiven journals rows line.id x) (sym stop.0) tt
+        ]
+
     pub is_ready : AllHeld journals → length rows ≡ length journals → next < 2 ^ 64 → IsReady journals rows line taken
-    is_ready held lengths fits = record {
-      turn = turn;
-      its_turn = turn_at taken same;
-      given =
-          elim (turn_cases line (length row) turn its_turn) [
-            | inl did ↦
-                let first = comes_first did.0.stamp (its_stamp ∙ ap (turn_stamp line.items) did.1) in
-                subst (λ (x : Turn). CanBeGiven journals rows line.id x) (sym did.1)
-                (are.own k line (length row) did.0 stands did.2, was_sent journals rows ss next are woven lengths held fits k line row did.0 stands its_row did.2 first)
-            | inr stop ↦ subst (λ (x : Turn). CanBeGiven journals rows line.id x) (sym stop.0) tt
-          ];
-    }
+    is_ready held lengths fits = record { turn = turn; its_turn = turn_at taken same; given = can_be_given held lengths fits }
 
     module _ (sent : ℕ) (counted : IfSome (slice_get (turns_of line) taken) (λ (x : Turn). sent ≡ length (sent_by x))) where
       sent_is : sent ≡ length (sent_by turn)
@@ -80,8 +79,13 @@ module _ (journals : List Journal) (rows : List (List ℕ)) (k : ℕ) (due : IsD
           let most = next_within journals rows ss next are woven k line row turn stands its_row its_turn in
           omega (arith, sent_is, most)
 
-      pub is_woven : (step : Step) → IfSome (slice_get (turns_of line) taken) (λ (x : Turn). IsStepOf journals rows (record { node = line.id; turn = x }) step)
+      pub is_woven : AllHeld journals → length rows ≡ length journals → next < 2 ^ 64 → (step : Step)
+          → IfSome (slice_get (turns_of line) taken) (λ (x : Turn). IsStepOf journals rows (record { node = line.id; turn = x }) step)
+          → IfSome (slice_get (turns_of line) taken) (λ (x : Turn). NamesTurn journals rows x step)
           → Woven journals (set rows k (row ++ next ∷ [])) (ss ++ step ∷ []) (next + sent)
-      is_woven step made =
+      is_woven held lengths fits step made named =
           let does = of_some (λ (x : Turn). IsStepOf journals rows (record { node = line.id; turn = x }) step) (slice_get (turns_of line) taken) turn (turn_at taken same) made in
-          rw sent_is (woven_more journals rows ss next are woven k line row turn stands its_row its_turn (comes_first (turn_stamp line.items turn) its_stamp) step does)
+          let names = of_some (λ (x : Turn). NamesTurn journals rows x step) (slice_get (turns_of line) taken) turn (turn_at taken same) named in
+          rw sent_is
+          (woven_more journals rows ss next are woven k line row turn stands its_row its_turn (comes_first (turn_stamp line.items turn) its_stamp)
+          step does (can_be_given held lengths fits) names)

@@ -21,7 +21,7 @@ use Rattle.curp_journal.proofs.Replays.{stamp_above}
 use Rattle.curp_turns.specs.Turns.{AreApart, Did, Journal, turn_stamp, turns_of}
 use Rattle.curp_merge.specs.Held.{AllHeld, IsHeld, held_by, journal_of, kept_at}
 use Rattle.curp_merge.specs.Merging.{AreJournals}
-use Rattle.curp_merge.specs.Weaving.{IsFirst, IsNumberOf, IsSent, SentBefore, Woven}
+use Rattle.curp_merge.specs.Weaving.{IsFirst, IsNumberBy, IsNumberOf, IsSent, SentBefore, Woven}
 use Rattle.curp_merge.proofs.Stamps.{turn_of_item, turns_rise}
 
 -- ---- searches
@@ -198,7 +198,8 @@ module _ (journals : List Journal) (rows : List (List ℕ)) (named : Named) (fro
     pub before_is : get_or befores (named.step - 1) 0 ≡ s.before
     before_is = get_or_from_slice_get befores (named.step - 1) s.before 0 counted_at
 
-at_place : {A : Type 0} (xs : List A) (k n : ℕ) (x : A) → n ≡ k + 1 → At xs k x → numbered xs n ≡ Some x
+-- what stands at a place has its number
+pub at_place : {A : Type 0} (xs : List A) (k n : ℕ) (x : A) → n ≡ k + 1 → At xs k x → numbered xs n ≡ Some x
 at_place xs k zero x e h = absurd (omega arith)
 at_place xs k (suc n) x e h = let same : k ≡ n = omega arith in subst (λ (i : ℕ). At xs i x) same h
 
@@ -206,3 +207,12 @@ pub number_is : (journals : List Journal) (rows : List (List ℕ)) (named : Name
 number_is journals rows named s sent numbers =
     at_place sent (s.before + s.i) (s.before + named.place) named.message (omega (arith, s.place_is))
     (numbers s.place s.journal s.row s.t s.before (Did s.item) s.i named.message s.stands s.its_row s.counted (turn_of_item s.journal s.t s.item s.taken) s.sent)
+
+-- the rows give the message of that name no other number
+pub only_number : (journals : List Journal) (rows : List (List ℕ)) (named : Named) (s : IsSent journals rows named) → AreApart journals → IsNumberBy journals rows named (s.before + named.place)
+only_number journals rows named s apart k j row t before stands its_row counted its_name step_is =
+    let same : k ≡ s.place = apart k s.place j s.journal stands s.stands (its_name ∙ sym s.its_name) in
+    let e : row ≡ s.row = at_same rows s.place row s.row (subst (λ (n : ℕ). At rows n row) same its_row) s.its_row in
+    let u : t ≡ s.t = omega (arith, step_is, s.step_is) in
+    let b : before ≡ s.before = at_same s.row s.t before s.before (subst (λ (n : ℕ). At s.row n before) u (subst (λ (r : List ℕ). At r t before) e counted)) s.counted in
+    omega (arith, b)

@@ -1,7 +1,7 @@
 -- What a merge of journals is (this project's own).
-use Rattle.std.specs.Prelude.{◌≡◌, ℕ, Bool, true, false, List, [], length, map}
+use Rattle.std.specs.Prelude.{◌≡◌, ℕ, ◌+◌, Bool, true, false, List, [], ◌∷◌, ◌++◌, length, map, Some}
 use Rattle.std.specs.List.{sum}
-use Rattle.curp_base.specs.Words.{At}
+use Rattle.curp_base.specs.Words.{At, numbered}
 use Rattle.curp_cmd.specs.declared.node.NodeId.{NodeId}
 use Rattle.curp_cmd.specs.declared.node.NodeKind.{NodeKind}
 use Rattle.curp_cmd.specs.declared.node.NodeKind.TheVariants as kind
@@ -10,12 +10,14 @@ use Rattle.curp_msg.specs.Weight.{weight_of}
 use Rattle.curp_msg.specs.declared.machine.Local.{Local}
 use Rattle.curp_msg.specs.declared.machine.Local.TheVariants as local
 use Rattle.curp_msg.specs.declared.script.Step.{Step}
+use Rattle.curp_msg.specs.declared.script.Step.TheVariants as steps
 use Rattle.curp_journal.specs.Journal.{Stamped}
 use Rattle.curp_journal.specs.declared.arrived.Arrived.{Arrived}
 use Rattle.curp_journal.specs.declared.arrived.Arrived.TheVariants as arrived
+use Rattle.curp_journal.specs.declared.arrived.Named.{Named}
 use Rattle.curp_journal.specs.declared.item.Item.{Item}
 use Rattle.curp_turns.specs.Legal.{LegalFrom}
-use Rattle.curp_turns.specs.Turns.{AreApart, AreTurns, InOrder, Journal, Placed, Turn, sent_by, turns_of}
+use Rattle.curp_turns.specs.Turns.{AreApart, AreTurns, Did, InOrder, Journal, Placed, Turn, of, said, sent_by, turns_of}
 
 -- a script has a step that gives the order to a node of the kind
 abbrev pub is_order_of : NodeKind → Local → Bool
@@ -54,11 +56,40 @@ turn_weight turn = sum (map weight_of (sent_by turn))
 abbrev pub weight_sent : List Journal → ℕ
 weight_sent journals = sum (map (λ (j : Journal). sum (map turn_weight (turns_of j))) journals)
 
--- The steps are the turns of the journals, in order of stamps and then of journals, and each is to do what its turn says
+-- ---- which message a delivery names
+
+-- The number of a message by its name, where these turns are in order: its sender's item of that step stands behind
+-- turns that sent so many messages, and the message stands in what that item sent, at the place that is added to these.
+-- Steps and places count from 1
+pub record IsNumberIn (placed : List Placed) (named : Named) (number : ℕ) : Type 0 where
+  pub before : List Placed
+  pub item : Item
+  pub after : List Placed
+  pub parts : placed ≡ before ++ (record { node = named.from; turn = Did item } ∷ after)
+  pub its_step : named.step ≡ length (of named.from before) + 1
+  pub its_place : numbered item.done.sent named.place ≡ Some named.message
+  pub number_is : number ≡ length (said before) + named.place
+
+-- the step delivers just the message of that name, and no other that is equal to it
+pub record Delivers (placed : List Placed) (named : Named) (step : Step) : Type 0 where
+  pub number : ℕ
+  pub step_is : step ≡ steps.Deliver number
+  pub is : IsNumberIn placed named number
+
+-- the step of each item that took a message delivers just that message
+abbrev pub NameTaken : List Step → List Placed → Type 0
+NameTaken ss placed = (t : ℕ) (s : Step) (p : Placed) (item : Item) (named : Named)
+    → At ss t s → At placed t p → p.turn ≡ Did item → item.input ≡ arrived.Message named → Delivers placed named s
+
+-- ---- the merge
+
+-- The steps are the turns of the journals, in order of stamps and then of journals, and each is to do what its turn
+-- says; a delivery names just the message that the item took
 pub record IsMerge (journals : List Journal) (ss : List Step) (placed : List Placed) : Type 0 where
   pub turns : AreTurns journals placed
   pub legal : LegalFrom [] ss placed
   pub in_order : InOrder journals placed
+  pub names : NameTaken ss placed
 
 -- some order of the turns is such a merge
 pub record Merged (journals : List Journal) (ss : List Step) : Type 0 where

@@ -1,6 +1,6 @@
 -- How far a merge of journals has come, and what is due. A journal has a row of numbers: for each of its turns that was
 -- taken, how many messages were sent before it (this project's own).
-use Rattle.std.specs.Prelude.{◌≡◌, ◌≤◌, ◌<◌, ◌⊎◌, ℕ, ◌+◌, ◌^◌, nat_lt, Bool, true, List, [], ◌∷◌, length, take, drop, slice_get, Option, Some, None, option_map, IfSome, ⊤}
+use Rattle.std.specs.Prelude.{◌≡◌, ◌≤◌, ◌<◌, ◌⊎◌, ℕ, ◌+◌, ◌^◌, nat_lt, Bool, true, List, [], ◌∷◌, ◌++◌, length, take, drop, slice_get, Option, Some, None, option_map, IfSome, ⊤}
 use Rattle.std.specs.List.{sum_by}
 use Rattle.curp_base.specs.Words.{At, Each, numbered}
 use Rattle.curp_cmd.specs.declared.node.NodeId.{NodeId}
@@ -8,6 +8,7 @@ use Rattle.curp_msg.specs.declared.machine.Input.TheVariants as input
 use Rattle.curp_msg.specs.declared.machine.Local.{Local}
 use Rattle.curp_msg.specs.declared.message.Message.{Message}
 use Rattle.curp_msg.specs.declared.script.Step.{Step}
+use Rattle.curp_msg.specs.declared.script.Step.TheVariants as steps
 use Rattle.curp_model.specs.World.{Gives}
 use Rattle.curp_journal.specs.Given.{given}
 use Rattle.curp_journal.specs.declared.arrived.Arrived.{Arrived}
@@ -16,7 +17,7 @@ use Rattle.curp_journal.specs.declared.arrived.Named.{Named}
 use Rattle.curp_journal.specs.declared.item.Item.{Item}
 use Rattle.curp_turns.specs.Legal.{LegalFrom, deed_by, deed_for}
 use Rattle.curp_turns.specs.Turns.{Did, InOrder, IsKnown, Journal, Placed, Precedes, Quits, Turn, of, said, sent_by, turn_stamp, turns_of}
-use Rattle.curp_merge.specs.Merging.{IsOwn, turn_weight, weight_sent}
+use Rattle.curp_merge.specs.Merging.{IsOwn, NameTaken, turn_weight, weight_sent}
 
 -- ---- which turn is due
 
@@ -99,6 +100,29 @@ IsNextStep journals rows j taken step = IfSome (slice_get (turns_of j) taken) (�
 abbrev pub IsStepForInput : List Journal → List (List ℕ) → NodeId → Arrived → Step → Type 0
 IsStepForInput journals rows node arrived step = (sent : List Message) → Numbers journals rows sent → deed_by sent step ≡ Gives node (given arrived)
 
+-- ---- which message a step names
+
+-- the message of that name has this number, by the rows: it is so many behind what was sent before its sender's turn
+abbrev pub IsNumberBy : List Journal → List (List ℕ) → Named → ℕ → Type 0
+IsNumberBy journals rows named number = (k : ℕ) (j : Journal) (row : List ℕ) (t before : ℕ)
+    → At journals k j → At rows k row → At row t before → j.id ≡ named.from → named.step ≡ t + 1 → number ≡ before + named.place
+
+-- the step delivers the message of that name, by the rows
+abbrev pub DeliversBy : List Journal → List (List ℕ) → Named → Step → Type 0
+DeliversBy journals rows named step = (number : ℕ) × (step ≡ steps.Deliver number) × IsNumberBy journals rows named number
+
+-- what came is an order, or the step delivers the message of its name
+abbrev pub NamesInput : List Journal → List (List ℕ) → Arrived → Step → Type 0
+NamesInput journals rows (arrived.Local order stamp) step = ⊤
+NamesInput journals rows (arrived.Message named) step = DeliversBy journals rows named step
+
+-- so it is with what came by the turn
+abbrev pub NamesTurn : List Journal → List (List ℕ) → Turn → Step → Type 0
+NamesTurn journals rows (Did item) step = NamesInput journals rows item.input step
+NamesTurn journals rows Quits step = ⊤
+
+-- ---- what a node can be given
+
 -- an item that was taken sent the named message, and its number is below 2^64
 pub record IsSent (journals : List Journal) (rows : List (List ℕ)) (named : Named) : Type 0 where
   pub place : ℕ
@@ -145,6 +169,19 @@ sum_left measure _ _ = 0
 abbrev pub turns_left : List Journal → List (List ℕ) → ℕ
 turns_left journals rows = sum_left (λ turn. 1) journals rows
 
+-- the turn of a node stands behind so many of its turns, and behind turns that sent so many messages
+pub record IsCounted (placed : List Placed) (node : NodeId) (turn : Turn) (t before : ℕ) : Type 0 where
+  pub pre : List Placed
+  pub post : List Placed
+  pub parts : placed ≡ pre ++ (record { node = node; turn = turn } ∷ post)
+  pub its_place : length (of node pre) ≡ t
+  pub its_number : length (said pre) ≡ before
+
+-- so stands each turn that was taken, as its row says
+abbrev pub Counted : List Journal → List (List ℕ) → List Placed → Type 0
+Counted journals rows placed = (k : ℕ) (j : Journal) (row : List ℕ) (t before : ℕ) (turn : Turn)
+    → At journals k j → At rows k row → At row t before → At (turns_of j) t turn → IsCounted placed j.id turn t before
+
 -- So far the steps are a merge of the turns that the rows count, and `next` messages were sent. Those turns precede all
 -- that are left
 pub record Woven (journals : List Journal) (rows : List (List ℕ)) (ss : List Step) (next : ℕ) : Type 0 where
@@ -156,5 +193,7 @@ pub record Woven (journals : List Journal) (rows : List (List ℕ)) (ss : List S
   pub precede : (t : ℕ) (p : Placed) (k : ℕ) (j : Journal) (row : List ℕ) (turn : Turn)
       → At placed t p → At journals k j → At rows k row → At (turns_of j) (length row) turn → Precedes journals p (record { node = j.id; turn = turn })
   pub numbers : Numbers journals rows (said placed)
+  pub counted : Counted journals rows placed
+  pub names : NameTaken ss placed
   pub next_is : next ≡ length (said placed)
   pub light : next + sum_left turn_weight journals rows ≤ weight_sent journals

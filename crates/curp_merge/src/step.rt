@@ -4,7 +4,7 @@ ghost use Rattle.curp_cmd.specs.Node.{manager_node, same_node};
 ghost use Rattle.curp_cmd.specs.declared.node.NodeKind.TheVariants as kind;
 ghost use Rattle.curp_turns.specs.Turns.{AreApart, Journal, sent_by, turns_of};
 ghost use Rattle.curp_merge.specs.Merging.{IsOwn, is_order_of};
-ghost use Rattle.curp_merge.specs.Weaving.{IsNextStep, IsNumberOf, IsOrderTo, IsReady, IsSent, IsStepForInput, SentBefore};
+ghost use Rattle.curp_merge.specs.Weaving.{IsNextStep, IsNumberBy, IsNumberOf, IsOrderTo, IsReady, IsSent, IsStepForInput, NamesInput, NamesTurn, SentBefore};
 
 use crate::Line;
 use crate::track::Track;
@@ -25,6 +25,7 @@ pub(crate) fn next_step(lines: &[Line<'_>], tracks: &[Track], line: &Line<'_>, t
     requires one_manager { line.now.id.kind ≡ kind.Manager → line.now.id ≡ manager_node }
     requires ready { IsReady lines.now tracks.now line.now taken }
     ensures step { IsNextStep lines.now tracks.now line.now taken result.step }
+    ensures names { IfSome (slice_get (turns_of line.now) taken) (λ turn. NamesTurn lines.now tracks.now turn result.step) }
     ensures sent { IfSome (slice_get (turns_of line.now) taken) (λ turn. result.sent ≡ length (sent_by turn)) }
 {
     let items = line.items();
@@ -47,7 +48,8 @@ fn step_of(lines: &[Line<'_>], tracks: &[Track], node: NodeId, input: &Arrived) 
     requires one_manager { node.kind ≡ kind.Manager → node ≡ manager_node }
     requires own { IsOwn node input.now }
     requires sent { SentBefore lines.now tracks.now input.now }
-    ensures { IsStepForInput lines.now tracks.now node input.now result }
+    ensures step { IsStepForInput lines.now tracks.now node input.now result }
+    ensures names { NamesInput lines.now tracks.now input.now result }
 {
     match input {
         Arrived::Local(order, _) => order_step(node, order),
@@ -109,7 +111,8 @@ fn order_step(node: NodeId, order: &Local) -> Step
 fn number_of(lines: &[Line<'_>], tracks: &[Track], named: &Named) -> u64
     requires apart { AreApart lines.now }
     requires sent { IsSent lines.now tracks.now named.now }
-    ensures { IsNumberOf lines.now tracks.now named.now.message result }
+    ensures number { IsNumberOf lines.now tracks.now named.now.message result }
+    ensures names { IsNumberBy lines.now tracks.now named.now result }
 {
     let Some(from) = place_of(lines, named.from) else {
         unreachable!()

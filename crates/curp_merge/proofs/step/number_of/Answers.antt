@@ -2,7 +2,7 @@ use Rattle.std.proofs.Common.{◌∙◌, ap, arith}
 use Rattle.curp_cmd.specs.Node.{same_node}
 use Rattle.curp_cmd.proofs.Nodes.{same_node-self}
 use Rattle.curp_turns.specs.Turns.{Journal}
-use Rattle.curp_merge.proofs.Senders.{before_is, number_is, position_none, stands_at, step_below}
+use Rattle.curp_merge.proofs.Senders.{before_is, number_is, only_number, position_none, stands_at, step_below}
 use Rattle.curp_merge.proofs.step.number_of.Goals as goal
 
 pub unreachable-requires : goal.unreachable-requires
@@ -31,8 +31,14 @@ overflow_add-result c =
     c.index-tracks-from.result c.as_slice-befores.result.now c.index-tracks-from.is c.as_slice-befores.ensures in
     omega (arith, before, c.requires.sent.fits)
 
-pub returns : goal.returns
-returns c =
+pub returns-clause-number : goal.returns-clause-number
+returns-clause-number c =
     let before = before_is c.args.lines.now c.args.tracks.now c.args.named.now c.in-Some.from c.requires.sent c.requires.apart c.in-Some.ensures
     c.index-tracks-from.result c.as_slice-befores.result.now c.index-tracks-from.is c.as_slice-befores.ensures in
     rw before (number_is c.args.lines.now c.args.tracks.now c.args.named.now c.requires.sent)
+
+pub returns-clause-names : goal.returns-clause-names
+returns-clause-names c =
+    let before = before_is c.args.lines.now c.args.tracks.now c.args.named.now c.in-Some.from c.requires.sent c.requires.apart c.in-Some.ensures
+    c.index-tracks-from.result c.as_slice-befores.result.now c.index-tracks-from.is c.as_slice-befores.ensures in
+    rw before (only_number c.args.lines.now c.args.tracks.now c.args.named.now c.requires.sent c.requires.apart)

@@ -24,7 +24,7 @@ returns-clause-woven c =
     let pushed : c.push-2.new.self ≡ row ++ c.args.next ∷ [] = c.in_ok-push-2.ensures.ok ∙ ap (λ (r : List ℕ). r ++ c.args.next ∷ []) (sym c.index-tracks-at-2.is ∙ again) in
     let woven = is_woven c.args.lines.now c.args.tracks.now c.args.at c.requires.due c.index-lines-at.result row c.index-lines-at.is c.index-tracks-at.is
     c.args.steps.now.items c.args.next c.requires.are c.requires.woven c.len-taken.result c.len-taken.ensures c.next_step-made.result.sent c.next_step-made.ensures.sent
-    c.next_step-made.result.step c.next_step-made.ensures.step in
+    c.requires.held c.requires.lengths (omega arith) c.next_step-made.result.step c.next_step-made.ensures.step c.next_step-made.ensures.names in
     rw (pushed, c.in_ok-push.ensures.items) woven
 
 pub returns-clause-less : goal.returns-clause-less
