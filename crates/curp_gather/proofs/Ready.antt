@@ -1,5 +1,5 @@
 -- Journals of a header's nodes can be merged, and each is one that the node can have in the header's world.
-use Rattle.std.proofs.Common.{◌≡◌, ◌≢◌, ◌⊎◌, inl, inr, ℕ, zero, suc, ◌+◌, ◌*◌, ◌<◌, ◌≤◌, Bool, false, List, [], ◌∷◌, ◌++◌, length, map, None, Some, refl, ap, sym, ◌∙◌, subst, arith}
+use Rattle.std.proofs.Common.{◌≡◌, ◌≢◌, ◌⊎◌, inl, inr, ℕ, zero, suc, ◌+◌, ◌*◌, ◌≤◌, Bool, false, List, [], ◌∷◌, ◌++◌, length, map, None, refl, ap, sym, ◌∙◌, subst, arith}
 use Rattle.std.proofs.lemmas.Bool.{cases_lt}
 use Rattle.curp_base.specs.Words.{At, Each}
 use Rattle.curp_base.proofs.Lists.{Each-append, Each-at, Each-map, Each-weaker, at_append_cases}
@@ -11,17 +11,15 @@ use Rattle.curp_msg.specs.Moved.{Node}
 use Rattle.curp_msg.specs.declared.script.Header.{Header}
 use Rattle.curp_msg.specs.declared.script.Step.{Step}
 use Rattle.curp_model.specs.Backup.{BackupState, fresh_backup, installed_backup}
-use Rattle.curp_model.specs.Client.{ClientState, fresh_client}
-use Rattle.curp_model.specs.Manager.{ManagerState, opening_config, opening_manager}
+use Rattle.curp_model.specs.Client.{ClientState}
 use Rattle.curp_model.specs.Recovery.{Fresh, MasterStage}
 use Rattle.curp_model.specs.Witness.{WitnessState, fresh_witness, started_witness}
 use Rattle.curp_model.specs.World.{opening, opening_master, shape_of, weight_limit}
 use Rattle.curp_journal.specs.Journal.{IsJournal, Log, Stamped}
-use Rattle.curp_journal.specs.declared.item.Item.{Item}
 use Rattle.curp_turns.specs.Turns.{AreApart, Journal, Placed}
 use Rattle.curp_law_names.proofs.Lists.{at_mapped}
 use Rattle.curp_law_weave.specs.NodeStates.{ABackup, AClient, AManager, AMaster, AWitness, NodeState, machine_of, opening_of, state_of}
-use Rattle.curp_law_weave.specs.Openings.{ComesAs, OpensAs, numbered_machine}
+use Rattle.curp_law_weave.specs.Openings.{ComesAs, OpensAs}
 use Rattle.curp_law_weave.specs.Run.{IsJournalOf, Legal, RunOf, TakesFirst}
 use Rattle.curp_law_weave.proofs.ByKind.{backup_journal, client_journal, manager_journal, master_journal, witness_journal}
 use Rattle.curp_law_weave.proofs.Openings.{backup_comes, backup_opens, client_opens, manager_opens, master_comes, master_opens, witness_comes, witness_opens}

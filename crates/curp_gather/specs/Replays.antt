@@ -1,5 +1,4 @@
 -- What is known of each kept journal by its type (this project's own).
-use Rattle.std.specs.Prelude.{List}
 use Rattle.curp_base.specs.Words.{Each}
 use Rattle.curp_msg.specs.Moved.{Moved}
 use Rattle.curp_msg.specs.declared.machine.Input.{Input}
