@@ -58,9 +58,9 @@ weight_sent journals = sum (map (λ (j : Journal). sum (map turn_weight (turns_o
 
 -- ---- which message a delivery names
 
--- The number of a message by its name, where these turns are in order: its sender's item of that step stands behind
--- turns that sent so many messages, and the message stands in what that item sent, at the place that is added to these.
--- Steps and places count from 1
+-- The message of that name has this number among all that the turns send, in their order: the item of its step, of its
+-- sender's, stands behind turns that sent so many messages, and in what that item sent the message stands at its place.
+-- Steps, places and numbers count from 1
 pub record IsNumberIn (placed : List Placed) (named : Named) (number : ℕ) : Type 0 where
   pub before : List Placed
   pub item : Item
@@ -70,7 +70,7 @@ pub record IsNumberIn (placed : List Placed) (named : Named) (number : ℕ) : Ty
   pub its_place : numbered item.done.sent named.place ≡ Some named.message
   pub number_is : number ≡ length (said before) + named.place
 
--- the step delivers just the message of that name, and no other that is equal to it
+-- the step delivers just the message of that name, and not another that is equal to it
 pub record Delivers (placed : List Placed) (named : Named) (step : Step) : Type 0 where
   pub number : ℕ
   pub step_is : step ≡ steps.Deliver number

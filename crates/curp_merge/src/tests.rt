@@ -136,28 +136,41 @@ fn a_wrong_stamp_is_a_mismatch(rt: HostRuntime) -> Result<(), Fail> {
     Ok(())
 }
 
-#[test]
-fn messages_go_over(rt: HostRuntime) -> Result<(), Fail> {
-    let alloc = rt.alloc();
+// A master asked twice, and a backup took the second question first.
+fn crossed(alloc: Global, second: u32) -> Result<Vec<Step>, Fail> {
     let mut sent = Vec::new(alloc);
     sent.push(fence(1))?;
-    sent.push(fence(2))?;
+    sent.push(fence(second))?;
     let master = [ordered(sent)];
     let backup = [
-        took(alloc, 2, named(2, 1, 2)),
+        took(alloc, 2, named(2, 1, second)),
         took(alloc, 3, named(1, 1, 1)),
     ];
     let master = Line::new(NodeId::master(1), &master, false);
     let backup = Line::new(NodeId::backup(1), &backup, false);
-    let Ok(steps) = merged(alloc, backup, master) else {
-        return Err(Fail::new("no script"));
-    };
-    let want = [
-        Step::Sync { master: 1 },
-        Step::Deliver { message: 2 },
-        Step::Deliver { message: 1 },
-    ];
-    assert_eq!(rt; steps.as_slice(), want.as_slice());
+    match merged(alloc, backup, master) {
+        Ok(steps) => Ok(steps),
+        Err(_) => Err(Fail::new("no script")),
+    }
+}
+
+const CROSSED: [Step; 3] = [
+    Step::Sync { master: 1 },
+    Step::Deliver { message: 2 },
+    Step::Deliver { message: 1 },
+];
+
+#[test]
+fn messages_go_over(rt: HostRuntime) -> Result<(), Fail> {
+    let steps = crossed(rt.alloc(), 2)?;
+    assert_eq!(rt; steps.as_slice(), CROSSED.as_slice());
+    Ok(())
+}
+
+#[test]
+fn equal_messages_are_told_apart(rt: HostRuntime) -> Result<(), Fail> {
+    let steps = crossed(rt.alloc(), 1)?;
+    assert_eq!(rt; steps.as_slice(), CROSSED.as_slice());
     Ok(())
 }
 

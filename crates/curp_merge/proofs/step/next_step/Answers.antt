@@ -1,7 +1,6 @@
-use Rattle.std.proofs.Common.{◌≡◌, ◌<◌, inl, inr, length, IfSome, ap, sym, subst, arith}
+use Rattle.std.proofs.Common.{◌<◌, inl, inr, length, IfSome, ap, sym, subst, arith}
 use Rattle.curp_base.specs.Words.{At}
 use Rattle.curp_base.proofs.Lists.{at_within}
-use Rattle.curp_turns.specs.Turns.{Did, turns_of}
 use Rattle.curp_merge.specs.Weaving.{NamesTurn}
 use Rattle.curp_merge.proofs.Scanning.{read_at}
 use Rattle.curp_merge.proofs.Stamps.{turn_cases, turn_of_item}
