@@ -58,9 +58,10 @@ weight_sent journals = sum (map (λ (j : Journal). sum (map turn_weight (turns_o
 
 -- ---- which message a delivery names
 
--- The message of that name has this number among all that the turns send, in their order: the item of its step, of its
--- sender's, stands behind turns that sent so many messages, and in what that item sent the message stands at its place.
--- Steps, places and numbers count from 1
+-- The message of that name has this number among all that the turns send, in their order: its sender's item of its step
+-- stands behind turns that sent so many messages, and the message stands at its place in what that item sent. The turns
+-- of a node are those of its journal in order, so it is the journal's item of that step. Steps, places and numbers count
+-- from 1
 pub record IsNumberIn (placed : List Placed) (named : Named) (number : ℕ) : Type 0 where
   pub before : List Placed
   pub item : Item
