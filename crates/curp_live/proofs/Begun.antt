@@ -1,5 +1,5 @@
 -- What journals of one kind are that were begun anew with the nodes of an opening.
-use Rattle.std.proofs.Common.{◌≡◌, ℕ, ◌+◌, ◌<◌, ◌≤◌, false, List, length, map, replicate, refl, ap, sym, ◌∙◌, subst, arith}
+use Rattle.std.proofs.Common.{◌≡◌, ℕ, ◌+◌, ◌<◌, ◌≤◌, false, List, map, replicate, ap, sym, ◌∙◌, subst, arith}
 use Rattle.std.proofs.lemmas.List.{length-map}
 use Rattle.curp_base.specs.Words.{At, Each, numbers_from}
 use Rattle.curp_base.proofs.Lists.{Each-from_at, at_map, at_replicate, at_same, at_some, at_within}
@@ -8,7 +8,6 @@ use Rattle.curp_cmd.specs.declared.node.NodeId.{NodeId}
 use Rattle.curp_cmd.specs.declared.node.NodeKind.{NodeKind}
 use Rattle.curp_msg.specs.Moved.{Node}
 use Rattle.curp_journal.specs.Journal.{Log}
-use Rattle.curp_journal.specs.declared.item.Item.{Item}
 use Rattle.curp_turns.specs.Turns.{Journal}
 use Rattle.curp_opening.specs.Nodes.{HasNumbers, states}
 use Rattle.curp_gather.specs.Journals.{NodesAscend, journal_of}

@@ -1,24 +1,19 @@
 -- What was begun anew and did the work is a live run.
-use Rattle.std.proofs.Common.{◌≡◌, ◌⊎◌, inl, ℕ, ◌+◌, ◌*◌, ◌<◌, ◌≤◌, false, List, ◌∷◌, ◌++◌, length, map, refl, ap, sym, ◌∙◌, subst, arith}
-use Rattle.curp_base.specs.Words.{At, Each, numbers_from}
+use Rattle.std.proofs.Common.{◌≡◌, inl, ℕ, ◌*◌, false, List, map, refl, ◌∙◌, arith}
+use Rattle.curp_base.specs.Words.{At, Each}
 use Rattle.curp_base.proofs.Lists.{Each-append, Each-at, Each-from_at, Each-map}
 use Rattle.curp_cmd.specs.Node.{manager_node}
 use Rattle.curp_cmd.specs.declared.command.Command.{Command}
 use Rattle.curp_cmd.specs.declared.node.NodeKind.TheVariants as kind
-use Rattle.curp_msg.specs.Moved.{Node}
 use Rattle.curp_msg.specs.declared.script.Header.{Header}
-use Rattle.curp_journal.specs.Journal.{Log}
-use Rattle.curp_journal.specs.declared.item.Item.{Item}
 use Rattle.curp_facts.specs.Run.{IsHeader}
-use Rattle.curp_model.specs.Backup.{BackupState, installed_backup}
-use Rattle.curp_model.specs.Client.{ClientState, fresh_client}
+use Rattle.curp_model.specs.Backup.{installed_backup}
+use Rattle.curp_model.specs.Client.{fresh_client}
 use Rattle.curp_model.specs.Manager.{opening_config}
-use Rattle.curp_model.specs.Recovery.{MasterStage}
-use Rattle.curp_model.specs.Witness.{WitnessState, started_witness}
+use Rattle.curp_model.specs.Witness.{started_witness}
 use Rattle.curp_model.specs.World.{opening_master, shape_of}
-use Rattle.curp_merge.specs.Merging.{IsOwn}
 use Rattle.curp_turns.specs.Turns.{Journal}
-use Rattle.curp_turns.specs.Work.{DidWork, recoveries_in}
+use Rattle.curp_turns.specs.Work.{recoveries_in}
 use Rattle.curp_gather.specs.Journals.{AreOf, IsBackupJournal, IsClientJournal, IsManagerJournal, IsMasterJournal, IsWitnessJournal, journal_of, journals_of}
 use Rattle.curp_gather.specs.declared.journals.Journals.{Journals}
 use Rattle.curp_words.specs.Plan.{IsLivePlan}

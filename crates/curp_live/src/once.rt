@@ -46,11 +46,14 @@ fn run_all<R: Threads + Wait + Sync, G: Gate + Sync>(
     gate: &G,
 ) -> Result<(), NoMemory> {
     let all = jobs(alloc, &floor.seats, work)?;
-    thread::map_indices(rt, alloc, all.len(), &|at: usize| -> End
-        requires { at < vec_len all }
-    {
-        floor.run(rt, gate, all[at])
-    })?;
+    thread::map_indices(
+        rt,
+        alloc,
+        all.len(),
+        &|at: usize| -> End
+            requires { at < vec_len all }
+        { floor.run(rt, gate, all[at]) },
+    )?;
     Ok(())
 }
 

@@ -4,7 +4,8 @@ ghost use Rattle.curp_cmd.specs.Node.{manager_node, same_node};
 ghost use Rattle.curp_cmd.specs.declared.node.NodeKind.TheVariants as kind;
 ghost use Rattle.curp_turns.specs.Turns.{AreApart, Journal, sent_by, turns_of};
 ghost use Rattle.curp_merge.specs.Merging.{IsOwn, is_order_of};
-ghost use Rattle.curp_merge.specs.Weaving.{IsNextStep, IsNumberBy, IsNumberOf, IsOrderTo, IsReady, IsSent, IsStepForInput, NamesInput, NamesTurn, SentBefore};
+ghost use Rattle.curp_merge.specs.Weaving.{IsNextStep, IsNumberBy, IsNumberOf, IsOrderTo, IsReady, IsSent};
+ghost use Rattle.curp_merge.specs.Weaving.{IsStepForInput, NamesInput, NamesTurn, SentBefore};
 
 use crate::Line;
 use crate::track::Track;

@@ -1,6 +1,5 @@
 -- A text that is written piece by piece.
 use Rattle.std.proofs.Common.{◌≡◌, List, ℕ, [], ◌++◌, Result, Ok, Err, OnOk, refl, ap, sym, ◌∙◌, subst, append_assoc, append-nil}
-use Rattle.curp_base.specs.Words.{IsPrefix}
 use Rattle.curp_io.specs.Streams.{HoldsPart}
 use Rattle.curp_play.proofs.SoFar.{SoFar}
 

@@ -1,5 +1,5 @@
 -- What a run on threads shows, and what is written of it.
-use Rattle.std.proofs.Common.{◌≡◌, inr, [], ◌∷◌, ◌++◌, ℕ, List, Some, Global, Vec, length, map, ap, sym, ◌∙◌, subst, append_assoc}
+use Rattle.std.proofs.Common.{◌≡◌, inr, [], ◌∷◌, ◌++◌, ℕ, List, Global, Vec, length, map, ap, sym, ◌∙◌, subst, append_assoc}
 use Rattle.std.proofs.lemmas.List.{length-map}
 use Rattle.curp_cmd.specs.declared.command.Command.{Command}
 use Rattle.curp_msg.specs.declared.script.Header.{Header}
@@ -12,10 +12,9 @@ use Rattle.curp_gather.specs.Journals.{IsScriptOf, journals_of}
 use Rattle.curp_gather.specs.declared.journals.Journals.{Journals}
 use Rattle.curp_gen.specs.Commands.{workload_of}
 use Rattle.curp_live.specs.Live.{IsLiveRun, live_header}
-use Rattle.curp_script.specs.Texts.{script_lines}
 use Rattle.curp_opening.proofs.Numbers.{named_length}
 use Rattle.curp_io.specs.Streams.{HoldsPart}
-use Rattle.curp_play.specs.Play.{HasAnOrder, LeadsToAnOrder, OrderStands, script_in, text_of}
+use Rattle.curp_play.specs.Play.{HasAnOrder, OrderStands, script_in, text_of}
 use Rattle.curp_run.specs.Live.{IsLive, IsLiveFront, IsLiveText, Shows, played, whole_script, work_of}
 use Rattle.curp_run.proofs.Pieces.{first_of_two, second_of_two}
 use Rattle.curp_run.proofs.Shown.{shown}

@@ -1,20 +1,17 @@
 -- A run of journals shows the work that was done.
-use Rattle.std.proofs.Common.{◌≡◌, ◌↔◌, ℕ, zero, suc, ◌+◌, ◌<◌, ◌≤◌, List, [], ◌∷◌, ◌++◌, length, map, Some, refl, ap, sym, ◌∙◌, subst, arith}
-use Rattle.std.proofs.lemmas.List.{length-map}
-use Rattle.curp_base.specs.Words.{At, Each, numbers_from}
+use Rattle.std.proofs.Common.{◌≡◌, ℕ, zero, suc, ◌+◌, ◌≤◌, List, length, map, refl, ap, sym, ◌∙◌, subst, arith}
+use Rattle.curp_base.specs.Words.{At, numbers_from}
 use Rattle.curp_base.proofs.Lists.{Each-at, Each-weaker, at_append, at_map, at_some}
 use Rattle.curp_base.proofs.Numbered.{numbers_at}
 use Rattle.curp_cmd.specs.Node.{client_node}
-use Rattle.curp_cmd.specs.declared.command.Command.{Command}
 use Rattle.curp_msg.specs.Moved.{Node}
 use Rattle.curp_msg.specs.declared.script.Step.{Step}
 use Rattle.curp_msg.specs.declared.script.Step.TheVariants.{Collect, Deliver, Expire, Fetch, Invoke, Migrate, Nudge, Recover, Replace, Retry, Stop, Sync}
 use Rattle.curp_journal.specs.Journal.{Log}
 use Rattle.curp_model.specs.Client.{ClientState}
 use Rattle.curp_script.specs.Printed.{NamesNode}
-use Rattle.curp_turns.specs.Turns.{Journal}
-use Rattle.curp_turns.specs.Work.{DidWork, invocations, recoveries}
-use Rattle.curp_law_weave.specs.Run.{IsCompletedBy, IsNoStop}
+use Rattle.curp_turns.specs.Work.{DidWork}
+use Rattle.curp_law_weave.specs.Run.{IsNoStop}
 use Rattle.curp_law_weave.proofs.Shown.{completed_are, invocations_are, none_stopped, recoveries_are}
 use Rattle.curp_gather.specs.Journals.{IsClientJournal, IsScriptOf, journal_of, journals_of}
 use Rattle.curp_gather.specs.declared.journals.Journals.{Journals}

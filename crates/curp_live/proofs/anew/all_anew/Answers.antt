@@ -1,11 +1,9 @@
-use Rattle.std.proofs.Common.{rules, ◌≡◌, ◌+◌, ◌<◌, ℕ, List, [], ◌∷◌, ◌++◌, length, get_or, subst, sym, arith}
+use Rattle.std.proofs.Common.{rules, ◌≡◌, ◌+◌, ◌<◌, ℕ, [], ◌∷◌, ◌++◌, length, get_or, subst, arith}
 use Rattle.std.proofs.lemmas.Iterator.Adapters.{YieldsList-from_vec}
 use Rattle.std.proofs.lemmas.Iterator.Consumers.{YieldsList-turn}
 use Rattle.std.proofs.lemmas.List.{length_push}
-use Rattle.curp_cmd.specs.declared.node.NodeId.{NodeId}
-use Rattle.curp_journal.specs.Journal.{Log}
 use Rattle.curp_live.specs.Opening.{IsAnew}
-use Rattle.curp_live.proofs.Scans.{SoFar, anew_more}
+use Rattle.curp_live.proofs.Scans.{anew_more}
 use Rattle.curp_live.proofs.anew.all_anew.Goals as goal
 
 pub loop-node-preserved : goal.loop-node-preserved

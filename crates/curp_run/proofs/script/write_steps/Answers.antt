@@ -1,6 +1,6 @@
-use Rattle.std.proofs.Common.{rules, ◌≡◌, ◌+◌, ◌-◌, ◌++◌, ◌∙◌, List, ℕ, subst, sym, ap}
+use Rattle.std.proofs.Common.{rules, ◌≡◌, ◌+◌, ◌-◌, ◌++◌, ◌∙◌, subst, sym, ap}
 use Rattle.curp_gen.specs.Making.{Making, next_step, steps_from, with_next}
-use Rattle.curp_script.specs.Texts.{line_text, lines_text, step_line}
+use Rattle.curp_script.specs.Texts.{lines_text, step_line}
 use Rattle.curp_io.specs.Streams.{HoldsPart}
 use Rattle.curp_play.proofs.SoFar.{SoFar}
 use Rattle.curp_run.proofs.Pieces.{goes_further, is_whole, still_front}
