@@ -66,8 +66,31 @@ fn is_same(a: &Named, b: &Named) -> bool {
         && a.message.same(&b.message)
 }
 
+// Where the mismatch of these journals of the smallest header's nodes is, the message that was taken, and the one that
+// its sender's journal holds, if there is one.
+#[tactic(auto, using(crate::proofs::Runs::are_of))]
+fn mismatch_of(
+    alloc: Global,
+    taken: &Journals,
+) -> Result<((NodeId, u64), Named, Option<Named>), Fail> {
+    let header = smallest();
+    let Some(journals) = all_as_at_opening(alloc, &header, taken)? else {
+        return Err(Fail::new("the journals aren't those of nodes"));
+    };
+    match gather(alloc, &header, &journals) {
+        Err(
+            GatherError::Mismatch {
+                node,
+                step,
+                got,
+                kept,
+            },
+        ) => Ok(((node, step), got, kept)),
+        _ => Err(Fail::new("no mismatch")),
+    }
+}
+
 #[test]
-#[tactic(auto, using(curp_live::proofs::Runs::are_of))]
 fn a_changed_value_is_told_with_the_kept_one(rt: HostRuntime) -> Result<(), Fail> {
     let alloc = rt.alloc();
     let nodes = Nodes::opening(alloc, &smallest())?;
@@ -82,23 +105,10 @@ fn a_changed_value_is_told_with_the_kept_one(rt: HostRuntime) -> Result<(), Fail
         backups: alone(alloc, begun(alloc, NodeId::backup(1), nodes.backups)?)?,
         witnesses: alone(alloc, begun(alloc, NodeId::witness(1), nodes.witnesses)?)?,
     };
-    let Some(journals) = all_as_at_opening(alloc, &smallest(), &taken)? else {
-        return Err(Fail::new("the journals aren't those of nodes"));
-    };
-    match gather(alloc, &smallest(), &journals) {
-        Err(
-            GatherError::Mismatch {
-                node,
-                step,
-                got,
-                kept,
-            },
-        ) => {
-            assert_eq!(rt; (node, step), (NodeId::master(1), 1));
-            assert!(rt; is_same(&got, &update));
-            assert!(rt; kept.is_some_and(|kept| is_same(&kept, &kept_update)));
-            Ok(())
-        }
-        _ => Err(Fail::new("no mismatch")),
-    }
+    let (place, got, kept) = mismatch_of(alloc, &taken)?;
+    assert_eq!(rt; place, (NodeId::master(1), 1));
+    assert!(rt; is_same(&got, &update));
+    let kept = kept.ok_or("nothing is kept")?;
+    assert!(rt; is_same(&kept, &kept_update));
+    Ok(())
 }
