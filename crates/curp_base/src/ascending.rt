@@ -6,7 +6,7 @@ use std::alloc::Global;
 use std::marker::Model;
 
 /// Pairs of a key and a value, in strictly ascending order of their keys. Contracts see the list of the pairs.
-#[derive(Debug, Drop)]
+#[derive(Drop)]
 pub struct AscendingPairs<K: Ord, V> {
     items: Vec<(K, V)>,
 }
@@ -78,7 +78,7 @@ pub fn pairs_ascend<K: Ord, V>(pairs: &[(K, V)]) -> bool
 }
 
 /// Keys in strictly ascending order. Contracts see the list of the keys.
-#[derive(Debug, Drop)]
+#[derive(Drop)]
 pub struct AscendingKeys<K: Ord> {
     items: Vec<K>,
 }

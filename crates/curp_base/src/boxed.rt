@@ -5,7 +5,7 @@ use std::alloc::{AllocFailed, Global};
 use std::marker::Model;
 
 /// A value that stands at a place of its own, so that what holds it stays small. Contracts see the value.
-#[derive(Debug, Drop)]
+#[derive(Drop)]
 pub struct Boxed<T> {
     value: Box<T>,
 }

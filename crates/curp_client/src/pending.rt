@@ -14,7 +14,7 @@ use std::alloc::Global;
 use std::marker::Model;
 
 /// One sending of a request: to whom, and what was known of it.
-#[derive(Debug, Drop)]
+#[derive(Drop)]
 pub(crate) struct Attempt {
     master: NodeId,
     epoch: u32,
@@ -66,7 +66,7 @@ impl Attempt {
 }
 
 /// An unsynced reply that was delivered.
-#[derive(Debug, Drop)]
+#[derive(Drop)]
 pub(crate) struct Early {
     pub(crate) master: NodeId,
     pub(crate) epoch: u32,
@@ -91,7 +91,7 @@ impl Early {
 }
 
 /// An accept that was delivered.
-#[derive(Debug, Drop)]
+#[derive(Drop)]
 pub(crate) struct Accept {
     pub(crate) witness: NodeId,
     pub(crate) epoch: u32,
@@ -106,14 +106,14 @@ impl Model for Accept {
 }
 
 /// What is delivered for an update: enough of it completes the update.
-#[derive(Debug, Drop)]
+#[derive(Drop)]
 pub(crate) enum Evidence {
     Reply(Early),
     Accept(Accept),
 }
 
 /// A request that isn't completed, and what was delivered for it.
-#[derive(Debug, Drop)]
+#[derive(Drop)]
 pub(crate) struct Pending {
     request: Request,
     // The newest last.

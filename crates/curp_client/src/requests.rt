@@ -15,7 +15,7 @@ use std::alloc::Global;
 use std::marker::Model;
 
 /// Pending requests, in ascending order of their numbers. Contracts see the list.
-#[derive(Debug, Drop)]
+#[derive(Drop)]
 pub(crate) struct Requests {
     items: Vec<Pending>,
 }

@@ -6,7 +6,7 @@ use curp_base::{NoMemory, TryCopy};
 use std::alloc::Global;
 
 /// What a log has in one place.
-#[derive(Debug, Drop)]
+#[derive(Drop)]
 pub enum Entry {
     /// A request is done, and its client has the answers of all its requests below the acknowledged number.
     Op { request: Request, acknowledge: u32 },

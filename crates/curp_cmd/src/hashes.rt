@@ -6,7 +6,7 @@ use crate::{Command, Key, Value, key_hash};
 use std::marker::Model;
 
 /// The hashes of a command's keys, in the order of the keys, held in place. Contracts see the list.
-#[derive(Debug, Drop)]
+#[derive(Drop)]
 pub struct Hashes {
     held: [u64; 4],
     len: u8,

@@ -13,7 +13,7 @@ use std::hash::{Hash, Hasher};
 use std::marker::Model;
 
 /// A key: 1 to 32 bytes, held in place and copied without memory. Contracts see the list of its bytes.
-#[derive(Clone, Copy, Debug)]
+#[derive(Clone, Copy)]
 pub struct Key {
     bytes: [u8; 32],
     len: u8,

@@ -5,7 +5,7 @@ use curp_base::{AscendingKeys, AscendingPairs, NoMemory};
 use std::alloc::Global;
 
 /// What belongs to a range of hashes, both ends counted: the keys with their values, and what is kept for clients.
-#[derive(Debug, Drop)]
+#[derive(Drop)]
 pub struct Package {
     pub lo: u64,
     pub hi: u64,
@@ -41,7 +41,7 @@ impl Package {
 }
 
 /// What is kept for clients so that each request is done once.
-#[derive(Debug, Drop)]
+#[derive(Drop)]
 pub struct TablePart {
     /// The answer of each request that is done and not acknowledged.
     pub records: AscendingPairs<RequestId, Answer>,

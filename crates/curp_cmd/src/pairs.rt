@@ -10,7 +10,7 @@ use std::marker::Model;
 
 /// What a multi-put puts: 1 to 4 pairs of a key and its value, no key twice, held in place and copied without memory.
 /// Contracts see the list of the pairs.
-#[derive(Clone, Copy, Debug)]
+#[derive(Clone, Copy)]
 pub struct Pairs {
     // The pairs, and copies of the first behind them.
     held: [(Key, Value); 4],

@@ -10,7 +10,7 @@ use std::collections::HashMap;
 use std::marker::Model;
 
 /// The one-thread store. Contracts see its contents, and for how many more keys it has room.
-#[derive(Debug, Drop)]
+#[derive(Drop)]
 pub struct Store {
     pairs: HashMap<Key, Value>,
 }

@@ -10,7 +10,7 @@ use crate::in_place::hold;
 use std::marker::Model;
 
 /// A value: 0 to 128 bytes, held in place and copied without memory. Contracts see the list of its bytes.
-#[derive(Clone, Copy, Debug)]
+#[derive(Clone, Copy)]
 pub struct Value {
     bytes: [u8; 128],
     len: u8,

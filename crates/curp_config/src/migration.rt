@@ -5,7 +5,7 @@ use curp_cmd::Package;
 use std::marker::Model;
 
 /// A migration that isn't done.
-#[derive(Debug, Drop)]
+#[derive(Drop)]
 pub(crate) struct Migration {
     pub(crate) number: u32,
     pub(crate) lo: u64,

@@ -8,7 +8,7 @@ use curp_cmd::Keeper;
 use std::marker::Model;
 
 /// The next numbers. Each of them is given once.
-#[derive(Debug, Drop)]
+#[derive(Drop)]
 pub(crate) struct Next {
     pub(crate) epoch: u32,
     pub(crate) version: u32,

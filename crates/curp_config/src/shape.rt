@@ -1,7 +1,7 @@
 use std::marker::Model;
 
 /// How many partitions and clients there are, and how many backups and witnesses each partition has.
-#[derive(Debug, Drop)]
+#[derive(Drop)]
 pub struct Shape {
     /// How many backups a partition has, and how many witnesses: the failures that it survives.
     pub f: u32,

@@ -12,7 +12,7 @@ use std::alloc::Global;
 use std::marker::Model;
 
 /// New lists with one fresh node.
-#[derive(Debug, Drop)]
+#[derive(Drop)]
 pub(crate) struct Replacement {
     pub(crate) kind: Keeper,
     pub(crate) fresh: NodeId,
@@ -22,13 +22,13 @@ pub(crate) struct Replacement {
 }
 
 /// A master that is to recover a partition, and its order.
-#[derive(Debug, Drop)]
+#[derive(Drop)]
 pub(crate) struct Attempt {
     pub(crate) master: NodeId,
     pub(crate) order: Boxed<Recover>,
 }
 
-#[derive(Debug, Drop)]
+#[derive(Drop)]
 pub(crate) enum Doing {
     Steady,
     Replacing(Replacement),
@@ -36,7 +36,7 @@ pub(crate) enum Doing {
 }
 
 /// What is being done with a partition.
-#[derive(Debug, Drop)]
+#[derive(Drop)]
 pub(crate) struct Work {
     doing: Doing,
 }

@@ -12,7 +12,7 @@ const MOST_PENDING: usize = 8;
 const HASHES_OF_BYTE: u64 = 1 << 56;
 
 /// A step, and the number of the message that comes next after it.
-#[derive(Clone, Copy, Debug)]
+#[derive(Clone, Copy)]
 pub(crate) struct Choice {
     pub(crate) step: Step,
     pub(crate) cursor: u64,

@@ -1,7 +1,7 @@
 use std::fmt;
 
 /// What happened in a script, in numbers.
-#[derive(Clone, Copy, Debug, PartialEq, Eq)]
+#[derive(Clone, Copy, PartialEq, Eq)]
 pub struct Summary {
     /// Steps that were made, those too that couldn't be done.
     pub steps: u64,

@@ -9,7 +9,7 @@ use std::alloc::Global;
 use std::marker::Model;
 
 /// What a call of `next_line` found.
-#[derive(Clone, Copy, Debug, PartialEq, Eq)]
+#[derive(Clone, Copy, PartialEq, Eq)]
 pub enum NextLine {
     /// A line, which `text` gives.
     Line,
@@ -25,7 +25,7 @@ pub enum NextLine {
 ///
 /// A line is the bytes up to a line feed, without it. The last line needs no line feed, and none follows a line feed
 /// at the end. Bytes that were read ahead are kept here, so one source is to be read by one of these.
-#[derive(Debug, Drop)]
+#[derive(Drop)]
 pub struct Lines {
     window: Window,
     number: u64,

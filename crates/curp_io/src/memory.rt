@@ -11,7 +11,7 @@ use std::alloc::Global;
 use std::marker::Model;
 
 /// The calls of a source or a sink, of which those with the listed numbers fail. The first call has number 1.
-#[derive(Debug, Drop)]
+#[derive(Drop)]
 struct Schedule {
     made: u64,
     failing: Vec<u64>,
@@ -59,7 +59,7 @@ impl Schedule {
 }
 
 /// A source over bytes in memory, whose listed calls fail.
-#[derive(Debug, Drop)]
+#[derive(Drop)]
 pub struct MemorySource {
     bytes: Vec<u8>,
     at: usize,
@@ -139,7 +139,7 @@ impl Source for MemorySource {
 }
 
 /// A sink that holds its bytes in memory, and whose listed calls of `put` and `flush`, counted together, fail.
-#[derive(Debug, Drop)]
+#[derive(Drop)]
 pub struct MemorySink {
     bytes: Vec<u8>,
     flushed: bool,

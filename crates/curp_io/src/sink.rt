@@ -2,7 +2,7 @@ ghost use Rattle.std.specs.Prelude.{◌≡◌, ◌≢◌, ℕ, ◌≤◌, Bool, 
 ghost use Rattle.curp_io.specs.Streams.{MovesOn, Puts, Rose, SameCount, flushed_after_flush, flushed_after_put};
 
 /// What a call of `put` did.
-#[derive(Clone, Copy, Debug, PartialEq, Eq)]
+#[derive(Clone, Copy, PartialEq, Eq)]
 pub enum Put {
     /// So many bytes at the start of the piece were taken.
     Took(usize),
@@ -12,7 +12,7 @@ pub enum Put {
 }
 
 /// What a call of `flush` did.
-#[derive(Clone, Copy, Debug, PartialEq, Eq)]
+#[derive(Clone, Copy, PartialEq, Eq)]
 pub enum Flushed {
     Done,
     /// The sink failed, and counted that as a fault.

@@ -2,7 +2,7 @@ ghost use Rattle.std.specs.Prelude.{◌≡◌, ◌≢◌, ℕ, ◌≤◌, Bool, 
 ghost use Rattle.curp_io.specs.Streams.{FitsBuffer, Rose, SameCount, Takes};
 
 /// What a call of `take` did.
-#[derive(Clone, Copy, Debug, PartialEq, Eq)]
+#[derive(Clone, Copy, PartialEq, Eq)]
 pub enum Taken {
     /// So many bytes stand at the start of the buffer. None for a buffer that isn't empty is the end.
     Bytes(usize),

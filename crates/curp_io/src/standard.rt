@@ -14,7 +14,7 @@ use std::marker::Model;
 const TRIES: u32 = 1_000;
 
 /// What an error of a reader or a writer means.
-#[derive(Clone, Copy, Debug, PartialEq, Eq)]
+#[derive(Clone, Copy, PartialEq, Eq)]
 pub(crate) enum Verdict {
     /// A signal interrupted the call.
     Interruption,

@@ -14,7 +14,7 @@ use std::marker::Model;
 const ROOM: usize = 65_537;
 
 /// The bytes read ahead, and the last line, in one buffer.
-#[derive(Debug, Drop)]
+#[derive(Drop)]
 pub(crate) struct Window {
     buffer: Vec<u8>,
     line_start: usize,

@@ -4,7 +4,7 @@ ghost use Rattle.curp_io.specs.Streams.{Rose, SameCount, Writes};
 use crate::sink::{Put, Sink};
 
 /// How far a piece was written.
-#[derive(Clone, Copy, Debug, PartialEq, Eq)]
+#[derive(Clone, Copy, PartialEq, Eq)]
 pub enum Written {
     Whole,
     /// The sink failed. It may have taken bytes at the start of the piece.

@@ -7,7 +7,7 @@ use curp_msg::{Input, Local, Message};
 use std::alloc::Global;
 
 /// A message with the place where its sender's journal holds it.
-#[derive(Debug, Drop)]
+#[derive(Drop)]
 pub struct Named {
     pub from: NodeId,
     /// The number of the sender's item, counted from 1.
@@ -34,7 +34,7 @@ impl Named {
 }
 
 /// What comes to a node.
-#[derive(Debug, Drop)]
+#[derive(Drop)]
 pub enum Arrived {
     /// An order, with the stamp of whoever gave it.
     Local(Local, u64),

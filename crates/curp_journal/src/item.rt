@@ -6,7 +6,7 @@ use curp_msg::{Done, Message};
 use std::alloc::Global;
 
 /// What came to a node, and what it did then. A journal is a list of these.
-#[derive(Debug, Drop)]
+#[derive(Drop)]
 pub struct Item {
     /// Higher than that of the item before, and than that of what came.
     pub stamp: u64,

@@ -5,7 +5,7 @@ use curp_cmd::RequestId;
 use std::hash::{Hash, Hasher};
 
 /// A request by its id, as marks are found by it.
-#[derive(Clone, Copy, Debug)]
+#[derive(Clone, Copy)]
 pub struct RequestKey(pub RequestId);
 
 impl PartialEq for RequestKey {

@@ -7,7 +7,7 @@ use curp_msg::Completed;
 use std::marker::Model;
 
 /// Where a mark stands.
-#[derive(Clone, Copy, Debug)]
+#[derive(Clone, Copy)]
 pub enum MarkPlace {
     /// An update, at its index in a log.
     Executed { index: u64 },
@@ -16,7 +16,7 @@ pub enum MarkPlace {
 }
 
 /// A mark that is kept.
-#[derive(Debug, Drop)]
+#[derive(Drop)]
 pub struct KeptMark {
     master: NodeId,
     part: u32,

@@ -11,7 +11,7 @@ use std::alloc::Global;
 
 /// A place in the order in which the marks came. It stays when its mark is dropped, so that the places of the others
 /// stay what they are.
-#[derive(Debug, Drop)]
+#[derive(Drop)]
 pub struct Slot {
     pub mark: KeptMark,
     pub dropped: bool,

@@ -1,7 +1,7 @@
 use std::sync::{Condvar, Mutex, Wait};
 
 /// Why the work of a node ends.
-#[derive(Clone, Copy, Debug, PartialEq, Eq)]
+#[derive(Clone, Copy, PartialEq, Eq)]
 pub(crate) enum End {
     /// Every command is completed.
     Finished,

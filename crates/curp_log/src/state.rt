@@ -19,7 +19,7 @@ use curp_rifl::Table;
 use std::alloc::Global;
 
 /// The last migration that was given, and the index of its entry.
-#[derive(Clone, Copy, Debug, PartialEq, Eq)]
+#[derive(Clone, Copy, PartialEq, Eq)]
 pub struct Given {
     pub migration: u32,
     pub index: u64,

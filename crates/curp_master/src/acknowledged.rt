@@ -10,7 +10,7 @@ use std::alloc::Global;
 use std::marker::Model;
 
 /// The greatest length of its log and the last round that a backup has acknowledged.
-#[derive(Debug, Drop)]
+#[derive(Drop)]
 pub(crate) struct Acknowledged {
     backup: NodeId,
     long: u64,

@@ -11,7 +11,7 @@ use std::alloc::Global;
 use std::marker::Model;
 
 /// A read that waits: its value and the log's length as they were when it came, and the round that was begun for it.
-#[derive(Debug, Drop)]
+#[derive(Drop)]
 pub struct Captured {
     number: u64,
     id: RequestId,

@@ -12,7 +12,7 @@ use std::alloc::Global;
 use std::marker::Model;
 
 /// Indexes of entries, in ascending order. Contracts see them, and for how many more there is room.
-#[derive(Debug, Drop)]
+#[derive(Drop)]
 pub(crate) struct Indexes {
     numbers: Vec<u64>,
 }

@@ -15,7 +15,7 @@ use curp_range::laws::one_span_covers;
 use std::slice::from_ref;
 
 /// What becomes of a migration, by the last one that the log has.
-#[derive(Debug, Drop)]
+#[derive(Drop)]
 enum Retelling {
     /// It is new.
     New,

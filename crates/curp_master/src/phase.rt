@@ -9,7 +9,7 @@ use curp_cmd::NodeId;
 use std::alloc::Global;
 
 /// Whether the master is open to requests.
-#[derive(Debug, Drop)]
+#[derive(Drop)]
 pub(crate) enum Phase {
     Open,
     /// It takes up new lists.
@@ -17,7 +17,7 @@ pub(crate) enum Phase {
 }
 
 /// The lists that a master takes up next.
-#[derive(Debug, Drop)]
+#[derive(Drop)]
 pub(crate) struct Switch {
     pub(crate) version: u32,
     pub(crate) backups: Items<NodeId>,

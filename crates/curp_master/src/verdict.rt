@@ -2,7 +2,7 @@ use curp_cmd::Answer;
 use curp_msg::Refusal;
 
 /// When a client wishes its answer.
-#[derive(Clone, Copy, Debug)]
+#[derive(Clone, Copy)]
 pub(crate) enum Wish {
     /// At once, where that is safe.
     AtOnce,
@@ -11,7 +11,7 @@ pub(crate) enum Wish {
 }
 
 /// What becomes of an update.
-#[derive(Clone, Copy, Debug)]
+#[derive(Clone, Copy)]
 pub(crate) enum Verdict {
     /// It is refused.
     Deny(Refusal),

@@ -4,7 +4,7 @@ use curp_journal::Named;
 use std::alloc::AllocError;
 
 /// Why journals aren't a script.
-#[derive(Debug, Drop)]
+#[derive(Drop)]
 pub enum GatherError {
     /// The item of that number of the node, counted from 1, took a message that isn't the one that its sender's journal
     /// holds by its name.

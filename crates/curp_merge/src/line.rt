@@ -5,7 +5,7 @@ use curp_journal::Item;
 use std::marker::Model;
 
 /// A node's journal, to be merged with others. Contracts see a `Journal`.
-#[derive(Debug, Drop)]
+#[derive(Drop)]
 pub struct Line<'a> {
     id: NodeId,
     items: &'a [Item],

@@ -12,7 +12,7 @@ use curp_journal::{Arrived, Named};
 use std::alloc::Global;
 
 /// An item that took a message which isn't the one that its sender's journal holds by its name.
-#[derive(Debug, Drop)]
+#[derive(Drop)]
 pub(crate) struct Mismatch {
     pub(crate) node: NodeId,
     pub(crate) step: u64,

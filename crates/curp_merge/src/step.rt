@@ -14,7 +14,7 @@ use curp_journal::{Arrived, Named};
 use curp_msg::{Local, Step};
 
 /// The step of a turn, and how many messages the turn sent.
-#[derive(Clone, Copy, Debug)]
+#[derive(Clone, Copy)]
 pub(crate) struct Made {
     pub(crate) step: Step,
     pub(crate) sent: u64,

@@ -5,7 +5,7 @@ use std::alloc::Global;
 use std::marker::Model;
 
 /// How many messages were sent before each turn that was taken of a journal. Contracts see the list of these numbers.
-#[derive(Debug, Drop)]
+#[derive(Drop)]
 pub(crate) struct Track {
     befores: Vec<u64>,
 }

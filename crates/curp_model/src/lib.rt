@@ -7,7 +7,7 @@ pub mod laws;
 use curp_cmd::Answer;
 
 /// What a reply table knows of a request (RIFL's duplicate check).
-#[derive(Clone, Copy, Debug, PartialEq, Eq)]
+#[derive(Clone, Copy, PartialEq, Eq)]
 pub enum Check {
     /// Its client is gone.
     Expired,
@@ -20,7 +20,7 @@ pub enum Check {
 }
 
 /// What a witness does with a request.
-#[derive(Clone, Copy, Debug, PartialEq, Eq)]
+#[derive(Clone, Copy, PartialEq, Eq)]
 pub enum Mode {
     /// It wasn't started.
     Idle,

@@ -5,7 +5,7 @@ use curp_cmd::{Entry, Request, RequestId};
 use std::alloc::Global;
 
 /// Why a master doesn't answer a request. After CURP and RIFL; the cases are this project's.
-#[derive(Clone, Copy, Debug, PartialEq, Eq)]
+#[derive(Clone, Copy, PartialEq, Eq)]
 pub enum Refusal {
     /// The client knows another version of the lists than the current one.
     Version { current: u32 },
@@ -24,7 +24,7 @@ pub enum Refusal {
 }
 
 /// Why a witness doesn't hold a request.
-#[derive(Clone, Copy, Debug, PartialEq, Eq)]
+#[derive(Clone, Copy, PartialEq, Eq)]
 pub enum Reason {
     /// It holds a request that conflicts: this is the least one.
     Conflict { held: RequestId },
@@ -39,7 +39,7 @@ pub enum Reason {
 }
 
 /// What a backup answers to an append.
-#[derive(Clone, Copy, Debug, PartialEq, Eq)]
+#[derive(Clone, Copy, PartialEq, Eq)]
 pub enum AppendAnswer {
     /// Its log has this length now.
     Stored { length: u64 },
@@ -52,7 +52,7 @@ pub enum AppendAnswer {
 }
 
 /// What a witness answers to a collection.
-#[derive(Debug, Drop)]
+#[derive(Drop)]
 pub enum GcAnswer {
     /// The requests that were held for long and were in the way of others.
     Suspects(Items<Request>),
@@ -61,7 +61,7 @@ pub enum GcAnswer {
 }
 
 /// What a backup answers to a fence.
-#[derive(Debug, Drop)]
+#[derive(Drop)]
 pub enum FenceReply {
     /// Its whole log.
     Log(Items<Entry>),

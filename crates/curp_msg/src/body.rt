@@ -6,7 +6,7 @@ use curp_cmd::{Answer, Entry, NodeId, Package, Request, RequestId};
 use std::alloc::Global;
 
 /// What a message says.
-#[derive(Debug, Drop)]
+#[derive(Drop)]
 pub enum Body {
     /// A client asks a master to execute an update, and to answer before the backups have it where that is safe.
     Update(Boxed<Ask>),
@@ -74,20 +74,20 @@ pub enum Body {
 }
 
 /// A request, with the epoch and the version of the lists that its client knows.
-#[derive(Clone, Copy, Debug, PartialEq, Eq)]
+#[derive(Clone, Copy, PartialEq, Eq)]
 pub struct Ask {
     pub request: Request,
     pub epoch: u32,
     pub version: u32,
 }
 
-#[derive(Clone, Copy, Debug, PartialEq, Eq)]
+#[derive(Clone, Copy, PartialEq, Eq)]
 pub struct Record {
     pub request: Request,
     pub epoch: u32,
 }
 
-#[derive(Clone, Copy, Debug, PartialEq, Eq)]
+#[derive(Clone, Copy, PartialEq, Eq)]
 pub struct Reply {
     pub id: RequestId,
     /// Whether it is stored on all backups.
@@ -97,7 +97,7 @@ pub struct Reply {
     pub answer: Answer,
 }
 
-#[derive(Clone, Copy, Debug, PartialEq, Eq)]
+#[derive(Clone, Copy, PartialEq, Eq)]
 pub struct Worth {
     pub id: RequestId,
     pub epoch: u32,
@@ -106,26 +106,26 @@ pub struct Worth {
     pub answer: Answer,
 }
 
-#[derive(Clone, Copy, Debug, PartialEq, Eq)]
+#[derive(Clone, Copy, PartialEq, Eq)]
 pub struct Refuse {
     pub id: RequestId,
     pub refusal: Refusal,
 }
 
-#[derive(Clone, Copy, Debug, PartialEq, Eq)]
+#[derive(Clone, Copy, PartialEq, Eq)]
 pub struct Accepted {
     pub id: RequestId,
     pub epoch: u32,
 }
 
-#[derive(Clone, Copy, Debug, PartialEq, Eq)]
+#[derive(Clone, Copy, PartialEq, Eq)]
 pub struct Rejected {
     pub id: RequestId,
     pub reason: Reason,
 }
 
 /// The entries stand in the master's log from `base` on, counted from 0.
-#[derive(Debug, Drop)]
+#[derive(Drop)]
 pub struct Append {
     pub epoch: u32,
     pub base: u64,
@@ -134,27 +134,27 @@ pub struct Append {
 }
 
 /// The epoch and the round are those of the append.
-#[derive(Clone, Copy, Debug, PartialEq, Eq)]
+#[derive(Clone, Copy, PartialEq, Eq)]
 pub struct Appended {
     pub epoch: u32,
     pub round: u64,
     pub answer: AppendAnswer,
 }
 
-#[derive(Debug, Drop)]
+#[derive(Drop)]
 pub struct Gc {
     pub epoch: u32,
     pub ids: Items<RequestId>,
 }
 
 /// The epoch is that of the collection.
-#[derive(Debug, Drop)]
+#[derive(Drop)]
 pub struct Collected {
     pub epoch: u32,
     pub answer: GcAnswer,
 }
 
-#[derive(Clone, Copy, Debug, PartialEq, Eq)]
+#[derive(Clone, Copy, PartialEq, Eq)]
 pub struct Start {
     pub part: u32,
     pub epoch: u32,
@@ -162,7 +162,7 @@ pub struct Start {
 
 /// The named backup and witness are asked, the lists are the fresh ones, and `lo` to `hi` is the range that the
 /// partition had at opening.
-#[derive(Debug, Drop)]
+#[derive(Drop)]
 pub struct Recover {
     pub part: u32,
     pub epoch: u32,
@@ -177,26 +177,26 @@ pub struct Recover {
 }
 
 /// The epoch is that of the fence.
-#[derive(Debug, Drop)]
+#[derive(Drop)]
 pub struct FenceAnswer {
     pub epoch: u32,
     pub answer: FenceReply,
 }
 
-#[derive(Clone, Copy, Debug, PartialEq, Eq)]
+#[derive(Clone, Copy, PartialEq, Eq)]
 pub struct Recovered {
     pub part: u32,
     pub epoch: u32,
 }
 
-#[derive(Clone, Copy, Debug, PartialEq, Eq)]
+#[derive(Clone, Copy, PartialEq, Eq)]
 pub struct Adopted {
     pub part: u32,
     pub epoch: u32,
     pub version: u32,
 }
 
-#[derive(Debug, Drop)]
+#[derive(Drop)]
 pub struct Prepare {
     pub version: u32,
     pub backups: Items<NodeId>,
@@ -204,7 +204,7 @@ pub struct Prepare {
 }
 
 /// The hashes from `lo` to `hi`, both counted, leave with that migration.
-#[derive(Clone, Copy, Debug)]
+#[derive(Clone, Copy)]
 pub struct TakeOut {
     pub migration: u32,
     pub lo: u64,
@@ -213,7 +213,7 @@ pub struct TakeOut {
 }
 
 /// What a migration carries.
-#[derive(Debug, Drop)]
+#[derive(Drop)]
 pub struct Parcel {
     pub migration: u32,
     pub package: Package,

@@ -6,14 +6,14 @@ use curp_range::Spans;
 use std::alloc::Global;
 
 /// Which nodes serve which hashes. One with a higher serial is newer.
-#[derive(Debug, Drop)]
+#[derive(Drop)]
 pub struct Config {
     pub serial: u32,
     pub parts: Items<PartConfig>,
 }
 
 /// The nodes of a partition, and the hashes that it owns.
-#[derive(Debug, Drop)]
+#[derive(Drop)]
 pub struct PartConfig {
     /// Partitions are numbered from 1.
     pub part: u32,

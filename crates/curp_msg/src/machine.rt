@@ -6,7 +6,7 @@ use curp_cmd::{Answer, Command, Keeper, NodeId, RequestId};
 use std::alloc::Global;
 
 /// An order that a node gets from whoever runs it, and not by a message. A node ignores those that aren't its own.
-#[derive(Clone, Copy, Debug, PartialEq, Eq)]
+#[derive(Clone, Copy, PartialEq, Eq)]
 pub enum Local {
     /// To a client: invoke the command.
     Invoke(Command),
@@ -43,14 +43,14 @@ pub enum Local {
 }
 
 /// What a node reacts to.
-#[derive(Debug, Drop)]
+#[derive(Drop)]
 pub enum Input {
     Local(Local),
     Message(Message),
 }
 
 /// What a node does on an input, apart from its new state.
-#[derive(Debug, Drop)]
+#[derive(Drop)]
 pub struct Done {
     /// The number by which the call behind a local order refused it, else 0.
     pub refused: u8,
@@ -103,7 +103,7 @@ impl Done {
 }
 
 /// A request that completed, with its answer.
-#[derive(Clone, Copy, Debug, PartialEq, Eq)]
+#[derive(Clone, Copy, PartialEq, Eq)]
 pub struct Completed {
     pub id: RequestId,
     pub answer: Answer,
@@ -112,7 +112,7 @@ pub struct Completed {
 }
 
 /// A value that a master captured for a read.
-#[derive(Clone, Copy, Debug, PartialEq, Eq)]
+#[derive(Clone, Copy, PartialEq, Eq)]
 pub struct Capture {
     pub master: NodeId,
     pub epoch: u32,

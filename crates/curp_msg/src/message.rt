@@ -7,7 +7,7 @@ use std::alloc::Global;
 use std::mem::size_of;
 
 /// A message: who sent it, whom it goes to, and what it says.
-#[derive(Debug, Drop)]
+#[derive(Drop)]
 pub struct Message {
     pub from: NodeId,
     pub to: NodeId,

@@ -1,7 +1,7 @@
 use curp_cmd::{Command, Keeper, NodeId};
 
 /// The first line of a script: how many nodes there are, and how they work.
-#[derive(Clone, Copy, Debug, PartialEq, Eq)]
+#[derive(Clone, Copy, PartialEq, Eq)]
 pub struct Header {
     /// How many clients there are, 1 to 64.
     pub clients: u32,
@@ -19,13 +19,13 @@ pub struct Header {
 }
 
 /// How reads are done. A second protocol isn't built yet.
-#[derive(Clone, Copy, Debug, PartialEq, Eq)]
+#[derive(Clone, Copy, PartialEq, Eq)]
 pub enum Protocol {
     One,
 }
 
 /// A step of a script.
-#[derive(Clone, Copy, Debug, PartialEq, Eq)]
+#[derive(Clone, Copy, PartialEq, Eq)]
 pub enum Step {
     /// A client invokes a command.
     Invoke {

@@ -9,7 +9,7 @@ use std::marker::Model;
 
 /// What all clients saw, in the order in which it happened. Contracts see the events, and for how many more there is
 /// room.
-#[derive(Debug, Drop)]
+#[derive(Drop)]
 pub struct History {
     events: Vec<Event>,
 }

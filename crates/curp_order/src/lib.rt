@@ -9,7 +9,7 @@ pub use history::History;
 pub use run::run_order;
 
 /// What clients saw: a request was invoked, or its answer came.
-#[derive(Clone, Copy, Debug, PartialEq, Eq)]
+#[derive(Clone, Copy, PartialEq, Eq)]
 pub enum Event {
     /// A client asks for the command.
     Invoke { id: RequestId, command: Command },

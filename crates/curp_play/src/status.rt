@@ -133,7 +133,7 @@ impl fmt::Display for Status {
 }
 
 /// The line on standard error for a run that didn't end well.
-#[derive(Clone, Copy, Debug, PartialEq, Eq)]
+#[derive(Clone, Copy, PartialEq, Eq)]
 pub struct Complaint(pub Status);
 
 impl fmt::Display for Complaint {

@@ -8,7 +8,7 @@ use std::marker::Model;
 
 /// The spans of a set of hashes, as plain data: each has a first and a last hash, and the next begins at least two
 /// above the last. Contracts see the list.
-#[derive(Debug, Drop)]
+#[derive(Drop)]
 pub struct Spans {
     spans: Vec<(u64, u64)>,
 }

@@ -9,7 +9,7 @@ use std::marker::Model;
 
 /// A set of hashes of 64 bits. Contracts see its spans, and for how many more spans it has room.
 /// A range from `lo` to `hi` has both of them.
-#[derive(Debug, Drop)]
+#[derive(Drop)]
 pub struct Ranges {
     spans: Vec<(u64, u64)>,
 }

@@ -25,7 +25,7 @@ pub struct ReplayedLog {
 }
 
 /// What a replayed log waits for.
-#[derive(Clone, Copy, Debug, PartialEq, Eq)]
+#[derive(Clone, Copy, PartialEq, Eq)]
 pub enum Awaited {
     /// For fresh backups to store it.
     Storing,

@@ -14,14 +14,14 @@ use curp_base::NoMemory;
 use std::alloc::Global;
 
 /// Whether a client is gone for good.
-#[derive(Clone, Copy, Debug)]
+#[derive(Clone, Copy)]
 pub enum Presence {
     Present,
     Gone,
 }
 
 /// What is kept of a client: its first request that isn't acknowledged, at first 0, and whether it is gone.
-#[derive(Clone, Copy, Debug)]
+#[derive(Clone, Copy)]
 pub struct ClientMark {
     pub first: u32,
     pub presence: Presence,

@@ -2,7 +2,7 @@ use curp_cmd::Answer;
 use std::marker::Model;
 
 /// The answer to a request, and the index of its entry.
-#[derive(Clone, Copy, Debug)]
+#[derive(Clone, Copy)]
 pub struct Kept {
     answer: Answer,
     index: u64,

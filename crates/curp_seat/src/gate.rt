@@ -1,7 +1,7 @@
 use curp_cmd::NodeId;
 
 /// A place in a run: before that step of a node. The steps of a node count from 1.
-#[derive(Clone, Copy, Debug, PartialEq, Eq)]
+#[derive(Clone, Copy, PartialEq, Eq)]
 pub struct Point {
     pub node: NodeId,
     pub count: u64,
@@ -14,7 +14,7 @@ pub trait Gate {
 }
 
 /// A gate that holds nothing.
-#[derive(Clone, Copy, Debug)]
+#[derive(Clone, Copy)]
 pub struct OpenGate;
 
 impl Gate for OpenGate {

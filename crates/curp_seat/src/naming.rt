@@ -8,7 +8,7 @@ use curp_msg::{Completed, Message};
 use std::alloc::Global;
 
 /// What a step sent and completed.
-#[derive(Debug, Drop)]
+#[derive(Drop)]
 pub struct Sent {
     pub named: Vec<Named>,
     pub completed: Option<Completed>,

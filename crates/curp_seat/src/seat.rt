@@ -32,7 +32,7 @@ pub struct Seat<N: Core, E> {
 }
 
 /// What a turn of a worker came to.
-#[derive(Debug, Drop)]
+#[derive(Drop)]
 pub enum Worked<E> {
     /// An input was given to the node, which refused it by that number, or did that where it is 0.
     Stepped { refused: u8, sent: Sent },

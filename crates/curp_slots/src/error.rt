@@ -20,7 +20,7 @@ pub enum GcError {
 }
 
 /// A witness isn't started again: it has this mode already.
-#[derive(Clone, Copy, Debug, PartialEq, Eq)]
+#[derive(Clone, Copy, PartialEq, Eq)]
 pub struct NotIdle {
     pub mode: Mode,
 }

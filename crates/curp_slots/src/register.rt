@@ -16,7 +16,7 @@ use std::collections::BTreeMap;
 use std::marker::Model;
 
 /// Where the request with an id stands among those in the order of arrival.
-#[derive(Clone, Copy, Debug)]
+#[derive(Clone, Copy)]
 pub struct Place {
     pub id: RequestId,
     pub at: u32,

@@ -6,7 +6,7 @@ use curp_cmd::RequestId;
 use std::marker::Model;
 
 /// A slot that is taken: for which hash, and by which request.
-#[derive(Clone, Copy, Debug)]
+#[derive(Clone, Copy)]
 pub struct Slot {
     pub hash: u64,
     pub id: RequestId,

@@ -16,14 +16,14 @@ use std::collections::{HashMap, VecDeque};
 use std::marker::Model;
 
 /// What is kept of an entry: its place in the log, counted from 0, and what it touches.
-#[derive(Debug, Drop)]
+#[derive(Drop)]
 pub struct TailEntry {
     pub index: u64,
     pub touched: Touched,
 }
 
 /// A whole range that an entry moves, both ends counted, and the entry's place.
-#[derive(Clone, Copy, Debug)]
+#[derive(Clone, Copy)]
 pub struct Moved {
     pub index: u64,
     pub lo: u64,

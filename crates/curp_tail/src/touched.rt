@@ -4,7 +4,7 @@ ghost use Rattle.curp_tail.specs.Tail.{touched_of, touches};
 use curp_cmd::{Entry, Hashes};
 
 /// What an entry of a log has to do with hashes.
-#[derive(Debug, Drop)]
+#[derive(Drop)]
 pub enum Touched {
     /// These, of the command of an Op.
     Hashes(Hashes),

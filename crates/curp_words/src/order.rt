@@ -4,7 +4,7 @@ use std::alloc::AllocError;
 use thiserror::Error;
 
 /// What a run of the program is to do.
-#[derive(Clone, Copy, Debug, PartialEq, Eq)]
+#[derive(Clone, Copy, PartialEq, Eq)]
 pub enum Order {
     /// A script is read from standard input and played.
     Play,
@@ -16,7 +16,7 @@ pub enum Order {
 
 /// From what a script is made: a number that everything in it follows from, the size of the world, and how much
 /// happens. Contracts see the range of each with `IsPlan`.
-#[derive(Clone, Copy, Debug, PartialEq, Eq)]
+#[derive(Clone, Copy, PartialEq, Eq)]
 pub struct MakePlan {
     pub number: u64,
     pub f: u32,
@@ -30,7 +30,7 @@ pub struct MakePlan {
 
 /// What runs on threads: a number that the commands of the clients follow from, the size of the world, and how much
 /// happens. Contracts see the range of each with `IsLivePlan`.
-#[derive(Clone, Copy, Debug, PartialEq, Eq)]
+#[derive(Clone, Copy, PartialEq, Eq)]
 pub struct LivePlan {
     pub number: u64,
     pub f: u32,
@@ -43,7 +43,7 @@ pub struct LivePlan {
 }
 
 /// What `make` writes.
-#[derive(Clone, Copy, Debug, PartialEq, Eq)]
+#[derive(Clone, Copy, PartialEq, Eq)]
 pub enum Output {
     /// The script, for `play` to read.
     Script,
