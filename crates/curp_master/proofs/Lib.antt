@@ -1,11 +1,8 @@
-pub mod Acks
 pub mod Beside
 pub mod Collections
 pub mod Ends
-pub mod Fresh
 pub mod Known
 pub mod Packed
-pub mod Places
 pub mod Settled
 pub mod Suffixes
 pub mod Suspected

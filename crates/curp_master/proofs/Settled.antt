@@ -1,4 +1,4 @@
--- What is synced as a backup acknowledges more, and what is answered then.
+-- What is answered as a master settles.
 use Rattle.std.proofs.Common.{◌≡◌, ℕ, ◌==◌, if◌then◌else◌, ◌≤◌, Bool, true, false, List, [], ◌∷◌, ◌++◌, map, flat_map, filter, None, not, nat_lt, refl, ap, sym, ◌∙◌, append_assoc, subst, Option, Some, arith}
 use Rattle.std.proofs.lemmas.Bool.{eqb-true, eq-eqb}
 use Rattle.curp_cmd.specs.declared.node.NodeId.{NodeId}
@@ -7,46 +7,12 @@ use Rattle.curp_model.specs.Master.{Acknowledged, Captured, MasterState, Phase, 
 use Rattle.curp_cmd.specs.Node.{same_node}
 use Rattle.curp_cmd.proofs.Nodes.{same_node-true}
 use Rattle.curp_msg.specs.Moved.{Moved, Makes, Node}
-use Rattle.curp_master.specs.Backups.{stored_by_all}
+use Rattle.curp_rounds.specs.Backups.{stored_by_all}
 use Rattle.curp_master.specs.Settling.{listing}
 use Rattle.curp_master.specs.Switching.{IsSettledNext, next_lists, taken_up, taken_up_in}
 use Rattle.curp_master.specs.declared.switching.Settled.{Settled}
 use Rattle.curp_master.specs.Built.{move_of}
 use Rattle.curp_master.proofs.Ends.{lasts}
-
--- no backup has less
-has_more : (all : List Acknowledged) (from b : NodeId) (long round : ℕ) → (from_backup all b).length ≤ (from_backup (raised all from long round) b).length
-has_more [] from b long round = omega arith
-has_more (a ∷ all) from b long round = go (same_node a.backup from) refl (same_node a.backup b) refl (has_more all from b long round)
-  where
-    go : (x : Bool) → same_node a.backup from ≡ x → (y : Bool) → same_node a.backup b ≡ y → (from_backup all b).length ≤ (from_backup (raised all from long round) b).length
-        → (from_backup (a ∷ all) b).length ≤ (from_backup (raised (a ∷ all) from long round) b).length
-    go true is true is_b has =
-        let same : same_node from b ≡ true = ap (λ (x : NodeId). same_node x b) (sym (same_node-true a.backup from is)) ∙ is_b in
-        rw (is, is_b, same) (omega arith)
-    go true is false is_b has =
-        let same : same_node from b ≡ false = ap (λ (x : NodeId). same_node x b) (sym (same_node-true a.backup from is)) ∙ is_b in
-        rw (is, is_b, same) (omega arith)
-    go false is true is_b has = rw (is, is_b) (omega arith)
-    go false is false is_b has = rw (is, is_b) has
-
-least_more : (f g : NodeId → ℕ) (backups : List NodeId) → ((b : NodeId) → f b ≤ g b) → least (map f backups) ≤ least (map g backups)
-least_more f g [] more = omega arith
-least_more f g (b ∷ []) more = more b
-least_more f g (b ∷ c ∷ rest) more =
-    let first : f b ≤ g b = more b in
-    let others : least (map f (c ∷ rest)) ≤ least (map g (c ∷ rest)) = least_more f g (c ∷ rest) more in
-    omega arith
-
--- so no less is synced
-pub synced_more : (all : List Acknowledged) (backups : List NodeId) (from : NodeId) (long round : ℕ) → stored_by_all all backups ≤ stored_by_all (raised all from long round) backups
-synced_more all backups from long round =
-    least_more (λ b. (from_backup all b).length) (λ b. (from_backup (raised all from long round) b).length) backups (λ b. has_more all from b long round)
-
-pub more_is_synced : (m : MasterState) (all before : List Acknowledged) (from : NodeId) (long round : ℕ)
-    → all ≡ raised before from long round → before ≡ m.acknowledged → stored_by_all m.acknowledged m.backups ≤ stored_by_all all m.backups
-more_is_synced m all before from long round its was =
-    rw (its, was) (synced_more m.acknowledged m.backups from long round)
 
 -- what waits on as the master settles
 pub released : (n : ℕ) (m : MasterState) (next : ℕ) (held : List ℕ) (captures : List Captured)

@@ -1,10 +1,6 @@
-pub mod Backups
 pub mod Built
-pub mod Captures
-pub mod Indexes
 pub mod Journal
 pub mod Moving
-pub mod Phases
 pub mod Rounds
 pub mod Settling
 pub mod Shells

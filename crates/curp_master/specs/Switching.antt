@@ -3,14 +3,9 @@ use Rattle.std.specs.Prelude.{◌≡◌, ℕ, ◌==◌, if◌then◌else◌, ◌
 use Rattle.curp_msg.specs.Moved.{Moved, Node}
 use Rattle.curp_msg.specs.declared.message.Message.{Message}
 use Rattle.curp_model.specs.Master.{MasterState, Phase, Open, Switching, Switch, begins_round, settle}
-use Rattle.curp_master.specs.Backups.{stored_by_all}
+use Rattle.curp_rounds.specs.Backups.{stored_by_all}
 use Rattle.curp_master.specs.Settling.{listing}
 use Rattle.curp_master.specs.declared.switching.Settled.{Settled}
-
--- the version of the next list, if the manager was told that it has the log
-abbrev pub told_version : Phase → Option ℕ
-told_version Open = None
-told_version (Switching s) = if s.prepared then Some s.version else None
 
 -- a message goes out before what a round sends
 abbrev pub rounds_behind : ℕ → MasterState → Message → Moved MasterState

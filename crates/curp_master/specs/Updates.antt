@@ -1,4 +1,4 @@
--- What clients wish, and what becomes of their requests.
+-- What becomes of clients' requests.
 use Rattle.std.specs.Prelude.{ℕ, Bool, [], ◌∷◌, length, option_map}
 use Rattle.curp_base.specs.Cases.{first_case}
 use Rattle.curp_cmd.specs.declared.command.Request.{Request}
@@ -6,23 +6,6 @@ use Rattle.curp_msg.specs.Moved.{Moved}
 use Rattle.curp_msg.specs.declared.body.Ask.{Ask}
 use Rattle.curp_model.specs.Master as master
 use Rattle.curp_model.specs.Master.{MasterState, by_owner, by_version, holds_back, marked_free, pushed}
-use Rattle.curp_master.specs.declared.verdict.Verdict.{Verdict}
-use Rattle.curp_master.specs.declared.verdict.Verdict.TheVariants.{Deny, Tell, TellAgain, HoldBack, Execute}
-use Rattle.curp_master.specs.declared.verdict.Wish.{Wish}
-use Rattle.curp_master.specs.declared.verdict.Wish.TheVariants.{AtOnce, WhenSynced}
-
--- the wish, by its definition
-abbrev pub wish_of : Wish → master.Wish
-wish_of AtOnce = master.AtOnce
-wish_of WhenSynced = master.WhenSynced
-
--- the verdict, by its definition
-abbrev pub verdict_of : Verdict → master.Verdict
-verdict_of (Deny why) = master.Deny why
-verdict_of (Tell answer) = master.Tell answer
-verdict_of (TellAgain answer) = master.TellAgain answer
-verdict_of (HoldBack index) = master.HoldBack index
-verdict_of Execute = master.Execute
 
 -- the verdict on a request that is new
 abbrev pub new_verdict : MasterState → Ask → master.Verdict

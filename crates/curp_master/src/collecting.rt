@@ -1,13 +1,11 @@
-ghost use Rattle.std.specs.Prelude.{◌≡◌, true, IfOk};
+ghost use Rattle.std.specs.Prelude.{◌≡◌, true};
 ghost use Rattle.curp_model.specs.Master.{collect_in, collects, is_due};
-ghost use Rattle.curp_msg.specs.Moved.{Moves, numbered_move, says_each};
-ghost use Rattle.curp_cmd.specs.Node.{master_node};
-ghost use Rattle.curp_msg.specs.declared.body.Body.TheVariants.{Gc};
+ghost use Rattle.curp_msg.specs.Moved.{Moves, numbered_move};
 
-use crate::{Master, messages};
+use crate::Master;
 use curp_base::NoMemory;
-use curp_cmd::RequestId;
-use curp_msg::{Done, Message};
+use curp_msg::Done;
+use curp_rounds::messages;
 
 impl Master {
     /// The ids that are due leave the queue, and go to each witness, unless it takes up new lists.
@@ -19,20 +17,9 @@ impl Master {
             return Ok(Done::quiet(self.alloc));
         }
         let synced = self.journal.synced();
-        let sent = self.collections(&self.queue.due(synced)?)?;
+        let ids = self.queue.due(synced)?;
+        let sent = messages::gc_each(self.alloc, self.number, &self.witnesses, self.epoch, &ids)?;
         self.queue.leave(synced);
         Ok(Done::sends(sent))
-    }
-
-    // Each witness may let go of these.
-    fn collections(&self, ids: &[RequestId]) -> Result<Vec<Message>, NoMemory>
-        ensures { IfOk result (λ sent. sent.items ≡ says_each (master_node self.now.number) self.now.state.witnesses
-            (Gc (record { epoch = self.now.state.epoch; ids = ids.now }))) }
-    {
-        let mut sent = Vec::with_capacity(self.alloc, self.witnesses.len())?;
-        for witness in &self.witnesses {
-            sent.push(messages::gc(self.alloc, self.number, *witness, self.epoch, ids)?)?;
-        }
-        Ok(sent)
     }
 }

@@ -2,16 +2,10 @@
 //! keys, and everything else once all backups have it.
 #![tactic(auto)]
 
-mod acknowledged;
-mod captured;
-mod captures;
 mod collecting;
-mod indexes;
 mod journal;
 mod master;
-mod messages;
 mod moving;
-mod phase;
 mod reads;
 mod replies;
 mod round;
@@ -24,9 +18,8 @@ mod switching;
 mod tests;
 mod untold;
 mod updates;
-mod verdict;
 
-pub use captured::Captured;
+pub use curp_rounds::Captured;
 pub use master::Master;
 use round::Round;
 pub use shell::Shell;

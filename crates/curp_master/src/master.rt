@@ -5,19 +5,15 @@ ghost use Rattle.curp_model.specs.Master as master;
 ghost use Rattle.curp_model.specs.Master.{beginning, on_serving, serving_ordered};
 ghost use Rattle.curp_msg.specs.Moved.{Moves, numbered_move};
 
-use crate::acknowledged::{Acknowledged, least_length, set_all};
-use crate::captured::Captured;
-use crate::captures::Captures;
-use crate::indexes::Indexes;
 use crate::journal::Journal;
-use crate::phase::Phase;
 use crate::shell::Shell;
-use crate::verdict::Wish;
 use curp_base::NoMemory;
 use curp_cmd::NodeId;
 use curp_collect::Queue;
 use curp_log::Log;
 use curp_msg::{Body, Done, Local, Message};
+use curp_rounds::acknowledged::{Acknowledged, least_length, set_all};
+use curp_rounds::{Captured, Captures, Indexes, Phase, Wish};
 use std::alloc::Global;
 use std::marker::Model;
 
@@ -45,8 +41,8 @@ impl Model for Master {
     ghost use Rattle.std.specs.Prelude.{◌≡◌};
     ghost use Rattle.curp_model.specs.Master.{MasterState};
     ghost use Rattle.curp_msg.specs.Moved.{Node};
-    ghost use Rattle.curp_master.specs.Backups.{stored_by_all};
-    ghost use Rattle.curp_master.specs.Phases.{phase_of};
+    ghost use Rattle.curp_rounds.specs.Backups.{stored_by_all};
+    ghost use Rattle.curp_rounds.specs.Phases.{phase_of};
 
     ghost Value = { Node MasterState };
 

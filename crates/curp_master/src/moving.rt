@@ -6,12 +6,13 @@ ghost use Rattle.curp_msg.specs.Moved.{Moves};
 ghost use Rattle.curp_master.specs.Built.{move_of};
 ghost use Rattle.curp_master.specs.Moving.{IsTakenOut, by_retelling, pushes};
 
-use crate::{Master, messages};
+use crate::Master;
 use curp_base::NoMemory;
 use curp_cmd::{Entry, Package, room};
 use curp_log::Log;
 use curp_msg::{Done, Message, Parcel, TakeOut};
 use curp_range::laws::one_span_covers;
+use curp_rounds::messages;
 use std::slice::from_ref;
 
 /// What becomes of a migration, by the last one that the log has.
@@ -133,10 +134,10 @@ impl Master {
         ensures moves { Moves self.old self.new result
             (move_of self.old (pushes self.old.number self.old.state entry)) }
     {
+        self.journal.reserve(room(&entry))?;
         let Some(round) = self.next_round(from_ref(&entry))? else {
             return Ok(Done::quiet(self.alloc));
         };
-        self.journal.reserve(room(&entry))?;
         self.journal.push(entry, false);
         self.round = round.number;
         Ok(Done::sends(round.appends))

@@ -4,12 +4,12 @@ ghost use Rattle.curp_model.specs.Master.{captures_read, on_read, read_refusal};
 ghost use Rattle.curp_msg.specs.Moved.{Moves};
 ghost use Rattle.curp_master.specs.Built.{move_of};
 
-use crate::captured::Captured;
-use crate::{Master, messages};
+use crate::Master;
 use curp_base::NoMemory;
 use curp_cmd::{Answer, Command, Key, Request};
 use curp_model::Check;
 use curp_msg::{Ask, Done, Refusal};
+use curp_rounds::{Captured, messages};
 
 impl Master {
     /// A client asks to read. Only a Get is read.
@@ -63,10 +63,10 @@ impl Master {
         let Some(number) = self.captures.count().checked_add(1) else {
             return Ok(Done::quiet(self.alloc));
         };
+        self.captures.reserve()?;
         let Some(round) = self.next_round(&[])? else {
             return Ok(Done::quiet(self.alloc));
         };
-        self.captures.reserve()?;
         let log = self.journal.log();
         let value = Answer::Found(log.store().get(key));
         let captured = Captured::new(

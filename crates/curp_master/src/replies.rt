@@ -1,11 +1,13 @@
-ghost use Rattle.std.specs.Prelude.{◌≡◌, ◌∷◌, [], IfOk};
+ghost use Rattle.std.specs.Prelude.{◌≡◌, ◌≤◌, ◌∷◌, [], IfOk, vec_capacity};
 ghost use Rattle.curp_model.specs.Master.{reply};
 ghost use Rattle.curp_msg.specs.Moved.{done_of, sends};
 
-use crate::{Master, messages};
+use crate::Master;
 use curp_base::{Boxed, NoMemory};
 use curp_cmd::{Answer, RequestId};
 use curp_msg::{Done, Message, Reply};
+use curp_rounds::messages;
+use std::alloc::Global;
 
 impl Master {
     /// A reply to the client of a request, and nothing else.
@@ -53,4 +55,16 @@ impl Master {
             answer: *answer,
         }
     }
+}
+
+/// Memory for a reply, which holds that one for now, and for the list of it alone.
+pub(crate) fn reply_room(
+    alloc: Global,
+    reply: Reply,
+) -> Result<(Boxed<Reply>, Vec<Message>), NoMemory>
+    ensures { IfOk result (λ room. (room.1.items ≡ []) × (1 ≤ vec_capacity room.1)) }
+{
+    let reply = Boxed::new(alloc, reply)?;
+    let sent = Vec::with_capacity(alloc, 1)?;
+    Ok((reply, sent))
 }

@@ -2,16 +2,16 @@ ghost use Rattle.std.specs.Prelude.{◌≡◌, ◌++◌, drop, IfOk};
 ghost use Rattle.curp_model.specs.Master.{append_to, appends, begins_round};
 ghost use Rattle.curp_msg.specs.Moved.{Moves};
 ghost use Rattle.curp_master.specs.Built.{move_of};
-ghost use Rattle.curp_master.specs.Phases.{phase_of};
+ghost use Rattle.curp_rounds.specs.Phases.{phase_of};
 ghost use Rattle.curp_master.specs.Rounds.{IsNextRound, at_round, in_phase};
 
-use crate::acknowledged::length_from;
-use crate::phase::Phase;
-use crate::{Master, Round, messages};
+use crate::{Master, Round};
 use curp_base::{Items, NoMemory, copies_of, past};
 use curp_cmd::{Entry, NodeId};
 use curp_log::Log;
 use curp_msg::{Append, Done, Message};
+use curp_rounds::acknowledged::length_from;
+use curp_rounds::{Phase, messages};
 use std::alloc::Global;
 
 impl Master {

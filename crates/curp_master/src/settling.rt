@@ -2,16 +2,16 @@ ghost use Rattle.std.specs.Prelude.{◌≡◌, ◌≤◌, ◌++◌, ◌&&◌, no
 ghost use Rattle.curp_model.specs.Master.{all_have, between, moved_entry, on_appended, on_stored};
 ghost use Rattle.curp_model.specs.Master.{settle, synced_replies, synced_reply, value_of};
 ghost use Rattle.curp_msg.specs.Moved.{Moves};
-ghost use Rattle.curp_master.specs.Backups.{stored_by_all};
+ghost use Rattle.curp_rounds.specs.Backups.{stored_by_all};
 ghost use Rattle.curp_master.specs.Built.{move_of};
-ghost use Rattle.curp_master.specs.Settling.{acknowledging, listing, prepares_in, ready_version, telling};
+ghost use Rattle.curp_master.specs.Settling.{acknowledging, listing, prepares_in};
 
-use crate::acknowledged::{Acknowledged, all_have, least_length, raised};
-use crate::phase::{Phase, Switch};
-use crate::{Master, messages};
+use crate::Master;
 use curp_base::{Boxed, NoMemory, past};
 use curp_cmd::{Entry, NodeId};
 use curp_msg::{AppendAnswer, Appended, Done, Message};
+use curp_rounds::acknowledged::{Acknowledged, least_length, raised};
+use curp_rounds::messages;
 use std::alloc::Global;
 
 impl Master {
@@ -47,12 +47,11 @@ impl Master {
 
     // Backups have so much, and the manager is told once where the next list has the whole log.
     fn prepare_by(&mut self, acknowledged: Vec<Acknowledged>) -> Result<Done, NoMemory>
-        requires more { stored_by_all self.old.state.acknowledged self.old.state.backups
-            ≤ stored_by_all acknowledged.items self.old.state.backups }
         ensures moves { Moves self.old self.new result (move_of self.old
             (prepares_in self.old.number (acknowledging self.old.state acknowledged.items) self.old.state.phase)) }
     {
-        match self.ready_version(&acknowledged) {
+        let long = self.journal.log().len();
+        match self.phase.ready_version(long, &acknowledged) {
             None => {
                 self.acknowledge(acknowledged);
                 Ok(Done::quiet(self.alloc))
@@ -60,44 +59,14 @@ impl Master {
             Some(version) => {
                 let sent = vec![in self.alloc; messages::prepared(self.number, version)]?;
                 self.acknowledge(acknowledged);
-                self.note_prepared();
+                self.phase.note_prepared();
                 Ok(Done::sends(sent))
             }
         }
     }
 
-    // The version of the next list, if each of its backups has the whole log and the manager wasn't told so.
-    fn ready_version(&self, acknowledged: &[Acknowledged]) -> Option<u32>
-        ensures { result ≡ ready_version self.now.state.log acknowledged.now self.now.state.phase }
-    {
-        match &self.phase {
-            Phase::Switching(switch) if self.is_ready(switch, acknowledged) => {
-                Some(switch.version)
-            }
-            _ => None,
-        }
-    }
-
-    fn is_ready(&self, switch: &Switch, acknowledged: &[Acknowledged]) -> bool
-        ensures { result ≡ (not switch.now.prepared
-            && all_have acknowledged.now switch.now.backups (length self.now.state.log) switch.now.round) }
-    {
-        let long = self.journal.log().len();
-        !switch.prepared && all_have(acknowledged, switch.backups.as_slice(), long, switch.round)
-    }
-
-    fn note_prepared(&mut self)
-        ensures { self.new ≡ telling self.old }
-    {
-        if let Phase::Switching(switch) = &mut self.phase {
-            switch.prepared = true;
-        }
-    }
-
     // Backups have so much, and what all have is answered.
     fn settle(&mut self, acknowledged: Vec<Acknowledged>) -> Result<Done, NoMemory>
-        requires more { stored_by_all self.old.state.acknowledged self.old.state.backups
-            ≤ stored_by_all acknowledged.items self.old.state.backups }
         ensures moves { Moves self.old self.new result (move_of self.old
             (settle self.old.number (acknowledging self.old.state acknowledged.items))) }
     {
@@ -109,8 +78,6 @@ impl Master {
 
     // Backups have so much.
     fn acknowledge(&mut self, acknowledged: Vec<Acknowledged>)
-        requires more { stored_by_all self.old.state.acknowledged self.old.state.backups
-            ≤ stored_by_all acknowledged.items self.old.state.backups }
         ensures number { self.new.number ≡ self.old.number }
         ensures state { self.new.state ≡ acknowledging self.old.state acknowledged.items }
     {
@@ -143,8 +110,16 @@ impl Master {
     {
         let synced = least_length(acknowledged, backups);
         let mut sent = self.synced_replies(version, self.held.below(synced))?;
-        self.tell_values(&mut sent, acknowledged, backups)?;
-        self.tell_moved(&mut sent, self.newly_synced(synced))?;
+        self.captures.tell_ready(
+            &mut sent,
+            self.alloc,
+            self.number,
+            self.epoch,
+            acknowledged,
+            backups,
+        )?;
+        let moved = newly_synced(self.journal.log().entries(), self.settled, synced);
+        messages::tell_moved(&mut sent, self.alloc, self.number, moved)?;
         Ok(sent)
     }
 
@@ -175,54 +150,17 @@ impl Master {
         }
         Ok(())
     }
+}
 
-    // The values of the captures that all these backups have acknowledged.
-    fn tell_values(
-        &self,
-        sent: &mut Vec<Message>,
-        acknowledged: &[Acknowledged],
-        backups: &[NodeId],
-    ) -> Result<(), NoMemory>
-        ensures { OnOk result (sent.new.items ≡ sent.old.items ++ map (value_of self.now.number self.now.state)
-            (filter (λ c. all_have acknowledged.now backups.now c.length c.round) self.now.state.captures)) }
-    {
-        for capture in self.captures.waiting() {
-            if capture.is_ready(acknowledged, backups) {
-                sent.push(capture.value(self.alloc, self.number, self.epoch)?)?;
-            }
-        }
-        Ok(())
-    }
-
-    // The entries that weren't synced when it settled last.
-    fn newly_synced(&self, synced: u64) -> &[Entry]
-        ensures { result.now ≡ between self.now.state.settled synced self.now.state.log }
-    {
-        let entries = past(self.journal.log().entries(), self.settled);
-        let count = synced.saturating_sub(self.settled);
-        if count < entries.len() as u64 {
-            &entries[..count as usize]
-        } else {
-            entries
-        }
-    }
-
-    // The manager is told of ranges that these entries move.
-    fn tell_moved(&self, sent: &mut Vec<Message>, entries: &[Entry]) -> Result<(), NoMemory>
-        ensures { OnOk result (sent.new.items
-            ≡ sent.old.items ++ flat_map (moved_entry self.now.number) entries.now) }
-    {
-        for entry in entries {
-            match entry {
-                Entry::Take { migration, package } => {
-                    sent.push(messages::taken(self.alloc, self.number, *migration, package)?)?;
-                }
-                Entry::Give { migration, .. } => {
-                    sent.push(messages::given(self.number, *migration))?;
-                }
-                _ => {}
-            }
-        }
-        Ok(())
+// The entries that weren't synced when it settled last, up to what is synced now.
+fn newly_synced(entries: &[Entry], settled: u64, synced: u64) -> &[Entry]
+    ensures { result.now ≡ between settled synced entries.now }
+{
+    let entries = past(entries, settled);
+    let count = synced.saturating_sub(settled);
+    if count < entries.len() as u64 {
+        &entries[..count as usize]
+    } else {
+        entries
     }
 }

@@ -1,8 +1,8 @@
 ghost use Rattle.std.specs.Prelude.{◌≡◌, IfOk};
 
-use crate::acknowledged::{Acknowledged, all_at};
 use curp_base::NoMemory;
 use curp_cmd::NodeId;
+use curp_rounds::acknowledged::{Acknowledged, all_at};
 use std::alloc::Global;
 use std::marker::Model;
 
@@ -21,6 +21,7 @@ pub struct Shell {
 
 impl Model for Shell {
     ghost use Rattle.std.specs.Prelude.{◌≡◌};
+    ghost use Rattle.curp_rounds.specs.Backups.{all_at};
     ghost use Rattle.curp_master.specs.Shells as shells;
 
     ghost Value = { shells.Shell };
@@ -34,7 +35,7 @@ impl Model for Shell {
       witnesses = s.witnesses.items;
     } };
 
-    ghost invariant = { λ s. s.acknowledged.items ≡ shells.all_at s.backups.items 0 0 };
+    ghost invariant = { λ s. s.acknowledged.items ≡ all_at s.backups.items 0 0 };
 }
 
 impl Shell {

@@ -1,16 +1,16 @@
-ghost use Rattle.std.specs.Prelude.{◌≡◌, IfOk, OnOk, OnErr};
+ghost use Rattle.std.specs.Prelude.{◌≡◌, IfOk};
 ghost use Rattle.curp_model.specs.Master.{Switching, adopted_in, begins_round, prepare_in, prepared_message};
 ghost use Rattle.curp_model.specs.Master.{switch_to, sync_in};
 ghost use Rattle.curp_msg.specs.Moved.{Moves};
-ghost use Rattle.curp_master.specs.Backups.{stored_by_all};
+ghost use Rattle.curp_rounds.specs.Backups.{stored_by_all};
 ghost use Rattle.curp_master.specs.Built.{move_of};
-ghost use Rattle.curp_master.specs.Switching.{IsSettledNext, next_lists, rounds_behind, taken_up, told_version};
+ghost use Rattle.curp_master.specs.Switching.{IsSettledNext, next_lists, rounds_behind, taken_up};
 
-use crate::acknowledged::least_length;
-use crate::phase::{Phase, Switch};
-use crate::{Master, messages};
+use crate::Master;
 use curp_base::NoMemory;
 use curp_msg::{Done, Message, Prepare};
+use curp_rounds::acknowledged::least_length;
+use curp_rounds::{Phase, Switch, messages};
 use std::mem::replace;
 
 impl Master {
@@ -19,19 +19,9 @@ impl Master {
         ensures moves { Moves self.old self.new result
             (move_of self.old (sync_in self.old.number self.old.state self.old.state.phase)) }
     {
-        match self.told_version() {
+        match self.phase.told_version() {
             Some(version) => self.sync_prepared(version),
             None => self.begin_round(),
-        }
-    }
-
-    // The version of the next list, if the manager was told that it has the log.
-    fn told_version(&self) -> Option<u32>
-        ensures { result ≡ told_version self.now.state.phase }
-    {
-        match &self.phase {
-            Phase::Switching(switch) if switch.prepared => Some(switch.version),
-            _ => None,
         }
     }
 
@@ -39,13 +29,12 @@ impl Master {
         ensures moves { Moves self.old self.new result (move_of self.old
             (rounds_behind self.old.number self.old.state (prepared_message self.old.number version))) }
     {
-        let Some(mut round) = self.next_round(&[])? else {
+        let Some(round) = self.next_round(&[])? else {
             return Ok(Done::quiet(self.alloc));
         };
-        let mut sent = vec![in self.alloc; messages::prepared(self.number, version)]?;
-        sent.append(&mut round.appends)?;
+        let round = round.behind(self.alloc, messages::prepared(self.number, version))?;
         self.round = round.number;
-        Ok(Done::sends(sent))
+        Ok(Done::sends(round.appends))
     }
 
     /// The manager gives it new lists.
@@ -91,7 +80,7 @@ impl Master {
         let Some(next) = self.settled_next(version)? else {
             return Ok(Done::quiet(self.alloc));
         };
-        self.take_up(next.synced)?;
+        self.take_up(next.synced);
         self.release();
         Ok(Done::sends(next.sent))
     }
@@ -113,19 +102,17 @@ impl Master {
     }
 
     // It serves with the lists that it switched to, whose backups all have so much.
-    fn take_up(&mut self, synced: u64) -> Result<(), NoMemory>
+    fn take_up(&mut self, synced: u64)
         requires { synced ≡ stored_by_all self.old.state.acknowledged (taken_up self.old.state).backups }
         ensures number { self.new.number ≡ self.old.number }
-        ensures state { OnOk result (self.new.state ≡ taken_up self.old.state) }
-        ensures err { OnErr result (self.new ≡ self.old) }
+        ensures state { self.new.state ≡ taken_up self.old.state }
     {
-        self.journal.settle_anew(synced)?;
+        self.journal.settle(synced);
         if let Phase::Switching(switch) = replace(&mut self.phase, Phase::Open) {
             self.version = switch.version;
             self.backups = switch.backups.into_vec();
             self.witnesses = switch.witnesses.into_vec();
         }
-        Ok(())
     }
 }
 

@@ -7,15 +7,17 @@ ghost use Rattle.curp_model.specs.Table.{check};
 ghost use Rattle.curp_msg.specs.Moved.{Moves};
 ghost use Rattle.curp_master.specs.Built.{move_of};
 ghost use Rattle.curp_master.specs.Journal.{CanPush};
-ghost use Rattle.curp_master.specs.Updates.{new_verdict, pushes_held, verdict_of, wish_of};
+ghost use Rattle.curp_master.specs.Updates.{new_verdict, pushes_held};
+ghost use Rattle.curp_rounds.specs.Verdicts.{verdict_of, wish_of};
 
+use crate::Master;
 use crate::journal::op_of;
-use crate::verdict::{Verdict, Wish};
-use crate::{Master, messages};
-use curp_base::{Boxed, NoMemory};
+use crate::replies::reply_room;
+use curp_base::NoMemory;
 use curp_cmd::{Answer, Request, room};
 use curp_model::Check;
 use curp_msg::{Ask, Done, Refusal};
+use curp_rounds::{Verdict, Wish, messages};
 
 impl Master {
     #[tactic(auto, unfolding(curp_model::specs::Master::on_update))]
@@ -122,11 +124,10 @@ impl Master {
             (move_of self.old (executes self.old.number self.old.state master.AtOnce request.now true)) }
     {
         // All room is taken before anything changes.
-        let unanswered = self.reply_to(self.version, false, request.id, &Answer::Done);
-        let mut reply = Boxed::new(self.alloc, unanswered)?;
-        let mut sent = Vec::with_capacity(self.alloc, 1)?;
         self.queue.reserve(1)?;
         self.journal.reserve(room(&op_of(request)))?;
+        let unanswered = self.reply_to(self.version, false, request.id, &Answer::Done);
+        let (mut reply, mut sent) = reply_room(self.alloc, unanswered)?;
         let answer = self.journal.push_op(request, true);
         self.queue.add(request.id, self.journal.log().len());
         reply.set(self.reply_to(self.version, false, request.id, &answer));
@@ -140,13 +141,13 @@ impl Master {
         ensures moves { Moves self.old self.new result
             (move_of self.old (pushes_held self.old.number self.old.state request.now is_free)) }
     {
+        self.held.reserve(1)?;
+        self.queue.reserve(1)?;
+        self.journal.reserve(room(&op_of(request)))?;
         let Some(round) = self.next_round(&[op_of(request)])? else {
             return Ok(Done::quiet(self.alloc));
         };
         let index = self.journal.log().len();
-        self.held.reserve(1)?;
-        self.queue.reserve(1)?;
-        self.journal.reserve(room(&op_of(request)))?;
         self.journal.push(op_of(request), is_free);
         self.queue.add(request.id, index + 1);
         self.held.insert(index);
@@ -159,10 +160,10 @@ impl Master {
         ensures moves { Moves self.old self.new result
             (move_of self.old (holds_back self.old.number self.old.state index)) }
     {
+        self.held.reserve(1)?;
         let Some(round) = self.next_round(&[])? else {
             return Ok(Done::quiet(self.alloc));
         };
-        self.held.reserve(1)?;
         self.held.insert(index);
         self.round = round.number;
         Ok(Done::sends(round.appends))

@@ -1,8 +1,8 @@
 use Rattle.std.proofs.Common.{◌≡◌, List, [], length, ap, ◌∙◌}
 use Rattle.curp_model.specs.Master.{Acknowledged, Open}
 use Rattle.curp_master.specs.Journal.{journal_of}
-use Rattle.curp_master.specs.Shells.{all_at, all_set}
-use Rattle.curp_master.proofs.Acks.{set_at}
+use Rattle.curp_rounds.specs.Backups.{all_at, all_set}
+use Rattle.curp_rounds.proofs.Acks.{set_at}
 use Rattle.curp_master.proofs.master.Master.begin.Goals as goal
 
 pub returns-clause-state : goal.returns-clause-state

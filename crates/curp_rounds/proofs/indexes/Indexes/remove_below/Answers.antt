@@ -1,0 +1,19 @@
+use Rattle.std.proofs.Common.{rules, ◌∙◌}
+use Rattle.std.proofs.lemmas.List.Sorted.{IsNonDecreasingBy-drop, IsPartitionPoint-from_clause, IsPartitionedBy-ltb}
+use Rattle.curp_rounds.proofs.Places.{is_below, rest_not_below}
+use Rattle.curp_rounds.proofs.indexes.Indexes.remove_below.Goals as goal
+
+pub invariant_of-self : goal.invariant_of-self
+invariant_of-self c =
+    rw (c.drop-drain.ensures.items, c.drain.ensures.kept)
+    (IsNonDecreasingBy-drop (λ n. n) c.partition_point-count.result c.self.inside.numbers.items c.self.invariant)
+
+pub returns : goal.returns
+returns c =
+    let point =
+    IsPartitionPoint-from_clause (is_below c.args.limit) c.deref.result.now c.partition_point-count.result c.partition_point-count.ensures.partitioned
+    (rw c.deref.ensures.value (IsPartitionedBy-ltb (λ n. n) c.self.inside.numbers.items c.args.limit c.self.invariant)) (λ a r f called. search rules)
+    in
+    rw (← c.self.view_is)
+    (c.drop-drain.ensures.items ∙ c.drain.ensures.kept
+    ∙ rest_not_below c.self.inside.numbers.items c.args.limit c.partition_point-count.result (rw c.deref.ensures.value at point))

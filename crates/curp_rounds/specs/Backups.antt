@@ -1,0 +1,31 @@
+-- What a master knows of its backups.
+use Rattle.std.specs.Prelude.{◌≡◌, ℕ, ◌<◌, true, false, List, map, length, slice_index_or}
+use Rattle.curp_cmd.specs.declared.node.NodeId.{NodeId}
+use Rattle.curp_model.specs.Master.{Acknowledged, from_backup, least}
+use Rattle.curp_cmd.specs.Node.{same_node}
+
+-- the lengths that the backups of a list have acknowledged
+abbrev pub lengths : List Acknowledged → List NodeId → List ℕ
+lengths all backups = map (λ b. (from_backup all b).length) backups
+
+-- so much of the log has each of them acknowledged
+abbrev pub stored_by_all : List Acknowledged → List NodeId → ℕ
+stored_by_all all backups = least (lengths all backups)
+
+-- so much is set for each
+abbrev pub all_set : List Acknowledged → ℕ → ℕ → List Acknowledged
+all_set all long round = map (λ (a : Acknowledged). record a { length = long; round = round }) all
+
+-- each backup has acknowledged just so much
+abbrev pub all_at : List NodeId → ℕ → ℕ → List Acknowledged
+all_at backups long round = map (λ b. record { backup = b; length = long; round = round }) backups
+
+-- below a place none is of the backup
+abbrev pub NoneBelow : List Acknowledged → NodeId → ℕ → Type 0
+NoneBelow all backup at = (k : ℕ) (d : Acknowledged) → k < at → same_node (slice_index_or all k d).backup backup ≡ false
+
+-- the first that is of the backup stands at that place
+pub record IsFirst (all : List Acknowledged) (backup : NodeId) (at : ℕ) : Type 0 where
+  pub within : at < length all
+  pub its : (d : Acknowledged) → same_node (slice_index_or all at d).backup backup ≡ true
+  pub before : NoneBelow all backup at

@@ -1,0 +1,5 @@
+pub mod Backups
+pub mod Captures
+pub mod Indexes
+pub mod Phases
+pub mod Verdicts

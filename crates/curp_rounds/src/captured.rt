@@ -1,0 +1,125 @@
+ghost use Rattle.std.specs.Prelude.{◌≡◌, IfOk};
+ghost use Rattle.curp_cmd.specs.Node.{client_node, master_node};
+ghost use Rattle.curp_model.specs.Master.{all_have};
+ghost use Rattle.curp_msg.specs.Moved.{says};
+
+use crate::acknowledged::{Acknowledged, all_have};
+use curp_base::{Boxed, NoMemory};
+use curp_cmd::{Answer, Command, NodeId, RequestId};
+use curp_msg::{Body, Message, Worth};
+use std::alloc::Global;
+use std::marker::Model;
+
+/// A read that waits: its value and the log's length as they were when it came, and the round that was begun for it.
+#[derive(Drop)]
+pub struct Captured {
+    number: u64,
+    id: RequestId,
+    command: Command,
+    answer: Answer,
+    long: u64,
+    round: u64,
+}
+
+impl Model for Captured {
+    ghost use Rattle.curp_model.specs.Master.{Captured};
+
+    ghost Value = { Captured };
+
+    ghost view = { λ c. record {
+      number = c.number;
+      id = c.id;
+      command = c.command;
+      answer = c.answer;
+      length = c.long;
+      round = c.round;
+    } };
+}
+
+impl Captured {
+    /// Capture `number` of its master, of a request, with what it reads and what it waits for.
+    pub fn new(
+        number: u64,
+        id: RequestId,
+        command: Command,
+        answer: Answer,
+        long: u64,
+        round: u64,
+    ) -> Captured
+        ensures { result ≡ record {
+          number = number;
+          id = id;
+          command = command;
+          answer = answer;
+          length = long;
+          round = round;
+        } }
+    {
+        Captured {
+            number,
+            id,
+            command,
+            answer,
+            long,
+            round,
+        }
+    }
+
+    /// Which capture of its master it is, counted from 1.
+    pub fn number(&self) -> u64
+        ensures { result ≡ self.now.number }
+    {
+        self.number
+    }
+
+    /// The request that reads.
+    pub fn id(&self) -> RequestId
+        ensures { result ≡ self.now.id }
+    {
+        self.id
+    }
+
+    /// What is read.
+    pub fn command(&self) -> Command
+        ensures { result ≡ self.now.command }
+    {
+        self.command
+    }
+
+    /// The log's length as it was captured.
+    pub fn log_length(&self) -> u64
+        ensures { result ≡ self.now.length }
+    {
+        self.long
+    }
+
+    /// Whether all of these backups have acknowledged the length and the round.
+    pub fn is_ready(&self, acknowledged: &[Acknowledged], backups: &[NodeId]) -> bool
+        ensures { result ≡ all_have acknowledged.now backups.now self.now.length self.now.round }
+    {
+        all_have(acknowledged, backups, self.long, self.round)
+    }
+
+    /// The value, as a message of master `number` at that epoch to the client.
+    pub fn value(&self, alloc: Global, number: u32, epoch: u32) -> Result<Message, NoMemory>
+        ensures { IfOk result (λ message. message
+            ≡ says (master_node number) (client_node self.now.id.client) (Body.Worth (record {
+              id = self.now.id;
+              epoch = epoch;
+              capture = self.now.number;
+              answer = self.now.answer;
+            }))) }
+    {
+        let worth = Worth {
+            id: self.id,
+            epoch,
+            capture: self.number,
+            answer: self.answer,
+        };
+        Ok(Message {
+            from: NodeId::master(number),
+            to: NodeId::client(self.id.client),
+            body: Body::Worth(Boxed::new(alloc, worth)?),
+        })
+    }
+}
