@@ -1,15 +1,14 @@
 -- What is printed reads as what it was printed for.
-use Rattle.std.proofs.Common.{◌≡◌, ◌≤◌, ◌<◌, ◌+◌, ◌-◌, ◌*◌, ◌==◌, ◌≢◌, ◌/◌, ◌%◌, ◌^◌, ◌↔◌, ◌++◌, ◌∙◌, ℕ, List, [], ◌∷◌, length, map, flat_map, Bool, true, false, Some, None, Result, Ok, Err, option_and_then, if◌then◌else◌, All, decimal, refl, ap, arith, append_assoc}
+use Rattle.std.proofs.Common.{◌≡◌, ◌≤◌, ◌<◌, ◌+◌, ◌-◌, ◌*◌, ◌==◌, ◌≢◌, ◌/◌, ◌%◌, ◌^◌, ◌↔◌, ◌++◌, ◌∙◌, ℕ, List, [], ◌∷◌, length, flat_map, Bool, true, false, Some, None, Result, Ok, Err, option_and_then, if◌then◌else◌, All, decimal, refl, ap, arith, append_assoc}
 use Rattle.std.proofs.lemmas.Bool.Decides.{nat_tests}
-use Rattle.std.proofs.lemmas.List.{map-append, flat_map_more}
+use Rattle.std.proofs.lemmas.List.{flat_map_more}
 use Rattle.std.proofs.lemmas.List.Elements.{All-head, All-tail, All-from_recursion}
 use Rattle.std.proofs.lemmas.Nat.{from_be_bytes-to_be_bytes_8}
 use Rattle.std.specs.Prelude.{⊤}
 use Rattle.std.specs.Fmt.{digit_glyph}
 use Rattle.std.specs.Int.{w64, to_be_bytes, from_be_bytes}
 use Rattle.serde_json.specs.Data.{Data}
-use Rattle.serde_json.specs.View.{view, items_of}
-use Rattle.serde_json.specs.declared.value.Value.{Value}
+use Rattle.serde_json.specs.View.{items_of}
 use Rattle.curp_base.specs.Words.{AreBytes}
 use Rattle.curp_cmd.specs.Pairs.{Pair, names_twice}
 use Rattle.curp_cmd.specs.declared.command.Command.{Command}
@@ -110,14 +109,12 @@ multi_put-pairs pairs least most distinct =
 pub multi_reads : (pairs : List Pair) → 1 ≤ length pairs → length pairs ≤ 4 → names_twice pairs ≡ false → All PairReads pairs → CommandReadsBack (Multi pairs)
 multi_reads pairs least most distinct all = rw (pairs_in-data pairs all, multi_put-pairs pairs least most distinct) refl
 
--- the last part of a list of values
-pub parts_more : (parts : List Value) (key value : Value) (before : List Data) (pairs : List Pair) (p : Pair)
-    → map view parts ≡ before ++ flat_map pair_data pairs → view key ≡ bytes_data p.0 → view value ≡ bytes_data p.1
-    → map view ((parts ++ key ∷ []) ++ value ∷ []) ≡ before ++ flat_map pair_data (pairs ++ p ∷ [])
-parts_more parts key value before pairs p is key_is value_is =
-    map-append view (parts ++ key ∷ []) (value ∷ [])
-    ∙ ap (λ (ds : List Data). ds ++ view value ∷ []) (map-append view parts (key ∷ []))
-    ∙ rw (is, key_is, value_is) (append_assoc (before ++ flat_map pair_data pairs) (bytes_data p.0 ∷ []) (bytes_data p.1 ∷ []) ∙ flat_map_more pair_data before pairs p)
+-- the next of pairs that are printed one behind another
+pub pairs_more : (printed before : List Data) (pairs : List Pair) (p : Pair)
+    → printed ≡ before ++ flat_map pair_data pairs
+    → (printed ++ bytes_data p.0 ∷ []) ++ bytes_data p.1 ∷ [] ≡ before ++ flat_map pair_data (pairs ++ p ∷ [])
+pairs_more printed before pairs p is =
+    rw is (append_assoc (before ++ flat_map pair_data pairs) (bytes_data p.0 ∷ []) (bytes_data p.1 ∷ []) ∙ flat_map_more pair_data before pairs p)
 
 -- ---- steps
 

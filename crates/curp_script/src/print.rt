@@ -16,7 +16,7 @@ use crate::kind::{HEADER_NAMES, Kind};
 use crate::{FieldName, Header, Protocol, Step};
 use command::command_json;
 use curp_base::NoMemory;
-use curp_cmd::Keeper;
+use curp_cmd::{Command, Keeper, NodeId};
 use serde_json::{Map, Value as Json};
 use shown::{hash_text, node_text};
 use std::alloc::Global;
@@ -70,11 +70,7 @@ fn step_json(alloc: Global, step: &Step) -> Result<Json, NoMemory>
     ensures reads { OnOk result (ReadsBack step.now) }
 {
     match step {
-        Step::Invoke { client, command } => {
-            let command = command_json(alloc, command)?;
-            let values = vec![in alloc; Json::from(*client), command]?;
-            kind_line(alloc, Kind::Invoke, values)
-        }
+        Step::Invoke { client, command } => invoke_json(alloc, *client, command),
         Step::Deliver { message } => numbers(alloc, Kind::Deliver, &[*message]),
         Step::Retry { client, seq } => {
             numbers(alloc, Kind::Retry, &[*client as u64, *seq as u64])
@@ -94,23 +90,47 @@ fn step_json(alloc: Global, step: &Step) -> Result<Json, NoMemory>
             keeper,
             part,
             place,
-        } => {
-            let kind = text(alloc, keeper_text(*keeper))?;
-            let values = vec![in alloc; kind, Json::from(*part), Json::from(*place)]?;
-            kind_line(alloc, Kind::Replace, values)
-        }
-        Step::Migrate { lo, hi, to } => {
-            let (hi, lo) = (hash_text(alloc, *hi)?, hash_text(alloc, *lo)?);
-            let values = vec![in alloc; Json::String(hi), Json::String(lo), Json::from(*to)]?;
-            kind_line(alloc, Kind::Migrate, values)
-        }
+        } => replace_json(alloc, *keeper, *part, *place),
+        Step::Migrate { lo, hi, to } => migrate_json(alloc, *lo, *hi, *to),
         Step::Nudge => numbers(alloc, Kind::Nudge, &[]),
         Step::Expire { client } => numbers(alloc, Kind::Expire, &[*client as u64]),
-        Step::Stop { node } => {
-            let name = node_text(alloc, node.kind, node.number)?;
-            kind_line(alloc, Kind::Stop, vec![in alloc; Json::String(name)]?)
-        }
+        Step::Stop { node } => stop_json(alloc, *node),
     }
+}
+
+fn invoke_json(alloc: Global, client: u32, command: &Command) -> Result<Json, NoMemory>
+    ensures data { IfOk result (λ json. view json ≡ step_data (Step.Invoke client command.now)) }
+    ensures reads { OnOk result (ReadsBack (Step.Invoke client command.now)) }
+{
+    let command = command_json(alloc, command)?;
+    let values = vec![in alloc; Json::from(client), command]?;
+    kind_line(alloc, Kind::Invoke, values)
+}
+
+fn replace_json(alloc: Global, keeper: Keeper, part: u32, place: u32) -> Result<Json, NoMemory>
+    ensures { IfOk result (λ json. view json ≡ step_data (Step.Replace keeper part place)) }
+{
+    let kind = text(alloc, keeper_text(keeper))?;
+    let values = vec![in alloc; kind, Json::from(part), Json::from(place)]?;
+    kind_line(alloc, Kind::Replace, values)
+}
+
+fn migrate_json(alloc: Global, lo: u64, hi: u64, to: u32) -> Result<Json, NoMemory>
+    ensures data { IfOk result (λ json. view json ≡ step_data (Step.Migrate lo hi to)) }
+    ensures reads { OnOk result (ReadsBack (Step.Migrate lo hi to)) }
+{
+    let (hi, lo) = (hash_text(alloc, hi)?, hash_text(alloc, lo)?);
+    let values = vec![in alloc; Json::String(hi), Json::String(lo), Json::from(to)]?;
+    kind_line(alloc, Kind::Migrate, values)
+}
+
+fn stop_json(alloc: Global, node: NodeId) -> Result<Json, NoMemory>
+    requires { NamesNode (Step.Stop node) }
+    ensures data { IfOk result (λ json. view json ≡ step_data (Step.Stop node)) }
+    ensures reads { OnOk result (ReadsBack (Step.Stop node)) }
+{
+    let name = node_text(alloc, node.kind, node.number)?;
+    kind_line(alloc, Kind::Stop, vec![in alloc; Json::String(name)]?)
 }
 
 // A line of a kind with these numbers.

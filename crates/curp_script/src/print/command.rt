@@ -1,107 +1,138 @@
-ghost use Rattle.std.specs.Prelude.{◌≡◌, ◌∷◌, [], Some, IfOk, OnOk};
-ghost use Rattle.serde_json.specs.Data.{array, string};
-ghost use Rattle.serde_json.specs.View.{view, items_of};
+ghost use Rattle.std.specs.Prelude.{◌≡◌, ◌∷◌, ◌++◌, [], Some, map, IfOk, OnOk};
+ghost use Rattle.serde_json.specs.Data.{string};
+ghost use Rattle.serde_json.specs.View.{view};
 ghost use Rattle.curp_script.specs.Grammar.{key_in, value_in, expected_in};
-ghost use Rattle.curp_script.specs.Printed.{bytes_data, expected_data, command_data, CommandReadsBack};
+ghost use Rattle.curp_script.specs.Printed.{bytes_data, expected_data, command_data, command_parts, CommandReadsBack};
 
 use super::shown::hex_text;
+use super::text;
 use curp_base::NoMemory;
 use curp_cmd::{Command, Key, Pairs, Value};
-use serde_json::{Value as Json, json};
+use serde_json::Value as Json;
 use std::alloc::Global;
 
 pub(crate) fn command_json(alloc: Global, command: &Command) -> Result<Json, NoMemory>
     ensures data { IfOk result (λ json. view json ≡ command_data command.now) }
     ensures reads { OnOk result (CommandReadsBack command.now) }
 {
+    let mut parts = Vec::new(alloc);
+    push_command(&mut parts, alloc, command)?;
+    Ok(Json::Array(parts))
+}
+
+fn push_command(parts: &mut Vec<Json>, alloc: Global, command: &Command) -> Result<(), NoMemory>
+    ensures data { OnOk result (map view parts.new.items ≡ map view parts.old.items ++ command_parts command.now) }
+    ensures reads { OnOk result (CommandReadsBack command.now) }
+{
     match command {
-        Command::Get(key) => key_command(alloc, "get", key),
-        Command::Put(key, value) => pair_command(alloc, "put", key, value),
-        Command::Delete(key) => key_command(alloc, "delete", key),
-        Command::Incr(key) => key_command(alloc, "incr", key),
-        Command::Append(key, more) => pair_command(alloc, "append", key, more),
-        Command::CondPut(key, expected, value) => conditional_put(alloc, key, expected, value),
-        Command::Multi(pairs) => multi_put(alloc, pairs),
+        Command::Get(key) => push_key_alone(parts, alloc, "get", key),
+        Command::Put(key, value) => push_one_pair(parts, alloc, "put", key, value),
+        Command::Delete(key) => push_key_alone(parts, alloc, "delete", key),
+        Command::Incr(key) => push_key_alone(parts, alloc, "incr", key),
+        Command::Append(key, more) => push_one_pair(parts, alloc, "append", key, more),
+        Command::CondPut(key, expected, value) => {
+            push_conditional(parts, alloc, key, expected, value)
+        }
+        Command::Multi(pairs) => push_multi(parts, alloc, pairs),
     }
 }
 
-// A word, then a key.
-fn key_command(alloc: Global, word: &str, key: &Key) -> Result<Json, NoMemory>
-    ensures data { IfOk result (λ json. view json
-        ≡ array (items_of (string word.now ∷ bytes_data key.now ∷ []))) }
+fn push_key_alone(
+    parts: &mut Vec<Json>,
+    alloc: Global,
+    word: &str,
+    key: &Key,
+) -> Result<(), NoMemory>
+    ensures data { OnOk result (map view parts.new.items
+        ≡ map view parts.old.items ++ string word.now ∷ bytes_data key.now ∷ []) }
     ensures key { OnOk result (key_in (bytes_data key.now) ≡ Some key.now) }
 {
-    let key = key_json(alloc, key)?;
-    let json = json!(in alloc; [word, key])?;
-    Ok(json)
+    push_word(parts, alloc, word)?;
+    push_key(parts, alloc, key)
 }
 
-// A word, then a key and a value.
-fn pair_command(alloc: Global, word: &str, key: &Key, value: &Value) -> Result<Json, NoMemory>
-    ensures data { IfOk result (λ json. view json
-        ≡ array (items_of (string word.now ∷ bytes_data key.now ∷ bytes_data value.now ∷ []))) }
+fn push_one_pair(
+    parts: &mut Vec<Json>,
+    alloc: Global,
+    word: &str,
+    key: &Key,
+    value: &Value,
+) -> Result<(), NoMemory>
+    ensures data { OnOk result (map view parts.new.items
+        ≡ map view parts.old.items ++ string word.now ∷ bytes_data key.now ∷ bytes_data value.now ∷ []) }
     ensures key { OnOk result (key_in (bytes_data key.now) ≡ Some key.now) }
     ensures value { OnOk result (value_in (bytes_data value.now) ≡ Some value.now) }
 {
-    let key = key_json(alloc, key)?;
-    let value = value_json(alloc, value)?;
-    let json = json!(in alloc; [word, key, value])?;
-    Ok(json)
+    push_key_alone(parts, alloc, word, key)?;
+    push_value(parts, alloc, value)
 }
 
-fn conditional_put(
+fn push_conditional(
+    parts: &mut Vec<Json>,
     alloc: Global,
     key: &Key,
     expected: &Option<Value>,
     value: &Value,
-) -> Result<Json, NoMemory>
-    ensures data { IfOk result (λ json. view json
-        ≡ command_data (Command.CondPut key.now expected.now value.now)) }
+) -> Result<(), NoMemory>
+    ensures data { OnOk result (map view parts.new.items
+        ≡ map view parts.old.items ++ command_parts (Command.CondPut key.now expected.now value.now)) }
     ensures reads { OnOk result (CommandReadsBack (Command.CondPut key.now expected.now value.now)) }
 {
-    let key = key_json(alloc, key)?;
-    let expected = expected_json(alloc, expected)?;
-    let value = value_json(alloc, value)?;
-    let word = json!(in alloc; "condput")?;
-    let parts = Vec::from_array(alloc, [word, key, expected, value])?;
-    Ok(Json::Array(parts))
+    push_key_alone(parts, alloc, "condput", key)?;
+    push_expected(parts, alloc, expected)?;
+    push_value(parts, alloc, value)
 }
 
-fn multi_put(alloc: Global, pairs: &Pairs) -> Result<Json, NoMemory>
-    ensures data { IfOk result (λ json. view json ≡ command_data (Command.Multi pairs.now)) }
+fn push_multi(parts: &mut Vec<Json>, alloc: Global, pairs: &Pairs) -> Result<(), NoMemory>
+    ensures data { OnOk result (map view parts.new.items
+        ≡ map view parts.old.items ++ command_parts (Command.Multi pairs.now)) }
     ensures reads { OnOk result (CommandReadsBack (Command.Multi pairs.now)) }
 {
-    let mut parts = Vec::new(alloc);
-    parts.push(json!(in alloc; "multi")?)?;
+    push_word(parts, alloc, "multi")?;
     for (key, value) in pairs.as_slice() {
-        parts.push(key_json(alloc, key)?)?;
-        parts.push(value_json(alloc, value)?)?;
+        push_key(parts, alloc, key)?;
+        push_value(parts, alloc, value)?;
     }
-    Ok(Json::Array(parts))
+    Ok(())
 }
 
-fn key_json(alloc: Global, key: &Key) -> Result<Json, NoMemory>
-    ensures data { IfOk result (λ json. view json ≡ bytes_data key.now) }
-    ensures reads { key_in (bytes_data key.now) ≡ Some key.now }
+fn push_word(parts: &mut Vec<Json>, alloc: Global, word: &str) -> Result<(), NoMemory>
+    ensures { OnOk result (map view parts.new.items ≡ map view parts.old.items ++ string word.now ∷ []) }
 {
-    let text = hex_text(alloc, key.bytes())?;
-    Ok(Json::String(text))
+    push_part(parts, text(alloc, word)?)
 }
 
-fn value_json(alloc: Global, value: &Value) -> Result<Json, NoMemory>
-    ensures data { IfOk result (λ json. view json ≡ bytes_data value.now) }
-    ensures reads { value_in (bytes_data value.now) ≡ Some value.now }
+fn push_key(parts: &mut Vec<Json>, alloc: Global, key: &Key) -> Result<(), NoMemory>
+    ensures data { OnOk result (map view parts.new.items ≡ map view parts.old.items ++ bytes_data key.now ∷ []) }
+    ensures reads { OnOk result (key_in (bytes_data key.now) ≡ Some key.now) }
 {
-    let text = hex_text(alloc, value.bytes())?;
-    Ok(Json::String(text))
+    push_part(parts, Json::String(hex_text(alloc, key.bytes())?))
 }
 
-fn expected_json(alloc: Global, expected: &Option<Value>) -> Result<Json, NoMemory>
-    ensures data { IfOk result (λ json. view json ≡ expected_data expected.now) }
-    ensures reads { expected_in (expected_data expected.now) ≡ Some expected.now }
+fn push_value(parts: &mut Vec<Json>, alloc: Global, value: &Value) -> Result<(), NoMemory>
+    ensures data { OnOk result (map view parts.new.items ≡ map view parts.old.items ++ bytes_data value.now ∷ []) }
+    ensures reads { OnOk result (value_in (bytes_data value.now) ≡ Some value.now) }
+{
+    push_part(parts, Json::String(hex_text(alloc, value.bytes())?))
+}
+
+fn push_expected(
+    parts: &mut Vec<Json>,
+    alloc: Global,
+    expected: &Option<Value>,
+) -> Result<(), NoMemory>
+    ensures data { OnOk result (map view parts.new.items ≡ map view parts.old.items ++ expected_data expected.now ∷ []) }
+    ensures reads { OnOk result (expected_in (expected_data expected.now) ≡ Some expected.now) }
 {
     match expected {
-        Some(value) => value_json(alloc, value),
-        None => Ok(Json::Null),
+        Some(value) => push_value(parts, alloc, value),
+        None => push_part(parts, Json::Null),
     }
+}
+
+fn push_part(parts: &mut Vec<Json>, part: Json) -> Result<(), NoMemory>
+    ensures { OnOk result (map view parts.new.items ≡ map view parts.old.items ++ view part ∷ []) }
+{
+    parts.push(part)?;
+    Ok(())
 }
