@@ -27,7 +27,10 @@ pub(crate) fn heard(alloc: Global, number: u32, body: &Body) -> Result<(Stage, D
             let (recovery, done) = Recovery::begin(alloc, number, order.get())?;
             Ok((Stage::Recovering(recovery), done))
         }
-        _ => Ok((Stage::Fresh { number }, turned_away(alloc, number, body)?)),
+        _ => {
+            let done = turned_away(alloc, number, body)?;
+            Ok((Stage::Fresh { number }, done))
+        }
     }
 }
 
