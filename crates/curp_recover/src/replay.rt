@@ -1,5 +1,5 @@
-ghost use Rattle.std.specs.Prelude.{◌≡◌, ◌≤◌, true, IfOk, OnOk};
-ghost use Rattle.curp_model.specs.Log.{is_log};
+ghost use Rattle.std.specs.Prelude.{◌≡◌, ◌≤◌, ◌++◌, ◌∷◌, [], true, IfOk, OnOk};
+ghost use Rattle.curp_model.specs.Log.{fits_at, is_log, meaning};
 ghost use Rattle.curp_model.specs.Recovery.{replay};
 
 use curp_base::NoMemory;
@@ -36,11 +36,34 @@ fn restored(alloc: Global, lo: u64, hi: u64, entries: &[Entry]) -> Result<Log, N
     ensures entries { IfOk result (λ log. log.entries ≡ entries.now) }
 {
     let mut log = Log::begin(alloc, lo, hi)?;
-    for entry in entries {
-        log.reserve(room(entry))?;
-        log.push(entry.copy(alloc)?);
-    }
+    fill(&mut log, alloc, entries)?;
     Ok(log)
+}
+
+// An empty log gets these entries.
+fn fill(log: &mut Log, alloc: Global, entries: &[Entry]) -> Result<(), NoMemory>
+    requires empty { log.old.entries ≡ [] }
+    requires is_log { is_log log.old.lo log.old.hi entries.now ≡ true }
+    ensures lo { log.new.lo ≡ log.old.lo }
+    ensures hi { log.new.hi ≡ log.old.hi }
+    ensures entries { OnOk result (log.new.entries ≡ entries.now) }
+{
+    for entry in entries {
+        add(log, alloc, entry)?;
+    }
+    Ok(())
+}
+
+// An entry more, which fits.
+fn add(log: &mut Log, alloc: Global, entry: &Entry) -> Result<(), NoMemory>
+    requires { fits_at (meaning log.old.lo log.old.hi log.old.entries) entry.now ≡ true }
+    ensures lo { log.new.lo ≡ log.old.lo }
+    ensures hi { log.new.hi ≡ log.old.hi }
+    ensures entries { OnOk result (log.new.entries ≡ log.old.entries ++ entry.now ∷ []) }
+{
+    log.reserve(room(entry))?;
+    log.push(entry.copy(alloc)?);
+    Ok(())
 }
 
 /// Pushes each request that is new and whose hashes are owned, in order.
