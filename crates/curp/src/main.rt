@@ -1,9 +1,6 @@
 //! `curp play` reads a script from standard input, and prints what every node does and one order of the requests.
 #![tactic(auto)]
 
-#[cfg(test)]
-mod tests;
-
 use curp_run::start;
 use std::process::ExitCode;
 

@@ -7,8 +7,6 @@ mod owner;
 mod pending;
 mod requests;
 mod sending;
-#[cfg(test)]
-mod tests;
 
 pub use client::Client;
 pub use error::{InvokeError, RetryError};

@@ -45,19 +45,3 @@ pub fn conflict(a: &Command, b: &Command) -> bool
         .iter()
         .any(|hash| others.as_slice().contains(hash))
 }
-
-#[cfg(test)]
-mod tests {
-    use super::*;
-
-    // The vectors that the authors of FNV published.
-    #[test]
-    fn hashes_as_published(rt: HostRuntime) {
-        assert_eq!(rt; bytes_hash(b""), 0xcbf29ce484222325);
-        assert_eq!(rt; bytes_hash(b"a"), 0xaf63dc4c8601ec8c);
-        assert_eq!(rt; bytes_hash(b"b"), 0xaf63df4c8601f1a5);
-        assert_eq!(rt; bytes_hash(b"c"), 0xaf63de4c8601eff2);
-        assert_eq!(rt; bytes_hash(b"fo"), 0x08985907b541d342);
-        assert_eq!(rt; bytes_hash(b"foobar"), 0x85944171f73967e8);
-    }
-}

@@ -16,8 +16,6 @@ mod opening;
 mod recovering;
 mod replacing;
 mod shape;
-#[cfg(test)]
-mod tests;
 mod work;
 
 pub use error::{ExpireError, MigrateError, RecoverError, ReplaceError};

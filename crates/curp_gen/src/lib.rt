@@ -7,8 +7,6 @@ mod commands;
 mod draws;
 mod maker;
 mod summary;
-#[cfg(test)]
-mod tests;
 
 pub use commands::workload;
 pub use maker::{Maker, make};

@@ -8,8 +8,6 @@ mod manager;
 mod master;
 mod places;
 mod stage;
-#[cfg(test)]
-mod tests;
 mod witness;
 
 pub use backup::BackupNode;

@@ -3,8 +3,6 @@
 
 mod arrived;
 mod item;
-#[cfg(test)]
-mod tests;
 
 pub use arrived::{Arrived, Named};
 pub use item::Item;

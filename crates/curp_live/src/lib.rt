@@ -13,8 +13,6 @@ mod outputs;
 mod own;
 mod run;
 mod seats;
-#[cfg(test)]
-mod tests;
 mod work;
 
 pub use run::live;

@@ -14,8 +14,6 @@ mod settling;
 mod shell;
 mod suspects;
 mod switching;
-#[cfg(test)]
-mod tests;
 mod untold;
 mod updates;
 

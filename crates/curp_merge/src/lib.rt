@@ -9,8 +9,6 @@ mod line;
 mod mismatch;
 mod script;
 mod step;
-#[cfg(test)]
-mod tests;
 mod track;
 mod weave;
 

@@ -4,14 +4,10 @@
 mod answer;
 mod body;
 mod config;
-#[cfg(test)]
-mod example;
 mod machine;
 mod message;
 mod outcome;
 mod script;
-#[cfg(test)]
-mod tests;
 mod weighing;
 
 pub use answer::{AppendAnswer, FenceReply, GcAnswer, Reason, Refusal};

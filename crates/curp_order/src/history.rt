@@ -66,28 +66,3 @@ impl History {
         &self.events
     }
 }
-
-#[cfg(test)]
-mod tests {
-    use super::*;
-    use curp_cmd::Key;
-    use std::test::Fail;
-
-    #[test]
-    fn records_what_clients_saw(rt: HostRuntime) -> Result<(), Fail> {
-        let id = RequestId { client: 1, seq: 1 };
-        let (command, answer) = (Command::Get(Key::new(b"a")?), Answer::Found(None));
-        let mut history = History::new(rt.alloc());
-        history.reserve(2)?;
-        history.record(Some((id, command)), Some((id, answer)));
-        let events = [
-            Event::Invoke { id, command },
-            Event::Complete { id, answer },
-        ];
-        assert_eq!(rt; history.events(), events.as_slice());
-        history.reserve(100_000)?;
-        history.record(None, None);
-        assert_eq!(rt; history.events().len(), 2);
-        Ok(())
-    }
-}

@@ -4,8 +4,6 @@
 mod play;
 mod reading;
 mod status;
-#[cfg(test)]
-mod tests;
 mod writing;
 
 pub use play::play_script;

@@ -54,20 +54,3 @@ impl Spans {
         Ok(Spans { spans })
     }
 }
-
-#[cfg(test)]
-mod tests {
-    use super::*;
-    use std::test::Fail;
-
-    #[test]
-    fn spans_of_ranges_are_copied(rt: HostRuntime) -> Result<(), Fail> {
-        let mut ranges = Ranges::new(rt.alloc(), 0, 9)?;
-        ranges.reserve(1)?;
-        ranges.unite(20, 29);
-        let copy = Spans::new(ranges).copy(rt.alloc())?;
-        assert_eq!(rt; copy.as_slice(), [(0, 9), (20, 29)].as_slice());
-        assert_eq!(rt; copy.len(), 2);
-        Ok(())
-    }
-}

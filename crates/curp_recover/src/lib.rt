@@ -9,8 +9,6 @@ mod phase;
 mod recovery;
 mod replay;
 mod stage;
-#[cfg(test)]
-mod tests;
 mod turned;
 
 pub use error::RecoverError;

@@ -20,8 +20,6 @@ mod master;
 mod names;
 mod order;
 mod step;
-#[cfg(test)]
-mod tests;
 mod witness;
 
 pub use order::order_text;

@@ -5,8 +5,6 @@ mod command;
 mod live;
 mod process;
 mod script;
-#[cfg(test)]
-mod tests;
 
 pub use command::run;
 pub use live::live_script;

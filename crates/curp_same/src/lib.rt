@@ -9,8 +9,6 @@ mod entries;
 mod lists;
 mod plain;
 mod same;
-#[cfg(test)]
-mod tests;
 
 pub use lists::all_same;
 pub use same::Same;

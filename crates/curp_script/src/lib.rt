@@ -6,8 +6,6 @@ mod header;
 mod kind;
 mod print;
 mod read;
-#[cfg(test)]
-mod tests;
 
 pub use curp_msg::{Header, Protocol, Step};
 pub use error::{FieldName, LineError, Word};

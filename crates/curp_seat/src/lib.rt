@@ -8,8 +8,6 @@ mod naming;
 mod opening;
 mod replay;
 mod seat;
-#[cfg(test)]
-mod tests;
 
 pub use gate::{Gate, OpenGate, Point};
 pub use kept::Kept;

@@ -7,8 +7,6 @@ mod make;
 mod options;
 mod order;
 mod setting;
-#[cfg(test)]
-mod tests;
 mod words;
 
 pub use blame::blamed;
