@@ -1,13 +1,14 @@
 //! The pairs of a range, and when two packages are one.
-ghost use Rattle.std.specs.Prelude.{◌≡◌, IfOk};
+ghost use Rattle.std.specs.Prelude.{◌≡◌, ◌&&◌, ◌==◌, nat_eq, IfOk};
 ghost use Rattle.std.specs.List.{filter};
 ghost use Rattle.std.specs.Ordering.{nat_cmp};
 ghost use Rattle.std.specs.Cmp.Lexicographic.{slice_cmp};
 ghost use Rattle.curp_base.specs.Words.{KeysAscend};
-ghost use Rattle.curp_model.specs.Log.{is_pair_in, package_eq};
+ghost use Rattle.curp_cmd.specs.RequestId.{same_id};
+ghost use Rattle.curp_model.specs.Log.{answer_eq, is_pair_in, list_eq, package_eq};
 
 use curp_base::{AscendingPairs, NoMemory};
-use curp_cmd::{Key, Package, Value, key_hash};
+use curp_cmd::{Key, Package, TablePart, Value, key_hash};
 use std::alloc::Global;
 
 /// The pairs whose keys' hashes lie in the range.
@@ -37,7 +38,16 @@ pub fn same_package(a: &Package, b: &Package) -> bool
     a.lo == b.lo
         && a.hi == b.hi
         && a.pairs.as_slice() == b.pairs.as_slice()
-        && a.table.records.as_slice() == b.table.records.as_slice()
-        && a.table.firsts.as_slice() == b.table.firsts.as_slice()
-        && a.table.gone.as_slice() == b.table.gone.as_slice()
+        && same_part(&a.table, &b.table)
+}
+
+// Whether two parts of reply tables are one.
+fn same_part(a: &TablePart, b: &TablePart) -> bool
+    ensures { result ≡ (list_eq (λ p q. same_id p.0 q.0 && answer_eq p.1 q.1) a.now.records b.now.records
+        && list_eq (λ p q. (p.0 == q.0) && (p.1 == q.1)) a.now.firsts b.now.firsts
+        && list_eq nat_eq a.now.gone b.now.gone) }
+{
+    a.records.as_slice() == b.records.as_slice()
+        && a.firsts.as_slice() == b.firsts.as_slice()
+        && a.gone.as_slice() == b.gone.as_slice()
 }

@@ -40,10 +40,11 @@ impl State {
         requires { lo ≤ hi }
         ensures { IfOk result (λ state. meant_by state ≡ log_opening lo hi) }
     {
+        let ranges = Ranges::new(alloc, lo, hi)?;
         Ok(State {
             store: Store::new(alloc),
             table: Table::new(alloc),
-            ranges: Ranges::new(alloc, lo, hi)?,
+            ranges,
             given: None,
         })
     }
