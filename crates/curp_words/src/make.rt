@@ -1,8 +1,8 @@
 ghost use Rattle.std.specs.Prelude.{◌≡◌, IfOk};
 ghost use Rattle.clap.specs.Matches.{first_value, found_of};
 ghost use Rattle.clap.specs.Simple.{app_of};
-ghost use Rattle.curp_words.specs.Command.{make_app};
-ghost use Rattle.curp_words.specs.Words.{order_by, output_by, plan_by};
+ghost use Rattle.curp_words.specs.Command.{make_app, valued_app};
+ghost use Rattle.curp_words.specs.Words.{make_options, order_by, output_by, plan_by};
 
 use crate::options::{F, NUMBER, PARTS, SETS, WAYS, command_with, flag};
 use crate::order::{MakePlan, Order, Output};
@@ -35,8 +35,15 @@ const RECOVERIES: Setting = Setting {
 pub(crate) fn make_command<'a>(alloc: Global) -> Result<Command<'a>, AllocError>
     ensures { IfOk result (λ command. app_of command ≡ make_app) }
 {
+    numbered_command(alloc)?.arg(flag(alloc, "summary"))
+}
+
+// The parser with the options that have numbers.
+fn numbered_command<'a>(alloc: Global) -> Result<Command<'a>, AllocError>
+    ensures { IfOk result (λ command. app_of command ≡ valued_app make_options.valued) }
+{
     let settings = [NUMBER, F, SETS, WAYS, CLIENTS, PARTS, STEPS, RECOVERIES];
-    command_with(alloc, &settings)?.arg(flag(alloc, "summary"))
+    command_with(alloc, &settings)
 }
 
 /// The order that the values of the words are.

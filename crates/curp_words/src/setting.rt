@@ -31,9 +31,9 @@ impl Setting {
     }
 
     /// The number that the words give, if what they give is one and in range.
-    pub fn read(&self, matches: &ArgMatches<'_>) -> Option<u64>
-        ensures { result ≡ number_within self.now.least self.now.most self.now.default
-            (first_value (found_of matches.now) self.now.name.now) }
+    pub fn read(self, matches: &ArgMatches<'_>) -> Option<u64>
+        ensures { result ≡ number_within self.least self.most self.default
+            (first_value (found_of matches.now) self.name.now) }
     {
         match matches.get_str(self.name) {
             Some(text) => number_of(text).filter(|number| self.has(*number)),
@@ -42,10 +42,10 @@ impl Setting {
     }
 
     /// The same, of an option whose numbers are all below 2^32.
-    pub fn read_small(&self, matches: &ArgMatches<'_>) -> Option<u32>
-        ensures { self.now.most < 2 ^ 32 → self.now.default < 2 ^ 32
-            → result ≡ number_within self.now.least self.now.most self.now.default
-            (first_value (found_of matches.now) self.now.name.now) }
+    pub fn read_small(self, matches: &ArgMatches<'_>) -> Option<u32>
+        ensures { self.most < 2 ^ 32 → self.default < 2 ^ 32
+            → result ≡ number_within self.least self.most self.default
+            (first_value (found_of matches.now) self.name.now) }
     {
         u32::try_from(self.read(matches)?).ok()
     }
