@@ -1,4 +1,4 @@
-ghost use Rattle.std.specs.Prelude.{◌≡◌, ◌≤◌, ◌<◌, ◌+◌, ◌*◌, true, not, [], ◌∷◌, ◌++◌, drop, length, OnOk};
+ghost use Rattle.std.specs.Prelude.{◌≡◌, ◌≤◌, ◌<◌, ◌+◌, ◌*◌, true, not, [], ◌∷◌, ◌++◌, drop, length, OnOk, OnErr, IfOk};
 ghost use Rattle.curp_base.specs.Words.{Each};
 ghost use Rattle.curp_cmd.specs.Entry.{room_of};
 ghost use Rattle.curp_cmd.specs.declared.entry.Entry.TheVariants.{Op};
@@ -8,7 +8,7 @@ ghost use Rattle.curp_tail.specs.Tail.{tail_of};
 ghost use Rattle.curp_master.specs.Journal.{CanPush, HasRoom, free_with, journal_of, with_entry};
 
 use crate::untold::{between, touch};
-use curp_base::NoMemory;
+use curp_base::{NoMemory, past};
 use curp_cmd::{Answer, Command, Entry, Request};
 use curp_log::Log;
 use curp_rounds::Indexes;
@@ -129,7 +129,7 @@ impl Journal {
         self.log.answer(index).unwrap()
     }
 
-    /// So much of the log is synced, which may be less than before.
+    /// So much of the log is synced.
     pub(crate) fn settle(&mut self, synced: u64)
         ensures settled { self.new.kept ≡ record self.old.kept { synced = synced } }
     {
@@ -137,6 +137,21 @@ impl Journal {
         self.told = self.told.max(synced);
         self.tail.synced(self.told);
         self.synced = synced;
+    }
+
+    /// So much of the log is synced, which may be less than before.
+    pub(crate) fn settle_anew(&mut self, synced: u64) -> Result<(), NoMemory>
+        ensures settled { OnOk result (self.new.kept ≡ record self.old.kept { synced = synced }) }
+        ensures err { OnErr result (self.new ≡ self.old) }
+    {
+        if self.synced <= synced {
+            self.settle(synced);
+        } else {
+            self.tail = tail_of(self.alloc, &self.log, synced)?;
+            self.told = synced;
+            self.synced = synced;
+        }
+        Ok(())
     }
 }
 
@@ -148,6 +163,15 @@ pub(crate) fn op_of(request: &Request) -> Entry
         request: *request,
         acknowledge: request.first,
     }
+}
+
+// What a tail tells of a log from a place on.
+fn tail_of(alloc: Global, log: &Log, told: u64) -> Result<Tail, NoMemory>
+    ensures { IfOk result (λ tail. tail.entries ≡ tail_of log.now.entries told) }
+{
+    let mut tail = Tail::new(alloc);
+    tail.add(past(log.entries(), told), told)?;
+    Ok(tail)
 }
 
 // The tail follows the log, into which the entry comes next.

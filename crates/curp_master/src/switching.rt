@@ -1,4 +1,4 @@
-ghost use Rattle.std.specs.Prelude.{◌≡◌, IfOk};
+ghost use Rattle.std.specs.Prelude.{◌≡◌, IfOk, OnOk, OnErr};
 ghost use Rattle.curp_model.specs.Master.{Switching, adopted_in, begins_round, prepare_in, prepared_message};
 ghost use Rattle.curp_model.specs.Master.{switch_to, sync_in};
 ghost use Rattle.curp_msg.specs.Moved.{Moves};
@@ -80,7 +80,7 @@ impl Master {
         let Some(next) = self.settled_next(version)? else {
             return Ok(Done::quiet(self.alloc));
         };
-        self.take_up(next.synced);
+        self.take_up(next.synced)?;
         self.release();
         Ok(Done::sends(next.sent))
     }
@@ -102,17 +102,19 @@ impl Master {
     }
 
     // It serves with the lists that it switched to, whose backups all have so much.
-    fn take_up(&mut self, synced: u64)
+    fn take_up(&mut self, synced: u64) -> Result<(), NoMemory>
         requires { synced ≡ stored_by_all self.old.state.acknowledged (taken_up self.old.state).backups }
         ensures number { self.new.number ≡ self.old.number }
-        ensures state { self.new.state ≡ taken_up self.old.state }
+        ensures state { OnOk result (self.new.state ≡ taken_up self.old.state) }
+        ensures err { OnErr result (self.new ≡ self.old) }
     {
-        self.journal.settle(synced);
+        self.journal.settle_anew(synced)?;
         if let Phase::Switching(switch) = replace(&mut self.phase, Phase::Open) {
             self.version = switch.version;
             self.backups = switch.backups.into_vec();
             self.witnesses = switch.witnesses.into_vec();
         }
+        Ok(())
     }
 }
 

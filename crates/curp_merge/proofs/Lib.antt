@@ -1,4 +1,3 @@
-pub mod Examples
 pub mod Growth
 pub mod Left
 pub mod Naming
