@@ -1,0 +1,200 @@
+//! A client: how it invokes, when a request completes, and what it can't send.
+
+use crate::build::{config, id, key, message, must, part, put, reply};
+use curp_base::Boxed;
+use curp_client::{Client, InvokeError, RetryError};
+use curp_cmd::{Answer, Command, NodeId, NodeKind};
+use curp_msg::{
+    Accepted, Body, Capture, Completed, Config, Done, Message, Reason, Rejected, Worth,
+};
+use std::alloc::Global;
+use std::process::Abort;
+
+// What is asked of client 1, or comes to it from the nodes of its partition, which has master 1 and witnesses 1 and 2.
+#[derive(Clone, Copy)]
+enum Row {
+    Put,
+    // The request's number.
+    Retry(u32),
+    Unsynced(u32),
+    Synced(u32),
+    Rejected(u32),
+    // The witness, and the request's number.
+    Accepted(u32, u32),
+}
+
+// What the client does on a row.
+#[derive(Clone, Copy, PartialEq, Eq)]
+enum Did {
+    // An update to the master and a record to each witness: the request's number, and the first that is pending.
+    Sends(u32, u32),
+    // A Sync to the master: the request's number, and the first that is pending.
+    Asks(u32, u32),
+    Completes(u32),
+    Nothing,
+    Another,
+}
+
+fn one_part(rt: &impl Abort, alloc: Global, serial: u32, hi: u64) -> Config {
+    let part = part(rt, alloc, &[NodeId::witness(1), NodeId::witness(2)], hi);
+    config(rt, alloc, serial, part)
+}
+
+fn begin(rt: &impl Abort, alloc: Global, fast: bool) -> Client {
+    Client::begin(alloc, 1, fast, one_part(rt, alloc, 1, u64::MAX))
+}
+
+fn give(rt: &impl Abort, client: &mut Client, from: NodeId, body: Body) -> Done {
+    let message = message(from, NodeId::client(1), body);
+    must(rt, client.on_message(&message))
+}
+
+fn done_on(rt: &impl Abort, alloc: Global, client: &mut Client, row: Row) -> Done {
+    match row {
+        Row::Put => must(rt, client.invoke(&put(rt, &[0x61], &[0x31]))),
+        Row::Retry(seq) => must(rt, client.retry(seq)),
+        Row::Unsynced(seq) => replied(rt, alloc, client, seq, false),
+        Row::Synced(seq) => replied(rt, alloc, client, seq, true),
+        Row::Rejected(seq) => give(rt, client, NodeId::witness(1), rejected(seq)),
+        Row::Accepted(witness, seq) => give(rt, client, NodeId::witness(witness), accepted(seq)),
+    }
+}
+
+fn replied(rt: &impl Abort, alloc: Global, client: &mut Client, seq: u32, synced: bool) -> Done {
+    let reply = reply(rt, alloc, id(1, seq), synced);
+    give(rt, client, NodeId::master(1), reply)
+}
+
+fn rejected(seq: u32) -> Body {
+    Body::Rejected(Rejected {
+        id: id(1, seq),
+        reason: Reason::Frozen,
+    })
+}
+
+fn accepted(seq: u32) -> Body {
+    Body::Accepted(Accepted {
+        id: id(1, seq),
+        epoch: 1,
+    })
+}
+
+fn did_by(done: &Done) -> Did {
+    match (done.sent.as_slice(), &done.completed) {
+        ([], None) => Did::Nothing,
+        ([], Some(completed)) => Did::Completes(completed.id.seq),
+        ([sync], None) => asked_by(sync),
+        ([update, one, two], None) => sent_by(update, one, two),
+        _ => Did::Another,
+    }
+}
+
+fn asked_by(sync: &Message) -> Did {
+    match &sync.body {
+        Body::Sync(ask) if sync.to.kind == NodeKind::Master => {
+            let request = &ask.get().request;
+            Did::Asks(request.id.seq, request.first)
+        }
+        _ => Did::Another,
+    }
+}
+
+fn sent_by(update: &Message, one: &Message, two: &Message) -> Did {
+    match (&update.body, &one.body, &two.body) {
+        (Body::Update(ask), Body::Record(_), Body::Record(_)) if one.to != two.to => {
+            let request = &ask.get().request;
+            Did::Sends(request.id.seq, request.first)
+        }
+        _ => Did::Another,
+    }
+}
+
+fn try_row(rt: &impl Abort, alloc: Global, client: &mut Client, row: Row, expected: Did) {
+    let done = done_on(rt, alloc, client, row);
+    assert!(rt; did_by(&done) == expected);
+}
+
+const FAST: [(Row, Did); 12] = [
+    (Row::Put, Did::Sends(1, 1)),
+    (Row::Unsynced(1), Did::Nothing),
+    (Row::Accepted(1, 1), Did::Nothing),
+    (Row::Accepted(1, 1), Did::Nothing),
+    (Row::Put, Did::Sends(2, 1)),
+    (Row::Accepted(2, 1), Did::Completes(1)),
+    (Row::Synced(1), Did::Nothing),
+    (Row::Rejected(2), Did::Asks(2, 1)),
+    (Row::Rejected(2), Did::Nothing),
+    (Row::Retry(2), Did::Sends(2, 1)),
+    (Row::Rejected(2), Did::Asks(2, 1)),
+    (Row::Synced(2), Did::Completes(2)),
+];
+
+#[test]
+fn completes_by_evidence_or_a_synced_reply(rt: HostRuntime) {
+    let mut client = begin(&rt, rt.alloc(), true);
+    for (at, (row, expected)) in FAST.iter().enumerate() {
+        let done = done_on(&rt, rt.alloc(), &mut client, *row);
+        assert!(rt; did_by(&done) == *expected, "row {at}");
+    }
+    assert_eq!(rt; client.last(), 2);
+}
+
+#[test]
+fn asks_for_a_synced_reply_where_it_is_slow(rt: HostRuntime) {
+    let mut client = begin(&rt, rt.alloc(), false);
+    try_row(&rt, rt.alloc(), &mut client, Row::Put, Did::Asks(1, 1));
+    try_row(
+        &rt,
+        rt.alloc(),
+        &mut client,
+        Row::Synced(1),
+        Did::Completes(1),
+    );
+    assert_eq!(rt; must(&rt, client.fetch()).sent.len(), 1);
+}
+
+// The value of the capture of number 5.
+fn worth(rt: &impl Abort, alloc: Global) -> Body {
+    let worth = Worth {
+        id: id(1, 1),
+        epoch: 1,
+        capture: 5,
+        answer: Answer::Found(None),
+    };
+    Body::Worth(must(rt, Boxed::of(alloc, &worth)))
+}
+
+#[test]
+fn reads_by_a_captured_value(rt: HostRuntime) {
+    let mut client = begin(&rt, rt.alloc(), true);
+    let read = Command::Get(key(&rt, &[0x61]));
+    assert_eq!(rt; must(&rt, client.invoke(&read)).sent.len(), 1);
+    let worth = worth(&rt, rt.alloc());
+    let done = give(&rt, &mut client, NodeId::master(1), worth);
+    let by = Capture {
+        master: NodeId::master(1),
+        epoch: 1,
+        number: 5,
+    };
+    let completed = Completed {
+        id: id(1, 1),
+        answer: Answer::Found(None),
+        by: Some(by),
+    };
+    assert!(rt; done.completed == Some(completed));
+}
+
+#[test]
+fn refuses_what_it_cannot_send(rt: HostRuntime) {
+    let mut client = begin(&rt, rt.alloc(), true);
+    for seq in 1..9 {
+        try_row(&rt, rt.alloc(), &mut client, Row::Put, Did::Sends(seq, 1));
+    }
+    let ninth = client.invoke(&put(&rt, &[0x61], &[0x31])).err();
+    assert!(rt; ninth == Some(InvokeError::TooMany));
+    assert!(rt; client.retry(9).err() == Some(RetryError::NotPending));
+    let config = one_part(&rt, rt.alloc(), 2, 0);
+    let told = Body::Configuration { config };
+    give(&rt, &mut client, NodeId::manager(), told);
+    assert!(rt; client.retry(8).err() == Some(RetryError::Split));
+}

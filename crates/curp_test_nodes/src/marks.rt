@@ -1,0 +1,131 @@
+//! The marks of updates and reads: which an adoption keeps, and in which order they are shown.
+
+use crate::build::{id, key, must, request};
+use curp_cmd::{Answer, Command, NodeId, NodeKind, Request, RequestId};
+use curp_line::Line;
+use curp_msg::{Capture, Completed};
+use std::alloc::Global;
+use std::process::Abort;
+
+const FIRST: NodeId = NodeId {
+    kind: NodeKind::Master,
+    number: 1,
+};
+
+const SECOND: NodeId = NodeId {
+    kind: NodeKind::Master,
+    number: 2,
+};
+
+fn update(rt: &impl Abort) -> Command {
+    Command::Incr(key(rt, b"k"))
+}
+
+fn read(rt: &impl Abort) -> Command {
+    Command::Get(key(rt, b"k"))
+}
+
+fn executed(rt: &impl Abort, line: &mut Line, part: u32, index: u64, id: RequestId) {
+    must(rt, line.reserve(1));
+    line.executed(FIRST, part, 1, index, id, update(rt));
+}
+
+// The read at that capture, where the log had that length.
+fn looked(rt: &impl Abort, line: &mut Line, capture: u64, length: u64, id: RequestId) {
+    must(rt, line.reserve(1));
+    line.looked(FIRST, 1, 1, capture, length, id, read(rt));
+}
+
+fn updated(line: &mut Line, id: RequestId) {
+    line.completed(&Completed {
+        id,
+        answer: Answer::Number(1),
+        by: None,
+    });
+}
+
+fn read_by(line: &mut Line, id: RequestId, number: u64) {
+    let capture = Capture {
+        master: FIRST,
+        epoch: 1,
+        number,
+    };
+    line.completed(&Completed {
+        id,
+        answer: Answer::Found(None),
+        by: Some(capture),
+    });
+}
+
+fn replayed(rt: &impl Abort, id: RequestId) -> Request {
+    request(id.client, id.seq, update(rt))
+}
+
+fn ids(rt: &impl Abort, alloc: Global, line: &Line) -> Vec<RequestId> {
+    let mut ids = Vec::new(alloc);
+    for (id, _) in must(rt, line.order()) {
+        must(rt, ids.push(id));
+    }
+    ids
+}
+
+fn marked(rt: &impl Abort, alloc: Global) -> Line {
+    let mut line = Line::new(alloc);
+    executed(rt, &mut line, 1, 0, id(1, 1));
+    executed(rt, &mut line, 1, 1, id(2, 1));
+    looked(rt, &mut line, 1, 2, id(3, 1));
+    executed(rt, &mut line, 1, 2, id(1, 2));
+    executed(rt, &mut line, 1, 3, id(2, 2));
+    looked(rt, &mut line, 2, 3, id(3, 2));
+    line
+}
+
+// The log is recovered up to index 2. What is completed stays, and the read at capture 1 saw no more than that.
+#[test]
+fn an_adoption_keeps_what_completed_or_was_recovered(rt: HostRuntime) {
+    let mut line = marked(&rt, rt.alloc());
+    updated(&mut line, id(1, 2));
+    must(&rt, line.reserve(2));
+    let both = [replayed(&rt, id(2, 2)), replayed(&rt, id(1, 2))];
+    line.adopted(SECOND, 1, 2, 2, &both);
+    let order = [id(1, 1), id(2, 1), id(1, 2), id(2, 2)];
+    assert!(rt; ids(&rt, rt.alloc(), &line).as_slice() == order.as_slice());
+    read_by(&mut line, id(3, 2), 2);
+    read_by(&mut line, id(3, 1), 1);
+    let order = [id(1, 1), id(2, 1), id(3, 1), id(1, 2), id(2, 2)];
+    assert!(rt; ids(&rt, rt.alloc(), &line).as_slice() == order.as_slice());
+}
+
+fn nth(n: u32) -> RequestId {
+    id(n % 64, n / 64)
+}
+
+// 10,000 updates in two partitions, of which half of those of the one complete.
+fn ten_thousand(rt: &impl Abort, alloc: Global) -> Line {
+    let mut line = Line::new(alloc);
+    for n in 0..10_000_u32 {
+        executed(rt, &mut line, n % 2, u64::from(n / 2), nth(n));
+    }
+    for n in 0..2_500_u32 {
+        updated(&mut line, nth(4 * n));
+    }
+    line
+}
+
+// The first log that is adopted for the one partition has a thousand entries, so 2,000 of the others are dropped; 64 of
+// these are replayed, each by a master of its own, and with it one that completed.
+#[test]
+fn holds_ten_thousand_marks(rt: HostRuntime) {
+    let mut line = ten_thousand(&rt, rt.alloc());
+    for n in 0..64_u32 {
+        must(&rt, line.reserve(2));
+        let cut = u64::from(1_000 + n);
+        let both = [
+            replayed(&rt, nth(9_998 - 4 * n)),
+            replayed(&rt, nth(9_996 - 4 * n)),
+        ];
+        line.adopted(SECOND, 0, 2 + n, cut, &both);
+    }
+    assert_eq!(rt; must(&rt, line.order()).len(), 8_064);
+    assert!(rt; line.reserve(u64::MAX).is_err());
+}
