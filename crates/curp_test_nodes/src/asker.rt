@@ -48,7 +48,7 @@ impl Core for Asker {
 
     ghost messages_taken = { asker_takes };
 
-    #[tactic(auto, unfolding(crate::specs::Example::asker))]
+    #[tactic(auto, unfolding(curp_msg::specs::Example::asker))]
     fn on_message(&mut self, message: &Message) -> Result<Done, NoMemory> {
         if let Body::Configuration { config } = &message.body {
             self.serial = self.serial.max(config.serial);
@@ -56,7 +56,7 @@ impl Core for Asker {
         Ok(done(0, Vec::new(self.alloc)))
     }
 
-    #[tactic(auto, unfolding(crate::specs::Example::asker))]
+    #[tactic(auto, unfolding(curp_msg::specs::Example::asker))]
     fn on_order(&mut self, order: &Local) -> Result<Done, NoMemory> {
         let mut sent = Vec::new(self.alloc);
         match order {

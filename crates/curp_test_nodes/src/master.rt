@@ -195,13 +195,18 @@ fn try_rows(
     }
 }
 
-// All but the first wait for one round.
+// A master to which so many clients sent an update. All but the first wait for one round.
+fn busy(rt: &impl Abort, alloc: Global, clients: u32) -> Master {
+    let mut master = begin(rt, alloc, 1, u64::MAX, 0);
+    for client in 0..clients {
+        give(rt, alloc, &mut master, Comes::Update(client + 1, 1));
+    }
+    master
+}
+
 #[test]
 fn keeps_many_entries(rt: HostRuntime) {
-    let mut master = begin(&rt, rt.alloc(), 1, u64::MAX, 0);
-    for client in 1..=200 {
-        give(&rt, rt.alloc(), &mut master, Comes::Update(client, 1));
-    }
+    let mut master = busy(&rt, rt.alloc(), 200);
     assert_eq!(rt; master.log().len(), 200);
     let said = give(&rt, rt.alloc(), &mut master, Comes::Stored(1, 200, 199));
     assert_eq!(rt; said.len(), 199);
