@@ -1,0 +1,17 @@
+//! Tests of scripts, texts and command lines by the public calls.
+#![tactic(auto)]
+
+#[cfg(test)]
+mod examples;
+#[cfg(test)]
+mod play;
+#[cfg(test)]
+mod played;
+#[cfg(test)]
+mod report;
+#[cfg(test)]
+mod script;
+#[cfg(test)]
+mod streams;
+#[cfg(test)]
+mod words;

@@ -1,0 +1,241 @@
+// What no clause says: that there is an order where there is memory.
+use curp_base::NoMemory;
+use curp_words::{LivePlan, MakePlan, Order, Output, WordsError, blamed, read};
+use std::alloc::Global;
+use std::test::Fail;
+
+// Command lines that are none, a line each. A bar stands between two words, so the first has one word, which is empty.
+const REFUSED: &str = "
+help
+-h
+--help
+--version
+--
+play|play
+play|make
+play|x
+play|
+play|--
+play|--f|3
+play|--summary
+play|live
+Make
+make|make
+make|live
+make|x
+make|
+|make
+make|--
+make|--|--f|3
+--|make
+make|-f|3
+make|-
+make|-h
+make|--help
+make|--version
+make|--f
+make|--f|
+make|--f=
+make|--f|--sets|3
+make|--f|--
+make|--f|+3
+make|--f|-3
+make|--f| 3
+make|--f|3 4
+make|--f|\u{0663}
+make|--f|3.0
+make|--f|0x3
+make|--f|000000000000000000003
+make|--f|3|--f|3
+make|--f=3|--f=4
+make|--summary|--summary
+make|--summary=true
+make|--summary|yes
+make|--commands|5
+make|--command|make
+make|--clients5
+make|--F|3
+make|--=3
+make|--f|0
+make|--f|6
+make|--sets|0
+make|--sets|1025
+make|--ways|0
+make|--ways|17
+make|--clients|0
+make|--clients|65
+make|--parts|0
+make|--parts|17
+make|--steps|0
+make|--steps|200001
+make|--recoveries|65
+make|--number|18446744073709551616
+make|--number|99999999999999999999
+Live
+live|live
+live|make
+live|play
+live|x
+live|
+live|--
+live|--f
+live|--f|0
+live|--f|6
+live|--sets|1025
+live|--ways|17
+live|--clients|0
+live|--clients|17
+live|--parts|17
+live|--commands|0
+live|--commands|101
+live|--recoveries|1
+live|--commands|5|--commands|5
+live|--steps|5
+live|--summary
+live|--number|18446744073709551616
+--commands|5
+--commands|5|make
+--steps|5|live
+--f|3
+--summary";
+
+// Command lines of `make` and `live`, with the numbers of their plans and what is written.
+const TAKEN: &str = "make: 1 3 64 4 8 2 4000 3 Script
+make|--number|0: 0 3 64 4 8 2 4000 3 Script
+make|--number|18446744073709551615: 18446744073709551615 3 64 4 8 2 4000 3 Script
+make|--number|00000000000000000007: 7 3 64 4 8 2 4000 3 Script
+make|--f|1|--sets|1|--ways|1|--clients|1: 1 1 1 1 1 2 4000 3 Script
+make|--parts|1|--steps|1|--recoveries|0: 1 3 64 4 8 1 1 0 Script
+make|--f|5|--sets|1024|--ways|16|--clients|64: 1 5 1024 16 64 2 4000 3 Script
+make|--parts=16|--steps=200000|--recoveries=64: 1 3 64 4 8 16 200000 64 Script
+make|--summary: 1 3 64 4 8 2 4000 3 Summary
+--summary|make: 1 3 64 4 8 2 4000 3 Summary
+--f|2|make: 1 2 64 4 8 2 4000 3 Script
+--f=2|make|--sets|8: 1 2 8 4 8 2 4000 3 Script
+--sets=8|--summary|--f|2|make|--number=5: 5 2 8 4 8 2 4000 3 Summary
+make|--f|03: 1 3 64 4 8 2 4000 3 Script
+live: 1 3 64 4 8 2 50 0 Live
+live|--number|0|--f|1|--sets|1|--ways|1: 0 1 1 1 8 2 50 0 Live
+live|--clients|1|--parts|1|--commands|1|--recoveries|0: 1 3 64 4 1 1 1 0 Live
+live|--number|18446744073709551615: 18446744073709551615 3 64 4 8 2 50 0 Live
+live|--f|5|--sets|1024|--ways|16|--clients|16: 1 5 1024 16 16 2 50 0 Live
+--parts=16|live|--commands=100: 1 3 64 4 8 16 100 0 Live
+--commands|5|live: 1 3 64 4 8 2 5 0 Live";
+
+// The first word of a command line with which no line can begin; none where the line breaks off.
+const BLAMED: &str = "plya: 0
+play|--f|1: 1
+make|--f|6: 2
+make|--f|1|--f|1: 3
+--clients|64|--parts|make: 3
+make|--summary|--: 2
+make|--steps: none
+--f=3: none
+live|--f: none
+live|--recoveries: none
+--commands|5|--recoveries: none
+--recoveries|0|--commands: none
+live|--recoveries|1: 2
+live|--commands|101: 2
+live|--steps|5: 1
+live|--summary: 1
+live|make: 1
+make|--commands|5: 1
+--commands|5|make: 2
+--commands|5|--steps: 2
+--clients|17|live: 2";
+
+fn words_of(alloc: Global, line: &str) -> Result<Vec<&str>, NoMemory> {
+    line.split('|').collect(alloc)
+}
+
+fn order_of(alloc: Global, line: &str) -> Result<Result<Order, WordsError>, NoMemory> {
+    let words = words_of(alloc, line)?;
+    Ok(read(alloc, &words))
+}
+
+// The numbers of a plan, and what is written.
+fn made(alloc: Global, plan: &MakePlan, output: Output) -> Result<String, NoMemory> {
+    format!(in alloc;
+        "{} {} {} {} {} {} {} {} {output:?}",
+        plan.number,
+        plan.f,
+        plan.sets,
+        plan.ways,
+        plan.clients,
+        plan.parts,
+        plan.steps,
+        plan.recoveries
+    )
+}
+
+fn run(alloc: Global, plan: &LivePlan) -> Result<String, NoMemory> {
+    format!(in alloc;
+        "{} {} {} {} {} {} {} {} Live",
+        plan.number,
+        plan.f,
+        plan.sets,
+        plan.ways,
+        plan.clients,
+        plan.parts,
+        plan.commands,
+        plan.recoveries
+    )
+}
+
+fn planned(alloc: Global, line: &str) -> Result<String, NoMemory> {
+    match order_of(alloc, line)? {
+        Ok(Order::Make(plan, output)) => made(alloc, &plan, output),
+        Ok(Order::Live(plan)) => run(alloc, &plan),
+        _ => Ok(String::new(alloc)),
+    }
+}
+
+// Whether the command line of a row gives its plan.
+fn is_planned(alloc: Global, row: &str) -> Result<bool, NoMemory> {
+    match row.split_once(": ") {
+        Some((line, plan)) => Ok(planned(alloc, line)?.as_str() == plan),
+        None => Ok(false),
+    }
+}
+
+fn is_refused(alloc: Global, line: &str) -> Result<bool, NoMemory> {
+    Ok(order_of(alloc, line)? == Err(WordsError::Usage))
+}
+
+// Whether the word of a row is blamed in its command line.
+fn is_blamed(alloc: Global, row: &str) -> Result<bool, NoMemory> {
+    match row.split_once(": ") {
+        Some((line, place)) => {
+            let words = words_of(alloc, line)?;
+            Ok(blamed(alloc, &words)? == place.parse::<usize>().ok())
+        }
+        None => Ok(false),
+    }
+}
+
+#[test]
+fn other_words_are_refused(rt: HostRuntime) -> Result<(), Fail> {
+    assert!(rt; read(rt.alloc(), &[]) == Err(WordsError::Usage));
+    for line in REFUSED.split('\n') {
+        assert!(rt; is_refused(rt.alloc(), line)?, "{line}");
+    }
+    Ok(())
+}
+
+#[test]
+fn orders_are_read(rt: HostRuntime) -> Result<(), Fail> {
+    assert!(rt; read(rt.alloc(), &["play"]) == Ok(Order::Play));
+    for row in TAKEN.lines() {
+        assert!(rt; is_planned(rt.alloc(), row)?, "{row}");
+    }
+    Ok(())
+}
+
+#[test]
+fn a_word_is_blamed(rt: HostRuntime) -> Result<(), Fail> {
+    for row in BLAMED.lines() {
+        assert!(rt; is_blamed(rt.alloc(), row)?, "{row}");
+    }
+    Ok(())
+}

@@ -1,0 +1,2 @@
+pub mod Asker
+pub mod Lines

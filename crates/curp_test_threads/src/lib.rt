@@ -1,0 +1,17 @@
+//! Tests of journals, seats and runs on threads by the public calls.
+#![tactic(auto)]
+
+#[cfg(test)]
+mod journal;
+#[cfg(test)]
+mod made;
+#[cfg(test)]
+mod merge;
+#[cfg(test)]
+mod played;
+#[cfg(test)]
+mod run;
+#[cfg(test)]
+mod same;
+#[cfg(test)]
+mod seat;

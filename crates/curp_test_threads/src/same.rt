@@ -1,0 +1,73 @@
+use curp_base::{AscendingPairs, Items, pairs_ascend};
+use curp_cmd::{Command, Entry, Key, NodeId, Package, Request, RequestId, TablePart, Value};
+use curp_msg::{Append, Body, Message};
+use curp_same::Same;
+use std::alloc::Global;
+use std::test::Fail;
+
+fn pair(alloc: Global, value: Value) -> Result<AscendingPairs<Key, Value>, Fail> {
+    let pairs = Vec::from_slice(alloc, &[(Key::new(b"a")?, value)])?;
+    if !pairs_ascend(&pairs) {
+        return Err(Fail::new("not in order"));
+    }
+    Ok(AscendingPairs::new(pairs))
+}
+
+fn put(value: Value) -> Result<Entry, Fail> {
+    let request = Request {
+        id: RequestId { client: 1, seq: 1 },
+        first: 1,
+        command: Command::Put(Key::new(b"a")?, value),
+    };
+    Ok(Entry::Op {
+        request,
+        acknowledge: 1,
+    })
+}
+
+fn take(alloc: Global, value: Value) -> Result<Entry, Fail> {
+    let pairs = pair(alloc, value)?;
+    let package = Package {
+        lo: 0,
+        hi: 9,
+        pairs,
+        table: TablePart::new(alloc),
+    };
+    Ok(Entry::Take {
+        migration: 1,
+        package,
+    })
+}
+
+// A master sends a backup an update, and a range with one pair.
+fn append(alloc: Global, put_in: Value, taken: Value) -> Result<Message, Fail> {
+    let mut entries = Vec::new(alloc);
+    entries.push(put(put_in)?)?;
+    entries.push(take(alloc, taken)?)?;
+    Ok(Message {
+        from: NodeId::master(1),
+        to: NodeId::backup(1),
+        body: Body::Append(Append {
+            epoch: 1,
+            base: 0,
+            round: 1,
+            entries: Items::new(entries),
+        }),
+    })
+}
+
+// Whether it is the same as the one with these values.
+fn is_with(alloc: Global, message: &Message, put_in: Value, taken: Value) -> Result<bool, Fail> {
+    Ok(message.same(&append(alloc, put_in, taken)?))
+}
+
+#[test]
+fn messages_are_told_apart(rt: HostRuntime) -> Result<(), Fail> {
+    let alloc = rt.alloc();
+    let (one, two) = (Value::new(b"1")?, Value::new(b"2")?);
+    let message = append(alloc, one, one)?;
+    assert!(rt; message.same(&message.copy(alloc)?));
+    assert!(rt; !is_with(alloc, &message, two, one)?);
+    assert!(rt; !is_with(alloc, &message, one, two)?);
+    Ok(())
+}

@@ -1,0 +1,152 @@
+ghost use Rattle.std.specs.Prelude.{◌≡◌, false, IfOk};
+
+use curp_base::NoMemory;
+use curp_cmd::NodeId;
+use curp_journal::{Arrived, Item};
+use curp_msg::{Body, Core, Done, Local, Message};
+use curp_seat::{Kept, OpenGate, Seat, Worked, again};
+use std::alloc::Global;
+use std::marker::Model;
+use std::sync::Wait;
+use std::test::Fail;
+
+// A client that asks for the configuration, and keeps the greatest serial.
+#[derive(Drop)]
+struct Asker {
+    alloc: Global,
+    serial: u32,
+}
+
+impl Model for Asker {
+    ghost use Rattle.std.specs.Prelude.{ℕ};
+
+    ghost Value = { ℕ };
+
+    ghost view = { λ a. a.serial };
+}
+
+impl Core for Asker {
+    ghost use Rattle.curp_test_threads.specs.Asker.{asker, asker_refuses, asker_takes};
+
+    ghost machine = { asker };
+
+    ghost refusals = { asker_refuses };
+
+    ghost messages_taken = { asker_takes };
+
+    #[tactic(auto, unfolding(crate::specs::Asker::asker))]
+    fn on_message(&mut self, message: &Message) -> Result<Done, NoMemory> {
+        if let Body::Configuration { config } = &message.body {
+            self.serial = self.serial.max(config.serial);
+        }
+        Ok(Done::quiet(self.alloc))
+    }
+
+    #[tactic(auto, unfolding(crate::specs::Asker::asker))]
+    fn on_order(&mut self, order: &Local) -> Result<Done, NoMemory> {
+        match order {
+            Local::Fetch => {
+                let mut sent = Vec::new(self.alloc);
+                sent.push(Message {
+                    from: NodeId::client(1),
+                    to: NodeId::manager(),
+                    body: Body::Fetch,
+                })?;
+                Ok(Done::sends(sent))
+            }
+            _ => Ok(Done::refuses(self.alloc, 1)),
+        }
+    }
+}
+
+fn begun(alloc: Global) -> Kept<Asker>
+    ensures running { result.ended ≡ false }
+{
+    Kept::begin(alloc, Asker { alloc, serial: 0 }, NodeId::client(1))
+}
+
+fn asked(alloc: Global) -> Result<Kept<Asker>, NoMemory>
+    ensures running { IfOk result (λ kept. kept.ended ≡ false) }
+{
+    let mut kept = begun(alloc);
+    kept.step(Arrived::Local(Local::Fetch, 5))?;
+    kept.step(Arrived::Local(Local::Fetch, 0))?;
+    Ok(kept)
+}
+
+fn has_stamps(items: &[Item]) -> bool {
+    match items {
+        [first, second] => (first.stamp, second.stamp) == (6, 7),
+        _ => false,
+    }
+}
+
+#[test]
+fn stamps_rise(rt: HostRuntime) -> Result<(), Fail> {
+    let mut kept = asked(rt.alloc())?;
+    assert!(rt; has_stamps(kept.journal()));
+    assert!(rt; kept.step(Arrived::Local(Local::Fetch, u64::MAX))? == 255);
+    assert!(rt; kept.journal().len() == 2);
+    Ok(())
+}
+
+#[test]
+fn a_refusal_is_not_kept(rt: HostRuntime) -> Result<(), Fail> {
+    let mut kept = asked(rt.alloc())?;
+    assert!(rt; kept.step(Arrived::Local(Local::Sync, 0))? == 1);
+    assert!(rt; kept.journal().len() == 2);
+    kept.mark_stop();
+    assert!(rt; kept.ended());
+    Ok(())
+}
+
+#[test]
+fn messages_are_named(rt: HostRuntime) -> Result<(), Fail> {
+    let kept = asked(rt.alloc())?;
+    if kept.journal().len() != 2 {
+        return Err(Fail::new("two items"));
+    }
+    let sent = kept.sent(1)?;
+    assert!(rt; sent.named.len() == 1 && sent.completed.is_none());
+    for named in &sent.named {
+        assert!(rt; (named.step, named.place, named.stamp) == (2, 1, 7));
+    }
+    Ok(())
+}
+
+// How many items the journal has whose inputs are given to the node again.
+fn again_made(alloc: Global) -> Result<Option<usize>, NoMemory> {
+    let kept = asked(alloc)?;
+    let made = again(alloc, &kept, Asker { alloc, serial: 0 })?;
+    Ok(made.map(|made| made.journal().len()))
+}
+
+#[test]
+fn inputs_are_given_again(rt: HostRuntime) -> Result<(), Fail> {
+    assert!(rt; again_made(rt.alloc())? == Some(2));
+    Ok(())
+}
+
+// How a turn went: the number of the refusal and how many messages were sent, or the end.
+fn turn<R: Wait>(rt: &R, seat: &Seat<Asker, u8>) -> Result<(u8, usize), u8> {
+    match seat.work(rt, &OpenGate) {
+        Worked::Stepped { refused, sent } => Ok((refused, sent.named.len())),
+        Worked::Stopped { end } => Err(end),
+        Worked::NoMemory => Ok((0, 0)),
+    }
+}
+
+#[test]
+fn a_seat_works_until_it_is_stopped(rt: HostRuntime) -> Result<(), Fail> {
+    let seat = Seat::new(rt.alloc(), begun(rt.alloc()));
+    seat.post(&rt, Arrived::Local(Local::Fetch, 0))?;
+    seat.post(&rt, Arrived::Local(Local::Sync, 0))?;
+    assert!(rt; turn(&rt, &seat) == Ok((0, 1)));
+    assert!(rt; turn(&rt, &seat) == Ok((1, 0)));
+    seat.stop(&rt, 3);
+    seat.stop(&rt, 4);
+    seat.post(&rt, Arrived::Local(Local::Fetch, 0))?;
+    assert!(rt; turn(&rt, &seat) == Err(3));
+    assert!(rt; seat.into_kept().journal().len() == 1);
+    Ok(())
+}
