@@ -2,8 +2,17 @@ ghost use Rattle.std.specs.Prelude.{Some};
 ghost use Rattle.curp_report.specs.Text.{body_text};
 
 use crate::Shown;
+use crate::backup::{write_appended, write_fence_answer};
+use crate::client::write_record;
+use crate::manager::{
+    write_adopted, write_config, write_prepare, write_recover, write_start, write_take_out,
+};
+use crate::master::{
+    write_append, write_gc, write_recovered, write_refuse, write_reply, write_worth,
+};
+use crate::witness::{write_accepted, write_collected, write_rejected};
 use curp_msg::Body;
-use std::fmt::{self, Display};
+use std::fmt;
 
 impl fmt::Display for Shown<&Body> {
     ghost output = { λ shown. Some (body_text shown.0.now) };
@@ -13,30 +22,30 @@ impl fmt::Display for Shown<&Body> {
             Body::Update(ask) => write!(f, "update {}", Shown(ask.get())),
             Body::Sync(ask) => write!(f, "sync {}", Shown(ask.get())),
             Body::Read(ask) => write!(f, "read {}", Shown(ask.get())),
-            Body::Record(record) => Shown(record.get()).fmt(f),
+            Body::Record(record) => write_record(f, record.get()),
             Body::Fetch => write!(f, "fetch"),
-            Body::Configuration { config } => Shown(config).fmt(f),
-            Body::Reply(reply) => Shown(reply.get()).fmt(f),
-            Body::Worth(worth) => Shown(worth.get()).fmt(f),
-            Body::Refuse(refuse) => Shown(refuse).fmt(f),
-            Body::Accepted(accepted) => Shown(accepted).fmt(f),
-            Body::Rejected(rejected) => Shown(rejected).fmt(f),
-            Body::Append(append) => Shown(append).fmt(f),
-            Body::Appended(appended) => Shown(appended).fmt(f),
-            Body::Gc(gc) => Shown(gc).fmt(f),
-            Body::Collected(collected) => Shown(collected).fmt(f),
+            Body::Configuration { config } => write_config(f, config),
+            Body::Reply(reply) => write_reply(f, reply.get()),
+            Body::Worth(worth) => write_worth(f, worth.get()),
+            Body::Refuse(refuse) => write_refuse(f, refuse),
+            Body::Accepted(accepted) => write_accepted(f, accepted),
+            Body::Rejected(rejected) => write_rejected(f, rejected),
+            Body::Append(append) => write_append(f, append),
+            Body::Appended(appended) => write_appended(f, appended),
+            Body::Gc(gc) => write_gc(f, gc),
+            Body::Collected(collected) => write_collected(f, collected),
             Body::Install { epoch } => write!(f, "install e{epoch}"),
-            Body::Start(start) => Shown(start).fmt(f),
-            Body::Recover(recover) => Shown(recover.get()).fmt(f),
+            Body::Start(start) => write_start(f, start),
+            Body::Recover(recover) => write_recover(f, recover.get()),
             Body::Fence { epoch } => write!(f, "fence e{epoch}"),
-            Body::FenceAnswer(answer) => Shown(answer).fmt(f),
+            Body::FenceAnswer(answer) => write_fence_answer(f, answer),
             Body::Freeze { epoch } => write!(f, "freeze e{epoch}"),
             Body::FrozenAnswer { requests } => write!(f, "frozen{}", Shown(requests.as_slice())),
-            Body::Recovered(recovered) => Shown(recovered).fmt(f),
-            Body::Adopted(adopted) => Shown(adopted).fmt(f),
-            Body::Prepare(prepare) => Shown(prepare).fmt(f),
+            Body::Recovered(recovered) => write_recovered(f, recovered),
+            Body::Adopted(adopted) => write_adopted(f, adopted),
+            Body::Prepare(prepare) => write_prepare(f, prepare),
             Body::Prepared { version } => write!(f, "prepared v{version}"),
-            Body::TakeOut(take) => Shown(take).fmt(f),
+            Body::TakeOut(take) => write_take_out(f, take),
             Body::Taken(parcel) => write!(f, "taken {}", Shown(parcel.get())),
             Body::GiveIn(parcel) => write!(f, "give {}", Shown(parcel.get())),
             Body::Given { migration } => write!(f, "given g{migration}"),

@@ -1,4 +1,5 @@
 ghost use Rattle.std.specs.Prelude.{Some};
+ghost use Rattle.std.specs.Fmt.{WritesOnOk};
 ghost use Rattle.curp_msg.specs.declared.body.Body.TheVariants as body;
 ghost use Rattle.curp_report.specs.Text.{ask_text, body_text};
 
@@ -23,18 +24,15 @@ impl fmt::Display for Shown<&Ask> {
     }
 }
 
-impl fmt::Display for Shown<&Record> {
-    ghost output = { λ shown. Some (body_text (body.Record shown.0.now)) };
-
-    fn fmt<W: fmt::Write>(&self, f: &mut fmt::Formatter<W>) -> fmt::Result {
-        let record = self.0;
-        write!(
-            f,
-            "record {} f{} e{} {}",
-            Shown(record.request.id),
-            record.request.first,
-            record.epoch,
-            Shown(record.request.command)
-        )
-    }
+pub(crate) fn write_record<W: fmt::Write>(f: &mut fmt::Formatter<W>, asked: &Record) -> fmt::Result
+    ensures { WritesOnOk W.write_str_gives f.old result (body_text (body.Record asked.now)) f.new }
+{
+    write!(
+        f,
+        "record {} f{} e{} {}",
+        Shown(asked.request.id),
+        asked.request.first,
+        asked.epoch,
+        Shown(asked.request.command)
+    )
 }

@@ -1,4 +1,5 @@
 ghost use Rattle.std.specs.Prelude.{Some};
+ghost use Rattle.std.specs.Fmt.{WritesOnOk};
 ghost use Rattle.curp_msg.specs.declared.body.Body.TheVariants as body;
 ghost use Rattle.curp_report.specs.Text.{body_text, parcel_text, refusal_text};
 
@@ -6,46 +7,37 @@ use crate::Shown;
 use curp_msg::{Append, Gc, Parcel, Recovered, Refusal, Refuse, Reply, Worth};
 use std::fmt;
 
-impl fmt::Display for Shown<&Reply> {
-    ghost output = { λ shown. Some (body_text (body.Reply shown.0.now)) };
-
-    fn fmt<W: fmt::Write>(&self, f: &mut fmt::Formatter<W>) -> fmt::Result {
-        let reply = self.0;
-        write!(
-            f,
-            "reply {} {} e{} v{} {}",
-            Shown(reply.id),
-            if reply.synced { "synced" } else { "unsynced" },
-            reply.epoch,
-            reply.version,
-            Shown(reply.answer)
-        )
-    }
+pub(crate) fn write_reply<W: fmt::Write>(f: &mut fmt::Formatter<W>, reply: &Reply) -> fmt::Result
+    ensures { WritesOnOk W.write_str_gives f.old result (body_text (body.Reply reply.now)) f.new }
+{
+    write!(
+        f,
+        "reply {} {} e{} v{} {}",
+        Shown(reply.id),
+        if reply.synced { "synced" } else { "unsynced" },
+        reply.epoch,
+        reply.version,
+        Shown(reply.answer)
+    )
 }
 
-impl fmt::Display for Shown<&Worth> {
-    ghost output = { λ shown. Some (body_text (body.Worth shown.0.now)) };
-
-    fn fmt<W: fmt::Write>(&self, f: &mut fmt::Formatter<W>) -> fmt::Result {
-        let worth = self.0;
-        write!(
-            f,
-            "value {} e{} r{} {}",
-            Shown(worth.id),
-            worth.epoch,
-            worth.capture,
-            Shown(worth.answer)
-        )
-    }
+pub(crate) fn write_worth<W: fmt::Write>(f: &mut fmt::Formatter<W>, worth: &Worth) -> fmt::Result
+    ensures { WritesOnOk W.write_str_gives f.old result (body_text (body.Worth worth.now)) f.new }
+{
+    write!(
+        f,
+        "value {} e{} r{} {}",
+        Shown(worth.id),
+        worth.epoch,
+        worth.capture,
+        Shown(worth.answer)
+    )
 }
 
-impl fmt::Display for Shown<&Refuse> {
-    ghost output = { λ shown. Some (body_text (body.Refuse shown.0.now)) };
-
-    fn fmt<W: fmt::Write>(&self, f: &mut fmt::Formatter<W>) -> fmt::Result {
-        let refuse = self.0;
-        write!(f, "refuse {} {}", Shown(refuse.id), Shown(refuse.refusal))
-    }
+pub(crate) fn write_refuse<W: fmt::Write>(f: &mut fmt::Formatter<W>, refuse: &Refuse) -> fmt::Result
+    ensures { WritesOnOk W.write_str_gives f.old result (body_text (body.Refuse refuse.now)) f.new }
+{
+    write!(f, "refuse {} {}", Shown(refuse.id), Shown(refuse.refusal))
 }
 
 impl fmt::Display for Shown<Refusal> {
@@ -64,37 +56,32 @@ impl fmt::Display for Shown<Refusal> {
     }
 }
 
-impl fmt::Display for Shown<&Append> {
-    ghost output = { λ shown. Some (body_text (body.Append shown.0.now)) };
-
-    fn fmt<W: fmt::Write>(&self, f: &mut fmt::Formatter<W>) -> fmt::Result {
-        let append = self.0;
-        write!(
-            f,
-            "append e{} b{} n{} r{}",
-            append.epoch,
-            append.base,
-            append.entries.len(),
-            append.round
-        )
-    }
+pub(crate) fn write_append<W: fmt::Write>(f: &mut fmt::Formatter<W>, append: &Append) -> fmt::Result
+    ensures { WritesOnOk W.write_str_gives f.old result (body_text (body.Append append.now)) f.new }
+{
+    write!(
+        f,
+        "append e{} b{} n{} r{}",
+        append.epoch,
+        append.base,
+        append.entries.len(),
+        append.round
+    )
 }
 
-impl fmt::Display for Shown<&Gc> {
-    ghost output = { λ shown. Some (body_text (body.Gc shown.0.now)) };
-
-    fn fmt<W: fmt::Write>(&self, f: &mut fmt::Formatter<W>) -> fmt::Result {
-        let gc = self.0;
-        write!(f, "gc e{}{}", gc.epoch, Shown(gc.ids.as_slice()))
-    }
+pub(crate) fn write_gc<W: fmt::Write>(f: &mut fmt::Formatter<W>, gc: &Gc) -> fmt::Result
+    ensures { WritesOnOk W.write_str_gives f.old result (body_text (body.Gc gc.now)) f.new }
+{
+    write!(f, "gc e{}{}", gc.epoch, Shown(gc.ids.as_slice()))
 }
 
-impl fmt::Display for Shown<&Recovered> {
-    ghost output = { λ shown. Some (body_text (body.Recovered shown.0.now)) };
-
-    fn fmt<W: fmt::Write>(&self, f: &mut fmt::Formatter<W>) -> fmt::Result {
-        write!(f, "recovered p{} e{}", self.0.part, self.0.epoch)
-    }
+pub(crate) fn write_recovered<W: fmt::Write>(
+    f: &mut fmt::Formatter<W>,
+    recovered: &Recovered,
+) -> fmt::Result
+    ensures { WritesOnOk W.write_str_gives f.old result (body_text (body.Recovered recovered.now)) f.new }
+{
+    write!(f, "recovered p{} e{}", recovered.part, recovered.epoch)
 }
 
 /// A package is shown by the numbers of its pairs and of its records.

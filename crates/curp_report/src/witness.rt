@@ -1,4 +1,5 @@
 ghost use Rattle.std.specs.Prelude.{Some};
+ghost use Rattle.std.specs.Fmt.{WritesOnOk};
 ghost use Rattle.curp_msg.specs.declared.body.Body.TheVariants as body;
 ghost use Rattle.curp_report.specs.Text.{body_text, rejection_text};
 
@@ -6,20 +7,27 @@ use crate::Shown;
 use curp_msg::{Accepted, Collected, GcAnswer, Reason, Rejected};
 use std::fmt;
 
-impl fmt::Display for Shown<&Accepted> {
-    ghost output = { λ shown. Some (body_text (body.Accepted shown.0.now)) };
-
-    fn fmt<W: fmt::Write>(&self, f: &mut fmt::Formatter<W>) -> fmt::Result {
-        write!(f, "accepted {} e{}", Shown(self.0.id), self.0.epoch)
-    }
+pub(crate) fn write_accepted<W: fmt::Write>(
+    f: &mut fmt::Formatter<W>,
+    accepted: &Accepted,
+) -> fmt::Result
+    ensures { WritesOnOk W.write_str_gives f.old result (body_text (body.Accepted accepted.now)) f.new }
+{
+    write!(f, "accepted {} e{}", Shown(accepted.id), accepted.epoch)
 }
 
-impl fmt::Display for Shown<&Rejected> {
-    ghost output = { λ shown. Some (body_text (body.Rejected shown.0.now)) };
-
-    fn fmt<W: fmt::Write>(&self, f: &mut fmt::Formatter<W>) -> fmt::Result {
-        write!(f, "rejected {} {}", Shown(self.0.id), Shown(self.0.reason))
-    }
+pub(crate) fn write_rejected<W: fmt::Write>(
+    f: &mut fmt::Formatter<W>,
+    rejected: &Rejected,
+) -> fmt::Result
+    ensures { WritesOnOk W.write_str_gives f.old result (body_text (body.Rejected rejected.now)) f.new }
+{
+    write!(
+        f,
+        "rejected {} {}",
+        Shown(rejected.id),
+        Shown(rejected.reason)
+    )
 }
 
 impl fmt::Display for Shown<Reason> {
@@ -36,19 +44,20 @@ impl fmt::Display for Shown<Reason> {
     }
 }
 
-impl fmt::Display for Shown<&Collected> {
-    ghost output = { λ shown. Some (body_text (body.Collected shown.0.now)) };
-
-    fn fmt<W: fmt::Write>(&self, f: &mut fmt::Formatter<W>) -> fmt::Result {
-        match &self.0.answer {
-            GcAnswer::Suspects(requests) => write!(
-                f,
-                "suspects e{}{}",
-                self.0.epoch,
-                Shown(requests.as_slice())
-            ),
-            GcAnswer::Stranger { epoch: None } => write!(f, "stranger"),
-            GcAnswer::Stranger { epoch: Some(epoch) } => write!(f, "stranger e{epoch}"),
-        }
+pub(crate) fn write_collected<W: fmt::Write>(
+    f: &mut fmt::Formatter<W>,
+    collected: &Collected,
+) -> fmt::Result
+    ensures { WritesOnOk W.write_str_gives f.old result (body_text (body.Collected collected.now)) f.new }
+{
+    match &collected.answer {
+        GcAnswer::Suspects(requests) => write!(
+            f,
+            "suspects e{}{}",
+            collected.epoch,
+            Shown(requests.as_slice())
+        ),
+        GcAnswer::Stranger { epoch: None } => write!(f, "stranger"),
+        GcAnswer::Stranger { epoch: Some(epoch) } => write!(f, "stranger e{epoch}"),
     }
 }
