@@ -22,6 +22,8 @@ mod master;
 #[cfg(test)]
 mod messages;
 #[cfg(test)]
+mod nodes;
+#[cfg(test)]
 mod orders;
 #[cfg(test)]
 mod queue;

@@ -16,9 +16,12 @@ fn begin(rt: &impl Abort, alloc: Global, hi: u64) -> Log {
 }
 
 fn push_op(rt: &impl Abort, log: &mut Log, request: &Request, acknowledge: u32) -> u64 {
-    assert!(rt; log.check(&request.id) == Check::New && log.owns(&request.command));
-    let entry = op(*request, acknowledge);
+    let entry = Entry::Op {
+        request: *request,
+        acknowledge,
+    };
     must(rt, log.reserve(room(&entry)));
+    assert!(rt; log.check(&request.id) == Check::New && log.owns(&request.command));
     log.push(entry)
 }
 

@@ -1,0 +1,397 @@
+//! The nodes, each behind the trait of all nodes: what they say, do and refuse as orders and messages come.
+
+use crate::build::{
+    adopted, ask, boxed, config, id, items, log_of, message, must, part, put, reply, request,
+    stored,
+};
+use curp_base::Items;
+use curp_cmd::{Command, Entry, NodeId, Request, RequestId};
+use curp_inv::{BackupNode, ClientNode, MasterNode, WitnessNode};
+use curp_msg::{
+    Accepted, Append, AppendAnswer, Body, Collected, Core, Done, FenceReply, Gc, GcAnswer, Local,
+    Reason, Record, Recover, Refusal, Refuse, Rejected,
+};
+use std::alloc::Global;
+use std::process::Abort;
+
+// What comes to a node of the first epoch and version: an order, or a message about the first request of that client.
+// Each of them is to put 31 under 61.
+#[derive(Clone, Copy)]
+enum Comes {
+    Put,
+    Retry(u32),
+    Fetch,
+    Round,
+    Update(u32),
+    Sync(u32),
+    Record(u32),
+    Reply(u32, bool),
+    InProgress(u32),
+    Accepted(u32),
+    Conflict(u32),
+    // From that index on so many entries, in that round.
+    Append(u64, u32, u64),
+    // The length of a backup's log, and the round.
+    Stored(u64, u64),
+    Fence(u32),
+    Freeze,
+    // A collection of that epoch.
+    Collect(u32, u32),
+    // A fresh master's order, a log of one entry, the request of one client, and the adoption.
+    Recover,
+    Logged,
+    Held(u32),
+    Adopted,
+}
+
+// What a node says, does or refuses then.
+#[derive(Clone, Copy, PartialEq, Eq)]
+enum Said {
+    Update(u32),
+    Sync(u32),
+    Record(u32),
+    Fetch,
+    Reply(u32, bool),
+    InProgress(u32),
+    Switching(u32),
+    Fence(u32),
+    Freeze(u32),
+    Recovered,
+    Append(u64, usize, u64),
+    Appended(u64, AppendAnswer),
+    Log(usize),
+    Accepted(u32, u32),
+    Rejected(u32, Reason),
+    Frozen(usize),
+    // A collection was of that epoch, and there are so many suspects.
+    Suspects(u32, usize),
+    Another,
+    Completes(u32),
+    Refuses(u8),
+}
+
+// The rows of two updates that conflict: the first completes at once, and the second waits for a round.
+const CLIENT: [(Comes, &[Said]); 8] = [
+    (Comes::Retry(1), &[Said::Refuses(1)]),
+    (Comes::Put, &[Said::Update(2), Said::Record(2)]),
+    (Comes::Conflict(2), &[Said::Sync(2)]),
+    (Comes::InProgress(2), &[]),
+    (Comes::Retry(1), &[Said::Update(2), Said::Record(2)]),
+    (Comes::Reply(2, true), &[Said::Completes(2)]),
+    (Comes::Fetch, &[Said::Fetch]),
+    (Comes::Round, &[]),
+];
+
+// The rows of an update that meets nothing: the accept of the one witness and the reply complete it.
+const FAST: [(Comes, &[Said]); 3] = [
+    (Comes::Put, &[Said::Update(1), Said::Record(1)]),
+    (Comes::Accepted(1), &[]),
+    (Comes::Reply(1, false), &[Said::Completes(1)]),
+];
+
+const MASTER: [(Comes, &[Said]); 6] = [
+    (Comes::Update(1), &[Said::Reply(1, false)]),
+    (Comes::Update(2), &[Said::Append(0, 2, 1)]),
+    (Comes::Sync(2), &[Said::InProgress(2)]),
+    (Comes::Stored(2, 1), &[Said::Reply(2, true)]),
+    (Comes::Round, &[Said::Append(2, 0, 2)]),
+    (Comes::Fetch, &[]),
+];
+
+const RECOVERED: [(Comes, &[Said]); 10] = [
+    (Comes::Update(1), &[Said::Switching(1)]),
+    (Comes::Recover, &[Said::Fence(1), Said::Freeze(1)]),
+    (Comes::Logged, &[]),
+    (Comes::Round, &[Said::Freeze(1)]),
+    (Comes::Held(1), &[Said::Append(0, 2, 1)]),
+    (Comes::Update(2), &[Said::Switching(2)]),
+    (Comes::Stored(2, 1), &[Said::Recovered]),
+    (Comes::Adopted, &[]),
+    (Comes::Update(1), &[Said::Reply(1, true)]),
+    (Comes::Update(2), &[Said::Reply(2, false)]),
+];
+
+const BACKUP: [(Comes, &[Said]); 6] = [
+    (
+        Comes::Append(0, 2, 1),
+        &[Said::Appended(1, AppendAnswer::Stored { length: 2 })],
+    ),
+    (
+        Comes::Append(3, 1, 4),
+        &[Said::Appended(4, AppendAnswer::Gap { length: 2 })],
+    ),
+    (Comes::Round, &[]),
+    (Comes::Update(1), &[]),
+    (Comes::Fence(2), &[Said::Log(2)]),
+    (
+        Comes::Append(2, 1, 2),
+        &[Said::Appended(2, AppendAnswer::Fenced { epoch: 2 })],
+    ),
+];
+
+const WITNESS: [(Comes, &[Said]); 10] = [
+    (Comes::Record(1), &[Said::Accepted(1, 1)]),
+    (
+        Comes::Record(2),
+        &[Said::Rejected(
+            2,
+            Reason::Conflict {
+                held: RequestId { client: 1, seq: 1 },
+            },
+        )],
+    ),
+    (Comes::Round, &[]),
+    (Comes::Update(1), &[]),
+    (Comes::Collect(2, 1), &[Said::Another]),
+    (Comes::Collect(1, 1), &[Said::Suspects(1, 0)]),
+    (Comes::Record(2), &[Said::Accepted(2, 1)]),
+    (Comes::Collect(1, 1), &[Said::Suspects(1, 0)]),
+    (Comes::Freeze, &[Said::Frozen(1)]),
+    (Comes::Record(1), &[Said::Rejected(1, Reason::Frozen)]),
+];
+
+#[test]
+fn a_client_answers_what_comes(rt: HostRuntime) {
+    let mut client = client(&rt, rt.alloc(), 2);
+    try_rows(&rt, rt.alloc(), &mut client, &CLIENT);
+}
+
+#[test]
+fn a_client_completes_an_update_at_once(rt: HostRuntime) {
+    let mut client = client(&rt, rt.alloc(), 1);
+    try_rows(&rt, rt.alloc(), &mut client, &FAST);
+}
+
+fn client(rt: &impl Abort, alloc: Global, number: u32) -> ClientNode {
+    let part = part(rt, alloc, &[NodeId::witness(1)], u64::MAX);
+    ClientNode::new(alloc, number, true, config(rt, alloc, 1, part))
+}
+
+#[test]
+fn a_master_answers_what_comes(rt: HostRuntime) {
+    let mut master = master(&rt, rt.alloc());
+    try_rows(&rt, rt.alloc(), &mut master, &MASTER);
+}
+
+fn master(rt: &impl Abort, alloc: Global) -> MasterNode {
+    let backups = must(rt, Vec::from_slice(alloc, &[NodeId::backup(1)]));
+    let witnesses = must(rt, Vec::from_slice(alloc, &[NodeId::witness(1)]));
+    must(
+        rt,
+        MasterNode::new(alloc, 1, backups, witnesses, 0, u64::MAX),
+    )
+}
+
+#[test]
+fn a_fresh_master_recovers_and_serves(rt: HostRuntime) {
+    let mut master = MasterNode::fresh(rt.alloc(), 1);
+    try_rows(&rt, rt.alloc(), &mut master, &RECOVERED);
+}
+
+#[test]
+fn a_backup_answers_what_comes(rt: HostRuntime) {
+    let mut backup = BackupNode::new(rt.alloc(), 1, 1);
+    try_rows(&rt, rt.alloc(), &mut backup, &BACKUP);
+}
+
+#[test]
+fn a_witness_answers_what_comes(rt: HostRuntime) {
+    let mut witness = must(&rt, WitnessNode::new(rt.alloc(), 1, 16, 4, 1));
+    try_rows(&rt, rt.alloc(), &mut witness, &WITNESS);
+}
+
+fn try_rows<N: Core>(rt: &impl Abort, alloc: Global, node: &mut N, rows: &[(Comes, &[Said])]) {
+    for (at, (comes, expected)) in rows.iter().enumerate() {
+        let done = give(rt, alloc, node, *comes);
+        let said = said_by(rt, alloc, &done);
+        assert!(rt; said.as_slice() == *expected, "row {at}");
+    }
+}
+
+fn give<N: Core>(rt: &impl Abort, alloc: Global, node: &mut N, comes: Comes) -> Done {
+    let answered = match order(rt, comes) {
+        Some(order) => node.on_order(&order),
+        None => {
+            let (from, body) = comes_from(rt, alloc, comes);
+            node.on_message(&message(from, NodeId::master(1), body))
+        }
+    };
+    must(rt, answered)
+}
+
+fn order(rt: &impl Abort, comes: Comes) -> Option<Local> {
+    match comes {
+        Comes::Put => Some(Local::Invoke(put_one(rt))),
+        Comes::Retry(seq) => Some(Local::Retry(seq)),
+        Comes::Fetch => Some(Local::Fetch),
+        Comes::Round => Some(Local::Sync),
+        _ => None,
+    }
+}
+
+fn put_one(rt: &impl Abort) -> Command {
+    put(rt, &[0x61], &[0x31])
+}
+
+fn request_of(rt: &impl Abort, client: u32) -> Request {
+    request(client, 1, put_one(rt))
+}
+
+fn comes_from(rt: &impl Abort, alloc: Global, comes: Comes) -> (NodeId, Body) {
+    match comes {
+        Comes::Update(client) | Comes::Sync(client) | Comes::Record(client) => {
+            (NodeId::client(client), asked(rt, alloc, comes, client))
+        }
+        Comes::Append(_, _, _) | Comes::Collect(_, _) | Comes::Reply(_, _) | Comes::InProgress(_) =>
+            { (NodeId::master(1), by_master(rt, alloc, comes)) }
+        Comes::Fence(epoch) => (NodeId::master(2), Body::Fence { epoch }),
+        Comes::Freeze => (NodeId::master(2), Body::Freeze { epoch: 2 }),
+        Comes::Stored(length, round) => (NodeId::backup(1), stored(1, length, round)),
+        Comes::Logged => (NodeId::backup(1), logged(rt, alloc)),
+        Comes::Accepted(_) | Comes::Conflict(_) | Comes::Held(_) => {
+            (NodeId::witness(1), by_witness(rt, alloc, comes))
+        }
+        _ => (NodeId::manager(), ordered(rt, alloc, comes)),
+    }
+}
+
+fn asked(rt: &impl Abort, alloc: Global, comes: Comes, client: u32) -> Body {
+    let request = request_of(rt, client);
+    match comes {
+        Comes::Update(_) => Body::Update(boxed(rt, alloc, ask(request))),
+        Comes::Sync(_) => Body::Sync(boxed(rt, alloc, ask(request))),
+        _ => Body::Record(boxed(rt, alloc, Record { request, epoch: 1 })),
+    }
+}
+
+fn by_master(rt: &impl Abort, alloc: Global, comes: Comes) -> Body {
+    match comes {
+        Comes::Append(base, count, round) => append(rt, alloc, base, count, round),
+        Comes::Collect(epoch, client) => Body::Gc(Gc {
+            epoch,
+            ids: items(rt, alloc, &[id(client, 1)]),
+        }),
+        Comes::Reply(client, synced) => reply(rt, alloc, id(client, 1), synced),
+        Comes::InProgress(client) => Body::Refuse(Refuse {
+            id: id(client, 1),
+            refusal: Refusal::InProgress,
+        }),
+        _ => Body::Fetch,
+    }
+}
+
+fn by_witness(rt: &impl Abort, alloc: Global, comes: Comes) -> Body {
+    match comes {
+        Comes::Accepted(client) => Body::Accepted(Accepted {
+            id: id(client, 1),
+            epoch: 1,
+        }),
+        Comes::Conflict(client) => Body::Rejected(Rejected {
+            id: id(client, 1),
+            reason: Reason::Conflict { held: id(1, 1) },
+        }),
+        Comes::Held(client) => Body::FrozenAnswer {
+            requests: items(rt, alloc, &[request_of(rt, client)]),
+        },
+        _ => Body::Fetch,
+    }
+}
+
+fn append(rt: &impl Abort, alloc: Global, base: u64, count: u32, round: u64) -> Body {
+    let mut entries = Vec::new(alloc);
+    for client in 0..count {
+        must(rt, entries.push(Entry::Expire { client }));
+    }
+    Body::Append(Append {
+        epoch: 1,
+        base,
+        round,
+        entries: Items::new(entries),
+    })
+}
+
+fn logged(rt: &impl Abort, alloc: Global) -> Body {
+    let mut entries = Vec::new(alloc);
+    must(rt, entries.push(Entry::Expire { client: 3 }));
+    log_of(1, entries)
+}
+
+fn ordered(rt: &impl Abort, alloc: Global, comes: Comes) -> Body {
+    match comes {
+        Comes::Adopted => adopted(1, 1),
+        Comes::Recover => Body::Recover(boxed(rt, alloc, recover(rt, alloc))),
+        _ => Body::Fetch,
+    }
+}
+
+fn recover(rt: &impl Abort, alloc: Global) -> Recover {
+    Recover {
+        part: 1,
+        epoch: 1,
+        version: 1,
+        backup: NodeId::backup(1),
+        witness: NodeId::witness(1),
+        backups: items(rt, alloc, &[NodeId::backup(1)]),
+        witnesses: items(rt, alloc, &[NodeId::witness(1)]),
+        lo: 0,
+        hi: u64::MAX,
+    }
+}
+
+fn said_by(rt: &impl Abort, alloc: Global, done: &Done) -> Vec<Said> {
+    let mut said = Vec::new(alloc);
+    for message in done.sent.as_slice() {
+        must(rt, said.push(said_in(&message.body)));
+    }
+    if let Some(completed) = &done.completed {
+        must(rt, said.push(Said::Completes(completed.id.client)));
+    }
+    if done.refused != 0 {
+        must(rt, said.push(Said::Refuses(done.refused)));
+    }
+    said
+}
+
+fn said_in(body: &Body) -> Said {
+    match body {
+        Body::Update(ask) => Said::Update(ask.get().request.id.client),
+        Body::Sync(ask) => Said::Sync(ask.get().request.id.client),
+        Body::Record(record) => Said::Record(record.get().request.id.client),
+        Body::Fetch => Said::Fetch,
+        Body::Reply(reply) => Said::Reply(reply.get().id.client, reply.get().synced),
+        Body::Refuse(refuse) => refused(refuse),
+        Body::Fence { epoch } => Said::Fence(*epoch),
+        Body::Freeze { epoch } => Said::Freeze(*epoch),
+        Body::Recovered(_) => Said::Recovered,
+        Body::Append(append) => Said::Append(append.base, append.entries.len(), append.round),
+        Body::Appended(appended) => Said::Appended(appended.round, appended.answer),
+        Body::FenceAnswer(answered) => fenced(&answered.answer),
+        Body::Accepted(accepted) => Said::Accepted(accepted.id.client, accepted.epoch),
+        Body::Rejected(rejected) => Said::Rejected(rejected.id.client, rejected.reason),
+        Body::FrozenAnswer { requests } => Said::Frozen(requests.len()),
+        Body::Collected(collected) => told(collected),
+        _ => Said::Another,
+    }
+}
+
+fn refused(refuse: &Refuse) -> Said {
+    match refuse.refusal {
+        Refusal::InProgress => Said::InProgress(refuse.id.client),
+        Refusal::Switching => Said::Switching(refuse.id.client),
+        _ => Said::Another,
+    }
+}
+
+fn fenced(answer: &FenceReply) -> Said {
+    match answer {
+        FenceReply::Log(entries) => Said::Log(entries.len()),
+        FenceReply::Fenced { .. } => Said::Another,
+    }
+}
+
+fn told(collected: &Collected) -> Said {
+    match &collected.answer {
+        GcAnswer::Suspects(suspects) => Said::Suspects(collected.epoch, suspects.len()),
+        GcAnswer::Stranger { .. } => Said::Another,
+    }
+}
