@@ -1,4 +1,4 @@
-ghost use Rattle.std.specs.Prelude.{◌≤◌};
+ghost use Rattle.std.specs.Prelude.{◌≡◌, ◌≤◌};
 
 use curp_base::{AscendingPairs, Boxed, Items, NoMemory, pairs_ascend};
 use curp_cmd::{
@@ -27,7 +27,9 @@ fn items<T: Copy>(alloc: Global, list: &[T]) -> Result<Items<T>, NoMemory> {
     Ok(Items::new(Vec::from_slice(alloc, list)?))
 }
 
-fn outcome(how: StepResult, first: u64, sent: u64) -> Outcome {
+fn outcome(how: StepResult, first: u64, sent: u64) -> Outcome
+    ensures { result.first ≡ first }
+{
     Outcome {
         result: how,
         first,
@@ -441,35 +443,12 @@ fn shows_how_a_step_went(rt: HostRuntime) -> Result<(), Fail> {
     Ok(())
 }
 
-fn many_requests(
-    alloc: Global,
-    id: RequestId,
-    command: &Command,
-) -> Result<Items<Request>, NoMemory> {
-    let mut requests = Vec::with_capacity(alloc, 1024 * 16)?;
-    for _ in 0..1024 * 16 {
-        requests.push(request(id, 1, *command))?;
-    }
-    Ok(Items::new(requests))
-}
-
 fn to_the_manager(body: Body) -> Message {
     Message {
         from: NodeId::witness(4),
         to: NodeId::manager(),
         body,
     }
-}
-
-/// The longest update, and all slots of the largest witness.
-fn largest_messages(alloc: Global, id: RequestId) -> Result<[Message; 2], Fail> {
-    let put = Command::Put(Key::new(&[255; 32])?, Value::new(&[255; 128])?);
-    let requests = many_requests(alloc, id, &put)?;
-    let update = Body::Update(ask(alloc, put)?);
-    Ok([
-        to_the_manager(update),
-        to_the_manager(Body::FrozenAnswer { requests }),
-    ])
 }
 
 // The greatest numbers, the longest key and value, all slots of a witness, and a completion behind the messages.
@@ -479,7 +458,17 @@ fn shows_the_largest_steps(rt: HostRuntime) -> Result<(), Fail> {
         client: u32::MAX,
         seq: u32::MAX,
     };
-    let sent = largest_messages(rt.alloc(), id)?;
+    let put = Command::Put(Key::new(&[255; 32])?, Value::new(&[255; 128])?);
+    let mut requests = Vec::with_capacity(rt.alloc(), 1024 * 16)?;
+    for _ in 0..1024 * 16 {
+        requests.push(request(id, 1, put))?;
+    }
+    let requests = Items::new(requests);
+    let update = Body::Update(ask(rt.alloc(), put)?);
+    let sent = [
+        to_the_manager(update),
+        to_the_manager(Body::FrozenAnswer { requests }),
+    ];
     let outcome = Outcome {
         result: StepResult::Full { weight: u64::MAX },
         first: u64::MAX - 2,
