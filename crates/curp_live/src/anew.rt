@@ -34,6 +34,29 @@ pub(crate) fn all_anew<N: Core + Drop>(
     Ok(Some(logs))
 }
 
+/// Nodes of a kind, and the journals that were taken of them.
+pub(crate) type OfKind<'a, N> = (NodeKind, Vec<N>, &'a [Kept<N>]);
+
+/// The same journals of two kinds of nodes. None where one isn't that of a node.
+pub(crate) fn both_anew<N: Core + Drop, M: Core + Drop>(
+    alloc: Global,
+    first: OfKind<N>,
+    second: OfKind<M>,
+) -> Result<Option<(Vec<Kept<N>>, Vec<Kept<M>>)>, NoMemory>
+    requires first { length first.1.items + 1 < 2 ^ 32 }
+    requires second { length second.1.items + 1 < 2 ^ 32 }
+    ensures first { IfOk result (λ made. IfSome made (λ logs. AreAnew first.entry.0 first.entry.1.items logs.0.items)) }
+    ensures second { IfOk result (λ made. IfSome made (λ logs. AreAnew second.entry.0 second.entry.1.items logs.1.items)) }
+{
+    let Some(one) = all_anew(alloc, first.0, first.1, first.2)? else {
+        return Ok(None);
+    };
+    let Some(other) = all_anew(alloc, second.0, second.1, second.2)? else {
+        return Ok(None);
+    };
+    Ok(Some((one, other)))
+}
+
 /// The same journal, begun with this node. None where it isn't that node's: where it has another name, the node does
 /// otherwise on what came, or something came that isn't its own.
 pub(crate) fn anew<N: Core + Drop>(

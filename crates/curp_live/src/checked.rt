@@ -4,7 +4,7 @@ ghost use Rattle.curp_live.specs.Live.{IsLiveRun, live_header};
 ghost use Rattle.curp_live.specs.Opening.{AreAllAnew};
 ghost use Rattle.curp_words.specs.Plan.{IsLivePlan};
 
-use crate::anew::{all_anew, anew};
+use crate::anew::{anew, both_anew};
 use crate::nodes::Nodes;
 use crate::work::{did_all, recovery_count};
 use curp_base::NoMemory;
@@ -65,17 +65,18 @@ pub(crate) fn all_as_at_opening(
     let Some(manager) = anew(alloc, NodeId::manager(), nodes.manager, &taken.manager)? else {
         return Ok(None);
     };
-    let Some(clients) = all_anew(alloc, NodeKind::Client, nodes.clients, &taken.clients)? else {
+    let clients = (NodeKind::Client, nodes.clients, taken.clients.as_slice());
+    let masters = (NodeKind::Master, nodes.masters, taken.masters.as_slice());
+    let Some((clients, masters)) = both_anew(alloc, clients, masters)? else {
         return Ok(None);
     };
-    let Some(masters) = all_anew(alloc, NodeKind::Master, nodes.masters, &taken.masters)? else {
-        return Ok(None);
-    };
-    let Some(backups) = all_anew(alloc, NodeKind::Backup, nodes.backups, &taken.backups)? else {
-        return Ok(None);
-    };
-    let Some(witnesses) = all_anew(alloc, NodeKind::Witness, nodes.witnesses, &taken.witnesses)?
-    else {
+    let backups = (NodeKind::Backup, nodes.backups, taken.backups.as_slice());
+    let witnesses = (
+        NodeKind::Witness,
+        nodes.witnesses,
+        taken.witnesses.as_slice(),
+    );
+    let Some((backups, witnesses)) = both_anew(alloc, backups, witnesses)? else {
         return Ok(None);
     };
     Ok(Some(Journals {

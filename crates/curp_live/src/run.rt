@@ -1,4 +1,4 @@
-ghost use Rattle.std.specs.Prelude.{◌≡◌, length, map, IfOk};
+ghost use Rattle.std.specs.Prelude.{◌≡◌, length, map, IfOk, IfSome};
 ghost use Rattle.curp_live.specs.Live.{IsLiveRun};
 ghost use Rattle.curp_words.specs.Plan.{IsLivePlan};
 
@@ -25,12 +25,26 @@ pub fn live<R: Threads + Wait + Sync, G: Gate + Sync>(
     requires work { length work.now ≡ plan.now.clients }
     ensures { IfOk result (IsLiveRun plan.now (map (λ list. list.items) work.now)) }
 {
-    let header = header_of(plan);
     for _ in rt.forever() {
-        let taken = once(rt, alloc, &header, work, gate)?;
-        if let Some(journals) = checked(alloc, plan, work, &taken)? {
+        if let Some(journals) = tried(rt, alloc, plan, work, gate)? {
             return Ok(journals);
         }
     }
     unreachable!()
+}
+
+// One run. None where its journals aren't those of a run of the plan.
+fn tried<R: Threads + Wait + Sync, G: Gate + Sync>(
+    rt: &R,
+    alloc: Global,
+    plan: &LivePlan,
+    work: &[Vec<Command>],
+    gate: &G,
+) -> Result<Option<Journals>, NoMemory>
+    requires plan { IsLivePlan plan.now }
+    requires work { length work.now ≡ plan.now.clients }
+    ensures { IfOk result (λ tried. IfSome tried (IsLiveRun plan.now (map (λ list. list.items) work.now))) }
+{
+    let taken = once(rt, alloc, &header_of(plan), work, gate)?;
+    checked(alloc, plan, work, &taken)
 }

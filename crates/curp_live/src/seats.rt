@@ -9,6 +9,7 @@ use curp_journal::{Arrived, Named};
 use curp_msg::Core;
 use curp_seat::{Kept, Seat};
 use std::alloc::Global;
+use std::mem;
 use std::sync::Wait;
 
 /// The seats of a run's nodes; in each list the first is that of the node with the number 1.
@@ -60,17 +61,17 @@ impl Seats {
     }
 
     /// The nodes with their journals.
-    pub(crate) fn into_journals(self, alloc: Global) -> Result<Journals, NoMemory> {
-        let mut masters = Vec::with_capacity(alloc, self.masters.len())?;
-        for master in self.masters {
-            masters.push(master.into_kept())?;
-        }
+    pub(crate) fn into_journals(mut self, alloc: Global) -> Result<Journals, NoMemory> {
+        let masters = kept_masters(alloc, &mut self.masters)?;
+        let clients = kept(alloc, &mut self.clients)?;
+        let backups = kept(alloc, &mut self.backups)?;
+        let witnesses = kept(alloc, &mut self.witnesses)?;
         Ok(Journals {
             manager: self.manager.into_kept(),
-            clients: kept(alloc, self.clients)?,
+            clients,
             masters,
-            backups: kept(alloc, self.backups)?,
-            witnesses: kept(alloc, self.witnesses)?,
+            backups,
+            witnesses,
         })
     }
 }
@@ -119,10 +120,24 @@ fn stop_each<N: Core, R: Wait>(rt: &R, seats: &[Seat<N, End>], end: End) {
     }
 }
 
-fn kept<N: Core + Drop>(alloc: Global, seats: Vec<Seat<N, End>>) -> Result<Vec<Kept<N>>, NoMemory> {
+fn kept<N: Core + Drop>(
+    alloc: Global,
+    seats: &mut Vec<Seat<N, End>>,
+) -> Result<Vec<Kept<N>>, NoMemory> {
     let mut journals = Vec::with_capacity(alloc, seats.len())?;
-    for seat in seats {
+    for seat in mem::replace(seats, Vec::new(alloc)) {
         journals.push(seat.into_kept())?;
+    }
+    Ok(journals)
+}
+
+fn kept_masters(
+    alloc: Global,
+    seats: &mut Vec<MasterSeat>,
+) -> Result<Vec<Kept<MasterNode>>, NoMemory> {
+    let mut journals = Vec::with_capacity(alloc, seats.len())?;
+    for master in mem::replace(seats, Vec::new(alloc)) {
+        journals.push(master.into_kept())?;
     }
     Ok(journals)
 }
