@@ -1,7 +1,7 @@
 use curp_base::NoMemory;
 
 /// An epoch is refused: the backup takes only this one, or none below it.
-#[derive(Clone, Copy, PartialEq, Eq)]
+#[derive(Clone, Copy, Debug, PartialEq, Eq)]
 pub struct Fenced {
     pub epoch: u32,
 }

@@ -1,5 +1,6 @@
 ghost use Rattle.std.specs.Prelude.{◌≡◌, length, map, IfOk, IfSome, IsTrue};
 ghost use Rattle.curp_facts.specs.Run.{IsHeader};
+ghost use Rattle.curp_gather.specs.Journals.{AreOf};
 ghost use Rattle.curp_live.specs.Live.{IsLiveRun, live_header};
 ghost use Rattle.curp_live.specs.Opening.{AreAllAnew};
 ghost use Rattle.curp_words.specs.Plan.{IsLivePlan};
@@ -52,8 +53,22 @@ pub(crate) fn checked(
     }
 }
 
+/// The same journals, begun with a header's nodes as they are before any step, so that they can be gathered. None where
+/// one isn't such a node's.
+#[tactic(auto, using(crate::proofs::Runs::are_of))]
+pub fn anew_at_opening(
+    alloc: Global,
+    header: &Header,
+    taken: &Journals,
+) -> Result<Option<Journals>, NoMemory>
+    requires { IsHeader header.now }
+    ensures { IfOk result (λ made. IfSome made (λ journals. AreOf header.now journals)) }
+{
+    all_as_at_opening(alloc, header, taken)
+}
+
 /// The same journals of a header's nodes as at opening. None where one isn't such a node's.
-pub(crate) fn all_as_at_opening(
+fn all_as_at_opening(
     alloc: Global,
     header: &Header,
     taken: &Journals,

@@ -15,4 +15,5 @@ mod run;
 mod seats;
 mod work;
 
+pub use checked::anew_at_opening;
 pub use run::live;

@@ -2,6 +2,8 @@
 #![tactic(auto)]
 
 #[cfg(test)]
+mod gather;
+#[cfg(test)]
 mod journal;
 #[cfg(test)]
 mod made;

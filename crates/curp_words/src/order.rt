@@ -43,7 +43,7 @@ pub struct LivePlan {
 }
 
 /// What `make` writes.
-#[derive(Clone, Copy, PartialEq, Eq)]
+#[derive(Clone, Copy, Debug, PartialEq, Eq)]
 pub enum Output {
     /// The script, for `play` to read.
     Script,
