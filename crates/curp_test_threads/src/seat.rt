@@ -26,7 +26,7 @@ impl Model for Asker {
 }
 
 impl Core for Asker {
-    ghost use Rattle.curp_test_threads.specs.Asker.{asker, asker_refuses, asker_takes};
+    ghost use Rattle.curp_msg.specs.Example.{asker, asker_refuses, asker_takes};
 
     ghost machine = { asker };
 
@@ -34,7 +34,7 @@ impl Core for Asker {
 
     ghost messages_taken = { asker_takes };
 
-    #[tactic(auto, unfolding(crate::specs::Asker::asker))]
+    #[tactic(auto, unfolding(curp_msg::specs::Example::asker))]
     fn on_message(&mut self, message: &Message) -> Result<Done, NoMemory> {
         if let Body::Configuration { config } = &message.body {
             self.serial = self.serial.max(config.serial);
@@ -42,7 +42,7 @@ impl Core for Asker {
         Ok(Done::quiet(self.alloc))
     }
 
-    #[tactic(auto, unfolding(crate::specs::Asker::asker))]
+    #[tactic(auto, unfolding(curp_msg::specs::Example::asker))]
     fn on_order(&mut self, order: &Local) -> Result<Done, NoMemory> {
         match order {
             Local::Fetch => {
