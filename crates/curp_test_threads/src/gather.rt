@@ -4,7 +4,7 @@ ghost use Rattle.curp_msg.specs.declared.script.Protocol.TheVariants.{One};
 
 use curp_cmd::{Command, Key, NodeId, Value};
 use curp_gather::{GatherError, Journals, gather};
-use curp_inv::ClientNode;
+use curp_inv::{BackupNode, ClientNode, ManagerNode, MasterNode, WitnessNode};
 use curp_journal::{Arrived, Named};
 use curp_live::anew_at_opening;
 use curp_msg::{Core, Header, Local, Protocol};
@@ -42,17 +42,39 @@ fn clients(alloc: Global) -> Result<Vec<ClientNode>, Fail> {
     Ok(curp_opening::clients(alloc, &header, manager.config())?)
 }
 
-// Client 1, which invoked a put of this value, and the update that it sent to its master.
-fn putting(alloc: Global, value: u8) -> Result<(Kept<ClientNode>, Named), Fail> {
-    let mut client = begun(alloc, NodeId::client(1), clients(alloc)?)?;
+fn masters(alloc: Global) -> Result<Vec<MasterNode>, Fail> {
+    let header = smallest();
+    let manager = curp_opening::manager(alloc, &header)?;
+    Ok(curp_opening::masters(alloc, &header, manager.config())?)
+}
+
+fn invoke(client: &mut Kept<ClientNode>, value: u8) -> Result<(), Fail>
+    requires { client.old.ended ≡ false }
+{
     let put = Command::Put(Key::new(&[0x61])?, Value::new(&[value])?);
     client.step(Arrived::Local(Local::Invoke(put), 0))?;
     if client.journal().is_empty() {
         return Err(Fail::new("the put is refused"));
     }
+    Ok(())
+}
+
+// Client 1, which invoked a put of this value.
+fn putting(alloc: Global, value: u8) -> Result<Kept<ClientNode>, Fail> {
+    let mut client = begun(alloc, NodeId::client(1), clients(alloc)?)?;
+    match invoke(&mut client, value) {
+        Ok(()) => Ok(client),
+        Err(fail) => Err(fail),
+    }
+}
+
+// The update that a client sent to its master with its first item.
+fn update_of(client: &Kept<ClientNode>) -> Result<Named, Fail> {
+    if client.journal().is_empty() {
+        return Err(Fail::new("nothing is invoked"));
+    }
     let sent = client.sent(0)?;
-    let update = sent.named.into_iter().next().ok_or("nothing is sent")?;
-    Ok((client, update))
+    Ok(sent.named.into_iter().next().ok_or("nothing is sent")?)
 }
 
 fn alone<T: Drop>(alloc: Global, item: T) -> Result<Vec<T>, Fail> {
@@ -61,21 +83,56 @@ fn alone<T: Drop>(alloc: Global, item: T) -> Result<Vec<T>, Fail> {
     Ok(items)
 }
 
+// Master 1, which took this update.
+fn master_with(alloc: Global, update: &Named) -> Result<Vec<Kept<MasterNode>>, Fail> {
+    let update = update.copy(alloc)?;
+    let mut master = begun(alloc, NodeId::master(1), masters(alloc)?)?;
+    match master.step(Arrived::Message(update)) {
+        Ok(_) => alone(alloc, master),
+        Err(_) => Err(Fail::new("no memory")),
+    }
+}
+
+fn manager(alloc: Global) -> Result<Kept<ManagerNode>, Fail> {
+    let manager = curp_opening::manager(alloc, &smallest())?;
+    Ok(Kept::begin(alloc, manager, NodeId::manager()))
+}
+
+fn backups(alloc: Global) -> Result<Vec<Kept<BackupNode>>, Fail> {
+    let backups = curp_opening::backups(alloc, 1)?;
+    alone(alloc, begun(alloc, NodeId::backup(1), backups)?)
+}
+
+fn witnesses(alloc: Global) -> Result<Vec<Kept<WitnessNode>>, Fail> {
+    let witnesses = curp_opening::witnesses(alloc, 1, 1, 1)?;
+    alone(alloc, begun(alloc, NodeId::witness(1), witnesses)?)
+}
+
+type Keepers = (Vec<Kept<BackupNode>>, Vec<Kept<WitnessNode>>);
+
+fn keepers(alloc: Global) -> Result<Keepers, Fail> {
+    let backups = backups(alloc)?;
+    Ok((backups, witnesses(alloc)?))
+}
+
+type Others = (Kept<ManagerNode>, Keepers);
+
+fn others(alloc: Global) -> Result<Others, Fail> {
+    let manager = manager(alloc)?;
+    Ok((manager, keepers(alloc)?))
+}
+
 // The journals of the client, and of a master that took this update.
 fn with_update(alloc: Global, client: Kept<ClientNode>, update: &Named) -> Result<Journals, Fail> {
-    let header = smallest();
-    let manager = curp_opening::manager(alloc, &header)?;
-    let masters = curp_opening::masters(alloc, &header, manager.config())?;
-    let mut master = begun(alloc, NodeId::master(1), masters)?;
-    master.step(Arrived::Message(update.copy(alloc)?))?;
-    let backups = curp_opening::backups(alloc, 1)?;
-    let witnesses = curp_opening::witnesses(alloc, 1, 1, 1)?;
+    let clients = alone(alloc, client)?;
+    let masters = master_with(alloc, update)?;
+    let (manager, (backups, witnesses)) = others(alloc)?;
     Ok(Journals {
-        manager: Kept::begin(alloc, manager, NodeId::manager()),
-        clients: alone(alloc, client)?,
-        masters: alone(alloc, master)?,
-        backups: alone(alloc, begun(alloc, NodeId::backup(1), backups)?)?,
-        witnesses: alone(alloc, begun(alloc, NodeId::witness(1), witnesses)?)?,
+        manager,
+        clients,
+        masters,
+        backups,
+        witnesses,
     })
 }
 
@@ -108,16 +165,35 @@ fn mismatch_of(
     }
 }
 
+// The mismatch, where client 1 put one value and its master took this update.
+fn told_of(
+    alloc: Global,
+    client: Kept<ClientNode>,
+    update: &Named,
+) -> Result<((NodeId, u64), Named, Option<Named>), Fail> {
+    let taken = with_update(alloc, client, update)?;
+    mismatch_of(alloc, &taken)
+}
+
+fn other_update(alloc: Global) -> Result<Named, Fail> {
+    update_of(&putting(alloc, 0x32)?)
+}
+
+// Whether the mismatch is at the master's first step, with these two updates.
+fn is_told(alloc: Global, update: &Named) -> Result<bool, Fail> {
+    let client = putting(alloc, 0x31)?;
+    let kept_update = update_of(&client)?;
+    let (place, got, kept) = told_of(alloc, client, update)?;
+    let is_kept = match &kept {
+        Some(kept) => is_same(kept, &kept_update),
+        None => false,
+    };
+    Ok(place == (NodeId::master(1), 1) && is_same(&got, update) && is_kept)
+}
+
 #[test]
 fn a_changed_value_is_told_with_the_kept_one(rt: HostRuntime) -> Result<(), Fail> {
-    let alloc = rt.alloc();
-    let (client, kept_update) = putting(alloc, 0x31)?;
-    let (_, update) = putting(alloc, 0x32)?;
-    let taken = with_update(alloc, client, &update)?;
-    let (place, got, kept) = mismatch_of(alloc, &taken)?;
-    assert_eq!(rt; place, (NodeId::master(1), 1));
-    assert!(rt; is_same(&got, &update));
-    let kept = kept.ok_or("nothing is kept")?;
-    assert!(rt; is_same(&kept, &kept_update));
+    let update = other_update(rt.alloc())?;
+    assert!(rt; is_told(rt.alloc(), &update)?);
     Ok(())
 }
