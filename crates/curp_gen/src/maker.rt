@@ -206,6 +206,15 @@ pub fn make(alloc: Global, plan: &MakePlan) -> Result<(Header, Vec<Step>), NoMem
     ensures steps { IfOk result (λ script. script.1.items ≡ making.made_steps plan.now) }
 {
     let mut maker = Maker::new(alloc, plan)?;
+    made(alloc, plan, &mut maker)
+}
+
+// The script of a plan that is begun.
+fn made(alloc: Global, plan: &MakePlan, maker: &mut Maker) -> Result<(Header, Vec<Step>), NoMemory>
+    requires { maker.old ≡ making.begun plan.now }
+    ensures header { IfOk result (λ script. script.0 ≡ making.header_of plan.now) }
+    ensures steps { IfOk result (λ script. script.1.items ≡ making.made_steps plan.now) }
+{
     let mut list = Vec::with_capacity(alloc, plan.steps as usize)?;
     'steps: for _made in 0..plan.steps {
         let step = maker.next_step()?;

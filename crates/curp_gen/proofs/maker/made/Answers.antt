@@ -1,7 +1,7 @@
 use Rattle.std.proofs.Common.{◌≡◌, ◌+◌, ◌-◌, ℕ, ap, ◌∙◌, arith}
 use Rattle.curp_gen.specs.Making.{Making, with_next}
 use Rattle.curp_gen.proofs.Made.{next_made, next_plan, no_steps, steps_go_on}
-use Rattle.curp_gen.proofs.maker.make.Goals as goal
+use Rattle.curp_gen.proofs.maker.made.Goals as goal
 
 pub steps-preserved : goal.steps-preserved
 steps-preserved c =

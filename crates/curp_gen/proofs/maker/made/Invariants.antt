@@ -1,6 +1,6 @@
 use Rattle.std.proofs.Common.{◌≡◌, ◌++◌, ◌-◌}
 use Rattle.curp_gen.specs.Making.{made_steps, steps_from}
-use Rattle.curp_gen.proofs.maker.make.Given as goal
+use Rattle.curp_gen.proofs.maker.made.Given as goal
 
 -- the steps so far, and the others
 abbrev pub invariant-steps : goal.invariant-steps
