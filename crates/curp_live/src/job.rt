@@ -29,13 +29,22 @@ pub(crate) fn jobs<'a>(
     let mut jobs = Vec::new(alloc);
     jobs.push(Job::Driver)?;
     jobs.push(Job::Manager(&seats.manager))?;
-    for (seat, commands) in seats.clients.iter().zip(work) {
-        jobs.push(Job::Client(seat, commands.as_slice()))?;
-    }
+    add_clients(&mut jobs, &seats.clients, work)?;
     add(&mut jobs, &seats.masters, |seat| Job::Master(seat))?;
     add(&mut jobs, &seats.backups, |seat| Job::Backup(seat))?;
     add(&mut jobs, &seats.witnesses, |seat| Job::Witness(seat))?;
     Ok(jobs)
+}
+
+fn add_clients<'a>(
+    jobs: &mut Vec<Job<'a>>,
+    clients: &'a [Seat<ClientNode, End>],
+    work: &'a [Vec<Command>],
+) -> Result<(), NoMemory> {
+    for (seat, commands) in clients.iter().zip(work) {
+        jobs.push(Job::Client(seat, commands.as_slice()))?;
+    }
+    Ok(())
 }
 
 fn add<'a, T, F: Fn(&'a T) -> Job<'a>>(

@@ -78,8 +78,37 @@ fn play<S: Source, K: Sink>(alloc: Global, source: &mut S, sink: &mut K) -> Resu
     laws::order_stands();
     let mut script = ScriptReader::new(alloc)?;
     let header = script.read_header(source)?;
-    let mut world = begin(alloc, &header)?;
-    play_steps(alloc, &mut script, source, &mut world, sink)
+    play_behind(alloc, &header, &mut script, source, sink)
+}
+
+/// Plays what comes behind a header, and writes its text.
+fn play_behind<S: Source, K: Sink>(
+    alloc: Global,
+    header: &Header,
+    script: &mut ScriptReader,
+    source: &mut S,
+    sink: &mut K,
+) -> Result<(), Status>
+    requires header { bad_field header.now ≡ None }
+    requires behind { IsBehind script.old 1 }
+    ensures ends { S.tells source.old ≡ true → is_cut_short (ended result) ≡ false
+        → ended result ≡ status_of (due script.old (S.left source.old)).ending }
+    ensures end { S.tells source.old ≡ true → OnOk result (S.left source.new ≡ []) }
+    ensures wrote { S.tells source.old ≡ true → K.tells sink.old ≡ true → is_cut_short (ended result) ≡ false
+        → K.held sink.new
+        ≡ K.held sink.old ++ text_from 1 (model.world header.now []) (due script.old (S.left source.old)) }
+    ensures front { S.tells source.old ≡ true → K.tells sink.old ≡ true → HoldsPart (K.held sink.old) (K.held sink.new)
+        (text_from 1 (model.world header.now []) (due script.old (S.left source.old))) }
+    ensures tells { K.tells sink.old ≡ true → K.tells sink.new ≡ true }
+    ensures read_fault { result ≡ Err Status.ReadFault → Rose (S.faults source.old) (S.faults source.new) }
+    ensures no_read_fault { result ≢ Err Status.ReadFault → SameCount (S.faults source.old) (S.faults source.new) }
+    ensures write_fault { result ≡ Err Status.WriteFault → Rose (K.faults sink.old) (K.faults sink.new) }
+    ensures no_write_fault { result ≢ Err Status.WriteFault → SameCount (K.faults sink.old) (K.faults sink.new) }
+    ensures never_usage { result ≢ Err Status.Usage }
+    ensures never_ok { result ≢ Err Status.Ok }
+{
+    let mut world = begin(alloc, header)?;
+    play_steps(alloc, script, source, &mut world, sink)
 }
 
 /// The world before any step. A header that was read is one of a world.

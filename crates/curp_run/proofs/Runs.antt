@@ -1,5 +1,5 @@
 -- What a run on threads shows, and what is written of it.
-use Rattle.std.proofs.Common.{◌≡◌, inr, [], ◌∷◌, ◌++◌, ℕ, List, Global, Vec, length, map, ap, sym, ◌∙◌, subst, append_assoc}
+use Rattle.std.proofs.Common.{◌≡◌, Result, Ok, Err, Option, Some, None, IfOk, IfSome, inr, [], ◌∷◌, ◌++◌, ℕ, List, Global, Vec, length, map, ap, sym, ◌∙◌, subst, append_assoc}
 use Rattle.std.proofs.lemmas.List.{length-map}
 use Rattle.curp_cmd.specs.declared.command.Command.{Command}
 use Rattle.curp_msg.specs.declared.script.Header.{Header}
@@ -41,6 +41,13 @@ pub run_shows : (plan : LivePlan) (h : Header) (work : List (Vec Command Global)
 run_shows plan h work journals steps fits header same run script =
     shows plan journals steps fits (subst (λ (w : List (List Command)). IsLiveRun plan w journals) same run)
     (subst (λ (x : Header). IsScriptOf x (journals_of journals) steps) header script)
+
+-- what holds of one that was found
+pub if_found : {T E : Type 0} (found : Result (Option T) E) (P Q : T → Type 0) → ((x : T) → P x → Q x)
+    → IfOk found (λ (one : Option T). IfSome one P) → IfOk found (λ (one : Option T). IfSome one Q)
+if_found (Ok (Some x)) P Q implies holds = implies x holds
+if_found (Ok None) P Q implies holds = tt
+if_found (Err _) P Q implies holds = tt
 
 -- what is read back is played to an order
 order_stands : (plan : LivePlan) (steps : List Step) (s : Script) → s ≡ whole_script plan steps → HasAnOrder s → OrderStands (world (live_header plan) steps)

@@ -71,9 +71,28 @@ fn write_script<K: Sink>(alloc: Global, plan: &MakePlan, sink: &mut K) -> Result
     ensures no_fault { result ≢ Err Status.WriteFault → SameCount (K.faults sink.old) (K.faults sink.new) }
 {
     let mut maker = Maker::new(alloc, plan)?;
+    write_begun(alloc, plan, &mut maker, sink)
+}
+
+// Writes a script that is begun.
+fn write_begun<K: Sink>(
+    alloc: Global,
+    plan: &MakePlan,
+    maker: &mut Maker,
+    sink: &mut K,
+) -> Result<(), Status>
+    requires { maker.old ≡ begun plan.now }
+    ensures wrote { K.tells sink.old ≡ true
+        → OnOk result (K.held sink.new ≡ K.held sink.old ++ script_text plan.now) }
+    ensures front { K.tells sink.old ≡ true → HoldsPart (K.held sink.old) (K.held sink.new) (script_text plan.now) }
+    ensures writing { IfErr result IsOfWriting }
+    ensures tells { K.tells sink.old ≡ true → K.tells sink.new ≡ true }
+    ensures fault { result ≡ Err Status.WriteFault → Rose (K.faults sink.old) (K.faults sink.new) }
+    ensures no_fault { result ≢ Err Status.WriteFault → SameCount (K.faults sink.old) (K.faults sink.new) }
+{
     let header = print_header(alloc, &maker.header())?;
     write_line(header, sink)?;
-    write_steps(alloc, plan.steps, &mut maker, sink)
+    write_steps(alloc, plan.steps, maker, sink)
 }
 
 // Writes so many steps more.
@@ -128,7 +147,27 @@ fn write_summary<K: Sink>(alloc: Global, plan: &MakePlan, sink: &mut K) -> Resul
     ensures no_fault { result ≢ Err Status.WriteFault → SameCount (K.faults sink.old) (K.faults sink.new) }
 {
     let mut maker = Maker::new(alloc, plan)?;
-    for _ in 0..plan.steps {
+    write_numbers(alloc, plan.steps, &mut maker, sink)
+}
+
+// Makes so many steps more, and writes what happened in all.
+fn write_numbers<K: Sink>(
+    alloc: Global,
+    count: u32,
+    maker: &mut Maker,
+    sink: &mut K,
+) -> Result<(), Status>
+    requires { maker.old.made + count ≤ maker.old.plan.steps }
+    ensures wrote { K.tells sink.old ≡ true → OnOk result (K.held sink.new
+        ≡ K.held sink.old ++ summary_text (summary_of (after count maker.old))) }
+    ensures front { K.tells sink.old ≡ true → HoldsPart (K.held sink.old) (K.held sink.new)
+        (summary_text (summary_of (after count maker.old))) }
+    ensures tells { K.tells sink.old ≡ true → K.tells sink.new ≡ true }
+    ensures writing { IfErr result IsOfWriting }
+    ensures fault { result ≡ Err Status.WriteFault → Rose (K.faults sink.old) (K.faults sink.new) }
+    ensures no_fault { result ≢ Err Status.WriteFault → SameCount (K.faults sink.old) (K.faults sink.new) }
+{
+    for _ in 0..count {
         maker.next_step()?;
     }
     let summary = maker.summary(alloc)?;

@@ -326,15 +326,20 @@ fn stops_are_read_and_printed(rt: HostRuntime) -> Result<(), Fail> {
 }
 
 // Whether the invocation of a command by client 7 is read of its line, and printed.
-fn invokes(alloc: Global, text: &str, command: Command) -> Result<bool, NoMemory> {
-    let mut reader = LineReader::new(alloc);
+fn invokes(
+    alloc: Global,
+    reader: &mut LineReader,
+    text: &str,
+    command: Command,
+) -> Result<bool, NoMemory> {
     let line = format!(in alloc; "{{\"client\":7,\"cmd\":{text},\"do\":\"invoke\"}}")?;
     let step = Step::Invoke { client: 7, command };
-    goes_both_ways(alloc, &mut reader, &line, &step)
+    goes_both_ways(alloc, reader, &line, &step)
 }
 
 #[test]
 fn commands_are_read_and_printed(rt: HostRuntime) -> Result<(), Fail> {
+    let mut reader = LineReader::new(rt.alloc());
     let (a, b) = (Key::new(b"a")?, Key::new(b"\xaf\x09")?);
     let (one, empty) = (Value::new(b"1")?, Value::new(b"")?);
     for (text, command) in [
@@ -345,13 +350,14 @@ fn commands_are_read_and_printed(rt: HostRuntime) -> Result<(), Fail> {
         (r#"["incr","61"]"#, Command::Incr(a)),
         (r#"["append","61","31"]"#, Command::Append(a, one)),
     ] {
-        assert!(rt; invokes(rt.alloc(), text, command)?, "{text}");
+        assert!(rt; invokes(rt.alloc(), &mut reader, text, command)?, "{text}");
     }
     Ok(())
 }
 
 #[test]
 fn commands_of_many_words_are_read_and_printed(rt: HostRuntime) -> Result<(), Fail> {
+    let mut reader = LineReader::new(rt.alloc());
     let (a, b) = (Key::new(b"a")?, Key::new(b"\xaf\x09")?);
     let (one, empty) = (Value::new(b"1")?, Value::new(b"")?);
     for (text, command) in [
@@ -369,7 +375,7 @@ fn commands_of_many_words_are_read_and_printed(rt: HostRuntime) -> Result<(), Fa
             Command::multi(&[(b, empty), (a, one)])?,
         ),
     ] {
-        assert!(rt; invokes(rt.alloc(), text, command)?, "{text}");
+        assert!(rt; invokes(rt.alloc(), &mut reader, text, command)?, "{text}");
     }
     Ok(())
 }
@@ -419,8 +425,8 @@ fn a_header_has_bounds(rt: HostRuntime) {
     assert!(rt; bad_field(&Header { ways: 17, ..HEADER }) == Some(F::Ways));
 }
 
-fn step_in(alloc: Global, line: &str) -> Result<Step, LineError> {
-    LineReader::new(alloc).parse_line(line.as_bytes())
+fn step_in(reader: &mut LineReader, line: &str) -> Result<Step, LineError> {
+    reader.parse_line(line.as_bytes())
 }
 
 fn bad(name: F) -> Result<Step, LineError> {
@@ -445,8 +451,8 @@ fn put_of(alloc: Global, key: usize, value: usize) -> Result<String, NoMemory> {
     format!(in alloc; "{{\"client\":1,\"cmd\":[\"put\",\"{key}\",\"{value}\"],\"do\":\"invoke\"}}")
 }
 
-// Four of the longest keys, each with one of the longest values, where K stands for all but the end of a key, and V for a
-// value.
+// Four of the longest keys, each with one of the longest values, where K stands for all but the end of a key, and V for
+// a value.
 const LARGEST_MULTI: &str =
     r#"{"client":1,"cmd":["multi","K01","V","K02","V","K03","V","K04","V"],"do":"invoke"}"#;
 
@@ -459,27 +465,31 @@ fn largest_multi(alloc: Global) -> Result<String, NoMemory> {
 
 #[test]
 fn the_largest_lines_are_read(rt: HostRuntime) -> Result<(), Fail> {
-    let line = longest_line(rt.alloc())?;
-    assert!(rt; line.len() == 65_536);
-    assert!(rt; step_in(rt.alloc(), &line) == Ok(Step::Deliver { message: 1 }));
+    let mut reader = LineReader::new(rt.alloc());
+    let longest = longest_line(rt.alloc())?;
+    assert!(rt; longest.len() == 65_536);
+    let read = Ok(Step::Deliver { message: 1 });
+    assert!(rt; step_in(&mut reader, &longest) == read);
     // JSON is read up to 127 levels.
     let line = with_depth(rt.alloc(), 126)?;
-    assert!(rt; step_in(rt.alloc(), &line) == bad(F::Other));
+    assert!(rt; step_in(&mut reader, &line) == bad(F::Other));
     let line = with_depth(rt.alloc(), 127)?;
-    assert!(rt; step_in(rt.alloc(), &line) == Err(LineError::BadJson));
+    assert!(rt; step_in(&mut reader, &line) == Err(LineError::BadJson));
+    assert!(rt; step_in(&mut reader, &longest) == read);
     Ok(())
 }
 
 #[test]
 fn the_largest_commands_are_read(rt: HostRuntime) -> Result<(), Fail> {
+    let mut reader = LineReader::new(rt.alloc());
     let line = largest_multi(rt.alloc())?;
-    let Ok(step) = step_in(rt.alloc(), &line) else {
+    let Ok(step) = step_in(&mut reader, &line) else {
         return Err(Fail::new("it isn't read"));
     };
     assert!(rt; prints(rt.alloc(), &step, &line)?);
     for (key, value) in [(33, 1), (1, 129), (200, 1)] {
         let line = put_of(rt.alloc(), key, value)?;
-        assert!(rt; step_in(rt.alloc(), &line) == bad(F::Cmd), "{key} {value}");
+        assert!(rt; step_in(&mut reader, &line) == bad(F::Cmd), "{key} {value}");
     }
     Ok(())
 }

@@ -1,4 +1,4 @@
-//! Tests of journals, seats and runs on threads by the public calls.
+//! Tests of made scripts, journals, seats, merging, gathering and runs on threads, by the public calls.
 #![tactic(auto)]
 
 #[cfg(test)]

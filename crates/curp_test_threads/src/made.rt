@@ -1,9 +1,11 @@
-// What no clause says: that there is an answer where there is memory, and that it is the one of programs that were written
-// apart, in another language.
+// What no clause says: that there is an answer where there is memory, and that it is the one of programs that were
+// written apart, in another language.
+ghost use Rattle.std.specs.Prelude.{◌≤◌, ◌+◌};
+
 use crate::played::{count, played, text_of};
 use curp_base::NoMemory;
 use curp_cmd::{Command, Key, Value};
-use curp_gen::{make, workload};
+use curp_gen::{Maker, make, workload};
 use curp_io::MemorySink;
 use curp_msg::Step;
 use curp_play::Status;
@@ -54,6 +56,35 @@ fn the_default_script_is_played(rt: HostRuntime) -> Result<(), Fail> {
 fn the_script_of_the_default_plan(rt: HostRuntime) -> Result<(), Fail> {
     let (_, steps) = make(rt.alloc(), &MakePlan::default())?;
     assert!(rt; steps.len() == 4_000);
+    Ok(())
+}
+
+// So many steps more.
+fn steps_of(alloc: Global, maker: &mut Maker, count: u32) -> Result<Vec<Step>, NoMemory>
+    requires { maker.old.made + count ≤ maker.old.plan.steps }
+{
+    let mut steps = Vec::with_capacity(alloc, count as usize)?;
+    'steps: for _made in 0..count {
+        let step = maker.next_step()?;
+        steps.extend_from_slice(&[step])?;
+    }
+    Ok(steps)
+}
+
+// Whether so many steps more are made, and lead to the numbers of the other program.
+fn has_numbers(alloc: Global, maker: &mut Maker, count: u32) -> Result<bool, NoMemory>
+    requires { maker.old.made + count ≤ maker.old.plan.steps }
+{
+    let steps = steps_of(alloc, maker, count)?;
+    let summary = maker.summary(alloc)?.to_string(alloc)?;
+    Ok(steps.len() == 4_000 && summary.as_str() == SUMMARY)
+}
+
+#[test]
+fn a_maker_of_the_default_plan(rt: HostRuntime) -> Result<(), Fail> {
+    let plan = MakePlan::default();
+    let mut maker = Maker::new(rt.alloc(), &plan)?;
+    assert!(rt; has_numbers(rt.alloc(), &mut maker, plan.steps)?);
     Ok(())
 }
 

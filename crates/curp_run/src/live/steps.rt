@@ -1,5 +1,6 @@
 // The steps of a run on threads.
-ghost use Rattle.std.specs.Prelude.{◌≡◌, ◌≤◌, length, map, IfOk};
+ghost use Rattle.std.specs.Prelude.{◌≡◌, ◌≤◌, length, map, IfOk, IfSome};
+ghost use Rattle.curp_gather.specs.Journals.{AreOf, IsScriptOf, journals_of};
 ghost use Rattle.curp_live.specs.Live.{live_header};
 ghost use Rattle.curp_run.specs.Live.{Shows, work_of};
 ghost use Rattle.curp_script.specs.Headers.{InRange};
@@ -8,7 +9,7 @@ ghost use Rattle.curp_words.specs.Plan.{IsLivePlan};
 
 use curp_base::NoMemory;
 use curp_cmd::Command;
-use curp_gather::{GatherError, gather};
+use curp_gather::{GatherError, Journals, gather};
 use curp_gen::workload;
 use curp_live::live;
 use curp_msg::{Header, Protocol, Step};
@@ -33,14 +34,49 @@ pub(crate) fn steps_of_run<R: Threads + Wait + Sync, G: Gate + Sync>(
     let header = header_of(plan);
     let work = work_of(alloc, plan)?;
     for _ in rt.forever() {
-        let journals = live(rt, alloc, plan, &work, gate)?;
-        match gather(alloc, &header, &journals) {
-            Ok(steps) => return Ok(steps),
-            Err(GatherError::NoMemory) => return Err(AllocError),
-            Err(_) => {}
+        if let Some(steps) = steps_of_one(rt, alloc, plan, &header, &work, gate)? {
+            return Ok(steps);
         }
     }
     unreachable!()
+}
+
+// The steps of one run. None where its journals are no script, or one that is too long or too heavy.
+fn steps_of_one<R: Threads + Wait + Sync, G: Gate + Sync>(
+    rt: &R,
+    alloc: Global,
+    plan: &LivePlan,
+    header: &Header,
+    work: &[Vec<Command>],
+    gate: &G,
+) -> Result<Option<Vec<Step>>, NoMemory>
+    requires plan { IsLivePlan plan.now }
+    requires header { header.now ≡ live_header plan.now }
+    requires work { map (λ list. list.items) work.now ≡ work_of plan.now }
+    requires count { length work.now ≡ plan.now.clients }
+    ensures shows { IfOk result (λ found. IfSome found (λ steps. Shows plan.now steps.items)) }
+    ensures few { IfOk result (λ found. IfSome found (λ steps. length steps.items ≤ step_limit)) }
+{
+    let journals = live(rt, alloc, plan, work, gate)?;
+    script_of(alloc, header, &journals)
+}
+
+// The steps of the script that journals are. None where they are none, or one that is too long or too heavy.
+fn script_of(
+    alloc: Global,
+    header: &Header,
+    journals: &Journals,
+) -> Result<Option<Vec<Step>>, NoMemory>
+    requires { AreOf header.now journals.now }
+    ensures script { IfOk result (λ found. IfSome found
+        (λ steps. IsScriptOf header.now (journals_of journals.now) steps.items)) }
+    ensures few { IfOk result (λ found. IfSome found (λ steps. length steps.items ≤ step_limit)) }
+{
+    match gather(alloc, header, journals) {
+        Ok(steps) => Ok(Some(steps)),
+        Err(GatherError::NoMemory) => Err(AllocError),
+        Err(_) => Ok(None),
+    }
 }
 
 /// The header of a plan: clients are fast.

@@ -8,4 +8,4 @@ returns-clause-order g c = λ tells. always _ _
     c.history_stands.ensures.history c.order_stands.ensures.order)
 
 pub returns-clause-no_read_fault : goal.returns-clause-no_read_fault
-returns-clause-no_read_fault g c = λ other. c.play_steps.ensures.no_read_fault other ∙ c.read_header.ensures.told (λ e. absurd (cc (c.in_ok-header.was, e)))
+returns-clause-no_read_fault g c = λ other. c.play_behind.ensures.no_read_fault other ∙ c.read_header.ensures.told (λ e. absurd (cc (c.in_ok-header.was, e)))

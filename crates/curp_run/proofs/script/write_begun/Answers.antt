@@ -5,13 +5,13 @@ use Rattle.curp_io.specs.Streams.{HoldsPart}
 use Rattle.curp_run.proofs.Ends.{ends_with, of_memory, passed_on}
 use Rattle.curp_run.proofs.Pieces.{both_if_ok, first_of_two, second_of_two}
 use Rattle.curp_run.proofs.Steps.{printed_header}
-use Rattle.curp_run.proofs.script.write_script.Goals as goal
+use Rattle.curp_run.proofs.script.write_begun.Goals as goal
 
 pub returns-in_err-write_line-clause-front : goal.returns-in_err-write_line-clause-front
 returns-in_err-write_line-clause-front g c = λ tells.
     let old = g.K.Sink.held c.args.sink.now in
     let new = g.K.Sink.held c.write_line.new.sink in
-    let header = c.header.ensures.header ∙ ap (λ m. header_of m.plan) c.in_ok-maker.ensures in
+    let header = c.header.ensures.header ∙ ap (λ m. header_of m.plan) c.requires in
     let line = printed_header c.header.result (header_of c.args.plan.now) c.in_ok-header.header.items c.in_ok-header.ensures.text header in
     first_of_two old new (header_line (header_of c.args.plan.now)) (lines_text (made_steps c.args.plan.now))
     (subst (λ l. HoldsPart old new l) line (c.write_line.ensures.front tells))
@@ -22,10 +22,10 @@ returns-clause-wrote g c = λ tells.
     let mid = g.K.Sink.held c.write_line.new.sink in
     let new = g.K.Sink.held c.write_steps.new.sink in
     let first = header_line (header_of c.args.plan.now) in
-    let header = c.header.ensures.header ∙ ap (λ m. header_of m.plan) c.in_ok-maker.ensures in
+    let header = c.header.ensures.header ∙ ap (λ m. header_of m.plan) c.requires in
     let line = printed_header c.header.result (header_of c.args.plan.now) c.in_ok-header.header.items c.in_ok-header.ensures.text header in
     let wrote : mid ≡ old ++ first = c.in_ok-write_line.ensures.wrote tells ∙ ap (λ l. old ++ l) line in
-    let steps = ap (λ m. lines_text (steps_from c.args.plan.now.steps m)) c.in_ok-maker.ensures in
+    let steps = ap (λ m. lines_text (steps_from c.args.plan.now.steps m)) c.requires in
     both_if_ok c.write_steps.result old mid new first (lines_text (made_steps c.args.plan.now)) wrote
     (subst (λ t. OnOk c.write_steps.result (new ≡ mid ++ t)) steps (c.write_steps.ensures.wrote (c.write_line.ensures.tells tells)))
 
@@ -35,15 +35,15 @@ returns-clause-front g c = λ tells.
     let mid = g.K.Sink.held c.write_line.new.sink in
     let new = g.K.Sink.held c.write_steps.new.sink in
     let first = header_line (header_of c.args.plan.now) in
-    let header = c.header.ensures.header ∙ ap (λ m. header_of m.plan) c.in_ok-maker.ensures in
+    let header = c.header.ensures.header ∙ ap (λ m. header_of m.plan) c.requires in
     let line = printed_header c.header.result (header_of c.args.plan.now) c.in_ok-header.header.items c.in_ok-header.ensures.text header in
     let wrote : mid ≡ old ++ first = c.in_ok-write_line.ensures.wrote tells ∙ ap (λ l. old ++ l) line in
-    let steps = ap (λ m. lines_text (steps_from c.args.plan.now.steps m)) c.in_ok-maker.ensures in
+    let steps = ap (λ m. lines_text (steps_from c.args.plan.now.steps m)) c.requires in
     second_of_two old mid new first (lines_text (made_steps c.args.plan.now)) wrote
     (subst (λ t. HoldsPart mid new t) steps (c.write_steps.ensures.front (c.write_line.ensures.tells tells)))
 
 pub returns-in_err-header-clause-writing : goal.returns-in_err-header-clause-writing
-returns-in_err-header-clause-writing g c = of_memory c.from_residual-in_err-header.result c.from_residual-in_err-header.ensures.1
+returns-in_err-header-clause-writing g c = of_memory c.from_residual.result c.from_residual.ensures.1
 
 pub returns-in_err-write_line-clause-writing : goal.returns-in_err-write_line-clause-writing
 returns-in_err-write_line-clause-writing g c =
