@@ -1,5 +1,6 @@
 // Journals in which a master took another value than its client sent.
 ghost use Rattle.std.specs.Prelude.{◌≡◌, true, false, IfOk};
+ghost use Rattle.curp_gather.specs.Journals.{AreOf};
 ghost use Rattle.curp_msg.specs.declared.script.Protocol.TheVariants.{One};
 
 use curp_cmd::{Command, Key, NodeId, Value};
@@ -83,13 +84,19 @@ fn alone<T: Drop>(alloc: Global, item: T) -> Result<Vec<T>, Fail> {
     Ok(items)
 }
 
+fn take(alloc: Global, master: &mut Kept<MasterNode>, update: &Named) -> Result<(), Fail>
+    requires { master.old.ended ≡ false }
+{
+    master.step(Arrived::Message(update.copy(alloc)?))?;
+    Ok(())
+}
+
 // Master 1, which took this update.
 fn master_with(alloc: Global, update: &Named) -> Result<Vec<Kept<MasterNode>>, Fail> {
-    let update = update.copy(alloc)?;
     let mut master = begun(alloc, NodeId::master(1), masters(alloc)?)?;
-    match master.step(Arrived::Message(update)) {
-        Ok(_) => alone(alloc, master),
-        Err(_) => Err(Fail::new("no memory")),
+    match take(alloc, &mut master, update) {
+        Ok(()) => alone(alloc, master),
+        Err(fail) => Err(fail),
     }
 }
 
@@ -142,17 +149,23 @@ fn is_same(a: &Named, b: &Named) -> bool {
         && a.message.same(&b.message)
 }
 
-// Where the mismatch of these journals of the smallest header's nodes is, the message that was taken, and the one that
-// its sender's journal holds, if there is one.
-fn mismatch_of(
-    alloc: Global,
-    taken: &Journals,
-) -> Result<((NodeId, u64), Named, Option<Named>), Fail> {
+// Where a mismatch is, the message that was taken, and the one that its sender's journal holds, if there is one.
+type Told = ((NodeId, u64), Named, Option<Named>);
+
+// The mismatch of these journals of the smallest header's nodes.
+fn mismatch_of(alloc: Global, taken: &Journals) -> Result<Told, Fail> {
     let header = smallest();
     let Some(journals) = anew_at_opening(alloc, &header, taken)? else {
         return Err(Fail::new("the journals aren't those of nodes"));
     };
-    match gather(alloc, &header, &journals) {
+    mismatch_in(alloc, &header, &journals)
+}
+
+// The mismatch that gathering tells.
+fn mismatch_in(alloc: Global, header: &Header, journals: &Journals) -> Result<Told, Fail>
+    requires { AreOf header.now journals.now }
+{
+    match gather(alloc, header, journals) {
         Err(
             GatherError::Mismatch {
                 node,
@@ -166,11 +179,7 @@ fn mismatch_of(
 }
 
 // The mismatch, where client 1 put one value and its master took this update.
-fn told_of(
-    alloc: Global,
-    client: Kept<ClientNode>,
-    update: &Named,
-) -> Result<((NodeId, u64), Named, Option<Named>), Fail> {
+fn told_of(alloc: Global, client: Kept<ClientNode>, update: &Named) -> Result<Told, Fail> {
     let taken = with_update(alloc, client, update)?;
     mismatch_of(alloc, &taken)
 }
@@ -179,16 +188,31 @@ fn other_update(alloc: Global) -> Result<Named, Fail> {
     update_of(&putting(alloc, 0x32)?)
 }
 
-// Whether the mismatch is at the master's first step, with these two updates.
+// Whether a mismatch is at the master's first step, with these two updates.
+fn is_of(told: &Told, update: &Named, kept_update: &Named) -> bool {
+    let (place, got, kept) = told;
+    let is_kept = match kept {
+        Some(kept) => is_same(kept, kept_update),
+        None => false,
+    };
+    *place == (NodeId::master(1), 1) && is_same(got, update) && is_kept
+}
+
+fn tells(
+    alloc: Global,
+    client: Kept<ClientNode>,
+    update: &Named,
+    kept_update: &Named,
+) -> Result<bool, Fail> {
+    let told = told_of(alloc, client, update)?;
+    Ok(is_of(&told, update, kept_update))
+}
+
+// Whether the mismatch tells this update, and the one that the client sent.
 fn is_told(alloc: Global, update: &Named) -> Result<bool, Fail> {
     let client = putting(alloc, 0x31)?;
     let kept_update = update_of(&client)?;
-    let (place, got, kept) = told_of(alloc, client, update)?;
-    let is_kept = match &kept {
-        Some(kept) => is_same(kept, &kept_update),
-        None => false,
-    };
-    Ok(place == (NodeId::master(1), 1) && is_same(&got, update) && is_kept)
+    tells(alloc, client, update, &kept_update)
 }
 
 #[test]

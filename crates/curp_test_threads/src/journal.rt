@@ -50,18 +50,33 @@ fn items_are_copied(rt: HostRuntime) -> Result<(), Fail> {
     Ok(())
 }
 
+fn gives_fetch(alloc: Global, came: &Arrived) -> Result<bool, NoMemory> {
+    Ok(is_fetch(&came.given(alloc)?))
+}
+
+fn message_is_given(alloc: Global) -> Result<bool, NoMemory> {
+    let came = came();
+    gives_fetch(alloc, &came)
+}
+
 #[test]
 fn a_message_is_given(rt: HostRuntime) -> Result<(), Fail> {
-    let input = came().given(rt.alloc())?;
-    assert!(rt; is_fetch(&input));
+    assert!(rt; message_is_given(rt.alloc())?);
     Ok(())
+}
+
+fn gives_sync(alloc: Global, order: &Arrived) -> Result<bool, NoMemory> {
+    let input = order.given(alloc)?;
+    Ok(matches!(input, Input::Local(Local::Sync)) && order.stamp() == 5)
+}
+
+fn order_is_given(alloc: Global) -> Result<bool, NoMemory> {
+    let order = Arrived::Local(Local::Sync, 5);
+    gives_sync(alloc, &order)
 }
 
 #[test]
 fn an_order_is_given(rt: HostRuntime) -> Result<(), Fail> {
-    let order = Arrived::Local(Local::Sync, 5);
-    assert!(rt; order.stamp() == 5);
-    let input = order.given(rt.alloc())?;
-    assert!(rt; matches!(input, Input::Local(Local::Sync)));
+    assert!(rt; order_is_given(rt.alloc())?);
     Ok(())
 }

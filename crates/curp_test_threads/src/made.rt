@@ -80,11 +80,15 @@ fn has_numbers(alloc: Global, maker: &mut Maker, count: u32) -> Result<bool, NoM
     Ok(steps.len() == 4_000 && summary.as_str() == SUMMARY)
 }
 
+fn default_has_numbers(alloc: Global) -> Result<bool, NoMemory> {
+    let plan = MakePlan::default();
+    let mut maker = Maker::new(alloc, &plan)?;
+    has_numbers(alloc, &mut maker, plan.steps)
+}
+
 #[test]
 fn a_maker_of_the_default_plan(rt: HostRuntime) -> Result<(), Fail> {
-    let plan = MakePlan::default();
-    let mut maker = Maker::new(rt.alloc(), &plan)?;
-    assert!(rt; has_numbers(rt.alloc(), &mut maker, plan.steps)?);
+    assert!(rt; default_has_numbers(rt.alloc())?);
     Ok(())
 }
 

@@ -105,20 +105,30 @@ fn tells(told: &GatherError, taken: &Named) -> bool {
     }
 }
 
+fn is_told(merged: Result<Vec<Step>, GatherError>, taken: &Named) -> bool {
+    match merged {
+        Ok(_) => false,
+        Err(told) => tells(&told, taken),
+    }
+}
+
+// A master's question by epoch 1.
+fn question(alloc: Global) -> Result<Vec<Message>, NoMemory> {
+    let mut sent = Vec::new(alloc);
+    sent.push(fence(1))?;
+    Ok(sent)
+}
+
 // A master asked by epoch 1, and a backup took the question with this stamp and this epoch.
 fn is_mismatch(alloc: Global, stamp: u64, epoch: u32) -> Result<bool, NoMemory>
     requires { stamp < 9 }
 {
-    let mut sent = Vec::new(alloc);
-    sent.push(fence(1))?;
-    let master = [ordered(sent)];
+    let master = [ordered(question(alloc)?)];
     let backup = [took(alloc, stamp + 1, named(1, stamp, epoch))];
     let master = Line::new(NodeId::master(1), &master, false);
     let backup = Line::new(NodeId::backup(1), &backup, false);
-    match merged(alloc, master, backup) {
-        Ok(_) => Ok(false),
-        Err(told) => Ok(tells(&told, &named(1, stamp, epoch))),
-    }
+    let taken = named(1, stamp, epoch);
+    Ok(is_told(merged(alloc, master, backup), &taken))
 }
 
 #[test]

@@ -1,4 +1,4 @@
-use curp_base::{AscendingPairs, Items, pairs_ascend};
+use curp_base::{AscendingPairs, Items, NoMemory, pairs_ascend};
 use curp_cmd::{Command, Entry, Key, NodeId, Package, Request, RequestId, TablePart, Value};
 use curp_msg::{Append, Body, Message};
 use curp_same::Same;
@@ -61,13 +61,25 @@ fn is_with(alloc: Global, message: &Message, put_in: Value, taken: Value) -> Res
     Ok(message.same(&append(alloc, put_in, taken)?))
 }
 
+fn is_as_its_copy(alloc: Global, message: &Message) -> Result<bool, NoMemory> {
+    Ok(message.same(&message.copy(alloc)?))
+}
+
+// Whether the message with one value is told from those with another one.
+fn is_told_apart(alloc: Global, message: &Message, one: Value, two: Value) -> Result<bool, Fail> {
+    let is_first = is_with(alloc, message, two, one)?;
+    let is_second = is_with(alloc, message, one, two)?;
+    Ok(is_as_its_copy(alloc, message)? && !is_first && !is_second)
+}
+
+fn are_told_apart(alloc: Global, one: Value, two: Value) -> Result<bool, Fail> {
+    let message = append(alloc, one, one)?;
+    is_told_apart(alloc, &message, one, two)
+}
+
 #[test]
 fn messages_are_told_apart(rt: HostRuntime) -> Result<(), Fail> {
-    let alloc = rt.alloc();
     let (one, two) = (Value::new(b"1")?, Value::new(b"2")?);
-    let message = append(alloc, one, one)?;
-    assert!(rt; message.same(&message.copy(alloc)?));
-    assert!(rt; !is_with(alloc, &message, two, one)?);
-    assert!(rt; !is_with(alloc, &message, one, two)?);
+    assert!(rt; are_told_apart(rt.alloc(), one, two)?);
     Ok(())
 }
