@@ -206,7 +206,9 @@ pub fn make(alloc: Global, plan: &MakePlan) -> Result<(Header, Vec<Step>), NoMem
     ensures steps { IfOk result (λ script. script.1.items ≡ making.made_steps plan.now) }
 {
     let mut maker = Maker::new(alloc, plan)?;
-    made(alloc, plan, &mut maker)
+    let script = made(alloc, plan, &mut maker);
+    drop(maker);
+    script
 }
 
 // The script of a plan that is begun.

@@ -108,7 +108,9 @@ fn play_behind<S: Source, K: Sink>(
     ensures never_ok { result ≢ Err Status.Ok }
 {
     let mut world = begin(alloc, header)?;
-    play_steps(alloc, script, source, &mut world, sink)
+    let played = play_steps(alloc, script, source, &mut world, sink);
+    drop(world);
+    played
 }
 
 /// The world before any step. A header that was read is one of a world.

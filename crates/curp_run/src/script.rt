@@ -71,7 +71,9 @@ fn write_script<K: Sink>(alloc: Global, plan: &MakePlan, sink: &mut K) -> Result
     ensures no_fault { result ≢ Err Status.WriteFault → SameCount (K.faults sink.old) (K.faults sink.new) }
 {
     let mut maker = Maker::new(alloc, plan)?;
-    write_begun(alloc, plan, &mut maker, sink)
+    let written = write_begun(alloc, plan, &mut maker, sink);
+    drop(maker);
+    written
 }
 
 // Writes a script that is begun.
@@ -147,7 +149,9 @@ fn write_summary<K: Sink>(alloc: Global, plan: &MakePlan, sink: &mut K) -> Resul
     ensures no_fault { result ≢ Err Status.WriteFault → SameCount (K.faults sink.old) (K.faults sink.new) }
 {
     let mut maker = Maker::new(alloc, plan)?;
-    write_numbers(alloc, plan.steps, &mut maker, sink)
+    let written = write_numbers(alloc, plan.steps, &mut maker, sink);
+    drop(maker);
+    written
 }
 
 // Makes so many steps more, and writes what happened in all.

@@ -82,6 +82,7 @@ fn answers_each_call(rt: HostRuntime) {
     assert_eq!(rt; backup.fence_epoch(), 3);
     let kept = clients_of(&rt, alloc, backup.log());
     assert_eq!(rt; kept.as_slice(), [7, 8, 9, 10, 11].as_slice());
+    drop(backup);
 }
 
 #[test]
@@ -92,6 +93,7 @@ fn keeps_many_entries(rt: HostRuntime) {
     assert!(rt; backup.append(1, 0, &entries, 1) == Ok(5000));
     assert!(rt; backup.append(1, 2500, &entries, 2) == Ok(7500));
     assert_eq!(rt; must(&rt, backup.fence(2)).len(), 7500);
+    drop(backup);
 }
 
 const BELOW_ITS_FENCE: [Row; 5] = [

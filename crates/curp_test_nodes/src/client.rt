@@ -182,6 +182,8 @@ fn reads_by_a_captured_value(rt: HostRuntime) {
         by: Some(by),
     };
     assert!(rt; done.completed == Some(completed));
+    drop(done);
+    drop(client);
 }
 
 #[test]
@@ -197,4 +199,5 @@ fn refuses_what_it_cannot_send(rt: HostRuntime) {
     let told = Body::Configuration { config };
     give(&rt, &mut client, NodeId::manager(), told);
     assert!(rt; client.retry(8).err() == Some(RetryError::Split));
+    drop(client);
 }

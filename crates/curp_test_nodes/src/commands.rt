@@ -107,7 +107,9 @@ fn copies_a_package_whole(rt: HostRuntime) {
         package: package(&rt, alloc),
     };
     let copy = must(&rt, entry.copy(alloc));
+    drop(entry);
     assert_eq!(rt; room(&copy), 9);
+    drop(copy);
     assert_eq!(rt; TablePart::new(alloc).gone.len(), 0);
 }
 

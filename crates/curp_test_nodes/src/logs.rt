@@ -109,6 +109,7 @@ fn tells_what_was_done(rt: HostRuntime) {
     let a = key(&rt, b"a");
     assert!(rt; log.owns(&Command::Get(a)));
     assert!(rt; log.store().get(&a) == Some(Value::from_number(1)));
+    drop(log);
 }
 
 fn has_entry(rt: &impl Abort, log: &Log, index: u64) -> bool {
@@ -129,6 +130,7 @@ fn gives_what_stands(rt: HostRuntime) {
     let last = request(2, 1, Command::Incr(key(&rt, b"a")));
     assert!(rt; log.request(2) == Some(last));
     assert!(rt; log.request(3) == None);
+    drop(log);
 }
 
 fn suffix_len(rt: &impl Abort, log: &Log, start: u64) -> usize {
@@ -143,6 +145,7 @@ fn copies_what_stands_from_there_on(rt: HostRuntime) {
     }
     assert_eq!(rt; log.len(), 3);
     assert_eq!(rt; log.entries().len(), 3);
+    drop(log);
 }
 
 // Puts "a" and "b".
@@ -189,6 +192,7 @@ fn a_range_leaves_with_its_pairs(rt: HostRuntime) {
     let spans = [(0, A - 1), (A + 1, u64::MAX)];
     assert!(rt; log.ranges().spans() == spans.as_slice());
     assert_eq!(rt; last_take(log), Some((7, 2)));
+    drop(master);
 }
 
 #[test]
@@ -202,6 +206,7 @@ fn a_range_comes_with_its_pairs(rt: HostRuntime) {
         index: 1,
     };
     assert!(rt; log.given() == Some(given));
+    drop(log);
 }
 
 #[test]
@@ -211,6 +216,7 @@ fn a_package_has_its_pairs_and_all_records(rt: HostRuntime) {
     assert!(rt; part.pairs.as_slice() == pairs.as_slice());
     let records = [(id(1, 1), Answer::Done), (id(1, 2), Answer::Done)];
     assert!(rt; part.table.records.as_slice() == records.as_slice());
+    drop(part);
 }
 
 // The records come with the range, and stand at the Give.
@@ -224,6 +230,7 @@ fn what_was_done_elsewhere_is_known(rt: HostRuntime) {
     ];
     try_checks(&rt, &log, &rows);
     assert_eq!(rt; last_take(&log), None);
+    drop(log);
 }
 
 #[test]
@@ -237,6 +244,7 @@ fn a_client_goes_with_its_records(rt: HostRuntime) {
     ];
     try_checks(&rt, &log, &rows);
     assert!(rt; log.answer(1) == Some(Answer::Removed(true)));
+    drop(log);
 }
 
 fn try_is_log(rt: &impl Abort, alloc: Global, hi: u64, entries: &[Entry], is: bool) {
@@ -250,6 +258,7 @@ fn a_package_is_what_the_range_has(rt: HostRuntime) {
     try_is_log(&rt, rt.alloc(), u64::MAX, entries, true);
     try_is_log(&rt, rt.alloc(), u64::MAX, past(entries, 1), false);
     try_is_log(&rt, rt.alloc(), A - 1, past(entries, 2), false);
+    drop(master);
 }
 
 // 9,998 Ops of seven clients, and then the lower half of the hashes leaves, and a client goes.
@@ -280,6 +289,7 @@ fn holds_ten_thousand_entries(rt: HostRuntime) {
     assert_eq!(rt; taken_sizes(log), Some((4_991, 9_998)));
     assert!(rt; log.check(&id(2, 9_998)) == known(Answer::Done, 9_997));
     try_is_log(&rt, rt.alloc(), u64::MAX, log.entries(), true);
+    drop(master);
 }
 
 // Whether a log of those hashes has two Gets of "a", of these ids.

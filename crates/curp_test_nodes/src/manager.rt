@@ -107,6 +107,7 @@ fn replaces_a_witness(rt: HostRuntime) {
     let again = manager.replace(1, Keeper::Backup, 1).err();
     assert!(rt; again == Some(ReplaceError::Replacing { version: 2 }));
     try_prepared(&rt, &mut manager);
+    drop(manager);
 }
 
 // The master has its log on the new list, and a client asks for it then.
@@ -134,6 +135,7 @@ fn adopts_the_newest_attempt(rt: HostRuntime) {
     try_recovered(&rt, &mut manager, 2, 2, &[]);
     let sent = [(NodeId::master(3), Said::Adopted(1, 3, 3))];
     try_recovered(&rt, &mut manager, 3, 3, &sent);
+    drop(manager);
 }
 
 // That master has recovered the partition at that epoch.
@@ -173,6 +175,7 @@ fn moves_a_range(rt: HostRuntime) {
         1,
         (NodeId::master(2), Said::Take(2, 0, hi)),
     );
+    drop(manager);
 }
 
 // The hashes up to `hi` shall move to that partition.
@@ -202,4 +205,5 @@ fn serves_the_largest_shape(rt: HostRuntime) {
     }
     assert!(rt; manager.expire(65).err() == Some(ExpireError::NoClient));
     assert_eq!(rt; must(&rt, manager.nudge()).sent.len(), 16 * 11 + 64 * 16);
+    drop(manager);
 }

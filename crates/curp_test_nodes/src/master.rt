@@ -180,6 +180,7 @@ fn answers_what_comes(rt: HostRuntime) {
     for (backups, hi, round, rows) in CASES {
         let mut master = begin(&rt, rt.alloc(), backups, hi, round);
         try_rows(&rt, rt.alloc(), &mut master, rows);
+        drop(master);
     }
 }
 
@@ -211,6 +212,7 @@ fn keeps_many_entries(rt: HostRuntime) {
     let said = give(&rt, rt.alloc(), &mut master, Comes::Stored(1, 200, 199));
     assert_eq!(rt; said.len(), 199);
     assert_eq!(rt; master.synced(), 200);
+    drop(master);
 }
 
 fn begin(rt: &impl Abort, alloc: Global, backups: u32, hi: u64, round: u64) -> Master {

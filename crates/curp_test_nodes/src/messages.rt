@@ -204,6 +204,8 @@ fn try_copy(rt: &impl Abort, alloc: Global, body: Body, want: u64) {
     let message = says(body);
     let copy = must(rt, message.copy(alloc));
     assert_eq!(rt; (weight(&message), weight(&copy)), (want, want));
+    drop(message);
+    drop(copy);
 }
 
 #[test]

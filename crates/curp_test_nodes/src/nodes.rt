@@ -154,12 +154,14 @@ const WITNESS: [(Comes, &[Said]); 10] = [
 fn a_client_answers_what_comes(rt: HostRuntime) {
     let mut client = client(&rt, rt.alloc(), 2);
     try_rows(&rt, rt.alloc(), &mut client, &CLIENT);
+    drop(client);
 }
 
 #[test]
 fn a_client_completes_an_update_at_once(rt: HostRuntime) {
     let mut client = client(&rt, rt.alloc(), 1);
     try_rows(&rt, rt.alloc(), &mut client, &FAST);
+    drop(client);
 }
 
 fn client(rt: &impl Abort, alloc: Global, number: u32) -> ClientNode {
@@ -171,6 +173,7 @@ fn client(rt: &impl Abort, alloc: Global, number: u32) -> ClientNode {
 fn a_master_answers_what_comes(rt: HostRuntime) {
     let mut master = master(&rt, rt.alloc());
     try_rows(&rt, rt.alloc(), &mut master, &MASTER);
+    drop(master);
 }
 
 fn master(rt: &impl Abort, alloc: Global) -> MasterNode {
@@ -186,18 +189,21 @@ fn master(rt: &impl Abort, alloc: Global) -> MasterNode {
 fn a_fresh_master_recovers_and_serves(rt: HostRuntime) {
     let mut master = MasterNode::fresh(rt.alloc(), 1);
     try_rows(&rt, rt.alloc(), &mut master, &RECOVERED);
+    drop(master);
 }
 
 #[test]
 fn a_backup_answers_what_comes(rt: HostRuntime) {
     let mut backup = BackupNode::new(rt.alloc(), 1, 1);
     try_rows(&rt, rt.alloc(), &mut backup, &BACKUP);
+    drop(backup);
 }
 
 #[test]
 fn a_witness_answers_what_comes(rt: HostRuntime) {
     let mut witness = must(&rt, WitnessNode::new(rt.alloc(), 1, 16, 4, 1));
     try_rows(&rt, rt.alloc(), &mut witness, &WITNESS);
+    drop(witness);
 }
 
 fn try_rows<N: Core>(rt: &impl Abort, alloc: Global, node: &mut N, rows: &[(Comes, &[Said])]) {

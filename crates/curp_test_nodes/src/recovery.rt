@@ -102,12 +102,9 @@ const CASES: [Case; 5] = [
 #[test]
 fn says_what_it_should(rt: HostRuntime) {
     for (backups, hi, rows) in CASES {
-        try_rows(
-            &rt,
-            rt.alloc(),
-            &mut begin(&rt, rt.alloc(), backups, hi),
-            rows,
-        );
+        let mut recovery = begin(&rt, rt.alloc(), backups, hi);
+        try_rows(&rt, rt.alloc(), &mut recovery, rows);
+        drop(recovery);
     }
 }
 
@@ -128,6 +125,7 @@ fn try_rows(
 fn replays_behind_the_log(rt: HostRuntime) {
     let log = replayed(&rt, rt.alloc());
     let numbers = numbers(&rt, rt.alloc(), &log);
+    drop(log);
     assert_eq!(rt; numbers.as_slice(), [7, 1, 3, 2].as_slice());
 }
 
@@ -176,7 +174,10 @@ fn after_puts(rt: &impl Abort, alloc: Global, count: u32) -> Vec<Said> {
     let log = log_of(2, many_puts(rt, alloc, count));
     let message = message(NodeId::backup(1), NodeId::master(2), log);
     must(rt, recovery.on_message(&message));
-    give(rt, alloc, &mut recovery, Comes::Frozen(1, &[0]))
+    drop(message);
+    let said = give(rt, alloc, &mut recovery, Comes::Frozen(1, &[0]));
+    drop(recovery);
+    said
 }
 
 fn many_puts(rt: &impl Abort, alloc: Global, count: u32) -> Vec<Entry> {

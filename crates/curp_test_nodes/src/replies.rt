@@ -100,6 +100,7 @@ fn packs_what_is_done(rt: HostRuntime) {
     assert!(rt; part.records.as_slice() == records.as_slice());
     assert_eq!(rt; part.firsts.as_slice(), [(1, 3), (3, 3)].as_slice());
     assert_eq!(rt; part.gone.as_slice(), [3].as_slice());
+    drop(part);
 }
 
 // Clients 1, 3 and 4 have done requests, client 2 has acknowledged the first of its two, and client 9 is expired.
@@ -120,6 +121,7 @@ fn takes_in_a_package(rt: HostRuntime) {
     let part = pack(&rt, &three_clients(&rt, rt.alloc()));
     let mut table = four_clients(&rt, rt.alloc());
     merge(&rt, &mut table, &part, 95);
+    drop(part);
     let rows = [
         (1, 2, Check::Stale { first: 3 }),
         (1, 3, known(2, 95)),
@@ -131,6 +133,7 @@ fn takes_in_a_package(rt: HostRuntime) {
     ];
     try_checks(&rt, &table, &rows);
     assert_eq!(rt; pack(&rt, &table).records.len(), 3);
+    drop(table);
 }
 
 // Each of 64 clients has acknowledged its first hundred requests.
@@ -162,6 +165,7 @@ fn holds_ten_thousand_records(rt: HostRuntime) {
     assert_eq!(rt; part.records.len(), 3600);
     assert_eq!(rt; part.firsts.len(), 64);
     let table = merged(&rt, rt.alloc(), &part);
+    drop(part);
     let done = Check::Known {
         answer: Answer::Done,
         index: 7,
@@ -171,4 +175,5 @@ fn holds_ten_thousand_records(rt: HostRuntime) {
         assert!(rt; table.check(&id(client, 101)) == done);
         assert!(rt; table.check(&id(client, 158)) == Check::New);
     }
+    drop(table);
 }

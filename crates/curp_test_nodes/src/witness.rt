@@ -68,6 +68,7 @@ fn answers_each_call(rt: HostRuntime) {
     try_hold(&rt, &mut witness, 2, &held, frozen);
     assert!(rt; witness.mode() == Mode::Frozen);
     assert!(rt; witness.holds(&held.id));
+    drop(witness);
 }
 
 // What a witness with one slot answers that was started at epoch 2.
@@ -130,6 +131,7 @@ fn holds_as_many_requests_as_it_has_slots(rt: HostRuntime) {
     let frozen = must(&rt, witness.freeze());
     assert_eq!(rt; frozen.len(), 1024 * 16);
     assert!(rt; in_hash_order(&frozen));
+    drop(witness);
 }
 
 // The least hashes are those of "a", "c" and "b", in this order, as the authors of FNV published them.
@@ -196,4 +198,5 @@ fn drops_what_is_listed_and_tells_suspects(rt: HostRuntime) {
     assert_eq!(rt; must(&rt, witness.freeze()).len(), 2);
     try_gc(&rt, &mut witness, &[b.id], &[]);
     assert!(rt; witness.holds(&b.id));
+    drop(witness);
 }

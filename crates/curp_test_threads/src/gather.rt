@@ -40,13 +40,17 @@ fn begun<N: Core + Drop>(alloc: Global, id: NodeId, mut nodes: Vec<N>) -> Result
 fn clients(alloc: Global) -> Result<Vec<ClientNode>, Fail> {
     let header = smallest();
     let manager = curp_opening::manager(alloc, &header)?;
-    Ok(curp_opening::clients(alloc, &header, manager.config())?)
+    let clients = curp_opening::clients(alloc, &header, manager.config());
+    drop(manager);
+    Ok(clients?)
 }
 
 fn masters(alloc: Global) -> Result<Vec<MasterNode>, Fail> {
     let header = smallest();
     let manager = curp_opening::manager(alloc, &header)?;
-    Ok(curp_opening::masters(alloc, &header, manager.config())?)
+    let masters = curp_opening::masters(alloc, &header, manager.config());
+    drop(manager);
+    Ok(masters?)
 }
 
 fn invoke(client: &mut Kept<ClientNode>, value: u8) -> Result<(), Fail>
@@ -158,7 +162,9 @@ fn mismatch_of(alloc: Global, taken: &Journals) -> Result<Told, Fail> {
     let Some(journals) = anew_at_opening(alloc, &header, taken)? else {
         return Err(Fail::new("the journals aren't those of nodes"));
     };
-    mismatch_in(alloc, &header, &journals)
+    let told = mismatch_in(alloc, &header, &journals);
+    drop(journals);
+    told
 }
 
 // The mismatch that gathering tells.
@@ -181,11 +187,16 @@ fn mismatch_in(alloc: Global, header: &Header, journals: &Journals) -> Result<To
 // The mismatch, where client 1 put one value and its master took this update.
 fn told_of(alloc: Global, client: Kept<ClientNode>, update: &Named) -> Result<Told, Fail> {
     let taken = with_update(alloc, client, update)?;
-    mismatch_of(alloc, &taken)
+    let told = mismatch_of(alloc, &taken);
+    drop(taken);
+    told
 }
 
 fn other_update(alloc: Global) -> Result<Named, Fail> {
-    update_of(&putting(alloc, 0x32)?)
+    let client = putting(alloc, 0x32)?;
+    let update = update_of(&client);
+    drop(client);
+    update
 }
 
 // Whether a mismatch is at the master's first step, with these two updates.
@@ -205,19 +216,25 @@ fn tells(
     kept_update: &Named,
 ) -> Result<bool, Fail> {
     let told = told_of(alloc, client, update)?;
-    Ok(is_of(&told, update, kept_update))
+    let is_of = is_of(&told, update, kept_update);
+    drop(told);
+    Ok(is_of)
 }
 
 // Whether the mismatch tells this update, and the one that the client sent.
 fn is_told(alloc: Global, update: &Named) -> Result<bool, Fail> {
     let client = putting(alloc, 0x31)?;
     let kept_update = update_of(&client)?;
-    tells(alloc, client, update, &kept_update)
+    let tells = tells(alloc, client, update, &kept_update);
+    drop(kept_update);
+    tells
 }
 
 #[test]
 fn a_changed_value_is_told_with_the_kept_one(rt: HostRuntime) -> Result<(), Fail> {
     let update = other_update(rt.alloc())?;
-    assert!(rt; is_told(rt.alloc(), &update)?);
+    let is_told = is_told(rt.alloc(), &update);
+    drop(update);
+    assert!(rt; is_told?);
     Ok(())
 }

@@ -38,7 +38,9 @@ fn copied(alloc: Global) -> Result<Item, NoMemory> {
         input: came(),
         done: Done::sends(sent),
     };
-    item.copy(alloc)
+    let copy = item.copy(alloc);
+    drop(item);
+    copy
 }
 
 #[test]
@@ -47,16 +49,22 @@ fn items_are_copied(rt: HostRuntime) -> Result<(), Fail> {
     assert!(rt; copy.stamp == 8);
     assert!(rt; copy.input.stamp() == 7);
     assert!(rt; copy.done.sent.len() == 1);
+    drop(copy);
     Ok(())
 }
 
 fn gives_fetch(alloc: Global, came: &Arrived) -> Result<bool, NoMemory> {
-    Ok(is_fetch(&came.given(alloc)?))
+    let input = came.given(alloc)?;
+    let is_fetch = is_fetch(&input);
+    drop(input);
+    Ok(is_fetch)
 }
 
 fn message_is_given(alloc: Global) -> Result<bool, NoMemory> {
     let came = came();
-    gives_fetch(alloc, &came)
+    let gives_fetch = gives_fetch(alloc, &came);
+    drop(came);
+    gives_fetch
 }
 
 #[test]
@@ -67,12 +75,16 @@ fn a_message_is_given(rt: HostRuntime) -> Result<(), Fail> {
 
 fn gives_sync(alloc: Global, order: &Arrived) -> Result<bool, NoMemory> {
     let input = order.given(alloc)?;
-    Ok(matches!(input, Input::Local(Local::Sync)) && order.stamp() == 5)
+    let is_sync = matches!(input, Input::Local(Local::Sync));
+    drop(input);
+    Ok(is_sync && order.stamp() == 5)
 }
 
 fn order_is_given(alloc: Global) -> Result<bool, NoMemory> {
     let order = Arrived::Local(Local::Sync, 5);
-    gives_sync(alloc, &order)
+    let gives_sync = gives_sync(alloc, &order);
+    drop(order);
+    gives_sync
 }
 
 #[test]

@@ -83,7 +83,9 @@ fn has_numbers(alloc: Global, maker: &mut Maker, count: u32) -> Result<bool, NoM
 fn default_has_numbers(alloc: Global) -> Result<bool, NoMemory> {
     let plan = MakePlan::default();
     let mut maker = Maker::new(alloc, &plan)?;
-    has_numbers(alloc, &mut maker, plan.steps)
+    let has_numbers = has_numbers(alloc, &mut maker, plan.steps);
+    drop(maker);
+    has_numbers
 }
 
 #[test]

@@ -58,11 +58,17 @@ fn append(alloc: Global, put_in: Value, taken: Value) -> Result<Message, Fail> {
 
 // Whether it is the same as the one with these values.
 fn is_with(alloc: Global, message: &Message, put_in: Value, taken: Value) -> Result<bool, Fail> {
-    Ok(message.same(&append(alloc, put_in, taken)?))
+    let other = append(alloc, put_in, taken)?;
+    let is_same = message.same(&other);
+    drop(other);
+    Ok(is_same)
 }
 
 fn is_as_its_copy(alloc: Global, message: &Message) -> Result<bool, NoMemory> {
-    Ok(message.same(&message.copy(alloc)?))
+    let copy = message.copy(alloc)?;
+    let is_same = message.same(&copy);
+    drop(copy);
+    Ok(is_same)
 }
 
 // Whether the message with one value is told from those with another one.
@@ -74,7 +80,9 @@ fn is_told_apart(alloc: Global, message: &Message, one: Value, two: Value) -> Re
 
 fn are_told_apart(alloc: Global, one: Value, two: Value) -> Result<bool, Fail> {
     let message = append(alloc, one, one)?;
-    is_told_apart(alloc, &message, one, two)
+    let is_told_apart = is_told_apart(alloc, &message, one, two);
+    drop(message);
+    is_told_apart
 }
 
 #[test]

@@ -58,7 +58,9 @@ fn steps_of_one<R: Threads + Wait + Sync, G: Gate + Sync>(
     ensures few { IfOk result (λ found. IfSome found (λ steps. length steps.items ≤ step_limit)) }
 {
     let journals = live(rt, alloc, plan, work, gate)?;
-    script_of(alloc, header, &journals)
+    let steps = script_of(alloc, header, &journals);
+    drop(journals);
+    steps
 }
 
 // The steps of the script that journals are. None where they are none, or one that is too long or too heavy.
