@@ -1,5 +1,4 @@
 pub mod Ends
-pub mod Pieces
 pub mod Printing
 pub mod Runs
 pub mod Shown

@@ -1,34 +1,34 @@
 use Rattle.curp_play.proofs.play.play_behind.Goals as goal
 
 pub returns-clause-wrote : goal.returns-clause-wrote
-returns-clause-wrote g c = λ told writes cut. rw c.in_ok-world.ensures.ok at c.play_steps.ensures.wrote told writes cut
+returns-clause-wrote g c = λ told writes cut. rw c.in_ok-world.ensures.ok at c.play_steps-played.ensures.wrote told writes cut
 
 pub returns-clause-front : goal.returns-clause-front
-returns-clause-front g c = λ told writes. rw c.in_ok-world.ensures.ok at c.play_steps.ensures.front told writes
+returns-clause-front g c = λ told writes. rw c.in_ok-world.ensures.ok at c.play_steps-played.ensures.front told writes
 
 pub returns-clause-ends : goal.returns-clause-ends
-returns-clause-ends g c = c.play_steps.ensures.ends
+returns-clause-ends g c = c.play_steps-played.ensures.ends
 
 pub returns-clause-end : goal.returns-clause-end
-returns-clause-end g c = c.play_steps.ensures.end
+returns-clause-end g c = c.play_steps-played.ensures.end
 
 pub returns-clause-tells : goal.returns-clause-tells
-returns-clause-tells g c = c.play_steps.ensures.tells
+returns-clause-tells g c = c.play_steps-played.ensures.tells
 
 pub returns-clause-read_fault : goal.returns-clause-read_fault
-returns-clause-read_fault g c = c.play_steps.ensures.read_fault
+returns-clause-read_fault g c = c.play_steps-played.ensures.read_fault
 
 pub returns-clause-no_read_fault : goal.returns-clause-no_read_fault
-returns-clause-no_read_fault g c = c.play_steps.ensures.no_read_fault
+returns-clause-no_read_fault g c = c.play_steps-played.ensures.no_read_fault
 
 pub returns-clause-write_fault : goal.returns-clause-write_fault
-returns-clause-write_fault g c = c.play_steps.ensures.write_fault
+returns-clause-write_fault g c = c.play_steps-played.ensures.write_fault
 
 pub returns-clause-no_write_fault : goal.returns-clause-no_write_fault
-returns-clause-no_write_fault g c = c.play_steps.ensures.no_write_fault
+returns-clause-no_write_fault g c = c.play_steps-played.ensures.no_write_fault
 
 pub returns-clause-never_usage : goal.returns-clause-never_usage
-returns-clause-never_usage g c = c.play_steps.ensures.never_usage
+returns-clause-never_usage g c = c.play_steps-played.ensures.never_usage
 
 pub returns-clause-never_ok : goal.returns-clause-never_ok
-returns-clause-never_ok g c = c.play_steps.ensures.never_ok
+returns-clause-never_ok g c = c.play_steps-played.ensures.never_ok

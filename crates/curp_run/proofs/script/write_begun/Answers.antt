@@ -3,7 +3,7 @@ use Rattle.curp_gen.specs.Making.{header_of, made_steps, steps_from}
 use Rattle.curp_script.specs.Texts.{header_line, lines_text}
 use Rattle.curp_io.specs.Streams.{HoldsPart}
 use Rattle.curp_run.proofs.Ends.{ends_with, of_memory, passed_on}
-use Rattle.curp_run.proofs.Pieces.{both_if_ok, first_of_two, second_of_two}
+use Rattle.curp_play.proofs.Pieces.{both_if_ok, first_of_two, second_of_two}
 use Rattle.curp_run.proofs.Steps.{printed_header}
 use Rattle.curp_run.proofs.script.write_begun.Goals as goal
 
