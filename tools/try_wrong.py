@@ -1,9 +1,9 @@
 #!/usr/bin/env python3
 """Tries the wrong bodies of crates/NAME/wrong, each of which the proof has to refuse.
 
-A wrong body is a file NAME.edit, as those of must-fail that the gate tries: the file that it changes, and lines 'old:' and
-'new:'. They are tried in a copy of the crates, by `rt ci` over the crates that have them, so what the gate has proved isn't
-proved again. Run it on what the gate has passed.
+A wrong body is a file NAME.edit, as those of must-fail that the gate tries: the file that it changes, and lines 'old:'
+and 'new:'. They are tried in a copy of the crates, by `rt ci` over the crates that have them, so what the gate has proved
+isn't proved again. Run it on what the gate has passed.
 
     tools/try_wrong.py              those of all crates
     tools/try_wrong.py NAME ..      those of these crates
@@ -40,11 +40,18 @@ def copy_with_edits(to, names):
 
 
 def try_all(folder, names):
-    """Runs the prover over the copy, prints what it says of each edit, and returns that: crate, edit, what it came to."""
+    """Runs the prover over the copy, prints what it says of each edit, and returns: crate, edit, what it came to."""
     # `rt` takes names of crates only where it isn't the merge's run
     env = {key: value for key, value in os.environ.items() if key != "CI"}
     ran = subprocess.Popen(
-        ["rt", "ci", *names], cwd=folder, env=env, stdin=subprocess.DEVNULL, stdout=subprocess.PIPE, stderr=subprocess.STDOUT, text=True, errors="replace"
+        ["rt", "ci", *names],
+        cwd=folder,
+        env=env,
+        stdin=subprocess.DEVNULL,
+        stdout=subprocess.PIPE,
+        stderr=subprocess.STDOUT,
+        text=True,
+        errors="replace",
     )
     found = []
     for line in ran.stdout:

@@ -45,8 +45,10 @@ pub(crate) fn both_anew<N: Core + Drop, M: Core + Drop>(
 ) -> Result<Option<(Vec<Kept<N>>, Vec<Kept<M>>)>, NoMemory>
     requires first { length first.1.items + 1 < 2 ^ 32 }
     requires second { length second.1.items + 1 < 2 ^ 32 }
-    ensures first { IfOk result (λ made. IfSome made (λ logs. AreAnew first.entry.0 first.entry.1.items logs.0.items)) }
-    ensures second { IfOk result (λ made. IfSome made (λ logs. AreAnew second.entry.0 second.entry.1.items logs.1.items)) }
+    ensures first { IfOk result
+        (λ made. IfSome made (λ logs. AreAnew first.entry.0 first.entry.1.items logs.0.items)) }
+    ensures second { IfOk result
+        (λ made. IfSome made (λ logs. AreAnew second.entry.0 second.entry.1.items logs.1.items)) }
 {
     let Some(one) = all_anew(alloc, first.0, first.1, first.2)? else {
         return Ok(None);
