@@ -1,4 +1,6 @@
-ghost use Rattle.std.specs.Prelude.{◌≡◌, ◌≢◌, true};
+ghost use Rattle.std.specs.Prelude.{◌≡◌, ◌≢◌, ◌∷◌, [], true, IfOk};
+ghost use Rattle.curp_cmd.specs.Entry.{room_of};
+ghost use Rattle.curp_cmd.specs.declared.entry.Entry.TheVariants.{Op};
 ghost use Rattle.curp_model.specs.declared.Check.TheVariants.{New};
 ghost use Rattle.curp_model.specs.Master as master;
 ghost use Rattle.curp_model.specs.Master.{carries_out, executes, holds_back, is_clean, known_at, on_update};
@@ -7,17 +9,19 @@ ghost use Rattle.curp_model.specs.Table.{check};
 ghost use Rattle.curp_msg.specs.Moved.{Moves};
 ghost use Rattle.curp_master.specs.Built.{move_of};
 ghost use Rattle.curp_master.specs.Journal.{CanPush};
+ghost use Rattle.curp_master.specs.Rounds.{IsNextRound};
 ghost use Rattle.curp_master.specs.Updates.{new_verdict, pushes_held};
 ghost use Rattle.curp_rounds.specs.Verdicts.{verdict_of, wish_of};
 
-use crate::Master;
 use crate::journal::op_of;
 use crate::replies::reply_room;
+use crate::{Master, Round};
 use curp_base::NoMemory;
 use curp_cmd::{Answer, Request, room};
 use curp_model::Check;
 use curp_msg::{Ask, Done, Refusal};
 use curp_rounds::{Verdict, Wish, messages};
+use std::slice::from_ref;
 
 impl Master {
     #[tactic(auto, unfolding(curp_model::specs::Master::on_update))]
@@ -125,7 +129,7 @@ impl Master {
     {
         // All room is taken before anything changes.
         self.queue.reserve(1)?;
-        self.journal.reserve(room(&op_of(request)))?;
+        self.journal.reserve(op_room(request))?;
         let unanswered = self.reply_to(self.version, false, request.id, &Answer::Done);
         let (mut reply, mut sent) = reply_room(self.alloc, unanswered)?;
         let answer = self.journal.push_op(request, true);
@@ -143,8 +147,8 @@ impl Master {
     {
         self.held.reserve(1)?;
         self.queue.reserve(1)?;
-        self.journal.reserve(room(&op_of(request)))?;
-        let Some(round) = self.next_round(&[op_of(request)])? else {
+        self.journal.reserve(op_room(request))?;
+        let Some(round) = self.round_with_op(request)? else {
             return Ok(Done::quiet(self.alloc));
         };
         let index = self.journal.log().len();
@@ -153,6 +157,16 @@ impl Master {
         self.held.insert(index);
         self.round = round.number;
         Ok(Done::sends(round.appends))
+    }
+
+    // The next round, with the request behind the log.
+    fn round_with_op(&self, request: &Request) -> Result<Option<Round>, NoMemory>
+        ensures { IfOk result (λ round. IsNextRound self.now (Op request.now request.now.first ∷ []) round) }
+    {
+        let entry = op_of(request);
+        let round = self.next_round(from_ref(&entry));
+        drop(entry);
+        round
     }
 
     // What stands in the log already waits for its synced reply, and a round begins.
@@ -168,4 +182,14 @@ impl Master {
         self.round = round.number;
         Ok(Done::sends(round.appends))
     }
+}
+
+// What an Op of the request takes of a log's room.
+fn op_room(request: &Request) -> u64
+    ensures { result ≡ room_of (Op request.now request.now.first) }
+{
+    let entry = op_of(request);
+    let units = room(&entry);
+    drop(entry);
+    units
 }
