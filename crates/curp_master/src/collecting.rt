@@ -1,5 +1,4 @@
-ghost use Rattle.std.specs.Prelude.{◌≡◌, true};
-ghost use Rattle.curp_model.specs.Master.{collect_in, collects, is_due};
+ghost use Rattle.curp_model.specs.Master.{collect_in};
 ghost use Rattle.curp_msg.specs.Moved.{Moves, numbered_move};
 
 use crate::Master;

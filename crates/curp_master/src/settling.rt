@@ -1,8 +1,6 @@
-ghost use Rattle.std.specs.Prelude.{◌≡◌, ◌≤◌, ◌++◌, ◌&&◌, not, flat_map, map, filter, length, slice_get, IfOk, OnOk};
-ghost use Rattle.curp_model.specs.Master.{all_have, between, moved_entry, on_appended, on_stored};
-ghost use Rattle.curp_model.specs.Master.{settle, synced_replies, synced_reply, value_of};
+ghost use Rattle.std.specs.Prelude.{◌≡◌, ◌++◌, length, slice_get, IfOk, OnOk};
+ghost use Rattle.curp_model.specs.Master.{between, on_appended, on_stored, settle, synced_replies, synced_reply};
 ghost use Rattle.curp_msg.specs.Moved.{Moves};
-ghost use Rattle.curp_rounds.specs.Backups.{stored_by_all};
 ghost use Rattle.curp_master.specs.Built.{move_of};
 ghost use Rattle.curp_master.specs.Settling.{acknowledging, listing, prepares_in};
 

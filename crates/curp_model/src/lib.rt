@@ -20,7 +20,7 @@ pub enum Check {
 }
 
 /// What a witness does with a request.
-#[derive(Clone, Copy, PartialEq, Eq)]
+#[derive(Clone, Copy, PartialEq, Eq, Debug)]
 pub enum Mode {
     /// It wasn't started.
     Idle,

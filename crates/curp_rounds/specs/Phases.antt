@@ -27,4 +27,5 @@ told_version (master.Switching s) = if s.prepared then Some s.version else None
 -- the version of the next list, if each of its backups has a log of that length and the manager wasn't told so
 abbrev pub ready_version : ℕ → List Acknowledged → master.Phase → Option ℕ
 ready_version long all master.Open = None
-ready_version long all (master.Switching s) = if not s.prepared && all_have all s.backups long s.round then Some s.version else None
+ready_version long all (master.Switching s) =
+    if not s.prepared && all_have all s.backups long s.round then Some s.version else None

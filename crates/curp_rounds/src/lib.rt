@@ -1,5 +1,5 @@
-//! What a master keeps of its rounds, without its log: what its backups have acknowledged, the reads and the replies that
-//! wait until they all have, the lists that it takes up next, and what it says.
+//! What a master keeps of its rounds, without its log: what its backups have acknowledged, the reads and the replies
+//! that wait until they all have, the lists that it takes up next, and what it says.
 #![tactic(auto)]
 
 pub mod acknowledged;

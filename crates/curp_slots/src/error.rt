@@ -20,7 +20,7 @@ pub enum GcError {
 }
 
 /// A witness isn't started again: it has this mode already.
-#[derive(Clone, Copy, PartialEq, Eq)]
+#[derive(Clone, Copy, PartialEq, Eq, Debug)]
 pub struct NotIdle {
     pub mode: Mode,
 }

@@ -121,7 +121,8 @@ fn push_expected(
     alloc: Global,
     expected: &Option<Value>,
 ) -> Result<(), NoMemory>
-    ensures data { OnOk result (map view parts.new.items ≡ map view parts.old.items ++ expected_data expected.now ∷ []) }
+    ensures data { OnOk result
+        (map view parts.new.items ≡ map view parts.old.items ++ expected_data expected.now ∷ []) }
     ensures reads { OnOk result (expected_in (expected_data expected.now) ≡ Some expected.now) }
 {
     match expected {
