@@ -25,3 +25,13 @@ loop-node-preserved g c =
       made = rw pushed (omega (arith, length_push logs log, length_push c.loop-node.yielded node, made));
       anew = rw pushed (anew_more c.args.kind nodes logs node log (omega (arith, turn.0, made)) here new c.loop-node.invariant.anew);
     }
+
+pub overflow_add-number : goal.overflow_add-number
+overflow_add-number g c =
+    let nodes = c.args.nodes.items in
+    let node = c.in-Some.node in
+    let from = c.into_iter-node-iterator.ensures.into_iter_gives in
+    let long : c.into_iter-node-iterator.result.rest.len ≡ length nodes = search rules in
+    let index : c.len-index.result ≡ length c.loop-node.logs.items = search rules in
+    let turn : (length c.loop-node.yielded < length nodes) × (node ≡ get_or nodes (length c.loop-node.yielded) node) = YieldsList-turn (YieldsList-from_vec nodes from.0 long) c.loop-node.yielded c.loop-node.node-iterator c.loop-node.yielded_by c.next.result c.next.new.self node c.in-Some.is c.next.ensures.steps in
+    omega (arith, turn.0, c.loop-node.invariant.made, c.requires, index)
