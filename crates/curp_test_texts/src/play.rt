@@ -71,6 +71,13 @@ fn orders_all(alloc: Global, text: &str, key: &str, value: &str) -> Result<bool,
     Ok(text.contains(first.as_str()) && text.ends_with(last.as_str()))
 }
 
+// Whether the text has a line for each step, message, completion and request, and one for the order; and no refusal.
+fn has_every_line(text: &str) -> bool {
+    text.lines().count() == 843 + 778 + 64 + 1 + 64
+        && count(text, "c ") == 64
+        && !text.contains("refused")
+}
+
 #[test]
 fn all_messages_of_64_clients_are_delivered(rt: HostRuntime) -> Result<(), Fail> {
     let key = "61".repeat(rt.alloc(), 31)?;
@@ -78,11 +85,8 @@ fn all_messages_of_64_clients_are_delivered(rt: HostRuntime) -> Result<(), Fail>
     let script = puts_of_64_clients(rt.alloc(), &key, &value)?;
     let (status, sink) = played(rt.alloc(), &script)?;
     assert!(rt; status == Status::Ok && sink.is_flushed());
-    let text = text_of(&sink);
-    assert!(rt; orders_all(rt.alloc(), text, &key, &value)?);
-    assert!(rt; text.lines().count() == 843 + 778 + 64 + 1 + 64);
-    assert!(rt; count(text, "c ") == 64);
-    assert!(rt; !text.contains("refused"));
+    assert!(rt; orders_all(rt.alloc(), text_of(&sink), &key, &value)?);
+    assert!(rt; has_every_line(text_of(&sink)));
     Ok(())
 }
 
@@ -145,23 +149,36 @@ fn a_heavy_world_takes_stops_alone(rt: HostRuntime) -> Result<(), Fail> {
     Ok(())
 }
 
+// Whether the header alone ends so, and leaves these bytes, where the read and the write of these numbers fail.
+fn ends_with(
+    alloc: Global,
+    read: u64,
+    write: u64,
+    ended: &Status,
+    wrote: &[u8],
+) -> Result<bool, NoMemory> {
+    let (status, sink) = played_with_faults(alloc, HEADER, &[read], &[write])?;
+    let is_flushed = wrote.is_empty() || *ended == Status::Ok;
+    Ok(status == *ended && sink.bytes() == wrote && sink.is_flushed() == is_flushed)
+}
+
 // The header is read in one piece; its end is looked for, and then a step. The order is written in one piece and then
 // flushed.
 #[test]
 fn each_failing_call_is_a_fault(rt: HostRuntime) -> Result<(), Fail> {
     let text = b"order 0\n".as_slice();
-    for (reads, writes, ended, wrote) in [
-        ([1], [9], Status::ReadFault, b"".as_slice()),
-        ([2], [9], Status::ReadFault, b"".as_slice()),
-        ([3], [9], Status::ReadFault, b"".as_slice()),
-        ([9], [1], Status::WriteFault, b"".as_slice()),
-        ([9], [2], Status::WriteFault, text),
-        ([4], [3], Status::Ok, text),
+    for (read, write, ended, wrote) in [
+        (1, 9, Status::ReadFault, b"".as_slice()),
+        (2, 9, Status::ReadFault, b"".as_slice()),
+        (3, 9, Status::ReadFault, b"".as_slice()),
+        (9, 1, Status::WriteFault, b"".as_slice()),
+        (9, 2, Status::WriteFault, text),
+        (4, 3, Status::Ok, text),
     ] {
-        let (status, sink) = played_with_faults(rt.alloc(), HEADER, &reads, &writes)?;
-        assert!(rt; status == ended);
-        assert!(rt; sink.bytes() == wrote);
-        assert!(rt; sink.is_flushed() == (wrote.is_empty() || ended == Status::Ok));
+        assert!(rt;
+            ends_with(rt.alloc(), read, write, &ended, wrote)?,
+            "read {read}, write {write}"
+        );
     }
     Ok(())
 }
