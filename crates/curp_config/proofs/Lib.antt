@@ -3,9 +3,6 @@ pub mod Ends
 pub mod Entries
 pub mod Listed
 pub mod Movable
-pub mod Opened
 pub mod Ordered
-pub mod SpansMoved
-pub mod Spread
 pub mod Steps
 pub mod Told

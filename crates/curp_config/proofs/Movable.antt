@@ -6,7 +6,7 @@ use Rattle.std.proofs.lemmas.Bool.Decides.{nat_tests}
 use Rattle.curp_msg.specs.declared.config.PartConfig.{PartConfig}
 use Rattle.curp_model.specs.Manager as model
 use Rattle.curp_model.specs.Ranges.{Range, range_of, range_or_all}
-use Rattle.curp_config.proofs.Opened.{one_range}
+use Rattle.curp_changes.proofs.Opened.{one_range}
 
 there : (lo hi : ℕ) → nat_le lo hi ≡ true → is_some (range_of lo hi) ≡ true
 there lo hi t = grind (arith, nat_tests)

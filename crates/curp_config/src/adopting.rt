@@ -6,10 +6,10 @@ ghost use Rattle.curp_model.specs.Manager as model;
 ghost use Rattle.curp_msg.specs.Moved.{Moves, done_of};
 
 use crate::Manager;
-use crate::messages::{adopted_message, one};
-use crate::names::put_numbered;
-use crate::work::Work;
 use curp_base::{Items, NoMemory};
+use curp_changes::Work;
+use curp_changes::messages::{adopted_message, one};
+use curp_changes::names::put_numbered;
 use curp_msg::{Done, PartConfig};
 use std::alloc::Global;
 use std::mem;

@@ -7,9 +7,9 @@ ghost use Rattle.curp_model.specs.Manager as model;
 ghost use Rattle.curp_msg.specs.declared.machine.Local.TheVariants as local;
 ghost use Rattle.curp_msg.specs.Moved.{Moves};
 
-use crate::messages::expire_messages;
 use crate::{ExpireError, Manager};
 use curp_base::NoMemory;
+use curp_changes::messages::expire_messages;
 use curp_msg::{Done, Message};
 use std::collections::BTreeSet;
 

@@ -7,14 +7,10 @@ ghost use Rattle.curp_model.specs.Manager as model;
 ghost use Rattle.curp_msg.specs.declared.machine.Local.TheVariants as local;
 ghost use Rattle.curp_msg.specs.Moved.{Moves, done_of};
 
-use crate::Shape;
-use crate::messages::{one, says};
-use crate::migration::Migration;
-use crate::names::{numbered, put_numbered};
-use crate::next::Next;
-use crate::opening::{opening_config, opening_work};
-use crate::work::Work;
 use curp_base::NoMemory;
+use curp_changes::messages::{one, says};
+use curp_changes::names::{numbered, put_numbered};
+use curp_changes::{Migration, Next, Shape, Work, opening_config, opening_work};
 use curp_cmd::{Keeper, NodeId};
 use curp_msg::{Body, Config, Done, Local, Message, PartConfig};
 use std::alloc::{AllocError, Global};

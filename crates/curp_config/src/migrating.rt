@@ -2,17 +2,16 @@
 ghost use Rattle.std.specs.Prelude.{◌≡◌, ◌≤◌, OnOk, IfOk, IfErr, Ok, Err};
 ghost use Rattle.std.specs.Option.{option_copied};
 ghost use Rattle.curp_config.specs.Refusals.{NamesMigration, TellsMigrate, migrate_number};
-ghost use Rattle.curp_config.specs.Work.{AreNext, IsMove, after_migrate};
+ghost use Rattle.curp_changes.specs.Work.{AreNext, after_migrate};
+ghost use Rattle.curp_config.specs.Work.{IsMove};
 ghost use Rattle.curp_model.specs.Manager as model;
 ghost use Rattle.curp_msg.specs.declared.machine.Local.TheVariants as local;
 ghost use Rattle.curp_msg.specs.Moved.{Moves};
 
-use crate::messages::{give_message, one, take_message};
-use crate::migration::Migration;
-use crate::moved::moved_parts;
-use crate::next::Next;
 use crate::{Manager, MigrateError};
 use curp_base::NoMemory;
+use curp_changes::messages::{give_message, one, take_message};
+use curp_changes::{Migration, Next, moved_parts};
 use curp_msg::{Config, Done, Parcel, PartConfig};
 
 impl Manager {

@@ -7,12 +7,11 @@ ghost use Rattle.curp_msg.specs.declared.machine.Local.TheVariants as local;
 ghost use Rattle.curp_msg.specs.Moved.{Moves};
 
 use crate::Manager;
-use crate::messages::{
+use curp_base::NoMemory;
+use curp_changes::messages::{
     adopted_message, give_message, recover_messages, replace_messages, start_on, take_message,
 };
-use crate::migration::Migration;
-use crate::work::{Doing, Work};
-use curp_base::NoMemory;
+use curp_changes::{Doing, Migration, Work};
 use curp_cmd::Package;
 use curp_msg::{Done, Message, PartConfig};
 use std::alloc::Global;

@@ -4,19 +4,18 @@ ghost use Rattle.std.specs.Option.{option_copied, option_map};
 ghost use Rattle.curp_base.specs.Words.{numbered};
 ghost use Rattle.curp_config.specs.Parts.{IsNumbered};
 ghost use Rattle.curp_config.specs.Refusals.{NamesPlaces, TellsRecover, recover_number};
-ghost use Rattle.curp_config.specs.Work.{AreNext, attempted};
+ghost use Rattle.curp_changes.specs.Work.{AreNext};
+ghost use Rattle.curp_config.specs.Work.{attempted};
 ghost use Rattle.curp_cmd.specs.Node.{master_node};
 ghost use Rattle.curp_model.specs.Manager as model;
 ghost use Rattle.curp_msg.specs.declared.machine.Local.TheVariants as local;
 ghost use Rattle.curp_msg.specs.Moved.{Moves};
 
-use crate::messages::recover_messages;
-use crate::names::{backup_names, numbered, witness_names};
-use crate::next::Next;
-use crate::opening::opening_hashes;
-use crate::work::{Attempt, Doing, Work};
 use crate::{Manager, RecoverError};
 use curp_base::{Boxed, Items, NoMemory};
+use curp_changes::messages::recover_messages;
+use curp_changes::names::{backup_names, numbered, witness_names};
+use curp_changes::{Attempt, Doing, Next, Work, opening_hashes};
 use curp_cmd::NodeId;
 use curp_msg::{Body, Done, Message, PartConfig, Recover, Recovered};
 

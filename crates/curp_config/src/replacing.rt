@@ -4,17 +4,17 @@ ghost use Rattle.std.specs.Option.{option_copied, option_map};
 ghost use Rattle.curp_base.specs.Words.{numbered};
 ghost use Rattle.curp_config.specs.Parts.{IsNumbered, prepared_part};
 ghost use Rattle.curp_config.specs.Refusals.{NamesWork, TellsReplace, replace_number};
-ghost use Rattle.curp_config.specs.Work.{AreNext, in_work, lists_of};
+ghost use Rattle.curp_changes.specs.Work.{AreNext};
+ghost use Rattle.curp_config.specs.Work.{in_work, lists_of};
 ghost use Rattle.curp_model.specs.Manager as model;
 ghost use Rattle.curp_msg.specs.declared.machine.Local.TheVariants as local;
 ghost use Rattle.curp_msg.specs.Moved.{Moves};
 
-use crate::messages::replace_messages;
-use crate::names::{numbered, put_numbered};
-use crate::next::Next;
-use crate::work::{Doing, Replacement, Work};
 use crate::{Manager, ReplaceError};
 use curp_base::{Items, NoMemory};
+use curp_changes::messages::replace_messages;
+use curp_changes::names::{numbered, put_numbered};
+use curp_changes::{Doing, Next, Replacement, Work};
 use curp_cmd::{Keeper, NodeId};
 use curp_msg::{Done, PartConfig};
 

@@ -3,8 +3,9 @@ ghost use Rattle.std.specs.Option.{option_map};
 ghost use Rattle.curp_model.specs.Manager.{adopted_by, opening_manager};
 
 use curp_base::NoMemory;
+use curp_changes::Shape;
 use curp_cmd::NodeId;
-use curp_config::{Manager, Shape};
+use curp_config::Manager;
 use curp_msg::{Config, Core, Done, Local, Message, Recover};
 use std::alloc::Global;
 use std::marker::Model;

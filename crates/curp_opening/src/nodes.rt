@@ -9,7 +9,7 @@ ghost use Rattle.curp_model.specs.World.{opening_master, shape_of};
 ghost use Rattle.curp_opening.specs.Nodes.{HasNumbers, begins, states};
 
 use curp_base::NoMemory;
-use curp_config::{Shape, opening_hashes};
+use curp_changes::{Shape, opening_hashes};
 use curp_inv::{BackupNode, ClientNode, ManagerNode, MasterNode, WitnessNode};
 use curp_msg::{Config, Header, PartConfig};
 use curp_slots::ShapeError;

@@ -2,8 +2,9 @@
 
 use crate::build::{boxed, message, must};
 use curp_base::AscendingPairs;
+use curp_changes::Shape;
 use curp_cmd::{Keeper, NodeId, Package, TablePart};
-use curp_config::{ExpireError, Manager, MigrateError, RecoverError, ReplaceError, Shape};
+use curp_config::{ExpireError, Manager, MigrateError, RecoverError, ReplaceError};
 use curp_msg::{Body, Done, Message, Parcel, Recovered};
 use std::alloc::Global;
 use std::process::Abort;

@@ -1,0 +1,4 @@
+pub mod Listed
+pub mod Opened
+pub mod SpansMoved
+pub mod Spread

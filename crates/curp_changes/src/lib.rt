@@ -1,0 +1,19 @@
+//! What the configuration manager changes, without its state: the configuration at opening, the numbers and names that
+//! are given once, recoveries, replacements and migrations in work, and what is sent for them.
+#![tactic(auto)]
+
+pub mod messages;
+mod migration;
+mod moved;
+pub mod names;
+mod next;
+mod opening;
+mod shape;
+mod work;
+
+pub use migration::Migration;
+pub use moved::moved_parts;
+pub use next::Next;
+pub use opening::{opening_config, opening_hashes, opening_work};
+pub use shape::Shape;
+pub use work::{Attempt, Doing, Replacement, Work};
