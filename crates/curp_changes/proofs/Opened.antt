@@ -5,7 +5,6 @@ use mathlib.Core.HLevel.{is_prop→PathP}
 use Rattle.std.proofs.lemmas.Bool.Decides.{nat_tests}
 use Rattle.std.proofs.lemmas.Nat.{div_below, le-div}
 use Rattle.std.proofs.Math.Bridge.{le_prop}
-use Rattle.curp_msg.specs.declared.body.Recover.{Recover}
 use Rattle.curp_model.specs.Ranges.{Range, opening_hi, opening_lo, opening_range, range_of, range_or_all}
 
 range_lo : (lo hi : ℕ) → nat_le lo hi ≡ true → (range_or_all (range_of lo hi)).lo ≡ lo
@@ -49,22 +48,6 @@ module _ (n p : ℕ) (one : 1 ≤ p) (last : p ≤ n) (fits : n < 2 ^ 32) where
 -- a range has one proof of its order
 pub one_range : (a b : Range) → a.lo ≡ b.lo → a.hi ≡ b.hi → a ≡ b
 one_range a b lo hi = λ i. record { lo = lo i; hi = hi i; ordered = is_prop→PathP (λ j. lo j ≤ hi j) (λ j. le_prop) a.ordered b.ordered i }
-
--- an order to recover a partition has one proof of its range's order
-pub one_order : (a b : Recover) → a.part ≡ b.part → a.epoch ≡ b.epoch → a.version ≡ b.version → a.backup ≡ b.backup → a.witness ≡ b.witness
-    → a.backups ≡ b.backups → a.witnesses ≡ b.witnesses → a.lo ≡ b.lo → a.hi ≡ b.hi → a ≡ b
-one_order a b part epoch version backup witness backups witnesses lo hi = λ i. record {
-  part = part i;
-  epoch = epoch i;
-  version = version i;
-  backup = backup i;
-  witness = witness i;
-  backups = backups i;
-  witnesses = witnesses i;
-  lo = lo i;
-  hi = hi i;
-  ordered = is_prop→PathP (λ j. lo j ≤ hi j) (λ j. le_prop) a.ordered b.ordered i;
-}
 
 -- the ends of the ranges at opening
 pub ruleset opening_ends = (not_empty, lo_fits, hi_fits, opening_lo_is, opening_hi_is)
