@@ -1,17 +1,19 @@
-ghost use Rattle.std.specs.Prelude.{◌≡◌, length, map, IfOk, IfSome, IsTrue};
+ghost use Rattle.std.specs.Prelude.{◌≡◌, ◌+◌, ◌<◌, ◌^◌, length, map, IfOk, IfSome, IsTrue};
 ghost use Rattle.curp_facts.specs.Run.{IsHeader};
 ghost use Rattle.curp_gather.specs.Journals.{AreOf};
 ghost use Rattle.curp_live.specs.Live.{IsLiveRun, live_header};
-ghost use Rattle.curp_live.specs.Opening.{AreAllAnew};
+ghost use Rattle.curp_live.specs.Opening.{AreAllAnew, AreAnew};
 ghost use Rattle.curp_words.specs.Plan.{IsLivePlan};
 
-use crate::anew::{anew, both_anew};
+use crate::anew::{OfKind, anew, both_anew};
 use crate::nodes::Nodes;
 use crate::work::{did_all, recovery_count};
 use curp_base::NoMemory;
 use curp_cmd::{Command, NodeId, NodeKind};
 use curp_gather::Journals;
+use curp_inv::{BackupNode, ClientNode, MasterNode, WitnessNode};
 use curp_msg::{Header, Protocol};
+use curp_seat::Kept;
 use curp_words::LivePlan;
 use std::alloc::Global;
 
@@ -82,18 +84,16 @@ fn all_as_at_opening(
     };
     let clients = (NodeKind::Client, nodes.clients, taken.clients.as_slice());
     let masters = (NodeKind::Master, nodes.masters, taken.masters.as_slice());
-    let Some((clients, masters)) = both_anew(alloc, clients, masters)? else {
-        return Ok(None);
-    };
     let backups = (NodeKind::Backup, nodes.backups, taken.backups.as_slice());
     let witnesses = (
         NodeKind::Witness,
         nodes.witnesses,
         taken.witnesses.as_slice(),
     );
-    let Some((backups, witnesses)) = both_anew(alloc, backups, witnesses)? else {
+    let Some(others) = others_anew(alloc, clients, masters, backups, witnesses)? else {
         return Ok(None);
     };
+    let ((clients, masters), (backups, witnesses)) = others;
     Ok(Some(Journals {
         manager,
         clients,
@@ -101,4 +101,40 @@ fn all_as_at_opening(
         backups,
         witnesses,
     }))
+}
+
+// The journals of a world's nodes but the manager: of clients and masters, and of backups and witnesses.
+type Others = (
+    (Vec<Kept<ClientNode>>, Vec<Kept<MasterNode>>),
+    (Vec<Kept<BackupNode>>, Vec<Kept<WitnessNode>>),
+);
+
+// The same journals of all nodes but the manager. None where one isn't that of a node.
+fn others_anew(
+    alloc: Global,
+    clients: OfKind<ClientNode>,
+    masters: OfKind<MasterNode>,
+    backups: OfKind<BackupNode>,
+    witnesses: OfKind<WitnessNode>,
+) -> Result<Option<Others>, NoMemory>
+    requires few_clients { length clients.1.items + 1 < 2 ^ 32 }
+    requires few_masters { length masters.1.items + 1 < 2 ^ 32 }
+    requires few_backups { length backups.1.items + 1 < 2 ^ 32 }
+    requires few_witnesses { length witnesses.1.items + 1 < 2 ^ 32 }
+    ensures clients { IfOk result
+        (λ made. IfSome made (λ logs. AreAnew clients.entry.0 clients.entry.1.items logs.0.0.items)) }
+    ensures masters { IfOk result
+        (λ made. IfSome made (λ logs. AreAnew masters.entry.0 masters.entry.1.items logs.0.1.items)) }
+    ensures backups { IfOk result
+        (λ made. IfSome made (λ logs. AreAnew backups.entry.0 backups.entry.1.items logs.1.0.items)) }
+    ensures witnesses { IfOk result
+        (λ made. IfSome made (λ logs. AreAnew witnesses.entry.0 witnesses.entry.1.items logs.1.1.items)) }
+{
+    let Some(front) = both_anew(alloc, clients, masters)? else {
+        return Ok(None);
+    };
+    let Some(back) = both_anew(alloc, backups, witnesses)? else {
+        return Ok(None);
+    };
+    Ok(Some((front, back)))
 }

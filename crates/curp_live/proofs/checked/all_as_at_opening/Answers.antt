@@ -4,8 +4,8 @@ use Rattle.curp_live.specs.Opening.{IsAnew}
 use Rattle.curp_live.proofs.Counts.{few_nodes}
 use Rattle.curp_live.proofs.checked.all_as_at_opening.Goals as goal
 
-pub both_anew-requires-clause-second : goal.both_anew-requires-clause-second
-both_anew-requires-clause-second c = (few_nodes c.args.header.now c.in_ok-nodes.nodes c.requires c.in_ok-nodes.ensures).masters
+pub others_anew-requires-clause-few_masters : goal.others_anew-requires-clause-few_masters
+others_anew-requires-clause-few_masters c = (few_nodes c.args.header.now c.in_ok-nodes.nodes c.requires c.in_ok-nodes.ensures).masters
 
 pub returns : goal.returns
 returns c =
@@ -14,8 +14,8 @@ returns c =
       nodes = c.in_ok-nodes.nodes;
       opening = c.in_ok-nodes.ensures;
       manager = subst (λ (id : NodeId). IsAnew id c.in_ok-nodes.nodes.manager c.in-Some.manager) c.manager.ensures manager;
-      clients = rw c.in-Some-2.is at c.in_ok-clients.ensures.first;
-      masters = rw c.in-Some-2.is at c.in_ok-clients.ensures.second;
-      backups = rw c.in-Some-3.is at c.in_ok-backups.ensures.first;
-      witnesses = rw c.in-Some-3.is at c.in_ok-backups.ensures.second;
+      clients = rw c.in-Some-2.is at c.in_ok-others.ensures.clients;
+      masters = rw c.in-Some-2.is at c.in_ok-others.ensures.masters;
+      backups = rw c.in-Some-2.is at c.in_ok-others.ensures.backups;
+      witnesses = rw c.in-Some-2.is at c.in_ok-others.ensures.witnesses;
     }
