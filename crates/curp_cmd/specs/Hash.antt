@@ -5,16 +5,23 @@ use Rattle.std.specs.List.{list_any}
 use Rattle.std.specs.Ordering.{nat_cmp}
 use Rattle.curp_cmd.specs.Store.{keys_of}
 use Rattle.curp_cmd.specs.declared.command.Command.{Command}
-use Rattle.curp_cmd.specs.declared.hash.TheConstants.{OFFSET_BASIS, PRIME}
+
+-- where FNV-1a begins, with 64 bits
+abbrev pub offset_basis : ℕ
+offset_basis = 14695981039346656037
+
+-- what FNV-1a multiplies by, with 64 bits
+abbrev pub prime : ℕ
+prime = 1099511628211
 
 -- the hash behind the bytes, where it is h in front of them
 abbrev pub hashed_from : ℕ → List ℕ → ℕ
 hashed_from h [] = h
-hashed_from h (byte ∷ bytes) = hashed_from ((bit_xor h byte * PRIME) % 2 ^ 64) bytes
+hashed_from h (byte ∷ bytes) = hashed_from ((bit_xor h byte * prime) % 2 ^ 64) bytes
 
 -- FNV-1a with 64 bits
 unfoldable pub hash_of : List ℕ → ℕ
-hash_of bytes = hashed_from OFFSET_BASIS bytes
+hash_of bytes = hashed_from offset_basis bytes
 
 -- the hashes of the keys that a command names
 abbrev pub hashes_of : Command → List ℕ

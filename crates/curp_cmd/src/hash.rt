@@ -4,10 +4,10 @@ ghost use Rattle.curp_cmd.specs.Hash.{hash_of, touches, conflicts};
 use crate::{Command, Hashes, Key};
 
 /// Where FNV-1a with 64 bits begins.
-pub const OFFSET_BASIS: u64 = 0xcbf29ce484222325;
+const OFFSET_BASIS: u64 = 0xcbf29ce484222325;
 
 /// What FNV-1a with 64 bits multiplies by at each byte.
-pub const PRIME: u64 = 0x100000001b3;
+const PRIME: u64 = 0x100000001b3;
 
 /// The hash of the bytes: FNV-1a with 64 bits.
 #[tactic(auto, unfolding(crate::specs::Hash::hash_of))]

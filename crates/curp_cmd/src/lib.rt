@@ -16,7 +16,7 @@ mod value;
 
 pub use command::{Answer, Command, Request, RequestId};
 pub use entry::{Entry, pairs_put, room};
-pub use hash::{OFFSET_BASIS, PRIME, bytes_hash, conflict, key_hash, touches};
+pub use hash::{bytes_hash, conflict, key_hash, touches};
 pub use hashes::Hashes;
 pub use key::{Key, KeyError};
 pub use migration::{Package, TablePart};

@@ -6,7 +6,7 @@ use Rattle.curp_cmd.specs.declared.command.Answer.{Answer}
 use Rattle.curp_cmd.specs.declared.command.Request.{Request}
 use Rattle.curp_cmd.specs.declared.command.RequestId.{RequestId}
 use Rattle.curp_cmd.specs.declared.entry.Entry.{Entry}
-use Rattle.curp_cmd.specs.declared.entry.Entry.TheVariants.{Take, Give, Expire}
+use Rattle.curp_cmd.specs.declared.entry.Entry.TheVariants.{Take, Give, Expire, Op}
 use Rattle.curp_cmd.specs.declared.migration.Package.{Package}
 use Rattle.curp_cmd.specs.declared.node.NodeId.{NodeId}
 use Rattle.curp_msg.specs.declared.answer.AppendAnswer.{AppendAnswer}
@@ -342,6 +342,22 @@ pub record LengthAt (w : World) (from : NodeId) (place long : ℕ) : Type 0 wher
   pub most : (k reach : ℕ) → k < place → ReachesTo w from k reach → reach ≤ long
   pub reached : (k : ℕ) × (k < place) × ReachesTo w from k long
 
+-- an op of that id stands below an index
+pub record OpBelow (log : List Entry) (id : RequestId) (long : ℕ) : Type 0 where
+  pub index : ℕ
+  pub request : Request
+  pub acknowledged : ℕ
+  pub stands : At log index (Op request acknowledged)
+  pub its_id : request.id ≡ id
+  pub below : index < long
+
+-- What the master has sent before a place tells of no entry at or past a length: its appends reach no further, and the ops of its
+-- unsynced replies stand below. As each step that pushes sends one of these, all that its log had then stands below
+pub record ToldWithin (w : World) (from : NodeId) (place : ℕ) (log : List Entry) (long : ℕ) : Type 0 where
+  pub within : place ≤ length (messages w)
+  pub appends : (k reach : ℕ) → k < place → ReachesTo w from k reach → reach ≤ long
+  pub replies : (k : ℕ) (r : Reply) → k < place → At (messages w) k (reply_message from r) → r.synced ≡ false → OpBelow log r.id long
+
 -- Every backup of the prepared list has the log as it was when Prepared of that version was first sent, and its master has
 -- pushed no Op, Take or Give since without having taken that list
 pub record PreparedOk (w : World) (from : NodeId) (version : ℕ) : Type 0 where
@@ -393,21 +409,41 @@ ReplyOk w from r false = Speaks w from r.epoch r.version
 
 -- what a message says, by its kind
 abbrev pub BodyOk : World → NodeId → NodeId → Body → Type 0
-BodyOk w from to (body.Append a) = AppendOk w from a
-BodyOk w from to (body.Appended a) = AppendAnswerOk w from to a a.answer
-BodyOk w from to (body.FenceAnswer a) = FenceReplyOk w from a.epoch a.answer
-BodyOk w from to (body.FrozenAnswer requests) = FrozenOk w from requests
-BodyOk w from to (body.Accepted a) = AcceptedOk w from a
+BodyOk w from to (body.Update ask) = ⊤
+BodyOk w from to (body.Sync ask) = ⊤
+BodyOk w from to (body.Read ask) = ⊤
+BodyOk w from to (body.Glance ask) = ⊤
+BodyOk w from to (body.Record r) = ⊤
+BodyOk w from to (body.Probe p) = ⊤
+BodyOk w from to body.Fetch = ⊤
+BodyOk w from to (body.Configuration config) = ConfigOk w config
 BodyOk w from to (body.Reply r) = ReplyOk w from r r.synced
 BodyOk w from to (body.Worth v) = Served w from v.epoch
+BodyOk w from to (body.Quick q) = Speaks w from q.epoch q.version
+BodyOk w from to (body.Refuse r) = ⊤
+BodyOk w from to (body.Accepted a) = AcceptedOk w from a
+BodyOk w from to (body.Rejected r) = ⊤
+BodyOk w from to (body.Probed a) = ⊤
+BodyOk w from to (body.Append a) = AppendOk w from a
+BodyOk w from to (body.Appended a) = AppendAnswerOk w from to a a.answer
 BodyOk w from to (body.Gc g) = Served w from g.epoch
+BodyOk w from to (body.Collected c) = ⊤
+BodyOk w from to (body.Install epoch) = ⊤
+BodyOk w from to (body.Start s) = ⊤
+BodyOk w from to (body.Recover o) = ⊤
+BodyOk w from to (body.Fence epoch) = ⊤
+BodyOk w from to (body.FenceAnswer a) = FenceReplyOk w from a.epoch a.answer
+BodyOk w from to (body.Freeze epoch) = ⊤
+BodyOk w from to (body.FrozenAnswer requests) = FrozenOk w from requests
+BodyOk w from to (body.Recovered r) = RecoveredOk w from r.epoch
+BodyOk w from to (body.Adopted a) = ⊤
+BodyOk w from to (body.Prepare p) = ⊤
+BodyOk w from to (body.Prepared version) = PreparedOk w from version
+BodyOk w from to (body.TakeOut t) = ⊤
 BodyOk w from to (body.Taken t) = IsServer w from × PackageOk w t.migration t.package × FromPart w from (λ p. OnAdopted w p (TakeStands t.migration t.package))
 BodyOk w from to (body.GiveIn t) = WasTaken w t × PackageOk w t.migration t.package
 BodyOk w from to (body.Given migration) = IsServer w from × FromPart w from (λ p. OnAdopted w p (GiveStands migration))
-BodyOk w from to (body.Recovered r) = RecoveredOk w from r.epoch
-BodyOk w from to (body.Prepared version) = PreparedOk w from version
-BodyOk w from to (body.Configuration config) = ConfigOk w config
-BodyOk w from to _ = ⊤
+BodyOk w from to (body.ExpireClient client) = ⊤
 
 -- Of every message ever sent: its sender and its addressee are nodes, and what it says is so
 pub record MessageOk (w : World) (m : Message) : Type 0 where

@@ -85,12 +85,41 @@ LifeGrows _ _ = ⊥
 
 -- no reply, no value, no collection, and nothing of a migration
 abbrev pub IsSilent : Body → Type 0
+IsSilent (body.Update ask) = ⊤
+IsSilent (body.Sync ask) = ⊤
+IsSilent (body.Read ask) = ⊤
+IsSilent (body.Glance ask) = ⊤
+IsSilent (body.Record r) = ⊤
+IsSilent (body.Probe p) = ⊤
+IsSilent body.Fetch = ⊤
+IsSilent (body.Configuration config) = ⊤
 IsSilent (body.Reply r) = ⊥
 IsSilent (body.Worth v) = ⊥
-IsSilent (body.Taken t) = ⊥
-IsSilent (body.Given migration) = ⊥
+IsSilent (body.Quick q) = ⊥
+IsSilent (body.Refuse r) = ⊤
+IsSilent (body.Accepted a) = ⊤
+IsSilent (body.Rejected r) = ⊤
+IsSilent (body.Probed a) = ⊤
+IsSilent (body.Append a) = ⊤
+IsSilent (body.Appended a) = ⊤
 IsSilent (body.Gc g) = ⊥
-IsSilent _ = ⊤
+IsSilent (body.Collected c) = ⊤
+IsSilent (body.Install epoch) = ⊤
+IsSilent (body.Start s) = ⊤
+IsSilent (body.Recover o) = ⊤
+IsSilent (body.Fence epoch) = ⊤
+IsSilent (body.FenceAnswer a) = ⊤
+IsSilent (body.Freeze epoch) = ⊤
+IsSilent (body.FrozenAnswer requests) = ⊤
+IsSilent (body.Recovered r) = ⊤
+IsSilent (body.Adopted a) = ⊤
+IsSilent (body.Prepare p) = ⊤
+IsSilent (body.Prepared version) = ⊤
+IsSilent (body.TakeOut t) = ⊤
+IsSilent (body.Taken t) = ⊥
+IsSilent (body.GiveIn t) = ⊤
+IsSilent (body.Given migration) = ⊥
+IsSilent (body.ExpireClient client) = ⊤
 
 -- while it switches, it pushes nothing but expiries
 abbrev pub PushesLittle : MasterStage → MasterStage → Type 0

@@ -21,7 +21,7 @@ use Rattle.curp_model.specs.Recovery.{MasterStage}
 use Rattle.curp_model.specs.Witness.{WitnessState}
 use Rattle.curp_model.specs.World.{World, messages}
 use Rattle.curp_facts.specs.Facts.{EntryWas, IsAdoptedNow, IsAmong, IsGiven, Lists, WasOrdered, WasTaken, lists_of_part}
-use Rattle.curp_facts.specs.Nodes.{BackupOk, ClientOk, CompletedBy, MasterOk, StartedAt, ValueWasSent, WitnessOk}
+use Rattle.curp_facts.specs.Nodes.{BackupOk, ClientOk, CompletedBy, MasterOk, StartedAt, WasRead, WitnessOk}
 use Rattle.curp_facts.specs.Reach.{IsReady}
 use Rattle.curp_facts.specs.Said.{Says}
 
@@ -49,7 +49,7 @@ pub record Invariant (w : World) : Type 0 where
   pub history : IsHistory w.history
   pub completed : (i : ℕ) (id : RequestId) (a : Answer) → At w.history i (Complete id a) → CompletedBy w id a
   pub reads : (i j : ℕ) (id : RequestId) (command : Command) (a : Answer) → At w.history i (Invoke id command) → cmd.is_update command ≡ false
-      → At w.history j (Complete id a) → ValueWasSent w id a
+      → At w.history j (Complete id a) → WasRead w id a
   pub messages : (k : ℕ) (m : Message) → At (messages w) k m → Says w k m.from m.to m.body
   pub present : (c : PartConfig) → IsAdoptedNow w c → PresentOk w c
   pub moving : (m : Migration) → w.manager.moving ≡ Some m → MovingOk w m

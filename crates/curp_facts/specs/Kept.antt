@@ -179,15 +179,38 @@ abbrev pub BodyFirstOk : World → Body → Type 0
 BodyFirstOk w (body.Update ask) = RequestFirstOk w ask.request
 BodyFirstOk w (body.Sync ask) = RequestFirstOk w ask.request
 BodyFirstOk w (body.Read ask) = RequestFirstOk w ask.request
+BodyFirstOk w (body.Glance ask) = RequestFirstOk w ask.request
 BodyFirstOk w (body.Record r) = RequestFirstOk w r.request
-BodyFirstOk w (body.Append a) = Each (EntryFirstOk w) a.entries
-BodyFirstOk w (body.FenceAnswer a) = ReplyFirstOk w a.answer
-BodyFirstOk w (body.FrozenAnswer requests) = Each (RequestFirstOk w) requests
-BodyFirstOk w (body.Collected c) = SuspectsFirstOk w c.answer
+BodyFirstOk w (body.Probe p) = ⊤
+BodyFirstOk w body.Fetch = ⊤
+BodyFirstOk w (body.Configuration config) = ⊤
+BodyFirstOk w (body.Reply r) = ⊤
+BodyFirstOk w (body.Worth v) = ⊤
+BodyFirstOk w (body.Quick q) = ⊤
 BodyFirstOk w (body.Refuse r) = RefusalFirstOk w r.id.client r.refusal
+BodyFirstOk w (body.Accepted a) = ⊤
+BodyFirstOk w (body.Rejected r) = ⊤
+BodyFirstOk w (body.Probed a) = ⊤
+BodyFirstOk w (body.Append a) = Each (EntryFirstOk w) a.entries
+BodyFirstOk w (body.Appended a) = ⊤
+BodyFirstOk w (body.Gc g) = ⊤
+BodyFirstOk w (body.Collected c) = SuspectsFirstOk w c.answer
+BodyFirstOk w (body.Install epoch) = ⊤
+BodyFirstOk w (body.Start s) = ⊤
+BodyFirstOk w (body.Recover o) = ⊤
+BodyFirstOk w (body.Fence epoch) = ⊤
+BodyFirstOk w (body.FenceAnswer a) = ReplyFirstOk w a.answer
+BodyFirstOk w (body.Freeze epoch) = ⊤
+BodyFirstOk w (body.FrozenAnswer requests) = Each (RequestFirstOk w) requests
+BodyFirstOk w (body.Recovered r) = ⊤
+BodyFirstOk w (body.Adopted a) = ⊤
+BodyFirstOk w (body.Prepare p) = ⊤
+BodyFirstOk w (body.Prepared version) = ⊤
+BodyFirstOk w (body.TakeOut t) = ⊤
 BodyFirstOk w (body.Taken t) = Each (AllCompletedBelow w) t.package.table.firsts
 BodyFirstOk w (body.GiveIn t) = Each (AllCompletedBelow w) t.package.table.firsts
-BodyFirstOk w _ = ⊤
+BodyFirstOk w (body.Given migration) = ⊤
+BodyFirstOk w (body.ExpireClient client) = ⊤
 
 -- each first number in a log, a package or a message is one below which its client has completed all
 pub record FirstNumbersOk (w : World) : Type 0 where

@@ -34,6 +34,7 @@ use Rattle.curp_facts.specs.Entries.{LogOk, UpdateOk}
 use Rattle.curp_facts.specs.Facts.{Completable, EntryWas, FencedLogOk, FrozenOk, IsOnlyExpire, Lists, ReplayOk, WasAdopted, WasSent, hi_of, lo_of}
 use Rattle.curp_facts.specs.Kept.{FollowsLog, IsCollectable, lists_of_master}
 use Rattle.curp_facts.specs.Reach.{HasStored}
+use Rattle.curp_msg.specs.declared.body.Quick.{Quick}
 
 -- ---- serving masters
 
@@ -194,6 +195,23 @@ pub record ClientOk (w : World) (n : ℕ) (c : ClientState) : Type 0 where
 abbrev pub ValueWasSent : World → RequestId → Answer → Type 0
 ValueWasSent w id a = (node : NodeId) × (v : Worth) × WasSent w (says node (client_node id.client) (body.Worth v)) × (v.id ≡ id) × (v.answer ≡ a)
 
--- what is completed was completable with its answer, or its value was sent
+-- A master of adopted lists has answered the request so at once, with their epoch and version, and each of their witnesses has
+-- said Live at that epoch
+pub record WasSeen (w : World) (id : RequestId) (a : Answer) : Type 0 where
+  pub lists : Lists
+  pub adopted : WasAdopted w lists
+  pub quick : Quick
+  pub sent : WasSent w (says lists.master (client_node id.client) (body.Quick quick))
+  pub its_id : quick.id ≡ id
+  pub its_answer : quick.answer ≡ a
+  pub its_epoch : quick.epoch ≡ lists.epoch
+  pub its_version : quick.version ≡ lists.version
+  pub lives : Each (λ x. WasSent w (says x (client_node id.client) (body.Probed (record { id = id; epoch = lists.epoch; live = true })))) lists.witnesses
+
+-- a read was told so: by a value, or at once
+abbrev pub WasRead : World → RequestId → Answer → Type 0
+WasRead w id a = ValueWasSent w id a ⊎ WasSeen w id a
+
+-- what is completed was completable with its answer, or was told so
 abbrev pub CompletedBy : World → RequestId → Answer → Type 0
-CompletedBy w id a = ((part : ℕ) × Completable w part id a) ⊎ ValueWasSent w id a
+CompletedBy w id a = ((part : ℕ) × Completable w part id a) ⊎ WasRead w id a

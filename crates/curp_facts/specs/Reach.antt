@@ -11,17 +11,21 @@ use Rattle.curp_msg.specs.declared.body.Body.TheVariants as body
 use Rattle.curp_msg.specs.declared.body.Recover.{Recover}
 use Rattle.curp_msg.specs.declared.body.Reply.{Reply}
 use Rattle.curp_model.specs.Backup.{BackupState}
-use Rattle.curp_facts.specs.Facts.{IsAmong, IsGiven, HasLog, Lists, Logged, WasAdopted, WasSent, hi_of, lo_of}
+use Rattle.curp_facts.specs.Facts.{IsAmong, IsGiven, HasLog, Lists, Logged, WasAdopted, WasSent, hi_of, lo_of, ToldWithin}
 use Rattle.curp_facts.specs.Kept.{IsCollectable}
 use Rattle.curp_model.specs.Log.{answer_after, entry_touches, meaning}
 use Rattle.curp_model.specs.Master.{MasterState, has}
-use Rattle.curp_cmd.specs.Node.{manager_node}
+use Rattle.curp_cmd.specs.Node.{manager_node, client_node}
 use Rattle.curp_msg.specs.Moved.{says}
 use Rattle.curp_model.specs.Named.{IsBackup, IsMaster}
 use Rattle.curp_model.specs.Recovery.{Serving}
-use Rattle.curp_cmd.specs.Hash.{hashes}
+use Rattle.curp_cmd.specs.Hash.{hashes, hash_of}
 use Rattle.curp_model.specs.Table.{check}
-use Rattle.curp_model.specs.World.{World}
+use Rattle.curp_model.specs.World.{World, messages}
+use Rattle.curp_msg.specs.declared.body.Quick.{Quick}
+use Rattle.curp_cmd.specs.declared.command.Command.TheVariants.{Get}
+use Rattle.curp_order.specs.declared.Event.TheVariants.{Invoke}
+use Rattle.curp_range.specs.Spans.{is_owned}
 
 -- the manager was told that each backup of the list has the whole log
 pub record RecoveredTo (w : World) (l : Lists) : Type 0 where
@@ -115,3 +119,30 @@ pub record GcSaid (w : World) (lists : Lists) (id : RequestId) : Type 0 where
   pub low : count ≤ length l.log
   pub collectable : IsCollectable (check (meaning (lo_of w lists.part) (hi_of w lists.part) (take count l.log)).table id)
   pub reach : Reach w lists.master lists.version count
+
+-- ---- reads that are answered at once
+
+-- A read that was answered at once: with the value that its sender's log, as it was then, gives the key, which it owned. What was
+-- synced then, each backup of each ready list from that version on has; behind it no entry touched the key
+pub record QuickSaid (w : World) (place : ℕ) (from to : NodeId) (q : Quick) : Type 0 where
+  pub lists : Lists
+  pub adopted : WasAdopted w lists
+  pub its_master : lists.master ≡ from
+  pub its_epoch : lists.epoch ≡ q.epoch
+  pub its_version : lists.version ≡ q.version
+  pub addressee : to ≡ client_node q.id.client
+  pub event : ℕ
+  pub key : List ℕ
+  pub invoked : At w.history event (Invoke q.id (Get key))
+  pub m : MasterState
+  pub serves : IsMaster w from (Serving m)
+  pub captured : q.capture ≤ m.captured
+  pub long : ℕ
+  pub low : long ≤ length m.log
+  pub then_long : ToldWithin w from place m.log long
+  pub synced : ℕ
+  pub below : synced ≤ long
+  pub apart : (k : ℕ) (e : Entry) → synced ≤ k → k < long → At m.log k e → entry_touches e (hash_of key) ≡ false
+  pub owned : is_owned (meaning (lo_of w lists.part) (hi_of w lists.part) (take long m.log)).owned (hash_of key) ≡ true
+  pub its_answer : answer_after (lo_of w lists.part) (hi_of w lists.part) (take long m.log) (Get key) ≡ q.answer
+  pub reach : Reach w from q.version synced

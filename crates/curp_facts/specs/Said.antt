@@ -35,7 +35,9 @@ use Rattle.curp_model.specs.World.{World}
 use Rattle.curp_facts.specs.Entries.{RequestOk, UpdateOk}
 use Rattle.curp_facts.specs.Facts.{AdoptedBefore, AppendOk, Collected, ConfigOk, FenceReplyOk, FrozenOk, HasLog, IsAmong, IsGiven, Lists, Logged, PreparedOk, RecoveredOk, Speaks, StoredOk, WasAdopted, WasSent, WasTaken, IsMasterOf, WasOrdered}
 use Rattle.curp_facts.specs.Kept.{RefusalFirstOk}
-use Rattle.curp_facts.specs.Reach.{EarlySaid, GcSaid, IsReady, Reach, SyncedSaid}
+use Rattle.curp_facts.specs.Reach.{EarlySaid, GcSaid, IsReady, Reach, SyncedSaid, QuickSaid}
+use Rattle.curp_msg.specs.declared.body.Probed.{Probed}
+use Rattle.curp_cmd.specs.declared.command.RequestId.{RequestId}
 
 -- ---- from clients
 
@@ -53,6 +55,14 @@ pub record UpdateSaid (w : World) (from : NodeId) (r : Request) : Type 0 where
 pub record ReadSaid (w : World) (from : NodeId) (r : Request) : Type 0 where
   pub asked : AskSaid w from r
   pub reads : cmd.is_update r.command ≡ false
+
+-- the id is that of a read of the sender
+pub record ProbeSaid (w : World) (from : NodeId) (id : RequestId) : Type 0 where
+  pub sender : from ≡ client_node id.client
+  pub place : ℕ
+  pub command : Command
+  pub invoked : At w.history place (Invoke id command)
+  pub reads : cmd.is_update command ≡ false
 
 -- ---- from masters
 
@@ -172,6 +182,15 @@ pub record RejectedSaid (w : World) (to : NodeId) (r : Rejected) : Type 0 where
   pub invoked : At w.history place (Invoke r.id command)
   pub updates : cmd.is_update command ≡ true
 
+-- a probe was of a read that was invoked, and its client is answered; one that says Live was started at that epoch
+pub record ProbedSaid (w : World) (from to : NodeId) (a : Probed) : Type 0 where
+  pub addressee : to ≡ client_node a.id.client
+  pub place : ℕ
+  pub command : Command
+  pub invoked : At w.history place (Invoke a.id command)
+  pub reads : cmd.is_update command ≡ false
+  pub own : a.live ≡ true → (x : WitnessState) × IsWitness w from x × (x.epoch ≡ Some a.epoch)
+
 -- suspects are updates that were invoked
 abbrev pub SuspectsHold : World → GcAnswer → Type 0
 SuspectsHold w (Suspects requests) = Each (UpdateOk w) requests
@@ -195,25 +214,35 @@ abbrev pub Says : World → ℕ → NodeId → NodeId → Body → Type 0
 Says w place from to (body.Update ask) = UpdateSaid w from ask.request
 Says w place from to (body.Sync ask) = UpdateSaid w from ask.request
 Says w place from to (body.Read ask) = ReadSaid w from ask.request
+Says w place from to (body.Glance ask) = ReadSaid w from ask.request
 Says w place from to (body.Record r) = UpdateSaid w from r.request
+Says w place from to (body.Probe a) = ProbeSaid w from a.id
+Says w place from to body.Fetch = ⊤
 Says w place from to (body.Configuration config) = ConfigOk w config
 Says w place from to (body.Reply r) = ReplySaid w from to r
 Says w place from to (body.Worth v) = WorthSaid w from to v
+Says w place from to (body.Quick q) = QuickSaid w place from to q
 Says w place from to (body.Refuse r) = RefusalFirstOk w r.id.client r.refusal
 Says w place from to (body.Accepted a) = AcceptedSaid w from to a
 Says w place from to (body.Rejected r) = RejectedSaid w to r
+Says w place from to (body.Probed a) = ProbedSaid w from to a
 Says w place from to (body.Append a) = AppendSaid w from to a
 Says w place from to (body.Appended a) = AppendedSaid w from to a × AppendHolds w from to a a.answer
 Says w place from to (body.Gc g) = GcHolds w place from to g
 Says w place from to (body.Collected c) = SuspectsHold w c.answer
+Says w place from to (body.Install epoch) = ⊤
+Says w place from to (body.Start s) = ⊤
+Says w place from to (body.Recover o) = ⊤
 Says w place from to (body.Fence epoch) = IsOrderedTo w from (λ o. (o.epoch ≡ epoch) × (o.backup ≡ to))
 Says w place from to (body.FenceAnswer a) = IsOrderedTo w to (λ o. (o.epoch ≡ a.epoch) × (o.backup ≡ from)) × FenceReplyOk w from a.epoch a.answer
 Says w place from to (body.Freeze epoch) = IsOrderedTo w from (λ o. (o.epoch ≡ epoch) × (o.witness ≡ to))
 Says w place from to (body.FrozenAnswer requests) = FrozenOk w from requests
 Says w place from to (body.Recovered r) = RecoveredSaid w from r
 Says w place from to (body.Adopted a) = AdoptedSaid w to a
+Says w place from to (body.Prepare p) = ⊤
 Says w place from to (body.Prepared version) = PreparedOk w from version
+Says w place from to (body.TakeOut t) = ⊤
 Says w place from to (body.Taken t) = StoredEntry w from (IsTakeOf t.migration t.package)
 Says w place from to (body.GiveIn t) = WasTaken w t
 Says w place from to (body.Given migration) = StoredEntry w from (IsGiveFrom migration) × GiveWasOrdered w from migration
-Says w place from to _ = ⊤
+Says w place from to (body.ExpireClient client) = ⊤

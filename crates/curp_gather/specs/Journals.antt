@@ -8,11 +8,11 @@ use Rattle.curp_msg.specs.declared.script.Step.{Step}
 use Rattle.curp_journal.specs.Journal.{Log}
 use Rattle.curp_journal.specs.declared.item.Item.{Item}
 use Rattle.curp_model.specs.Backup.{BackupState, fresh_backup, installed_backup}
-use Rattle.curp_model.specs.Client.{ClientState, fresh_client}
-use Rattle.curp_model.specs.Manager.{ManagerState, opening_config, opening_manager}
+use Rattle.curp_model.specs.Client.{ClientState}
+use Rattle.curp_model.specs.Manager.{ManagerState, opening_manager}
 use Rattle.curp_model.specs.Recovery.{Fresh, MasterStage}
 use Rattle.curp_model.specs.Witness.{WitnessState, fresh_witness, started_witness}
-use Rattle.curp_model.specs.World.{opening_master, shape_of}
+use Rattle.curp_model.specs.World.{opening_master, shape_of, opening_client}
 use Rattle.curp_facts.specs.Run.{IsHeader}
 use Rattle.curp_turns.specs.Turns.{InOrder, Journal, Placed}
 use Rattle.curp_law_weave.specs.Run.{RunOf, TakesFirst}
@@ -51,7 +51,7 @@ pub record IsManagerJournal (h : Header) (log : Log ManagerState) : Type 0 where
 pub record IsClientJournal (h : Header) (log : Log (Node ClientState)) : Type 0 where
   pub its_name : log.id ≡ client_node log.opening.number
   pub there : (1 ≤ log.opening.number) × (log.opening.number ≤ h.clients)
-  pub begins : log.opening.state ≡ fresh_client h.fast (opening_config (shape_of h))
+  pub begins : log.opening.state ≡ opening_client h
 
 -- a master
 pub record IsMasterJournal (h : Header) (log : Log (Node MasterStage)) : Type 0 where

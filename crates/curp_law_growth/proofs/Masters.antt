@@ -28,7 +28,7 @@ use Rattle.curp_range.specs.Spans.{is_covered}
 use Rattle.curp_model.specs.declared.Check.{Check}
 use Rattle.curp_model.specs.declared.Check.TheVariants.{Expired, Stale, Known, New}
 use Rattle.curp_model.specs.Log.{LastGive, LastTake}
-use Rattle.curp_model.specs.Master.{MasterState, Phase, Open, Switching, Switch, Wish, AtOnce, WhenSynced, Verdict, Deny, Tell, TellAgain, HoldBack, Execute, adopted_in, all_have, by_message, carries_out, collect_in, executes, give_after, goes_on, is_clean, is_open, last_round, on_appended, on_collected, on_expire, on_give, on_read, on_serving, on_stored, on_take, on_update, prepare_in, prepares, push_take, raised, read_command, read_of, read_refusal, serving_ordered, settle, state_of, stored_on, switch_to, sync_in, synced, take_after, told_again, treat, treated, treats, unless_it_ends, verdict}
+use Rattle.curp_model.specs.Master.{MasterState, Phase, Open, Switching, Switch, Wish, AtOnce, WhenSynced, Verdict, Deny, Tell, TellAgain, HoldBack, Execute, adopted_in, all_have, by_message, carries_out, collect_in, executes, give_after, goes_on, is_clean, is_open, last_round, on_appended, on_collected, on_expire, on_give, on_read, on_serving, on_stored, on_take, on_update, prepare_in, prepares, push_take, raised, read_command, read_of, read_refusal, serving_ordered, settle, state_of, stored_on, switch_to, sync_in, synced, take_after, told_again, treat, treated, treats, unless_it_ends, verdict, answers_at_once, glance_command, glance_of, on_glance}
 use Rattle.curp_cmd.specs.Node.{is_among}
 use Rattle.curp_base.specs.Words.{rises_past}
 use Rattle.curp_msg.specs.declared.answer.Refusal.{Refusal}
@@ -73,6 +73,10 @@ core_rounds c = core_to c c.version c.log (c.round + 1) c.captured c.phase (pref
 
 core_pushes_round : (c : Core) (es : List Entry) → CoreGrows c (record c { log = c.log ++ es; round = c.round + 1 })
 core_pushes_round c es = core_to c c.version (c.log ++ es) (c.round + 1) c.captured c.phase (prefix_push c.log es) (omega arith) (omega arith) (λ a. omega arith) (λ a. a)
+
+-- an answer at once takes a capture number alone
+core_glances : (c : Core) → CoreGrows c (record c { captured = c.captured + 1 })
+core_glances c = core_to c c.version c.log c.round (c.captured + 1) c.phase (prefix_self c.log) (omega arith) (omega arith) (λ a. omega arith) (λ a. a)
 
 core_captures : (c : Core) → CoreGrows c (record c { round = c.round + 1; captured = c.captured + 1 })
 core_captures c = core_to c c.version c.log (c.round + 1) (c.captured + 1) c.phase (prefix_self c.log) (omega arith) (omega arith) (λ a. omega arith) (λ a. a)
@@ -137,6 +141,18 @@ module _ (n : ℕ) (m : MasterState) where
   read_goes : (ask : Ask) → Goes m (on_read n m ask)
   unfolding on_read
   read_goes ask = command_goes ask ask.request.command
+
+  glance_of_goes : (r : Request) (key : List ℕ) (o : Option Refusal) → Goes m (glance_of n m r key o)
+  glance_of_goes r key (Some why) = rests
+  glance_of_goes r key None = cond_both (is_clean m r.command) _ _ (Goes m) (λ y. core_glances (core m)) (λ y. core_captures (core m))
+
+  glance_command_goes : (ask : Ask) (c : Command) → Goes m (glance_command n m ask c)
+  glance_command_goes ask (Get key) = glance_of_goes ask.request key (read_refusal m ask)
+  glance_command_goes ask _ = rests
+
+  glance_goes : (ask : Ask) → Goes m (on_glance n m ask)
+  unfolding on_glance
+  glance_goes ask = glance_command_goes ask ask.request.command
 
   -- ---- what backups say
 
@@ -242,6 +258,7 @@ module _ (n : ℕ) (m : MasterState) where
   message_goes from (body.Update ask) = update_goes n m AtOnce ask
   message_goes from (body.Sync ask) = update_goes n m WhenSynced ask
   message_goes from (body.Read ask) = read_goes n m ask
+  message_goes from (body.Glance ask) = glance_goes n m ask
   message_goes from (body.Appended a) = appended_goes n m from a.round a.answer
   message_goes from (body.Collected c) = collected_goes c.answer
   message_goes from (body.Prepare p) = prepare_goes p m.phase

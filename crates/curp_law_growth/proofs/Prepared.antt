@@ -30,7 +30,7 @@ use Rattle.curp_msg.specs.declared.machine.Local.TheVariants as local
 use Rattle.curp_msg.specs.declared.message.Message.{Message}
 use Rattle.curp_range.specs.Spans.{is_covered}
 use Rattle.curp_model.specs.Log.{LastGive, LastTake, package_of}
-use Rattle.curp_model.specs.Master.{MasterState, Phase, Open, Switching, Switch, Wish, AtOnce, WhenSynced, Verdict, Deny, Tell, TellAgain, HoldBack, Execute, Captured, Queued, adopted_in, all_have, append_to, begins_round, between, by_message, captures_read, carries_out, collect_in, collects, executes, give_after, goes_on, holds_back, is_clean, is_due, is_open, is_ready, last_round, marked_free, moved_entry, next_round, on_appended, on_collected, on_expire, on_give, on_read, on_serving, on_stored, on_take, on_update, prepare_in, prepares, push_take, pushed, raised, read_command, read_of, read_refusal, serving_ordered, settle, state_of, stored_on, switch_to, sync_in, synced, synced_replies, synced_reply, take_after, told_again, treat, treats, unless_it_ends, value_of, verdict}
+use Rattle.curp_model.specs.Master.{MasterState, Phase, Open, Switching, Switch, Wish, AtOnce, WhenSynced, Verdict, Deny, Tell, TellAgain, HoldBack, Execute, Captured, Queued, adopted_in, all_have, append_to, begins_round, between, by_message, captures_read, carries_out, collect_in, collects, executes, give_after, goes_on, holds_back, is_clean, is_due, is_open, is_ready, last_round, marked_free, moved_entry, next_round, on_appended, on_collected, on_expire, on_give, on_read, on_serving, on_stored, on_take, on_update, prepare_in, prepares, push_take, pushed, raised, read_command, read_of, read_refusal, serving_ordered, settle, state_of, stored_on, switch_to, sync_in, synced, synced_replies, synced_reply, take_after, told_again, treat, treats, unless_it_ends, value_of, verdict, glance_command, glance_of, on_glance}
 use Rattle.curp_cmd.specs.Node.{is_among, manager_node, master_node}
 use Rattle.curp_base.specs.Words.{rises_past}
 use Rattle.curp_msg.specs.declared.answer.Refusal.{Refusal}
@@ -100,6 +100,18 @@ module _ (n : ℕ) (m : MasterState) where
   read_ok : (ask : Ask) → Ok (on_read n m ask)
   unfolding on_read
   read_ok ask = command_ok ask ask.request.command
+
+  glance_of_ok : (r : Request) (key : List ℕ) (o : Option Refusal) → Ok (glance_of n m r key o)
+  glance_of_ok r key (Some why) = (tt, tt)
+  glance_of_ok r key None = cond_both (is_clean m r.command) _ _ Ok (λ y. (tt, tt)) (λ y. capture_ok r key)
+
+  glance_command_ok : (ask : Ask) (c : Command) → Ok (glance_command n m ask c)
+  glance_command_ok ask (Get key) = glance_of_ok ask.request key (read_refusal m ask)
+  glance_command_ok ask _ = tt
+
+  glance_ok : (ask : Ask) → Ok (on_glance n m ask)
+  unfolding on_glance
+  glance_ok ask = glance_command_ok ask ask.request.command
 
   -- ---- settling says nothing of it
 
@@ -195,6 +207,7 @@ module _ (n : ℕ) (m : MasterState) where
   message_ok from (body.Update ask) = update_ok AtOnce ask
   message_ok from (body.Sync ask) = update_ok WhenSynced ask
   message_ok from (body.Read ask) = read_ok ask
+  message_ok from (body.Glance ask) = glance_ok ask
   message_ok from (body.Appended a) = appended_ok from a.round a.answer
   message_ok from (body.Collected c) = collected_ok c.answer
   message_ok from (body.Prepare p) = prepare_ok p m.phase

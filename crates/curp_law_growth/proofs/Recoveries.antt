@@ -129,6 +129,7 @@ fresh_grows n (body.Recover o) = record { life = tt; log = tt; little = tt }
 fresh_grows n (body.Update ask) = master_self Fresh
 fresh_grows n (body.Sync ask) = master_self Fresh
 fresh_grows n (body.Read ask) = read_away_grows n Fresh ask.request
+fresh_grows n (body.Glance ask) = read_away_grows n Fresh ask.request
 fresh_grows n _ = master_self Fresh
 
 recovering_grows : (n : ℕ) (s : RecoveryState) (from : NodeId) (b : Body) → MasterGrows (Recovering s) (on_recovering n s from b).state
@@ -139,6 +140,7 @@ recovering_grows n s from (body.Adopted a) = serves_grows s.order s.phase
 recovering_grows n s from (body.Update ask) = master_self (Recovering s)
 recovering_grows n s from (body.Sync ask) = master_self (Recovering s)
 recovering_grows n s from (body.Read ask) = read_away_grows n (Recovering s) ask.request
+recovering_grows n s from (body.Glance ask) = read_away_grows n (Recovering s) ask.request
 recovering_grows n s from _ = master_self (Recovering s)
 
 -- a message grows a master

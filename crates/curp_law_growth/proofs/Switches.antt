@@ -27,7 +27,7 @@ use Rattle.curp_msg.specs.declared.machine.Local.TheVariants as local
 use Rattle.curp_msg.specs.declared.message.Message.{Message}
 use Rattle.curp_facts.specs.Facts.{IsOnlyExpire}
 use Rattle.curp_facts.specs.Growth.{IsSilent}
-use Rattle.curp_model.specs.Master.{MasterState, Phase, Open, Switching, Switch, Wish, AtOnce, WhenSynced, Verdict, Deny, Execute, adopted_in, all_have, append_to, begins_round, by_message, carries_out, collect_in, give_after, goes_on, is_open, last_round, next_round, on_appended, on_collected, on_expire, on_read, on_serving, on_stored, on_update, prepare_in, prepares, raised, read_command, read_of, read_refusal, serving_ordered, settle, state_of, stored_on, sync_in, take_after, treats, unless_it_ends, verdict}
+use Rattle.curp_model.specs.Master.{MasterState, Phase, Open, Switching, Switch, Wish, AtOnce, WhenSynced, Verdict, Deny, Execute, adopted_in, all_have, append_to, begins_round, by_message, carries_out, collect_in, give_after, goes_on, is_open, last_round, next_round, on_appended, on_collected, on_expire, on_read, on_serving, on_stored, on_update, prepare_in, prepares, raised, read_command, read_of, read_refusal, serving_ordered, settle, state_of, stored_on, sync_in, take_after, treats, unless_it_ends, verdict, glance_command, glance_of, on_glance}
 use Rattle.curp_model.specs.Table.{is_gone}
 use Rattle.curp_law_growth.proofs.Prepared.{each_map}
 
@@ -85,6 +85,14 @@ module _ (n : ℕ) (m : MasterState) (s : Switch) (is : m.phase ≡ Switching s)
   read_little : (ask : Ask) → IsLittle m (on_read n m ask)
   unfolding on_read
   read_little ask = command_little ask ask.request.command
+
+  glance_command_little : (ask : Ask) (c : Command) → IsLittle m (glance_command n m ask c)
+  glance_command_little ask (Get key) = subst (λ (o : Option Refusal). IsLittle m (glance_of n m ask.request key o)) (sym (turned_away ask).1) (record { pushes = none; silent = λ t e. (tt, tt) })
+  glance_command_little ask _ = rests
+
+  glance_little : (ask : Ask) → IsLittle m (on_glance n m ask)
+  unfolding on_glance
+  glance_little ask = glance_command_little ask ask.request.command
 
   -- ---- what backups and witnesses say
 
@@ -154,6 +162,7 @@ module _ (n : ℕ) (m : MasterState) (s : Switch) (is : m.phase ≡ Switching s)
   message_little from (body.Update ask) = update_little AtOnce ask
   message_little from (body.Sync ask) = update_little WhenSynced ask
   message_little from (body.Read ask) = read_little ask
+  message_little from (body.Glance ask) = glance_little ask
   message_little from (body.Appended a) = appended_little from a.round a.answer
   message_little from (body.Collected c) = collected_little c.answer
   message_little from (body.Prepare p) = prepare_little p m.phase is

@@ -1,5 +1,5 @@
 -- What a client knows at first, and what stays as the world goes on.
-use Rattle.std.proofs.Common.{◌≢◌, ℕ, List, [], ◌++◌, Option, Some, None, refl, ap, sym, ◌∙◌, subst, arith, append_assoc}
+use Rattle.std.proofs.Common.{◌≢◌, ℕ, List, [], ◌++◌, Option, Some, None, refl, ap, sym, ◌∙◌, subst, arith, append_assoc, true}
 use Rattle.curp_base.specs.Words.{Each}
 use Rattle.curp_base.proofs.Lists.{Each-append, Each-weaker}
 use Rattle.curp_cmd.specs.Node.{client_node}
@@ -16,9 +16,9 @@ use Rattle.curp_msg.specs.declared.machine.Input.TheVariants as input
 use Rattle.curp_msg.specs.declared.machine.Local.TheVariants as local
 use Rattle.curp_order.specs.Order.{IsHistory}
 use Rattle.curp_order.specs.declared.Event.{Event}
-use Rattle.curp_model.specs.Client.{Accept, Attempt, ClientState, Early, Pending, fresh_client}
+use Rattle.curp_model.specs.Client.{Accept, Attempt, ClientState, Early, Pending, fresh_client, Glimpse}
 use Rattle.curp_model.specs.World.{completion, invocation_of}
-use Rattle.curp_facts.specs.Evidence.{AcceptCame, EarlyCame, EvidenceOk, IsAttempt, KnowledgeOk}
+use Rattle.curp_facts.specs.Evidence.{AcceptCame, EarlyCame, EvidenceOk, IsAttempt, KnowledgeOk, GlimpseCame, LiveCame}
 use Rattle.curp_law_keepers.specs.ClientEffect.{MayComplete, events_after}
 use Rattle.curp_facts.specs.ClientNumbers.{IsEventOf, NumbersOk}
 use Rattle.curp_law_keepers.proofs.Numbers.{numbers_stay, waiting}
@@ -26,12 +26,12 @@ use Rattle.curp_law_keepers.proofs.Numbers.{numbers_stay, waiting}
 -- ---- at first
 
 -- a client that has invoked nothing
-pub fresh_numbers : (n : ℕ) (fast : _) (config : Config) → NumbersOk n [] (fresh_client fast config)
-fresh_numbers n fast config = record { pending = tt; rise = tt; used = λ seq one up. absurd (omega (arith, one, up)); counted = λ i id command at mine. absurd cc }
+pub fresh_numbers : (n : ℕ) (fast : _) (protocol : _) (config : Config) → NumbersOk n [] (fresh_client fast protocol config)
+fresh_numbers n fast protocol config = record { pending = tt; rise = tt; used = λ seq one up. absurd (omega (arith, one, up)); counted = λ i id command at mine. absurd cc }
 
 -- knows the adopted entries that it begins with
-pub fresh_knows : (Came : NodeId → Body → Type 0) (Adopted : PartConfig → Type 0) (fast : _) (config : Config) → Each Adopted config.parts → KnowledgeOk Came Adopted (fresh_client fast config)
-fresh_knows Came Adopted fast config all = record { config = all; pending = tt }
+pub fresh_knows : (Came : NodeId → Body → Type 0) (Adopted : PartConfig → Type 0) (fast : _) (protocol : _) (config : Config) → Each Adopted config.parts → KnowledgeOk Came Adopted (fresh_client fast protocol config)
+fresh_knows Came Adopted fast protocol config all = record { config = all; pending = tt }
 
 -- nothing has happened
 pub no_history : IsHistory []
@@ -45,6 +45,8 @@ module _ (Came Comes : NodeId → Body → Type 0) (Adopted Adopts : PartConfig 
     attempts = Each-weaker (IsAttempt Adopted) (IsAttempt Adopts) (λ (a : Attempt) (o : IsAttempt Adopted a). record { part = o.part; adopted = adopted o.part o.adopted; is = o.is }) p.attempts ok.attempts;
     early = Each-weaker (EarlyCame Came p.request.id) (EarlyCame Comes p.request.id) (λ (e : Early) (o : EarlyCame Came p.request.id e). record { reply = o.reply; came = came e.master (body.Reply o.reply) o.came; its_id = o.its_id; unsynced = o.unsynced; epoch = o.epoch; version = o.version; answer = o.answer }) p.early ok.early;
     accepts = Each-weaker (AcceptCame Came p.request.id) (AcceptCame Comes p.request.id) (λ (a : Accept) o. came a.witness (body.Accepted (record { id = p.request.id; epoch = a.epoch })) o) p.accepts ok.accepts;
+    glimpses = Each-weaker (GlimpseCame Came p.request.id) (GlimpseCame Comes p.request.id) (λ (g : Glimpse) (o : GlimpseCame Came p.request.id g). record { quick = o.quick; came = came g.master (body.Quick o.quick) o.came; its_id = o.its_id; epoch = o.epoch; version = o.version; capture = o.capture; answer = o.answer }) p.glimpses ok.glimpses;
+    lives = Each-weaker (LiveCame Came p.request.id) (LiveCame Comes p.request.id) (λ (a : Accept) o. came a.witness (body.Probed (record { id = p.request.id; epoch = a.epoch; live = true })) o) p.lives ok.lives;
   }
 
   -- what a client knows stays so

@@ -32,17 +32,21 @@ use Rattle.curp_msg.specs.declared.message.Message.{Message}
 use Rattle.curp_order.specs.Order.{IsHistory}
 use Rattle.curp_order.specs.declared.Event.{Event}
 use Rattle.curp_order.specs.declared.Event.TheVariants.{Invoke}
-use Rattle.curp_model.specs.Client.{Attempt, ClientState, Early, Pending, Resent, accepted, asks, attempt_at, client_input, client_ordered, completes_with, configured, early_reply, fetch, if_proved, invoke, most_pending, next_id, next_request, on_client, owner_of, proved_answer, rejected, replied, retry, sends_again, sends_first, sent_by, valued, with_accept, with_early, with_evidence, with_id, with_pending}
+use Rattle.curp_model.specs.Client.{Attempt, ClientState, Early, Pending, Resent, accepted, asks, attempt_at, client_input, client_ordered, completes_with, configured, early_reply, fetch, if_proved, invoke, most_pending, next_id, next_request, on_client, owner_of, proved_answer, rejected, replied, retry, sends_again, sends_first, sent_by, valued, with_accept, with_early, with_evidence, with_id, with_pending, Glimpse, asks_value, glimpse, glimpsed, if_seen, probed, seen_glimpse, with_glimpse, with_sight}
 use Rattle.curp_model.specs.Ranges.{owns_all}
 use Rattle.curp_model.specs.World.{completion}
 use Rattle.curp_facts.specs.Facts.{IsAmong}
-use Rattle.curp_facts.specs.Evidence.{AcceptCame, EarlyCame, EvidenceOk, IsAttempt, KnowledgeOk}
+use Rattle.curp_facts.specs.Evidence.{AcceptCame, EarlyCame, EvidenceOk, IsAttempt, KnowledgeOk, GlimpseCame, LiveCame}
 use Rattle.curp_law_keepers.specs.ClientEffect.{ClientEffect, ClientSays, InputSuitsClient, MayComplete, SuitsClient, events_after}
 use Rattle.curp_facts.specs.ClientNumbers.{IsAsked, NumbersOk}
-use Rattle.curp_law_keepers.proofs.Evidence.{accepts_each, early_each, proved_ok}
+use Rattle.curp_law_keepers.proofs.Evidence.{accepts_each, early_each, proved_ok, glimpses_each, seen_ok}
 use Rattle.curp_law_keepers.proofs.Lists.{each_filter, filter_at, first_at, last_at}
 use Rattle.curp_law_keepers.proofs.Numbers.{fresh_asked, history_completed, history_invoked, numbers_changed, numbers_completed, numbers_invoked, waiting}
 use Rattle.curp_law_keepers.proofs.PendingLists.{each_replaced, found}
+use Rattle.curp_msg.specs.declared.body.Quick.{Quick}
+use Rattle.curp_msg.specs.declared.body.Probed.{Probed}
+use Rattle.curp_msg.specs.declared.script.Protocol.{Protocol}
+use Rattle.curp_msg.specs.declared.script.Protocol.TheVariants.{One, Two}
 
 each_among : {A B : Type 0} (P : B → Type 0) (f : A → B) (xs : List A) → ((x : A) → IsAmong x xs → P (f x)) → Each P (map f xs)
 each_among {A} P f xs each = Each-map P f xs (Each-from_at (λ (x : A). P (f x)) xs (λ k x at. each x (record { place = k; stands = at })))
@@ -125,6 +129,8 @@ module _ (Came : NodeId → Body → Type 0) (Adopted : PartConfig → Type 0) (
         attempts = old.attempts;
         early = early_each (EarlyCame Came p.request.id) p.early (early_reply from r) old.early (record { reply = r; came = came; its_id = sym f.2; unsynced = early; epoch = refl; version = refl; answer = refl });
         accepts = old.accepts;
+        glimpses = old.glimpses;
+        lives = old.lives;
       }) update))
 
   accept_comes : (from : NodeId) (a : Accepted) → Came from (body.Accepted a) → (o : Option Pending) → with_id a.id c.pending ≡ o → Heard (accepted c from a o)
@@ -138,6 +144,8 @@ module _ (Came : NodeId → Body → Type 0) (Adopted : PartConfig → Type 0) (
         early = old.early;
         accepts = accepts_each (AcceptCame Came p.request.id) p.accepts (record { witness = from; epoch = a.epoch }) old.accepts
             (subst (λ (id : RequestId). Came from (body.Accepted (record { id = id; epoch = a.epoch }))) (sym f.2) came);
+        glimpses = old.glimpses;
+        lives = old.lives;
       }) update)
       (λ no. rests)
 
@@ -151,8 +159,86 @@ module _ (Came : NodeId → Body → Type 0) (Adopted : PartConfig → Type 0) (
         p = p;
         pending = f.1;
         its_id = f.2;
-        evidence = inr (record { is = read; evidence = record { from = from; value = v; came = came; its_id = refl; its_answer = refl; its_capture = refl } });
+        evidence = inr (record { is = read; evidence = inl (record { from = from; value = v; came = came; its_id = refl; its_answer = refl; its_capture = refl }) });
       }))
+
+  -- ---- a Quick, and what a witness says to a probe
+
+  sight_comes : (k : ℕ) (p q : Pending) → At c.pending k p → p.request ≡ q.request → EvidenceOk Came Adopted q → is_update p.request.command ≡ false → Heard (with_sight c q)
+  sight_comes k p q at same ok read = go (seen_glimpse q) refl
+    where
+      its_id : p.request.id ≡ q.request.id
+      its_id = ap (λ (r : Request). r.id) same
+
+      go : (o : Option Glimpse) → seen_glimpse q ≡ o → Heard (if_seen c q o)
+      go None e = changes k p q at same ok [] tt
+      go (Some g) e = completing k p at q.request.id g.answer (Some (record { master = g.master; epoch = g.epoch; number = g.capture })) its_id (record {
+        place = k;
+        p = p;
+        pending = at;
+        its_id = its_id;
+        evidence = inr (record { is = read; evidence = inr (seen_ok Came Adopted q ok g e) });
+      })
+
+  quick_comes : (from : NodeId) (q : Quick) → Came from (body.Quick q) → (o : Option Pending) → with_id q.id c.pending ≡ o → Heard (glimpsed c from q o)
+  quick_comes from q came None e = rests
+  quick_comes from q came (Some p) e =
+      let f = found q.id c.pending p e in
+      let old = evidence_of f.0 p f.1 in
+      cond_both (is_update p.request.command) _ _ Heard (λ update. rests)
+      (λ read. sight_comes f.0 p (record p { glimpses = with_glimpse p.glimpses (glimpse from q) }) f.1 refl (record {
+        attempts = old.attempts;
+        early = old.early;
+        accepts = old.accepts;
+        glimpses = glimpses_each (GlimpseCame Came p.request.id) p.glimpses (glimpse from q) old.glimpses (record { quick = q; came = came; its_id = sym f.2; epoch = refl; version = refl; capture = refl; answer = refl });
+        lives = old.lives;
+      }) read)
+
+  asks_value_again : (k : ℕ) (p : Pending) → At c.pending k p → is_update p.request.command ≡ false → (o : Option Attempt) → last_of p.attempts ≡ o → Heard (asks_value n c p o)
+  asks_value_again k p at read None e = rests
+  asks_value_again k p at read (Some a) e =
+      let old = evidence_of k p at in
+      let l = last_at p.attempts a e in
+      let went = Each-at (IsAttempt Adopted) p.attempts old.attempts l.0 a l.1 in
+      changes k p (record p { asked = true }) at refl (record { attempts = old.attempts; early = old.early; accepts = old.accepts; glimpses = old.glimpses; lives = old.lives })
+      (says (client_node n) a.master (body.Read (record { request = p.request; epoch = a.epoch; version = a.version })) ∷ []) (
+        record {
+          sender = refl;
+          says_so = (
+            record {
+              asked = asked_of k p at;
+              part = went.part;
+              adopted = went.adopted;
+              addressed = ap (λ (x : Attempt). x.master) went.is;
+              epoch = ap (λ (x : Attempt). x.epoch) went.is;
+              version = ap (λ (x : Attempt). x.version) went.is;
+            },
+            read,
+          );
+        },
+        tt,
+      )
+
+  probed_comes : (from : NodeId) (a : Probed) → Came from (body.Probed a) → (o : Option Pending) → with_id a.id c.pending ≡ o → Heard (probed n c from a o)
+  probed_comes from a came None e = rests
+  probed_comes from a came (Some p) e =
+      let f = found a.id c.pending p e in
+      let old = evidence_of f.0 p f.1 in
+      cond_both (is_update p.request.command) _ _ Heard (λ update. rests)
+      (λ read. cond_both a.live _ _ Heard
+      (λ live. sight_comes f.0 p (record p { lives = with_accept p.lives (record { witness = from; epoch = a.epoch }) }) f.1 refl (record {
+        attempts = old.attempts;
+        early = old.early;
+        accepts = old.accepts;
+        glimpses = old.glimpses;
+        lives = accepts_each (LiveCame Came p.request.id) p.lives (record { witness = from; epoch = a.epoch }) old.lives (same_live a p.request.id f.2 live came);
+      }) read)
+      (λ no. cond_both p.asked _ _ Heard (λ y. rests) (λ y. asks_value_again f.0 p f.1 read (last_of p.attempts) refl)))
+    where
+      same_live : (a : Probed) (id : RequestId) → id ≡ a.id → a.live ≡ true → Came from (body.Probed a) → Came from (body.Probed (record { id = id; epoch = a.epoch; live = true }))
+      same_live a id is live came =
+          subst (λ (x : RequestId). Came from (body.Probed (record { id = x; epoch = a.epoch; live = true }))) (sym is)
+          (subst (λ (b : Bool). Came from (body.Probed (record { id = a.id; epoch = a.epoch; live = b }))) live came)
 
   -- ---- a rejection, and a configuration
 
@@ -162,7 +248,7 @@ module _ (Came : NodeId → Body → Type 0) (Adopted : PartConfig → Type 0) (
       let old = evidence_of k p at in
       let l = last_at p.attempts a e in
       let went = Each-at (IsAttempt Adopted) p.attempts old.attempts l.0 a l.1 in
-      changes k p (record p { asked = true }) at refl (record { attempts = old.attempts; early = old.early; accepts = old.accepts })
+      changes k p (record p { asked = true }) at refl (record { attempts = old.attempts; early = old.early; accepts = old.accepts; glimpses = old.glimpses; lives = old.lives })
       (says (client_node n) a.master (body.Sync (record { request = p.request; epoch = a.epoch; version = a.version })) ∷ []) (
         record {
           sender = refl;
@@ -198,6 +284,8 @@ module _ (Came : NodeId → Body → Type 0) (Adopted : PartConfig → Type 0) (
   hears from (body.Reply r) came suits = reply_comes from r came (with_id r.id c.pending) refl
   hears from (body.Accepted a) came suits = accept_comes from a came (with_id a.id c.pending) refl
   hears from (body.Worth v) came suits = value_comes from v came (with_id v.id c.pending) refl
+  hears from (body.Quick q) came suits = quick_comes from q came (with_id q.id c.pending) refl
+  hears from (body.Probed a) came suits = probed_comes from a came (with_id a.id c.pending) refl
   hears from (body.Rejected r) came suits = rejection_comes r suits (with_id r.id c.pending) refl
   hears from (body.Configuration config) came suits = config_comes config suits
   hears from _ came suits = rests
@@ -210,14 +298,19 @@ module _ (Came : NodeId → Body → Type 0) (Adopted : PartConfig → Type 0) (
       let f = filter_at (λ (p : PartConfig). owns_all p.ranges (hashes command)) c.config.parts 0 part (first_at _ part e) in
       Each-at Adopted c.config.parts knows.config f.0 part f.1
 
-  sent_ok : (later : List Event) (r : Request) (part : PartConfig) → Adopted part → IsAsked n later r → (fast update : Bool) → is_update r.command ≡ update → Each (ClientSays Adopted n later) (sent_by n fast update r part)
-  sent_ok later r part adopted asked true true is = (
+  sent_ok : (later : List Event) (r : Request) (part : PartConfig) → Adopted part → IsAsked n later r → (fast : Bool) (protocol : Protocol) (update : Bool) → is_update r.command ≡ update → Each (ClientSays Adopted n later) (sent_by n fast protocol update r part)
+  sent_ok later r part adopted asked true protocol true is = (
     record { sender = refl; says_so = (record { asked = asked; part = part; adopted = adopted; addressed = refl; epoch = refl; version = refl }, is) },
     each_among (ClientSays Adopted n later) (λ (to : NodeId). says (client_node n) to (body.Record (record { request = r; epoch = part.epoch }))) part.witnesses
         (λ to among. record { sender = refl; says_so = (record { asked = asked; part = part; adopted = adopted; addressed = among; epoch = refl }, is) }),
   )
-  sent_ok later r part adopted asked false true is = (record { sender = refl; says_so = (record { asked = asked; part = part; adopted = adopted; addressed = refl; epoch = refl; version = refl }, is) }, tt)
-  sent_ok later r part adopted asked fast false is = (record { sender = refl; says_so = (record { asked = asked; part = part; adopted = adopted; addressed = refl; epoch = refl; version = refl }, is) }, tt)
+  sent_ok later r part adopted asked false protocol true is = (record { sender = refl; says_so = (record { asked = asked; part = part; adopted = adopted; addressed = refl; epoch = refl; version = refl }, is) }, tt)
+  sent_ok later r part adopted asked fast Two false is = (
+    record { sender = refl; says_so = (record { asked = asked; part = part; adopted = adopted; addressed = refl; epoch = refl; version = refl }, is) },
+    each_among (ClientSays Adopted n later) (λ (to : NodeId). says (client_node n) to (body.Probe (record { id = r.id; epoch = part.epoch }))) part.witnesses
+        (λ to among. record { sender = refl; says_so = record { request = r; its_id = refl; asked = asked; reads = is; part = part; adopted = adopted; addressed = among; epoch = refl } }),
+  )
+  sent_ok later r part adopted asked fast One false is = (record { sender = refl; says_so = (record { asked = asked; part = part; adopted = adopted; addressed = refl; epoch = refl; version = refl }, is) }, tt)
 
   -- ---- a retry
 
@@ -225,9 +318,9 @@ module _ (Came : NodeId → Body → Type 0) (Adopted : PartConfig → Type 0) (
   resends k p at part adopted =
       let old = evidence_of k p at in
       changes k p (record p { attempts = p.attempts ++ attempt_at part ∷ []; asked = false }) at refl
-      (record { attempts = Each-append (IsAttempt Adopted) p.attempts (attempt_at part ∷ []) old.attempts (record { part = part; adopted = adopted; is = refl }, tt); early = old.early; accepts = old.accepts })
-      (sent_by n c.fast (is_update p.request.command) p.request part)
-      (sent_ok events p.request part adopted (asked_of k p at) c.fast (is_update p.request.command) refl)
+      (record { attempts = Each-append (IsAttempt Adopted) p.attempts (attempt_at part ∷ []) old.attempts (record { part = part; adopted = adopted; is = refl }, tt); early = old.early; accepts = old.accepts; glimpses = old.glimpses; lives = old.lives })
+      (sent_by n c.fast c.protocol (is_update p.request.command) p.request part)
+      (sent_ok events p.request part adopted (asked_of k p at) c.fast c.protocol (is_update p.request.command) refl)
 
   abbrev again_to : Pending → Option PartConfig → Result Resent ℕ
   again_to p o = ok_or o 2 >>= λ (part : PartConfig). Ok (p, part)
@@ -259,12 +352,12 @@ module _ (Came : NodeId → Body → Type 0) (Adopted : PartConfig → Type 0) (
     invokes_at : (part : PartConfig) → Adopted part → Invokes (sends_first n c (next_request n c command) part)
     invokes_at part adopted =
         let r = next_request n c command in
-        let new : Pending = record { request = r; attempts = attempt_at part ∷ []; asked = false; early = []; accepts = [] } in
+        let new : Pending = record { request = r; attempts = attempt_at part ∷ []; asked = false; early = []; accepts = []; glimpses = []; lives = [] } in
         subst (λ (l : List Event). Eff l (sends_first n c r part)) (sym (append-nil later)) (record {
           history = history_invoked n events c numbers history command;
           numbers = numbers_invoked n events c numbers history command new refl;
-          knows = record { config = knows.config; pending = Each-append (EvidenceOk Came Adopted) c.pending (new ∷ []) knows.pending (record { attempts = (record { part = part; adopted = adopted; is = refl }, tt); early = tt; accepts = tt }, tt) };
-          says = sent_ok later r part adopted (fresh_asked n events c numbers history command) c.fast (is_update command) refl;
+          knows = record { config = knows.config; pending = Each-append (EvidenceOk Came Adopted) c.pending (new ∷ []) knows.pending (record { attempts = (record { part = part; adopted = adopted; is = refl }, tt); early = tt; accepts = tt; glimpses = tt; lives = tt }, tt) };
+          says = sent_ok later r part adopted (fresh_asked n events c numbers history command) c.fast c.protocol (is_update command) refl;
           completes = tt;
         })
 

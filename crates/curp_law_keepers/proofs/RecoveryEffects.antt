@@ -167,6 +167,8 @@ module _ (Came : NodeId → Body → Type 0) (n : ℕ) (o : Recover) where
   hears p ok from (body.Sync ask) came = refuses_it (Recovering (at p)) (refl, ok) ask.request.id
   hears p ok from (body.Read ask) came = cond_both (is_update ask.request.command) _ _ (RecoveryEffect Came n o)
       (λ y. record { idle = refl; obeys = refl; stage = (refl, ok); says = tt }) (λ y. refuses_it (Recovering (at p)) (refl, ok) ask.request.id)
+  hears p ok from (body.Glance ask) came = cond_both (is_update ask.request.command) _ _ (RecoveryEffect Came n o)
+      (λ y. record { idle = refl; obeys = refl; stage = (refl, ok); says = tt }) (λ y. refuses_it (Recovering (at p)) (refl, ok) ask.request.id)
   hears p ok from _ came = rests p ok
 
   obeys : (p : RecoveryPhase) → PhaseCame Came o p → (order : Local) → Goes (recovery_ordered n (at p) order)

@@ -33,6 +33,7 @@ use Rattle.curp_law_keepers.specs.Brought.{Brings}
 use Rattle.curp_law_keepers.specs.WitnessEffect.{AcceptedSays, ByFreeze, ByStart, GcAnswerSays, HoldsApart, InputSuitsWitness, WitnessAtHome, Stays, SuitsWitness, WitnessAnswers, WitnessEffect, WitnessLife, held_requests}
 use Rattle.curp_law_keepers.proofs.HeldApart.{left_apart, left_from, new_apart, placed_apart, placed_from, suspects_ask}
 use Rattle.curp_law_keepers.proofs.Lists.{at_mapped, filter_at}
+use Rattle.curp_msg.specs.declared.body.Probe.{Probe}
 
 abbrev has_it : HeldRequest → HeldRequest → Bool
 has_it x y = same_id x.request.id y.request.id
@@ -243,12 +244,26 @@ module _ (n : ℕ) (x : WitnessState) (from to : NodeId) where
         says = (record { sender = refl; says_so = record { order = order; came = came; stands = refl; all = refl } }, tt);
       }
 
+  probes : (a : Probe) → WitnessEffect n (input.Message (says from to (body.Probe a))) x (on_witness n x from (body.Probe a))
+  unfolding on_witness
+  probes a = record {
+    idle = refl;
+    obeys = refl;
+    sets = refl;
+    ways = refl;
+    life = Stays (record { mode = refl; epoch = refl });
+    held = λ q a. inl a;
+    apart = λ a. a;
+    says = (record { sender = refl; says_so = record { probe = a; came = record { to = to; is = refl }; id = refl; epoch = refl; live = refl } }, tt);
+  }
+
   by_message : (b : Body) → WitnessEffect n (input.Message (says from to b)) x (on_witness n x from b)
   unfolding on_witness
   by_message (body.Record r) = record_comes r
   by_message (body.Gc g) = collection_comes g
   by_message (body.Start s) = starts s x.mode refl
   by_message (body.Freeze order) = freezes order
+  by_message (body.Probe a) = probes a
   by_message b = rests b
 
 -- what any input does to a witness

@@ -27,6 +27,8 @@ use Rattle.curp_model.specs.World.{completion, invocation_of}
 use Rattle.curp_facts.specs.Facts.{IsAmong}
 use Rattle.curp_facts.specs.ClientNumbers.{IsAsked, IsInvoked, NumbersOk}
 use Rattle.curp_facts.specs.Evidence.{KnowledgeOk}
+use Rattle.curp_msg.specs.declared.body.Quick.{Quick}
+use Rattle.curp_msg.specs.declared.body.Probe.{Probe}
 
 -- ---- what comes
 
@@ -60,11 +62,24 @@ pub record RecordSays (Adopted : PartConfig → Type 0) (n : ℕ) (events : List
   pub addressed : IsAmong to part.witnesses
   pub epoch : r.epoch ≡ part.epoch
 
+-- a probe of a request that was asked goes to a witness of an adopted entry, with its epoch
+pub record ProbeSays (Adopted : PartConfig → Type 0) (n : ℕ) (events : List Event) (to : NodeId) (a : Probe) : Type 0 where
+  pub request : Request
+  pub its_id : request.id ≡ a.id
+  pub asked : IsAsked n events request
+  pub reads : is_update request.command ≡ false
+  pub part : PartConfig
+  pub adopted : Adopted part
+  pub addressed : IsAmong to part.witnesses
+  pub epoch : a.epoch ≡ part.epoch
+
 -- updates go to masters and witnesses, reads to masters, and the manager is asked for the configuration
 abbrev pub ClientAsks : (PartConfig → Type 0) → ℕ → List Event → NodeId → Body → Type 0
 ClientAsks Adopted n events to (body.Update ask) = AskSays Adopted n events to ask × (is_update ask.request.command ≡ true)
 ClientAsks Adopted n events to (body.Sync ask) = AskSays Adopted n events to ask × (is_update ask.request.command ≡ true)
 ClientAsks Adopted n events to (body.Read ask) = AskSays Adopted n events to ask × (is_update ask.request.command ≡ false)
+ClientAsks Adopted n events to (body.Glance ask) = AskSays Adopted n events to ask × (is_update ask.request.command ≡ false)
+ClientAsks Adopted n events to (body.Probe a) = ProbeSays Adopted n events to a
 ClientAsks Adopted n events to (body.Record r) = RecordSays Adopted n events to r × (is_update r.request.command ≡ true)
 ClientAsks Adopted n events to body.Fetch = to ≡ manager_node
 ClientAsks Adopted n events to _ = ⊥
@@ -108,6 +123,20 @@ pub record ByValue (Came : NodeId → Body → Type 0) (id : RequestId) (a : Ans
   pub its_answer : value.answer ≡ a
   pub its_capture : by ≡ Some (record { master = from; epoch = value.epoch; number = value.capture })
 
+-- a Quick with that answer came from the master of an adopted entry, of its epoch and version, and Live at that epoch from each of
+-- its witnesses; the completion bears its capture
+pub record ByQuick (Came : NodeId → Body → Type 0) (Adopted : PartConfig → Type 0) (id : RequestId) (a : Answer) (by : Option Capture) : Type 0 where
+  pub part : PartConfig
+  pub adopted : Adopted part
+  pub quick : Quick
+  pub came : Came part.master (body.Quick quick)
+  pub its_id : quick.id ≡ id
+  pub its_answer : quick.answer ≡ a
+  pub epoch : quick.epoch ≡ part.epoch
+  pub version : quick.version ≡ part.version
+  pub lives : Each (λ node. Came node (body.Probed (record { id = id; epoch = part.epoch; live = true }))) part.witnesses
+  pub its_capture : by ≡ Some (record { master = part.master; epoch = quick.epoch; number = quick.capture })
+
 -- the evidence of an update
 pub record UpdateCompletes (Came : NodeId → Body → Type 0) (Adopted : PartConfig → Type 0) (r : Request) (done : Completed) : Type 0 where
   pub is : is_update r.command ≡ true
@@ -115,9 +144,9 @@ pub record UpdateCompletes (Came : NodeId → Body → Type 0) (Adopted : PartCo
   pub evidence : BySynced Came done.id done.answer ⊎ ByAccepts Came Adopted done.id done.answer
 
 -- the evidence of a read
-pub record ReadCompletes (Came : NodeId → Body → Type 0) (r : Request) (done : Completed) : Type 0 where
+pub record ReadCompletes (Came : NodeId → Body → Type 0) (Adopted : PartConfig → Type 0) (r : Request) (done : Completed) : Type 0 where
   pub is : is_update r.command ≡ false
-  pub evidence : ByValue Came done.id done.answer done.by
+  pub evidence : ByValue Came done.id done.answer done.by ⊎ ByQuick Came Adopted done.id done.answer done.by
 
 -- a request that was pending completes, and has its evidence
 pub record CompletionOk (Came : NodeId → Body → Type 0) (Adopted : PartConfig → Type 0) (c : ClientState) (done : Completed) : Type 0 where
@@ -125,7 +154,7 @@ pub record CompletionOk (Came : NodeId → Body → Type 0) (Adopted : PartConfi
   pub p : Pending
   pub pending : At c.pending place p
   pub its_id : p.request.id ≡ done.id
-  pub evidence : UpdateCompletes Came Adopted p.request done ⊎ ReadCompletes Came p.request done
+  pub evidence : UpdateCompletes Came Adopted p.request done ⊎ ReadCompletes Came Adopted p.request done
 
 -- nothing completes, or what has its evidence
 abbrev pub MayComplete : (NodeId → Body → Type 0) → (PartConfig → Type 0) → ClientState → Option Completed → Type 0

@@ -21,9 +21,11 @@ use Rattle.curp_msg.specs.declared.machine.Input.TheVariants as input
 use Rattle.curp_msg.specs.declared.message.Message.{Message}
 use Rattle.curp_model.specs.declared.Mode.TheVariants.{Idle, Normal, Frozen}
 use Rattle.curp_model.specs.Laws.{clash}
-use Rattle.curp_model.specs.Witness.{HeldRequest, WitnessState, frozen_requests, holds}
+use Rattle.curp_model.specs.Witness.{HeldRequest, WitnessState, frozen_requests, holds, is_live}
 use Rattle.curp_facts.specs.Facts.{IsAmong}
 use Rattle.curp_law_keepers.specs.Brought.{Brings}
+use Rattle.curp_msg.specs.declared.body.Probed.{Probed}
+use Rattle.curp_msg.specs.declared.body.Probe.{Probe}
 
 -- ---- what it holds
 
@@ -115,11 +117,20 @@ pub record FrozenSays (given : Input) (y : WitnessState) (to : NodeId) (requests
   pub stands : y.mode ≡ Frozen
   pub all : requests ≡ frozen_requests y
 
--- it answers records, collections and freezes alone
+-- a probe of that id and epoch came from the node that is answered; it is live where it serves at that epoch
+pub record ProbedSays (given : Input) (y : WitnessState) (to : NodeId) (a : Probed) : Type 0 where
+  pub probe : Probe
+  pub came : Brings given to (body.Probe probe)
+  pub id : a.id ≡ probe.id
+  pub epoch : a.epoch ≡ probe.epoch
+  pub live : a.live ≡ is_live y.mode y.epoch a.epoch
+
+-- it answers records, collections, probes and freezes alone
 abbrev pub WitnessAnswers : Input → WitnessState → NodeId → Body → Type 0
 WitnessAnswers given y to (body.Accepted a) = AcceptedSays given y to a
 WitnessAnswers given y to (body.Rejected r) = RejectedSays given to r
 WitnessAnswers given y to (body.Collected c) = CollectedSays given y to c
+WitnessAnswers given y to (body.Probed a) = ProbedSays given y to a
 WitnessAnswers given y to (body.FrozenAnswer requests) = FrozenSays given y to requests
 WitnessAnswers given y to _ = ⊥
 

@@ -1,5 +1,5 @@
 -- An input to a client keeps what nodes and messages keep.
-use Rattle.std.proofs.Common.{◌≡◌, ◌≢◌, inl, inr, ℕ, true, false, List, ◌++◌, ap, sym, ◌∙◌, subst, arith, Option, Some, None}
+use Rattle.std.proofs.Common.{◌≡◌, ◌≢◌, inl, inr, ℕ, true, false, List, ◌++◌, ap, sym, ◌∙◌, subst, arith, Option, Some, None, ◌⊎◌}
 use Rattle.curp_base.specs.Words.{At, Each, numbered}
 use Rattle.curp_base.proofs.Lists.{Each-at, Each-weaker, at_append_cases, at_one, at_same, at_within, prefix_back}
 use Rattle.curp_cmd.specs.Node.{client_node}
@@ -23,18 +23,19 @@ use Rattle.curp_order.specs.declared.Event.TheVariants.{Invoke, Complete}
 use Rattle.curp_model.specs.Client.{ClientState, client_input}
 use Rattle.curp_model.specs.World.{World, completion, invocation_of}
 use Rattle.curp_facts.specs.ClientNumbers.{CompletedBelow, IsAsked, NumbersOk}
-use Rattle.curp_facts.specs.Facts.{EntryWas, WasSent}
-use Rattle.curp_facts.specs.Nodes.{ClientOk, CompletedBy, MayCome, ValueWasSent}
+use Rattle.curp_facts.specs.Facts.{EntryWas, WasSent, lists_of_part}
+use Rattle.curp_facts.specs.Nodes.{ClientOk, CompletedBy, MayCome, ValueWasSent, WasRead, WasSeen}
 use Rattle.curp_facts.specs.Said.{AskSaid, RejectedSaid, Says, WorthSaid}
 use Rattle.curp_law_growth.specs.Deeds.{IsFor}
-use Rattle.curp_law_keepers.specs.ClientEffect.{ByValue, ClientAsks, ClientEffect, ClientSays, CompletionOk, InputSuitsClient, MayComplete, SuitsClient, events_after}
+use Rattle.curp_law_keepers.specs.ClientEffect.{ByValue, ClientAsks, ClientEffect, ClientSays, CompletionOk, InputSuitsClient, MayComplete, SuitsClient, events_after, ByQuick}
 use Rattle.curp_law_keepers.proofs.ClientLater.{others_stay}
 use Rattle.curp_law_keepers.proofs.Clients.{client_effect}
 use Rattle.curp_law_keepers.proofs.Numbers.{waiting}
 use Rattle.curp_law_kept.proofs.Completes.{by_accepts, by_synced}
 use Rattle.curp_law_kept.proofs.Known.{Known, knows_later, said}
-use Rattle.curp_law_stays.proofs.Nodes.{completed_by_later, value_later}
+use Rattle.curp_law_stays.proofs.Nodes.{completed_by_later, value_later, read_later}
 use Rattle.curp_law_stays.proofs.Words.{Follows, event_at}
+use Rattle.curp_facts.specs.Reach.{QuickSaid}
 
 -- an id is invoked with one command
 one_command_at : {events : List Event} → IsHistory events → (i j : ℕ) (id : RequestId) (x y : Command) → At events i (Invoke id x) → At events j (Invoke id y) → x ≡ y
@@ -108,10 +109,32 @@ module _ {w v : World} (known : Known w) (n : ℕ) (given : Input) (for : IsFor 
       let client : client_node n ≡ client_node done.id.client = ok.addressee ∙ ap (λ (id : RequestId). client_node id.client) e.its_id in
       (e.from, e.value, subst (λ (to : NodeId). WasSent w (says e.from to (body.Worth e.value))) client e.came, e.its_id, e.its_answer)
 
+  seen_completes : (done : Completed) → ByQuick (MayCome w n) (EntryWas w) done.id done.answer done.by → WasSeen w done.id done.answer
+  seen_completes done e =
+      let ok : QuickSaid w e.came.place e.part.master (client_node n) e.quick = known.inv.messages e.came.place _ e.came.stands in
+      let client : client_node n ≡ client_node done.id.client = ok.addressee ∙ ap (λ (id : RequestId). client_node id.client) e.its_id in
+      record {
+        lists = lists_of_part e.part;
+        adopted = e.adopted.adopted;
+        quick = e.quick;
+        sent = subst (λ (to : NodeId). WasSent w (says e.part.master to (body.Quick e.quick))) client e.came;
+        its_id = e.its_id;
+        its_answer = e.its_answer;
+        its_epoch = e.epoch;
+        its_version = e.version;
+        lives = subst (λ (to : NodeId). Each (λ x. WasSent w (says x to (body.Probed (record { id = done.id; epoch = e.part.epoch; live = true })))) e.part.witnesses) client e.lives;
+      }
+
+  read_completes : (done : Completed) → ByValue (MayCome w n) done.id done.answer done.by ⊎ ByQuick (MayCome w n) (EntryWas w) done.id done.answer done.by → WasRead w done.id done.answer
+  read_completes done e = elim e [
+    | inl k ↦ inl (value_completes done k)
+    | inr k ↦ inr (seen_completes done k)
+  ]
+
   completes : (done : Completed) → CompletionOk (MayCome w n) (EntryWas w) c done → CompletedBy w done.id done.answer
   completes done ok = elim ok.evidence [
     | inl u ↦ elim u.evidence [ inl e ↦ inl (by_synced known n done.id done.answer e) | inr e ↦ inl (by_accepts known n done.id done.answer e) ]
-    | inr r ↦ inr (value_completes done r.evidence)
+    | inr r ↦ inr (read_completes done r.evidence)
   ]
 
   pub completed_keeps : (i : ℕ) (id : RequestId) (a : Answer) → At v.history i (Complete id a) → CompletedBy v id a
@@ -150,13 +173,13 @@ module _ {w v : World} (known : Known w) (n : ℕ) (given : Input) (for : IsFor 
           answers e = cc
 
   -- a completed read had its value sent
-  pub reads_keep : (i j : ℕ) (id : RequestId) (command : Command) (a : Answer) → At v.history i (Invoke id command) → is_update command ≡ false → At v.history j (Complete id a) → ValueWasSent v id a
+  pub reads_keep : (i j : ℕ) (id : RequestId) (command : Command) (a : Answer) → At v.history i (Invoke id command) → is_update command ≡ false → At v.history j (Complete id a) → WasRead v id a
   reads_keep i j id command a invoked reads at = elim (at_append_cases (w.history ++ called) (completion done) j (Complete id a) (subst (λ (h : List Event). At h j (Complete id a)) later at)) [
     | inl old ↦ elim (at_append_cases w.history called j (Complete id a) old) [
-      | inl h ↦ value_later s id a (known.inv.reads i j id command a (before_it h) reads h)
+      | inl h ↦ read_later s id a (known.inv.reads i j id command a (before_it h) reads h)
       | inr h ↦ absurd (no_completion_in given h.0 h.2)
     ]
-    | inr new ↦ value_later s id a (now done its.completes new.0 new.2)
+    | inr new ↦ read_later s id a (now done its.completes new.0 new.2)
   ]
     where
       called : List Event
@@ -183,24 +206,24 @@ module _ {w v : World} (known : Known w) (n : ℕ) (given : Input) (for : IsFor 
       one_event : {x : RequestId} {y : Answer} → Complete x y ≡ Complete id a → (x ≡ id) × (y ≡ a)
       one_event e = (cc, cc)
 
-      not_update : (d : Completed) → CompletionOk (MayCome w n) (EntryWas w) c d → d.id ≡ id → ValueWasSent w d.id d.answer
+      not_update : (d : Completed) → CompletionOk (MayCome w n) (EntryWas w) c d → d.id ≡ id → WasRead w d.id d.answer
       not_update d ok same = elim ok.evidence [
         | inl u ↦
             let asked = (waiting n w.history c (known.inv.clients n c was).numbers ok.place ok.p ok.pending).asked in
             let there : At v.history asked.invoked.0 (Invoke id ok.p.request.command)
             = subst (λ (x : RequestId). At v.history asked.invoked.0 (Invoke x ok.p.request.command)) (ok.its_id ∙ same) (event_at s asked.invoked.0 _ asked.invoked.1) in
             absurd (both (one_command_at history_keeps i asked.invoked.0 id command ok.p.request.command invoked there) reads u.is)
-        | inr r ↦ value_completes d r.evidence
+        | inr r ↦ read_completes d r.evidence
       ]
         where
           both : {x y : Command} → x ≡ y → is_update x ≡ false → is_update y ≡ true → ⊥
           both e p q = cc
 
-      now : (o : Option Completed) → MayComplete (MayCome w n) (EntryWas w) c o → (k : ℕ) → At (completion o) k (Complete id a) → ValueWasSent w id a
+      now : (o : Option Completed) → MayComplete (MayCome w n) (EntryWas w) c o → (k : ℕ) → At (completion o) k (Complete id a) → WasRead w id a
       now None ok k h = absurd cc
       now (Some d) ok k h =
           let e = one_event (at_one (Complete d.id d.answer) k (Complete id a) h).1 in
-          subst (ValueWasSent w id) e.1 (subst (λ (x : RequestId). ValueWasSent w x d.answer) e.0 (not_update d ok e.0))
+          subst (WasRead w id) e.1 (subst (λ (x : RequestId). WasRead w x d.answer) e.0 (not_update d ok e.0))
 
   -- ---- what it says
 
@@ -222,6 +245,16 @@ module _ {w v : World} (known : Known w) (n : ℕ) (given : Input) (for : IsFor 
       go to (body.Update ask) k = record { asked = asked_now ask.request k.0.asked; updates = k.1 }
       go to (body.Sync ask) k = record { asked = asked_now ask.request k.0.asked; updates = k.1 }
       go to (body.Read ask) k = record { asked = asked_now ask.request k.0.asked; reads = k.1 }
+      go to (body.Glance ask) k = record { asked = asked_now ask.request k.0.asked; reads = k.1 }
+      go to (body.Probe a) k =
+          let asked = asked_now k.request k.asked in
+          record {
+            sender = asked.sender ∙ ap (λ (id : RequestId). client_node id.client) k.its_id;
+            place = asked.request.place;
+            command = k.request.command;
+            invoked = subst (λ (id : RequestId). At v.history asked.request.place (Invoke id k.request.command)) k.its_id asked.request.invoked;
+            reads = k.reads;
+          }
       go to (body.Record r) k = record { asked = asked_now r.request k.0.asked; updates = k.1 }
       go to body.Fetch k = tt
       go to _ k = absurd k

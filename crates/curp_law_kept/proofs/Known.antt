@@ -25,14 +25,14 @@ use Rattle.curp_facts.specs.ClientNumbers.{NumbersOk}
 use Rattle.curp_facts.specs.Evidence.{KnowledgeOk}
 use Rattle.curp_facts.specs.Growth.{Steady}
 use Rattle.curp_facts.specs.Invariant.{Invariant, MovingOk, PresentOk}
-use Rattle.curp_facts.specs.Nodes.{ClientOk, CompletedBy, MayCome, ValueWasSent}
+use Rattle.curp_facts.specs.Nodes.{ClientOk, CompletedBy, MayCome, WasRead}
 use Rattle.curp_facts.specs.Said.{Says}
 use Rattle.curp_law_names.specs.Names.{IsOf, Names}
 use Rattle.curp_law_names.specs.Nodes.{MessageFits, Nodes, sender_kind}
 use Rattle.curp_law_keepers.proofs.ClientLater.{knowledge_grows}
 use Rattle.curp_law_kept.proofs.Moved.{given_back, messages_say}
 use Rattle.curp_law_stays.proofs.Entries.{ordered_later}
-use Rattle.curp_law_stays.proofs.Nodes.{completed_by_later, value_later}
+use Rattle.curp_law_stays.proofs.Nodes.{completed_by_later, read_later}
 use Rattle.curp_law_stays.proofs.Said.{entry_was_later, says_later}
 use Rattle.curp_law_stays.proofs.Words.{Follows, ready_later, sent_later}
 
@@ -98,9 +98,9 @@ module _ {w v : World} (known : Known w) (s : Follows w v) {out : List Message} 
   pub completed_stays : (i : ℕ) (id : RequestId) (a : Answer) → At v.history i (Complete id a) → CompletedBy v id a
   completed_stays i id a at = completed_by_later s id a (known.inv.completed i id a (subst (λ (h : List Event). At h i (Complete id a)) f.history at))
 
-  pub reads_stay : (i j : ℕ) (id : RequestId) (command : Command) (a : Answer) → At v.history i (Invoke id command) → is_update command ≡ false → At v.history j (Complete id a) → ValueWasSent v id a
+  pub reads_stay : (i j : ℕ) (id : RequestId) (command : Command) (a : Answer) → At v.history i (Invoke id command) → is_update command ≡ false → At v.history j (Complete id a) → WasRead v id a
   reads_stay i j id command a invoked reads done =
-      value_later s id a (known.inv.reads i j id command a (subst (λ (h : List Event). At h i (Invoke id command)) f.history invoked) reads (subst (λ (h : List Event). At h j (Complete id a)) f.history done))
+      read_later s id a (known.inv.reads i j id command a (subst (λ (h : List Event). At h i (Invoke id command)) f.history invoked) reads (subst (λ (h : List Event). At h j (Complete id a)) f.history done))
 
   pub all_say : ((j : ℕ) (m : Message) → At out j m → Says v (length (messages w) + j) m.from m.to m.body)
       → (k : ℕ) (m : Message) → At (messages v) k m → Says v k m.from m.to m.body

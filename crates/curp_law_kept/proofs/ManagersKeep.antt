@@ -41,7 +41,7 @@ use Rattle.curp_law_names.proofs.Lists.{among_each, number_within, place as plac
 use Rattle.curp_law_names.proofs.Steps.{manager_moved, moved_messages}
 use Rattle.curp_law_stays.proofs.Entries.{ordered_later}
 use Rattle.curp_law_stays.proofs.Masters.{master_ok_later}
-use Rattle.curp_law_stays.proofs.Nodes.{backup_ok_later, completed_by_later, value_later, witness_ok_later}
+use Rattle.curp_law_stays.proofs.Nodes.{backup_ok_later, completed_by_later, read_later, witness_ok_later}
 use Rattle.curp_law_stays.proofs.Said.{ranges_later, says_later}
 use Rattle.curp_law_stays.proofs.Words.{Follows, given_later, ready_later, sent_later}
 
@@ -205,7 +205,7 @@ module _ {w : World} (known : Known w) (given : Input) (for : IsFor w manager_no
       clients = clients_keep;
       history = subst IsHistory (sym same_history) known.inv.history;
       completed = λ i id a at. completed_by_later follows id a (known.inv.completed i id a (subst (λ (h : List Event). At h i (Complete id a)) same_history at));
-      reads = λ i j id command a invoked reads at. value_later follows id a (known.inv.reads i j id command a (subst (λ (h : List Event). At h i (Invoke id command)) same_history invoked) reads (subst (λ (h : List Event). At h j (Complete id a)) same_history at));
+      reads = λ i j id command a invoked reads at. read_later follows id a (known.inv.reads i j id command a (subst (λ (h : List Event). At h i (Invoke id command)) same_history invoked) reads (subst (λ (h : List Event). At h j (Complete id a)) same_history at));
       messages = messages_say w v r.messages sent_is (λ k m at. says_later follows known.inv k m.from m.to m.body (known.inv.messages k m at))
           (λ j m at. says_later follows known.inv (length (messages w) + j) m.from m.to m.body ((Each-at (Uttered w) r.messages does.messages j m at).says_so (length (messages w) + j)));
       present = present_keeps;

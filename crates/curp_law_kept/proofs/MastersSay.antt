@@ -1,11 +1,11 @@
 -- What a serving master says by an input is so.
-use Rattle.std.proofs.Common.{◌≡◌, ◌⊎◌, inl, inr, ℕ, ◌+◌, ◌-◌, ◌<◌, ◌≤◌, Bool, true, false, cond, List, [], ◌∷◌, length, drop, take, map, nat_le, not, refl, ap, sym, ◌∙◌, subst, arith, Option}
+use Rattle.std.proofs.Common.{◌≡◌, ◌⊎◌, inl, inr, ℕ, ◌+◌, ◌-◌, ◌<◌, ◌≤◌, Bool, true, false, cond, List, [], ◌∷◌, length, drop, take, map, nat_le, not, refl, ap, sym, ◌∙◌, subst, arith, Option, ◌&&◌, Some}
 use Rattle.std.proofs.lemmas.Bool.Decides.{nat_tests}
 use Rattle.std.proofs.lemmas.List.{length-drop}
 use Rattle.curp_base.specs.Words.{At, Each, IsPrefix}
-use Rattle.curp_base.proofs.Lists.{Each-weaker, at_same, at_within, prefix_self}
-use Rattle.curp_cmd.specs.Hash.{hashes}
-use Rattle.curp_cmd.specs.Node.{manager_node, master_node, is_among, same_node}
+use Rattle.curp_base.proofs.Lists.{Each-weaker, at_same, at_within, prefix_self, prefix_at, prefix_length}
+use Rattle.curp_cmd.specs.Hash.{hashes, hash_of}
+use Rattle.curp_cmd.specs.Node.{manager_node, master_node, is_among, same_node, client_node}
 use Rattle.curp_cmd.specs.declared.command.Request.{Request}
 use Rattle.curp_cmd.specs.declared.command.RequestId.{RequestId}
 use Rattle.curp_cmd.specs.declared.entry.Entry.{Entry}
@@ -20,28 +20,35 @@ use Rattle.curp_msg.specs.declared.body.Reply.{Reply}
 use Rattle.curp_msg.specs.declared.body.Worth.{Worth}
 use Rattle.curp_msg.specs.declared.message.Message.{Message}
 use Rattle.curp_model.specs.Log.{answer_after, entry_touches, meaning}
-use Rattle.curp_model.specs.Master.{Acknowledged, MasterState, Open, Phase, Switching, fresh_backups, from_backup, least, stored_on, synced}
+use Rattle.curp_model.specs.Master.{Acknowledged, MasterState, Open, Phase, Switching, fresh_backups, from_backup, least, stored_on, synced, state_of}
 use Rattle.curp_model.specs.Recovery.{Serving}
 use Rattle.curp_model.specs.Table.{check}
 use Rattle.curp_model.specs.World.{World, messages}
-use Rattle.curp_facts.specs.Facts.{ByReplacement, HasLog, IsAmong, IsGiven, Lists, Speaks, WasAdopted, WasSent, hi_of, lo_of}
+use Rattle.curp_facts.specs.Facts.{ByReplacement, HasLog, IsAmong, IsGiven, Lists, Speaks, WasAdopted, WasSent, hi_of, lo_of, Logged, OpBelow, ToldWithin}
 use Rattle.curp_facts.specs.Kept.{IsCollectable, lists_of_master}
 use Rattle.curp_facts.specs.Nodes.{AcknowledgedOk, FreeOp, ServingOk}
-use Rattle.curp_facts.specs.Reach.{EarlySaid, GcSaid, HasMany, IsReady, Reach, RecoveredTo, SyncedSaid}
+use Rattle.curp_facts.specs.Reach.{EarlySaid, GcSaid, HasMany, IsReady, Reach, RecoveredTo, SyncedSaid, QuickSaid}
 use Rattle.curp_facts.specs.Said.{GiveWasOrdered, AppendSaid, GcHolds, ReplyHolds, ReplySaid, StoredEntry, WorthSaid}
-use Rattle.curp_law_kept.proofs.Known.{Known}
-use Rattle.curp_law_kept.proofs.MastersHeard.{order_lowest}
+use Rattle.curp_law_kept.proofs.Known.{Known, said}
+use Rattle.curp_law_kept.proofs.MastersHeard.{order_lowest, one_log}
 use Rattle.curp_law_kept.proofs.MastersKept.{lists_adopted, master_keeps}
 use Rattle.curp_law_kept.proofs.MastersMoves.{MasterStep}
 use Rattle.curp_law_kept.proofs.MastersReady.{given_was, manager_was, many_now, no_switch, step_follows}
 use Rattle.curp_law_logs.specs.Standing.{StandsHere}
 use Rattle.curp_law_logs.proofs.Standings.{stands_at, stands_here}
-use Rattle.curp_law_masters.specs.Moves.{GiveOrdered, AppendSays, CollectableIn, EarlySays, GcSays, ReplyKind, ReplySays, ServingMove, StoredSays, SyncedSays, WorthSays}
+use Rattle.curp_law_masters.specs.Moves.{GiveOrdered, AppendSays, CollectableIn, EarlySays, GcSays, ReplyKind, ReplySays, ServingMove, StoredSays, SyncedSays, WorthSays, IsSaidBy, QuickSays, ServingSays}
 use Rattle.curp_law_masters.proofs.Synced.{synced_many}
 use Rattle.curp_law_kept.proofs.Apart.{among_cases}
-use Rattle.curp_law_names.proofs.Lists.{filter_among}
+use Rattle.curp_law_names.proofs.Lists.{filter_among, among_each}
 use Rattle.curp_law_stays.proofs.Entries.{ordered_later}
-use Rattle.curp_law_stays.proofs.Words.{Follows, adopted_later, event_at, given_later, message_at}
+use Rattle.curp_law_stays.proofs.Words.{Follows, adopted_later, event_at, given_later, message_at, log_later, one_state}
+use Rattle.std.proofs.Math.Seq.{take-length}
+use Rattle.curp_cmd.specs.declared.command.Command.TheVariants.{Get}
+use Rattle.curp_msg.specs.declared.body.Quick.{Quick}
+use Rattle.curp_range.specs.Spans.{is_owned}
+use Rattle.curp_model.specs.Ranges.{owns_all}
+use Rattle.curp_law_kept.proofs.Moved.{sent_cases}
+use Rattle.curp_law_masters.proofs.Clean.{clean_apart}
 
 -- ---- what is synced lies in the log
 
@@ -195,6 +202,93 @@ module _ {w v : World} (known : Known w) {n : ℕ} {from : NodeId} {heard : Opti
     invoked = event_at f k.place _ k.invoked;
     reads = k.reads;
   }
+
+  -- ---- reads that are answered at once
+
+  its_log_was : HasLog w (master_node n) (record { log = x.log; round = x.round })
+  its_log_was = record { m = Serving x; is = s.was; its_log = refl }
+
+  -- nothing that it has said tells of more than its log
+  tells_within : (place : ℕ) → place ≤ length (messages v) → ToldWithin v (master_node n) place y.log (length y.log)
+  tells_within place near = record {
+    within = near;
+    appends = λ k reach below r. elim (sent_cases w v out s.frame.sent _ (record { place = k; stands = r.sent })) [
+      | inl was ↦
+          let a : AppendSaid w (master_node n) r.to r.append = said known (master_node n) r.to (body.Append r.append) was in
+          let same : a.holds.l ≡ record { log = x.log; round = x.round } = one_log w (master_node n) _ _ a.holds.its_log its_log_was in
+          omega (arith, a.within, ap (λ (l : Logged). length l.log) same, prefix_length grown, r.reach_is)
+      | inr new ↦
+          let a : AppendSays y r.to r.append = (among_each (IsSaidBy n (ServingSays w y)) out move.says _ new).says_so in
+          let long : length r.append.entries ≡ length y.log - r.append.base = ap (λ (es : List Entry). length es) a.entries ∙ length-drop r.append.base y.log in
+          omega (arith, long, a.within, r.reach_is)
+    ];
+    replies = λ k r below at early. elim (sent_cases w v out s.frame.sent _ (record { place = k; stands = at })) [
+      | inl was ↦
+          let o = by_early_was r r.synced early (said known (master_node n) (client_node r.id.client) (body.Reply r) was).holds in
+          let same : o.m ≡ x = served o.m (one_state _ _ _ o.serves.its_state s.was.its_state) in
+          let stands : At x.log o.index (Op o.request o.acknowledged) = subst (λ (m : MasterState). At m.log o.index (Op o.request o.acknowledged)) same o.stands in
+          op_below o.index o.request o.acknowledged r.id (prefix_at grown o.index _ stands) o.its_id
+      | inr new ↦
+          let o = by_early_now r r.synced early (among_each (IsSaidBy n (ServingSays w y)) out move.says _ new).says_so.kind in
+          op_below o.index o.request o.acknowledged r.id o.stands o.its_id
+    ];
+  }
+    where
+      grown : IsPrefix x.log y.log
+      grown = let o = log_later f (master_node n) (record { log = x.log; round = x.round }) its_log_was in subst (λ (l : Logged). IsPrefix x.log l.log) (one_log v (master_node n) _ _ o.1 log_now) o.2
+
+      served : (m : MasterState) → Serving m ≡ Serving x → m ≡ x
+      served m e = cc
+
+      by_early_was : (r : Reply) (b : Bool) → b ≡ false → ReplyHolds w (master_node n) r b → EarlySaid w (master_node n) r
+      by_early_was r false e k = k
+      by_early_was r true e k = absurd cc
+
+      by_early_now : (r : Reply) (b : Bool) → b ≡ false → ReplyKind y r b → EarlySays y r
+      by_early_now r false e k = k
+      by_early_now r true e k = absurd cc
+
+      op_below : (index : ℕ) (request : Request) (acknowledged : ℕ) (id : RequestId) → At y.log index (Op request acknowledged) → request.id ≡ id → OpBelow y.log id (length y.log)
+      op_below index request acknowledged id at its = record { index = index; request = request; acknowledged = acknowledged; stands = at; its_id = its; below = at_within y.log index _ at }
+
+  pub quick_says : (place : ℕ) → place ≤ length (messages v) → (to : NodeId) (q : Quick) → QuickSays w y to q → QuickSaid v place (master_node n) to q
+  quick_says place near to q k =
+      let whole : take (length y.log) y.log ≡ y.log = take-length y.log in
+      record {
+        lists = lists_of_master (master_node n) y;
+        adopted = adopted_later f was_adopted;
+        its_master = refl;
+        its_epoch = sym k.its_epoch;
+        its_version = sym k.its_version;
+        addressee = k.addressee;
+        event = k.event;
+        key = k.key;
+        invoked = event_at f k.event _ k.invoked;
+        m = y;
+        serves = s.is;
+        captured = omega (arith, k.its_number);
+        long = length y.log;
+        low = omega arith;
+        then_long = tells_within place near;
+        synced = synced y;
+        below = synced_within w y move.acknowledged;
+        apart = λ j e low under at. untouched k.key j e (clean_apart y (Get k.key) k.clean j e low at);
+        owned = in_part (λ lo hi. is_owned (meaning lo hi (take (length y.log) y.log)).owned (hash_of k.key) ≡ true)
+            (subst (λ (es : List Entry). is_owned (meaning y.lo y.hi es).owned (hash_of k.key) ≡ true) (sym whole) (own_one k.key k.owned));
+        its_answer = in_part (λ lo hi. answer_after lo hi (take (length y.log) y.log) (Get k.key) ≡ q.answer)
+            (subst (λ (es : List Entry). answer_after y.lo y.hi es (Get k.key) ≡ q.answer) (sym whole) k.its_answer);
+        reach = reach_open k.serves q.version (synced y) k.its_version (omega arith);
+      }
+    where
+      untouched : (key : List ℕ) (j : ℕ) (e : Entry) → Each (λ h. entry_touches e h ≡ false) (hashes (Get key)) → entry_touches e (hash_of key) ≡ false
+      untouched key j e all = all.0
+
+      own_one : (key : List ℕ) → owns_all (state_of y).owned (hashes (Get key)) ≡ true → is_owned (state_of y).owned (hash_of key) ≡ true
+      own_one key e = and_first (is_owned (state_of y).owned (hash_of key)) e
+        where
+          and_first : (b : Bool) → (b && true) ≡ true → b ≡ true
+          and_first true e = refl
+          and_first false e = absurd cc
 
   -- ---- appends, collections, and what is told of migrations
 

@@ -12,12 +12,12 @@ use Rattle.curp_msg.specs.declared.config.PartConfig.{PartConfig}
 use Rattle.curp_msg.specs.declared.message.Message.{Message}
 use Rattle.curp_msg.specs.declared.script.Header.{Header}
 use Rattle.curp_model.specs.Backup.{BackupState, installed_backup}
-use Rattle.curp_model.specs.Client.{ClientState, fresh_client}
+use Rattle.curp_model.specs.Client.{ClientState}
 use Rattle.curp_model.specs.Manager.{Migration, Shape, opening_config, opening_part}
 use Rattle.curp_model.specs.Named.{IsBackup, IsMaster, IsWitness}
 use Rattle.curp_model.specs.Recovery.{MasterStage}
 use Rattle.curp_model.specs.Witness.{WitnessState, started_witness}
-use Rattle.curp_model.specs.World.{World, messages, opening, opening_master, shape_of}
+use Rattle.curp_model.specs.World.{World, messages, opening, opening_master, shape_of, opening_client}
 use Rattle.curp_facts.specs.Entries.{LogOk}
 use Rattle.curp_facts.specs.Facts.{AtOpening, ByRecovery, ByReplacement, EntryWas, IsAdoptedNow, IsGiven, Lists, Opened, WasAdopted, WasSent, lists_of_part}
 use Rattle.curp_facts.specs.Invariant.{Invariant, MovingOk, PresentOk}
@@ -158,8 +158,8 @@ module _ (h : Header) (its : IsHeader h) where
   unfolding opening
   client_first n c at =
       let p = place_of start.clients n c at in
-      let same = (at_replicate h.clients (fresh_client h.fast (opening_config s)) p.0 c p.2).1 in
-      subst (ClientOk start n) same (record { numbers = fresh_numbers n h.fast (opening_config s); knows = fresh_knows _ (EntryWas start) h.fast (opening_config s) entries_were })
+      let same = (at_replicate h.clients (opening_client h) p.0 c p.2).1 in
+      subst (ClientOk start n) same (record { numbers = fresh_numbers n h.fast h.protocol (opening_config s); knows = fresh_knows _ (EntryWas start) h.fast h.protocol (opening_config s) entries_were })
 
   -- ---- all together
 

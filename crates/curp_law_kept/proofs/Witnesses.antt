@@ -1,5 +1,5 @@
 -- An input to a witness keeps what nodes and messages keep.
-use Rattle.std.proofs.Common.{◌≡◌, inl, inr, ℕ, zero, suc, List, [], ◌∷◌, map, refl, ap, sym, ◌∙◌, subst, Option, Some}
+use Rattle.std.proofs.Common.{◌≡◌, inl, inr, ℕ, zero, suc, List, [], ◌∷◌, map, refl, ap, sym, ◌∙◌, subst, Option, Some, true, None, arith}
 use Rattle.curp_base.specs.Words.{At, Each}
 use Rattle.curp_base.proofs.Lists.{Each-at, Each-from_at, at_map}
 use Rattle.curp_cmd.specs.Node.{client_node, witness_node}
@@ -18,22 +18,25 @@ use Rattle.curp_msg.specs.declared.machine.Input.{Input}
 use Rattle.curp_msg.specs.declared.message.Message.{Message}
 use Rattle.curp_order.specs.declared.Event.TheVariants.{Invoke}
 use Rattle.curp_model.specs.declared.Mode.{Mode}
-use Rattle.curp_model.specs.declared.Mode.TheVariants.{Normal, Frozen}
+use Rattle.curp_model.specs.declared.Mode.TheVariants.{Normal, Frozen, Idle}
 use Rattle.curp_model.specs.Named.{IsWitness}
-use Rattle.curp_model.specs.Witness.{HeldRequest, WitnessState}
+use Rattle.curp_model.specs.Witness.{HeldRequest, WitnessState, is_live}
 use Rattle.curp_model.specs.World.{World}
 use Rattle.curp_facts.specs.Entries.{UpdateOk}
 use Rattle.curp_facts.specs.Facts.{IsAmong, IsGiven, Lists, WasSent}
 use Rattle.curp_facts.specs.Nodes.{StartedAt, WitnessOk}
-use Rattle.curp_facts.specs.Said.{Says, SuspectsHold, UpdateSaid}
+use Rattle.curp_facts.specs.Said.{Says, SuspectsHold, UpdateSaid, ProbeSaid}
 use Rattle.curp_law_growth.specs.Deeds.{IsFor}
 use Rattle.curp_law_keepers.specs.Brought.{Brings}
-use Rattle.curp_law_keepers.specs.WitnessEffect.{AcceptedSays, ByFreeze, ByStart, GcAnswerSays, RejectedSays, Stays, WitnessAnswers, WitnessEffect, WitnessLife, WitnessSays, held_requests}
+use Rattle.curp_law_keepers.specs.WitnessEffect.{AcceptedSays, ByFreeze, ByStart, GcAnswerSays, RejectedSays, Stays, WitnessAnswers, WitnessEffect, WitnessLife, WitnessSays, held_requests, ProbedSays}
 use Rattle.curp_law_keepers.proofs.Brought.{brought_sent}
 use Rattle.curp_law_kept.proofs.Known.{Known, from_manager, said}
 use Rattle.curp_law_names.specs.Names.{StartOk}
 use Rattle.curp_law_stays.proofs.Entries.{update_later}
 use Rattle.curp_law_stays.proofs.Words.{Follows, event_at}
+use Rattle.curp_msg.specs.declared.body.Probe.{Probe}
+use Rattle.curp_msg.specs.declared.body.Probed.{Probed}
+use Rattle.std.proofs.lemmas.Bool.Decides.{nat_tests}
 
 module _ {w v : World} (known : Known w) (s : Follows w v) (n : ℕ) (given : Input) (for : IsFor w (witness_node n) given) (x : WitnessState) (r : Moved WitnessState)
     (effect : WitnessEffect n given x r) (was : IsWitness w (witness_node n) x) (is : IsWitness v (witness_node n) r.state) where
@@ -121,6 +124,27 @@ module _ {w v : World} (known : Known w) (s : Follows w v) (n : ℕ) (given : In
         updates = asked.updates;
       }
 
+  probe_said : (from : NodeId) (q : Probe) → Brings given from (body.Probe q) → ProbeSaid w from q.id
+  probe_said from q came = said known from (witness_node n) (body.Probe q) (brought_sent w (witness_node n) given from (body.Probe q) for came)
+
+  live_at : (m : Mode) (e : Option ℕ) (epoch : ℕ) → is_live m e epoch ≡ true → e ≡ Some epoch
+  live_at Normal (Some own) epoch t = let same : own ≡ epoch = grind (arith, nat_tests) in ap Some same
+  live_at Normal None epoch t = absurd cc
+  live_at Idle e epoch t = absurd cc
+  live_at Frozen e epoch t = absurd cc
+
+  probed_says : (place : ℕ) (to : NodeId) (a : Probed) → ProbedSays given r.state to a → Says v place (witness_node n) to (body.Probed a)
+  probed_says place to a k =
+      let p = probe_said to k.probe k.came in
+      record {
+        addressee = p.sender ∙ ap (λ (id : RequestId). client_node id.client) (sym k.id);
+        place = p.place;
+        command = p.command;
+        invoked = event_at s p.place _ (subst (λ (id : RequestId). At w.history p.place (Invoke id p.command)) (sym k.id) p.invoked);
+        reads = p.reads;
+        own = λ live. (r.state, is, live_at r.state.mode r.state.epoch a.epoch (sym k.live ∙ live));
+      }
+
   suspects_say : (epoch : ℕ) (answer : GcAnswer) → GcAnswerSays r.state epoch answer → SuspectsHold v answer
   suspects_say epoch (Suspects requests) ok = Each-from_at (UpdateOk v) requests (λ k q at. held_ok q (Each-at (λ (q : Request). IsAmong q (held_requests r.state)) requests ok.held k q at))
   suspects_say epoch _ ok = tt
@@ -132,5 +156,6 @@ module _ {w v : World} (known : Known w) (s : Follows w v) (n : ℕ) (given : In
       go to (body.Accepted a) k = accepted_says place to a k
       go to (body.Rejected a) k = rejected_says place to a k
       go to (body.Collected c) k = suspects_say c.epoch c.answer k.answer
+      go to (body.Probed a) k = probed_says place to a k
       go to (body.FrozenAnswer requests) k = record { x = r.state; is = is; its_requests = sym k.all; frozen = k.stands }
       go to _ k = absurd k

@@ -177,6 +177,22 @@ module _ (w : World) (part : ℕ) (m : MasterState) (p : Parts w part m) where
       parts_with m.free m.held queue m.captures m.captured (omega arith) p.free p.held
       (Each-weaker _ _ (λ q x. x.0) queue (each_filtered (QueuedOk m) test m.queue p.queue)) (old_captures m.free m.held queue)
 
+-- a read is answered at once, which takes a capture number
+pub parts_glance : (w : World) (part : ℕ) (m : MasterState) → Parts w part m → Parts w part (record m { captured = m.captured + 1 })
+parts_glance w part m p =
+    let k : MasterState = record m { captured = m.captured + 1 } in
+    let g : Grown m k = record { lo = refl; hi = refl; log = prefix_self m.log; round = omega arith; captured = omega arith; opens = λ is. (is, omega arith) } in
+    record {
+      lo = p.lo;
+      hi = p.hi;
+      log = p.log;
+      acknowledged = acknowledgements_grow w m k g m.acknowledged p.acknowledged;
+      free = λ index has_it. free_grows w m k g index (p.free index has_it);
+      held = held_grow w m k g m.held p.held;
+      queue = queued_grow w m k g m.queue p.queue;
+      captures = captures_grow w m k g m.captures p.captures;
+    }
+
 -- a read is captured, and a round begins for it
 pub parts_capture : (w : World) (part : ℕ) (m : MasterState) → Parts w part m → (c : Captured) → CapturedOk w (record m { captures = m.captures ++ c ∷ []; captured = m.captured + 1; round = m.round + 1 }) c
     → Parts w part (record m { captures = m.captures ++ c ∷ []; captured = m.captured + 1; round = m.round + 1 })

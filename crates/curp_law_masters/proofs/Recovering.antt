@@ -246,6 +246,8 @@ recovering_moves w n s lo hi ok from (body.Update ask) heard Goal on starts = on
 recovering_moves w n s lo hi ok from (body.Sync ask) heard Goal on starts = on _ (turned_away w n s.order s.phase ask.request.id ok)
 recovering_moves w n s lo hi ok from (body.Read ask) heard Goal on starts = cond_both (is_update ask.request.command) _ _ Goal
     (λ y. on (quiet s) (stays w n s.order s.phase s.phase (λ x. x) ok)) (λ y. on _ (turned_away w n s.order s.phase ask.request.id ok))
+recovering_moves w n s lo hi ok from (body.Glance ask) heard Goal on starts = cond_both (is_update ask.request.command) _ _ Goal
+    (λ y. on (quiet s) (stays w n s.order s.phase s.phase (λ x. x) ok)) (λ y. on _ (turned_away w n s.order s.phase ask.request.id ok))
 recovering_moves w n s lo hi ok from _ heard Goal on starts = on (quiet s) (stays w n s.order s.phase s.phase (λ x. x) ok)
 
 -- and so does an order
@@ -269,4 +271,5 @@ fresh_moves w n (body.Recover o) Goal on refuses = on o (on_recover n o) refl (a
 fresh_moves w n (body.Update ask) Goal on refuses = refuses _ (record { sender = refl; says_so = record { addressee = refl; first = tt } }, tt)
 fresh_moves w n (body.Sync ask) Goal on refuses = refuses _ (record { sender = refl; says_so = record { addressee = refl; first = tt } }, tt)
 fresh_moves w n (body.Read ask) Goal on refuses = cond_both (is_update ask.request.command) _ _ Goal (λ y. refuses [] tt) (λ y. refuses _ (record { sender = refl; says_so = record { addressee = refl; first = tt } }, tt))
+fresh_moves w n (body.Glance ask) Goal on refuses = cond_both (is_update ask.request.command) _ _ Goal (λ y. refuses [] tt) (λ y. refuses _ (record { sender = refl; says_so = record { addressee = refl; first = tt } }, tt))
 fresh_moves w n _ Goal on refuses = refuses [] tt

@@ -29,7 +29,7 @@ use Rattle.curp_msg.specs.declared.message.Message.{Message}
 use Rattle.curp_order.specs.declared.Event.TheVariants.{Invoke}
 use Rattle.curp_model.specs.Log.{answer_after, meaning}
 use Rattle.curp_cmd.specs.declared.entry.Entry.TheVariants.{Op}
-use Rattle.curp_model.specs.Master.{MasterState, Open, Switch, Switching, from_backup, has, stored_on, synced}
+use Rattle.curp_model.specs.Master.{MasterState, Open, Switch, Switching, from_backup, has, stored_on, synced, is_clean, state_of}
 use Rattle.curp_model.specs.Recovery.{RecoveryPhase, RecoveryState, Storing}
 use Rattle.curp_model.specs.Table.{check}
 use Rattle.curp_model.specs.World.{World}
@@ -39,6 +39,10 @@ use Rattle.curp_facts.specs.Kept.{AllCompletedBelow, IsCollectable, RefusalFirst
 use Rattle.curp_facts.specs.Nodes.{AcknowledgedOk, CapturedOk, FreeOp, IsOnEach, IsOpAt, IsWaiting, QueuedOk, StageOk, WasPrepared}
 use Rattle.curp_facts.specs.Reach.{HasStored, StandsAt}
 use Rattle.curp_facts.specs.Said.{IsGiveFrom, IsTakeOf}
+use Rattle.curp_msg.specs.declared.body.Quick.{Quick}
+use Rattle.curp_cmd.specs.declared.command.Command.TheVariants.{Get}
+use Rattle.curp_cmd.specs.Hash.{hashes}
+use Rattle.curp_model.specs.Ranges.{owns_all}
 
 -- ---- what a serving master hears
 
@@ -57,6 +61,7 @@ abbrev pub Hears : World → MasterState → NodeId → Body → Type 0
 Hears w m from (body.Update ask) = UpdateOk w ask.request
 Hears w m from (body.Sync ask) = UpdateOk w ask.request
 Hears w m from (body.Read ask) = RequestOk w ask.request
+Hears w m from (body.Glance ask) = RequestOk w ask.request
 Hears w m from (body.Appended a) = HearsAnswer w m from a.round a.answer
 Hears w m from (body.Collected c) = HearsSuspects w c.answer
 Hears w m from (body.Adopted a) = WasPrepared m a.version
@@ -104,6 +109,20 @@ pub record WorthSays (w : World) (m : MasterState) (to : NodeId) (v : Worth) : T
   pub command : Command
   pub invoked : At w.history place (Invoke v.id command)
   pub reads : cmd.is_update command ≡ false
+
+-- a read was answered at once, by the log as it is: it was invoked, no entry that isn't synced touches its key, and the key is owned
+pub record QuickSays (w : World) (m : MasterState) (to : NodeId) (q : Quick) : Type 0 where
+  pub serves : m.phase ≡ Open
+  pub its_epoch : q.epoch ≡ m.epoch
+  pub its_version : q.version ≡ m.version
+  pub addressee : to ≡ client_node q.id.client
+  pub its_number : q.capture ≡ m.captured
+  pub event : ℕ
+  pub key : List ℕ
+  pub invoked : At w.history event (Invoke q.id (Get key))
+  pub clean : is_clean m (Get key) ≡ true
+  pub owned : owns_all (state_of m).owned (hashes (Get key)) ≡ true
+  pub its_answer : answer_after m.lo m.hi m.log (Get key) ≡ q.answer
 
 -- a refusal goes to its client, and the first number that it tells is one below which all is completed
 pub record RefuseSays (w : World) (to : NodeId) (r : Refuse) : Type 0 where
@@ -156,6 +175,7 @@ pub record GiveOrdered (w : World) (part migration : ℕ) : Type 0 where
 -- what a serving master says, by the kind of the message. It says nothing else
 abbrev pub ServingSays : World → MasterState → NodeId → Body → Type 0
 ServingSays w m to (body.Reply r) = ReplySays m to r
+ServingSays w m to (body.Quick q) = QuickSays w m to q
 ServingSays w m to (body.Worth v) = WorthSays w m to v
 ServingSays w m to (body.Refuse r) = RefuseSays w to r
 ServingSays w m to (body.Append a) = AppendSays m to a

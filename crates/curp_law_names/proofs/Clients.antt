@@ -29,7 +29,7 @@ use Rattle.curp_msg.specs.declared.machine.Input.{Input}
 use Rattle.curp_msg.specs.declared.machine.Input.TheVariants as input
 use Rattle.curp_msg.specs.declared.machine.Local.{Local}
 use Rattle.curp_msg.specs.declared.machine.Local.TheVariants as local
-use Rattle.curp_model.specs.Client.{Attempt, ClientState, Early, Pending, accepted, asks, attempt_at, client_input, client_ordered, completes_with, configured, early_reply, fetch, if_proved, invoke, most_pending, next_request, on_client, owner_of, proved_answer, rejected, replaced, replied, retry, sends_again, sends_first, sent_by, valued, with_accept, with_early, with_evidence, with_id, with_pending}
+use Rattle.curp_model.specs.Client.{Attempt, ClientState, Early, Pending, accepted, asks, attempt_at, client_input, client_ordered, completes_with, configured, early_reply, fetch, if_proved, invoke, most_pending, next_request, on_client, owner_of, proved_answer, rejected, replaced, replied, retry, sends_again, sends_first, sent_by, valued, with_accept, with_early, with_evidence, with_id, with_pending, Glimpse, with_sight, seen_glimpse, if_seen, glimpsed, with_glimpse, glimpse, asks_value, probed}
 use Rattle.curp_model.specs.Named.{IsNodeOf}
 use Rattle.curp_model.specs.Ranges.{owns_all}
 use Rattle.curp_model.specs.World.{World}
@@ -38,6 +38,10 @@ use Rattle.curp_law_names.specs.Names.{ConfigurationOk, GivenOk, IsOf, Names}
 use Rattle.curp_law_names.specs.Nodes.{ClientFits, MessageFits, PendingFits, sender_kind}
 use Rattle.curp_law_names.proofs.Keepers.{AllSaid, Said, each_filter}
 use Rattle.curp_law_names.proofs.Lists.{among_each, each_among, filter_among, first_among, last_among}
+use Rattle.curp_msg.specs.declared.script.Protocol.{Protocol}
+use Rattle.curp_msg.specs.declared.script.Protocol.TheVariants.{One, Two}
+use Rattle.curp_msg.specs.declared.body.Quick.{Quick}
+use Rattle.curp_msg.specs.declared.body.Probed.{Probed}
 
 -- a message that comes was sent, and fits
 abbrev pub Arrives : World → Input → Type 0
@@ -58,17 +62,24 @@ module _ (w : World) (n : Names w) (k : ℕ) (me : IsNodeOf w kind.Client k) whe
   own_said : (to : NodeId) (b : Body) → MessageFits w (says (client_node k) to b) → Said w (client_node k) (says (client_node k) to b)
   own_said to b fits = record { from = refl; fits = fits }
 
-  sent_fits : (fast update : Bool) (r : Request) (p : PartConfig) → r.id.client ≡ k → WasAdopted w (lists_of_part p) → AllSaid w (client_node k) (sent_by k fast update r p)
-  sent_fits true true r p own was =
+  sent_fits : (fast : Bool) (protocol : Protocol) (update : Bool) (r : Request) (p : PartConfig) → r.id.client ≡ k → WasAdopted w (lists_of_part p) → AllSaid w (client_node k) (sent_by k fast protocol update r p)
+  sent_fits true protocol true r p own was =
       let ok : GivenOk w (lists_of_part p) = n.given (lists_of_part p) was.given in (
         own_said p.master _ (record { sender = (refl, me); addressee = ok.master; fits = ap client_node (sym own) }),
         Each-map (Said w (client_node k)) (λ (to : NodeId). says (client_node k) to (body.Record (record { request = r; epoch = p.epoch }))) p.witnesses
             (each_among (λ (to : NodeId). Said w (client_node k) (says (client_node k) to (body.Record (record { request = r; epoch = p.epoch })))) p.witnesses (λ to a.
             own_said to _ (record { sender = (refl, me); addressee = among_each (IsOf w kind.Witness) p.witnesses ok.witnesses to a; fits = ap client_node (sym own) }))),
       )
-  sent_fits false true r p own was =
+  sent_fits false protocol true r p own was =
       (own_said p.master _ (record { sender = (refl, me); addressee = (n.given (lists_of_part p) was.given).master; fits = ap client_node (sym own) }), tt)
-  sent_fits fast false r p own was =
+  sent_fits fast Two false r p own was =
+      let ok : GivenOk w (lists_of_part p) = n.given (lists_of_part p) was.given in (
+        own_said p.master _ (record { sender = (refl, me); addressee = ok.master; fits = ap client_node (sym own) }),
+        Each-map (Said w (client_node k)) (λ (to : NodeId). says (client_node k) to (body.Probe (record { id = r.id; epoch = p.epoch }))) p.witnesses
+            (each_among (λ (to : NodeId). Said w (client_node k) (says (client_node k) to (body.Probe (record { id = r.id; epoch = p.epoch })))) p.witnesses (λ to a.
+            own_said to _ (record { sender = (refl, me); addressee = among_each (IsOf w kind.Witness) p.witnesses ok.witnesses to a; fits = ap client_node (sym own) }))),
+      )
+  sent_fits fast One false r p own was =
       (own_said p.master _ (record { sender = (refl, me); addressee = (n.given (lists_of_part p) was.given).master; fits = ap client_node (sym own) }), tt)
 
   -- a sending to an entry of adopted lists
@@ -95,7 +106,7 @@ module _ (w : World) (n : Names w) (k : ℕ) (me : IsNodeOf w kind.Client k) whe
     first_goes command (Some p) e =
         let was = owner_was command p e in (
           record { config = ok.config; pending = Each-append (PendingFits w k) c.pending _ ok.pending (record { own = refl; attempts = (attempt_was p was, tt) }, tt) },
-          sent_fits c.fast (is_update command) (next_request k c command) p refl was,
+          sent_fits c.fast c.protocol (is_update command) (next_request k c command) p refl was,
         )
 
     invoke_goes : (command : Command) → Goes (invoke k c command)
@@ -122,7 +133,7 @@ module _ (w : World) (n : Names w) (k : ℕ) (me : IsNodeOf w kind.Client k) whe
     again_goes p one (Some part) e =
         let was = owner_was p.request.command part e in (
           with_fits _ (record { own = one.own; attempts = Each-append (AttemptWas w) p.attempts _ one.attempts (attempt_was part was, tt) }),
-          sent_fits c.fast (is_update p.request.command) p.request part one.own was,
+          sent_fits c.fast c.protocol (is_update p.request.command) p.request part one.own was,
         )
 
     retry_goes : (seq : ℕ) → Goes (retry k c seq)
@@ -178,6 +189,38 @@ module _ (w : World) (n : Names w) (k : ℕ) (me : IsNodeOf w kind.Client k) whe
           (own_said a.master _ (record { sender = (refl, me); addressee = master; fits = ap client_node (sym one.own) }), tt),
         )
 
+    sight_goes : (p : Pending) → PendingFits w k p → Goes (with_sight c p)
+    sight_goes p one = by_sight (seen_glimpse p)
+      where
+        by_sight : (o : Option Glimpse) → Goes (if_seen c p o)
+        by_sight None = (with_fits p one, tt)
+        by_sight (Some g) = completes_goes p.request.id g.answer (Some (record { master = g.master; epoch = g.epoch; number = g.capture }))
+
+    glimpsed_goes : (from : NodeId) (q : Quick) (o : Option Pending) → with_id q.id c.pending ≡ o → Goes (glimpsed c from q o)
+    glimpsed_goes from q None e = rests
+    glimpsed_goes from q (Some p) e =
+        let one = pending_fits q.id p e in
+        cond_both (is_update p.request.command) _ _ Goes (λ y. rests)
+        (λ y. sight_goes (record p { glimpses = with_glimpse p.glimpses (glimpse from q) }) (record { own = one.own; attempts = one.attempts }))
+
+    asks_value_goes : (p : Pending) → PendingFits w k p → (o : Option Attempt) → last_of p.attempts ≡ o → Goes (asks_value k c p o)
+    asks_value_goes p one None e = rests
+    asks_value_goes p one (Some a) e =
+        let was : AttemptWas w a = among_each (AttemptWas w) p.attempts one.attempts a (last_among p.attempts a e) in
+        let master : IsOf w kind.Master a.master = subst (IsOf w kind.Master) (sym was.its_master) (n.given was.lists was.adopted.given).master in (
+          with_fits _ (record { own = one.own; attempts = one.attempts }),
+          (own_said a.master _ (record { sender = (refl, me); addressee = master; fits = ap client_node (sym one.own) }), tt),
+        )
+
+    probed_goes : (from : NodeId) (a : Probed) (o : Option Pending) → with_id a.id c.pending ≡ o → Goes (probed k c from a o)
+    probed_goes from a None e = rests
+    probed_goes from a (Some p) e =
+        let one = pending_fits a.id p e in
+        cond_both (is_update p.request.command) _ _ Goes (λ y. rests) (λ y.
+        cond_both a.live _ _ Goes
+        (λ z. sight_goes (record p { lives = with_accept p.lives (record { witness = from; epoch = a.epoch }) }) (record { own = one.own; attempts = one.attempts }))
+        (λ z. cond_both p.asked _ _ Goes (λ t. rests) (λ t. asks_value_goes p one (last_of p.attempts) refl)))
+
     rejected_goes : (id : RequestId) (o : Option Pending) → with_id id c.pending ≡ o → Goes (rejected k c o)
     rejected_goes id None e = rests
     rejected_goes id (Some p) e = cond_both p.asked _ _ Goes (λ y. rests) (λ y. asks_goes p (pending_fits id p e) (last_of p.attempts) refl)
@@ -190,6 +233,8 @@ module _ (w : World) (n : Names w) (k : ℕ) (me : IsNodeOf w kind.Client k) whe
     client_hears from to (body.Reply r) sender sent = replied_goes from r (with_id r.id c.pending) refl
     client_hears from to (body.Accepted a) sender sent = accepted_goes from a (with_id a.id c.pending) refl
     client_hears from to (body.Worth v) sender sent = valued_goes from v (with_id v.id c.pending)
+    client_hears from to (body.Quick q) sender sent = glimpsed_goes from q (with_id q.id c.pending) refl
+    client_hears from to (body.Probed a) sender sent = probed_goes from a (with_id a.id c.pending) refl
     client_hears from to (body.Rejected r) sender sent = rejected_goes r.id (with_id r.id c.pending) refl
     client_hears from to (body.Configuration config) sender sent =
         configured_goes config (n.manager_says to (body.Configuration config) (subst (λ (x : NodeId). WasSent w (says x to (body.Configuration config))) (is_manager w from sender) sent)).1

@@ -54,6 +54,10 @@ module _ {w v : World} (g : Later w v) where
   body_later from to (body.Sync ask) is = is
   body_later from to (body.Read ask) is = is
   body_later from to (body.Record r) is = is
+  body_later from to (body.Glance ask) is = is
+  body_later from to (body.Probe a) is = is
+  body_later from to (body.Probed a) is = is
+  body_later from to (body.Quick q) is = is
   body_later from to (body.Reply r) is = is
   body_later from to (body.Worth v) is = is
   body_later from to (body.Refuse r) is = is

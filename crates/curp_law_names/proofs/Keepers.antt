@@ -186,6 +186,7 @@ module _ (w : World) where
     witness_hears from to (body.Start s) sender fits = (started_fits x.mode s.epoch, tt)
     witness_hears from to (body.Freeze epoch) sender fits =
         (ok, (record { from = refl; fits = record { sender = (refl, me); addressee = sender; fits = fold_fits [] _ tt (requests_fit x.held ok) } }, tt))
+    witness_hears from to (body.Probe a) sender fits = (ok, (record { from = refl; fits = record { sender = (refl, me); addressee = sender; fits = fits } }, tt))
     witness_hears from to _ sender fits = (ok, tt)
 
     -- what comes to a witness

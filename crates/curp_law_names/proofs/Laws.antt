@@ -34,6 +34,8 @@ home : (w : World) (from to : NodeId) (b : Body) → BodyFits w from to b → Go
 home w from to (body.Reply r) fits = fits
 home w from to (body.Worth v) fits = fits
 home w from to (body.Refuse r) fits = fits
+home w from to (body.Quick q) fits = fits
+home w from to (body.Probed a) fits = fits
 home w from to (body.Accepted a) fits = fits
 home w from to (body.Rejected r) fits = fits
 home w from to _ fits = tt

@@ -11,11 +11,11 @@ use Rattle.curp_msg.specs.declared.config.PartConfig.{PartConfig}
 use Rattle.curp_msg.specs.declared.message.Message.{Message}
 use Rattle.curp_msg.specs.declared.script.Header.{Header}
 use Rattle.curp_model.specs.Backup.{BackupState, installed_backup}
-use Rattle.curp_model.specs.Client.{ClientState, fresh_client}
+use Rattle.curp_model.specs.Client.{ClientState}
 use Rattle.curp_model.specs.Manager.{Doing, Shape, Steady, opening_config, opening_part}
 use Rattle.curp_model.specs.Recovery.{MasterStage}
 use Rattle.curp_model.specs.Witness.{WitnessState, started_witness}
-use Rattle.curp_model.specs.World.{World, messages, opening, opening_master, shape_of}
+use Rattle.curp_model.specs.World.{World, messages, opening, opening_master, shape_of, opening_client}
 use Rattle.curp_facts.specs.Facts.{AtOpening, ByRecovery, ByReplacement, IsAdoptedNow, IsGiven, Lists, WasAdopted, lists_of_part}
 use Rattle.curp_facts.specs.Run.{IsHeader}
 use Rattle.curp_law_names.specs.Names.{Agree, ConfigurationOk, DoingOk, GivenOk, IsOf, Names, NumbersOk, Top}
@@ -190,11 +190,11 @@ module _ (h : Header) (its : IsHeader h) where
     adopted = each_among (λ (c : PartConfig). WasAdopted start (lists_of_part c)) (opening_config s).parts (λ c a. adopted_opening a.place c a.stands);
   }
 
-  opening_client : (n : ℕ) (c : ClientState) → numbered start.clients n ≡ Some c → ClientFits start n c
+  client_at_opening : (n : ℕ) (c : ClientState) → numbered start.clients n ≡ Some c → ClientFits start n c
   unfolding opening
-  opening_client n c at =
+  client_at_opening n c at =
       let p = place start.clients n c at in
-      let same = (at_replicate h.clients (fresh_client h.fast (opening_config s)) p.0 c p.2).1 in
+      let same = (at_replicate h.clients (opening_client h) p.0 c p.2).1 in
       subst (ClientFits start n) same (record { config = opening_configuration; pending = tt })
 
   opening_serves : (k n : ℕ) → At (numbers_from 1 h.parts) k n → MasterFits start n (opening_master s n)
@@ -226,4 +226,4 @@ module _ (h : Header) (its : IsHeader h) where
 
   pub opening_nodes : Nodes start
   unfolding opening
-  opening_nodes = record { said = tt; clients = opening_client; masters = opening_master_fits; backups = opening_backup; witnesses = opening_witness }
+  opening_nodes = record { said = tt; clients = client_at_opening; masters = opening_master_fits; backups = opening_backup; witnesses = opening_witness }

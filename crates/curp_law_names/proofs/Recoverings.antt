@@ -155,6 +155,7 @@ module _ (w : World) (n : Names w) (k : ℕ) (me : IsNodeOf w kind.Master k) whe
   fresh_fits from to (body.Update ask) sender fits here sent = turned_fits Fresh tt ask.request.id (asked_by w from ask.request.id.client sender fits)
   fresh_fits from to (body.Sync ask) sender fits here sent = turned_fits Fresh tt ask.request.id (asked_by w from ask.request.id.client sender fits)
   fresh_fits from to (body.Read ask) sender fits here sent = turned_read_fits Fresh tt ask.request (asked_by w from ask.request.id.client sender fits)
+  fresh_fits from to (body.Glance ask) sender fits here sent = turned_read_fits Fresh tt ask.request (asked_by w from ask.request.id.client sender fits)
   fresh_fits from to _ sender fits here sent = (tt, tt)
 
   fence_fits : (s : RecoveryState) → RecoveringFits w k s → (from : NodeId) (a : FenceReply) → ReplyAsked w a → Goes (fence_answered k s from a)
@@ -173,6 +174,7 @@ module _ (w : World) (n : Names w) (k : ℕ) (me : IsNodeOf w kind.Master k) whe
   recovering_fits s ok from to (body.Update ask) sender fits = turned_fits (Recovering s) ok ask.request.id (asked_by w from ask.request.id.client sender fits)
   recovering_fits s ok from to (body.Sync ask) sender fits = turned_fits (Recovering s) ok ask.request.id (asked_by w from ask.request.id.client sender fits)
   recovering_fits s ok from to (body.Read ask) sender fits = turned_read_fits (Recovering s) ok ask.request (asked_by w from ask.request.id.client sender fits)
+  recovering_fits s ok from to (body.Glance ask) sender fits = turned_read_fits (Recovering s) ok ask.request (asked_by w from ask.request.id.client sender fits)
   recovering_fits s ok from to _ sender fits = (ok, tt)
 
   master_hears : (m : MasterStage) → MasterFits w k m → (from to : NodeId) (b : Body) → IsOf w (sender_kind b) from → BodyFits w from to b → to ≡ master_node k → WasSent w (says from to b) → Fits (on_master k m from b)

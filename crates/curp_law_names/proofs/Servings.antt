@@ -37,7 +37,7 @@ use Rattle.curp_range.specs.Spans.{is_covered}
 use Rattle.curp_model.specs.declared.Check.{Check}
 use Rattle.curp_model.specs.declared.Check.TheVariants.{Expired, Known, New, Stale}
 use Rattle.curp_model.specs.Log.{LastGive, LastTake, package_of}
-use Rattle.curp_model.specs.Master.{AtOnce, Captured, Deny, Execute, HoldBack, MasterState, Open, Phase, Switch, Switching, Tell, TellAgain, Verdict, WhenSynced, Wish, adopted_in, all_have, append_to, appends, begins_round, between, by_message, captures_read, carries_out, collect_in, collects, executes, fresh_backups, give_after, goes_on, holds_back, is_clean, is_open, is_ready, marked_free, moved_entry, on_appended, on_collected, on_expire, on_read, on_serving, on_update, prepare_in, prepares, pushed, push_take, raised, read_command, read_of, read_refusal, refuse, reply, serving_ordered, settle, state_of, stored_on, switch_to, sync_in, synced, synced_replies, synced_reply, take_after, told_again, treat, treated, unless_it_ends, value_of, verdict}
+use Rattle.curp_model.specs.Master.{AtOnce, Captured, Deny, Execute, HoldBack, MasterState, Open, Phase, Switch, Switching, Tell, TellAgain, Verdict, WhenSynced, Wish, adopted_in, all_have, append_to, appends, begins_round, between, by_message, captures_read, carries_out, collect_in, collects, executes, fresh_backups, give_after, goes_on, holds_back, is_clean, is_open, is_ready, marked_free, moved_entry, on_appended, on_collected, on_expire, on_read, on_serving, on_update, prepare_in, prepares, pushed, push_take, raised, read_command, read_of, read_refusal, refuse, reply, serving_ordered, settle, state_of, stored_on, switch_to, sync_in, synced, synced_replies, synced_reply, take_after, told_again, treat, treated, unless_it_ends, value_of, verdict, glance_command, glance_of, on_glance}
 use Rattle.curp_model.specs.Named.{IsNodeOf}
 use Rattle.curp_model.specs.Ranges.{owns_all}
 use Rattle.curp_model.specs.Table.{check, is_gone}
@@ -195,6 +195,21 @@ module _ (w : World) (n : Names w) (k : ℕ) (me : IsNodeOf w kind.Master k) whe
       by_command (Get key) = by_refusal key (read_refusal m ask)
       by_command _ = (ok, tt)
 
+  glance_goes : (m : MasterState) → ServingFits w k m → (ask : Ask) → IsAsked w ask.request → Goes (on_glance k m ask)
+  unfolding on_glance
+  glance_goes m ok ask asked = by_command ask.request.command
+    where
+      by_refusal : (key : List ℕ) (o : Option Refusal) → Goes (glance_of k m ask.request key o)
+      by_refusal key (Some why) = (ok, (refuse_said w k me ask.request.id why asked, tt))
+      by_refusal key None = cond_both (is_clean m ask.request.command) _ _ Goes
+          (λ y. (record { given = ok.given; next = ok.next; its_lo = ok.its_lo; its_hi = ok.its_hi; entries = ok.entries; reads = ok.reads },
+          (master_said w k (client_node ask.request.id.client) _ (record { sender = (refl, me); addressee = (refl, asked); fits = refl }), tt)))
+          (λ y. captures_goes m ok ask.request key asked)
+
+      by_command : (c : Command) → Goes (glance_command k m ask c)
+      by_command (Get key) = by_refusal key (read_refusal m ask)
+      by_command _ = (ok, tt)
+
   -- ---- what backups say
 
   -- the version that is prepared is that of lists that were sent
@@ -278,6 +293,7 @@ module _ (w : World) (n : Names w) (k : ℕ) (me : IsNodeOf w kind.Master k) whe
   by_message_goes m ok from to (body.Update ask) sender fits here sent = update_goes m ok AtOnce ask (asked_by w from ask.request.id.client sender fits)
   by_message_goes m ok from to (body.Sync ask) sender fits here sent = update_goes m ok WhenSynced ask (asked_by w from ask.request.id.client sender fits)
   by_message_goes m ok from to (body.Read ask) sender fits here sent = read_goes m ok ask (asked_by w from ask.request.id.client sender fits)
+  by_message_goes m ok from to (body.Glance ask) sender fits here sent = glance_goes m ok ask (asked_by w from ask.request.id.client sender fits)
   by_message_goes m ok from to (body.Appended a) sender fits here sent = appended_goes m ok from a.round a.answer
   by_message_goes m ok from to (body.Collected c) sender fits here sent = collected_goes m ok c.answer fits
   by_message_goes m ok from to (body.Prepare p) sender fits here sent = prepare_goes m ok p (from_manager w k from to (body.Prepare p) sender here sent) m.phase

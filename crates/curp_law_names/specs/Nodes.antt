@@ -65,6 +65,10 @@ sender_kind (body.Taken t) = kind.Master
 sender_kind (body.GiveIn g) = kind.Manager
 sender_kind (body.Given migration) = kind.Master
 sender_kind (body.ExpireClient client) = kind.Manager
+sender_kind (body.Probe a) = kind.Client
+sender_kind (body.Probed a) = kind.Witness
+sender_kind (body.Glance ask) = kind.Client
+sender_kind (body.Quick q) = kind.Master
 
 -- which kind of node it is said to
 abbrev pub addressee_kind : Body → NodeKind
@@ -99,6 +103,10 @@ addressee_kind (body.Taken t) = kind.Manager
 addressee_kind (body.GiveIn g) = kind.Master
 addressee_kind (body.Given migration) = kind.Manager
 addressee_kind (body.ExpireClient client) = kind.Master
+addressee_kind (body.Probe a) = kind.Witness
+addressee_kind (body.Probed a) = kind.Client
+addressee_kind (body.Glance ask) = kind.Master
+addressee_kind (body.Quick q) = kind.Client
 
 -- ---- requests are of clients
 
@@ -158,21 +166,38 @@ abbrev pub BodyFits : World → NodeId → NodeId → Body → Type 0
 BodyFits w from to (body.Update ask) = from ≡ client_node ask.request.id.client
 BodyFits w from to (body.Sync ask) = from ≡ client_node ask.request.id.client
 BodyFits w from to (body.Read ask) = from ≡ client_node ask.request.id.client
+BodyFits w from to (body.Glance ask) = from ≡ client_node ask.request.id.client
 BodyFits w from to (body.Record r) = from ≡ client_node r.request.id.client
+BodyFits w from to (body.Probe a) = from ≡ client_node a.id.client
+BodyFits w from to body.Fetch = ⊤
+BodyFits w from to (body.Configuration config) = ⊤
 BodyFits w from to (body.Reply r) = to ≡ client_node r.id.client
 BodyFits w from to (body.Worth v) = to ≡ client_node v.id.client
+BodyFits w from to (body.Quick q) = to ≡ client_node q.id.client
 BodyFits w from to (body.Refuse r) = to ≡ client_node r.id.client
 BodyFits w from to (body.Accepted a) = to ≡ client_node a.id.client
 BodyFits w from to (body.Rejected r) = to ≡ client_node r.id.client
+BodyFits w from to (body.Probed a) = to ≡ client_node a.id.client
 BodyFits w from to (body.Append a) = Each (EntryAsked w) a.entries
-BodyFits w from to (body.FenceAnswer a) = ReplyAsked w a.answer
-BodyFits w from to (body.FrozenAnswer requests) = Each (IsAsked w) requests
+BodyFits w from to (body.Appended a) = ⊤
+BodyFits w from to (body.Gc g) = ⊤
 BodyFits w from to (body.Collected c) = SuspectsAsked w c.answer
+BodyFits w from to (body.Install epoch) = ⊤
+BodyFits w from to (body.Start s) = ⊤
+BodyFits w from to (body.Recover o) = ⊤
 BodyFits w from to (body.Fence epoch) = FencesBackup w from to epoch
+BodyFits w from to (body.FenceAnswer a) = ReplyAsked w a.answer
 BodyFits w from to (body.Freeze epoch) = FreezesWitness w from to epoch
+BodyFits w from to (body.FrozenAnswer requests) = Each (IsAsked w) requests
 BodyFits w from to (body.Recovered r) = OrderedTo w from r.part r.epoch
+BodyFits w from to (body.Adopted a) = ⊤
+BodyFits w from to (body.Prepare p) = ⊤
 BodyFits w from to (body.Prepared version) = PreparedTo w from version
-BodyFits w from to _ = ⊤
+BodyFits w from to (body.TakeOut t) = ⊤
+BodyFits w from to (body.Taken t) = ⊤
+BodyFits w from to (body.GiveIn t) = ⊤
+BodyFits w from to (body.Given migration) = ⊤
+BodyFits w from to (body.ExpireClient client) = ⊤
 
 -- sender and addressee are nodes of the world, of the kinds that the message is from and for
 pub record MessageFits (w : World) (m : Message) : Type 0 where
@@ -261,9 +286,38 @@ pub record IsBetweenNodes (w : World) (m : Message) : Type 0 where
 
 -- an answer to a client goes to the client whose request it is about
 abbrev pub GoesHome : NodeId → Body → Type 0
+GoesHome to (body.Update ask) = ⊤
+GoesHome to (body.Sync ask) = ⊤
+GoesHome to (body.Read ask) = ⊤
+GoesHome to (body.Glance ask) = ⊤
+GoesHome to (body.Record r) = ⊤
+GoesHome to (body.Probe p) = ⊤
+GoesHome to body.Fetch = ⊤
+GoesHome to (body.Configuration config) = ⊤
 GoesHome to (body.Reply r) = to ≡ client_node r.id.client
 GoesHome to (body.Worth v) = to ≡ client_node v.id.client
+GoesHome to (body.Quick q) = to ≡ client_node q.id.client
 GoesHome to (body.Refuse r) = to ≡ client_node r.id.client
 GoesHome to (body.Accepted a) = to ≡ client_node a.id.client
 GoesHome to (body.Rejected r) = to ≡ client_node r.id.client
-GoesHome to _ = ⊤
+GoesHome to (body.Probed a) = to ≡ client_node a.id.client
+GoesHome to (body.Append a) = ⊤
+GoesHome to (body.Appended a) = ⊤
+GoesHome to (body.Gc g) = ⊤
+GoesHome to (body.Collected c) = ⊤
+GoesHome to (body.Install epoch) = ⊤
+GoesHome to (body.Start s) = ⊤
+GoesHome to (body.Recover o) = ⊤
+GoesHome to (body.Fence epoch) = ⊤
+GoesHome to (body.FenceAnswer a) = ⊤
+GoesHome to (body.Freeze epoch) = ⊤
+GoesHome to (body.FrozenAnswer requests) = ⊤
+GoesHome to (body.Recovered r) = ⊤
+GoesHome to (body.Adopted a) = ⊤
+GoesHome to (body.Prepare p) = ⊤
+GoesHome to (body.Prepared version) = ⊤
+GoesHome to (body.TakeOut t) = ⊤
+GoesHome to (body.Taken t) = ⊤
+GoesHome to (body.GiveIn t) = ⊤
+GoesHome to (body.Given migration) = ⊤
+GoesHome to (body.ExpireClient client) = ⊤

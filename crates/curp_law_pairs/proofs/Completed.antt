@@ -1,5 +1,5 @@
 -- Each completed update can complete with its answer, and the value of each completed read was sent.
-use Rattle.std.proofs.Common.{◌≡◌, inl, inr, ℕ, true, false, subst}
+use Rattle.std.proofs.Common.{◌≡◌, inl, inr, ℕ, true, false, subst, List}
 use Rattle.curp_base.specs.Words.{At}
 use Rattle.curp_base.proofs.Lists.{at_same}
 use Rattle.curp_cmd.specs.Node.{client_node}
@@ -12,9 +12,11 @@ use Rattle.curp_order.specs.declared.Event.TheVariants.{Invoke, Complete}
 use Rattle.curp_model.specs.World.{World}
 use Rattle.curp_facts.specs.Facts.{Completable}
 use Rattle.curp_facts.specs.Invariant.{Invariant}
-use Rattle.curp_facts.specs.Nodes.{ValueWasSent}
+use Rattle.curp_facts.specs.Nodes.{WasRead}
 use Rattle.curp_facts.specs.Said.{WorthSaid}
 use Rattle.curp_law_pairs.proofs.Words.{said}
+use Rattle.curp_facts.specs.Reach.{QuickSaid}
+use Rattle.curp_cmd.specs.declared.command.Command.TheVariants.{Get}
 
 module _ {w : World} (inv : Invariant w) where
   -- an id was invoked with one command
@@ -30,15 +32,27 @@ module _ {w : World} (inv : Invariant w) where
       → (part : ℕ) × Completable w part id a
   completed_update i j id c a invoked updates done = elim (inv.completed j id a done) [
     | inl completable ↦ completable
-    | inr value ↦
+    | inr read ↦ elim read [
+      | inl value ↦
         let v = value.1 in
         let ok : WorthSaid w value.0 (client_node id.client) v = said inv value.0 (client_node id.client) (body.Worth v) value.2 in
         let own : At w.history ok.place (Invoke id ok.command) = subst (λ (k : RequestId). At w.history ok.place (Invoke k ok.command)) value.3 ok.invoked in
         let same = invoked_with i ok.place id c ok.command invoked own in
         let reads = ok.reads in
         absurd cc
+      | inr seen ↦
+        let ok : QuickSaid w seen.sent.place seen.lists.master (client_node id.client) seen.quick = inv.messages seen.sent.place _ seen.sent.stands in
+        let own : At w.history ok.event (Invoke id (Get ok.key)) = subst (λ (k : RequestId). At w.history ok.event (Invoke k (Get ok.key))) seen.its_id ok.invoked in
+        absurd (no_get ok.key c (invoked_with i ok.event id c (Get ok.key) invoked own) updates)
+    ]
   ]
+    where
+      no_get : (key : List ℕ) (c : Command) → c ≡ Get key → is_update c ≡ true → ⊥
+      no_get key c same updates = get_reads key (subst (λ (d : Command). is_update d ≡ true) same updates)
+        where
+          get_reads : (key : List ℕ) → is_update (Get key) ≡ true → ⊥
+          get_reads key e = cc
 
-  -- the value of a completed read was sent
-  pub completed_read : (i j : ℕ) (id : RequestId) (c : Command) (a : Answer) → At w.history i (Invoke id c) → is_update c ≡ false → At w.history j (Complete id a) → ValueWasSent w id a
+  -- a completed read was told its answer
+  pub completed_read : (i j : ℕ) (id : RequestId) (c : Command) (a : Answer) → At w.history i (Invoke id c) → is_update c ≡ false → At w.history j (Complete id a) → WasRead w id a
   completed_read i j id c a invoked reads done = inv.reads i j id c a invoked reads done

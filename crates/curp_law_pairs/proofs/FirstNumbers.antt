@@ -87,6 +87,7 @@ module _ {w : World} (names : Names w) (inv : Invariant w) where
   body_first place from to (body.Update ask) ok = ok.asked.request.completed
   body_first place from to (body.Sync ask) ok = ok.asked.request.completed
   body_first place from to (body.Read ask) ok = ok.asked.request.completed
+  body_first place from to (body.Glance ask) ok = ok.asked.request.completed
   body_first place from to (body.Record r) ok = ok.asked.request.completed
   body_first place from to (body.Append a) ok = append_first from to a ok
   body_first place from to (body.FenceAnswer a) ok = fence_reply_first from a.epoch a.answer ok.1

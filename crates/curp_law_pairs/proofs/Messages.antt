@@ -93,6 +93,7 @@ module _ {w : World} (names : Names w) (inv : Invariant w) where
     body_ok place from to (body.Accepted a) at ok = accepted_ok from to a ok
     body_ok place from to (body.Reply r) at ok = reply_ok from to r ok
     body_ok place from to (body.Worth v) at ok = record { version = ok.version; speaks = ok.speaks }
+    body_ok place from to (body.Quick q) at ok = record { lists = ok.lists; adopted = ok.adopted; its_master = ok.its_master; its_epoch = ok.its_epoch; its_version = ok.its_version }
     body_ok place from to (body.Gc g) at ok = gc_served place from to g ok
     body_ok place from to (body.Taken t) at ok =
         (is_server from (IsTakeOf t.migration t.package) ok, package_ok from t.migration t.package ok, taken_on_adopted names inv chain from t.migration t.package ok)

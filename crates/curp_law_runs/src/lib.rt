@@ -11,7 +11,7 @@ ghost use Rattle.curp_cmd.specs.declared.command.Command.{Command};
 ghost use Rattle.curp_cmd.specs.declared.command.RequestId.{RequestId};
 ghost use Rattle.curp_facts.specs.Facts.{Completable, PairsGood};
 ghost use Rattle.curp_facts.specs.Kept.{FactsKept};
-ghost use Rattle.curp_facts.specs.Nodes.{ValueWasSent};
+ghost use Rattle.curp_facts.specs.Nodes.{WasRead};
 ghost use Rattle.curp_facts.specs.Run.{IsRun, IsStep};
 ghost use Rattle.curp_facts.specs.Silence.{IsSilentIn};
 ghost use Rattle.curp_law_names.specs.Nodes.{GoesHome, IsBetweenNodes};
@@ -43,7 +43,7 @@ pub fn completed_is_completable()
     ensures read { (h : Header) (steps : List Step) → IsRun h steps
         → (i j : ℕ) (id : RequestId) (command : Command) (a : Answer)
         → At (world h steps).history i (Invoke id command) → is_update command ≡ false
-        → At (world h steps).history j (Complete id a) → ValueWasSent (world h steps) id a }
+        → At (world h steps).history j (Complete id a) → WasRead (world h steps) id a }
 {}
 
 /// Each message goes from one node of the world to another, and what is answered to a client is about a request of that

@@ -24,8 +24,9 @@ use Rattle.curp_facts.specs.Facts.{Collected, FenceReplyOk, FencedLogOk, FrozenO
 use Rattle.curp_facts.specs.Growth.{BackupGrows, Dropped}
 use Rattle.curp_facts.specs.Nodes.{BackupOk}
 use Rattle.curp_facts.specs.Reach.{IsThere}
-use Rattle.curp_facts.specs.Said.{AcceptedSaid, AppendHolds, AppendSaid, AppendedSaid}
-use Rattle.curp_law_stays.proofs.Words.{Follows, backup_later, given_later, log_later, one_state, sent_later, there, witness_later}
+use Rattle.curp_facts.specs.Said.{AcceptedSaid, AppendHolds, AppendSaid, AppendedSaid, ProbedSaid}
+use Rattle.curp_law_stays.proofs.Words.{Follows, backup_later, given_later, log_later, one_state, sent_later, there, witness_later, event_at}
+use Rattle.curp_msg.specs.declared.body.Probed.{Probed}
 
 -- the backups of lists that were given are as their master has them
 abbrev pub BackupsOk : World → Type 0
@@ -135,3 +136,16 @@ module _ {w v : World} (s : Follows w v) where
           let o = backup_later s node there.0.0 there.0.1 in
           let same : o.0 ≡ f = one_state _ o.0 f o.1.its_state is.its_state in
           subst (λ (x : BackupState). IsPrefix front x.log) same (prefix_trans (fronts.0 there.0.0 there.0.1) o.2.log)
+
+  pub probed_later : (from to : NodeId) (a : Probed) → ProbedSaid w from to a → ProbedSaid v from to a
+  probed_later from to a ok = record {
+    addressee = ok.addressee;
+    place = ok.place;
+    command = ok.command;
+    invoked = event_at s ok.place _ ok.invoked;
+    reads = ok.reads;
+    own = λ live. own_later (ok.own live);
+  }
+    where
+      own_later : ((x : WitnessState) × IsWitness w from x × (x.epoch ≡ Some a.epoch)) → (y : WitnessState) × IsWitness v from y × (y.epoch ≡ Some a.epoch)
+      own_later (x, is, e) = let o = witness_later s from x is in (o.0, o.1, o.2.epoch (s.steady.idle from.number x is.its_state) a.epoch e)

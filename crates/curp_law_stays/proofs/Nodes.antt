@@ -1,5 +1,5 @@
 -- What backups, witnesses and clients keep that don't move, and what is completed, stays so.
-use Rattle.std.proofs.Common.{inl, inr, ℕ}
+use Rattle.std.proofs.Common.{inl, inr, ℕ, true}
 use Rattle.curp_base.proofs.Lists.{Each-weaker, prefix_trans}
 use Rattle.curp_cmd.specs.Node.{client_node}
 use Rattle.curp_cmd.specs.declared.command.Answer.{Answer}
@@ -12,10 +12,10 @@ use Rattle.curp_model.specs.Witness.{HeldRequest, WitnessState}
 use Rattle.curp_model.specs.World.{World}
 use Rattle.curp_facts.specs.Facts.{Completable, IsWitnessed, Lists, WasSent}
 use Rattle.curp_facts.specs.Kept.{FollowsLog}
-use Rattle.curp_facts.specs.Nodes.{BackupOk, CompletedBy, ValueWasSent, WitnessOk}
+use Rattle.curp_facts.specs.Nodes.{BackupOk, CompletedBy, ValueWasSent, WitnessOk, WasRead, WasSeen}
 use Rattle.curp_facts.specs.Entries.{UpdateOk}
 use Rattle.curp_law_stays.proofs.Entries.{update_later}
-use Rattle.curp_law_stays.proofs.Words.{Follows, given_later, log_later, sent_later}
+use Rattle.curp_law_stays.proofs.Words.{Follows, given_later, log_later, sent_later, adopted_later}
 
 module _ {w v : World} (s : Follows w v) where
   -- ---- backups and witnesses
@@ -63,8 +63,30 @@ module _ {w v : World} (s : Follows w v) where
   pub value_later : (id : RequestId) (a : Answer) → ValueWasSent w id a → ValueWasSent v id a
   value_later id a k = (k.0, k.1, sent_later s k.2, k.3, k.4)
 
+  pub seen_later : (id : RequestId) (a : Answer) → WasSeen w id a → WasSeen v id a
+  seen_later id a k = record {
+    lists = k.lists;
+    adopted = adopted_later s k.adopted;
+    quick = k.quick;
+    sent = sent_later s k.sent;
+    its_id = k.its_id;
+    its_answer = k.its_answer;
+    its_epoch = k.its_epoch;
+    its_version = k.its_version;
+    lives = Each-weaker (LiveSent w k id) (LiveSent v k id) (λ x sent. sent_later s sent) k.lists.witnesses k.lives;
+  }
+    where
+      LiveSent : (u : World) → WasSeen w id a → RequestId → NodeId → Type 0
+      LiveSent u k id x = WasSent u (says x (client_node id.client) (body.Probed (record { id = id; epoch = k.lists.epoch; live = true })))
+
+  pub read_later : (id : RequestId) (a : Answer) → WasRead w id a → WasRead v id a
+  read_later id a ok = elim ok [
+    | inl k ↦ inl (value_later id a k)
+    | inr k ↦ inr (seen_later id a k)
+  ]
+
   pub completed_by_later : (id : RequestId) (a : Answer) → CompletedBy w id a → CompletedBy v id a
   completed_by_later id a ok = elim ok [
     | inl k ↦ inl (k.0, completable_later k.0 id a k.1)
-    | inr k ↦ inr (value_later id a k)
+    | inr k ↦ inr (read_later id a k)
   ]

@@ -11,14 +11,19 @@ use Rattle.curp_model.specs.Log.{answer_after, meaning}
 use Rattle.curp_model.specs.Recovery.{Serving}
 use Rattle.curp_model.specs.Table.{check}
 use Rattle.curp_model.specs.World.{World}
-use Rattle.curp_facts.specs.Facts.{AdoptedBefore, Lists, Logged, Speaks, hi_of, lo_of}
+use Rattle.curp_facts.specs.Facts.{AdoptedBefore, Lists, Logged, Speaks, hi_of, lo_of, ToldWithin}
 use Rattle.curp_facts.specs.Kept.{IsCollectable}
-use Rattle.curp_facts.specs.Reach.{EarlySaid, GcSaid, SyncedSaid}
+use Rattle.curp_facts.specs.Reach.{EarlySaid, GcSaid, SyncedSaid, QuickSaid}
 use Rattle.curp_facts.specs.Said.{GcHolds, ReplyHolds, ReplySaid, StoredEntry, WorthSaid}
 use Rattle.curp_law_logs.specs.Standing.{StandsHere}
 use Rattle.curp_law_logs.proofs.Logs.{take_grows}
 use Rattle.curp_law_logs.proofs.Standings.{stands_at, stands_here, stands_longer}
 use Rattle.curp_law_stays.proofs.Words.{Follows, adopted_later, event_at, given_later, hi_later, lo_later, log_later, many_later, message_at, reach_later, serving_later}
+use Rattle.curp_msg.specs.declared.body.Quick.{Quick}
+use Rattle.curp_range.specs.Spans.{is_owned}
+use Rattle.curp_cmd.specs.Hash.{hash_of}
+use Rattle.curp_cmd.specs.declared.command.Command.TheVariants.{Get}
+use Rattle.curp_base.specs.Words.{IsPrefix}
 
 module _ {w v : World} (s : Follows w v) where
   -- what holds of the range that a partition had at opening
@@ -138,4 +143,48 @@ module _ {w v : World} (s : Follows w v) where
         stands = prefix_at o.2 ok.index ok.entry ok.stands;
         is = ok.is;
         reach = reach_later s from ok.lists.version (ok.index + 1) o.0 o.1 (omega (arith, at_within ok.l.log ok.index ok.entry ok.stands, prefix_length o.2)) ok.reach;
+      }
+
+  -- ---- reads that are answered at once
+
+  told_within_later : (from : NodeId) (place : ℕ) (es fs : List Entry) (long : ℕ) → IsPrefix es fs → ToldWithin w from place es long → ToldWithin v from place fs long
+  told_within_later from place es fs long front ok = record {
+    within = omega (arith, ok.within, prefix_length s.grows.sent);
+    appends = λ k reach below r. ok.appends k reach below (record { to = r.to; append = r.append; sent = prefix_back s.grows.sent k _ (omega (arith, below, ok.within)) r.sent; reach_is = r.reach_is });
+    replies = λ k r below at early.
+        let o = ok.replies k r below (prefix_back s.grows.sent k _ (omega (arith, below, ok.within)) at) early in
+        record { index = o.index; request = o.request; acknowledged = o.acknowledged; stands = prefix_at front o.index _ o.stands; its_id = o.its_id; below = o.below };
+  }
+
+  pub quick_later : (place : ℕ) (from to : NodeId) (q : Quick) → QuickSaid w place from to q → QuickSaid v place from to q
+  quick_later place from to q ok =
+      let o = serving_later s from ok.m ok.serves in
+      let front = o.2.life.log in
+      let part = ok.lists.part in
+      let its : Logged = record { log = o.0.log; round = o.0.round } in
+      let at_long : take ok.long o.0.log ≡ take ok.long ok.m.log = take_grows ok.long front ok.low in
+      record {
+        lists = ok.lists;
+        adopted = adopted_later s ok.adopted;
+        its_master = ok.its_master;
+        its_epoch = ok.its_epoch;
+        its_version = ok.its_version;
+        addressee = ok.addressee;
+        event = ok.event;
+        key = ok.key;
+        invoked = event_at s ok.event _ ok.invoked;
+        m = o.0;
+        serves = o.1;
+        captured = omega (arith, ok.captured, o.2.life.captured);
+        long = ok.long;
+        low = omega (arith, ok.low, prefix_length front);
+        then_long = told_within_later from place ok.m.log o.0.log ok.long front ok.then_long;
+        synced = ok.synced;
+        below = ok.below;
+        apart = λ k e above under at. ok.apart k e above under (prefix_back front k e (omega (arith, under, ok.low)) at);
+        owned = in_range part (λ lo hi. is_owned (meaning lo hi (take ok.long o.0.log)).owned (hash_of ok.key) ≡ true)
+            (subst (λ (es : List Entry). is_owned (meaning (lo_of w part) (hi_of w part) es).owned (hash_of ok.key) ≡ true) (sym at_long) ok.owned);
+        its_answer = in_range part (λ lo hi. answer_after lo hi (take ok.long o.0.log) (Get ok.key) ≡ q.answer)
+            (subst (λ (es : List Entry). answer_after (lo_of w part) (hi_of w part) es (Get ok.key) ≡ q.answer) (sym at_long) ok.its_answer);
+        reach = reach_later s from q.version ok.synced its (record { m = Serving o.0; is = o.1; its_log = refl }) (omega (arith, ok.below, ok.low, prefix_length front)) ok.reach;
       }

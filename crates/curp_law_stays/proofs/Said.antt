@@ -18,9 +18,9 @@ use Rattle.curp_facts.specs.Facts.{ConfigOk, EntryWas, GivenTo, Opened, TakenFro
 use Rattle.curp_facts.specs.Invariant.{Invariant}
 use Rattle.curp_facts.specs.Said.{AskSaid, IsGiveFrom, IsOrderedTo, IsTakeOf, Says, SuspectsHold, UpdateSaid}
 use Rattle.curp_law_stays.proofs.Entries.{ordered_later, refusal_later, request_later, updates_later}
-use Rattle.curp_law_stays.proofs.Keepers.{accepted_later, append_holds_later, append_later, appended_later, fence_reply_later, frozen_later}
+use Rattle.curp_law_stays.proofs.Keepers.{accepted_later, append_holds_later, append_later, appended_later, fence_reply_later, frozen_later, probed_later}
 use Rattle.curp_law_stays.proofs.Prepared.{prepared_later, recovered_said_later}
-use Rattle.curp_law_stays.proofs.Replies.{entry_stored_later, gc_later, reply_later, worth_later}
+use Rattle.curp_law_stays.proofs.Replies.{entry_stored_later, gc_later, reply_later, worth_later, quick_later}
 use Rattle.curp_law_stays.proofs.Words.{Follows, adopted_later, event_at, given_later, ready_later, sent_later}
 
 module _ {w v : World} (s : Follows w v) where
@@ -52,6 +52,11 @@ module _ {w v : World} (s : Follows w v) where
   says_later inv place from to (body.Update ask) ok = update_said_later from ask.request ok
   says_later inv place from to (body.Sync ask) ok = update_said_later from ask.request ok
   says_later inv place from to (body.Read ask) ok = record { asked = asked_later from ask.request ok.asked; reads = ok.reads }
+  says_later inv place from to (body.Glance ask) ok = record { asked = asked_later from ask.request ok.asked; reads = ok.reads }
+  says_later inv place from to (body.Probe a) ok =
+      record { sender = ok.sender; place = ok.place; command = ok.command; invoked = event_at s ok.place _ ok.invoked; reads = ok.reads }
+  says_later inv place from to (body.Quick q) ok = quick_later s place from to q ok
+  says_later inv place from to (body.Probed a) ok = probed_later s from to a ok
   says_later inv place from to (body.Record r) ok = update_said_later from r.request ok
   says_later inv place from to (body.Configuration config) ok = config_later config ok
   says_later inv place from to (body.Reply r) ok = reply_later s from to r ok

@@ -13,20 +13,20 @@ use Rattle.curp_cmd.specs.Hash.{hash_of, hashed_from, hashes, hashes_of}
 use Rattle.curp_cmd.specs.Node.{witness_node}
 use Rattle.curp_cmd.specs.Store.{keys_of}
 use Rattle.curp_cmd.specs.declared.command.Command.{Command}
-use Rattle.curp_cmd.specs.declared.hash.TheConstants.{OFFSET_BASIS}
+use Rattle.curp_cmd.specs.Hash.{offset_basis}
 use Rattle.curp_cmd.specs.declared.node.NodeId.{NodeId}
 use Rattle.curp_msg.specs.Moved.{Node, unless_refused}
 use Rattle.curp_msg.specs.declared.config.PartConfig.{PartConfig}
 use Rattle.curp_msg.specs.declared.script.Header.{Header}
 use Rattle.curp_range.specs.Spans.{is_owned}
-use Rattle.curp_model.specs.Client.{fresh_client, invoke, next_request, owner_of, sends_first}
-use Rattle.curp_model.specs.Manager.{opening_config, opening_part}
+use Rattle.curp_model.specs.Client.{invoke, next_request, owner_of, sends_first}
+use Rattle.curp_model.specs.Manager.{opening_part}
 use Rattle.curp_model.specs.Master.{beginning, synced}
 use Rattle.curp_model.specs.Log.{is_touched}
 use Rattle.curp_model.specs.Ranges.{opening_range, owns_all}
 use Rattle.curp_model.specs.Table.{check}
 use Rattle.curp_model.specs.Witness.{WitnessState, started_witness}
-use Rattle.curp_model.specs.World.{opening, shape_of}
+use Rattle.curp_model.specs.World.{opening, shape_of, opening_client}
 use Rattle.curp_law_trip.proofs.Apart.{apart_numbers}
 use Rattle.curp_law_trip.specs.Meeting.{CanBeFast, MeetsNothingIn, StandsIn}
 use Rattle.curp_law_trip.specs.Trip.{MasterIsFree, MeetsNothing, Trip, WitnessIsFree, request}
@@ -39,7 +39,7 @@ hashed_below (b ∷ bytes) h low = hashed_below bytes _ (omega arith)
 
 hash_below : (bytes : List ℕ) → hash_of bytes < 2 ^ 64
 unfolding hash_of
-hash_below bytes = hashed_below bytes OFFSET_BASIS (omega arith)
+hash_below bytes = hashed_below bytes offset_basis (omega arith)
 
 -- ---- one partition owns them all
 
@@ -77,7 +77,7 @@ module _ (h : Header) (n : ℕ) (command : Command) where
 
   abbrev trip : Trip
   trip = record {
-    client = record { number = n; state = fresh_client h.fast (opening_config (shape_of h)) };
+    client = record { number = n; state = opening_client h };
     command = command;
     part = part;
     master = record { number = 1; state = beginning 1 1 1 part.backups part.witnesses (opening_range h.parts 1).lo (opening_range h.parts 1).hi [] 0 };

@@ -10,11 +10,10 @@ use Rattle.curp_cmd.specs.Node.{backup_node, client_node, manager_node, master_n
 use Rattle.curp_cmd.specs.declared.node.NodeId.{NodeId}
 use Rattle.curp_msg.specs.declared.script.Header.{Header}
 use Rattle.curp_model.specs.Backup.{fresh_backup, installed_backup}
-use Rattle.curp_model.specs.Client.{fresh_client}
-use Rattle.curp_model.specs.Manager.{opening_config, opening_manager}
+use Rattle.curp_model.specs.Manager.{opening_manager}
 use Rattle.curp_model.specs.Recovery.{Fresh}
 use Rattle.curp_model.specs.Witness.{fresh_witness, started_witness}
-use Rattle.curp_model.specs.World.{opening, opening_master, shape_of}
+use Rattle.curp_model.specs.World.{opening, opening_master, shape_of, opening_client}
 use Rattle.curp_law_weave.specs.NodeStates.{ABackup, AClient, AManager, AMaster, AWitness, NodeState, fresh_state, state_of}
 use Rattle.curp_law_weave.specs.Openings.{ComesAs, OpensAs}
 
@@ -57,7 +56,7 @@ module _ (h : Header) where
   comes : (node : NodeId) → state_of (opening h) node ≡ None → ComesAs h node (fresh_state h node.kind)
   comes node none = record { absent = none; begins = rw none refl }
 
-  clients_are : (opening h).clients ≡ replicate h.clients (fresh_client h.fast (opening_config (shape_of h)))
+  clients_are : (opening h).clients ≡ replicate h.clients (opening_client h)
   unfolding opening
   clients_are = refl
 
@@ -83,8 +82,8 @@ module _ (h : Header) where
   none_by_list : {S : Type 0} (wrap : S → NodeState) (xs ys : List S) (n : ℕ) → xs ≡ ys → numbered ys n ≡ None → option_map wrap (numbered xs n) ≡ None
   none_by_list {S} wrap xs ys n same none = ap (λ (o : Option S). option_map wrap o) (ap (λ (l : List S). numbered l n) same ∙ none)
 
-  pub client_opens : (n : ℕ) → 1 ≤ n → n ≤ h.clients → OpensAs h (client_node n) (AClient (fresh_client h.fast (opening_config (shape_of h))))
-  client_opens n low high = opens (client_node n) _ (by_list AClient (opening h).clients _ n _ clients_are (same_ones h.clients (fresh_client h.fast (opening_config (shape_of h))) n low high))
+  pub client_opens : (n : ℕ) → 1 ≤ n → n ≤ h.clients → OpensAs h (client_node n) (AClient (opening_client h))
+  client_opens n low high = opens (client_node n) _ (by_list AClient (opening h).clients _ n _ clients_are (same_ones h.clients (opening_client h) n low high))
 
   pub manager_opens : OpensAs h manager_node (AManager (opening_manager (shape_of h)))
   manager_opens = opens manager_node (AManager (opening_manager (shape_of h))) (ap (λ g. Some (AManager g)) manager_is)

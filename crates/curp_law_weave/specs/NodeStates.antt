@@ -8,11 +8,11 @@ use Rattle.curp_msg.specs.Moved.{Moved, within}
 use Rattle.curp_msg.specs.declared.machine.Input.{Input}
 use Rattle.curp_msg.specs.declared.script.Header.{Header}
 use Rattle.curp_model.specs.Backup.{BackupState, backup_input, fresh_backup}
-use Rattle.curp_model.specs.Client.{ClientState, client_input, fresh_client}
-use Rattle.curp_model.specs.Manager.{ManagerState, manager_input, opening_config, opening_manager}
+use Rattle.curp_model.specs.Client.{ClientState, client_input}
+use Rattle.curp_model.specs.Manager.{ManagerState, manager_input, opening_manager}
 use Rattle.curp_model.specs.Recovery.{Fresh, MasterStage, master_input}
 use Rattle.curp_model.specs.Witness.{WitnessState, fresh_witness, witness_input}
-use Rattle.curp_model.specs.World.{World, opening, shape_of}
+use Rattle.curp_model.specs.World.{World, opening, shape_of, opening_client}
 
 -- the state of a node, by its kind
 pub data NodeState : Type 0 where
@@ -48,7 +48,7 @@ machine_of node state given = machine_by node.number state given
 
 -- a node of a kind that nothing has come to yet
 abbrev pub fresh_state : Header → NodeKind → NodeState
-fresh_state h kind.Client = AClient (fresh_client h.fast (opening_config (shape_of h)))
+fresh_state h kind.Client = AClient (opening_client h)
 fresh_state h kind.Manager = AManager (opening_manager (shape_of h))
 fresh_state h kind.Master = AMaster Fresh
 fresh_state h kind.Backup = ABackup fresh_backup

@@ -12,11 +12,11 @@ ghost use Rattle.curp_law_weave.specs.NodeStates.{ABackup, AClient, AManager, AM
 ghost use Rattle.curp_law_weave.specs.Openings.{ComesAs, OpensAs, numbered_machine};
 ghost use Rattle.curp_law_weave.specs.Run.{IsCompletedBy, IsNoStop, Legal, RunOf};
 ghost use Rattle.curp_model.specs.Backup.{BackupState, backup_input, fresh_backup, installed_backup};
-ghost use Rattle.curp_model.specs.Client.{ClientState, client_input, fresh_client};
-ghost use Rattle.curp_model.specs.Manager.{ManagerState, manager_input, opening_config, opening_manager};
+ghost use Rattle.curp_model.specs.Client.{ClientState, client_input};
+ghost use Rattle.curp_model.specs.Manager.{ManagerState, manager_input, opening_manager};
 ghost use Rattle.curp_model.specs.Recovery.{Fresh, MasterStage, master_input};
 ghost use Rattle.curp_model.specs.Witness.{WitnessState, fresh_witness, started_witness, witness_input};
-ghost use Rattle.curp_model.specs.World.{opening_master, shape_of};
+ghost use Rattle.curp_model.specs.World.{opening_master, shape_of, opening_client};
 ghost use Rattle.curp_msg.specs.Moved.{Node};
 ghost use Rattle.curp_msg.specs.declared.script.Header.{Header};
 ghost use Rattle.curp_msg.specs.declared.script.Step.{Step};
@@ -32,7 +32,7 @@ pub fn legal_steps_are_a_run()
 /// Which nodes are there before any step, and how each begins.
 pub fn nodes_begin_by_the_header()
     ensures clients { (h : Header) (n : ℕ) → 1 ≤ n → n ≤ h.clients
-        → OpensAs h (client_node n) (AClient (fresh_client h.fast (opening_config (shape_of h)))) }
+        → OpensAs h (client_node n) (AClient (opening_client h)) }
     ensures manager { (h : Header) → OpensAs h manager_node (AManager (opening_manager (shape_of h))) }
     ensures masters { (h : Header) (n : ℕ) → 1 ≤ n → n ≤ h.parts
         → OpensAs h (master_node n) (AMaster (opening_master (shape_of h) n)) }

@@ -6,9 +6,7 @@ use Rattle.curp_base.specs.Words.{numbers_from}
 use Rattle.curp_msg.specs.Moved.{Node}
 use Rattle.curp_msg.specs.declared.script.Header.{Header}
 use Rattle.curp_facts.specs.Run.{IsHeader}
-use Rattle.curp_model.specs.Client.{fresh_client}
-use Rattle.curp_model.specs.Manager.{opening_config}
-use Rattle.curp_model.specs.World.{opening_master, shape_of}
+use Rattle.curp_model.specs.World.{opening_master, shape_of, opening_client}
 use Rattle.curp_opening.specs.Nodes.{states}
 use Rattle.curp_live.specs.Opening.{IsOpening}
 use Rattle.curp_live.specs.declared.nodes.Nodes.{Nodes}
@@ -33,7 +31,7 @@ pub record AreFew (nodes : Nodes) : Type 0 where
 
 pub few_nodes : (h : Header) (nodes : Nodes) → IsHeader h → IsOpening h nodes → AreFew nodes
 few_nodes h nodes is opening = record {
-  clients = omega (arith, is.clients.1, long_states nodes.clients.items _ h.clients opening.clients (length-replicate h.clients (fresh_client h.fast (opening_config (shape_of h)))));
+  clients = omega (arith, is.clients.1, long_states nodes.clients.items _ h.clients opening.clients (length-replicate h.clients (opening_client h)));
   masters = omega (arith, is.parts.1, long_states nodes.masters.items _ h.parts opening.masters (length-map (numbers_from 1 h.parts) (opening_master (shape_of h)) ∙ length_numbers 1 h.parts));
   backups = omega (arith, few_keepers h is, long_states nodes.backups.items _ (h.parts * h.f) opening.backups (length-replicate (h.parts * h.f) _));
   witnesses = omega (arith, few_keepers h is, long_states nodes.witnesses.items _ (h.parts * h.f) opening.witnesses (length-replicate (h.parts * h.f) _));

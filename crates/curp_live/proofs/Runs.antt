@@ -8,10 +8,8 @@ use Rattle.curp_cmd.specs.declared.node.NodeKind.TheVariants as kind
 use Rattle.curp_msg.specs.declared.script.Header.{Header}
 use Rattle.curp_facts.specs.Run.{IsHeader}
 use Rattle.curp_model.specs.Backup.{installed_backup}
-use Rattle.curp_model.specs.Client.{fresh_client}
-use Rattle.curp_model.specs.Manager.{opening_config}
 use Rattle.curp_model.specs.Witness.{started_witness}
-use Rattle.curp_model.specs.World.{opening_master, shape_of}
+use Rattle.curp_model.specs.World.{opening_master, shape_of, opening_client}
 use Rattle.curp_turns.specs.Turns.{Journal}
 use Rattle.curp_turns.specs.Work.{recoveries_in}
 use Rattle.curp_gather.specs.Journals.{AreOf, IsBackupJournal, IsClientJournal, IsManagerJournal, IsMasterJournal, IsWitnessJournal, journal_of, journals_of}
@@ -61,7 +59,7 @@ module _ (h : Header) (j : Journals) (are : AreAllAnew h j) where
   clients = Each-from_at (IsClientJournal h) j.clients.items (λ k log at.
       let nodes = are.nodes.clients.items in
       let numbers = are.opening.client_numbers in
-      let state = same_state kind.Client nodes j.clients.items are.clients numbers h.clients (fresh_client h.fast (opening_config (shape_of h))) are.opening.clients k log at in
+      let state = same_state kind.Client nodes j.clients.items are.clients numbers h.clients (opening_client h) are.opening.clients k log at in
       record {
         its_name = name_at kind.Client nodes j.clients.items are.clients numbers k log at;
         there = (state.0, state.1);

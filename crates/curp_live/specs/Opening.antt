@@ -10,10 +10,9 @@ use Rattle.curp_msg.specs.declared.script.Header.{Header}
 use Rattle.curp_journal.specs.Journal.{Log}
 use Rattle.curp_journal.specs.declared.item.Item.{Item}
 use Rattle.curp_model.specs.Backup.{installed_backup}
-use Rattle.curp_model.specs.Client.{fresh_client}
-use Rattle.curp_model.specs.Manager.{opening_config, opening_manager}
+use Rattle.curp_model.specs.Manager.{opening_manager}
 use Rattle.curp_model.specs.Witness.{started_witness}
-use Rattle.curp_model.specs.World.{opening_master, shape_of}
+use Rattle.curp_model.specs.World.{opening_master, shape_of, opening_client}
 use Rattle.curp_merge.specs.Merging.{IsOwn}
 use Rattle.curp_opening.specs.Nodes.{HasNumbers, states}
 use Rattle.curp_gather.specs.declared.journals.Journals.{Journals}
@@ -22,7 +21,7 @@ use Rattle.curp_live.specs.declared.nodes.Nodes.{Nodes}
 -- the nodes of a header's world before any step
 pub record IsOpening (h : Header) (nodes : Nodes) : Type 0 where
   pub manager : nodes.manager ≡ opening_manager (shape_of h)
-  pub clients : states nodes.clients.items ≡ replicate h.clients (fresh_client h.fast (opening_config (shape_of h)))
+  pub clients : states nodes.clients.items ≡ replicate h.clients (opening_client h)
   pub masters : states nodes.masters.items ≡ map (opening_master (shape_of h)) (numbers_from 1 h.parts)
   pub backups : states nodes.backups.items ≡ replicate (h.parts * h.f) (installed_backup 1)
   pub witnesses : states nodes.witnesses.items ≡ replicate (h.parts * h.f) (started_witness h.sets h.ways 1)

@@ -29,6 +29,11 @@ use Rattle.curp_msg.specs.declared.machine.Local.{Local}
 use Rattle.curp_msg.specs.declared.machine.Local.TheVariants as local
 use Rattle.curp_msg.specs.declared.message.Message.{Message}
 use Rattle.curp_model.specs.Ranges.{owns_all}
+use Rattle.curp_msg.specs.declared.body.Probe.{Probe}
+use Rattle.curp_msg.specs.declared.body.Probed.{Probed}
+use Rattle.curp_msg.specs.declared.body.Quick.{Quick}
+use Rattle.curp_msg.specs.declared.script.Protocol.{Protocol}
+use Rattle.curp_msg.specs.declared.script.Protocol.TheVariants.{One, Two}
 
 -- ---- the state
 
@@ -46,23 +51,36 @@ pub record Early : Type 0 where
   pub version : ℕ
   pub answer : Answer
 
--- an accept that was delivered
+-- an accept, or a Live, that was delivered
 pub record Accept : Type 0 where
   pub witness : NodeId
   pub epoch : ℕ
 
--- A request that isn't completed: its sendings, the newest last, whether a synced reply was asked for since the last of
--- them, and what was delivered for it, each once
+-- a Quick that was delivered
+pub record Glimpse : Type 0 where
+  pub master : NodeId
+  pub epoch : ℕ
+  pub version : ℕ
+  pub capture : ℕ
+  pub answer : Answer
+
+-- A request that isn't completed: its sendings, the newest last, whether a synced reply, or a value, was asked for since the
+-- last of them, and what was delivered for it, each once: for an update unsynced replies and accepts, for a read what was
+-- answered at once, and Lives
 pub record Pending : Type 0 where
   pub request : Request
   pub attempts : List Attempt
   pub asked : Bool
   pub early : List Early
   pub accepts : List Accept
+  pub glimpses : List Glimpse
+  pub lives : List Accept
 
--- `fast` clients use the witnesses; `last` is the number of the last request, at first 0; pending requests ascend
+-- `fast` clients use the witnesses for updates, those of protocol 2 for reads; `last` is the number of the last request, at
+-- first 0; pending requests ascend
 pub record ClientState : Type 0 where
   pub fast : Bool
+  pub protocol : Protocol
   pub config : Config
   pub last : ℕ
   pub pending : List Pending
@@ -72,8 +90,8 @@ abbrev pub NumbersAreUsed : ClientState → Type 0
 NumbersAreUsed c = Each (λ (p : Pending). p.request.id.seq ≤ c.last) c.pending
 
 -- before it invokes anything
-abbrev pub fresh_client : Bool → Config → ClientState
-fresh_client fast config = record { fast = fast; config = config; last = 0; pending = [] }
+abbrev pub fresh_client : Bool → Protocol → Config → ClientState
+fresh_client fast protocol config = record { fast = fast; protocol = protocol; config = config; last = 0; pending = [] }
 
 -- how many requests may be pending
 abbrev pub most_pending : ℕ
@@ -89,13 +107,17 @@ owner_of config command = first_of (filter (λ p. owns_all p.ranges (hashes comm
 abbrev pub attempt_at : PartConfig → Attempt
 attempt_at p = record { master = p.master; epoch = p.epoch; version = p.version; witnesses = p.witnesses }
 
--- an update goes to the master and to each witness, or alone as a Sync where the client isn't fast; a read goes to the master
-abbrev pub sent_by : ℕ → Bool → Bool → Request → PartConfig → List Message
-sent_by n true true r p =
+-- An update goes to the master and to each witness, or alone as a Sync where the client isn't fast. A read goes to the master,
+-- and in protocol 2 a probe to each witness
+abbrev pub sent_by : ℕ → Bool → Protocol → Bool → Request → PartConfig → List Message
+sent_by n true protocol true r p =
     says (client_node n) p.master (body.Update (record { request = r; epoch = p.epoch; version = p.version }))
     ∷ says_each (client_node n) p.witnesses (body.Record (record { request = r; epoch = p.epoch }))
-sent_by n false true r p = says (client_node n) p.master (body.Sync (record { request = r; epoch = p.epoch; version = p.version })) ∷ []
-sent_by n fast false r p = says (client_node n) p.master (body.Read (record { request = r; epoch = p.epoch; version = p.version })) ∷ []
+sent_by n false protocol true r p = says (client_node n) p.master (body.Sync (record { request = r; epoch = p.epoch; version = p.version })) ∷ []
+sent_by n fast One false r p = says (client_node n) p.master (body.Read (record { request = r; epoch = p.epoch; version = p.version })) ∷ []
+sent_by n fast Two false r p =
+    says (client_node n) p.master (body.Glance (record { request = r; epoch = p.epoch; version = p.version }))
+    ∷ says_each (client_node n) p.witnesses (body.Probe (record { id = r.id; epoch = p.epoch }))
 
 -- ---- invoking
 
@@ -114,8 +136,8 @@ next_request n c command = record { id = next_id n c; first = first_pending c (c
 -- a new request is pending, and is sent for the first time
 abbrev pub sends_first : ℕ → ClientState → Request → PartConfig → Moved ClientState
 sends_first n c r p = sends
-    (record c { last = r.id.seq; pending = c.pending ++ record { request = r; attempts = attempt_at p ∷ []; asked = false; early = []; accepts = [] } ∷ [] })
-    (sent_by n c.fast (is_update r.command) r p)
+    (record c { last = r.id.seq; pending = c.pending ++ record { request = r; attempts = attempt_at p ∷ []; asked = false; early = []; accepts = []; glimpses = []; lives = [] } ∷ [] })
+    (sent_by n c.fast c.protocol (is_update r.command) r p)
 
 -- where a new request goes, or the number of the refusal: 1 (TooMany) where 8 are pending, 2 (Numbers) where the numbers are at
 -- their end, and 3 (Split) where no one partition owns all its hashes
@@ -159,7 +181,7 @@ retry_for n c seq = do
 abbrev pub sends_again : ℕ → ClientState → Resent → Moved ClientState
 sends_again n c r = sends
     (with_pending c (record r.0 { attempts = r.0.attempts ++ attempt_at r.1 ∷ []; asked = false }))
-    (sent_by n c.fast (is_update r.0.request.command) r.0.request r.1)
+    (sent_by n c.fast c.protocol (is_update r.0.request.command) r.0.request r.1)
 
 -- a pending request is sent again, by its number
 unfoldable pub retry : ℕ → ClientState → ℕ → Moved ClientState
@@ -205,6 +227,27 @@ if_proved c p (Some e) = completes_with c p.request.id e.answer None
 abbrev pub with_evidence : ClientState → Pending → Moved ClientState
 with_evidence c p = if_proved c p (proved_answer p)
 
+-- all witnesses of the attempt have said Live, at its epoch
+abbrev pub all_live : Pending → Attempt → Bool
+all_live p a = list_all (has_accepted p.lives a.epoch) a.witnesses
+
+-- what was answered at once is that of an attempt whose witnesses have all said Live
+abbrev pub is_seen : Pending → Glimpse → Attempt → Bool
+is_seen p g a = same_node g.master a.master && (g.epoch == a.epoch) && (g.version == a.version) && all_live p a
+
+-- the first that is enough of what was answered at once
+abbrev pub seen_glimpse : Pending → Option Glimpse
+seen_glimpse p = first_of (filter (λ g. list_any (is_seen p g) p.attempts) p.glimpses)
+
+-- it completes where such a one is there, by its capture
+abbrev pub if_seen : ClientState → Pending → Option Glimpse → Moved ClientState
+if_seen c p None = quiet (with_pending c p)
+if_seen c p (Some g) = completes_with c p.request.id g.answer (Some (record { master = g.master; epoch = g.epoch; number = g.capture }))
+
+-- evidence is kept, and a read completes once it is enough
+abbrev pub with_sight : ClientState → Pending → Moved ClientState
+with_sight c p = if_seen c p (seen_glimpse p)
+
 -- ---- deliveries
 
 -- an unsynced reply, as evidence
@@ -246,16 +289,56 @@ valued c from v (Some p) =
     if is_update p.request.command then quiet c
     else completes_with c v.id v.answer (Some (record { master = from; epoch = v.epoch; number = v.capture }))
 
+-- a Quick, as evidence
+abbrev pub glimpse : NodeId → Quick → Glimpse
+glimpse from q = record { master = from; epoch = q.epoch; version = q.version; capture = q.capture; answer = q.answer }
+
+-- the same master has answered at once, at the same epoch and version
+abbrev pub is_glimpsed : Glimpse → Glimpse → Bool
+is_glimpsed g seen = same_node seen.master g.master && (seen.epoch == g.epoch) && (seen.version == g.version)
+
+-- one more Quick. Of those of a master, an epoch and a version the first is kept
+abbrev pub with_glimpse : List Glimpse → Glimpse → List Glimpse
+with_glimpse glimpses g = if list_any (is_glimpsed g) glimpses then glimpses else glimpses ++ g ∷ []
+
+-- a Quick is kept as evidence of a pending read
+abbrev pub glimpsed : ClientState → NodeId → Quick → Option Pending → Moved ClientState
+glimpsed c from q None = quiet c
+glimpsed c from q (Some p) =
+    if is_update p.request.command then quiet c
+    else with_sight c (record p { glimpses = with_glimpse p.glimpses (glimpse from q) })
+
+-- it asks the master of the latest attempt to read, with what it knew then
+abbrev pub asks_value : ℕ → ClientState → Pending → Option Attempt → Moved ClientState
+asks_value n c p None = quiet c
+asks_value n c p (Some a) = sends (with_pending c (record p { asked = true }))
+    (says (client_node n) a.master (body.Read (record { request = p.request; epoch = a.epoch; version = a.version })) ∷ [])
+
+-- a Live is kept as evidence; a NotLive lets it ask for a value, once an attempt
+abbrev pub probed_read : ℕ → ClientState → NodeId → Probed → Pending → Moved ClientState
+probed_read n c from a p =
+    if a.live then with_sight c (record p { lives = with_accept p.lives (record { witness = from; epoch = a.epoch }) })
+    else if p.asked then quiet c
+    else asks_value n c p (last_of p.attempts)
+
+-- the same of a pending read alone
+abbrev pub probed : ℕ → ClientState → NodeId → Probed → Option Pending → Moved ClientState
+probed n c from a None = quiet c
+probed n c from a (Some p) = if is_update p.request.command then quiet c else probed_read n c from a p
+
 -- it asks the master of the latest attempt, with what it knew then
 abbrev pub asks : ℕ → ClientState → Pending → Option Attempt → Moved ClientState
 asks n c p None = quiet c
 asks n c p (Some a) = sends (with_pending c (record p { asked = true }))
     (says (client_node n) a.master (body.Sync (record { request = p.request; epoch = a.epoch; version = a.version })) ∷ [])
 
--- a rejection lets it ask for a synced reply, once an attempt
+-- a rejection lets it ask for a synced reply to a pending update, once an attempt
 abbrev pub rejected : ℕ → ClientState → Option Pending → Moved ClientState
 rejected n c None = quiet c
-rejected n c (Some p) = if p.asked then quiet c else asks n c p (last_of p.attempts)
+rejected n c (Some p) =
+    if not (is_update p.request.command) then quiet c
+    else if p.asked then quiet c
+    else asks n c p (last_of p.attempts)
 
 -- a configuration is taken where its serial is above the client's
 abbrev pub configured : ClientState → Config → ClientState
@@ -268,6 +351,8 @@ unfoldable pub on_client : ℕ → ClientState → NodeId → Body → Moved Cli
 on_client n c from (body.Reply r) = replied c from r (with_id r.id c.pending)
 on_client n c from (body.Accepted a) = accepted c from a (with_id a.id c.pending)
 on_client n c from (body.Worth v) = valued c from v (with_id v.id c.pending)
+on_client n c from (body.Quick q) = glimpsed c from q (with_id q.id c.pending)
+on_client n c from (body.Probed a) = probed n c from a (with_id a.id c.pending)
 on_client n c from (body.Rejected r) = rejected n c (with_id r.id c.pending)
 on_client n c from (body.Configuration config) = quiet (configured c config)
 on_client n c from _ = quiet c

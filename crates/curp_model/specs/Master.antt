@@ -372,6 +372,29 @@ read_command n m ask _ = quiet m
 unfoldable pub on_read : ℕ → MasterState → Ask → Moved MasterState
 on_read n m ask = read_command n m ask ask.request.command
 
+-- a value that leaves at once bears the master's own epoch and version, and the number of its capture
+abbrev pub quick_value : ℕ → MasterState → Request → ℕ → List ℕ → Message
+quick_value n m r number key = says (master_node n) (client_node r.id.client)
+    (body.Quick (record { id = r.id; epoch = m.epoch; version = m.version; capture = number; answer = Found (store.get (state_of m).store key) }))
+
+-- a read takes the next capture number and is answered at once; no round begins
+abbrev pub answers_at_once : ℕ → MasterState → Request → List ℕ → Moved MasterState
+answers_at_once n m r key = sends (record m { captured = m.captured + 1 }) (quick_value n m r (m.captured + 1) key ∷ [])
+
+-- it is refused, or answered at once where no entry that isn't synced touches its key, or captured
+abbrev pub glance_of : ℕ → MasterState → Request → List ℕ → Option Refusal → Moved MasterState
+glance_of n m r key (Some why) = answers_with n m r.id why
+glance_of n m r key None = if is_clean m r.command then answers_at_once n m r key else captures_read n m r key
+
+-- only a Get is glanced at
+abbrev pub glance_command : ℕ → MasterState → Ask → Command → Moved MasterState
+glance_command n m ask (Get key) = glance_of n m ask.request key (read_refusal m ask)
+glance_command n m ask _ = quiet m
+
+-- a client asks to read, and for an answer at once
+unfoldable pub on_glance : ℕ → MasterState → Ask → Moved MasterState
+on_glance n m ask = glance_command n m ask ask.request.command
+
 -- ---- settling
 
 -- the synced reply to a held Op, with its answer in the fold
@@ -583,6 +606,7 @@ abbrev pub by_message : ℕ → MasterState → NodeId → Body → Moved Master
 by_message n m from (body.Update ask) = on_update n m AtOnce ask
 by_message n m from (body.Sync ask) = on_update n m WhenSynced ask
 by_message n m from (body.Read ask) = on_read n m ask
+by_message n m from (body.Glance ask) = on_glance n m ask
 by_message n m from (body.Appended a) = on_appended n m from a.round a.answer
 by_message n m from (body.Collected c) = on_collected n m c.answer
 by_message n m from (body.Prepare p) = prepare_in n m p m.phase

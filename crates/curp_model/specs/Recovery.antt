@@ -174,6 +174,7 @@ on_fresh n (body.Recover o) = within Recovering (on_recover n o)
 on_fresh n (body.Update ask) = turns_away n Fresh ask.request.id
 on_fresh n (body.Sync ask) = turns_away n Fresh ask.request.id
 on_fresh n (body.Read ask) = turns_read_away n Fresh ask.request
+on_fresh n (body.Glance ask) = turns_read_away n Fresh ask.request
 on_fresh n _ = quiet Fresh
 
 -- the backup answers the fence
@@ -201,6 +202,7 @@ on_recovering n s from (body.Adopted a) = quiet (serves s s.phase)
 on_recovering n s from (body.Update ask) = turns_away n (Recovering s) ask.request.id
 on_recovering n s from (body.Sync ask) = turns_away n (Recovering s) ask.request.id
 on_recovering n s from (body.Read ask) = turns_read_away n (Recovering s) ask.request
+on_recovering n s from (body.Glance ask) = turns_read_away n (Recovering s) ask.request
 on_recovering n s from _ = quiet (Recovering s)
 
 -- a message comes to master n

@@ -17,7 +17,7 @@ use Rattle.curp_msg.specs.declared.answer.GcAnswer.TheVariants as collected
 use Rattle.curp_msg.specs.declared.answer.Reason.{Reason}
 use Rattle.curp_msg.specs.declared.answer.Reason.TheVariants as reason
 use Rattle.curp_msg.specs.declared.body.Body.{Body}
-use Rattle.curp_msg.specs.declared.body.Body.TheVariants.{Record, Accepted, Rejected, Gc, Collected, Start, Freeze, FrozenAnswer}
+use Rattle.curp_msg.specs.declared.body.Body.TheVariants.{Record, Accepted, Rejected, Gc, Collected, Start, Freeze, FrozenAnswer, Probe, Probed}
 use Rattle.curp_msg.specs.declared.machine.Input.{Input}
 use Rattle.curp_msg.specs.declared.machine.Input.TheVariants as input
 use Rattle.curp_model.specs.declared.Mode.{Mode}
@@ -180,6 +180,13 @@ collected_at (Some own) w epoch ids = if own == epoch then collected_in w.mode w
 unfoldable pub gc : WitnessState → ℕ → List RequestId → AfterCollection
 gc w epoch ids = collected_at w.epoch w epoch ids
 
+-- ---- probes
+
+-- it takes requests of that epoch
+abbrev pub is_live : Mode → Option ℕ → ℕ → Bool
+is_live Normal (Some own) epoch = own == epoch
+is_live _ _ epoch = false
+
 -- ---- the end
 
 -- the least hash of the keys that a request names
@@ -220,6 +227,8 @@ on_witness n w from (Gc g) =
     sends c.state (says (witness_node n) from (Collected (record { epoch = g.epoch; answer = c.answer })) ∷ [])
 on_witness n w from (Start s) = quiet (start w s.epoch)
 on_witness n w from (Freeze epoch) = sends (freeze w) (says (witness_node n) from (FrozenAnswer (frozen_requests w)) ∷ [])
+on_witness n w from (Probe p) =
+    sends w (says (witness_node n) from (Probed (record { id = p.id; epoch = p.epoch; live = is_live w.mode w.epoch p.epoch })) ∷ [])
 on_witness n w from _ = quiet w
 
 -- an input comes to witness n, which ignores all orders

@@ -70,10 +70,14 @@ opening_master s p =
     let c = opening_part s p in
     Serving (beginning p 1 1 c.backups c.witnesses (opening_range s.parts p).lo (opening_range s.parts p).hi [] 0)
 
+-- a client of the header, before it invokes anything
+abbrev pub opening_client : Header → ClientState
+opening_client h = fresh_client h.fast h.protocol (opening_config (shape_of h))
+
 -- the world of a header before any step
 unfoldable pub opening : Header → World
 opening h = record {
-  clients = replicate h.clients (fresh_client h.fast (opening_config (shape_of h)));
+  clients = replicate h.clients (opening_client h);
   manager = opening_manager (shape_of h);
   masters = map (opening_master (shape_of h)) (numbers_from 1 h.parts);
   backups = replicate (h.parts * h.f) (installed_backup 1);

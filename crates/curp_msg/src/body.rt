@@ -71,6 +71,14 @@ pub enum Body {
     Given { migration: u32 },
     /// The manager tells a master that a client is gone.
     ExpireClient { client: u32 },
+    /// A client of protocol 2 asks a witness whether it still serves.
+    Probe(Probe),
+    /// A witness answers a probe.
+    Probed(Probed),
+    /// A client of protocol 2 asks a master to read, and to answer at once where that is safe.
+    Glance(Boxed<Ask>),
+    /// A master answers a read at once.
+    Quick(Boxed<Quick>),
 }
 
 /// A request, with the epoch and the version of the lists that its client knows.
@@ -212,6 +220,31 @@ pub struct TakeOut {
     pub ghost ordered: { lo ≤ hi },
 }
 
+#[derive(Clone, Copy, Debug, PartialEq, Eq)]
+pub struct Probe {
+    pub id: RequestId,
+    pub epoch: u32,
+}
+
+/// The epoch is that of the probe.
+#[derive(Clone, Copy, Debug, PartialEq, Eq)]
+pub struct Probed {
+    pub id: RequestId,
+    pub epoch: u32,
+    /// Whether the witness takes requests of that epoch.
+    pub live: bool,
+}
+
+#[derive(Clone, Copy, Debug, PartialEq, Eq)]
+pub struct Quick {
+    pub id: RequestId,
+    pub epoch: u32,
+    pub version: u32,
+    /// The number of the capture at that master.
+    pub capture: u64,
+    pub answer: Answer,
+}
+
 /// What a migration carries.
 #[derive(Drop)]
 pub struct Parcel {
@@ -261,6 +294,10 @@ impl Body {
                 migration: *migration,
             },
             Body::ExpireClient { client } => Body::ExpireClient { client: *client },
+            Body::Probe(probe) => Body::Probe(*probe),
+            Body::Probed(probed) => Body::Probed(*probed),
+            Body::Glance(ask) => Body::Glance(ask.copy(alloc)?),
+            Body::Quick(quick) => Body::Quick(quick.copy(alloc)?),
         })
     }
 }

@@ -18,10 +18,13 @@ pub struct Header {
     pub ways: u32,
 }
 
-/// How reads are done. A second protocol isn't built yet.
+/// How reads are done.
 #[derive(Clone, Copy, PartialEq, Eq)]
 pub enum Protocol {
+    /// A read waits for a round to all backups.
     One,
+    /// A read may complete in one round trip, by the witnesses.
+    Two,
 }
 
 /// A step of a script.

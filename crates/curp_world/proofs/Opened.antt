@@ -4,10 +4,10 @@ use Rattle.std.proofs.lemmas.List.{length-map, length-replicate}
 use Rattle.curp_base.specs.Words.{numbers_from}
 use Rattle.curp_model.specs.Backup.{BackupState, installed_backup}
 use Rattle.curp_model.specs.Client.{ClientState, fresh_client}
-use Rattle.curp_model.specs.Manager.{ManagerState, opening_config, opening_manager}
+use Rattle.curp_model.specs.Manager.{ManagerState, opening_manager}
 use Rattle.curp_model.specs.Recovery.{MasterStage}
 use Rattle.curp_model.specs.Witness.{WitnessState, started_witness}
-use Rattle.curp_model.specs.World.{opening, opening_master, shape_of}
+use Rattle.curp_model.specs.World.{opening, opening_master, shape_of, opening_client}
 use Rattle.curp_msg.specs.Moved.{Node}
 use Rattle.curp_msg.specs.declared.script.Header.{Header}
 use Rattle.curp_opening.specs.Nodes.{HasNumbers, states}
@@ -19,7 +19,7 @@ use Rattle.curp_world.proofs.Grown.{none_ahead}
 pub made_opening : (h : Header) (manager : ManagerState) (clients : List (Node ClientState)) (masters : List (Node MasterStage))
     (backups : List (Node BackupState)) (witnesses : List (Node WitnessState))
     → manager ≡ opening_manager (shape_of h)
-    → states clients ≡ replicate h.clients (fresh_client h.fast manager.config)
+    → states clients ≡ replicate h.clients (fresh_client h.fast h.protocol manager.config)
     → states masters ≡ map (opening_master (shape_of h)) (numbers_from 1 h.parts)
     → states backups ≡ replicate (h.parts * h.f) (installed_backup 1)
     → states witnesses ≡ replicate (h.parts * h.f) (started_witness h.sets h.ways 1)
@@ -27,8 +27,8 @@ pub made_opening : (h : Header) (manager : ManagerState) (clients : List (Node C
     ≡ nodes_of (opening h)
 unfolding opening
 made_opening h manager clients masters backups witnesses of_manager of_clients of_masters of_backups of_witnesses =
-    let c : states clients ≡ replicate h.clients (fresh_client h.fast (opening_config (shape_of h)))
-    = of_clients ∙ ap (λ (g : ManagerState). replicate h.clients (fresh_client h.fast g.config)) of_manager in
+    let c : states clients ≡ replicate h.clients (opening_client h)
+    = of_clients ∙ ap (λ (g : ManagerState). replicate h.clients (fresh_client h.fast h.protocol g.config)) of_manager in
     rw (c, of_masters, of_backups, of_witnesses, of_manager) refl
 
 -- so many nodes
