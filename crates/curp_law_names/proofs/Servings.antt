@@ -202,8 +202,10 @@ module _ (w : World) (n : Names w) (k : ℕ) (me : IsNodeOf w kind.Master k) whe
       by_refusal : (key : List ℕ) (o : Option Refusal) → Goes (glance_of k m ask.request key o)
       by_refusal key (Some why) = (ok, (refuse_said w k me ask.request.id why asked, tt))
       by_refusal key None = cond_both (is_clean m ask.request.command) _ _ Goes
-          (λ y. (record { given = ok.given; next = ok.next; its_lo = ok.its_lo; its_hi = ok.its_hi; entries = ok.entries; reads = ok.reads },
-          (master_said w k (client_node ask.request.id.client) _ (record { sender = (refl, me); addressee = (refl, asked); fits = refl }), tt)))
+          (λ y. (
+            record { given = ok.given; next = ok.next; its_lo = ok.its_lo; its_hi = ok.its_hi; entries = ok.entries; reads = ok.reads },
+            (master_said w k (client_node ask.request.id.client) _ (record { sender = (refl, me); addressee = (refl, asked); fits = refl }), tt),
+          ))
           (λ y. captures_goes m ok ask.request key asked)
 
       by_command : (c : Command) → Goes (glance_command k m ask c)

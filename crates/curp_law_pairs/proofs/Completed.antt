@@ -34,16 +34,16 @@ module _ {w : World} (inv : Invariant w) where
     | inl completable ↦ completable
     | inr read ↦ elim read [
       | inl value ↦
-        let v = value.1 in
-        let ok : WorthSaid w value.0 (client_node id.client) v = said inv value.0 (client_node id.client) (body.Worth v) value.2 in
-        let own : At w.history ok.place (Invoke id ok.command) = subst (λ (k : RequestId). At w.history ok.place (Invoke k ok.command)) value.3 ok.invoked in
-        let same = invoked_with i ok.place id c ok.command invoked own in
-        let reads = ok.reads in
-        absurd cc
+          let v = value.1 in
+          let ok : WorthSaid w value.0 (client_node id.client) v = said inv value.0 (client_node id.client) (body.Worth v) value.2 in
+          let own : At w.history ok.place (Invoke id ok.command) = subst (λ (k : RequestId). At w.history ok.place (Invoke k ok.command)) value.3 ok.invoked in
+          let same = invoked_with i ok.place id c ok.command invoked own in
+          let reads = ok.reads in
+          absurd cc
       | inr seen ↦
-        let ok : QuickSaid w seen.sent.place seen.lists.master (client_node id.client) seen.quick = inv.messages seen.sent.place _ seen.sent.stands in
-        let own : At w.history ok.event (Invoke id (Get ok.key)) = subst (λ (k : RequestId). At w.history ok.event (Invoke k (Get ok.key))) seen.its_id ok.invoked in
-        absurd (no_get ok.key c (invoked_with i ok.event id c (Get ok.key) invoked own) updates)
+          let ok : QuickSaid w seen.sent.place seen.lists.master (client_node id.client) seen.quick = inv.messages seen.sent.place _ seen.sent.stands in
+          let own : At w.history ok.event (Invoke id (Get ok.key)) = subst (λ (k : RequestId). At w.history ok.event (Invoke k (Get ok.key))) seen.its_id ok.invoked in
+          absurd (no_get ok.key c (invoked_with i ok.event id c (Get ok.key) invoked own) updates)
     ]
   ]
     where

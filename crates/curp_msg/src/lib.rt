@@ -13,7 +13,8 @@ mod weighing;
 pub use answer::{AppendAnswer, FenceReply, GcAnswer, Reason, Refusal};
 pub use body::{
     Accepted, Adopted, Append, Appended, Ask, Body, Collected, FenceAnswer, Gc, Parcel, Prepare,
-    Probe, Probed, Quick, Record, Recover, Recovered, Refuse, Rejected, Reply, Start, TakeOut, Worth,
+    Probe, Probed, Quick, Record, Recover, Recovered, Refuse, Rejected, Reply, Start, TakeOut,
+    Worth,
 };
 pub use config::{Config, PartConfig};
 pub use machine::{Capture, Completed, Core, Done, Input, Local};
