@@ -220,14 +220,14 @@ pub struct TakeOut {
     pub ghost ordered: { lo ≤ hi },
 }
 
-#[derive(Clone, Copy)]
+#[derive(Clone, Copy, PartialEq, Eq)]
 pub struct Probe {
     pub id: RequestId,
     pub epoch: u32,
 }
 
 /// The epoch is that of the probe.
-#[derive(Clone, Copy)]
+#[derive(Clone, Copy, PartialEq, Eq)]
 pub struct Probed {
     pub id: RequestId,
     pub epoch: u32,
@@ -235,7 +235,7 @@ pub struct Probed {
     pub live: bool,
 }
 
-#[derive(Clone, Copy)]
+#[derive(Clone, Copy, PartialEq, Eq)]
 pub struct Quick {
     pub id: RequestId,
     pub epoch: u32,
