@@ -1,4 +1,7 @@
 //! A backup as a data structure: the entries of a master of its epoch, and the fence that keeps superseded masters out.
+//!
+//! `Backup::install`, `append`, `fence`: the state after and the answer are those of the definition. Want of memory
+//! comes only where entries would be stored or the log told, and then nothing has changed.
 #![tactic(auto)]
 
 mod backup;

@@ -1,5 +1,11 @@
 //! What every crate of curp stands on: want of memory, lists as plain data, in any order or an ascending one, and words
 //! and lemmas on lists.
+//!
+//! - `Boxed`: a value at a place of its own; contracts see the value.
+//! - `Items`, `AscendingPairs`, `AscendingKeys`: `new`, `into_vec`, `as_slice`, `len`, `copy`: exact. The last two are
+//!   in strictly ascending order by their type; `pairs_ascend` and `keys_ascend` are the tests. `TryCopy` is the trait
+//!   of what is copied where there is memory: its clause says that the copy is the same value. `copies_of`, `past`:
+//!   exact.
 #![tactic(auto)]
 
 mod ascending;

@@ -1,5 +1,9 @@
 //! What the configuration manager changes, without its state: the configuration at opening, the numbers and names that
 //! are given once, recoveries, replacements and migrations in work, and what is sent for them.
+//!
+//! `Next::opening`, `after_recover`, `after_replace`, `after_migrate`: the numbers are those of the definition, and
+//! there are none where one would rise past its end. `backup_names`, `witness_names`, `opening_config`,
+//! `opening_hashes`, `moved_parts` and each message (`messages`): exact.
 #![tactic(auto)]
 
 pub mod messages;

@@ -1,4 +1,18 @@
 //! Keys, values, commands and requests, and the store that gives one thread's answers.
+//!
+//! - `Key::new`, `Value::new`, `Command::multi`: clauses `ok` and one for each error: which bytes are a key or a value,
+//!   which pairs make a multi-put, and why not. None takes memory.
+//! - `Store::apply`, clauses `answer` and `after`; `get`; `pairs`: exact for all seven commands, over a finite map from
+//!   keys to values (`specs/Store.antt`). `apply` takes no memory; `reserve` makes the room that it asks for; `pairs`
+//!   sorts, and takes memory.
+//! - `NodeId::client` and the other names of nodes; `==` of nodes and of ids: exact. `Hashes::of`: the hashes of a
+//!   command's keys, in place.
+//! - `key_hash`, `bytes_hash`: FNV-1a with 64 bits. `touches`, `conflict`: exact over the hashes of a command's keys.
+//! - `Entry`, `Package`, `TablePart`: what logs and migrations carry; `copy` and `room` are exact.
+//! - `laws::apart_commute`: two commands that don't conflict may be done in either order: the store is the same after
+//!   both, and each gives the same answer. `laws::reads_change_nothing`, `laws::put_changes_one_key`;
+//!   `laws::undone_changes_nothing`: a command that answers not-number, overflow, too-long or kept leaves the store as
+//!   it was.
 #![tactic(auto)]
 
 mod command;

@@ -1,4 +1,9 @@
 //! The configuration manager as a data structure: which nodes serve which partition, and what is being done to change it.
+//!
+//! `Manager::on_message` and `on_order`, clause `moves`: each call makes the move of the manager's definition:
+//! recoveries, replacements, migrations and expiries with their refusals, what is adopted, and what is sent again. An
+//! order that is refused wants no memory. For want of memory nothing has changed. `begin`, `config`, the next numbers,
+//! and `adoption` (the recovery that a message lets it adopt): exact.
 #![tactic(auto)]
 
 mod adopting;

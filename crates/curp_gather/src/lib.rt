@@ -1,4 +1,8 @@
 //! The journals of a header's nodes, and the one script that they are.
+//!
+//! - `gather` says of the real nodes that the steps are a run of their journals (`RunOf`): one step for each item and
+//!   each last stop, each is done, and messages and completions are those that the journals hold. It asks that each
+//!   journal was begun with the node that the header's world has by that name (`AreOf`).
 #![tactic(auto)]
 
 mod journals;

@@ -1,4 +1,9 @@
 //! The nodes: the manager, clients, masters, backups and witnesses, each behind one trait, by the machine that defines it.
+//!
+//! The trait is `Core`, and the nodes are `ManagerNode`, `ClientNode`, `MasterNode`, `BackupNode` and `WitnessNode`.
+//! Their machines are in `specs/Machines.antt`, and are the definitions whole. `new` of each: exact, as at opening;
+//! `fresh` of masters, backups and witnesses: exact, as before anything came. Its module `laws` has the laws of
+//! `docs/THEOREMS.md`, for who uses the nodes.
 #![tactic(auto)]
 
 mod backup;

@@ -1,4 +1,17 @@
 //! The outside of curp: where bytes come from, where they go, and the lines that they make.
+//!
+//! - The traits `Source` (`take`) and `Sink` (`put`, `flush`): the clause `bytes` says what happens to the bytes that
+//!   are left or held, `cause` that a failure raises the count of faults, `told` that any other answer leaves it, and
+//!   `flushed` whether a flush was done after the last byte that a sink took.
+//! - `Lines::next_line`, clause `bytes`: it gives the lines of the bytes in order, whatever the sizes of the pieces in
+//!   which the source gives them, or says that a line is too long exactly where it has more than 65,536 bytes.
+//!   `repeats`: after a fault or a line that is too long it answers the same for ever.
+//! - `write_piece`, clause `bytes`: the whole piece was put, or a front of it after a refusal. `next_line` and
+//!   `write_piece` carry `cause` and `told`.
+//! - `MemorySource`, `MemorySink`: exact, also which calls fail. `SureSource`, `SureSink`: they never fail, since their
+//!   count of faults is always 0. `StdSource` and `StdSink` keep the traits' clauses over any reader and writer of std;
+//!   they tell bytes where these do. `verdict_of`, `put_of`: exact, which of std's errors is an interruption, want of
+//!   memory or a fault, and what a write's outcome is.
 #![tactic(auto)]
 
 mod lines;

@@ -2,6 +2,11 @@
 //! migrations, collections, expiries and reads among its steps, superseded masters that go on, and steps that are
 //! refused. There is no code here: a law is the contract of a function with nothing in it, and a caller has the law by
 //! the call.
+//!
+//! Each step of the world is told as moves of the machine of `curp_law_line` in `specs/Refined.antt`, and what a world
+//! keeps of the order and of reads in `specs/Ordered.antt`. `proofs/Masters*` have what a master pushes and captures,
+//! `Managers*` and `Adopt*` migrations and adoptions, `Reads*` looks, captures and values, `Always.antt` and
+//! `Runs.antt` the induction, `Kept*` and `Statements.antt` what the laws say of a world.
 #![tactic(auto)]
 
 ghost use Rattle.std.specs.Prelude.{List};

@@ -1,5 +1,13 @@
 //! What the journals of nodes show, merged by their stamps, is a run of the world. There is no code here: a law is the
 //! contract of a function with nothing in it, and a caller has the law by the call.
+//!
+//! - `legal_steps_are_a_run`: where each step does what its turn says by the messages that the turns before it sent
+//!   (`Legal`), what was sent weighs no more than the limit, and each journal is one of its node's machine from the
+//!   state in which the world makes that node, a fresh node takes a message first, and the manager doesn't stop, then
+//!   the world makes each step, and its messages and completions are the journals'. Lists alone are asked of, and no
+//!   world is run. `nodes_begin_by_the_header` and `journals_of_a_kind_are_journals` lead to its premises.
+//!   `runs_show_their_journals`: the orders that a journal took are those that the script gives, and what completed in
+//!   a journal completes in the run.
 #![tactic(auto)]
 
 ghost use Rattle.std.specs.Prelude.{◌≡◌, ℕ, ◌*◌, ◌<◌, ◌≤◌, false, List};

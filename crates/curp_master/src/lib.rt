@@ -1,5 +1,21 @@
 //! The serving master as a data structure: it answers an update at once where nothing that isn't synced touches its
 //! keys, and everything else once all backups have it.
+//!
+//! `Master::on_message` and `Master::on_order`, clause `moves`: each call makes the move of a serving master's
+//! definition, and hands out all that it sends. For want of memory nothing has changed. `shell` takes the memory of a
+//! master with its lists, and `begin` takes none, so a recovery ends only where its master's memory is there. `begin`,
+//! `log`, `synced`, `captured`, `last_capture`: exact.
+//!
+//! - By its duties: `updates`, `reads`, `rounds`, `settling` (what backups answer), `collecting` and `suspects` (what
+//!   witnesses may drop, and what they still hold), `switching` (new lists), `moving` (ranges that come and go, clients
+//!   that are gone).
+//! - A read waits with the value of its arrival, and is answered once each backup of the list has acknowledged the
+//!   log's length of then and the round that was begun for it. All that a read costs is that round, and a look at those
+//!   that wait for each answer of a backup.
+//! - `Journal` is the log with its tail and the free ops. The tail begins empty, since each backup has the log that a
+//!   master begins with; a list without backups, which no header has, would leave entries before the tail, and these
+//!   are looked at themselves (`untold`). What waits for collection is a `Queue`. All memory of an input is taken
+//!   before anything changes.
 #![tactic(auto)]
 
 mod collecting;

@@ -1,4 +1,11 @@
 //! Journals of many nodes, merged into one script.
+//!
+//! - `merge` takes the turn that is due: the one with the least stamp and, of these, the first line's. A message is
+//!   delivered by the number that the merge so far gave it; since its sender's stamp is lower, the sender's item was
+//!   taken before. It first looks whether each message that a node took is the one that its sender's journal holds at
+//!   that step and place, with that stamp (`Mismatch`, else), whether there are more than 200,000 turns, and whether
+//!   what was sent weighs too much; each error has exactly its cause. A step costs a look at each line and what it
+//!   sends.
 #![tactic(auto)]
 
 mod count;

@@ -1,5 +1,13 @@
 //! What each node of the protocol is and what the world does, as definitions, after CURP and RIFL, and laws of them that
 //! need no world.
+//!
+//! There is one file for each kind of node, one for logs and one for reply tables, one for the marks, and one for the
+//! world with all twelve kinds of step. The program, the world, the nodes and the laws stand on these. Proved are laws
+//! of single nodes and of logs: `laws::frozen_witness_stands` (no message changes a frozen witness),
+//! `laws::backup_only_grows`, `laws::known_stays_known` (as a log grows, a request that is known stays known, with its
+//! answer and its place, until its client acknowledges it or is gone), `laws::replay_in_any_order` (requests of which
+//! no two conflict or have one id may be replayed in any order: the store and all answers are the same),
+//! `laws::same_packages` (the test whether two packages are the same is equality).
 #![tactic(auto)]
 
 pub mod laws;

@@ -1,4 +1,6 @@
 //! Histories, what an order of a history is, and the answers of one thread.
+//!
+//! - `run_order`: the answers of one thread, for all commands. `History::record`, `events`: exact.
 #![tactic(auto)]
 
 mod history;

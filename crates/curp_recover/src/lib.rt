@@ -1,5 +1,13 @@
 //! A master before it serves: it takes the log of one backup and the requests of one witness, replays the requests
 //! behind the log, and stores the whole on fresh backups (after CURP's recovery).
+//!
+//! `Recovery::begin`, `on_log`, `on_frozen`, `on_stored`, `again`, clause `moves`: each call makes the move of a
+//! recovering master's definition, and hands out all that it sends; what isn't waited for is told as ignored.
+//! `on_message`, `on_order`: the same for a message or an order as it comes, where the adoption changes nothing;
+//! `is_adopted_by` says whether a message is the adoption by which it begins to serve, and `finish` gives the log to
+//! serve with, without memory. The replayed requests stand behind the log as ops that acknowledge nothing, in the
+//! witness's order, each where it is new and owned. A log that is none counts as not delivered. A recovery costs two
+//! passes over the log, to test it and to replay behind it, and its messages. For want of memory nothing has changed.
 #![tactic(auto)]
 
 mod error;

@@ -8,6 +8,8 @@
 //! s2 refused no-message
 //! order 0
 //! ```
+//!
+//! `push_step_text`, `step_text`, `order_text`: exact, byte for byte.
 #![tactic(auto)]
 
 mod backup;

@@ -1,5 +1,12 @@
 //! The worked examples, computed on the definitions. There is no code here: an example is a clause of a function with
 //! nothing in it, and says that the run of the script has the example's text, whole.
+//!
+//! The examples are from outside: 32 scripts, of updates, conflicts, reads, recoveries, replacements, migrations and
+//! refused steps. They stand in `examples`, each with its output, and `examples/to_specs.py` makes the specs of this
+//! crate of them. A clause for each says that the definitions of `curp_model` and `curp_text` give the script exactly
+//! the output. Of a longer script, which fills a world with messages, the first 576 of 914 steps are one more; its
+//! steps and its text are written as functions over numbers. Scripts whose lines the grammar refuses are tested in
+//! `curp_test_texts` instead.
 #![tactic(auto)]
 
 ghost use Rattle.curp_rows.specs.Example.{Plays};

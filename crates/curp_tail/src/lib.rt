@@ -1,4 +1,10 @@
 //! The end of a log that isn't synced yet: what its entries touch, and whether a hash or a command is among it.
+//!
+//! `add`, `synced`, `is_dirty`, `covers_dirty`: exact over the list of what is kept. Whether a hash is dirty is a look
+//! into a hash table of the last entry that names each hash, and at the ranges that are moved and not synced. `add`
+//! adds all or none; `add_reserved` takes no memory, and `reserve` makes the room that it asks for.
+//! `laws::tail_tells_of_log`, `laws::tail_follows_log`: where it follows a log, a hash is dirty exactly where an entry
+//! that isn't synced touches it.
 #![tactic(auto)]
 
 pub mod laws;

@@ -1,4 +1,12 @@
 //! The words of the command line, and what they ask for.
+//!
+//! `read` is exact over `order_in`, both ways, want of memory aside: it gives the order of the words, or says that they
+//! are none. For `make` and for `live`, `clap`'s parser is one simple command with an argument for the word and one for
+//! each option; `make` is tried first, and `live` where the words are none of `make`. That each takes exactly what
+//! `given_by` says with its options, with the same values, is proved once for any options, over what the kit's port
+//! states of simple commands (`proofs/Walks.antt`, `proofs/Parses.antt`; `proofs/Orders.antt` has `make` and `live`).
+//! `play` alone, empty words, `--`, and words that begin with one hyphen are decided before the parser. `blamed`: the
+//! first word with which no command line can begin, or none where something is missing at the end.
 #![tactic(auto)]
 
 mod blame;
