@@ -272,7 +272,8 @@ module _ (Came : NodeId → Body → Type 0) (Adopted : PartConfig → Type 0) (
   rejection_comes r suits (Some p) e =
       let f = found r.id c.pending p e in
       let update = suits p.request f.2 (asked_of f.0 p f.1).invoked in
-      cond_both p.asked _ _ Heard (λ y. rests) (λ no. asks_again f.0 p f.1 update (last_of p.attempts) refl)
+      cond_both (not (is_update p.request.command)) _ _ Heard (λ y. rests) (λ y.
+      cond_both p.asked _ _ Heard (λ z. rests) (λ z. asks_again f.0 p f.1 update (last_of p.attempts) refl))
 
   config_comes : (config : Config) → Each Adopted config.parts → Heard (quiet (configured c config))
   config_comes config all = cond_both (nat_lt c.config.serial config.serial) _ _ (λ (d : ClientState). Heard (quiet d))

@@ -223,7 +223,9 @@ module _ (w : World) (n : Names w) (k : ℕ) (me : IsNodeOf w kind.Client k) whe
 
     rejected_goes : (id : RequestId) (o : Option Pending) → with_id id c.pending ≡ o → Goes (rejected k c o)
     rejected_goes id None e = rests
-    rejected_goes id (Some p) e = cond_both p.asked _ _ Goes (λ y. rests) (λ y. asks_goes p (pending_fits id p e) (last_of p.attempts) refl)
+    rejected_goes id (Some p) e =
+        cond_both (not (is_update p.request.command)) _ _ Goes (λ y. rests) (λ y.
+        cond_both p.asked _ _ Goes (λ z. rests) (λ z. asks_goes p (pending_fits id p e) (last_of p.attempts) refl))
 
     configured_goes : (config : Config) → ConfigurationOk w config → Goes (quiet (configured c config))
     configured_goes config its = (cond_both (nat_lt c.config.serial config.serial) _ _ (ClientFits w k) (λ y. record { config = its; pending = ok.pending }) (λ y. ok), tt)
