@@ -9,5 +9,6 @@ pub mod Evidence
 pub mod Nodes
 pub mod Invariant
 pub mod Run
+pub mod ByOne
 pub mod Silence
 pub mod Marked

@@ -196,7 +196,8 @@ module _ {w : World} (known : Known w) where
       serving_hears from (body.Update ask) sent = let u = said known from (master_node n) (body.Update ask) sent in record { request = u.asked.request; updates = u.updates }
       serving_hears from (body.Sync ask) sent = let u = said known from (master_node n) (body.Sync ask) sent in record { request = u.asked.request; updates = u.updates }
       serving_hears from (body.Read ask) sent = (said known from (master_node n) (body.Read ask) sent).asked.request
-      serving_hears from (body.Glance ask) sent = (said known from (master_node n) (body.Glance ask) sent).asked.request
+      serving_hears from (body.Glance ask) sent =
+          ((said known from (master_node n) (body.Glance ask) sent).asked.request, record { from = from; to = master_node n; ask = ask; sent = sent; its_id = refl })
       serving_hears from (body.Appended a) sent = let k = said known from (master_node n) (body.Appended a) sent in answered from a k.0 a.answer k.1
       serving_hears from (body.Collected c) sent = suspects c.answer (said known from (master_node n) (body.Collected c) sent)
       serving_hears from (body.Adopted a) sent = prepared a (said known from (master_node n) (body.Adopted a) sent)

@@ -18,6 +18,7 @@ use Rattle.curp_model.specs.Ranges.{opening_range}
 use Rattle.curp_model.specs.Recovery.{MasterStage, master_input}
 use Rattle.curp_model.specs.Witness.{WitnessState, witness_input}
 use Rattle.curp_model.specs.World.{World, invocation_of, is_adopted, kept, master_marks, messages, with_backup, with_client, with_completion, with_witness}
+use Rattle.curp_facts.specs.ByOne.{ByOne}
 use Rattle.curp_facts.specs.Growth.{Grows}
 use Rattle.curp_facts.specs.Kept.{AdoptedLog}
 use Rattle.curp_law_growth.specs.Deeds.{IsFor}
@@ -54,18 +55,20 @@ use Rattle.curp_law_names.proofs.Lists.{all_of-kept}
 use Rattle.curp_law_pairs.specs.Predecessors.{Predecessors}
 use Rattle.curp_law_routes.specs.Migrated.{Migrated}
 use Rattle.curp_law_routes.specs.Routes.{Routes}
+use Rattle.curp_law_runs.proofs.ByOne.{brings_one}
 
--- what a step owes, but for the commands
+-- what a step owes, but for the commands and the protocol
 pub record KeepsOrder (w v : World) : Type 0 where
   pub refines : Refines w v
   pub logs : (c : PartConfig) (l : AdoptedLog v c) → AdoptedOk v c l
   pub reads : ReadsOk v
 
 -- it keeps what is kept of the order
-pub ordered_after : {w v : World} → Ordered w → CommandsName v.history → KeepsOrder w v → Ordered v
-ordered_after {w} {v} ordered commands k = record {
+pub ordered_after : {w v : World} → Ordered w → CommandsName v.history → ByOne v → KeepsOrder w v → Ordered v
+ordered_after {w} {v} ordered commands by_one k = record {
   line = subst LineOk k.refines.leads (all_keep pure second k.refines.moves (line_of w) k.refines.fit ordered.line);
   commands = commands;
+  by_one = by_one;
   logs = k.logs;
   numbered_looks = k.reads.numbered_looks;
   worths = k.reads.worths;
@@ -220,9 +223,9 @@ module _ {w : World} (known : Known w) (chain : Predecessors w) (routes : Routes
       let out = (master_input n m given).messages in
       let k = (master_input n m given).state in
       let step = master_step known n given m here for events none grows later in
-      let r : RefinesQuiet w v = master_refines known chain routes migrated ordered migrated_now n from heard out m k step (input_captures n m given) marks in
+      let r : RefinesQuiet w v = master_refines known chain routes migrated ordered migrated_now n from heard out m k step (input_captures n m given (brings_one ordered.by_one (master_node n) given for)) marks in
       record {
         refines = r.its;
         logs = master_logs known chain routes migrated ordered migrated_now n from heard out m k step;
-        reads = master_reads known now chain chain_now ordered r.its r.quiet m k step marks (λ x y before after. input_reads known n m given x y before after);
+        reads = master_reads known now chain chain_now ordered r.its r.quiet m k step marks (λ x y before after. input_reads known n m given (brings_one ordered.by_one (master_node n) given for) x y before after);
       }

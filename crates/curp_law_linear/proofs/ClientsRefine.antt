@@ -46,6 +46,7 @@ use Rattle.curp_law_linear.proofs.Same.{SameLogs}
 use Rattle.curp_law_names.proofs.Lists.{all_of-kept}
 use Rattle.curp_law_pairs.specs.Predecessors.{Predecessors}
 use Rattle.curp_law_routes.specs.Migrated.{Migrated}
+use Rattle.curp_law_runs.proofs.ByOne.{by_value}
 
 -- ---- an order completes nothing
 
@@ -153,7 +154,7 @@ module _ {w : World} (known : Known w) (chain : Predecessors w) (migrated : Migr
       completes : RefinesQuiet w v
       completes = elim ok.evidence [
         | inl u ↦ elim u.evidence [ inl e ↦ update_completes (by_synced known n d.id d.answer e) u.no_capture | inr e ↦ update_completes (by_accepts known n d.id d.answer e) u.no_capture ]
-        | inr r ↦ read_completes r.evidence
+        | inr r ↦ read_completes (by_value ordered.by_one n ok.p.request d r)
       ]
 
   -- ---- any input

@@ -39,8 +39,10 @@ use Rattle.curp_model.specs.Master.{AtOnce, Captured, Deny, Execute, HoldBack, M
 use Rattle.curp_model.specs.Ranges.{owns_all}
 use Rattle.curp_model.specs.Recovery.{Fresh, MasterStage, Recovering, Serving, master_input, master_ordered, on_master}
 use Rattle.curp_model.specs.Table.{check, is_gone}
+use Rattle.curp_facts.specs.ByOne.{IsOfOne}
 use Rattle.curp_facts.specs.Facts.{IsAmong}
 use Rattle.curp_base.proofs.Numbered.{filter_at}
+use Rattle.curp_law_runs.proofs.ByOne.{BringsOne}
 
 -- a read that the master takes: it has the next number and the length of the log, its hashes are owned, and its answer is that
 -- of the log's store
@@ -240,22 +242,23 @@ module _ (n : ℕ) (m : MasterState) where
   ends_captures : (r : Moved MasterState) → After n m r → After n m (unless_it_ends m r)
   ends_captures r g = cond_both (rises_past last_round m.round r.state.round || rises_past last_round m.captured r.state.captured) _ _ (After n m) (λ y. rests n m) (λ y. g)
 
-  message_captures : (from : NodeId) (b : Body) → After n m (by_message n m from b)
-  message_captures from (body.Update ask) = update_captures n m AtOnce ask
-  message_captures from (body.Sync ask) = update_captures n m WhenSynced ask
-  message_captures from (body.Read ask) = read_captures n m ask
-  message_captures from (body.Appended a) = appended_captures n m from a.round a.answer
-  message_captures from (body.Collected c) = collected_captures c.answer
-  message_captures from (body.Prepare p) = prepare_captures p m.phase
-  message_captures from (body.Adopted a) = adopted_captures a.version m.phase
-  message_captures from (body.TakeOut t) = on_take_captures t
-  message_captures from (body.GiveIn g) = on_give_captures g
-  message_captures from (body.ExpireClient client) = expire_captures client
-  message_captures from _ = rests n m
+  message_captures : (from : NodeId) (b : Body) → IsOfOne b → After n m (by_message n m from b)
+  message_captures from (body.Update ask) one = update_captures n m AtOnce ask
+  message_captures from (body.Sync ask) one = update_captures n m WhenSynced ask
+  message_captures from (body.Read ask) one = read_captures n m ask
+  message_captures from (body.Glance ask) one = absurd one
+  message_captures from (body.Appended a) one = appended_captures n m from a.round a.answer
+  message_captures from (body.Collected c) one = collected_captures c.answer
+  message_captures from (body.Prepare p) one = prepare_captures p m.phase
+  message_captures from (body.Adopted a) one = adopted_captures a.version m.phase
+  message_captures from (body.TakeOut t) one = on_take_captures t
+  message_captures from (body.GiveIn g) one = on_give_captures g
+  message_captures from (body.ExpireClient client) one = expire_captures client
+  message_captures from _ one = rests n m
 
-  serving_captures : (from : NodeId) (b : Body) → After n m (on_serving n m from b)
+  serving_captures : (from : NodeId) (b : Body) → IsOfOne b → After n m (on_serving n m from b)
   unfolding on_serving
-  serving_captures from b = ends_captures (by_message n m from b) (message_captures from b)
+  serving_captures from b one = ends_captures (by_message n m from b) (message_captures from b one)
 
   sync_captures : (at : Phase) → After n m (sync_in n m at)
   sync_captures Open = keeps_all m _ refl refl
@@ -276,10 +279,10 @@ abbrev pub StageCaptures : MasterStage → MasterStage → Type 0
 StageCaptures (Serving m) (Serving k) = Captures m k
 StageCaptures _ _ = ⊤
 
--- any input to a master
-pub input_captures : (n : ℕ) (m : MasterStage) (given : Input) → StageCaptures m (master_input n m given).state
+-- any input of protocol 1 to a master
+pub input_captures : (n : ℕ) (m : MasterStage) (given : Input) → BringsOne given → StageCaptures m (master_input n m given).state
 unfolding on_master master_ordered
-input_captures n Fresh given = tt
-input_captures n (Recovering s) given = tt
-input_captures n (Serving m) (input.Local order) = ordered_captures n m order
-input_captures n (Serving m) (input.Message x) = serving_captures n m x.from x.body
+input_captures n Fresh given one = tt
+input_captures n (Recovering s) given one = tt
+input_captures n (Serving m) (input.Local order) one = ordered_captures n m order
+input_captures n (Serving m) (input.Message x) one = serving_captures n m x.from x.body one

@@ -17,6 +17,7 @@ use Rattle.curp_law_linear.specs.Ordered.{AdoptedOk, CaptureOk, MigrationsRise, 
 use Rattle.curp_law_logs.specs.Gives.{GivesFit}
 use Rattle.curp_law_names.proofs.Lists.{at_mapped, place}
 use Rattle.curp_law_routes.proofs.Steps.{nothing_sent}
+use Rattle.curp_law_runs.proofs.ByOne.{by_one_opening}
 
 module _ (h : Header) where
   -- a master of the opening
@@ -62,6 +63,7 @@ module _ (h : Header) where
   ordered_opening its = record {
     line = opening_line h (few h.parts its.parts.1);
     commands = λ i id command at. absurd cc;
+    by_one = by_one_opening h its.protocol;
     logs = logs_first;
     numbered_looks = record { made = λ k number long m at is. absurd cc; once = λ j k number long other m o at to is its same. absurd cc };
     worths = λ node v sent. absurd (nothing_sent h _ sent);

@@ -44,6 +44,7 @@ use Rattle.curp_model.specs.Ranges.{owns_all}
 use Rattle.curp_model.specs.Table.{check, is_gone}
 use Rattle.curp_model.specs.declared.Check.{Check}
 use Rattle.curp_model.specs.declared.Check.TheVariants.{Expired, Known, New, Stale}
+use Rattle.curp_facts.specs.ByOne.{IsOfOne}
 use Rattle.curp_facts.specs.Facts.{IsAmong}
 use Rattle.curp_law_names.proofs.Lists.{each_among, filter_among}
 
@@ -405,23 +406,24 @@ module _ (n : ℕ) (m : MasterState) (from : NodeId) (heard : Option Body) where
   ends_moves : (r : Moved MasterState) → Goes r → Goes (unless_it_ends m r)
   ends_moves r g = cond_both (rises_past last_round m.round r.state.round || rises_past last_round m.captured r.state.captured) _ _ Goes (λ y. rests) (λ y. g)
 
-  message_moves : (b : Body) → heard ≡ Some b → Goes (by_message n m from b)
-  message_moves (body.Update ask) is = update_moves AtOnce ask
-  message_moves (body.Sync ask) is = update_moves WhenSynced ask
-  message_moves (body.Read ask) is = read_moves ask
-  message_moves (body.Appended a) is = appended_moves a is
-  message_moves (body.Collected c) is = collected_moves c.answer
-  message_moves (body.Prepare p) is = prepare_moves p m.phase
-  message_moves (body.Adopted a) is = adopted_moves a.version m.phase
-  message_moves (body.TakeOut t) is = cond_both (is_open m.phase) _ _ Goes (λ y. take_moves t (state_of m).taken) (λ y. rests)
-  message_moves (body.GiveIn g) is = cond_both (is_open m.phase) _ _ Goes (λ y. give_moves g (state_of m).given) (λ y. rests)
-  message_moves (body.ExpireClient client) is = expire_moves client
-  message_moves _ is = rests
+  message_moves : (b : Body) → IsOfOne b → heard ≡ Some b → Goes (by_message n m from b)
+  message_moves (body.Update ask) one is = update_moves AtOnce ask
+  message_moves (body.Sync ask) one is = update_moves WhenSynced ask
+  message_moves (body.Read ask) one is = read_moves ask
+  message_moves (body.Glance ask) one is = absurd one
+  message_moves (body.Appended a) one is = appended_moves a is
+  message_moves (body.Collected c) one is = collected_moves c.answer
+  message_moves (body.Prepare p) one is = prepare_moves p m.phase
+  message_moves (body.Adopted a) one is = adopted_moves a.version m.phase
+  message_moves (body.TakeOut t) one is = cond_both (is_open m.phase) _ _ Goes (λ y. take_moves t (state_of m).taken) (λ y. rests)
+  message_moves (body.GiveIn g) one is = cond_both (is_open m.phase) _ _ Goes (λ y. give_moves g (state_of m).given) (λ y. rests)
+  message_moves (body.ExpireClient client) one is = expire_moves client
+  message_moves _ one is = rests
 
-  -- a message that comes to a serving master
-  pub serving_reads : (b : Body) → heard ≡ Some b → Goes (on_serving n m from b)
+  -- a message of protocol 1 that comes to a serving master
+  pub serving_reads : (b : Body) → IsOfOne b → heard ≡ Some b → Goes (on_serving n m from b)
   unfolding on_serving
-  serving_reads b is = ends_moves (by_message n m from b) (message_moves b is)
+  serving_reads b one is = ends_moves (by_message n m from b) (message_moves b one is)
 
   sync_moves : (at : Phase) → Goes (sync_in n m at)
   sync_moves Open = rounds m itself

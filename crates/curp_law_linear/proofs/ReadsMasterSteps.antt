@@ -35,15 +35,16 @@ use Rattle.curp_law_masters.specs.Moves.{IsSaidBy, RecoverySays}
 use Rattle.curp_law_masters.specs.Stages.{FreshSays}
 use Rattle.curp_law_names.proofs.Lists.{among_each}
 use Rattle.curp_law_pairs.specs.Predecessors.{Predecessors}
+use Rattle.curp_law_runs.proofs.ByOne.{BringsOne}
 use Rattle.curp_law_stays.proofs.Words.{one_state}
 
 -- ---- what an input does with captures
 
--- an input to a serving master, by what comes
-pub input_reads : {w : World} (known : Known w) (n : ℕ) (m : MasterStage) (given : Input) (x y : MasterState) → m ≡ Serving x → (master_input n m given).state ≡ Serving y
+-- an input of protocol 1 to a serving master, by what comes
+pub input_reads : {w : World} (known : Known w) (n : ℕ) (m : MasterStage) (given : Input) → BringsOne given → (x y : MasterState) → m ≡ Serving x → (master_input n m given).state ≡ Serving y
     → ReadsMove x (speaker known n given) (heard_in known n given) (sends y (master_input n m given).messages)
 unfolding recovery.on_master recovery.master_ordered
-input_reads known n (Serving z) given x y was is = go given (same was) is
+input_reads known n (Serving z) given one x y was is = go given one (same was) is
   where
     same : {a b : MasterState} → Serving a ≡ Serving b → a ≡ b
     same e = cc
@@ -53,11 +54,11 @@ input_reads known n (Serving z) given x y was is = go given (same was) is
         subst (λ (a : MasterState). ReadsMove a from heard (sends y r.messages)) before
         (subst (λ (b : MasterState). ReadsMove z from heard (sends b r.messages)) (same after) (record { captures = k.captures; rounds = k.rounds; values = k.values }))
 
-    go : (given : Input) → z ≡ x → (master_input n (Serving z) given).state ≡ Serving y → ReadsMove x (speaker known n given) (heard_in known n given) (sends y (master_input n (Serving z) given).messages)
-    go (input.Local order) before after = at (master_node n) None (serving_ordered n z order) (ordered_reads n z (master_node n) None order) before after
-    go (input.Message m) before after = at m.from (Some m.body) (on_serving n z m.from m.body) (serving_reads n z m.from (Some m.body) m.body refl) before after
-input_reads known n Fresh given x y was is = absurd cc
-input_reads known n (Recovering s) given x y was is = absurd cc
+    go : (given : Input) → BringsOne given → z ≡ x → (master_input n (Serving z) given).state ≡ Serving y → ReadsMove x (speaker known n given) (heard_in known n given) (sends y (master_input n (Serving z) given).messages)
+    go (input.Local order) one before after = at (master_node n) None (serving_ordered n z order) (ordered_reads n z (master_node n) None order) before after
+    go (input.Message m) one before after = at m.from (Some m.body) (on_serving n z m.from m.body) (serving_reads n z m.from (Some m.body) m.body one refl) before after
+input_reads known n Fresh given one x y was is = absurd cc
+input_reads known n (Recovering s) given one x y was is = absurd cc
 
 -- ---- a master that doesn't serve yet
 

@@ -16,6 +16,7 @@ use Rattle.curp_law_linear.proofs.ManagersKeep.{manager_keeps_order}
 use Rattle.curp_law_linear.proofs.Opened.{ordered_opening}
 use Rattle.curp_law_names.proofs.Later.{Later}
 use Rattle.curp_law_names.proofs.Runs.{step_goes}
+use Rattle.curp_law_runs.proofs.ByOne.{by_one_step}
 use Rattle.curp_law_routes.proofs.Always.{Moving, migrated_now, moving_opening, moving_step}
 
 -- what holds in every run, beside what nodes and messages keep
@@ -49,7 +50,7 @@ step_keeps_order w known o x its =
 orderly_step : (w : World) → Known w → (x : Step) → IsStep x → Orderly w → Orderly (step w x).world
 orderly_step w known x its o = record {
   moving = moving_step w known x its o.moving;
-  ordered = ordered_after o.ordered (commands_step (step_case w known x its) o.ordered.commands) (step_keeps_order w known o x its);
+  ordered = ordered_after o.ordered (commands_step (step_case w known x its) o.ordered.commands) (by_one_step w known x its o.ordered.by_one) (step_keeps_order w known o x its);
 }
 
 -- and so each run

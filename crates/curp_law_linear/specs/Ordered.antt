@@ -1,4 +1,4 @@
--- What a world keeps of the order: the facts of the small machine, of the adopted logs, and of reads.
+-- What a world keeps of the order: the facts of the small machine, of the adopted logs, and of reads, which are those of protocol 1.
 use Rattle.std.specs.Prelude.{◌≡◌, ◌≤◌, ◌<◌, ◌⊎◌, ℕ, true, List, length, Option, Some, None}
 use Rattle.curp_base.specs.Words.{At, Each}
 use Rattle.curp_cmd.specs.Node.{client_node}
@@ -18,6 +18,7 @@ use Rattle.curp_model.specs.Master.{Captured, MasterState}
 use Rattle.curp_model.specs.Named.{IsMaster}
 use Rattle.curp_model.specs.Recovery.{Serving}
 use Rattle.curp_model.specs.World.{World}
+use Rattle.curp_facts.specs.ByOne.{ByOne}
 use Rattle.curp_facts.specs.Facts.{HasLog, IsAdoptedNow, Lists, Logged, WasAdopted, WasSent, hi_of, lo_of}
 use Rattle.curp_facts.specs.Kept.{AdoptedLog, PassedBy, lists_of_master}
 use Rattle.curp_facts.specs.Reach.{Reach}
@@ -101,6 +102,7 @@ pub record LooksReached (w : World) : Type 0 where
 
 pub record Ordered (w : World) : Type 0 where
   pub line : LineOk (line_of w)
+  pub by_one : ByOne w
   pub commands : (i : ℕ) (id : RequestId) (command : Command) → At w.history i (Invoke id command) → NamesKey command
   pub logs : (c : PartConfig) (l : AdoptedLog w c) → AdoptedOk w c l
   pub numbered_looks : LooksNumbered w

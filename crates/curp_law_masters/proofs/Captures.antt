@@ -23,7 +23,7 @@ use Rattle.curp_model.specs.declared.Check.TheVariants.{Expired, Stale, Known, N
 use Rattle.curp_model.specs.Master.{Captured, MasterState, by_read_check, captures_read, on_read, read_command, read_of, read_refusal, state_of, answers_at_once, glance_command, glance_of, is_clean, is_open, on_glance, Phase, Open, Switching}
 use Rattle.curp_model.specs.Table.{check}
 use Rattle.curp_model.specs.World.{World}
-use Rattle.curp_law_masters.specs.Moves.{ServingMove}
+use Rattle.curp_law_masters.specs.Moves.{ServingMove, WasGlanced}
 use Rattle.curp_law_masters.proofs.Completed.{stale_completed}
 use Rattle.curp_law_masters.proofs.Parts.{parts_capture, parts_of, parts_glance}
 use Rattle.curp_law_masters.proofs.Serving.{begins_next, rests, keeps_log}
@@ -122,14 +122,15 @@ module _ (w : World) (n : ℕ) (m : MasterState) (ok : ServingOk w (master_node 
     unfolding applied
     get_answer lo hi log key = refl
 
-    at_once : (r : Request) (key : List ℕ) → RequestOk w r → r.command ≡ Get key → m.phase ≡ Open → owns_all (state_of m).owned (hashes r.command) ≡ true → is_clean m r.command ≡ true
+    at_once : (r : Request) (key : List ℕ) → RequestOk w r → WasGlanced w r.id → r.command ≡ Get key → m.phase ≡ Open → owns_all (state_of m).owned (hashes r.command) ≡ true → is_clean m r.command ≡ true
         → Goes (answers_at_once n m r key)
-    at_once r key asked is opens owned clean =
+    at_once r key asked glanced is opens owned clean =
         keeps_log w n m ok from heard (record m { captured = m.captured + 1 }) _ (record { version = refl; backups = refl; witnesses = refl; phase = refl; acknowledged = refl }) refl
         (parts_glance w m.part m (parts_of w (master_node n) m ok)) (
           record {
             sender = refl;
             says_so = record {
+              asked = glanced;
               serves = opens;
               its_epoch = refl;
               its_version = refl;
@@ -146,20 +147,20 @@ module _ (w : World) (n : ℕ) (m : MasterState) (ok : ServingOk w (master_node 
           tt,
         )
 
-    glance_of_moves : (ask : Ask) (key : List ℕ) → RequestOk w ask.request → ask.request.command ≡ Get key → (o : Option Refusal) → Rests ask.request o → (o ≡ None → Clear ask)
+    glance_of_moves : (ask : Ask) (key : List ℕ) → RequestOk w ask.request → WasGlanced w ask.request.id → ask.request.command ≡ Get key → (o : Option Refusal) → Rests ask.request o → (o ≡ None → Clear ask)
         → Goes (glance_of n m ask.request key o)
-    glance_of_moves ask key asked is (Some why) first open_one = refuses w n m ok from heard ask.request.id why first
-    glance_of_moves ask key asked is None first open_one = cond_decided (is_clean m ask.request.command) refl
+    glance_of_moves ask key asked glanced is (Some why) first open_one = refuses w n m ok from heard ask.request.id why first
+    glance_of_moves ask key asked glanced is None first open_one = cond_decided (is_clean m ask.request.command) refl
       where
         cond_decided : (b : Bool) → is_clean m ask.request.command ≡ b → Goes (if b then answers_at_once n m ask.request key else captures_read n m ask.request key)
-        cond_decided true clean = at_once ask.request key asked is (open_one refl).0 (open_one refl).1 clean
+        cond_decided true clean = at_once ask.request key asked glanced is (open_one refl).0 (open_one refl).1 clean
         cond_decided false dirty = captures ask.request key asked (ap is_update is)
 
-    glance_command_moves : (ask : Ask) → RequestOk w ask.request → (c : Command) → ask.request.command ≡ c → Goes (glance_command n m ask c)
-    glance_command_moves ask asked (Get key) is = glance_of_moves ask key asked is (read_refusal m ask) (refusal_rests ask) (clear ask)
-    glance_command_moves ask asked _ is = rests w n m ok from heard
+    glance_command_moves : (ask : Ask) → RequestOk w ask.request → WasGlanced w ask.request.id → (c : Command) → ask.request.command ≡ c → Goes (glance_command n m ask c)
+    glance_command_moves ask asked glanced (Get key) is = glance_of_moves ask key asked glanced is (read_refusal m ask) (refusal_rests ask) (clear ask)
+    glance_command_moves ask asked glanced _ is = rests w n m ok from heard
 
     -- a glance comes
-    pub glance_moves : (ask : Ask) → RequestOk w ask.request → Goes (on_glance n m ask)
+    pub glance_moves : (ask : Ask) → RequestOk w ask.request → WasGlanced w ask.request.id → Goes (on_glance n m ask)
     unfolding on_glance
-    glance_moves ask asked = glance_command_moves ask asked ask.request.command refl
+    glance_moves ask asked glanced = glance_command_moves ask asked glanced ask.request.command refl

@@ -23,7 +23,7 @@ module _ (w : World) (n : ℕ) (m : MasterState) (ok : ServingOk w (master_node 
   message_moves (body.Update ask) heard = update_moves w n m ok from _ filled AtOnce ask heard
   message_moves (body.Sync ask) heard = update_moves w n m ok from _ filled WhenSynced ask heard
   message_moves (body.Read ask) heard = read_moves w n m ok from _ filled ask heard
-  message_moves (body.Glance ask) heard = glance_moves w n m ok from _ filled ask heard
+  message_moves (body.Glance ask) heard = glance_moves w n m ok from _ filled ask heard.0 heard.1
   message_moves (body.Appended a) heard = appended_moves w n m ok from _ a.round a.answer heard
   message_moves (body.Collected c) heard = collected_moves w n m ok from _ filled c.answer heard
   message_moves (body.Prepare p) heard = prepare_moves w n m ok from filled p m.phase refl

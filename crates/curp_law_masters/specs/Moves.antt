@@ -9,7 +9,7 @@ use Rattle.curp_cmd.specs.declared.command.Request.{Request}
 use Rattle.curp_cmd.specs.declared.command.RequestId.{RequestId}
 use Rattle.curp_cmd.specs.declared.entry.Entry.{Entry}
 use Rattle.curp_cmd.specs.declared.node.NodeId.{NodeId}
-use Rattle.curp_msg.specs.Moved.{Moved}
+use Rattle.curp_msg.specs.Moved.{Moved, says}
 use Rattle.curp_msg.specs.declared.answer.AppendAnswer.{AppendAnswer}
 use Rattle.curp_msg.specs.declared.answer.AppendAnswer.TheVariants.{Stored}
 use Rattle.curp_msg.specs.declared.answer.FenceReply.{FenceReply}
@@ -18,6 +18,7 @@ use Rattle.curp_msg.specs.declared.answer.GcAnswer.{GcAnswer}
 use Rattle.curp_msg.specs.declared.answer.GcAnswer.TheVariants.{Suspects}
 use Rattle.curp_msg.specs.declared.body.Adopted.{Adopted}
 use Rattle.curp_msg.specs.declared.body.Append.{Append}
+use Rattle.curp_msg.specs.declared.body.Ask.{Ask}
 use Rattle.curp_msg.specs.declared.body.Body.{Body}
 use Rattle.curp_msg.specs.declared.body.Body.TheVariants as body
 use Rattle.curp_msg.specs.declared.body.Gc.{Gc}
@@ -34,7 +35,7 @@ use Rattle.curp_model.specs.Recovery.{RecoveryPhase, RecoveryState, Storing}
 use Rattle.curp_model.specs.Table.{check}
 use Rattle.curp_model.specs.World.{World}
 use Rattle.curp_facts.specs.Entries.{LogOk, RequestOk, UpdateOk}
-use Rattle.curp_facts.specs.Facts.{FencedLogOk, FrozenOk, IsAmong, IsOnlyExpire, WasOrdered}
+use Rattle.curp_facts.specs.Facts.{FencedLogOk, FrozenOk, IsAmong, IsOnlyExpire, WasOrdered, WasSent}
 use Rattle.curp_facts.specs.Kept.{AllCompletedBelow, IsCollectable, RefusalFirstOk}
 use Rattle.curp_facts.specs.Nodes.{AcknowledgedOk, CapturedOk, FreeOp, IsOnEach, IsOpAt, IsWaiting, QueuedOk, StageOk, WasPrepared}
 use Rattle.curp_facts.specs.Reach.{HasStored, StandsAt}
@@ -56,12 +57,20 @@ abbrev pub HearsSuspects : World → GcAnswer → Type 0
 HearsSuspects w (Suspects requests) = Each (UpdateOk w) requests
 HearsSuspects w _ = ⊤
 
+-- a Glance of that id was sent
+pub record WasGlanced (w : World) (id : RequestId) : Type 0 where
+  pub from : NodeId
+  pub to : NodeId
+  pub ask : Ask
+  pub sent : WasSent w (says from to (body.Glance ask))
+  pub its_id : ask.request.id ≡ id
+
 -- what a message that comes has to say, by its kind
 abbrev pub Hears : World → MasterState → NodeId → Body → Type 0
 Hears w m from (body.Update ask) = UpdateOk w ask.request
 Hears w m from (body.Sync ask) = UpdateOk w ask.request
 Hears w m from (body.Read ask) = RequestOk w ask.request
-Hears w m from (body.Glance ask) = RequestOk w ask.request
+Hears w m from (body.Glance ask) = RequestOk w ask.request × WasGlanced w ask.request.id
 Hears w m from (body.Appended a) = HearsAnswer w m from a.round a.answer
 Hears w m from (body.Collected c) = HearsSuspects w c.answer
 Hears w m from (body.Adopted a) = WasPrepared m a.version
@@ -110,8 +119,10 @@ pub record WorthSays (w : World) (m : MasterState) (to : NodeId) (v : Worth) : T
   pub invoked : At w.history place (Invoke v.id command)
   pub reads : cmd.is_update command ≡ false
 
--- a read was answered at once, by the log as it is: it was invoked, no entry that isn't synced touches its key, and the key is owned
+-- a read was answered at once, by the log as it is: it was invoked and asked for so, no entry that isn't synced touches its key, and
+-- the key is owned
 pub record QuickSays (w : World) (m : MasterState) (to : NodeId) (q : Quick) : Type 0 where
+  pub asked : WasGlanced w q.id
   pub serves : m.phase ≡ Open
   pub its_epoch : q.epoch ≡ m.epoch
   pub its_version : q.version ≡ m.version

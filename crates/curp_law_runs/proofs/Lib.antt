@@ -1,2 +1,4 @@
 pub mod Facts
 pub mod Silence
+pub mod ClientsByOne
+pub mod ByOne

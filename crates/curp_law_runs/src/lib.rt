@@ -9,14 +9,16 @@ ghost use Rattle.curp_cmd.specs.Store.{is_update};
 ghost use Rattle.curp_cmd.specs.declared.command.Answer.{Answer};
 ghost use Rattle.curp_cmd.specs.declared.command.Command.{Command};
 ghost use Rattle.curp_cmd.specs.declared.command.RequestId.{RequestId};
+ghost use Rattle.curp_facts.specs.ByOne.{ByOne};
 ghost use Rattle.curp_facts.specs.Facts.{Completable, PairsGood};
 ghost use Rattle.curp_facts.specs.Kept.{FactsKept};
-ghost use Rattle.curp_facts.specs.Nodes.{WasRead};
+ghost use Rattle.curp_facts.specs.Nodes.{ValueWasSent, WasRead};
 ghost use Rattle.curp_facts.specs.Run.{IsRun, IsStep};
 ghost use Rattle.curp_facts.specs.Silence.{IsSilentIn};
 ghost use Rattle.curp_law_names.specs.Nodes.{GoesHome, IsBetweenNodes};
 ghost use Rattle.curp_model.specs.World.{messages, step, world};
 ghost use Rattle.curp_msg.specs.declared.script.Header.{Header};
+ghost use Rattle.curp_msg.specs.declared.script.Protocol.TheVariants.{One};
 ghost use Rattle.curp_msg.specs.declared.script.Step.{Step};
 ghost use Rattle.curp_order.specs.declared.Event.TheVariants.{Complete, Invoke};
 
@@ -33,8 +35,14 @@ pub fn facts_kept()
     ensures facts { (h : Header) (steps : List Step) → IsRun h steps → FactsKept (world h steps) }
 {}
 
+/// In a script of protocol 1 nobody asks for an answer at once, and none is given.
+pub fn only_protocol_one()
+    ensures one { (h : Header) (steps : List Step) → IsRun h steps → h.protocol ≡ One → ByOne (world h steps) }
+{}
+
 /// What a client has completed was completable: an update by a synced reply, or by an early one with the accepts of all
-/// witnesses of its list; a read had its value sent.
+/// witnesses of its list; a read had its value sent, or, in protocol 2 alone, was answered at once by the master of a list of
+/// which each witness said Live.
 pub fn completed_is_completable()
     ensures update { (h : Header) (steps : List Step) → IsRun h steps
         → (i j : ℕ) (id : RequestId) (command : Command) (a : Answer)
@@ -44,6 +52,10 @@ pub fn completed_is_completable()
         → (i j : ℕ) (id : RequestId) (command : Command) (a : Answer)
         → At (world h steps).history i (Invoke id command) → is_update command ≡ false
         → At (world h steps).history j (Complete id a) → WasRead (world h steps) id a }
+    ensures value { (h : Header) (steps : List Step) → IsRun h steps → h.protocol ≡ One
+        → (i j : ℕ) (id : RequestId) (command : Command) (a : Answer)
+        → At (world h steps).history i (Invoke id command) → is_update command ≡ false
+        → At (world h steps).history j (Complete id a) → ValueWasSent (world h steps) id a }
 {}
 
 /// Each message goes from one node of the world to another, and what is answered to a client is about a request of that

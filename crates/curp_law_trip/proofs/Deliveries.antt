@@ -26,7 +26,7 @@ module _ (t : Trip) where
 
   -- the client's request with what has come for it
   abbrev pub waits_with : List Early → List Accept → Pending
-  waits_with early accepts = record { request = request t; attempts = attempt_at t.part ∷ []; asked = false; early = early; accepts = accepts }
+  waits_with early accepts = record { request = request t; attempts = attempt_at t.part ∷ []; asked = false; early = early; accepts = accepts; glimpses = []; lives = [] }
 
   -- the client that waits
   abbrev pub waiting : List Early → List Accept → ClientState

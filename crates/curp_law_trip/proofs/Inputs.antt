@@ -9,13 +9,15 @@ use Rattle.curp_cmd.specs.declared.node.NodeId.{NodeId}
 use Rattle.curp_msg.specs.declared.body.Accepted.{Accepted}
 use Rattle.curp_msg.specs.declared.body.Body.{Body}
 use Rattle.curp_msg.specs.declared.body.Body.TheVariants as body
+use Rattle.curp_msg.specs.declared.body.Probed.{Probed}
+use Rattle.curp_msg.specs.declared.body.Quick.{Quick}
 use Rattle.curp_msg.specs.declared.body.Reply.{Reply}
 use Rattle.curp_msg.specs.declared.body.Worth.{Worth}
 use Rattle.curp_msg.specs.declared.config.Config.{Config}
 use Rattle.curp_msg.specs.declared.config.PartConfig.{PartConfig}
 use Rattle.curp_msg.specs.declared.machine.Local.{Local}
 use Rattle.curp_msg.specs.declared.machine.Local.TheVariants as local
-use Rattle.curp_model.specs.Client.{Attempt, ClientState, attempt_at, with_pending, without_id, Early, Pending, Resent, accepted, asks, client_ordered, if_proved, invocation_for, invoke, next_request, on_client, rejected, replied, retry, retry_for, sends_again, sends_first, valued, with_id}
+use Rattle.curp_model.specs.Client.{Attempt, ClientState, attempt_at, with_pending, without_id, Early, Glimpse, Pending, Resent, accepted, asks, asks_value, client_ordered, glimpsed, if_proved, if_seen, invocation_for, invoke, next_request, on_client, probed, rejected, replied, retry, retry_for, sends_again, sends_first, valued, with_id}
 use Rattle.curp_msg.specs.Moved.{Moved, unless_refused}
 
 module _ (K : ClientState → Type 0) (c : ClientState) (k : K c) (replaces : (p : Pending) → K (with_pending c p)) where
@@ -46,7 +48,28 @@ module _ (K : ClientState → Type 0) (c : ClientState) (k : K c) (replaces : (p
 
     rejected_keeps : (n : ℕ) (o : Option Pending) → K (rejected n c o).state
     rejected_keeps n None = k
-    rejected_keeps n (Some p) = cond_both p.asked _ _ (λ (m : Moved ClientState). K m.state) (λ y. k) (λ no. asks_keeps n p (last_of p.attempts))
+    rejected_keeps n (Some p) =
+        cond_both (not (is_update p.request.command)) _ _ (λ (m : Moved ClientState). K m.state) (λ y. k)
+        (λ no. cond_both p.asked _ _ (λ (m : Moved ClientState). K m.state) (λ y. k) (λ z. asks_keeps n p (last_of p.attempts)))
+
+    seen_keeps : (p : Pending) (o : Option Glimpse) → K (if_seen c p o).state
+    seen_keeps p None = replaces p
+    seen_keeps p (Some g) = drops p.request.id
+
+    glimpsed_keeps : (from : NodeId) (q : Quick) (o : Option Pending) → K (glimpsed c from q o).state
+    glimpsed_keeps from q None = k
+    glimpsed_keeps from q (Some p) = cond_both (is_update p.request.command) _ _ (λ (m : Moved ClientState). K m.state) (λ y. k) (λ no. seen_keeps _ _)
+
+    asks_value_keeps : (n : ℕ) (p : Pending) (o : Option Attempt) → K (asks_value n c p o).state
+    asks_value_keeps n p None = k
+    asks_value_keeps n p (Some a) = replaces (record p { asked = true })
+
+    probed_keeps : (n : ℕ) (from : NodeId) (a : Probed) (o : Option Pending) → K (probed n c from a o).state
+    probed_keeps n from a None = k
+    probed_keeps n from a (Some p) =
+        cond_both (is_update p.request.command) _ _ (λ (m : Moved ClientState). K m.state) (λ y. k)
+        (λ no. cond_both a.live _ _ (λ (m : Moved ClientState). K m.state) (λ y. seen_keeps _ _)
+        (λ z. cond_both p.asked _ _ (λ (m : Moved ClientState). K m.state) (λ y. k) (λ t. asks_value_keeps n p (last_of p.attempts))))
 
     -- a message, where a configuration that it carries may be taken
     pub heard_keeps : (n : ℕ) (from : NodeId) (message : Body) → ((config : Config) → message ≡ body.Configuration config → K (record c { config = config })) → K (on_client n c from message).state
@@ -54,6 +77,8 @@ module _ (K : ClientState → Type 0) (c : ClientState) (k : K c) (replaces : (p
     heard_keeps n from (body.Reply r) takes = replied_keeps from r (with_id r.id c.pending)
     heard_keeps n from (body.Accepted a) takes = accepted_keeps from a (with_id a.id c.pending)
     heard_keeps n from (body.Worth v) takes = valued_keeps from v (with_id v.id c.pending)
+    heard_keeps n from (body.Quick q) takes = glimpsed_keeps from q (with_id q.id c.pending)
+    heard_keeps n from (body.Probed a) takes = probed_keeps n from a (with_id a.id c.pending)
     heard_keeps n from (body.Rejected r) takes = rejected_keeps n (with_id r.id c.pending)
     heard_keeps n from (body.Configuration config) takes = cond_both (nat_lt c.config.serial config.serial) _ c K (λ y. takes config refl) (λ no. k)
     heard_keeps n from _ takes = k
