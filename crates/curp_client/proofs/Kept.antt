@@ -1,44 +1,30 @@
--- What is proved of a request, once it keeps more evidence.
+-- What completes a request, once it keeps more evidence.
 use Rattle.std.proofs.Common.{◌≡◌, ℕ, Bool, true, false, cond, List, [], ◌∷◌, Option, Some, None, refl, sym, ap, ◌∙◌}
-use Rattle.std.specs.List.{filter, position}
+use Rattle.std.specs.List.{position}
 use Rattle.std.specs.Option.{MatchOption, IfSome, option_map}
-use Rattle.curp_base.specs.Words.{first_of}
-use Rattle.curp_cmd.proofs.Ids.{same_id-true, same_id-self}
+use Rattle.curp_cmd.proofs.Ids.{same_id-self}
 use Rattle.curp_cmd.specs.RequestId.{same_id}
-use Rattle.curp_cmd.specs.declared.command.Answer.{Answer}
-use Rattle.curp_cmd.specs.declared.command.Request.{Request}
+use Rattle.curp_cmd.specs.Store.{is_update}
 use Rattle.curp_cmd.specs.declared.command.RequestId.{RequestId}
 use Rattle.curp_msg.specs.Moved.{Makes, Node, numbered_move}
+use Rattle.curp_msg.specs.declared.machine.Completed.{Completed}
 use Rattle.curp_msg.specs.declared.machine.Done.{Done}
-use Rattle.curp_model.specs.Client.{ClientState, Early, Pending, if_proved, proved_answer, replaced, with_evidence, with_id, without_id}
-use Rattle.curp_client.specs.Evidence.{Proves, completes_if, kept}
+use Rattle.curp_model.specs.Client.{ClientState, Early, Glimpse, Pending, completes_with, if_proved, if_seen, proved_answer, replaced, seen_glimpse, with_evidence, with_id, with_sight, without_id}
+use Rattle.curp_client.specs.Evidence.{Completes, by_glimpse, by_reply, completes_if, completion, concluded, kept}
 use Rattle.curp_client.specs.Requests.{Changes}
-use Rattle.curp_client.specs.declared.pending.Evidence.{Evidence}
+use Rattle.curp_client.specs.declared.evidence.Evidence.{Evidence}
 use Rattle.curp_client.proofs.Found.{first_nowhere}
-use Rattle.curp_client.proofs.Numbers.{same_request}
 
--- nothing is proved of a request that isn't there
-pub proves_nothing : (items now : List Pending) (id : RequestId) (evidence : Evidence) (answer : Option Answer) → items ≡ now → None ≡ position (λ (p : Pending). same_id p.request.id id) items → Proves now id evidence answer
-proves_nothing items now id evidence answer before none = rw (sym before, first_nowhere (λ (p : Pending). same_id p.request.id id) items none) tt
+-- nothing completes a request that isn't there
+pub completes_nothing : (items now : List Pending) (id : RequestId) (evidence : Evidence) (completed : Option Completed) → items ≡ now → None ≡ position (λ (p : Pending). same_id p.request.id id) items → Completes now id evidence completed
+completes_nothing items now id evidence completed before none = rw (sym before, first_nowhere (λ (p : Pending). same_id p.request.id id) items none) tt
 
--- the answer that is proved of the one that is there
-pub proves_that : (items now : List Pending) (id : RequestId) (evidence : Evidence) (answer : Option Answer) (q new : Pending) → items ≡ now → with_id id items ≡ Some q → new ≡ kept q evidence
-    → answer ≡ option_map (λ (e : Early). e.answer) (proved_answer new) → Proves now id evidence answer
-proves_that items now id evidence answer q new before found made proved = rw (sym before, found) (proved ∙ rw made refl)
+-- what completes the one that is there
+pub completes_that : (items now : List Pending) (id : RequestId) (evidence : Evidence) (completed : Option Completed) (q new : Pending) → items ≡ now → with_id id items ≡ Some q → new ≡ kept q evidence
+    → completed ≡ completion new → Completes now id evidence completed
+completes_that items now id evidence completed q new before found made enough = rw (sym before, found) (enough ∙ rw made refl)
 
 -- ---- completing
-
-first_passes : {A : Type 0} (p : A → Bool) (xs : List A) (x : A) → first_of (filter p xs) ≡ Some x → p x ≡ true
-first_passes p [] x found = absurd cc
-first_passes p (y ∷ xs) x found = go (p y) refl (first_passes p xs x) found
-  where
-    go : (b : Bool) → p y ≡ b → (first_of (filter p xs) ≡ Some x → p x ≡ true) → first_of (cond b (y ∷ filter p xs) (filter p xs)) ≡ Some x → p x ≡ true
-    go true e rest is = let same : y ≡ x = cc in rw (sym same) e
-    go false e rest is = rest is
-
--- it has that id
-its_id : (id : RequestId) (xs : List Pending) (q : Pending) → with_id id xs ≡ Some q → q.request.id ≡ id
-its_id id xs q found = same_id-true q.request.id id (first_passes (λ (p : Pending). same_id p.request.id id) xs q found)
 
 -- a request that was replaced goes as it would have gone
 without_replaced : (id : RequestId) (new : Pending) (xs : List Pending) → new.request.id ≡ id → without_id id (replaced new xs) ≡ without_id id xs
@@ -54,33 +40,39 @@ without_replaced id new (x ∷ xs) own = go (same_id x.request.id new.request.id
         gone new own ∙ rw its rest
     go false e rest = rw rest refl
 
--- it completes with what is proved
-pub evidence_is : (c : ClientState) (new : List Pending) (id : RequestId) (evidence : Evidence) (proved : Option Answer) → Changes c.pending new id (λ p. kept p evidence) → Proves c.pending id evidence proved
-    → IfSome (with_id id c.pending) (λ p. completes_if (record c { pending = new }) id proved ≡ with_evidence c (kept p evidence))
-evidence_is c new id evidence proved changes proves = go (with_id id c.pending) refl changes proves
-  where
-    by_proof : (k : Pending) (o : Option Early) → k.request.id ≡ id → new ≡ replaced k c.pending → proved ≡ option_map (λ (e : Early). e.answer) o → completes_if (record c { pending = new }) id proved ≡ if_proved c k o
-    by_proof k None own is e = rw (e, is) refl
-    by_proof k (Some early) own is e =
-        let left : without_id id new ≡ without_id id c.pending = ap (without_id id) is ∙ without_replaced id k c.pending own in
-        rw (e, left, sym own) refl
+module _ (c : ClientState) (new : List Pending) (k : Pending) (is : new ≡ replaced k c.pending) where
+  -- a request that was replaced completes as it would have
+  completes_replaced : (completed : Completed) → completed.id ≡ k.request.id → completes_if (record c { pending = new }) (Some completed) ≡ completes_with c k.request.id completed.answer completed.by
+  completes_replaced completed own =
+      let left : without_id k.request.id new ≡ without_id k.request.id c.pending = ap (without_id k.request.id) is ∙ without_replaced k.request.id k c.pending refl in
+      rw (own, left) refl
 
-    go : (o : Option Pending) → with_id id c.pending ≡ o → MatchOption o (new ≡ c.pending) (λ p. new ≡ replaced (kept p evidence) c.pending)
-        → IfSome o (λ p. proved ≡ option_map (λ (e : Early). e.answer) (proved_answer (kept p evidence)))
-        → IfSome o (λ p. completes_if (record c { pending = new }) id proved ≡ with_evidence c (kept p evidence))
-    go None found is e = tt
-    go (Some p) found is e =
-        let own : (kept p evidence).request.id ≡ id = ap (λ (r : Request). r.id) (same_request evidence p) ∙ its_id id c.pending p found in
-        by_proof (kept p evidence) (proved_answer (kept p evidence)) own is e
+  -- it completes with what is enough
+  completion_is : completes_if (record c { pending = new }) (completion k) ≡ concluded c k
+  completion_is = go (is_update k.request.command)
+    where
+      by_proof : (o : Option Early) → completes_if (record c { pending = new }) (option_map (by_reply k.request.id) o) ≡ if_proved c k o
+      by_proof None = rw is refl
+      by_proof (Some e) = completes_replaced (by_reply k.request.id e) refl
+
+      by_sight : (o : Option Glimpse) → completes_if (record c { pending = new }) (option_map (by_glimpse k.request.id) o) ≡ if_seen c k o
+      by_sight None = rw is refl
+      by_sight (Some g) = completes_replaced (by_glimpse k.request.id g) refl
+
+      go : (b : Bool) → completes_if (record c { pending = new }) (cond b (option_map (by_reply k.request.id) (proved_answer k)) (option_map (by_glimpse k.request.id) (seen_glimpse k)))
+          ≡ cond b (with_evidence c k) (with_sight c k)
+      go true = by_proof (proved_answer k)
+      go false = by_sight (seen_glimpse k)
 
 -- what the client does, once it keeps the evidence
-pub keep_moves : (old new : Node ClientState) (n : ℕ) (c : ClientState) (pending : List Pending) (id : RequestId) (evidence : Evidence) (proved : Option Answer) (done : Done)
-    → record { number = n; state = c } ≡ old → Changes c.pending pending id (λ p. kept p evidence) → Proves c.pending id evidence proved
-    → Makes new done (numbered_move n (completes_if (record c { pending = pending }) id proved))
-    → IfSome (with_id id old.state.pending) (λ p. Makes new done (numbered_move old.number (with_evidence old.state (kept p evidence))))
-keep_moves old new n c pending id evidence proved done was changes proves makes = rw (sym was) (go (with_id id c.pending) (evidence_is c pending id evidence proved changes proves))
+pub keep_moves : (old new : Node ClientState) (n : ℕ) (c : ClientState) (pending : List Pending) (id : RequestId) (evidence : Evidence) (completed : Option Completed) (done : Done)
+    → record { number = n; state = c } ≡ old → Changes c.pending pending id (λ p. kept p evidence) → Completes c.pending id evidence completed
+    → Makes new done (numbered_move n (completes_if (record c { pending = pending }) completed))
+    → IfSome (with_id id old.state.pending) (λ p. Makes new done (numbered_move old.number (concluded old.state (kept p evidence))))
+keep_moves old new n c pending id evidence completed done was changes enough makes = rw (sym was) (go (with_id id c.pending) changes enough)
   where
-    go : (o : Option Pending) → IfSome o (λ p. completes_if (record c { pending = pending }) id proved ≡ with_evidence c (kept p evidence))
-        → IfSome o (λ p. Makes new done (numbered_move n (with_evidence c (kept p evidence))))
-    go None is = tt
-    go (Some p) is = rw (sym is) makes
+    go : (o : Option Pending) → MatchOption o (pending ≡ c.pending) (λ p. pending ≡ replaced (kept p evidence) c.pending)
+        → IfSome o (λ p. completed ≡ completion (kept p evidence))
+        → IfSome o (λ p. Makes new done (numbered_move n (concluded c (kept p evidence))))
+    go None is e = tt
+    go (Some p) is e = rw (sym (completion_is c pending (kept p evidence) is), sym e) makes

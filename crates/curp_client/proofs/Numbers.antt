@@ -13,8 +13,8 @@ use Rattle.curp_model.specs.Client.{Pending, replaced, with_id, without_id}
 use Rattle.curp_client.proofs.Found.{first_at, first_nowhere}
 use Rattle.curp_client.specs.Evidence.{kept}
 use Rattle.curp_client.specs.Requests.{Changes, NumbersRise}
-use Rattle.curp_client.specs.declared.pending.Evidence.{Evidence}
-use Rattle.curp_client.specs.declared.pending.Evidence.TheVariants.{Reply, Accept}
+use Rattle.curp_client.specs.declared.evidence.Evidence.{Evidence}
+use Rattle.curp_client.specs.declared.evidence.Evidence.TheVariants.{Reply, Accept, Quick, Live}
 
 -- ---- one comes
 
@@ -143,3 +143,5 @@ rise_changed old new id f changes rise = go (with_id id old) changes
 pub same_request : (evidence : Evidence) (p : Pending) → (kept p evidence).request ≡ p.request
 same_request (Reply early) p = refl
 same_request (Accept accept) p = refl
+same_request (Quick glimpse) p = refl
+same_request (Live accept) p = refl

@@ -66,7 +66,7 @@ module _ (n : ℕ) (c : ClientState) (seq : ℕ) where
 
     -- once it is sent
     pub retry_sends : (p : PartConfig) (attempt : Attempt) (pending : List Pending) (messages : List Message) → Some p ≡ owner_of c.config request.command
-        → messages ≡ sent_by n c.fast (is_update request.command) request p → attempt ≡ attempt_at p
+        → messages ≡ sent_by n c.fast c.protocol (is_update request.command) request p → attempt ≡ attempt_at p
         → Changes c.pending pending (record { client = n; seq = seq }) (λ (x : Pending). record x { attempts = x.attempts ++ attempt ∷ []; asked = false })
         → retry n c seq ≡ sends (record c { pending = pending }) messages
     retry_sends p attempt pending messages owner sent attempted changes =

@@ -1,19 +1,21 @@
 ghost use Rattle.std.specs.Prelude.{◌≡◌, ◌<◌, length, Ok, Err, IfOk, IfErr, IfSome, OnOk};
 ghost use Rattle.curp_model.specs.Client as model;
 ghost use Rattle.curp_msg.specs.Moved.{Makes, Moves, numbered_move, quiet};
-ghost use Rattle.curp_client.specs.Evidence.{completes_if, kept};
-ghost use Rattle.curp_client.specs.Requests.{least_of};
+ghost use Rattle.curp_client.specs.Evidence.{completes_if, concluded, kept};
+ghost use Rattle.curp_client.specs.Requests.{asks_once, least_of};
 ghost use Rattle.curp_client.specs.Refusals.{TellsInvoke, TellsRetry, invoke_number};
 
+use crate::evidence::{Accept, Early, Evidence, Glimpse, Master};
 use crate::owner::owner_of;
-use crate::pending::{Accept, Attempt, Early, Evidence, Pending};
+use crate::pending::{Attempt, Pending};
 use crate::requests::Requests;
 use crate::sending::sent_by;
 use crate::{InvokeError, RetryError};
 use curp_base::NoMemory;
-use curp_cmd::{Answer, Command, NodeId, Request, RequestId};
+use curp_cmd::{Command, NodeId, Request, RequestId};
 use curp_msg::{
-    Accepted, Body, Capture, Completed, Config, Done, Message, PartConfig, Reply, Worth,
+    Accepted, Body, Capture, Completed, Config, Done, Message, PartConfig, Probed, Protocol, Quick,
+    Reply, Worth,
 };
 use std::alloc::Global;
 use std::marker::Model;
@@ -22,12 +24,14 @@ use std::marker::Model;
 const MOST_PENDING: usize = 8;
 
 /// A client: it sends an update to the master and to all witnesses of the partition that owns its keys, and completes
-/// it by one synced reply, or by an unsynced one with the accepts of all witnesses (CURP).
+/// it by one synced reply, or by an unsynced one with the accepts of all witnesses (CURP). A read completes by a value,
+/// and in protocol 2 by one Quick with a Live of all witnesses too.
 #[derive(Drop)]
 pub struct Client {
     alloc: Global,
     number: u32,
     fast: bool,
+    protocol: Protocol,
     config: Config,
     last: u32,
     pending: Requests,
@@ -41,24 +45,31 @@ impl Model for Client {
 
     ghost view = { λ c. record {
       number = c.number;
-      state = record { fast = c.fast; config = c.config; last = c.last; pending = c.pending };
+      state = record { fast = c.fast; protocol = c.protocol; config = c.config; last = c.last; pending = c.pending };
     } };
 
     ghost invariant = { λ c. model.NumbersAreUsed
-        (record { fast = c.fast; config = c.config; last = c.last; pending = c.pending }) };
+        (record { fast = c.fast; protocol = c.protocol; config = c.config; last = c.last; pending = c.pending }) };
 }
 
 impl Client {
     /// A client of that number which has invoked nothing. One that isn't fast lets the master answer only what is
     /// synced. It takes no memory.
-    pub fn begin(alloc: Global, number: u32, fast: bool, config: Config) -> Client
+    pub fn begin(
+        alloc: Global,
+        number: u32,
+        fast: bool,
+        protocol: Protocol,
+        config: Config,
+    ) -> Client
         ensures number { result.number ≡ number }
-        ensures state { result.state ≡ model.fresh_client fast config }
+        ensures state { result.state ≡ model.fresh_client fast protocol config }
     {
         Client {
             alloc,
             number,
             fast,
+            protocol,
             config,
             last: 0,
             pending: Requests::new(alloc),
@@ -105,7 +116,14 @@ impl Client {
     {
         let part = self.part_for(command)?;
         let request = self.next_request(command);
-        let messages = sent_by(self.alloc, self.number, self.fast, &request, part)?;
+        let messages = sent_by(
+            self.alloc,
+            self.number,
+            self.fast,
+            self.protocol,
+            &request,
+            part,
+        )?;
         let pending = Pending::first_sent(self.alloc, &request, part)?;
         self.pending.push(pending)?;
         self.last = request.id.seq;
@@ -130,7 +148,14 @@ impl Client {
         let Some(part) = owner_of(&self.config, &request.command) else {
             return Err(RetryError::Split);
         };
-        let messages = sent_by(self.alloc, self.number, self.fast, &request, part)?;
+        let messages = sent_by(
+            self.alloc,
+            self.number,
+            self.fast,
+            self.protocol,
+            &request,
+            part,
+        )?;
         let attempt = Attempt::at(self.alloc, part)?;
         self.pending.resend(&id, attempt)?;
         Ok(Done::sends(messages))
@@ -192,6 +217,8 @@ impl Client {
             Body::Reply(reply) => self.on_reply(message.from, reply.get()),
             Body::Accepted(accepted) => self.on_accepted(message.from, accepted),
             Body::Worth(worth) => Ok(self.on_worth(message.from, worth.get())),
+            Body::Quick(quick) => self.on_quick(message.from, quick.get()),
+            Body::Probed(probed) => self.on_probed(message.from, probed),
             Body::Rejected(rejected) => self.on_rejected(&rejected.id),
             Body::Configuration { config } => self.on_configuration(config),
             _ => Ok(Done::quiet(self.alloc)),
@@ -209,12 +236,18 @@ impl Client {
             return Ok(Done::quiet(self.alloc));
         }
         if reply.synced {
-            return Ok(self.complete(&reply.id, reply.answer, None));
+            return Ok(self.complete(Completed {
+                id: reply.id,
+                answer: reply.answer,
+                by: None,
+            }));
         }
         let early = Early {
-            master: from,
-            epoch: reply.epoch,
-            version: reply.version,
+            master: Master {
+                node: from,
+                epoch: reply.epoch,
+                version: reply.version,
+            },
             answer: reply.answer,
         };
         self.keep(&reply.id, Evidence::Reply(early))
@@ -253,10 +286,57 @@ impl Client {
             epoch: worth.epoch,
             number: worth.capture,
         };
-        self.complete(&worth.id, worth.answer, Some(capture))
+        self.complete(Completed {
+            id: worth.id,
+            answer: worth.answer,
+            by: Some(capture),
+        })
     }
 
-    // A rejection lets it ask for a synced reply, once an attempt.
+    fn on_quick(&mut self, from: NodeId, quick: &Quick) -> Result<Done, NoMemory>
+        ensures moves { Moves self.old self.new result (numbered_move self.old.number
+            (model.glimpsed self.old.state from quick.now (model.with_id quick.now.id self.old.state.pending))) }
+    {
+        let Some(pending) = self.pending.find(&quick.id) else {
+            return Ok(Done::quiet(self.alloc));
+        };
+        if pending.request().command.is_update() {
+            return Ok(Done::quiet(self.alloc));
+        }
+        let glimpse = Glimpse {
+            master: Master {
+                node: from,
+                epoch: quick.epoch,
+                version: quick.version,
+            },
+            capture: quick.capture,
+            answer: quick.answer,
+        };
+        self.keep(&quick.id, Evidence::Quick(glimpse))
+    }
+
+    // A Live is kept, and a NotLive lets it ask for a value.
+    fn on_probed(&mut self, from: NodeId, probed: &Probed) -> Result<Done, NoMemory>
+        ensures moves { Moves self.old self.new result (numbered_move self.old.number (model.probed
+            self.old.number self.old.state from probed.now (model.with_id probed.now.id self.old.state.pending))) }
+    {
+        let Some(pending) = self.pending.find(&probed.id) else {
+            return Ok(Done::quiet(self.alloc));
+        };
+        if pending.request().command.is_update() {
+            return Ok(Done::quiet(self.alloc));
+        }
+        if !probed.live {
+            return self.ask(&probed.id);
+        }
+        let live = Accept {
+            witness: from,
+            epoch: probed.epoch,
+        };
+        self.keep(&probed.id, Evidence::Live(live))
+    }
+
+    // A rejection lets it ask for a synced reply to a pending update.
     fn on_rejected(&mut self, id: &RequestId) -> Result<Done, NoMemory>
         ensures moves { Moves self.old self.new result (numbered_move self.old.number
             (model.rejected self.old.number self.old.state (model.with_id id.now self.old.state.pending))) }
@@ -264,16 +344,10 @@ impl Client {
         let Some(pending) = self.pending.find(id) else {
             return Ok(Done::quiet(self.alloc));
         };
-        if pending.is_asked() {
+        if !pending.request().command.is_update() {
             return Ok(Done::quiet(self.alloc));
         }
-        let Some(attempt) = pending.latest() else {
-            return Ok(Done::quiet(self.alloc));
-        };
-        let mut messages = Vec::with_capacity(self.alloc, 1)?;
-        messages.push(attempt.sync_of(self.alloc, self.number, pending.request())?)?;
-        self.pending.ask(id);
-        Ok(Done::sends(messages))
+        self.ask(id)
     }
 
     // A configuration is taken where its serial is above the client's.
@@ -287,37 +361,52 @@ impl Client {
         Ok(Done::quiet(self.alloc))
     }
 
-    // ---- completions
+    // ---- evidence
 
-    // Evidence for a pending update is kept, and completes it once it is enough.
-    fn keep(&mut self, id: &RequestId, evidence: Evidence) -> Result<Done, NoMemory>
+    // Asks the master of the latest attempt for a synced reply, or for a value, once an attempt.
+    fn ask(&mut self, id: &RequestId) -> Result<Done, NoMemory>
         ensures moves { IfSome (model.with_id id.now self.old.state.pending) (λ p. Moves self.old self.new result
-            (numbered_move self.old.number (model.with_evidence self.old.state (kept p evidence)))) }
+            (numbered_move self.old.number (asks_once self.old.number self.old.state p))) }
     {
-        let proved = self.pending.keep(id, evidence)?;
-        Ok(self.complete_if(id, proved))
+        let Some(pending) = self.pending.find(id) else {
+            return Ok(Done::quiet(self.alloc));
+        };
+        if pending.is_asked() {
+            return Ok(Done::quiet(self.alloc));
+        }
+        let Some(attempt) = pending.latest() else {
+            return Ok(Done::quiet(self.alloc));
+        };
+        let mut messages = Vec::with_capacity(self.alloc, 1)?;
+        messages.push(attempt.ask_of(self.alloc, self.number, pending.request())?)?;
+        self.pending.ask(id);
+        Ok(Done::sends(messages))
     }
 
-    fn complete_if(&mut self, id: &RequestId, proved: Option<Answer>) -> Done
-        ensures moves { Makes self.new result
-            (numbered_move self.old.number (completes_if self.old.state id.now proved)) }
+    // Evidence for a pending request is kept, and completes it once it is enough.
+    fn keep(&mut self, id: &RequestId, evidence: Evidence) -> Result<Done, NoMemory>
+        ensures moves { IfSome (model.with_id id.now self.old.state.pending) (λ p. Moves self.old self.new result
+            (numbered_move self.old.number (concluded self.old.state (kept p evidence)))) }
     {
-        match proved {
+        let completed = self.pending.keep(id, evidence)?;
+        Ok(self.complete_if(completed))
+    }
+
+    fn complete_if(&mut self, completed: Option<Completed>) -> Done
+        ensures moves { Makes self.new result
+            (numbered_move self.old.number (completes_if self.old.state completed)) }
+    {
+        match completed {
             None => Done::quiet(self.alloc),
-            Some(answer) => self.complete(id, answer, None),
+            Some(completed) => self.complete(completed),
         }
     }
 
-    fn complete(&mut self, id: &RequestId, answer: Answer, by: Option<Capture>) -> Done
-        ensures moves { Makes self.new result
-            (numbered_move self.old.number (model.completes_with self.old.state id.now answer by)) }
+    fn complete(&mut self, completed: Completed) -> Done
+        ensures moves { Makes self.new result (numbered_move self.old.number
+            (model.completes_with self.old.state completed.id completed.answer completed.by)) }
     {
-        self.pending.remove(id);
-        let completed = Completed {
-            id: *id,
-            answer,
-            by,
-        };
+        self.pending.remove(&completed.id);
         Done::completes(self.alloc, completed)
     }
 }

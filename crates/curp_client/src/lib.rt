@@ -7,6 +7,7 @@
 
 mod client;
 mod error;
+mod evidence;
 mod owner;
 mod pending;
 mod requests;

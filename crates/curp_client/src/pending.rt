@@ -1,24 +1,25 @@
 // A pending request, and what was delivered for it.
 ghost use Rattle.std.specs.Prelude.{◌≡◌, OnOk, OnErr, IfOk, true, false, ◌++◌, ◌∷◌, []};
-ghost use Rattle.std.specs.List.{list_any};
-ghost use Rattle.std.specs.Option.{option_copied, option_map};
+ghost use Rattle.std.specs.List.{list_all, list_any};
+ghost use Rattle.std.specs.Option.{option_copied};
 ghost use Rattle.curp_base.specs.Words.{last_of};
 ghost use Rattle.curp_model.specs.Client as model;
-ghost use Rattle.curp_client.specs.Requests.{first_sent, sync_at};
-ghost use Rattle.curp_client.specs.Evidence.{kept};
+ghost use Rattle.curp_client.specs.Requests.{ask_at, first_sent};
+ghost use Rattle.curp_client.specs.Evidence.{completion, is_backed, kept};
 
+use crate::evidence::{
+    Accept, Early, Evidence, Glimpse, Master, add_accept, add_early, add_glimpse, has_accepted,
+};
 use curp_base::{Boxed, Items, NoMemory};
-use curp_cmd::{Answer, NodeId, Request};
-use curp_msg::{Ask, Body, Message, PartConfig};
+use curp_cmd::{NodeId, Request};
+use curp_msg::{Ask, Body, Completed, Message, PartConfig};
 use std::alloc::Global;
 use std::marker::Model;
 
 /// One sending of a request: to whom, and what was known of it.
 #[derive(Drop)]
 pub(crate) struct Attempt {
-    master: NodeId,
-    epoch: u32,
-    version: u32,
+    master: Master,
     witnesses: Items<NodeId>,
 }
 
@@ -27,7 +28,12 @@ impl Model for Attempt {
 
     ghost Value = { model.Attempt };
 
-    ghost view = { λ a. record { master = a.master; epoch = a.epoch; version = a.version; witnesses = a.witnesses } };
+    ghost view = { λ a. record {
+      master = a.master.node;
+      epoch = a.master.epoch;
+      version = a.master.version;
+      witnesses = a.witnesses;
+    } };
 }
 
 impl Attempt {
@@ -35,81 +41,62 @@ impl Attempt {
     pub(crate) fn at(alloc: Global, part: &PartConfig) -> Result<Attempt, NoMemory>
         ensures { IfOk result (λ attempt. attempt ≡ model.attempt_at part.now) }
     {
-        Ok(Attempt {
-            master: part.master,
+        let master = Master {
+            node: part.master,
             epoch: part.epoch,
             version: part.version,
+        };
+        Ok(Attempt {
+            master,
             witnesses: part.witnesses.copy(alloc)?,
         })
     }
 
-    /// What asks its master for a synced reply to the request of the client, which has that number.
-    pub(crate) fn sync_of(
+    /// What asks its master once more for a request of the client of that number: for a synced reply to an update, or for
+    /// a value of a read.
+    pub(crate) fn ask_of(
         &self,
         alloc: Global,
         number: u32,
         request: &Request,
     ) -> Result<Message, NoMemory>
-        ensures { IfOk result (λ message. message ≡ sync_at number request.now self.now) }
+        ensures { IfOk result (λ message. message ≡ ask_at number request.now self.now) }
     {
         let ask = Ask {
             request: *request,
-            epoch: self.epoch,
-            version: self.version,
+            epoch: self.master.epoch,
+            version: self.master.version,
+        };
+        let ask = Boxed::of(alloc, &ask)?;
+        let body = if request.command.is_update() {
+            Body::Sync(ask)
+        } else {
+            Body::Read(ask)
         };
         Ok(Message {
             from: NodeId::client(number),
-            to: self.master,
-            body: Body::Sync(Boxed::of(alloc, &ask)?),
+            to: self.master.node,
+            body,
         })
     }
-}
 
-/// An unsynced reply that was delivered.
-#[derive(Drop)]
-pub(crate) struct Early {
-    pub(crate) master: NodeId,
-    pub(crate) epoch: u32,
-    pub(crate) version: u32,
-    pub(crate) answer: Answer,
-}
-
-impl Model for Early {
-    ghost use Rattle.curp_model.specs.Client as model;
-
-    ghost Value = { model.Early };
-
-    ghost view = { λ e. record { master = e.master; epoch = e.epoch; version = e.version; answer = e.answer } };
-}
-
-impl Early {
-    fn answer(&self) -> Answer
-        ensures { result ≡ self.now.answer }
+    // Whether it went to that master, and all its witnesses have accepted.
+    fn is_backed(&self, master: &Master, accepts: &[Accept]) -> bool
+        ensures { result ≡ is_backed master.now accepts.now self.now }
     {
-        self.answer
+        *master == self.master && self.all_accepted(accepts)
     }
-}
 
-/// An accept that was delivered.
-#[derive(Drop)]
-pub(crate) struct Accept {
-    pub(crate) witness: NodeId,
-    pub(crate) epoch: u32,
-}
-
-impl Model for Accept {
-    ghost use Rattle.curp_model.specs.Client as model;
-
-    ghost Value = { model.Accept };
-
-    ghost view = { λ a. record { witness = a.witness; epoch = a.epoch } };
-}
-
-/// What is delivered for an update: enough of it completes the update.
-#[derive(Drop)]
-pub(crate) enum Evidence {
-    Reply(Early),
-    Accept(Accept),
+    // Whether all its witnesses have accepted, at its epoch.
+    fn all_accepted(&self, accepts: &[Accept]) -> bool
+        ensures { result ≡ list_all (model.has_accepted accepts.now self.now.epoch) self.now.witnesses }
+    {
+        self.witnesses.as_slice().iter().all(|witness| has_accepted(
+            accepts,
+            self.master.epoch,
+            *witness,
+        ))
+    }
 }
 
 /// A request that isn't completed, and what was delivered for it.
@@ -118,10 +105,12 @@ pub(crate) struct Pending {
     request: Request,
     // The newest last.
     attempts: Vec<Attempt>,
-    // A synced reply was asked for since the last attempt.
+    // A synced reply, or a value, was asked for since the last attempt.
     asked: bool,
     early: Vec<Early>,
     accepts: Vec<Accept>,
+    glimpses: Vec<Glimpse>,
+    lives: Vec<Accept>,
 }
 
 impl Model for Pending {
@@ -135,6 +124,8 @@ impl Model for Pending {
       asked = p.asked;
       early = p.early.items;
       accepts = p.accepts.items;
+      glimpses = p.glimpses.items;
+      lives = p.lives.items;
     } };
 }
 
@@ -155,6 +146,8 @@ impl Pending {
             asked: false,
             early: Vec::new(alloc),
             accepts: Vec::new(alloc),
+            glimpses: Vec::new(alloc),
+            lives: Vec::new(alloc),
         })
     }
 
@@ -178,7 +171,7 @@ impl Pending {
         self.attempts.last()
     }
 
-    /// A synced reply was asked for.
+    /// A synced reply, or a value, was asked for.
     pub(crate) fn ask(&mut self)
         ensures { self.new ≡ record self.old { asked = true } }
     {
@@ -202,82 +195,56 @@ impl Pending {
         ensures err { OnErr result (self.new ≡ self.old) }
     {
         match evidence {
-            Evidence::Reply(early) => self.add_early(early),
-            Evidence::Accept(accept) => self.add_accept(accept),
+            Evidence::Reply(early) => add_early(&mut self.early, early),
+            Evidence::Accept(accept) => add_accept(&mut self.accepts, accept),
+            Evidence::Quick(glimpse) => add_glimpse(&mut self.glimpses, glimpse),
+            Evidence::Live(accept) => add_accept(&mut self.lives, accept),
         }
     }
 
-    fn add_early(&mut self, early: Early) -> Result<(), NoMemory>
-        ensures ok { OnOk result (self.new ≡ record self.old { early = model.with_early self.old.early early }) }
-        ensures err { OnErr result (self.new ≡ self.old) }
+    /// What completes the request, once there is enough of what was delivered.
+    pub(crate) fn completion(&self) -> Option<Completed>
+        ensures { result ≡ completion self.now }
     {
-        if !is_told(&self.early, &early) {
-            self.early.push(early)?;
+        let id = self.request.id;
+        if self.request.command.is_update() {
+            self.proved_reply().map(|early| early.completes(&id))
+        } else {
+            self.seen_glimpse().map(|glimpse| glimpse.completes(&id))
         }
-        Ok(())
     }
 
-    fn add_accept(&mut self, accept: Accept) -> Result<(), NoMemory>
-        ensures ok { OnOk result (self.new ≡ record self.old { accepts = model.with_accept self.old.accepts accept }) }
-        ensures err { OnErr result (self.new ≡ self.old) }
-    {
-        if !has_accepted(&self.accepts, accept.epoch, accept.witness) {
-            self.accepts.push(accept)?;
-        }
-        Ok(())
-    }
-
-    /// The answer of the first unsynced reply that is enough to complete the request.
-    pub(crate) fn proved_answer(&self) -> Option<Answer>
-        ensures { result ≡ option_map (λ (e : model.Early). e.answer) (model.proved_answer self.now) }
-    {
-        self.proved_reply().map(|early| early.answer())
-    }
-
+    // The first unsynced reply that is enough.
     fn proved_reply(&self) -> Option<&Early>
         ensures { option_copied result ≡ model.proved_answer self.now }
     {
         self.early.iter().find(|early| self.is_proved(early))
     }
 
+    // The first Quick that is enough.
+    fn seen_glimpse(&self) -> Option<&Glimpse>
+        ensures { option_copied result ≡ model.seen_glimpse self.now }
+    {
+        self.glimpses.iter().find(|glimpse| self.is_seen(glimpse))
+    }
+
     fn is_proved(&self, early: &Early) -> bool
         ensures { result ≡ list_any (model.proves self.now early.now) self.now.attempts }
     {
+        self.some_is_backed(&early.master, &self.accepts)
+    }
+
+    fn is_seen(&self, glimpse: &Glimpse) -> bool
+        ensures { result ≡ list_any (model.is_seen self.now glimpse.now) self.now.attempts }
+    {
+        self.some_is_backed(&glimpse.master, &self.lives)
+    }
+
+    fn some_is_backed(&self, master: &Master, accepts: &[Accept]) -> bool
+        ensures { result ≡ list_any (is_backed master.now accepts.now) self.now.attempts }
+    {
         self.attempts
             .iter()
-            .any(|attempt| self.proves(early, attempt))
+            .any(|attempt| attempt.is_backed(master, accepts))
     }
-
-    fn proves(&self, early: &Early, attempt: &Attempt) -> bool
-        ensures { result ≡ model.proves self.now early.now attempt.now }
-    {
-        early.master == attempt.master
-            && early.epoch == attempt.epoch
-            && early.version == attempt.version
-            && self.all_accepted(attempt)
-    }
-
-    fn all_accepted(&self, attempt: &Attempt) -> bool
-        ensures { result ≡ model.all_accepted self.now attempt.now }
-    {
-        attempt.witnesses.as_slice().iter().all(|witness| has_accepted(
-            &self.accepts,
-            attempt.epoch,
-            *witness,
-        ))
-    }
-}
-
-fn is_told(early: &[Early], new: &Early) -> bool
-    ensures { result ≡ list_any (model.is_told new.now) early.now }
-{
-    early.iter().any(|told| {
-        told.master == new.master && told.epoch == new.epoch && told.version == new.version
-    })
-}
-
-fn has_accepted(accepts: &[Accept], epoch: u32, witness: NodeId) -> bool
-    ensures { result ≡ model.has_accepted accepts.now epoch witness }
-{
-    accepts.iter().any(|accept| accept.epoch == epoch && accept.witness == witness)
 }

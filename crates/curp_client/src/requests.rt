@@ -5,12 +5,14 @@ ghost use Rattle.std.specs.Option.{option_copied};
 ghost use Rattle.curp_base.specs.Words.{Each};
 ghost use Rattle.curp_cmd.specs.RequestId.{same_id};
 ghost use Rattle.curp_model.specs.Client as model;
-ghost use Rattle.curp_client.specs.Evidence.{kept, Proves};
+ghost use Rattle.curp_client.specs.Evidence.{Completes, kept};
 ghost use Rattle.curp_client.specs.Requests.{Changes, least_of};
 
-use crate::pending::{Attempt, Evidence, Pending};
+use crate::evidence::Evidence;
+use crate::pending::{Attempt, Pending};
 use curp_base::NoMemory;
-use curp_cmd::{Answer, RequestId};
+use curp_cmd::RequestId;
+use curp_msg::Completed;
 use std::alloc::Global;
 use std::marker::Model;
 
@@ -106,7 +108,7 @@ impl Requests {
         Ok(())
     }
 
-    /// A synced reply to the request of that id was asked for.
+    /// A synced reply to the request of that id, or its value, was asked for.
     pub(crate) fn ask(&mut self, id: &RequestId)
         ensures { Changes self.old self.new id.now (λ p. record p { asked = true }) }
     {
@@ -115,14 +117,14 @@ impl Requests {
         }
     }
 
-    /// Keeps evidence for the request of that id, and gives the answer that is proved then.
+    /// Keeps evidence for the request of that id, and gives what completes it then.
     pub(crate) fn keep(
         &mut self,
         id: &RequestId,
         evidence: Evidence,
-    ) -> Result<Option<Answer>, NoMemory>
+    ) -> Result<Option<Completed>, NoMemory>
         ensures ok { OnOk result (Changes self.old self.new id.now (λ p. kept p evidence)) }
-        ensures proved { IfOk result (Proves self.old id.now evidence) }
+        ensures completes { IfOk result (Completes self.old id.now evidence) }
         ensures err { OnErr result (self.new ≡ self.old) }
     {
         let Some(at) = place_of(&self.items, id) else {
@@ -130,7 +132,7 @@ impl Requests {
         };
         let pending = &mut self.items[at];
         pending.keep(evidence)?;
-        Ok(pending.proved_answer())
+        Ok(pending.completion())
     }
 }
 

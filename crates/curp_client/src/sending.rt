@@ -1,5 +1,5 @@
 // What a client sends to the nodes of a partition.
-ghost use Rattle.std.specs.Prelude.{◌≡◌, IfOk};
+ghost use Rattle.std.specs.Prelude.{◌≡◌, ◌∷◌, [], IfOk};
 ghost use Rattle.curp_cmd.specs.Node.{client_node};
 ghost use Rattle.curp_cmd.specs.Store.{is_update};
 ghost use Rattle.curp_model.specs.Client as model;
@@ -7,20 +7,21 @@ ghost use Rattle.curp_msg.specs.Moved.{says, says_each};
 
 use curp_base::{Boxed, NoMemory};
 use curp_cmd::{NodeId, Request};
-use curp_msg::{Ask, Body, Message, PartConfig, Record};
+use curp_msg::{Ask, Body, Message, PartConfig, Probe, Protocol, Record};
 use std::alloc::Global;
 
-/// An update goes to the master and to each witness, or alone as a Sync where the client isn't fast; a read goes to the
-/// master.
+/// An update goes to the master and to each witness, or alone as a Sync where the client isn't fast. A read goes to the
+/// master, and in protocol 2 a probe to each witness.
 pub(crate) fn sent_by(
     alloc: Global,
     number: u32,
     fast: bool,
+    protocol: Protocol,
     request: &Request,
     part: &PartConfig,
 ) -> Result<Vec<Message>, NoMemory>
-    ensures { IfOk result
-        (λ messages. messages.items ≡ model.sent_by number fast (is_update request.now.command) request.now part.now) }
+    ensures { IfOk result (λ messages. messages.items
+        ≡ model.sent_by number fast protocol (is_update request.now.command) request.now part.now) }
 {
     let ask = Ask {
         request: *request,
@@ -28,50 +29,61 @@ pub(crate) fn sent_by(
         version: part.version,
     };
     let ask = Boxed::of(alloc, &ask)?;
+    match (request.command.is_update(), fast, protocol) {
+        (true, true, _) => {
+            let record = Record {
+                request: *request,
+                epoch: part.epoch,
+            };
+            let record = Body::Record(Boxed::of(alloc, &record)?);
+            to_all(alloc, number, part, Body::Update(ask), &record)
+        }
+        (true, false, _) => to_master(alloc, number, part, Body::Sync(ask)),
+        (false, _, Protocol::One) => to_master(alloc, number, part, Body::Read(ask)),
+        (false, _, Protocol::Two) => {
+            let probe = Body::Probe(Probe {
+                id: request.id,
+                epoch: part.epoch,
+            });
+            to_all(alloc, number, part, Body::Glance(ask), &probe)
+        }
+    }
+}
+
+fn to_master(
+    alloc: Global,
+    number: u32,
+    part: &PartConfig,
+    asked: Body,
+) -> Result<Vec<Message>, NoMemory>
+    ensures { IfOk result (λ messages. messages.items ≡ says (client_node number) part.now.master asked ∷ []) }
+{
     let mut messages = Vec::with_capacity(alloc, 1)?;
-    if !request.command.is_update() {
-        messages.push(to_master(number, part, Body::Read(ask)))?;
-        return Ok(messages);
-    }
-    if !fast {
-        messages.push(to_master(number, part, Body::Sync(ask)))?;
-        return Ok(messages);
-    }
-    messages.push(to_master(number, part, Body::Update(ask)))?;
-    let record = Record {
-        request: *request,
-        epoch: part.epoch,
-    };
-    let mut records = records_to(alloc, number, part.witnesses.as_slice(), &record)?;
-    messages.append(&mut records)?;
+    messages.push(Message {
+        from: NodeId::client(number),
+        to: part.master,
+        body: asked,
+    })?;
     Ok(messages)
 }
 
-fn to_master(number: u32, part: &PartConfig, body: Body) -> Message
-    ensures { result ≡ says (client_node number) part.now.master body }
-{
-    Message {
-        from: NodeId::client(number),
-        to: part.master,
-        body,
-    }
-}
-
-fn records_to(
+// One message to the master, and another to each witness.
+fn to_all(
     alloc: Global,
     number: u32,
-    witnesses: &[NodeId],
-    asked: &Record,
+    part: &PartConfig,
+    asked: Body,
+    told: &Body,
 ) -> Result<Vec<Message>, NoMemory>
-    ensures { IfOk result
-        (λ messages. messages.items ≡ says_each (client_node number) witnesses.now (Body.Record asked.now)) }
+    ensures { IfOk result (λ messages. messages.items ≡ says (client_node number) part.now.master asked
+        ∷ says_each (client_node number) part.now.witnesses told.now) }
 {
-    let mut messages = Vec::with_capacity(alloc, witnesses.len())?;
-    for witness in witnesses {
+    let mut messages = to_master(alloc, number, part, asked)?;
+    for witness in part.witnesses.as_slice() {
         messages.push(Message {
             from: NodeId::client(number),
             to: *witness,
-            body: Body::Record(Boxed::of(alloc, asked)?),
+            body: told.copy(alloc)?,
         })?;
     }
     Ok(messages)

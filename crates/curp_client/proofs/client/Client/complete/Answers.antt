@@ -6,4 +6,4 @@ use Rattle.curp_client.proofs.client.Client.complete.Goals as goal
 
 pub invariant_of-self : goal.invariant_of-self
 invariant_of-self c =
-    rw c.remove.ensures (each_filter (λ (p : Pending). p.request.id.seq ≤ c.self.inside.last) (λ (p : Pending). not (same_id p.request.id c.args.id.now)) c.self.inside.pending c.self.invariant)
+    rw c.remove.ensures (each_filter (λ (p : Pending). p.request.id.seq ≤ c.self.inside.last) (λ (p : Pending). not (same_id p.request.id c.args.completed.id)) c.self.inside.pending c.self.invariant)

@@ -30,7 +30,7 @@ invariant_of-self-2 c =
 
 pub returns-clause-moves : goal.returns-clause-moves
 returns-clause-moves c =
-    let before : model.ClientState = record { fast = c.self.inside.fast; config = c.self.inside.config; last = c.self.inside.last; pending = c.self.inside.pending } in
+    let before : model.ClientState = record { fast = c.self.inside.fast; protocol = c.self.inside.protocol; config = c.self.inside.config; last = c.self.inside.last; pending = c.self.inside.pending } in
     let sent =
     retry_sends c.self.inside.number before c.args.seq c.in-Some.pending.now c.request.result.now c.in-Some.ensures c.request.ensures c.in-Some-owner_of.part.now c.in_ok-attempt.attempt c.resend.new.self
     c.in_ok-messages.messages.items c.in-Some-owner_of.ensures c.in_ok-messages.ensures c.in_ok-attempt.ensures c.in_ok-resend.ensures.ok
