@@ -1,7 +1,7 @@
 ghost use Rattle.std.specs.Prelude.{◌≡◌, ◌<◌, ◌≤◌, ◌↔◌, ◌⊎◌, ◌≢◌, false, length, IfOk, OnOk, OnErr, Err};
 ghost use Rattle.curp_cmd.specs.Hash.{hashes as each_once};
 ghost use Rattle.curp_model.specs.Witness.{HoldsInOrder, by_room, collect, conflict, freeze, fresh_witness, frozen_requests, full_set};
-ghost use Rattle.curp_model.specs.Witness.{gc, hold, holds, start, stranger_to, suspects, turned_away};
+ghost use Rattle.curp_model.specs.Witness.{gc, hold, holds, is_live, start, stranger_to, suspects, turned_away};
 ghost use Rattle.curp_slots.specs.Answers.{AnswersGc, refusal, start_answer};
 ghost use Rattle.curp_slots.specs.Holding.{with_owner_marked, with_owners_marked};
 ghost use Rattle.curp_slots.specs.Slots.{owner};
@@ -141,6 +141,16 @@ impl Witness {
         let requests = self.register.by_least_hash(self.alloc)?;
         self.mode = Mode::Frozen;
         Ok(requests)
+    }
+
+    /// Whether it takes requests of that epoch: it was started at it, and isn't frozen.
+    pub fn probe(&self, epoch: u32) -> bool
+        ensures { result ≡ is_live self.now.mode self.now.epoch epoch }
+    {
+        match self.mode {
+            Mode::Normal => self.epoch == Some(epoch),
+            Mode::Idle | Mode::Frozen => false,
+        }
     }
 
     /// What it does with requests now.
