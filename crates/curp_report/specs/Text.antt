@@ -241,6 +241,11 @@ abbrev pub parcel_text : Parcel → List ℕ
 parcel_text b =
     words (migration_text b.migration ∷ labelled (codes "p") (length b.package.pairs) ∷ labelled (codes "r") (length b.package.table.records) ∷ [])
 
+-- whether a witness takes requests of the epoch that it was asked of
+abbrev pub live_text : Bool → List ℕ
+live_text true = codes "live"
+live_text false = codes "not-live"
+
 -- what a message says: its kind, then what it carries
 abbrev pub body_text : Body → List ℕ
 body_text (body.Update a) = words (codes "update" ∷ ask_text a ∷ [])
@@ -279,6 +284,11 @@ body_text (body.Taken b) = words (codes "taken" ∷ parcel_text b ∷ [])
 body_text (body.GiveIn b) = words (codes "give" ∷ parcel_text b ∷ [])
 body_text (body.Given migration) = words (codes "given" ∷ migration_text migration ∷ [])
 body_text (body.ExpireClient client) = words (codes "expire" ∷ labelled (codes "c") client ∷ [])
+body_text (body.Probe b) = words (codes "probe" ∷ id_text b.id ∷ epoch_text b.epoch ∷ [])
+body_text (body.Probed b) = words (live_text b.live ∷ id_text b.id ∷ epoch_text b.epoch ∷ [])
+body_text (body.Glance a) = words (codes "glance" ∷ ask_text a ∷ [])
+body_text (body.Quick b) =
+    words (codes "quick" ∷ id_text b.id ∷ epoch_text b.epoch ∷ version_text b.version ∷ round_text b.capture ∷ answer_text b.answer ∷ [])
 
 -- a message: its number in the run, who sent it, whom it goes to, and what it says
 abbrev pub message_line : ℕ → Message → List ℕ

@@ -3,14 +3,14 @@ ghost use Rattle.curp_report.specs.Text.{body_text};
 
 use crate::Shown;
 use crate::backup::{write_appended, write_fence_answer};
-use crate::client::write_record;
+use crate::client::{write_probe, write_record};
 use crate::manager::{
     write_adopted, write_config, write_prepare, write_recover, write_start, write_take_out,
 };
 use crate::master::{
-    write_append, write_gc, write_recovered, write_refuse, write_reply, write_worth,
+    write_append, write_gc, write_quick, write_recovered, write_refuse, write_reply, write_worth,
 };
-use crate::witness::{write_accepted, write_collected, write_rejected};
+use crate::witness::{write_accepted, write_collected, write_probed, write_rejected};
 use curp_msg::Body;
 use std::fmt;
 
@@ -50,6 +50,10 @@ impl fmt::Display for Shown<&Body> {
             Body::GiveIn(parcel) => write!(f, "give {}", Shown(parcel.get())),
             Body::Given { migration } => write!(f, "given g{migration}"),
             Body::ExpireClient { client } => write!(f, "expire c{client}"),
+            Body::Probe(probe) => write_probe(f, probe),
+            Body::Probed(probed) => write_probed(f, probed),
+            Body::Glance(ask) => write!(f, "glance {}", Shown(ask.get())),
+            Body::Quick(quick) => write_quick(f, quick.get()),
         }
     }
 }

@@ -4,7 +4,7 @@ ghost use Rattle.curp_msg.specs.declared.body.Body.TheVariants as body;
 ghost use Rattle.curp_report.specs.Text.{ask_text, body_text};
 
 use crate::Shown;
-use curp_msg::{Ask, Record};
+use curp_msg::{Ask, Probe, Record};
 use std::fmt;
 
 impl fmt::Display for Shown<&Ask> {
@@ -35,4 +35,10 @@ pub(crate) fn write_record<W: fmt::Write>(f: &mut fmt::Formatter<W>, asked: &Rec
         asked.epoch,
         Shown(asked.request.command)
     )
+}
+
+pub(crate) fn write_probe<W: fmt::Write>(f: &mut fmt::Formatter<W>, probe: &Probe) -> fmt::Result
+    ensures { WritesOnOk W.write_str_gives f.old result (body_text (body.Probe probe.now)) f.new }
+{
+    write!(f, "probe {} e{}", Shown(probe.id), probe.epoch)
 }

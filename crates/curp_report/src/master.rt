@@ -4,7 +4,7 @@ ghost use Rattle.curp_msg.specs.declared.body.Body.TheVariants as body;
 ghost use Rattle.curp_report.specs.Text.{body_text, parcel_text, refusal_text};
 
 use crate::Shown;
-use curp_msg::{Append, Gc, Parcel, Recovered, Refusal, Refuse, Reply, Worth};
+use curp_msg::{Append, Gc, Parcel, Quick, Recovered, Refusal, Refuse, Reply, Worth};
 use std::fmt;
 
 pub(crate) fn write_reply<W: fmt::Write>(f: &mut fmt::Formatter<W>, reply: &Reply) -> fmt::Result
@@ -31,6 +31,20 @@ pub(crate) fn write_worth<W: fmt::Write>(f: &mut fmt::Formatter<W>, worth: &Wort
         worth.epoch,
         worth.capture,
         Shown(worth.answer)
+    )
+}
+
+pub(crate) fn write_quick<W: fmt::Write>(f: &mut fmt::Formatter<W>, quick: &Quick) -> fmt::Result
+    ensures { WritesOnOk W.write_str_gives f.old result (body_text (body.Quick quick.now)) f.new }
+{
+    write!(
+        f,
+        "quick {} e{} v{} r{} {}",
+        Shown(quick.id),
+        quick.epoch,
+        quick.version,
+        quick.capture,
+        Shown(quick.answer)
     )
 }
 

@@ -4,7 +4,7 @@ ghost use Rattle.curp_msg.specs.declared.body.Body.TheVariants as body;
 ghost use Rattle.curp_report.specs.Text.{body_text, rejection_text};
 
 use crate::Shown;
-use curp_msg::{Accepted, Collected, GcAnswer, Reason, Rejected};
+use curp_msg::{Accepted, Collected, GcAnswer, Probed, Reason, Rejected};
 use std::fmt;
 
 pub(crate) fn write_accepted<W: fmt::Write>(
@@ -60,4 +60,16 @@ pub(crate) fn write_collected<W: fmt::Write>(
         GcAnswer::Stranger { epoch: None } => write!(f, "stranger"),
         GcAnswer::Stranger { epoch: Some(epoch) } => write!(f, "stranger e{epoch}"),
     }
+}
+
+pub(crate) fn write_probed<W: fmt::Write>(f: &mut fmt::Formatter<W>, probed: &Probed) -> fmt::Result
+    ensures { WritesOnOk W.write_str_gives f.old result (body_text (body.Probed probed.now)) f.new }
+{
+    write!(
+        f,
+        "{} {} e{}",
+        if probed.live { "live" } else { "not-live" },
+        Shown(probed.id),
+        probed.epoch
+    )
 }
