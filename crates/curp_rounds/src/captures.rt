@@ -82,6 +82,15 @@ impl Captures {
         self.waiting.push_reserved(capture);
     }
 
+    /// Uses the next number for a read that doesn't wait.
+    pub fn use_number(&mut self, number: u64)
+        requires next { number ≡ self.old.count + 1 }
+        ensures waiting { self.new.waiting ≡ self.old.waiting }
+        ensures count { self.new.count ≡ number }
+    {
+        self.count = number;
+    }
+
     /// Tells the values of those that all these backups have acknowledged, as master `number` at that epoch.
     pub fn tell_ready(
         &self,

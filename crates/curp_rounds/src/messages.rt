@@ -5,7 +5,7 @@ ghost use Rattle.curp_model.specs.Master.{moved_entry, prepared_message, refuse}
 
 use curp_base::{Boxed, Items, NoMemory};
 use curp_cmd::{Entry, NodeId, Package, RequestId};
-use curp_msg::{Append, Body, Gc, Message, Parcel, Refusal, Refuse, Reply};
+use curp_msg::{Append, Body, Gc, Message, Parcel, Quick, Refusal, Refuse, Reply};
 use std::alloc::Global;
 
 /// Master `number` doesn't answer a request.
@@ -27,6 +27,17 @@ pub fn reply(number: u32, reply: Boxed<Reply>) -> Message
         from: NodeId::master(number),
         to: NodeId::client(reply.get().id.client),
         body: Body::Reply(reply),
+    }
+}
+
+/// Master `number` answers the client of a read at once.
+pub fn quick(number: u32, quick: Boxed<Quick>) -> Message
+    ensures { result ≡ says (master_node number) (client_node quick.id.client) (Body.Quick quick) }
+{
+    Message {
+        from: NodeId::master(number),
+        to: NodeId::client(quick.get().id.client),
+        body: Body::Quick(quick),
     }
 }
 
