@@ -61,7 +61,7 @@ module _ (t : Trip) where
   state_is ok = ap (λ (m : Moved ClientState). m.state) (invoked_is ok)
 
   pub sent_is : MeetsNothing t → (invoked t).messages ≡ sendings t
-  sent_is ok = ap (λ (m : Moved ClientState). m.messages) (invoked_is ok) ∙ (λ i. sent_by t.client.number (ok.fast i) (ok.update i) (request t) t.part)
+  sent_is ok = ap (λ (m : Moved ClientState). m.messages) (invoked_is ok) ∙ (λ i. sent_by t.client.number (ok.fast i) t.client.state.protocol (ok.update i) (request t) t.part)
 
   -- ---- at the master
 

@@ -21,6 +21,7 @@ ghost use Rattle.curp_msg.specs.declared.config.PartConfig.{PartConfig};
 ghost use Rattle.curp_msg.specs.declared.machine.Input.{Input};
 ghost use Rattle.curp_msg.specs.declared.message.Message.{Message};
 ghost use Rattle.curp_msg.specs.declared.script.Header.{Header};
+ghost use Rattle.curp_msg.specs.declared.script.Protocol.{Protocol};
 ghost use Rattle.curp_model.specs.declared.Mode.TheVariants.{Idle, Frozen};
 ghost use Rattle.curp_model.specs.Client.{ClientState, NumbersAreUsed, client_input, fresh_client, owner_of};
 ghost use Rattle.curp_model.specs.Manager.{Shape, opening_config};
@@ -77,7 +78,8 @@ pub fn one_round_trip()
 /// witnesses of each partition that the client knows are different nodes. They are so at first, and every input of a
 /// client keeps them; a configuration that a message brings has to have different witnesses itself.
 pub fn premises_stay()
-    ensures numbers_at_first { (fast : Bool) (config : Config) → NumbersAreUsed (fresh_client fast config) }
+    ensures numbers_at_first { (fast : Bool) (protocol : Protocol) (config : Config)
+        → NumbersAreUsed (fresh_client fast protocol config) }
     ensures numbers_stay { (n : ℕ) (c : ClientState) (given : Input)
         → NumbersAreUsed c → NumbersAreUsed (client_input n c given).state }
     ensures apart_at_first { (s : Shape) → WitnessesAreApart (opening_config s) }

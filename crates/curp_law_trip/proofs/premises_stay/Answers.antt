@@ -4,7 +4,7 @@ use Rattle.curp_law_trip.proofs.premises_stay.Goals as goal
 
 pub returns : goal.returns
 returns c = record {
-  numbers_at_first = λ fast config. tt;
+  numbers_at_first = λ fast protocol config. tt;
   numbers_stay = given_used;
   apart_at_first = opening_apart;
   apart_stay = given_apart;
