@@ -41,7 +41,7 @@ use Rattle.curp_law_linear.proofs.ReadsStored.{from_stays}
 use Rattle.curp_law_names.specs.Names.{IsOf}
 use Rattle.curp_law_names.proofs.Lists.{at_mapped}
 use Rattle.curp_law_pairs.specs.Predecessors.{Predecessors}
-use Rattle.curp_law_runs.proofs.ByOne as by_one
+use Rattle.curp_law_runs.proofs.ByOne.{by_value}
 use Rattle.curp_law_stays.proofs.Words.{Follows}
 
 -- ---- marks
@@ -206,7 +206,7 @@ module _ {w : World} (known : Known w) (ordered : Ordered w) (n : ℕ) (c : Clie
   completes_stored : (done : Completed) → CompletionOk (MayCome w n) (EntryWas w) c done → FlagsStored w done
   completes_stored done ok k number long m at look flags = elim ok.evidence [
     | inl u ↦ absurd (no_look m.place look (both (same_id m.id done.id) (is_update_mark m.place) (subst (λ (o : Option Capture). is_flagged done o m ≡ true) u.no_capture flags)))
-    | inr r ↦ value_stored done (by_one.by_value ordered.by_one n ok.p.request done r) k number long m at look flags
+    | inr r ↦ value_stored done (by_value ordered.by_one n ok.p.request done r) k number long m at look flags
   ]
     where
       both : (a b : Bool) → (a && b) ≡ true → b ≡ true

@@ -10,8 +10,12 @@ use Rattle.curp_cmd.specs.declared.command.Request.{Request}
 use Rattle.curp_cmd.specs.declared.command.RequestId.{RequestId}
 use Rattle.curp_cmd.specs.declared.node.NodeId.{NodeId}
 use Rattle.curp_cmd.specs.declared.node.NodeKind.TheVariants as kind
+use Rattle.curp_msg.specs.declared.body.Ask.{Ask}
 use Rattle.curp_msg.specs.declared.body.Body.{Body}
 use Rattle.curp_msg.specs.declared.body.Body.TheVariants as body
+use Rattle.curp_msg.specs.declared.body.Probe.{Probe}
+use Rattle.curp_msg.specs.declared.body.Probed.{Probed}
+use Rattle.curp_msg.specs.declared.body.Quick.{Quick}
 use Rattle.curp_msg.specs.declared.machine.Completed.{Completed}
 use Rattle.curp_msg.specs.declared.machine.Input.{Input}
 use Rattle.curp_msg.specs.declared.machine.Input.TheVariants as input
@@ -49,6 +53,15 @@ use Rattle.curp_law_names.proofs.Lists.{all_of-kept, number_within, numbered_set
 use Rattle.curp_law_names.proofs.Steps.{sent_now}
 use Rattle.curp_law_runs.proofs.ClientsByOne.{OfOne, client_by_one}
 
+-- what isn't said by any of the other four bodies is of protocol 1
+none_of_four : (Says : Body → Type 0) → ((ask : Ask) → Says (body.Glance ask) → ⊥) → ((p : Probe) → Says (body.Probe p) → ⊥) → ((a : Probed) → Says (body.Probed a) → ⊥)
+    → ((q : Quick) → Says (body.Quick q) → ⊥) → (b : Body) → Says b → IsOfOne b
+none_of_four Says glance probe probed quick (body.Glance ask) said = glance ask said
+none_of_four Says glance probe probed quick (body.Probe p) said = probe p said
+none_of_four Says glance probe probed quick (body.Probed a) said = probed a said
+none_of_four Says glance probe probed quick (body.Quick q) said = quick q said
+none_of_four Says glance probe probed quick _ said = tt
+
 -- an order, or a message of protocol 1
 abbrev pub BringsOne : Input → Type 0
 BringsOne (input.Local order) = ⊤
@@ -81,45 +94,21 @@ module _ {w : World} (by_one : ByOne w) where
   -- ---- what each node says
 
   backup_says : (given : Input) (c : BackupState) (to : NodeId) (b : Body) → BackupAnswers given c to b → IsOfOne b
-  backup_says given c to (body.Appended a) ok = tt
-  backup_says given c to (body.FenceAnswer a) ok = tt
-  backup_says given c to _ ok = absurd ok
+  backup_says given c to = none_of_four (BackupAnswers given c to) (λ ask ok. ok) (λ p ok. ok) (λ a ok. ok) (λ q ok. ok)
 
   -- a witness that answers a probe has got one
   witness_says : (n : ℕ) (given : Input) → IsFor w (witness_node n) given → (y : WitnessState) (to : NodeId) (b : Body) → WitnessAnswers given y to b → IsOfOne b
-  witness_says n given for y to (body.Probed a) ok =
-      let came : WasSent w (record { from = to; to = ok.came.to; body = body.Probe ok.probe }) = (subst (IsFor w (witness_node n)) ok.came.is for).1 in
-      absurd (sent_by_one _ came)
-  witness_says n given for y to (body.Accepted a) ok = tt
-  witness_says n given for y to (body.Rejected r) ok = tt
-  witness_says n given for y to (body.Collected c) ok = tt
-  witness_says n given for y to (body.FrozenAnswer requests) ok = tt
-  witness_says n given for y to _ ok = absurd ok
+  witness_says n given for y to = none_of_four (WitnessAnswers given y to) (λ ask ok. ok) (λ p ok. ok) (λ a ok. subst BringsOne ok.came.is (brings_one (witness_node n) given for)) (λ q ok. ok)
 
   -- a master that answers at once was asked to
   serving_says : (m : MasterState) (to : NodeId) (b : Body) → ServingSays w m to b → IsOfOne b
-  serving_says m to (body.Quick q) ok = absurd (sent_by_one _ ok.asked.sent)
-  serving_says m to (body.Reply r) ok = tt
-  serving_says m to (body.Worth v) ok = tt
-  serving_says m to (body.Refuse r) ok = tt
-  serving_says m to (body.Append a) ok = tt
-  serving_says m to (body.Gc g) ok = tt
-  serving_says m to (body.Prepared version) ok = tt
-  serving_says m to (body.Taken t) ok = tt
-  serving_says m to (body.Given migration) ok = tt
-  serving_says m to _ ok = absurd ok
+  serving_says m to = none_of_four (ServingSays w m to) (λ ask ok. ok) (λ p ok. ok) (λ a ok. ok) (λ q ok. sent_by_one _ ok.asked.sent)
 
   recovery_says : (s : RecoveryState) (to : NodeId) (b : Body) → RecoverySays w s to b → IsOfOne b
-  recovery_says s to (body.Fence epoch) ok = tt
-  recovery_says s to (body.Freeze epoch) ok = tt
-  recovery_says s to (body.Append a) ok = tt
-  recovery_says s to (body.Recovered r) ok = tt
-  recovery_says s to (body.Refuse r) ok = tt
-  recovery_says s to _ ok = absurd ok
+  recovery_says s to = none_of_four (RecoverySays w s to) (λ ask ok. ok) (λ p ok. ok) (λ a ok. ok) (λ q ok. ok)
 
   fresh_says : (to : NodeId) (b : Body) → FreshSays w to b → IsOfOne b
-  fresh_says to (body.Refuse r) ok = tt
-  fresh_says to _ ok = absurd ok
+  fresh_says to = none_of_four (FreshSays w to) (λ ask ok. ok) (λ p ok. ok) (λ a ok. ok) (λ q ok. ok)
 
   said_by : (n : ℕ) (Says : NodeId → Body → Type 0) → ((to : NodeId) (b : Body) → Says to b → IsOfOne b) → (out : List Message) → Each (IsSaidBy n Says) out → Each OfOne out
   said_by n Says of_one out all = Each-weaker (IsSaidBy n Says) OfOne (λ (m : Message) k. of_one m.to m.body k.says_so) out all
@@ -137,11 +126,7 @@ module _ {w : World} (by_one : ByOne w) where
 
   -- what the manager says is of no kind that clients, masters and witnesses say
   of_manager : (b : Body) → sender_kind b ≡ kind.Manager → IsOfOne b
-  of_manager (body.Glance ask) e = absurd cc
-  of_manager (body.Probe p) e = absurd cc
-  of_manager (body.Quick q) e = absurd cc
-  of_manager (body.Probed a) e = absurd cc
-  of_manager _ e = tt
+  of_manager = none_of_four (λ b. sender_kind b ≡ kind.Manager) (λ ask e. cc) (λ p e. cc) (λ a e. cc) (λ q e. cc)
 
   manager_says : {v : World} → Known v → (out : List Message) → messages v ≡ messages w ++ out → Each (Uttered w) out → Each OfOne out
   manager_says {v} now out sent all = Each-from_at OfOne out (λ k m at.
