@@ -1,7 +1,7 @@
 -- How nodes refuse: a message never, an order by a small number, and then nothing has changed.
 use Rattle.std.proofs.Common.{arith, refl}
 use Rattle.std.proofs.lemmas.Bool.{cond_both}
-use Rattle.std.specs.Prelude.{◌≡◌, ◌≢◌, ℕ, ◌-◌, ◌^◌, ◌+◌, ◌||◌, ◌&&◌, ◌==◌, nat_le, nat_lt, List, [], Bool, true, false, not, length, Option, Some, None, Result, Ok, Err}
+use Rattle.std.specs.Prelude.{◌≡◌, ◌≢◌, if◌then◌else◌, ℕ, ◌-◌, ◌^◌, ◌+◌, ◌||◌, ◌&&◌, ◌==◌, nat_le, nat_lt, List, [], Bool, true, false, not, length, Option, Some, None, Result, Ok, Err}
 use Rattle.std.specs.Option.{ok_or}
 use Rattle.std.specs.declared.alloc.AllocError.{AllocError}
 use Rattle.curp_base.specs.Cases.{◌>>=◌, refuse_if}
@@ -34,7 +34,7 @@ use Rattle.curp_msg.specs.declared.machine.Local.TheVariants as local
 use Rattle.curp_msg.specs.declared.message.Message.{Message}
 use Rattle.curp_model.specs.Backup.{BackupState, on_backup}
 use Rattle.curp_model.specs.Client as client
-use Rattle.curp_model.specs.Client.{ClientState, Pending, Early, Attempt, client_ordered, client_input, on_client}
+use Rattle.curp_model.specs.Client.{ClientState, Pending, Early, Glimpse, Attempt, client_ordered, client_input, on_client}
 use Rattle.curp_model.specs.Master.{MasterState, Wish, AtOnce, WhenSynced, Verdict, Deny, Tell, TellAgain, HoldBack, Execute, Phase, Open, Switching, carries_out, executes, goes_on, is_clean, last_round, on_appended, on_collected, on_serving, on_update, raised, serving_ordered, settle, stored_on, sync_in, unless_it_ends, verdict, all_have, adopted_in, collect_in, give_after, is_open, on_expire, on_give, on_read, on_take, prepare_in, push_take, read_command, read_of, read_refusal, state_of, synced, take_after, told_again, treat}
 use Rattle.curp_cmd.specs.Node.{is_among, same_node}
 use Rattle.curp_cmd.specs.declared.entry.Entry.{Entry}
@@ -95,9 +95,20 @@ proved_taken : (c : ClientState) (p : Pending) (e : Option Early) → (client.if
 proved_taken c p None = refl
 proved_taken c p (Some e) = refl
 
+seen_taken : (c : ClientState) (p : Pending) (g : Option Glimpse) → (client.if_seen c p g).refused ≡ 0
+seen_taken c p None = refl
+seen_taken c p (Some g) = refl
+
 asks_taken : (n : ℕ) (c : ClientState) (p : Pending) (a : Option Attempt) → (client.asks n c p a).refused ≡ 0
 asks_taken n c p None = refl
 asks_taken n c p (Some a) = refl
+
+asks_value_taken : (n : ℕ) (c : ClientState) (p : Pending) (a : Option Attempt) → (client.asks_value n c p a).refused ≡ 0
+asks_value_taken n c p None = refl
+asks_value_taken n c p (Some a) = refl
+
+once_taken : (c : ClientState) (p : Pending) (m : Moved ClientState) → m.refused ≡ 0 → (if p.asked then quiet c else m).refused ≡ 0
+once_taken c p m taken = cond_both p.asked _ _ (λ (m : Moved ClientState). m.refused ≡ 0) (λ y. refl) (λ no. taken)
 
 client_takes : (n : ℕ) (c : ClientState) (from : NodeId) (b : Body) → (on_client n c from b).refused ≡ 0
 unfolding on_client
@@ -117,11 +128,22 @@ client_takes n c from (body.Worth v) = go (client.with_id v.id c.pending)
     go : (p : Option Pending) → (client.valued c from v p).refused ≡ 0
     go None = refl
     go (Some p) = cond_both (is_update p.request.command) _ _ (λ (m : Moved ClientState). m.refused ≡ 0) (λ y. refl) (λ no. refl)
+client_takes n c from (body.Quick q) = go (client.with_id q.id c.pending)
+  where
+    go : (p : Option Pending) → (client.glimpsed c from q p).refused ≡ 0
+    go None = refl
+    go (Some p) = cond_both (is_update p.request.command) _ _ (λ (m : Moved ClientState). m.refused ≡ 0) (λ y. refl) (λ no. seen_taken c _ _)
+client_takes n c from (body.Probed a) = go (client.with_id a.id c.pending)
+  where
+    go : (p : Option Pending) → (client.probed n c from a p).refused ≡ 0
+    go None = refl
+    go (Some p) = cond_both (is_update p.request.command) _ _ (λ (m : Moved ClientState). m.refused ≡ 0) (λ y. refl)
+        (λ read. cond_both a.live _ _ (λ (m : Moved ClientState). m.refused ≡ 0) (λ y. seen_taken c _ _) (λ no. once_taken c p _ (asks_value_taken n c p (last_of p.attempts))))
 client_takes n c from (body.Rejected r) = go (client.with_id r.id c.pending)
   where
     go : (p : Option Pending) → (client.rejected n c p).refused ≡ 0
     go None = refl
-    go (Some p) = cond_both p.asked _ _ (λ (m : Moved ClientState). m.refused ≡ 0) (λ y. refl) (λ no. asks_taken n c p (last_of p.attempts))
+    go (Some p) = cond_both (not (is_update p.request.command)) _ _ (λ (m : Moved ClientState). m.refused ≡ 0) (λ y. refl) (λ update. once_taken c p _ (asks_taken n c p (last_of p.attempts)))
 client_takes n c from (body.Configuration config) = refl
 client_takes n c from _ = refl
 

@@ -6,7 +6,7 @@ ghost use Rattle.curp_inv.specs.Refusals.{Tells};
 use curp_base::NoMemory;
 use curp_client::Client;
 use curp_cmd::Command;
-use curp_msg::{Config, Core, Done, Local, Message};
+use curp_msg::{Config, Core, Done, Local, Message, Protocol};
 use std::alloc::{AllocError, Global};
 use std::marker::Model;
 
@@ -28,13 +28,19 @@ impl Model for ClientNode {
 
 impl ClientNode {
     /// A client of that number which has invoked nothing.
-    pub fn new(alloc: Global, number: u32, fast: bool, config: Config) -> ClientNode
+    pub fn new(
+        alloc: Global,
+        number: u32,
+        fast: bool,
+        protocol: Protocol,
+        config: Config,
+    ) -> ClientNode
         ensures number { result.number ≡ number }
-        ensures state { result.state ≡ fresh_client fast config }
+        ensures state { result.state ≡ fresh_client fast protocol config }
     {
         ClientNode {
             alloc,
-            client: Client::begin(alloc, number, fast, config),
+            client: Client::begin(alloc, number, fast, protocol, config),
         }
     }
 
