@@ -10,4 +10,5 @@ abbrev pub turned_away : ℕ → MasterStage → Body → Moved MasterStage
 turned_away n m (body.Update ask) = turns_away n m ask.request.id
 turned_away n m (body.Sync ask) = turns_away n m ask.request.id
 turned_away n m (body.Read ask) = turns_read_away n m ask.request
+turned_away n m (body.Glance ask) = turns_read_away n m ask.request
 turned_away n m _ = quiet m

@@ -18,6 +18,7 @@ pub fn turned_away(alloc: Global, number: u32, body: &Body) -> Result<Done, NoMe
         Body::Update(ask) => turn_away(alloc, number, &ask.get().request.id),
         Body::Sync(ask) => turn_away(alloc, number, &ask.get().request.id),
         Body::Read(ask) => turn_read_away(alloc, number, &ask.get().request),
+        Body::Glance(ask) => turn_read_away(alloc, number, &ask.get().request),
         _ => Ok(Done::quiet(alloc)),
     }
 }
