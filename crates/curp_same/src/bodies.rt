@@ -2,7 +2,7 @@
 use crate::Same;
 use curp_msg::{
     Accepted, Adopted, Append, Appended, Ask, Body, Collected, FenceAnswer, Gc, Message, Parcel,
-    Record, Recovered, Refuse, Rejected, Reply, Start, TakeOut, Worth,
+    Probe, Probed, Quick, Record, Recovered, Refuse, Rejected, Reply, Start, TakeOut, Worth,
 };
 
 impl Same for Ask {
@@ -119,6 +119,28 @@ impl Same for Parcel {
     }
 }
 
+impl Same for Probe {
+    fn same(&self, other: &Probe) -> bool {
+        self.id.same(&other.id) && self.epoch == other.epoch
+    }
+}
+
+impl Same for Probed {
+    fn same(&self, other: &Probed) -> bool {
+        self.id.same(&other.id) && self.epoch == other.epoch && self.live == other.live
+    }
+}
+
+impl Same for Quick {
+    fn same(&self, other: &Quick) -> bool {
+        self.id.same(&other.id)
+            && self.epoch == other.epoch
+            && self.version == other.version
+            && self.capture == other.capture
+            && self.answer.same(&other.answer)
+    }
+}
+
 impl Same for Body {
     fn same(&self, other: &Body) -> bool {
         match self {
@@ -158,6 +180,10 @@ impl Same for Body {
                 matches!(other, Body::Given { migration: b } if a.same(b)),
             Body::ExpireClient { client: a } =>
                 matches!(other, Body::ExpireClient { client: b } if a.same(b)),
+            Body::Probe(a) => matches!(other, Body::Probe(b) if a.same(b)),
+            Body::Probed(a) => matches!(other, Body::Probed(b) if a.same(b)),
+            Body::Glance(a) => matches!(other, Body::Glance(b) if a.same(b)),
+            Body::Quick(a) => matches!(other, Body::Quick(b) if a.same(b)),
         }
     }
 }
