@@ -1,18 +1,16 @@
 -- How a run of the program ends.
-use Rattle.std.specs.Prelude.{◌≡◌, ◌⊎◌, ℕ, Option, List}
-use Rattle.std.specs.Borrow.{Bor}
+use Rattle.std.specs.Prelude.{◌≡◌, ◌⊎◌, ℕ, Option, List, drop}
 use Rattle.std.specs.declared.io.ErrorKind.{ErrorKind}
 use Rattle.std.specs.declared.io.ErrorKind.TheVariants as kind
-use Rattle.clap.specs.Walk.{texts}
 use Rattle.curp_io.specs.Streams.{Rose}
 use Rattle.curp_play.specs.declared.status.Status.{Status}
 use Rattle.curp_play.specs.declared.status.Status.TheVariants as status
 use Rattle.curp_words.specs.Words.{order_in}
 use Rattle.curp_words.specs.declared.order.Order.{Order}
 
--- what words ask for
-abbrev pub asked : List (Bor (List ℕ)) → Option Order
-asked words = order_in (texts words)
+-- what the arguments of the program ask for: the words behind its name, which is the first of them
+abbrev pub asked : List (List ℕ) → Option Order
+asked arguments = order_in (drop 1 arguments)
 
 -- words that are no text are no command line; any other error of reading them is want of memory
 abbrev pub unread_words : ErrorKind → Status

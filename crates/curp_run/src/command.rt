@@ -10,77 +10,78 @@ ghost use Rattle.curp_words.specs.declared.order.LivePlan.{LivePlan};
 ghost use Rattle.curp_words.specs.declared.order.MakePlan.{MakePlan};
 ghost use Rattle.curp_words.specs.declared.order.Output.{Output};
 
+use crate::arguments::order_of;
 use crate::live::live_script;
 use crate::script::make_script;
 use curp_io::{Sink, Source};
 use curp_play::{Status, play_script};
 use curp_seat::Gate;
-use curp_words::{Order, WordsError, read};
+use curp_words::{Order, WordsError};
 use std::alloc::Global;
 use std::sync::Wait;
 use std::thread::Threads;
 
-/// Does what the words of the command line say, those behind the program's name: `play` reads a script from the source
-/// and writes its text to the sink, as `play_script`; `make`, with its options, writes a script or its summary, as
+/// Does what the arguments of the program say. The first of them is the program's name; of the words behind it, `play`
+/// reads a script from the source and writes its text to the sink, as `play_script`; `make`, with its options, writes a script or its summary, as
 /// `make_script`; `live` runs nodes on threads, and writes the script of what they did and its text, as `live_script`.
 /// The gate is told of each step that a node on a thread makes.
 pub fn run<R: Threads + Wait + Sync, G: Gate + Sync, S: Source, K: Sink>(
     rt: &R,
     alloc: Global,
-    words: &[&str],
+    arguments: &[String],
     source: &mut S,
     sink: &mut K,
     gate: &G,
 ) -> Status
     // Words that are no command line are refused, and nothing is read or written then.
-    ensures usage { result ≡ Status.Usage → asked words.now ≡ None }
-    ensures no_order { asked words.now ≡ None → (result ≡ Status.Usage) ⊎ (result ≡ Status.NoMemory) }
-    ensures untouched { asked words.now ≡ None → (source.new ≡ source.old) × (sink.new ≡ sink.old) }
+    ensures usage { result ≡ Status.Usage → asked arguments.now ≡ None }
+    ensures no_order { asked arguments.now ≡ None → (result ≡ Status.Usage) ⊎ (result ≡ Status.NoMemory) }
+    ensures untouched { asked arguments.now ≡ None → (source.new ≡ source.old) × (sink.new ≡ sink.old) }
 
     // With `play` it ends as the script does, unless a fault or want of memory cuts it short.
-    ensures ends { asked words.now ≡ Some Order.Play → S.tells source.old ≡ true → is_cut_short result ≡ false
+    ensures ends { asked arguments.now ≡ Some Order.Play → S.tells source.old ≡ true → is_cut_short result ≡ false
         → result ≡ status_of (script_in (S.left source.old)).body.ending }
-    ensures end { asked words.now ≡ Some Order.Play → S.tells source.old ≡ true → result ≡ Status.Ok
+    ensures end { asked arguments.now ≡ Some Order.Play → S.tells source.old ≡ true → result ≡ Status.Ok
         → S.left source.new ≡ [] }
-    ensures complete { asked words.now ≡ Some Order.Play → S.tells source.old ≡ true
+    ensures complete { asked arguments.now ≡ Some Order.Play → S.tells source.old ≡ true
         → (script_in (S.left source.old)).body.ending ≡ Whole
         → EndsWhole result (S.faults source.old) (S.faults source.new) (K.faults sink.old) (K.faults sink.new) }
 
     // It writes the text of the script; where it is cut short, it writes a front of the text.
-    ensures wrote { asked words.now ≡ Some Order.Play → S.tells source.old ≡ true → K.tells sink.old ≡ true
+    ensures wrote { asked arguments.now ≡ Some Order.Play → S.tells source.old ≡ true → K.tells sink.old ≡ true
         → is_cut_short result ≡ false → K.held sink.new ≡ K.held sink.old ++ text_of (script_in (S.left source.old)) }
-    ensures front { asked words.now ≡ Some Order.Play → S.tells source.old ≡ true → K.tells sink.old ≡ true
+    ensures front { asked arguments.now ≡ Some Order.Play → S.tells source.old ≡ true → K.tells sink.old ≡ true
         → HoldsPart (K.held sink.old) (K.held sink.new) (text_of (script_in (S.left source.old))) }
 
     // The order that it prints is one of the history.
-    ensures order { asked words.now ≡ Some Order.Play → S.tells source.old ≡ true → result ≡ Status.Ok
+    ensures order { asked arguments.now ≡ Some Order.Play → S.tells source.old ≡ true → result ≡ Status.Ok
         → HasAnOrder (script_in (S.left source.old)) }
 
     // With `make` it writes what the plan gives, or a front of it, and reads nothing.
-    ensures made { (plan : MakePlan) (output : Output) → asked words.now ≡ Some (Order.Make plan output)
+    ensures made { (plan : MakePlan) (output : Output) → asked arguments.now ≡ Some (Order.Make plan output)
         → K.tells sink.old ≡ true → result ≡ Status.Ok → K.held sink.new ≡ K.held sink.old ++ made_text plan output }
-    ensures made_front { (plan : MakePlan) (output : Output) → asked words.now ≡ Some (Order.Make plan output)
+    ensures made_front { (plan : MakePlan) (output : Output) → asked arguments.now ≡ Some (Order.Make plan output)
         → K.tells sink.old ≡ true → HoldsPart (K.held sink.old) (K.held sink.new) (made_text plan output) }
-    ensures unread { (plan : MakePlan) (output : Output) → asked words.now ≡ Some (Order.Make plan output)
+    ensures unread { (plan : MakePlan) (output : Output) → asked arguments.now ≡ Some (Order.Make plan output)
         → source.new ≡ source.old }
-    ensures of_making { (plan : MakePlan) (output : Output) → asked words.now ≡ Some (Order.Make plan output)
+    ensures of_making { (plan : MakePlan) (output : Output) → asked arguments.now ≡ Some (Order.Make plan output)
         → IsOfMaking result }
-    ensures complete_making { (plan : MakePlan) (output : Output) → asked words.now ≡ Some (Order.Make plan output)
+    ensures complete_making { (plan : MakePlan) (output : Output) → asked arguments.now ≡ Some (Order.Make plan output)
         → EndsMade result (K.faults sink.old) (K.faults sink.new) }
 
     // With `live` it writes a script, an empty line, and what `play` writes for that script, and reads nothing. In the
     // script each client invokes its workload in order, and each of these requests completes.
-    ensures lived { (plan : LivePlan) → asked words.now ≡ Some (Order.Live plan) → K.tells sink.old ≡ true
+    ensures lived { (plan : LivePlan) → asked arguments.now ≡ Some (Order.Live plan) → K.tells sink.old ≡ true
         → result ≡ Status.Ok → IsLive plan (K.held sink.old) (K.held sink.new) }
-    ensures lived_front { (plan : LivePlan) → asked words.now ≡ Some (Order.Live plan) → K.tells sink.old ≡ true
+    ensures lived_front { (plan : LivePlan) → asked arguments.now ≡ Some (Order.Live plan) → K.tells sink.old ≡ true
         → IsLiveFront plan (K.held sink.old) (K.held sink.new) }
-    ensures unread_living { (plan : LivePlan) → asked words.now ≡ Some (Order.Live plan) → source.new ≡ source.old }
-    ensures of_living { (plan : LivePlan) → asked words.now ≡ Some (Order.Live plan) → IsOfMaking result }
-    ensures complete_living { (plan : LivePlan) → asked words.now ≡ Some (Order.Live plan)
+    ensures unread_living { (plan : LivePlan) → asked arguments.now ≡ Some (Order.Live plan) → source.new ≡ source.old }
+    ensures of_living { (plan : LivePlan) → asked arguments.now ≡ Some (Order.Live plan) → IsOfMaking result }
+    ensures complete_living { (plan : LivePlan) → asked arguments.now ≡ Some (Order.Live plan)
         → EndsMade result (K.faults sink.old) (K.faults sink.new) }
 
     // What it wrote is passed on.
-    ensures flushed { asked words.now ≢ None → is_cut_short result ≡ false → K.flushed sink.new ≡ true }
+    ensures flushed { asked arguments.now ≢ None → is_cut_short result ≡ false → K.flushed sink.new ≡ true }
 
     // A fault comes exactly where the count of faults rose first.
     ensures read_fault { result ≡ Status.ReadFault → Rose (S.faults source.old) (S.faults source.new) }
@@ -88,7 +89,7 @@ pub fn run<R: Threads + Wait + Sync, G: Gate + Sync, S: Source, K: Sink>(
     ensures write_fault { result ≡ Status.WriteFault → Rose (K.faults sink.old) (K.faults sink.new) }
     ensures no_write_fault { result ≢ Status.WriteFault → SameCount (K.faults sink.old) (K.faults sink.new) }
 {
-    match read(alloc, words) {
+    match order_of(alloc, arguments) {
         Ok(Order::Play) => play_script(alloc, source, sink),
         Ok(Order::Make(plan, output)) => make_script(alloc, &plan, output, sink),
         Ok(Order::Live(plan)) => live_script(rt, alloc, &plan, gate, sink),

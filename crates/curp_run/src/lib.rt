@@ -4,6 +4,7 @@
 //! is written line by line, as its steps are made; nothing but the world is kept.
 #![tactic(auto)]
 
+mod arguments;
 mod command;
 mod live;
 mod process;

@@ -4,6 +4,7 @@ ghost use Rattle.std.specs.IoError.{error_kind};
 ghost use Rattle.curp_play.specs.Status.{TellsStatus, code_of};
 ghost use Rattle.curp_run.specs.Run.{unread_words};
 
+use crate::arguments::words_in;
 use crate::command::run;
 use curp_io::{StdSink, StdSource};
 use curp_play::Status;
@@ -29,38 +30,44 @@ pub fn start(
 ) -> ExitCode
     ensures { TellsStatus (exit_status result) }
 {
-    let status = match run_words(rt) {
+    let status = match run_process(rt) {
         Ok(status) => status,
         Err(error) => of_unread_words(&error),
     };
     finish(rt, status)
 }
 
-/// Runs the words of the process over the standard streams.
-fn run_words(
+/// Runs the arguments of the process over the standard streams.
+fn run_process(
     rt: &(impl Env + Input + Print + Eprint + AllocGlobal + Threads + Wait + Sync),
 ) -> io::Result<Status> {
     let mut arguments = Vec::new(rt.alloc());
-    for argument in env::args(rt)?.skip(1) {
+    for argument in env::args(rt)? {
         arguments.push(argument)?;
-    }
-    let mut words = Vec::new(rt.alloc());
-    for argument in &arguments {
-        words.push(argument.as_str())?;
     }
     let mut source = StdSource::new(rt.reader());
     let mut sink = StdSink::new(io::writer(rt));
-    let status = run(rt, rt.alloc(), &words, &mut source, &mut sink, &OpenGate);
+    let status = run(
+        rt,
+        rt.alloc(),
+        &arguments,
+        &mut source,
+        &mut sink,
+        &OpenGate,
+    );
     if status == Status::Usage {
-        tell_blame(rt, &words);
+        tell_blame(rt, &arguments);
     }
     Ok(status)
 }
 
 /// Says which word it is about that the words are no command line. Where standard error can't be written, or there is
 /// no memory, the number with which the process ends still tells.
-fn tell_blame(rt: &(impl Eprint + AllocGlobal), words: &[&str]) {
-    let Ok(place) = blamed(rt.alloc(), words) else {
+fn tell_blame(rt: &(impl Eprint + AllocGlobal), arguments: &[String]) {
+    let Ok(words) = words_in(rt.alloc(), arguments) else {
+        return;
+    };
+    let Ok(place) = blamed(rt.alloc(), &words) else {
         return;
     };
     let _ = match place.and_then(|place| words.get(place)) {

@@ -183,6 +183,43 @@ fn each_failing_call_is_a_fault(rt: HostRuntime) -> Result<(), Fail> {
     Ok(())
 }
 
+// What stands at the end of a script of two invocations, whose lines are all read at once, where the read and the write of
+// these numbers fail.
+fn two_invocations_end(
+    alloc: Global,
+    read: u64,
+    write: u64,
+    ended: &Status,
+    wrote: &str,
+) -> Result<bool, NoMemory> {
+    let script = format!(in alloc; "{HEADER}\n{INVOKE}\n{INVOKE}\n")?;
+    let (status, sink) = played_with_faults(alloc, &script, &[read], &[write])?;
+    Ok(status == *ended && sink.bytes() == wrote.as_bytes())
+}
+
+const FIRST_STEP: &str =
+    "s1 done\nm1 C1 M1 update 1.1 f1 e1 v1 put 61 31\nm2 C1 W1 record 1.1 f1 e1 put 61 31\n";
+
+const BOTH_STEPS: &str =
+    "s1 done\nm1 C1 M1 update 1.1 f1 e1 v1 put 61 31\nm2 C1 W1 record 1.1 f1 e1 put 61 31\n\
+    s2 done\nm3 C1 M1 update 1.2 f1 e1 v1 put 61 31\nm4 C1 W1 record 1.2 f1 e1 put 61 31\n";
+
+// The text of a step is written before more is read, and before the next step is made.
+#[test]
+fn each_step_is_written_at_once(rt: HostRuntime) -> Result<(), Fail> {
+    for (read, write, ended, wrote) in [
+        (2, 9, Status::ReadFault, BOTH_STEPS),
+        (9, 1, Status::WriteFault, ""),
+        (9, 2, Status::WriteFault, FIRST_STEP),
+    ] {
+        assert!(rt;
+            two_invocations_end(rt.alloc(), read, write, &ended, wrote)?,
+            "read {read}, write {write}"
+        );
+    }
+    Ok(())
+}
+
 fn many_steps(alloc: Global, count: u32) -> Result<String, NoMemory> {
     let mut script = String::from_str(alloc, HEADER)?;
     for _ in 0..count {

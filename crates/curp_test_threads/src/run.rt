@@ -102,9 +102,13 @@ fn ran<R: Threads + Wait + Sync, G: Gate + Sync>(
     words: &[&str],
     gate: &G,
 ) -> Result<(Status, MemorySink), NoMemory> {
+    let mut arguments = Vec::new(alloc);
+    for word in ["curp"].iter().chain(words) {
+        arguments.push(format!(in alloc; "{word}")?)?;
+    }
     let mut source = MemorySource::new(alloc, b"", &[])?;
     let mut sink = MemorySink::new(alloc, &[])?;
-    let status = run(rt, alloc, words, &mut source, &mut sink, gate);
+    let status = run(rt, alloc, &arguments, &mut source, &mut sink, gate);
     Ok((status, sink))
 }
 

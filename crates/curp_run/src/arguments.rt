@@ -1,0 +1,32 @@
+ghost use Rattle.std.specs.Prelude.{◌≡◌, ◌⊎◌, drop, Some, None, Err, IfOk};
+ghost use Rattle.clap.specs.Walk.{texts};
+ghost use Rattle.curp_run.specs.Run.{asked};
+ghost use Rattle.curp_words.specs.declared.order.WordsError.TheVariants as WordsError;
+
+use curp_base::NoMemory;
+use curp_words::{Order, WordsError, read};
+use std::alloc::Global;
+
+/// The words behind the program's name, which is the first argument.
+pub(crate) fn words_in(alloc: Global, arguments: &[String]) -> Result<Vec<&str>, NoMemory>
+    ensures { IfOk result (λ words. texts words ≡ drop 1 arguments.now) }
+{
+    let mut words = Vec::new(alloc);
+    for argument in arguments.iter().skip(1) {
+        words.push(argument.as_str())?;
+    }
+    Ok(words)
+}
+
+/// What the arguments of the program ask for, as `read` has it of the words behind the program's name.
+pub(crate) fn order_of(alloc: Global, arguments: &[String]) -> Result<Order, WordsError>
+    ensures order { IfOk result (λ order. asked arguments.now ≡ Some order) }
+    ensures usage { result ≡ Err WordsError.Usage → asked arguments.now ≡ None }
+    ensures no_order { asked arguments.now ≡ None
+        → (result ≡ Err WordsError.Usage) ⊎ (result ≡ Err WordsError.NoMemory) }
+{
+    match words_in(alloc, arguments) {
+        Ok(words) => read(alloc, &words),
+        Err(NoMemory) => Err(WordsError::NoMemory),
+    }
+}
