@@ -11,7 +11,7 @@ use Rattle.curp_cmd.specs.declared.command.Command.{Command}
 use Rattle.curp_cmd.specs.declared.command.Command.TheVariants.{Get, Put, Delete, Incr, Append, CondPut, Multi}
 use Rattle.curp_msg.specs.declared.script.Header.{Header}
 use Rattle.curp_msg.specs.declared.script.Protocol.{Protocol}
-use Rattle.curp_msg.specs.declared.script.Protocol.TheVariants.{One}
+use Rattle.curp_msg.specs.declared.script.Protocol.TheVariants.{One, Two}
 use Rattle.curp_msg.specs.declared.script.Step.{Step}
 use Rattle.curp_msg.specs.declared.script.Step.TheVariants.{Invoke, Deliver, Retry, Fetch, Sync, Collect, Recover, Replace, Migrate, Nudge, Expire, Stop}
 use Rattle.curp_script.specs.declared.kind.Kind.{Kind}
@@ -115,11 +115,12 @@ parts_at d = do
   _ ← built_where (nat_lt 1 parts) word.Parts
   Ok parts
 
--- the first protocol; the second isn't built
+-- the second protocol only where that is built
 abbrev pub protocol_at : Data → Result Protocol LineError
 protocol_at d = do
   protocol ← number_at field.Protocol 1 2 d
-  if protocol == 1 then Ok One else Err (Later word.Protocol)
+  _ ← built_where (nat_lt 1 protocol) word.Protocol
+  Ok (if nat_lt 1 protocol then Two else One)
 
 -- the header that an object is
 abbrev pub header_of : Data → Result Header LineError

@@ -1,5 +1,5 @@
 -- What is printed for a header and a step, and what reading it gives.
-use Rattle.std.specs.Prelude.{◌≡◌, ◌↔◌, ◌++◌, ℕ, nat_lt, if◌then◌else◌, List, [], ◌∷◌, flat_map, Option, Some, None, Result, Ok, Err, ⊤}
+use Rattle.std.specs.Prelude.{◌≡◌, ◌↔◌, ◌++◌, ℕ, nat_lt, if◌then◌else◌, Bool, List, [], ◌∷◌, flat_map, Option, Some, None, Result, Ok, Err, ⊤}
 use Rattle.std.specs.Int.{w64, to_be_bytes}
 use Rattle.serde_json.specs.Data.{Data, null, boolean, number, string, array, object, unsigned, Members, no_members, put}
 use Rattle.serde_json.specs.View.{items_of}
@@ -9,7 +9,7 @@ use Rattle.curp_cmd.specs.declared.command.Command.TheVariants.{Get, Put, Delete
 use Rattle.curp_cmd.specs.declared.node.NodeKind.TheVariants as node
 use Rattle.curp_msg.specs.declared.script.Header.{Header}
 use Rattle.curp_msg.specs.declared.script.Protocol.{Protocol}
-use Rattle.curp_msg.specs.declared.script.Protocol.TheVariants.{One}
+use Rattle.curp_msg.specs.declared.script.Protocol.TheVariants.{One, Two}
 use Rattle.curp_msg.specs.declared.script.Step.{Step}
 use Rattle.curp_msg.specs.declared.script.Step.TheVariants.{Invoke, Deliver, Retry, Fetch, Sync, Collect, Recover, Replace, Migrate, Nudge, Expire, Stop}
 use Rattle.curp_script.specs.declared.kind.Kind.{Kind}
@@ -23,6 +23,7 @@ use Rattle.curp_script.specs.declared.error.LineError.TheVariants.{Later}
 use Rattle.curp_script.specs.Built.{is_built}
 use Rattle.curp_script.specs.Digits.{hex}
 use Rattle.curp_script.specs.Grammar.{step_of, command_of}
+use Rattle.curp_script.specs.Headers.{is_second}
 use Rattle.curp_script.specs.Kinds.{header_names, kind_text, names_of, verb_text}
 use Rattle.curp_script.specs.Nodes.{keeper_text, node_text}
 use Rattle.curp_script.specs.Text.{field_text}
@@ -44,6 +45,7 @@ hash_data hash = bytes_data (to_be_bytes w64 hash)
 -- the number of a protocol
 abbrev pub protocol_number : Protocol → ℕ
 protocol_number One = 1
+protocol_number Two = 2
 
 -- the value that a key is expected to have, or null where it is to be absent
 abbrev pub expected_data : Option (List ℕ) → Data
@@ -112,9 +114,14 @@ abbrev pub if_built : {A : Type 0} → List Word → A → Result A LineError
 if_built [] value = Ok value
 if_built (w ∷ ws) value = if is_built w then if_built ws value else Err (Later w)
 
+-- a form that is needed, if it is
+abbrev pub word_where : Bool → Word → List Word
+word_where needed w = if needed then w ∷ [] else []
+
 -- the forms that a header needs, in the order in which they are read
 abbrev pub header_words : Header → List Word
-header_words h = (if h.fast then word.Fast ∷ [] else []) ++ (if nat_lt 1 h.parts then word.Parts ∷ [] else [])
+header_words h =
+    word_where h.fast word.Fast ++ word_where (nat_lt 1 h.parts) word.Parts ++ word_where (is_second h.protocol) word.Protocol
 
 -- the forms that a command needs
 abbrev pub command_words : Command → List Word

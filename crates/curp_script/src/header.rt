@@ -1,7 +1,7 @@
 ghost use Rattle.std.specs.Prelude.{◌≡◌};
-ghost use Rattle.curp_script.specs.Headers.{bad_field, is_within, most_parts};
+ghost use Rattle.curp_script.specs.Headers.{bad_field, is_second, is_within, most_parts};
 
-use crate::{FieldName, Header, Word};
+use crate::{FieldName, Header, Protocol, Word};
 
 /// The first name of a header, in byte order, whose value is out of its range or isn't built yet.
 pub fn bad_field(header: &Header) -> Option<FieldName>
@@ -15,6 +15,8 @@ pub fn bad_field(header: &Header) -> Option<FieldName>
         Some(FieldName::Fast)
     } else if !is_within(1, most_parts(), header.parts) {
         Some(FieldName::Parts)
+    } else if is_second(header.protocol) && !Word::Protocol.is_built() {
+        Some(FieldName::Protocol)
     } else if !is_within(1, 1024, header.sets) {
         Some(FieldName::Sets)
     } else if !is_within(1, 16, header.ways) {
@@ -28,6 +30,15 @@ fn is_within(low: u32, high: u32, number: u32) -> bool
     ensures { result ≡ is_within low high number }
 {
     low <= number && number <= high
+}
+
+fn is_second(protocol: Protocol) -> bool
+    ensures { result ≡ is_second protocol }
+{
+    match protocol {
+        Protocol::One => false,
+        Protocol::Two => true,
+    }
 }
 
 // How many partitions a header may ask for.

@@ -61,6 +61,7 @@ fn protocol_number(protocol: Protocol) -> u32
 {
     match protocol {
         Protocol::One => 1,
+        Protocol::Two => 2,
     }
 }
 

@@ -2,7 +2,7 @@ ghost use Rattle.std.specs.Prelude.{◌≡◌, ◌≢◌, ◌≤◌, ◌&&◌, n
 ghost use Rattle.curp_script.specs.Built.{is_built};
 ghost use Rattle.curp_script.specs.Values.{value_data};
 ghost use Rattle.curp_script.specs.Grammar.{header_in, step_in, header_of, fast_at, parts_at, protocol_at};
-ghost use Rattle.curp_script.specs.Headers.{bad_field, most_parts};
+ghost use Rattle.curp_script.specs.Headers.{bad_field, is_second, most_parts};
 
 mod command;
 mod delivery;
@@ -103,12 +103,10 @@ fn parts_at(object: &Json<'_>) -> Result<u32, LineError>
 }
 
 fn protocol_at(object: &Json<'_>) -> Result<Protocol, LineError>
-    ensures { result ≡ protocol_at (value_data object.now) }
+    ensures value { result ≡ protocol_at (value_data object.now) }
+    ensures built { IfOk result (λ protocol. (is_second protocol && not (is_built Word.Protocol)) ≡ false) }
 {
-    match number_at(object, FieldName::Protocol, 1, 2)? {
-        1 => Ok(Protocol::One),
-        _ => Err(LineError::Later {
-            word: Word::Protocol,
-        }),
-    }
+    let second = number_at(object, FieldName::Protocol, 1, 2)? > 1;
+    built_where(second, Word::Protocol)?;
+    Ok(if second { Protocol::Two } else { Protocol::One })
 }

@@ -418,6 +418,11 @@ fn a_header_has_bounds(rt: HostRuntime) {
     };
     assert!(rt; bad_field(&header) == Some(F::Parts));
     let header = Header {
+        protocol: Protocol::Two,
+        ..HEADER
+    };
+    assert!(rt; bad_field(&header) == Some(F::Protocol));
+    let header = Header {
         sets: 1025,
         ..HEADER
     };
