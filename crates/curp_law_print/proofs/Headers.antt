@@ -6,13 +6,14 @@ use Rattle.serde_json.specs.Read.{of_json}
 use Rattle.serde_json.specs.Written.{compact_text, outline}
 use Rattle.curp_msg.specs.declared.script.Header.{Header}
 use Rattle.curp_msg.specs.declared.script.Protocol.{Protocol}
-use Rattle.curp_msg.specs.declared.script.Protocol.TheVariants.{One}
+use Rattle.curp_msg.specs.declared.script.Protocol.TheVariants.{One, Two}
 use Rattle.curp_script.specs.Built.{is_built}
 use Rattle.curp_script.specs.Grammar.{built_where, header_in, header_of, number_within}
 use Rattle.curp_script.specs.Headers.{InRange, is_within}
-use Rattle.curp_script.specs.Printed.{count, header_data, protocol_number}
+use Rattle.curp_script.specs.Printed.{checked_header, count, header_data, protocol_number}
 use Rattle.curp_script.specs.Script.{line_limit}
 use Rattle.curp_script.specs.declared.error.Word.TheVariants as word
+use Rattle.curp_script.proofs.AllBuilt.{built_header}
 use Rattle.curp_law_print.proofs.Bytes.{are_shown}
 use Rattle.curp_law_print.proofs.Data.{IsPlain, short, shown}
 use Rattle.curp_law_print.proofs.Reading.{reads_as}
@@ -32,24 +33,22 @@ count_read low high n range =
     let fits : is_within low high n ≡ true = grind (arith, nat_tests, range) in
     rw fits refl
 
-header_read : (h : Header) → InRange h → header_of (header_data h) ≡ Ok h
-header_read h range = by h.protocol refl
-  where
-    by : (protocol : Protocol) → h.protocol ≡ protocol → header_of (header_data h) ≡ Ok h
-    by One is =
-        rw (
-          is,
-          count_read 1 64 h.clients range.clients,
-          count_read 1 5 h.f range.f,
-          fast_is_built h.fast,
-          count_read 1 16 h.parts range.parts,
-          parts_are_built (nat_lt 1 h.parts),
-          count_read 1 1024 h.sets range.sets,
-          count_read 1 16 h.ways range.ways,
-        ) refl
+header_read : (h : Header) → InRange h → checked_header h ≡ Ok h → header_of (header_data h) ≡ Ok h
+header_read h range built =
+    rw (
+      built_header h built,
+      count_read 1 64 h.clients range.clients,
+      count_read 1 5 h.f range.f,
+      fast_is_built h.fast,
+      count_read 1 16 h.parts range.parts,
+      parts_are_built (nat_lt 1 h.parts),
+      count_read 1 1024 h.sets range.sets,
+      count_read 1 16 h.ways range.ways,
+    ) refl
 
 protocol_small : (protocol : Protocol) → protocol_number protocol < 2 ^ 64
 protocol_small One = omega arith
+protocol_small Two = omega arith
 
 header_plain : (h : Header) → InRange h → IsPlain (header_data h)
 header_plain h range =
@@ -72,11 +71,11 @@ pub record IsHeaderLine (h : Header) : Type 0 where
   pub fits : length (compact_text (header_data h)) ≤ line_limit
   pub read : header_in (compact_text (header_data h)) ≡ Ok h
 
-pub header_is_line : (h : Header) → InRange h → IsHeaderLine h
-header_is_line h range =
+pub header_is_line : (h : Header) → InRange h → checked_header h ≡ Ok h → IsHeaderLine h
+header_is_line h range built =
     let plain = header_plain h range in
     record {
       all_shown = shown (header_data h) plain;
       fits = omega (arith, short (header_data h) plain);
-      read = reads_as header_of (header_data h) plain (omega arith) refl (header_written h range) ∙ header_read h range;
+      read = reads_as header_of (header_data h) plain (omega arith) refl (header_written h range) ∙ header_read h range built;
     }

@@ -1,9 +1,10 @@
 // The steps of a run on threads.
-ghost use Rattle.std.specs.Prelude.{◌≡◌, ◌≤◌, length, map, IfOk, IfSome};
+ghost use Rattle.std.specs.Prelude.{◌≡◌, ◌≤◌, length, map, IfOk, IfSome, Ok};
 ghost use Rattle.curp_gather.specs.Journals.{AreOf, IsScriptOf, journals_of};
 ghost use Rattle.curp_live.specs.Live.{live_header};
 ghost use Rattle.curp_run.specs.Live.{Shows, work_of};
 ghost use Rattle.curp_script.specs.Headers.{InRange};
+ghost use Rattle.curp_script.specs.Printed.{checked_header};
 ghost use Rattle.curp_script.specs.Script.{step_limit};
 ghost use Rattle.curp_words.specs.Plan.{IsLivePlan};
 
@@ -86,6 +87,7 @@ pub(crate) fn header_of(plan: &LivePlan) -> Header
     requires { IsLivePlan plan.now }
     ensures header { result ≡ live_header plan.now }
     ensures in_range { InRange result }
+    ensures built { checked_header result ≡ Ok result }
 {
     Header {
         clients: plan.clients,
