@@ -4,7 +4,7 @@
 //! - `Witness::new`: exact; it refuses a shape exactly where there are not 1 to 1024 sets or not 1 to 16 ways. All
 //!   memory that it needs to hold requests is taken there.
 //! - `hold`, clauses `state` and `answer`: exact, so it accepts or rejects as `rejected_exactly` says. It takes no
-//!   memory. `start`, `mode`, `epoch`, `holds`: exact.
+//!   memory. `start`, `probe`, `mode`, `epoch`, `holds`: exact.
 //! - `gc`, clauses `state` and `answer`: exact; the listed requests are dropped, what remains has survived one more
 //!   collection, and the suspects are given in ascending order of their ids. For want of memory nothing has changed. It
 //!   costs a search for each listed id, for each held request and for each slot.
