@@ -26,7 +26,8 @@ pub(crate) fn next_step(lines: &[Line<'_>], tracks: &[Track], line: &Line<'_>, t
     requires one_manager { line.now.id.kind ≡ kind.Manager → line.now.id ≡ manager_node }
     requires ready { IsReady lines.now tracks.now line.now taken }
     ensures step { IsNextStep lines.now tracks.now line.now taken result.step }
-    ensures names { IfSome (slice_get (turns_of line.now) taken) (λ turn. NamesTurn lines.now tracks.now turn result.step) }
+    ensures names { IfSome (slice_get (turns_of line.now) taken)
+        (λ turn. NamesTurn lines.now tracks.now turn result.step) }
     ensures sent { IfSome (slice_get (turns_of line.now) taken) (λ turn. result.sent ≡ length (sent_by turn)) }
 {
     let items = line.items();

@@ -20,7 +20,8 @@ use std::alloc::Global;
 fn count_before(records: &[(RequestId, Kept)], client: u32) -> usize
     requires { KeysAscend id_cmp records.now }
     ensures within { result ≤ length records.now }
-    ensures point { IsPartitionPoint (λ e. is_before client e ≡ true) (λ e. is_before client e ≡ false) records.now result }
+    ensures point { IsPartitionPoint
+        (λ e. is_before client e ≡ true) (λ e. is_before client e ≡ false) records.now result }
 {
     records.partition_point(|record| record.0.client < client)
 }
@@ -29,7 +30,8 @@ fn count_before(records: &[(RequestId, Kept)], client: u32) -> usize
 fn count_up_to(records: &[(RequestId, Kept)], client: u32) -> usize
     requires { KeysAscend id_cmp records.now }
     ensures within { result ≤ length records.now }
-    ensures point { IsPartitionPoint (λ e. is_up_to client e ≡ true) (λ e. is_up_to client e ≡ false) records.now result }
+    ensures point { IsPartitionPoint
+        (λ e. is_up_to client e ≡ true) (λ e. is_up_to client e ≡ false) records.now result }
 {
     records.partition_point(|record| record.0.client <= client)
 }
@@ -38,7 +40,8 @@ fn count_up_to(records: &[(RequestId, Kept)], client: u32) -> usize
 fn count_before_first(records: &[(RequestId, Kept)], client: u32, first: u32) -> usize
     requires { KeysAscend id_cmp records.now }
     ensures within { result ≤ length records.now }
-    ensures point { IsPartitionPoint (λ e. is_before_first client first e ≡ true) (λ e. is_before_first client first e ≡ false) records.now result }
+    ensures point { IsPartitionPoint (λ e. is_before_first client first e ≡ true)
+        (λ e. is_before_first client first e ≡ false) records.now result }
 {
     records.partition_point(|record| {
         let id = &record.0;

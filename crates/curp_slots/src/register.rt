@@ -173,7 +173,8 @@ fn suspects_at(
     listed: &Listed,
 ) -> Result<Vec<Request>, NoMemory>
     requires { Each (IsFilled kept.now) index.now }
-    ensures { IfOk result (λ requests. requests.items ≡ suspected_of (what_remains listed.now (held_by kept.now index.now))) }
+    ensures { IfOk result (λ requests.
+        requests.items ≡ suspected_of (what_remains listed.now (held_by kept.now index.now))) }
 {
     let mut suspects = Vec::new(alloc);
     for place in index {
