@@ -81,7 +81,7 @@ module _ (w : World) (s : Step) where
     sends = λ m a. ByClient n c given is gave taken a;
   }
 
-  master_gets : (n : ℕ) (given : Input) → Gave w s (master_node n) given → (o : Option MasterStage) → numbered w.masters n ≡ o → Leaves (moves_one w (λ m. within (with_master w n m) (master_input n m given)) o)
+  master_gets : (n : ℕ) (given : Input) → Gave w s (master_node n) given → (o : Option MasterStage) → numbered w.masters n ≡ o → Leaves (moves_one w (λ m. within (with_master w n given m) (master_input n m given)) o)
   master_gets n given gave None is = rests
   master_gets n given gave (Some m) is = record {
     clients = λ k c here. ClientStays here;

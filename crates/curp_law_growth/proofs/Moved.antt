@@ -37,7 +37,7 @@ module _ (w : World) (s : Step) where
   -- a master
   pub master_moved : (n : ℕ) (m : MasterStage) (given : Input) → numbered w.masters n ≡ Some m → Gave w s (master_node n) given → numbered (step w s).world.masters n ≡ Some (master_input n m given).state
   master_moved n m given is gave = gave_world (λ v. numbered v.masters n ≡ Some (master_input n m given).state) (master_node n) given gave
-      (subst (λ (o : Option MasterStage). numbered (moves_one w (λ y. within (with_master w n y) (master_input n y given)) o).state.masters n ≡ Some (master_input n m given).state) (sym is)
+      (subst (λ (o : Option MasterStage). numbered (moves_one w (λ y. within (with_master w n given y) (master_input n y given)) o).state.masters n ≡ Some (master_input n m given).state) (sym is)
       (numbered_set_same w.masters n m (master_input n m given).state is))
 
   -- a client

@@ -165,8 +165,8 @@ module _ (w : World) where
   client_moves : (n : ℕ) (c : ClientState) → NodesGrow w (with_client w n c)
   client_moves n c = record { manager = manager_self w.manager; masters = masters_self w.masters; backups = backups_self w.backups; witnesses = witnesses_self w w.witnesses; fresh = fresh_self w }
 
-  master_moves : (n : ℕ) (m k : MasterStage) → numbered w.masters n ≡ Some m → MasterGrows m k → NodesGrow w (with_master w n m k)
-  master_moves n m k is g = record {
+  master_moves : (n : ℕ) (given : Input) (m k : MasterStage) → numbered w.masters n ≡ Some m → MasterGrows m k → NodesGrow w (with_master w n given m k)
+  master_moves n given m k is g = record {
     manager = manager_self w.manager;
     masters = all_set (λ n. MasterGrows) (λ n. master_self) w.masters n m k is g;
     backups = backups_self w.backups;
@@ -207,9 +207,9 @@ module _ (w : World) where
   client_gets n given None = nodes_self
   client_gets n given (Some c) = client_moves n (client_input n c given).state
 
-  master_gets : (n : ℕ) (given : Input) (o : Option MasterStage) → numbered w.masters n ≡ o → On w (moves_one w (λ m. within (with_master w n m) (master_input n m given)) o)
+  master_gets : (n : ℕ) (given : Input) (o : Option MasterStage) → numbered w.masters n ≡ o → On w (moves_one w (λ m. within (with_master w n given m) (master_input n m given)) o)
   master_gets n given None is = nodes_self
-  master_gets n given (Some m) is = master_moves n m (master_input n m given).state is (master_input_grows n m given)
+  master_gets n given (Some m) is = master_moves n given m (master_input n m given).state is (master_input_grows n m given)
 
   backup_gets : (n : ℕ) (given : Input) (o : Option BackupState) → numbered w.backups n ≡ o → On w (moves_one w (λ b. within (with_backup w n) (backup_input n b given)) o)
   backup_gets n given None is = nodes_self

@@ -53,7 +53,7 @@ pub data StepCase (w v : World) : Type 0 where
   ByWitness : (n : ℕ) (given : Input) (x : WitnessState) → numbered w.witnesses n ≡ Some x → IsFor w (witness_node n) given → (events : List Event) → events ≡ []
       → v ≡ (kept w events (within (with_witness w n) (witness_input n x given))).world → StepCase w v
   ByMaster : (n : ℕ) (given : Input) (m : MasterStage) → numbered w.masters n ≡ Some m → IsFor w (master_node n) given → (events : List Event) → events ≡ []
-      → v ≡ (kept w events (within (with_master w n m) (master_input n m given))).world → StepCase w v
+      → v ≡ (kept w events (within (with_master w n given m) (master_input n m given))).world → StepCase w v
   ByManager : (given : Input) → IsFor w manager_node given → (events : List Event) → events ≡ []
       → v ≡ (kept w events (within (with_manager w (adoption w.manager given)) (manager_input w.manager given))).world → StepCase w v
 
@@ -78,7 +78,7 @@ module _ (w : World) (known : Known w) where
     witness_case for None is = rests events none
     witness_case for (Some x) is = ByWitness n given x is for events none refl
 
-    master_case : IsFor w (master_node n) given → (o : Option MasterStage) → numbered w.masters n ≡ o → Case events (moves_one w (λ m. within (with_master w n m) (master_input n m given)) o)
+    master_case : IsFor w (master_node n) given → (o : Option MasterStage) → numbered w.masters n ≡ o → Case events (moves_one w (λ m. within (with_master w n given m) (master_input n m given)) o)
     master_case for None is = rests events none
     master_case for (Some m) is = ByMaster n given m is for events none refl
 

@@ -49,7 +49,7 @@ apart other e = other (ap (λ (x : NodeId). x.kind) e)
 -- the world after an input to a master, as its step
 module _ {w : World} (known : Known w) (n : ℕ) (given : Input) (m : MasterStage) (here : numbered w.masters n ≡ Some m) (for : IsFor w (master_node n) given) (events : List Event) (none : events ≡ []) where
   abbrev pub master_world : World
-  master_world = (kept w events (within (with_master w n m) (master_input n m given))).world
+  master_world = (kept w events (within (with_master w n given m) (master_input n m given))).world
 
   was : IsMaster w (master_node n) m
   was = record { its_kind = refl; its_state = here }

@@ -97,7 +97,7 @@ module _ (w : World) (known : Known w) where
       witness_after for None is = nothing events (quiet w) none refl
       witness_after for (Some x) is = λ grows later names. witness_world w known n given events x is for none grows later
 
-      master_after : IsFor w (master_node n) given → (o : Option MasterStage) → numbered w.masters n ≡ o → After events (moves_one w (λ m. within (with_master w n m) (master_input n m given)) o)
+      master_after : IsFor w (master_node n) given → (o : Option MasterStage) → numbered w.masters n ≡ o → After events (moves_one w (λ m. within (with_master w n given m) (master_input n m given)) o)
       master_after for None is = nothing events (quiet w) none refl
       master_after for (Some m) is = λ grows later names.
           let was : IsMaster w (master_node n) m = record { its_kind = refl; its_state = is } in

@@ -25,6 +25,7 @@ use Rattle.curp_law_names.proofs.Lists.{all_of-kept, among_each, number_within, 
 use Rattle.curp_law_names.proofs.Moves.{Move, Nothing}
 use Rattle.curp_law_names.proofs.Quiet.{names_stay}
 use Rattle.curp_law_names.proofs.Steps.{sent_cases, sent_later}
+use Rattle.curp_msg.specs.declared.machine.Input.{Input}
 
 -- shape and names, and who says what to whom
 pub record Both (w : World) : Type 0 where
@@ -139,9 +140,9 @@ module _ (w : World) (both : Both w) (events : List Event) where
         };
       }
 
-  pub master_keeps : (k : ℕ) (m : MasterStage) → numbered w.masters k ≡ Some m → (r : Moved MasterStage) → MasterFits w k r.state → AllSaid w (master_node k) r.messages → Goes w (kept w events (within (with_master w k m) r)).world
-  master_keeps k m here r ok all =
-      let b : Beside w (kept w events (within (with_master w k m) r)).world r.messages =
+  pub master_keeps : (k : ℕ) (given : Input) (m : MasterStage) → numbered w.masters k ≡ Some m → (r : Moved MasterStage) → MasterFits w k r.state → AllSaid w (master_node k) r.messages → Goes w (kept w events (within (with_master w k given m) r)).world
+  master_keeps k given m here r ok all =
+      let b : Beside w (kept w events (within (with_master w k given m) r)).world r.messages =
       record { manager = refl; clients = refl; masters = length-set w.masters (k - 1) r.state; backups = refl; witnesses = refl; came = all_of-kept w.sent r.messages } in
       let g = beside_later both.names r.messages b in
       record {
@@ -151,7 +152,7 @@ module _ (w : World) (both : Both w) (events : List Event) where
           nodes = record {
             said = beside_said both.names r.messages b (master_node k) all both.nodes.said;
             clients = λ i c at. client_fits_later g i c (both.nodes.clients i c at);
-            masters = set_all (MasterFits w) (MasterFits (kept w events (within (with_master w k m) r)).world) w.masters k m r.state here (master_later g) (master_later g k r.state ok) both.nodes.masters;
+            masters = set_all (MasterFits w) (MasterFits (kept w events (within (with_master w k given m) r)).world) w.masters k m r.state here (master_later g) (master_later g k r.state ok) both.nodes.masters;
             backups = λ i x at. backup_later g x (both.nodes.backups i x at);
             witnesses = λ i x at. witness_later g x (both.nodes.witnesses i x at);
           };

@@ -143,7 +143,7 @@ module _ (w : World) (both : Both w) (events : List Event) where
       client_keeps w both events i c at (client_input i c given) r.0 r.1)
   moves_keep kind.Master i given comes here = by_one _ (numbered w.masters i) (λ m at.
       let r = master_fits w n i (number_within w.masters i m at) m (both.nodes.masters i m at) given comes (for_master i given here) in
-      master_keeps w both events i m at (master_input i m given) r.0 r.1)
+      master_keeps w both events i given m at (master_input i m given) r.0 r.1)
   moves_keep kind.Backup i given comes here = by_one _ (numbered w.backups i) (λ x at.
       let r = backup_fits w i (number_within w.backups i x at) x (both.nodes.backups i x at) given (message_comes given comes) in
       backup_keeps w both events i x at (backup_input i x given) r.0 r.1)

@@ -83,7 +83,7 @@ module _ (w : World) (known : Known w) (x : Step) (its : IsStep x) where
     numbers e = ap (λ (y : NodeId). y.number) e
 
     by_master : (j : ℕ) (given : Input) (old : MasterStage) (here : numbered w.masters j ≡ Some old) (for : IsFor w (master_node j) given) (events : List Event)
-        → v ≡ (kept w events (within (with_master w j old) (master_input j old given))).world → IsSilent m.body
+        → v ≡ (kept w events (within (with_master w j given old) (master_input j old given))).world → IsSilent m.body
     by_master j given old here for events is =
         let out = (master_input j old given).messages in
         let a = among out (ap messages is ∙ all_of-kept w.sent out) in

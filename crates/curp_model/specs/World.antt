@@ -1,6 +1,6 @@
 -- The world: one state a node, every message that was ever sent, and the history. A message is lost where no step delivers
 -- it; it may be delivered often, and in any order (this project's own).
-use Rattle.std.specs.Prelude.{ℕ, ◌+◌, ◌-◌, ◌*◌, ◌^◌, ◌==◌, nat_lt, min, if◌then◌else◌, Bool, false, not, List, [], ◌∷◌, ◌++◌, length, map, drop, replicate, slice_set, Option, Some, None, is_some}
+use Rattle.std.specs.Prelude.{ℕ, ◌+◌, ◌-◌, ◌*◌, ◌^◌, ◌==◌, nat_lt, min, if◌then◌else◌, Bool, false, not, List, [], ◌∷◌, ◌++◌, length, map, drop, replicate, slice_set, Option, Some, None, is_some, fold, ◌&&◌}
 use Rattle.std.specs.List.{filter, sum, list_any, list_all}
 use Rattle.curp_base.specs.Cases.{first_case, only_if}
 use Rattle.curp_base.specs.Words.{all_of, numbered, numbers_from}
@@ -40,6 +40,8 @@ use Rattle.curp_model.specs.Master.{MasterState, Captured, beginning}
 use Rattle.curp_model.specs.Ranges.{opening_range}
 use Rattle.curp_model.specs.Recovery.{MasterStage, Fresh, Recovering, Serving, RecoveryPhase, Asking, Storing, Waiting, Replayed, master_input}
 use Rattle.curp_model.specs.Witness.{WitnessState, fresh_witness, started_witness, witness_input}
+use Rattle.curp_msg.specs.declared.body.Body.{Body}
+use Rattle.curp_msg.specs.declared.body.Body.TheVariants as body
 
 -- ---- the state
 
@@ -141,6 +143,22 @@ abbrev pub master_marks : NodeId → MasterStage → MasterStage → List Mark
 master_marks node (Serving before) (Serving after) = pushed_marks node before after
 master_marks node _ _ = []
 
+-- the request that a message has glanced at, where it was captured and no round began
+abbrev pub glance_in : Body → MasterState → MasterState → List Request
+glance_in (body.Glance ask) before after =
+    if nat_lt before.captured after.captured && (after.round == before.round) then ask.request ∷ [] else []
+glance_in _ before after = []
+
+-- the mark of a read that was answered at once
+abbrev pub quick_mark : NodeId → MasterState → Request → Mark
+quick_mark node after r = mark.quick node after.part after.epoch after.captured r.id r.command
+
+-- a read that a serving master has answered at once is marked
+abbrev pub with_glance : NodeId → Input → MasterStage → MasterStage → List Mark → List Mark
+with_glance node (input.Message m) (Serving before) (Serving after) marks =
+    fold (λ ms r. mark.with_quick (quick_mark node after r) ms) marks (glance_in m.body before after)
+with_glance node _ _ _ marks = marks
+
 -- it stands in its partition's adopted entry
 abbrev pub is_adopted : ManagerState → NodeId → Bool
 is_adopted g master = list_any (λ c. same_node c.master master) g.config.parts
@@ -191,11 +209,12 @@ with_backup w n b = record w { backups = slice_set w.backups (n - 1) b }
 abbrev pub with_witness : World → ℕ → WitnessState → World
 with_witness w n x = record w { witnesses = slice_set w.witnesses (n - 1) x }
 
--- master n has moved. What an adopted master pushed and captured is marked
-abbrev pub with_master : World → ℕ → MasterStage → MasterStage → World
-with_master w n before after = record w {
+-- Master n has moved by an input. What an adopted master pushed and captured is marked, and what any master has answered at once
+abbrev pub with_master : World → ℕ → Input → MasterStage → MasterStage → World
+with_master w n given before after = record w {
   masters = slice_set w.masters (n - 1) after;
-  marks = if is_adopted w.manager (master_node n) then w.marks ++ master_marks (master_node n) before after else w.marks;
+  marks = with_glance (master_node n) given before after
+      (if is_adopted w.manager (master_node n) then w.marks ++ master_marks (master_node n) before after else w.marks);
 }
 
 -- fresh nodes up to a number that was given
@@ -223,7 +242,7 @@ moves_one w move (Some s) = move s
 abbrev pub moves_kind : World → NodeKind → ℕ → Input → Moved World
 moves_kind w kind.Manager n given = within (with_manager w (adoption w.manager given)) (manager_input w.manager given)
 moves_kind w kind.Client n given = moves_one w (λ c. within (with_client w n) (client_input n c given)) (numbered w.clients n)
-moves_kind w kind.Master n given = moves_one w (λ m. within (with_master w n m) (master_input n m given)) (numbered w.masters n)
+moves_kind w kind.Master n given = moves_one w (λ m. within (with_master w n given m) (master_input n m given)) (numbered w.masters n)
 moves_kind w kind.Backup n given = moves_one w (λ b. within (with_backup w n) (backup_input n b given)) (numbered w.backups n)
 moves_kind w kind.Witness n given = moves_one w (λ x. within (with_witness w n) (witness_input n x given)) (numbered w.witnesses n)
 
