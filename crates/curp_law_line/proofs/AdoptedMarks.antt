@@ -1,5 +1,5 @@
 -- The marks that an adoption leaves.
-use Rattle.std.proofs.Common.{◌≡◌, ℕ, zero, suc, ◌<◌, ◌+◌, ◌||◌, ◌&&◌, ◌==◌, Bool, true, false, not, cond, if◌then◌else◌, List, [], ◌∷◌, ◌++◌, map, refl, ap, sym, ◌∙◌, arith, append-nil, append_assoc}
+use Rattle.std.proofs.Common.{◌≡◌, ◌⊎◌, inl, inr, ℕ, zero, suc, ◌<◌, ◌+◌, ◌||◌, ◌&&◌, ◌==◌, Bool, true, false, not, cond, if◌then◌else◌, List, [], ◌∷◌, ◌++◌, map, refl, ap, sym, ◌∙◌, arith, append-nil, append_assoc}
 use Rattle.std.specs.List.{filter, list_any}
 use Rattle.std.proofs.lemmas.Bool.{and_parts}
 use Rattle.std.proofs.lemmas.List.Folds.{list_any-append}
@@ -8,7 +8,7 @@ use Rattle.curp_cmd.specs.RequestId.{same_id}
 use Rattle.curp_cmd.specs.declared.command.Request.{Request}
 use Rattle.curp_cmd.specs.declared.command.RequestId.{RequestId}
 use Rattle.curp_cmd.specs.declared.node.NodeId.{NodeId}
-use Rattle.curp_model.specs.Marks.{Mark, adopted, executed, has_completed, is_dropped, is_past, is_update_mark, replayed_marks}
+use Rattle.curp_model.specs.Marks.{Mark, adopted, adoptions, cut_mark, executed, has_completed, is_dropped, is_past, is_update_mark, replayed_marks, Cut, Executed, Looked, Quick}
 use Rattle.curp_law_logs.specs.Hashes.{Asked, In, asked, updates}
 use Rattle.curp_law_line.proofs.Lists.{in_head, in_tail, or_none}
 
@@ -71,12 +71,28 @@ pub completed_stay : (part cut : ℕ) (marks : List Mark) (id : RequestId) → h
 completed_stay part cut marks id =
     any_filter (λ (m : Mark). m.completed && same_id m.id id) (stays part cut) marks (λ m y. flagged_stays part cut m (and_parts m.completed (same_id m.id id) y).0)
 
--- the marks after an adoption: those that stay, and behind them those of what is replayed
+-- the mark of the adoption
+abbrev pub the_cut : NodeId → ℕ → ℕ → ℕ → List Mark → Mark
+the_cut master part epoch cut marks = cut_mark master part epoch (adoptions part marks + 1) cut
+
+-- the marks that come with it: its own, and those of what is replayed
+abbrev pub fresh_of : NodeId → ℕ → ℕ → ℕ → List Request → List Mark → List Mark
+fresh_of master part epoch cut rs marks = the_cut master part epoch cut marks ∷ new_marks (has_completed marks) master part epoch cut rs
+
+cut_completes : (marks : List Mark) (c : Mark) → c.completed ≡ false → (id : RequestId) → has_completed (marks ++ c ∷ []) id ≡ has_completed marks id
+cut_completes marks c f id =
+    list_any-append (λ (m : Mark). m.completed && same_id m.id id) marks (c ∷ []) ∙ ap (λ (b : Bool). has_completed marks id || ((b && same_id c.id id) || false)) f ∙ or_none (has_completed marks id)
+
+-- the marks after an adoption: those that stay, and behind them its own and those of what is replayed
 pub adopted_is : (master : NodeId) (part epoch cut : ℕ) (rs : List Request) (marks : List Mark)
-    → adopted master part epoch cut rs marks ≡ filter (stays part cut) marks ++ new_marks (has_completed marks) master part epoch cut rs
+    → adopted master part epoch cut rs marks ≡ filter (stays part cut) marks ++ fresh_of master part epoch cut rs marks
 adopted_is master part epoch cut rs marks =
-    let same : has_completed (filter (stays part cut) marks) ≡ has_completed marks = λ i id. completed_stay part cut marks id i in
-    replayed_is master part epoch cut rs (filter (stays part cut) marks) ∙ ap (λ (done : RequestId → Bool). filter (stays part cut) marks ++ new_marks done master part epoch cut rs) same
+    let kept : List Mark = filter (stays part cut) marks in
+    let c : Mark = the_cut master part epoch cut marks in
+    let same : has_completed (kept ++ c ∷ []) ≡ has_completed marks = λ i id. (cut_completes kept c refl id ∙ completed_stay part cut marks id) i in
+    replayed_is master part epoch cut rs (kept ++ c ∷ [])
+    ∙ append_assoc kept (c ∷ []) (new_marks (has_completed (kept ++ c ∷ [])) master part epoch cut rs)
+    ∙ ap (λ (done : RequestId → Bool). kept ++ c ∷ new_marks done master part epoch cut rs) same
 
 -- what the new marks stand for
 pub new_updates : (done : RequestId → Bool) (master : NodeId) (part epoch index : ℕ) (rs : List Request) → updates (new_marks done master part epoch index rs) ≡ filter (λ (x : Asked). not (done x.0)) (asked_all rs)
@@ -110,6 +126,33 @@ new_mark_at done master part epoch index (r ∷ rs) k m h = go (done r.id) refl 
         let same : index ≡ index + 0 = omega arith in
         (0, r, refl, sym is ∙ ap (λ (n : ℕ). executed master part epoch n r.id r.command) same, e)
     go false e (suc k) h ih = later (ih k h)
+
+-- each fresh mark is the adoption's, or that of a replayed request
+pub fresh_mark_at : (master : NodeId) (part epoch cut : ℕ) (rs : List Request) (marks : List Mark) (k : ℕ) (m : Mark) → At (fresh_of master part epoch cut rs marks) k m
+    → ((k ≡ 0) × (the_cut master part epoch cut marks ≡ m)) ⊎ ((j : ℕ) × (r : Request) × At rs j r × (m ≡ executed master part epoch (cut + j) r.id r.command) × (has_completed marks r.id ≡ false))
+fresh_mark_at master part epoch cut rs marks zero m h = inl (refl, cc)
+fresh_mark_at master part epoch cut rs marks (suc k) m h = inr (new_mark_at (has_completed marks) master part epoch cut rs k m h)
+
+-- none is a look
+pub fresh_no_look : (master : NodeId) (part epoch cut : ℕ) (rs : List Request) (marks : List Mark) (k : ℕ) (m : Mark) → At (fresh_of master part epoch cut rs marks) k m → (number long : ℕ) → m.place ≡ Looked number long → ⊥
+fresh_no_look master part epoch cut rs marks k m h number long look = elim (fresh_mark_at master part epoch cut rs marks k m h) [
+  | inl c ↦ let e : Cut (adoptions part marks + 1) cut ≡ Looked number long = ap (λ (y : Mark). y.place) c.1 ∙ look in cc
+  | inr n ↦ let e : Executed (cut + n.0) ≡ Looked number long = sym (ap (λ (y : Mark). y.place) n.3) ∙ look in cc
+]
+
+-- nor flagged
+pub fresh_no_flag : (master : NodeId) (part epoch cut : ℕ) (rs : List Request) (marks : List Mark) (k : ℕ) (m : Mark) → At (fresh_of master part epoch cut rs marks) k m → m.completed ≡ false
+fresh_no_flag master part epoch cut rs marks k m h = elim (fresh_mark_at master part epoch cut rs marks k m h) [
+  | inl c ↦ ap (λ (y : Mark). y.completed) (sym c.1)
+  | inr n ↦ ap (λ (y : Mark). y.completed) n.3
+]
+
+-- nor a quick mark
+pub fresh_no_quick : (master : NodeId) (part epoch cut : ℕ) (rs : List Request) (marks : List Mark) (k : ℕ) (m : Mark) → At (fresh_of master part epoch cut rs marks) k m → (number : ℕ) → m.place ≡ Quick number → ⊥
+fresh_no_quick master part epoch cut rs marks k m h number look = elim (fresh_mark_at master part epoch cut rs marks k m h) [
+  | inl c ↦ let e : Cut (adoptions part marks + 1) cut ≡ Quick number = ap (λ (y : Mark). y.place) c.1 ∙ look in cc
+  | inr n ↦ let e : Executed (cut + n.0) ≡ Quick number = sym (ap (λ (y : Mark). y.place) n.3) ∙ look in cc
+]
 
 -- a filter of marks, as one of the order
 pub filter_updates : (q : Mark → Bool) (keep : Asked → Bool) (marks : List Mark) → ((m : Mark) → In m marks → is_update_mark m.place ≡ true → q m ≡ keep (asked m)) → updates (filter q marks) ≡ filter keep (updates marks)

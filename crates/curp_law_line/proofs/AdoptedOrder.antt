@@ -30,7 +30,7 @@ use Rattle.curp_law_line.specs.Moves.{ops}
 use Rattle.curp_law_line.proofs.AdoptedMarks.{stays}
 use Rattle.curp_law_line.proofs.Adopting.{Adopting, Fronts, again, cut_part, done, gone, is_done, is_gone, keeps_on, new_part, not_done, order_now, order_was, parts_now, replayed}
 use Rattle.curp_law_line.proofs.Entries.{take_ungiven}
-use Rattle.curp_law_line.proofs.Hashes.{behind_append, behind_in, no_onward, on_append, update_mark, update_place}
+use Rattle.curp_law_line.proofs.Hashes.{behind_append, behind_in, no_onward, on_append, update_mark, update_place, update_no_cut}
 use Rattle.curp_law_line.proofs.Lines.{has_moving}
 use Rattle.curp_law_line.proofs.Lists.{Distinct, distinct_filter, distinct_from, filter_alike, filter_full, filter_swap, from_filter, in_any, in_cases, in_filter, in_left, in_none, or_false, same_id-alike, some_or_none}
 use Rattle.curp_base.proofs.Numbered.{any_at, filter_at, numbered_set_same}
@@ -215,7 +215,7 @@ module _ (it : Adopting) where
       let none = no_give h own in
       let u = update_mark it.line.marks m.0 x m.1 in
       let its_id : u.0.id ≡ q.id = ap (λ (z : Asked). z.0) u.4 ∙ same in
-      let command : x.1 ≡ q.command = ap (λ (z : Asked). z.1) (sym u.4) ∙ one_command it.line.history it.facts.history u.0.id q.id u.0.command q.command its_id (it.facts.invoked u.1 u.0 u.2) a.was_invoked in
+      let command : x.1 ≡ q.command = ap (λ (z : Asked). z.1) (sym u.4) ∙ one_command it.line.history it.facts.history u.0.id q.id u.0.command q.command its_id (it.facts.invoked u.1 u.0 u.2 (update_no_cut u.0.place (not u.0.completed) u.3)) a.was_invoked in
       let here = at_hash h (it.ground.held_before h own none) in
       let tx : touches x.1 h ≡ true = ap (λ (c : Command). touches c h) command ∙ t in
       let is_new : check (meaning it.move.p.lo it.move.p.hi it.move.stays).table x.0 ≡ New = ap (check (meaning it.move.p.lo it.move.p.hi it.move.stays).table) same ∙ replayed_new j q hq in

@@ -15,7 +15,7 @@ use Rattle.curp_model.specs.Marks.{Executed, Mark, is_past, is_update_mark}
 use Rattle.curp_law_logs.specs.Hashes.{Asked, In, asked, updates}
 use Rattle.curp_law_line.specs.Hashes.{Part}
 use Rattle.curp_law_line.specs.Line.{OpAt}
-use Rattle.curp_law_line.proofs.AdoptedMarks.{filter_updates, flagged_stays, new_marks, new_updates, stays}
+use Rattle.curp_law_line.proofs.AdoptedMarks.{filter_updates, flagged_stays, fresh_of, new_updates, stays}
 use Rattle.curp_law_line.proofs.AdoptedOrder.{at_goes, done_completed, gone_by_test}
 use Rattle.curp_law_line.proofs.Adopting.{Adopting, done, gone, is_gone, keeps_on, order_now, replayed}
 use Rattle.curp_law_line.proofs.Completions.{in_updates}
@@ -31,9 +31,9 @@ module _ (it : Adopting) where
   abbrev pub kept_marks : List Mark
   kept_marks = filter (stays it.move.part (length it.move.stays)) it.line.marks
 
-  -- those of what is replayed
+  -- the adoption's, and those of what is replayed
   abbrev pub fresh_marks : List Mark
-  fresh_marks = new_marks (done it) it.move.node it.move.part it.move.epoch (length it.move.stays) (replayed it)
+  fresh_marks = fresh_of it.move.node it.move.part it.move.epoch (length it.move.stays) (replayed it) it.line.marks
 
   -- the marks afterwards
   abbrev pub marks_now : List Mark

@@ -8,14 +8,14 @@ use Rattle.curp_cmd.specs.declared.command.Command.{Command}
 use Rattle.curp_cmd.specs.declared.command.Request.{Request}
 use Rattle.curp_cmd.specs.declared.command.RequestId.{RequestId}
 use Rattle.curp_cmd.specs.declared.entry.Entry.TheVariants.{Op}
-use Rattle.curp_model.specs.Marks.{Executed, Mark, executed, is_update_mark}
+use Rattle.curp_model.specs.Marks.{Executed, Mark, executed, is_update_mark, is_open_cut}
 use Rattle.curp_law_logs.specs.Hashes.{Asked, asked}
 use Rattle.curp_law_line.specs.Hashes.{HashesOk}
 use Rattle.curp_law_line.specs.Line.{AnswersOk, DistinctOk, FlagsOk, InTimeOk, InvokedOk, IsCompleted, KindsOk, MarkedOk, OneFlagOk, OpAt, OrderOk, ReadsOk, StandingOk, UnflaggedOk, WaitingOk, WasInvoked}
-use Rattle.curp_law_line.specs.Moves.{adopting, ops}
+use Rattle.curp_law_line.specs.Moves.{adopting, left_after, ops}
 use Rattle.curp_law_line.proofs.AdoptedAnswers.{adopt_answers, adopt_distinct, adopt_marked, adopt_once}
 use Rattle.curp_law_line.proofs.AdoptedHashes.{adopt_hashes}
-use Rattle.curp_law_line.proofs.AdoptedMarks.{adopted_is, filter_order, flagged_stays, new_mark_at, stays}
+use Rattle.curp_law_line.proofs.AdoptedMarks.{adopted_is, filter_order, flagged_stays, fresh_mark_at, stays, the_cut}
 use Rattle.curp_law_line.proofs.AdoptedOrder.{completed_done, own_after, replayed_held}
 use Rattle.curp_law_line.proofs.AdoptedPlaces.{agree, at_log, done_false, fresh_marks, here_is, kept_marks, marks_now, op_is_gone, order_is}
 use Rattle.curp_law_line.proofs.Adopting.{Adopting, done, is_gone, keeps_on, new_part, parts_now, replayed}
@@ -26,14 +26,25 @@ use Rattle.curp_base.proofs.Numbered.{filter_at, numbered_set_other}
 module _ (it : Adopting) where
   -- ---- the marks
 
-  -- each mark afterwards was kept, or is that of a replayed request
+  -- the adoption's mark
+  abbrev pub own_cut : Mark
+  own_cut = the_cut it.move.node it.move.part it.move.epoch (length it.move.stays) it.line.marks
+
+  -- each mark afterwards was kept, or is the adoption's, or that of a replayed request
   pub mark_cases : (k : ℕ) (m : Mark) → At (marks_now it) k m
       → ((j : ℕ) × At it.line.marks j m × (stays it.move.part (length it.move.stays) m ≡ true) × At (kept_marks it) k m)
-      ⊎ ((j : ℕ) × (r : Request) × At (replayed it) j r × (m ≡ executed it.move.node it.move.part it.move.epoch (length it.move.stays + j) r.id r.command) × (done it r.id ≡ false))
+      ⊎ ((own_cut ≡ m) ⊎ ((j : ℕ) × (r : Request) × At (replayed it) j r × (m ≡ executed it.move.node it.move.part it.move.epoch (length it.move.stays + j) r.id r.command) × (done it r.id ≡ false)))
   mark_cases k m h = elim (at_append_cases (kept_marks it) (fresh_marks it) k m h) [
     | inl old ↦ let f = filter_at (stays it.move.part (length it.move.stays)) it.line.marks k m old in inl (f.0, f.1, f.2, old)
-    | inr g ↦ inr (new_mark_at (done it) it.move.node it.move.part it.move.epoch (length it.move.stays) (replayed it) g.0 m g.2)
+    | inr g ↦ elim (fresh_mark_at it.move.node it.move.part it.move.epoch (length it.move.stays) (replayed it) it.line.marks g.0 m g.2) [
+      | inl cut ↦ inr (inl cut.1)
+      | inr new ↦ inr (inr new)
+    ]
   ]
+
+  -- the adoption's mark is no update's
+  cut_no_update : (i : ℕ) (m : Mark) → own_cut ≡ m → m.place ≡ Executed i → ⊥
+  cut_no_update i m is at_i = let bad : false ≡ true = ap (λ (y : Mark). is_update_mark y.place) is ∙ ap is_update_mark at_i in cc
 
   -- an op elsewhere stands still
   op_still : (n i : ℕ) (id : RequestId) (c : Command) → (w : OpAt it.line.parts n i id c) → (n ≢ it.move.part) ⊎ (i < length it.move.stays) → OpAt (parts_now it) n i id c
@@ -75,7 +86,8 @@ module _ (it : Adopting) where
             | inr g ↦ absurd (dropped_not old.0 i m old.1 at_i f old.2 (op_is_gone it m g.0 w.request w.acknowledged g.2 w.its_id))
           ]
         ])
-    | inr fresh ↦
+    | inr (inl cut) ↦ absurd (cut_no_update i m cut at_i)
+    | inr (inr fresh) ↦
         let m_is = fresh.3 in
         let place : length it.move.stays + fresh.0 ≡ i = place_of (sym (ap (λ (y : Mark). y.place) m_is) ∙ at_i) in
         subst (λ (n : ℕ). OpAt (parts_now it) m.part n m.id m.command) place
@@ -96,7 +108,8 @@ module _ (it : Adopting) where
   adopt_standing k i m h at_i = elim (cases_Bool m.completed) [
     | inr f ↦ (i, adopt_waiting k i m h at_i f)
     | inl y ↦ elim (mark_cases k m h) [
-      | inr fresh ↦ absurd (let bad : true ≡ false = sym y ∙ ap (λ (z : Mark). z.completed) fresh.3 in cc)
+      | inr (inl cut) ↦ absurd (cut_no_update i m cut at_i)
+      | inr (inr fresh) ↦ absurd (let bad : true ≡ false = sym y ∙ ap (λ (z : Mark). z.completed) fresh.3 in cc)
       | inl old ↦
           let w = it.facts.standing old.0 i m old.1 at_i in
           elim (cases_eq m.part it.move.part) [
@@ -116,7 +129,8 @@ module _ (it : Adopting) where
   flagged_was : (k : ℕ) (m : Mark) → At (marks_now it) k m → m.completed ≡ true → (j : ℕ) × At it.line.marks j m × At (kept_marks it) k m
   flagged_was k m h f = elim (mark_cases k m h) [
     | inl old ↦ (old.0, old.1, old.3)
-    | inr fresh ↦ absurd (let bad : true ≡ false = sym f ∙ ap (λ (z : Mark). z.completed) fresh.3 in cc)
+    | inr (inl cut) ↦ absurd (let bad : true ≡ false = sym f ∙ ap (λ (z : Mark). z.completed) (sym cut) in cc)
+    | inr (inr fresh) ↦ absurd (let bad : true ≡ false = sym f ∙ ap (λ (z : Mark). z.completed) fresh.3 in cc)
   ]
 
   adopt_flags : FlagsOk (marks_now it) it.line.history
@@ -129,7 +143,8 @@ module _ (it : Adopting) where
   adopt_unflagged : UnflaggedOk (marks_now it) it.line.history
   adopt_unflagged k i m h at_i f c = elim (mark_cases k m h) [
     | inl old ↦ it.facts.unflagged old.0 i m old.1 at_i f c
-    | inr fresh ↦
+    | inr (inl cut) ↦ absurd (cut_no_update i m cut at_i)
+    | inr (inr fresh) ↦
         let r = fresh.1 in
         let b = asked_before fresh.0 r fresh.2 in
         let cr : IsCompleted it.line.history r.id = subst (IsCompleted it.line.history) (ap (λ (z : Mark). z.id) fresh.3) c in
@@ -139,15 +154,17 @@ module _ (it : Adopting) where
   ]
 
   adopt_invoked : InvokedOk (marks_now it) it.line.history
-  adopt_invoked k m h = elim (mark_cases k m h) [
-    | inl old ↦ it.facts.invoked old.0 m old.1
-    | inr fresh ↦ subst (λ (z : Mark). WasInvoked it.line.history z.id z.command) (sym fresh.3) (asked_before fresh.0 fresh.1 fresh.2).0
+  adopt_invoked k m h uncut = elim (mark_cases k m h) [
+    | inl old ↦ it.facts.invoked old.0 m old.1 uncut
+    | inr (inl cut) ↦ absurd (let bad : true ≡ false = ap is_open_cut cut ∙ uncut in cc)
+    | inr (inr fresh) ↦ subst (λ (z : Mark). WasInvoked it.line.history z.id z.command) (sym fresh.3) (asked_before fresh.0 fresh.1 fresh.2).0
   ]
 
   adopt_kinds : KindsOk (marks_now it)
   adopt_kinds k m h = elim (mark_cases k m h) [
     | inl old ↦ it.facts.kinds old.0 m old.1
-    | inr fresh ↦ subst (λ (z : Mark). is_update z.command ≡ is_update_mark z.place) (sym fresh.3) (asked_before fresh.0 fresh.1 fresh.2).1
+    | inr (inl cut) ↦ subst (λ (z : Mark). is_update z.command ≡ is_update_mark z.place) cut refl
+    | inr (inr fresh) ↦ subst (λ (z : Mark). is_update z.command ≡ is_update_mark z.place) (sym fresh.3) (asked_before fresh.0 fresh.1 fresh.2).1
   ]
 
   adopt_reads : ReadsOk (marks_now it) it.line.history
@@ -174,16 +191,16 @@ module _ (it : Adopting) where
   ]
 
   adopt_in_time : InTimeOk (marks_now it) it.line.history
-  adopt_in_time j k e m y a hj f hc lt hk =
+  adopt_in_time k y hk t j e m a lt hj f hc =
       let w = (flagged_was j m hj f).2 in
       let b : At (kept_marks it) k y = elim (at_append_cases (kept_marks it) (fresh_marks it) k y hk) [ inl old ↦ old | inr g ↦ absurd (omega (arith, g.1, at_within (kept_marks it) j m w)) ] in
       let u = filter_order (stays it.move.part (length it.move.stays)) it.line.marks k j y m b w lt in
-      it.facts.in_time u.1 u.0 e m y a u.3 f hc u.4 u.2
+      it.facts.in_time u.0 y u.2 t u.1 e m a u.4 u.3 f hc
 
   -- an adoption keeps the facts
   pub adopt_keeps : OrderOk (adopting it.line it.move)
   adopt_keeps =
-      subst (λ (marks : List Mark). OrderOk (record it.line { parts = parts_now it; marks = marks })) (sym (adopted_is it.move.node it.move.part it.move.epoch (length it.move.stays) (replayed it) it.line.marks)) (record {
+      subst (λ (marks : List Mark). OrderOk (record it.line { parts = parts_now it; marks = marks; left = left_after it.line it.move })) (sym (adopted_is it.move.node it.move.part it.move.epoch (length it.move.stays) (replayed it) it.line.marks)) (record {
         history = it.facts.history;
         hashes = subst (HashesOk it.line.moving (parts_now it)) (sym (order_is it)) (adopt_hashes it);
         waiting = adopt_waiting;

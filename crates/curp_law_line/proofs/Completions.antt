@@ -1,9 +1,9 @@
 -- A completion, of an update or of a read.
-use Rattle.std.proofs.Common.{◌≡◌, ℕ, zero, suc, inl, inr, ◌⊎◌, Bool, true, false, cond, List, [], ◌∷◌, ◌++◌, map, length, Some, None, refl, ap, sym, ◌∙◌, subst, arith}
+use Rattle.std.proofs.Common.{◌≡◌, ℕ, zero, suc, inl, inr, ◌⊎◌, Bool, true, false, cond, List, [], ◌∷◌, ◌++◌, map, length, Some, None, refl, ap, sym, ◌∙◌, subst, arith, ◌||◌, ◌&&◌, not, Option}
 use Rattle.std.specs.List.{filter}
-use Rattle.std.proofs.lemmas.Bool.{and_from, and_parts, cases_Bool}
+use Rattle.std.proofs.lemmas.Bool.{and_from, and_parts, cases_Bool, or_right}
 use Rattle.curp_base.specs.Words.{At, Each, numbered}
-use Rattle.curp_base.proofs.Lists.{Each-at, at_append, at_map, at_push, at_push_cases, at_within}
+use Rattle.curp_base.proofs.Lists.{Each-at, at_append, at_map, at_push, at_push_cases, at_same, at_within}
 use Rattle.curp_cmd.specs.RequestId.{same_id}
 use Rattle.curp_cmd.specs.Store.{is_update}
 use Rattle.curp_cmd.specs.declared.command.Answer.{Answer}
@@ -15,15 +15,49 @@ use Rattle.curp_order.specs.declared.Event.{Event}
 use Rattle.curp_order.specs.declared.Event.TheVariants.{Complete, Invoke}
 use Rattle.curp_msg.specs.declared.machine.Capture.{Capture}
 use Rattle.curp_msg.specs.declared.machine.Completed.{Completed}
-use Rattle.curp_model.specs.Marks.{Executed, Mark, flagged, is_flagged, is_update_mark}
+use Rattle.curp_model.specs.Marks.{Executed, Mark, flagged, is_flagged, is_update_mark, Cut, Looked, Place, Quick, in_turn, is_capture, is_cut, is_open_cut, is_quick}
 use Rattle.curp_law_logs.specs.Hashes.{Asked, In, asked, updates}
 use Rattle.curp_law_line.specs.Hashes.{HashesOk, Part}
-use Rattle.curp_law_line.specs.Line.{Answered, AnswersOk, DistinctOk, FlagOf, FlagsOk, InTimeOk, InvokedOk, IsCompleted, KindsOk, Line, MarkedOk, OneFlagOk, OpAt, OrderOk, ReadsOk, StandingOk, UnflaggedOk, WaitingOk, WasInvoked}
+use Rattle.curp_law_line.specs.Line.{Answered, AnswersOk, DistinctOk, EarlyAt, FlagOf, FlagsOk, InTimeOk, InvokedOk, IsCompleted, KindsOk, Line, MarkedOk, OneFlagOk, OpAt, OrderOk, ReadsOk, StandingOk, UnflaggedOk, WaitingOk, WasInvoked}
 use Rattle.curp_law_line.specs.Moves.{CompleteFits, FlagFits, completing, flagging}
-use Rattle.curp_law_line.proofs.Hashes.{update_mark}
+use Rattle.curp_law_line.proofs.Hashes.{update_mark, timed_no_cut, update_no_cut, update_timed}
 use Rattle.curp_law_line.proofs.Invocations.{completed_grows, invoked_grows}
 use Rattle.curp_law_line.proofs.Lists.{Distinct, distinct_from, in_filter, in_map, same_id-alike}
 use Rattle.curp_law_line.proofs.Ops.{one_command}
+
+-- what a completion flags is no adoption's mark
+pub hits_no_cut : (c : Completed) (by : Option Capture) (m : Mark) → is_cut m.place ≡ true → is_flagged c by m ≡ true → ⊥
+hits_no_cut c None m is y = go m.place is (and_parts (same_id m.id c.id) (is_update_mark m.place) y).1
+  where
+    go : (p : Place) → is_cut p ≡ true → is_update_mark p ≡ true → ⊥
+    go (Executed i) e f = absurd cc
+    go (Looked n l) e f = absurd cc
+    go (Quick n) e f = absurd cc
+    go (Cut n l) e f = absurd cc
+hits_no_cut c (Some by) m is y = go m.place is (and_parts _ (is_capture by.number m.place) y).1
+  where
+    go : (p : Place) → is_cut p ≡ true → is_capture by.number p ≡ true → ⊥
+    go (Executed i) e f = absurd cc
+    go (Looked n l) e f = absurd cc
+    go (Quick n) e f = absurd cc
+    go (Cut n l) e f = absurd cc
+
+-- so it isn't open
+hits_not_open : (c : Completed) (by : Option Capture) (m : Mark) → is_flagged c by m ≡ true → is_open_cut m ≡ false
+hits_not_open c by m y = elim (cases_Bool (is_cut m.place)) [
+  | inl cut ↦ absurd (hits_no_cut c by m cut y)
+  | inr n ↦ ap (λ (b : Bool). b && not m.completed) n
+]
+
+-- and where it is no quick mark, it came to the end
+hits_in_turn : (c : Completed) (by : Option Capture) (m : Mark) → is_flagged c by m ≡ true → is_quick m.place ≡ false → in_turn m.place ≡ true
+hits_in_turn c by m y n = go m.place (λ cut. hits_no_cut c by m cut y) n
+  where
+    go : (p : Place) → (is_cut p ≡ true → ⊥) → is_quick p ≡ false → in_turn p ≡ true
+    go (Executed i) f e = refl
+    go (Looked a b) f e = refl
+    go (Quick a) f e = absurd cc
+    go (Cut a b) f e = absurd (f refl)
 
 -- a flag changes neither what a mark stands for nor its place
 pub flagged_order : (c : Completed) (marks : List Mark) → updates (flagged c marks) ≡ updates marks
@@ -113,6 +147,7 @@ module _ (s : Line) (ok : OrderOk s) (c : Completed) (own : (m : Mark) → is_fl
     (one : (j k : ℕ) (m o : Mark) → At s.marks j m → At s.marks k o → is_flagged c c.by m ≡ true → is_flagged c c.by o ≡ true → j ≡ k)
     (has : (d : Command) → WasInvoked s.history c.id d → is_update d ≡ true → Answered (updates s.marks) (c.id, d) c.answer)
     (reads : (d : Command) → WasInvoked s.history c.id d → is_update d ≡ false → (k : ℕ) × (m : Mark) × At s.marks k m × (is_flagged c c.by m ≡ true))
+    (early : (k : ℕ) (m : Mark) → At s.marks k m → is_flagged c c.by m ≡ true → EarlyAt s.marks s.history k m.id m.command)
     (was_invoked : (i : ℕ) × (d : Command) × At s.history i (Invoke c.id d)) (waits : IsCompleted s.history c.id → ⊥) where
   abbrev answers : Event
   answers = Complete c.id c.answer
@@ -199,10 +234,17 @@ module _ (s : Line) (ok : OrderOk s) (c : Completed) (own : (m : Mark) → is_fl
         ]
       ]
 
+  was_no_cut : (was m : Mark) → m.place ≡ was.place → ((is_flagged c c.by was ≡ true) × (m.completed ≡ true)) ⊎ ((is_flagged c c.by was ≡ false) × (m.completed ≡ was.completed)) → is_open_cut m ≡ false
+      → is_open_cut was ≡ false
+  was_no_cut was m place flag uncut = elim flag [
+    | inl y ↦ hits_not_open c c.by was y.0
+    | inr n ↦ (λ i. is_cut (sym place i) && not (sym n.1 i)) ∙ uncut
+  ]
+
   new_invoked : InvokedOk marks history
-  new_invoked k m h =
+  new_invoked k m h uncut =
       let w = flagging_at c s.marks k m h in
-      let v = ok.invoked k w.was w.stood in
+      let v = ok.invoked k w.was w.stood (was_no_cut w.was m w.place w.flag uncut) in
       subst (λ (d : Command). WasInvoked history m.id d) (sym w.command) (subst (λ (x : RequestId). WasInvoked history x w.was.command) (sym w.id) (invoked_grows s.history (answers ∷ []) w.was.id w.was.command v))
 
   new_marked : MarkedOk (updates s.marks) history
@@ -265,19 +307,28 @@ module _ (s : Line) (ok : OrderOk s) (c : Completed) (own : (m : Mark) → is_fl
       ]
 
   new_in_time : InTimeOk marks history
-  new_in_time j k e m o a hj f hc lt hk =
+  new_in_time k o hk t j e m a lt hj f hc =
       let w = flagging_at c s.marks j m hj in
       let v = flagging_at c s.marks k o hk in
       elim (at_push_cases s.history answers e _ hc) [
         | inl old ↦ elim (flag_cases j m hj f) [
           | inl y ↦ absurd (not_yet e m.id a old (sym (w.id ∙ own w.was y)))
           | inr n ↦
-              let i = ok.in_time j k e w.was v.was a w.stood n (subst (λ (x : RequestId). At s.history e (Complete x a)) w.id old) lt v.stood in
+              let i = was_early v.stood v.place v.flag j e w.was a lt w.stood n (subst (λ (x : RequestId). At s.history e (Complete x a)) w.id old) in
               (i.0, i.1, as_now i.0 v.was o v.id v.command i.2)
         ]
-        | inr last ↦ let i = ok.invoked k v.was v.stood in (i.event, omega (arith, last.0, at_within s.history i.event _ i.stands), as_now i.event v.was o v.id v.command i.stands)
+        | inr last ↦
+            let i = ok.invoked k v.was v.stood (was_no_cut v.was o v.place v.flag (timed_no_cut o.place o.completed t)) in
+            (i.event, omega (arith, last.0, at_within s.history i.event _ i.stands), as_now i.event v.was o v.id v.command i.stands)
       ]
     where
+      was_early : {was : Mark} → At s.marks k was → o.place ≡ was.place → ((is_flagged c c.by was ≡ true) × (o.completed ≡ true)) ⊎ ((is_flagged c c.by was ≡ false) × (o.completed ≡ was.completed))
+          → EarlyAt s.marks s.history k was.id was.command
+      was_early {was} at place flag = elim flag [
+        | inl y ↦ early k was at y.0
+        | inr n ↦ ok.in_time k was at ((λ i. sym n.1 i || in_turn (sym place i)) ∙ t)
+      ]
+
       as_now : (i : ℕ) (was now : Mark) → now.id ≡ was.id → now.command ≡ was.command → At s.history i (Invoke was.id was.command) → At history i (Invoke now.id now.command)
       as_now i was now same command h =
           subst (λ (d : Command). At history i (Invoke now.id d)) (sym command) (subst (λ (x : RequestId). At history i (Invoke x was.command)) (sym same) (at_append s.history (answers ∷ []) i _ h))
@@ -330,7 +381,7 @@ module _ (s : Line) (ok : OrderOk s) (id : RequestId) (a : Answer) (fits : Compl
       let h = update_has in
       let u = update_mark s.marks h.place asks h.stands in
       let its_id : u.0.id ≡ id = ap (λ (x : Asked). x.0) u.4 ∙ fits.done.its_id in
-      let same : u.0.command ≡ d = one_command s.history ok.history u.0.id id u.0.command d its_id (ok.invoked u.1 u.0 u.2) inv in
+      let same : u.0.command ≡ d = one_command s.history ok.history u.0.id id u.0.command d its_id (ok.invoked u.1 u.0 u.2 (update_no_cut u.0.place (not u.0.completed) u.3)) inv in
       sym u.4 ∙ (λ i. (its_id i, same i))
 
   update_has_it : (d : Command) → WasInvoked s.history id d → is_update d ≡ true → Answered (updates s.marks) (id, d) a
@@ -349,7 +400,7 @@ module _ (s : Line) (ok : OrderOk s) (id : RequestId) (a : Answer) (fits : Compl
   complete_keeps =
       completion_keeps s ok by_update update_own (λ k i m h place same. and_from _ _ (same_id-alike m.id id same) (ap is_update_mark place))
       (λ j k m o hj hk y z. marks_once s.marks (distinct_from (updates s.marks) ok.distinct) j k m o hj hk (update_kind m y) (update_kind o z) (update_own m y ∙ sym (update_own o z)))
-      update_has_it (λ d inv read. absurd (no_read d inv read)) fits.was_invoked fits.waits
+      update_has_it (λ d inv read. absurd (no_read d inv read)) (λ k m h y. ok.in_time k m h (update_timed m.place m.completed (update_kind m y))) fits.was_invoked fits.waits
 
 -- ---- a read
 
@@ -364,12 +415,15 @@ module _ (s : Line) (ok : OrderOk s) (by : Capture) (id : RequestId) (a : Answer
   reads_it : is_update fits.m.command ≡ false
   reads_it = ok.kinds fits.place fits.m fits.stands ∙ fits.looks
 
+  its_invocation : WasInvoked s.history fits.m.id fits.m.command
+  its_invocation = ok.invoked fits.place fits.m fits.stands (hits_not_open by_read (Some by) fits.m fits.hits)
+
   one_of_it : (other : RequestId) (d : Command) → id ≡ other → WasInvoked s.history other d → fits.m.command ≡ d
-  one_of_it other d same inv = one_command s.history ok.history fits.m.id other fits.m.command d (read_own fits.m fits.hits ∙ same) (ok.invoked fits.place fits.m fits.stands) inv
+  one_of_it other d same inv = one_command s.history ok.history fits.m.id other fits.m.command d (read_own fits.m fits.hits ∙ same) its_invocation inv
 
   read_hits : (k i : ℕ) (m : Mark) → At s.marks k m → m.place ≡ Executed i → m.id ≡ id → is_flagged by_read (Some by) m ≡ true
   read_hits k i m h place same =
-      let e : false ≡ true = sym reads_it ∙ ap is_update (one_of_it m.id m.command (sym same) (ok.invoked k m h)) ∙ ok.kinds k m h ∙ ap is_update_mark place in
+      let e : false ≡ true = sym reads_it ∙ ap is_update (one_of_it m.id m.command (sym same) (ok.invoked k m h (update_no_cut m.place (not m.completed) (ap is_update_mark place)))) ∙ ok.kinds k m h ∙ ap is_update_mark place in
       absurd cc
 
   -- the completion of a read keeps the facts
@@ -377,9 +431,19 @@ module _ (s : Line) (ok : OrderOk s) (by : Capture) (id : RequestId) (a : Answer
   flag_keeps =
       completion_keeps s ok by_read read_own read_hits (λ j k m o hj hk y z. fits.only j m hj y ∙ sym (fits.only k o hk z))
       (λ d inv up. absurd (let e : false ≡ true = sym reads_it ∙ ap is_update (one_of_it id d refl inv) ∙ up in cc))
-      (λ d inv read. (fits.place, fits.m, fits.stands, fits.hits)) it_was fits.waits
+      (λ d inv read. (fits.place, fits.m, fits.stands, fits.hits)) early it_was fits.waits
     where
+      at_place : (b : Bool) → is_quick fits.m.place ≡ b → EarlyAt s.marks s.history fits.place fits.m.id fits.m.command
+      at_place true y = fits.early y
+      at_place false n = ok.in_time fits.place fits.m fits.stands (or_right fits.m.completed (in_turn fits.m.place) (hits_in_turn by_read (Some by) fits.m fits.hits n))
+
+      early : (k : ℕ) (m : Mark) → At s.marks k m → is_flagged by_read (Some by) m ≡ true → EarlyAt s.marks s.history k m.id m.command
+      early k m h y =
+          let here : At s.marks fits.place m = subst (λ (i : ℕ). At s.marks i m) (fits.only k m h y) h in
+          let same : fits.m ≡ m = at_same s.marks fits.place fits.m m fits.stands here in
+          subst (λ (i : ℕ). EarlyAt s.marks s.history i m.id m.command) (sym (fits.only k m h y)) (subst (λ (x : Mark). EarlyAt s.marks s.history fits.place x.id x.command) same (at_place (is_quick fits.m.place) refl))
+
       it_was : (i : ℕ) × (d : Command) × At s.history i (Invoke id d)
       it_was =
-          let v = ok.invoked fits.place fits.m fits.stands in
+          let v = its_invocation in
           (v.event, fits.m.command, subst (λ (x : RequestId). At s.history v.event (Invoke x fits.m.command)) (read_own fits.m fits.hits) v.stands)

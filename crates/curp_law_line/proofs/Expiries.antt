@@ -1,5 +1,5 @@
 -- An expiry, and a look.
-use Rattle.std.proofs.Common.{◌≡◌, ℕ, ◌||◌, inl, inr, true, false, List, [], ◌∷◌, ◌++◌, length, None, refl, ap, sym, ◌∙◌, subst, arith, append-nil}
+use Rattle.std.proofs.Common.{◌≡◌, ℕ, ◌||◌, inl, inr, true, false, List, [], ◌∷◌, ◌++◌, length, None, refl, ap, sym, ◌∙◌, subst, arith, append-nil, Bool, cond, map}
 use Rattle.curp_base.specs.Words.{At}
 use Rattle.curp_base.proofs.Lists.{at_append, at_push_cases, at_within}
 use Rattle.curp_range.specs.Spans.{Span, is_owned}
@@ -7,11 +7,11 @@ use Rattle.curp_cmd.specs.Store.{is_update}
 use Rattle.curp_cmd.specs.declared.command.Request.{Request}
 use Rattle.curp_cmd.specs.declared.entry.Entry.{Entry}
 use Rattle.curp_cmd.specs.declared.entry.Entry.TheVariants.{Expire, Op}
-use Rattle.curp_model.specs.Marks.{Executed, Looked, Mark, is_update_mark, looked}
-use Rattle.curp_law_logs.specs.Hashes.{Asked, behind, updates}
+use Rattle.curp_model.specs.Marks.{Executed, Mark, is_update_mark, looked, quick}
+use Rattle.curp_law_logs.specs.Hashes.{Asked, behind, updates, asked}
 use Rattle.curp_law_line.specs.Hashes.{HashOk, HashesOk, Part, holds, is_give, is_take, onward}
 use Rattle.curp_law_line.specs.Line.{AnswersOk, DistinctOk, InTimeOk, InvokedOk, KindsOk, Line, MarkedOk, OrderOk, ReadsOk, WasInvoked}
-use Rattle.curp_law_line.specs.Moves.{Look, LookFits, PushExpire, PushExpireFits, expire_pushed, looking, pushed}
+use Rattle.curp_law_line.specs.Moves.{Look, LookFits, PushExpire, PushExpireFits, expire_pushed, looking, pushed, quickly}
 use Rattle.curp_law_line.proofs.Hashes.{any_push, behind_append, came_append, has_take_push, owned_expire, updates_append}
 use Rattle.curp_law_line.proofs.Lines.{known_push, onward_log, onward_same}
 use Rattle.curp_law_line.proofs.Pushes as pushes
@@ -81,54 +81,55 @@ module _ (s : Line) (ok : OrderOk s) (o : PushExpire) (fits : PushExpireFits s o
     in_time = ok.in_time;
   }
 
--- ---- a look
+-- ---- a look, or another mark of a read at the end
 
-module _ (s : Line) (ok : OrderOk s) (o : Look) (fits : LookFits s o) where
-  abbrev mark : Mark
-  mark = looked o.node o.part o.epoch o.capture (length o.p.log) o.id o.command
-
+module _ (s : Line) (ok : OrderOk s) (mark : Mark) (no_update : is_update_mark mark.place ≡ false) (no_flag : mark.completed ≡ false) (reads : is_update mark.command ≡ false)
+    (was_invoked : WasInvoked s.history mark.id mark.command) where
   abbrev marks : List Mark
-  marks = s.marks ++ looked o.node o.part o.epoch o.capture (length o.p.log) o.id o.command ∷ []
+  marks = s.marks ++ mark ∷ []
 
   same_order : updates s.marks ≡ updates marks
-  same_order = sym (updates_append s.marks (mark ∷ []) ∙ append-nil (updates s.marks))
+  same_order = sym (updates_append s.marks (mark ∷ []) ∙ ap (λ (l : List Asked). updates s.marks ++ l) none ∙ append-nil (updates s.marks))
+    where
+      none : updates (mark ∷ []) ≡ []
+      none = ap (λ (b : Bool). map asked (cond b (mark ∷ []) [])) no_update
 
   old_update : (k i : ℕ) (m : Mark) → At marks k m → m.place ≡ Executed i → At s.marks k m
   old_update k i m h is = elim (at_push_cases s.marks mark k m h) [
     | inl old ↦ old
-    | inr last ↦ absurd (let e : Looked o.capture (length o.p.log) ≡ Executed i = ap (λ (y : Mark). y.place) last.1 ∙ is in cc)
+    | inr last ↦ absurd (let e : false ≡ true = sym no_update ∙ ap (λ (y : Mark). is_update_mark y.place) last.1 ∙ ap is_update_mark is in cc)
   ]
 
   old_flagged : (k : ℕ) (m : Mark) → At marks k m → m.completed ≡ true → At s.marks k m
   old_flagged k m hk f = elim (at_push_cases s.marks mark k m hk) [
     | inl old ↦ old
-    | inr last ↦ absurd (let is : false ≡ true = ap (λ (y : Mark). y.completed) last.1 ∙ f in cc)
+    | inr last ↦ absurd (let is : false ≡ true = sym no_flag ∙ ap (λ (y : Mark). y.completed) last.1 ∙ f in cc)
   ]
 
   look_invoked : InvokedOk marks s.history
-  look_invoked k m hk = elim (at_push_cases s.marks mark k m hk) [
-    | inl old ↦ ok.invoked k m old
-    | inr last ↦ subst (λ (y : Mark). WasInvoked s.history y.id y.command) last.1 fits.was_invoked
+  look_invoked k m hk uncut = elim (at_push_cases s.marks mark k m hk) [
+    | inl old ↦ ok.invoked k m old uncut
+    | inr last ↦ subst (λ (y : Mark). WasInvoked s.history y.id y.command) last.1 was_invoked
   ]
 
   look_kinds : KindsOk marks
   look_kinds k m hk = elim (at_push_cases s.marks mark k m hk) [
     | inl old ↦ ok.kinds k m old
-    | inr last ↦ subst (λ (y : Mark). is_update y.command ≡ is_update_mark y.place) last.1 fits.reads
+    | inr last ↦ subst (λ (y : Mark). is_update y.command ≡ is_update_mark y.place) last.1 (reads ∙ sym no_update)
   ]
 
   look_reads : ReadsOk marks s.history
   look_reads id c done inv read = let f = ok.reads id c done inv read in record { place = f.place; m = f.m; stands = at_append s.marks _ f.place f.m f.stands; its_id = f.its_id; is_flagged = f.is_flagged }
 
   look_in_time : InTimeOk marks s.history
-  look_in_time j k ev m other a hj f hc lt hk = elim (at_push_cases s.marks mark k other hk) [
-    | inl older ↦ ok.in_time j k ev m other a (old_flagged j m hj f) f hc lt older
+  look_in_time k other hk t j ev m a lt hj f hc = elim (at_push_cases s.marks mark k other hk) [
+    | inl older ↦ ok.in_time k other older t j ev m a lt (old_flagged j m hj f) f hc
     | inr last ↦ absurd (omega (arith, last.0, at_within s.marks j m (old_flagged j m hj f)))
   ]
 
-  -- a look keeps the facts
-  pub look_keeps : OrderOk (looking s o)
-  look_keeps = record {
+  -- it keeps the facts
+  pub read_keeps : OrderOk (record s { marks = s.marks ++ mark ∷ [] })
+  read_keeps = record {
     history = ok.history;
     hashes = subst (HashesOk s.moving s.parts) same_order ok.hashes;
     waiting = λ k i m hk is f. ok.waiting k i m (old_update k i m hk is) is f;
@@ -145,3 +146,11 @@ module _ (s : Line) (ok : OrderOk s) (o : Look) (fits : LookFits s o) where
     once = ok.once;
     in_time = look_in_time;
   }
+
+-- a look keeps the facts
+pub look_keeps : (s : Line) → OrderOk s → (o : Look) → LookFits s o → OrderOk (looking s o)
+look_keeps s ok o fits = read_keeps s ok (looked o.node o.part o.epoch o.capture (length o.p.log) o.id o.command) refl refl fits.reads fits.was_invoked
+
+-- and so does a quick mark at the end
+pub quick_keeps : (s : Line) → OrderOk s → (o : Look) → LookFits s o → OrderOk (quickly s o)
+quick_keeps s ok o fits = read_keeps s ok (quick o.node o.part o.epoch o.capture o.id o.command) refl refl fits.reads fits.was_invoked

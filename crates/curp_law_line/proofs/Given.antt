@@ -1,18 +1,19 @@
 -- What is taken as given: lemmas on values and packages, and what the adopted logs are by themselves.
 use Rattle.std.specs.FinMap as store
-use Rattle.std.specs.Prelude.{◌≡◌, ℕ, true, false, List, [], ◌∷◌, ◌++◌, Some}
-use Rattle.curp_base.specs.Words.{At, numbered}
+use Rattle.std.specs.Prelude.{◌≡◌, ℕ, false, List, [], ◌∷◌, ◌++◌, Some}
+use Rattle.curp_base.specs.Words.{numbered}
 use Rattle.curp_cmd.specs.Hash.{conflicts, hash_of}
 use Rattle.curp_cmd.specs.Store.{Contents, applied, keys_of}
 use Rattle.curp_cmd.specs.declared.command.Command.{Command}
 use Rattle.curp_cmd.specs.declared.command.RequestId.{RequestId}
 use Rattle.curp_cmd.specs.declared.entry.Entry.{Entry}
-use Rattle.curp_cmd.specs.declared.entry.Entry.TheVariants.{Give, Take}
+use Rattle.curp_cmd.specs.declared.entry.Entry.TheVariants.{Give}
 use Rattle.curp_cmd.specs.declared.migration.Package.{Package}
-use Rattle.curp_model.specs.Log.{IsLog, meaning}
+use Rattle.curp_model.specs.Log.{meaning}
 use Rattle.curp_model.specs.Table.{packed}
-use Rattle.curp_law_logs.specs.Hashes.{Asked, In, NotNew, behind, came, on, value}
-use Rattle.curp_law_line.specs.Hashes.{Part, owns, state_of}
+use Rattle.curp_law_logs.specs.Hashes.{Asked, In, NotNew, on, value}
+use Rattle.curp_law_line.specs.Hashes.{Part}
+pub use Rattle.curp_law_line.specs.Given.{GivesOnce, LogValue, LogsOk, TakesOnce}
 
 -- lemmas on values, answers and packages
 pub record Pure : Type 0 where
@@ -24,11 +25,6 @@ pub record Pure : Type 0 where
   pub packed_known : (lo hi : ℕ) (before : List Entry) (id : RequestId) → NotNew lo hi before id → (l h : ℕ) (log : List Entry) (number : ℕ) (k : Package) → k.table ≡ packed (meaning lo hi before).table
       → NotNew l h (log ++ Give number k ∷ []) id
 
--- what a log has of the keys of a hash that it owns: what came with the last give, and the ops behind it
-abbrev pub LogValue : Part → Type 0
-LogValue p = (h : ℕ) → owns p h ≡ true → (key : List ℕ) → hash_of key ≡ h → (past : List Asked)
-    → ((other : List ℕ) → hash_of other ≡ h → value other past ≡ came h other p.log) → store.get (state_of p).store key ≡ value key (past ++ behind h p.log)
-
 -- the same of each adopted log
 abbrev pub LogsValue : List Part → Type 0
 LogsValue parts = (n : ℕ) (p : Part) → numbered parts n ≡ Some p → LogValue p
@@ -36,19 +32,3 @@ LogsValue parts = (n : ℕ) (p : Part) → numbered parts n ≡ Some p → LogVa
 -- commands that have no hash in common answer each as it would alone
 abbrev pub Second : Type 0
 Second = (s : Contents) (a b : Command) → conflicts a b ≡ false → (applied (applied s a).after b).answer ≡ (applied s b).answer
-
--- the take of a migration stands once in a log
-abbrev pub TakesOnce : List Entry → Type 0
-TakesOnce log = (i j number : ℕ) (k l : Package) → At log i (Take number k) → At log j (Take number l) → i ≡ j
-
--- the give of a migration stands once in a log
-abbrev pub GivesOnce : List Entry → Type 0
-GivesOnce log = (i j number : ℕ) (k l : Package) → At log i (Give number k) → At log j (Give number l) → i ≡ j
-
--- what lower layers say of each adopted log by itself
-pub record LogsOk (parts : List Part) : Type 0 where
-  pub is_log : (n : ℕ) (p : Part) → numbered parts n ≡ Some p → IsLog p.lo p.hi p.log
-  pub gives_once : (n : ℕ) (p : Part) → numbered parts n ≡ Some p → GivesOnce p.log
-  pub takes_once : (n : ℕ) (p : Part) → numbered parts n ≡ Some p → TakesOnce p.log
-  -- at each cut
-  pub values : (n : ℕ) (p : Part) → numbered parts n ≡ Some p → (front back : List Entry) → front ++ back ≡ p.log → LogValue (record p { log = front })

@@ -11,16 +11,17 @@ use Rattle.curp_order.specs.declared.Event.{Event}
 use Rattle.curp_order.specs.declared.Event.TheVariants.{Complete, Invoke}
 use Rattle.curp_msg.specs.declared.machine.Completed.{Completed}
 use Rattle.curp_facts.specs.Marked.{completes, is_completed}
-use Rattle.curp_model.specs.Marks.{Mark, flagged, has_completed, is_flagged, is_shown, is_update_mark, shown}
+use Rattle.curp_model.specs.Marks.{Mark, flagged, is_flagged, is_shown, is_update_mark, shown, quick}
 use Rattle.curp_law_logs.specs.Hashes.{Asked, In, asked}
 use Rattle.curp_law_line.specs.Line.{IsCompleted, Line, LineOk, StandsIn, completed_order}
-use Rattle.curp_law_line.specs.Moves.{Adopt, Adopts, AllFit, Completes, ExpirePush, Fits, Flags, GivePush, GivenDone, Invokes, Looks, Migrates, Move, OpPush, TakePush, Told, after, all_after, replayed_of}
-use Rattle.curp_law_line.proofs.AdoptedMarks.{adopted_is, flagged_stays, new_marks, stays}
+use Rattle.curp_law_line.specs.Moves.{Adopt, Adopts, AllFit, Completes, ExpirePush, Fits, Flags, GivePush, GivenDone, Invokes, Looks, Migrates, Move, OpPush, TakePush, Told, Quicks, Lates, Strays, after, all_after, replayed_of}
+use Rattle.curp_law_line.proofs.AdoptedMarks.{adopted_is, flagged_stays, fresh_of, stays}
 use Rattle.curp_law_line.proofs.Given.{LogsOk, Pure, Second}
 use Rattle.curp_law_line.proofs.Hashes.{update_place}
 use Rattle.curp_law_line.proofs.Keeps.{keeps}
-use Rattle.curp_law_line.proofs.Lists.{in_any, in_head, in_tail}
+use Rattle.curp_law_line.proofs.Lists.{in_any, in_head, in_tail, filter_within}
 use Rattle.curp_base.proofs.Numbered.{any_at}
+use Rattle.curp_law_line.proofs.Puts.{put_filter}
 
 -- ---- lists that stand in others
 
@@ -70,23 +71,12 @@ flags_flagged c (m ∷ marks) = go (is_flagged c c.by m) m.completed refl (flags
     go false false e ih =
         subst (λ (b : Bool). StandsIn (flags marks) (map asked (cond b (m ∷ filter (λ (o : Mark). o.completed) (flagged c marks)) (filter (λ (o : Mark). o.completed) (flagged c marks))))) (sym e) ih
 
--- a filter that keeps what passes another
-filter_within : {A : Type 0} (p q : A → Bool) (xs : List A) → ((x : A) → p x ≡ true → q x ≡ true) → filter p (filter q xs) ≡ filter p xs
-filter_within p q [] f = refl
-filter_within {A} p q (x ∷ xs) f = go (q x) (p x) refl refl (filter_within p q xs f)
-  where
-    go : (b c : Bool) → q x ≡ b → p x ≡ c → filter p (filter q xs) ≡ filter p xs → filter p (cond b (x ∷ filter q xs) (filter q xs)) ≡ cond c (x ∷ filter p xs) (filter p xs)
-    go true true e g ih = ap (λ (d : Bool). cond d (x ∷ filter p (filter q xs)) (filter p (filter q xs))) g ∙ ap (λ (l : List A). x ∷ l) ih
-    go true false e g ih = ap (λ (d : Bool). cond d (x ∷ filter p (filter q xs)) (filter p (filter q xs))) g ∙ ih
-    go false true e g ih = absurd (let bad : false ≡ true = sym e ∙ f x g in cc)
-    go false false e g ih = ih
-
 flags_adopted : (s : Line) (o : Adopt) → StandsIn (flags s.marks) (flags (after s (Adopts o)).marks)
 flags_adopted s o =
     let kept : List Mark = filter (stays o.part (length o.stays)) s.marks in
     let same : flags kept ≡ flags s.marks = ap (map asked) (filter_within (λ (m : Mark). m.completed) (stays o.part (length o.stays)) s.marks (λ m y. flagged_stays o.part (length o.stays) m y)) in
     subst (λ (l : List Mark). StandsIn (flags s.marks) (flags l)) (sym (adopted_is o.node o.part o.epoch (length o.stays) (replayed_of o) s.marks))
-    (subst (λ (l : List Asked). StandsIn l (flags (kept ++ new_marks (has_completed s.marks) o.node o.part o.epoch (length o.stays) (replayed_of o)))) same (flags_more kept _))
+    (subst (λ (l : List Asked). StandsIn l (flags (kept ++ fresh_of o.node o.part o.epoch (length o.stays) (replayed_of o) s.marks))) same (flags_more kept _))
 
 -- each move keeps the flagged marks in their order
 pub flags_grow : (s : Line) (m : Move) → StandsIn (flags s.marks) (flags (after s m).marks)
@@ -102,6 +92,10 @@ flags_grow s (Completes id a) = flags_flagged (record { id = id; answer = a; by 
 flags_grow s (Looks o) = flags_more s.marks _
 flags_grow s (Flags by id a) = flags_flagged (record { id = id; answer = a; by = Some by }) s.marks
 flags_grow s (Adopts o) = flags_adopted s o
+flags_grow s (Quicks o) = flags_more s.marks _
+flags_grow s (Lates o) =
+    subst (StandsIn (flags s.marks)) (sym (ap (map asked) (put_filter (quick o.node o.part o.epoch o.capture o.id o.command) (λ (m : Mark). m.completed) refl o.place s.marks))) (stands_self (flags s.marks))
+flags_grow s (Strays part number more) = stands_self (flags s.marks)
 
 -- ---- they are the completed requests of the order
 

@@ -1,5 +1,5 @@
 -- The order and the logs at one hash, as they grow at their ends.
-use Rattle.std.proofs.Common.{◌≡◌, ℕ, suc, ◌==◌, ◌||◌, ◌&&◌, inl, inr, ◌⊎◌, Bool, true, false, cond, if◌then◌else◌, List, [], ◌∷◌, ◌++◌, map, Option, Some, None, refl, ap, sym, ◌∙◌, append-nil}
+use Rattle.std.proofs.Common.{◌≡◌, ℕ, suc, ◌==◌, ◌||◌, ◌&&◌, inl, inr, ◌⊎◌, Bool, true, false, not, cond, if◌then◌else◌, List, [], ◌∷◌, ◌++◌, map, Option, Some, None, refl, ap, sym, ◌∙◌, append-nil}
 use Rattle.std.specs.Cmp.Lexicographic.{slice_cmp}
 use Rattle.std.specs.FinMap.Entries.{find}
 use Rattle.std.specs.List.{filter, list_any}
@@ -18,9 +18,9 @@ use Rattle.curp_cmd.specs.declared.entry.Entry.{Entry}
 use Rattle.curp_cmd.specs.declared.entry.Entry.TheVariants.{Expire, Give, Op, Take}
 use Rattle.curp_model.specs.Log.{LogState, after_entry, meaning}
 use Rattle.curp_model.specs.Manager.{Migration}
-use Rattle.curp_model.specs.Marks.{Executed, Looked, Mark, Place, is_update_mark}
+use Rattle.curp_model.specs.Marks.{Cut, Executed, Looked, Mark, Place, Quick, in_turn, is_cut, is_update_mark}
 use Rattle.curp_model.proofs.Logs.{meaning_append}
-use Rattle.curp_law_logs.specs.Hashes.{Asked, In, NoGive, asked, behind, behind_from, came, came_from, gives, on, updates}
+use Rattle.curp_law_logs.specs.Hashes.{Asked, In, NoGive, behind, behind_from, came, came_from, gives, on, asked, updates}
 use Rattle.curp_law_line.specs.Hashes.{Part, given_on, has_take, is_take, onward}
 use Rattle.curp_law_line.proofs.Lists.{in_cases, in_cons, in_map, in_none, or_none}
 use Rattle.curp_base.proofs.Numbered.{filter_at}
@@ -46,6 +46,37 @@ update_mark marks k x h =
 pub update_place : (p : Place) → is_update_mark p ≡ true → (i : ℕ) × (p ≡ Executed i)
 update_place (Executed i) e = (i, refl)
 update_place (Looked c l) e = absurd cc
+update_place (Quick c) e = absurd cc
+update_place (Cut n l) e = absurd cc
+
+-- and is no adoption's
+pub update_no_cut : (p : Place) (b : Bool) → is_update_mark p ≡ true → (is_cut p && b) ≡ false
+update_no_cut (Executed i) b e = refl
+update_no_cut (Looked c l) b e = absurd cc
+update_no_cut (Quick c) b e = absurd cc
+update_no_cut (Cut n l) b e = absurd cc
+
+-- nor is a flagged one open
+pub flagged_no_cut : (a b : Bool) → b ≡ true → (a && not b) ≡ false
+flagged_no_cut true true e = refl
+flagged_no_cut false b e = refl
+flagged_no_cut true false e = absurd cc
+
+-- an update's mark came to the end
+pub update_timed : (p : Place) (b : Bool) → is_update_mark p ≡ true → (b || in_turn p) ≡ true
+update_timed p true e = refl
+update_timed (Executed i) false e = refl
+update_timed (Looked c l) false e = absurd cc
+update_timed (Quick c) false e = absurd cc
+update_timed (Cut n l) false e = absurd cc
+
+-- what isn't open is a request's, where it came to the end or is flagged
+pub timed_no_cut : (p : Place) (b : Bool) → (b || in_turn p) ≡ true → (is_cut p && not b) ≡ false
+timed_no_cut (Executed i) b e = refl
+timed_no_cut (Looked c l) b e = refl
+timed_no_cut (Quick c) b e = refl
+timed_no_cut (Cut n l) true e = refl
+timed_no_cut (Cut n l) false e = absurd cc
 
 -- what stands behind the last give of a longer log
 pub behind_append : (h : ℕ) (kept : List Asked) (xs ys : List Entry) → behind_from h kept (xs ++ ys) ≡ behind_from h (behind_from h kept xs) ys

@@ -1,5 +1,5 @@
 -- What the order shows is an order of the history.
-use Rattle.std.proofs.Common.{◌≡◌, ◌||◌, cond, inl, inr, ℕ, suc, ◌<◌, Bool, true, false, List, ◌∷◌, ◌++◌, take, drop, map, length, Some, refl, ap, sym, ◌∙◌, subst, arith}
+use Rattle.std.proofs.Common.{◌≡◌, ◌||◌, cond, inl, inr, ℕ, suc, ◌<◌, Bool, true, false, List, ◌∷◌, ◌++◌, take, drop, map, length, Some, refl, ap, sym, ◌∙◌, subst, arith, ◌&&◌, not}
 use Rattle.std.specs.List.{filter}
 use Rattle.std.proofs.lemmas.Bool.{cases_Bool, cases_eq, cases_lt, or_left, or_right}
 use Rattle.std.proofs.lemmas.List.{map-append}
@@ -13,14 +13,13 @@ use Rattle.curp_cmd.specs.declared.command.RequestId.{RequestId}
 use Rattle.curp_order.specs.Order.{IsOrder, answers, store_after}
 use Rattle.curp_order.specs.declared.Event.TheVariants.{Complete, Invoke}
 use Rattle.curp_model.specs.Log.{IsDone}
-use Rattle.curp_model.specs.Marks.{Mark, is_shown, is_update_mark, shown}
+use Rattle.curp_model.specs.Marks.{Mark, is_shown, is_update_mark, shown, Place, in_turn, is_cut}
 use Rattle.curp_law_logs.specs.Hashes.{Asked, asked, updates}
 use Rattle.curp_law_line.specs.Hashes.{Part}
-use Rattle.curp_facts.specs.Kept.{ShowsAnswer}
-use Rattle.curp_law_line.specs.Line.{Answered, Line, LineOk, answer_at}
+use Rattle.curp_law_line.specs.Line.{Answered, Line, LineOk, WasInvoked, answer_at}
 use Rattle.curp_law_line.proofs.AdoptedMarks.{filter_order}
 use Rattle.curp_law_line.proofs.Completions.{marks_once}
-use Rattle.curp_law_line.proofs.Hashes.{update_mark, update_place, updates_append}
+use Rattle.curp_law_line.proofs.Hashes.{update_mark, update_place, updates_append, flagged_no_cut, update_no_cut, update_timed}
 use Rattle.curp_law_line.proofs.Lists.{distinct_from, in_map, take_split}
 use Rattle.curp_base.proofs.Numbered.{filter_at}
 use Rattle.curp_law_line.proofs.Ops.{one_command}
@@ -56,6 +55,24 @@ update_answer marks j m h t =
       subst (λ (l : List Asked). At l (length f) (asked m)) (sym whole) (at_append_right f (asked m ∷ b) 0 (length f) (asked m) (omega arith) refl),
       subst (λ (l : List Asked). At (answers l) (length f) (applied (store_after nothing (updates (take j marks))) m.command).answer) (sym whole) (answer_there f b (asked m)),
     )
+
+-- what is shown is no open mark of an adoption
+shown_no_cut : (p : Place) (b : Bool) → (b || is_update_mark p) ≡ true → (is_cut p && not b) ≡ false
+shown_no_cut p true t = flagged_no_cut (is_cut p) true refl
+shown_no_cut p false t = update_no_cut p true t
+
+-- and is flagged, or came to the end
+shown_timed : (p : Place) (b : Bool) → (b || is_update_mark p) ≡ true → (b || in_turn p) ≡ true
+shown_timed p true t = refl
+shown_timed p false t = update_timed p false t
+
+-- the order shows the request, and one thread gives it that answer there
+pub record ShowsAnswer (marks : List Mark) (id : RequestId) (a : Answer) : Type 0 where
+  pub place : ℕ
+  pub x : Asked
+  pub stands : At (shown marks) place x
+  pub its_id : x.0 ≡ id
+  pub answer : At (answers (shown marks)) place a
 
 -- a mark of the order
 pub record ShownMark (marks : List Mark) (id : RequestId) : Type 0 where
@@ -96,16 +113,19 @@ module _ (s : Line) (ok : LineOk s) where
       go true u e f = refl
       go false u e f = absurd (let bad : true ≡ false = sym e ∙ f in cc)
 
-  one_kind : (j k : ℕ) (m o : Mark) → At s.marks j m → At s.marks k o → m.id ≡ o.id → is_update_mark m.place ≡ is_update_mark o.place
-  one_kind j k m o hj hk same =
-      let command : m.command ≡ o.command = one_command s.history ok.order.history m.id o.id m.command o.command same (ok.order.invoked j m hj) (ok.order.invoked k o hk) in
+  shown_invoked : (k : ℕ) (m : Mark) → At s.marks k m → is_shown m ≡ true → WasInvoked s.history m.id m.command
+  shown_invoked k m h t = ok.order.invoked k m h (shown_no_cut m.place m.completed t)
+
+  one_kind : (j k : ℕ) (m o : Mark) → At s.marks j m → At s.marks k o → is_shown m ≡ true → is_shown o ≡ true → m.id ≡ o.id → is_update_mark m.place ≡ is_update_mark o.place
+  one_kind j k m o hj hk tm to same =
+      let command : m.command ≡ o.command = one_command s.history ok.order.history m.id o.id m.command o.command same (shown_invoked j m hj tm) (shown_invoked k o hk to) in
       sym (ok.order.kinds j m hj) ∙ ap is_update command ∙ ok.order.kinds k o hk
 
   -- a request has one mark that is shown
   one_shown : (id : RequestId) (w v : ShownMark s.marks id) → w.place ≡ v.place
   one_shown id w v =
       let same : w.m.id ≡ v.m.id = w.its_id ∙ sym v.its_id in
-      let kind = one_kind w.place v.place w.m v.m w.stands v.stands same in
+      let kind = one_kind w.place v.place w.m v.m w.stands v.stands w.shows v.shows same in
       elim (cases_Bool (is_update_mark w.m.place)) [
         | inl y ↦ marks_once s.marks (distinct_from (updates s.marks) ok.order.distinct) w.place v.place w.m v.m w.stands v.stands y (sym kind ∙ y) same
         | inr n ↦ ok.order.one_flag w.place v.place w.m v.m w.stands v.stands (flagged_or_update w.m w.shows n) (flagged_or_update v.m v.shows (sym kind ∙ n)) same
@@ -145,7 +165,7 @@ module _ (s : Line) (ok : LineOk s) where
         | inl up ↦ answered_mark (id, v.1) a (ok.order.marked i id v.1 a h (record { event = v.0; stands = v.3 }) up)
         | inr read ↦
             let f = ok.order.reads id v.1 (record { event = i; answer = a; stands = h }) (record { event = v.0; stands = v.3 }) read in
-            let command : f.m.command ≡ v.1 = one_command s.history ok.order.history f.m.id id f.m.command v.1 f.its_id (ok.order.invoked f.place f.m f.stands) (record { event = v.0; stands = v.3 }) in
+            let command : f.m.command ≡ v.1 = one_command s.history ok.order.history f.m.id id f.m.command v.1 f.its_id (ok.order.invoked f.place f.m f.stands (flagged_no_cut (is_cut f.m.place) f.m.completed f.is_flagged)) (record { event = v.0; stands = v.3 }) in
             let look : is_update_mark f.m.place ≡ false = sym (ok.order.kinds f.place f.m f.stands) ∙ ap is_update command ∙ read in (
               record { place = f.place; m = f.m; stands = f.stands; shows = or_left f.m.completed _ f.is_flagged; its_id = f.its_id },
               ok.looks.values f.place i f.m a f.stands look f.is_flagged (subst (λ (x : RequestId). At s.history i (Complete x a)) (sym f.its_id) h),
@@ -204,7 +224,7 @@ module _ (s : Line) (ok : LineOk s) where
           let f = in_order l k y x hl hk below in
           let done = flag_of x.0 i a (subst (λ (z : RequestId). At s.history i (Complete z a)) (sym xe) hi) f.1 in
           let its_id : f.1.m.id ≡ earlier = f.1.its_id ∙ xe in
-          let w = ok.order.in_time f.1.place f.0.place i f.1.m f.0.m a f.1.stands done (subst (λ (z : RequestId). At s.history i (Complete z a)) (sym its_id) hi) f.2 f.0.stands in
+          let w = ok.order.in_time f.0.place f.0.m f.0.stands (shown_timed f.0.m.place f.0.m.completed f.0.shows) f.1.place i f.1.m a f.2 f.1.stands done (subst (λ (z : RequestId). At s.history i (Complete z a)) (sym its_id) hi) in
           let late_id : f.0.m.id ≡ late = f.0.its_id ∙ yl in
           let e : w.0 ≡ j = ok.order.history.invoked_once w.0 j late f.0.m.command c (subst (λ (z : RequestId). At s.history w.0 (Invoke z f.0.m.command)) late_id w.2) hj in
           omega (arith, e, w.1)
@@ -216,7 +236,7 @@ module _ (s : Line) (ok : LineOk s) where
   order_stands = record {
     invoked = λ k x h.
         let u = shown_mark k x h in
-        let v = ok.order.invoked u.0.place u.0.m u.0.stands in
+        let v = shown_invoked u.0.place u.0.m u.0.stands u.0.shows in
         (v.event, subst (λ (y : Asked). At s.history v.event (Invoke y.0 y.1)) u.1 v.stands);
     once = order_once;
     stands = λ i id a h. let w = shows_completed i id a h in (w.place, w.x, w.stands, w.its_id);

@@ -9,7 +9,8 @@ use Rattle.curp_order.specs.Order.{IsHistory}
 use Rattle.curp_order.specs.declared.Event.{Event}
 use Rattle.curp_order.specs.declared.Event.TheVariants.{Complete, Invoke}
 use Rattle.curp_law_line.specs.Line.{IsCompleted, Line, OrderOk, WasInvoked}
-use Rattle.curp_law_line.specs.Moves.{InvokeFits, invoking, take_told}
+use Rattle.curp_law_line.specs.Moves.{InvokeFits, invoking, straying, take_told}
+use Rattle.curp_cmd.specs.declared.entry.Entry.{Entry}
 
 -- what was invoked stays so
 pub invoked_grows : (h more : List Event) (id : RequestId) (c : Command) → WasInvoked h id c → WasInvoked (h ++ more) id c
@@ -64,7 +65,7 @@ module _ (s : Line) (ok : OrderOk s) (id : RequestId) (command : Command) (fits 
     standing = ok.standing;
     flags = λ k m hk f. completed_grows s.history (asks ∷ []) m.id (ok.flags k m hk f);
     unflagged = λ k i m hk is f c. ok.unflagged k i m hk is f (was_completed m.id c);
-    invoked = λ k m hk. invoked_grows s.history (asks ∷ []) m.id m.command (ok.invoked k m hk);
+    invoked = λ k m hk uncut. invoked_grows s.history (asks ∷ []) m.id m.command (ok.invoked k m hk uncut);
     marked = λ e x d a h w up. let old = old_completion e x a h in ok.marked e x d a old (was_invoked x d (record { event = e; answer = a; stands = old }) w) up;
     kinds = ok.kinds;
     reads = λ x d c w read. ok.reads x d (was_completed x c) (was_invoked x d (was_completed x c) w) read;
@@ -72,12 +73,32 @@ module _ (s : Line) (ok : OrderOk s) (id : RequestId) (command : Command) (fits 
     distinct = ok.distinct;
     answered = ok.answered;
     once = ok.once;
-    in_time = λ j k e m o a hj f hc lt hk. let v = ok.in_time j k e m o a hj f (old_completion e m.id a hc) lt hk in (v.0, v.1, at_append s.history _ v.0 _ v.2);
+    in_time = λ k o hk t j e m a lt hj f hc. let v = ok.in_time k o hk t j e m a lt hj f (old_completion e m.id a hc) in (v.0, v.1, at_append s.history _ v.0 _ v.2);
   }
 
 -- that a take was told, changes nothing here
 pub tell_keeps : (s : Line) (number : ℕ) → OrderOk s → OrderOk (take_told s number)
 tell_keeps s number ok = record {
+  history = ok.history;
+  hashes = ok.hashes;
+  waiting = ok.waiting;
+  standing = ok.standing;
+  flags = ok.flags;
+  unflagged = ok.unflagged;
+  invoked = ok.invoked;
+  marked = ok.marked;
+  kinds = ok.kinds;
+  reads = ok.reads;
+  one_flag = ok.one_flag;
+  distinct = ok.distinct;
+  answered = ok.answered;
+  once = ok.once;
+  in_time = ok.in_time;
+}
+
+-- nor does it that a superseded log grows
+pub stray_keeps : (s : Line) (part number : ℕ) (more : List Entry) → OrderOk s → OrderOk (straying s part number more)
+stray_keeps s part number more ok = record {
   history = ok.history;
   hashes = ok.hashes;
   waiting = ok.waiting;

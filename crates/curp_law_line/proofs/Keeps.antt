@@ -1,5 +1,5 @@
 -- Each move keeps the machine's facts; and so do lists of moves, from the opening on. A look that is kept keeps its value.
-use Rattle.std.proofs.Common.{◌≡◌, ◌⊎◌, inl, length, ℕ, true, List, [], ◌∷◌, Some, None, refl, sym, subst}
+use Rattle.std.proofs.Common.{◌≡◌, ◌⊎◌, inl, length, ℕ, true, List, [], ◌∷◌, Some, None, refl, sym, subst, arith}
 use Rattle.std.specs.FinMap as map
 use Rattle.curp_base.specs.Words.{At, numbered}
 use Rattle.curp_cmd.specs.declared.command.Answer.{Answer}
@@ -9,12 +9,15 @@ use Rattle.curp_cmd.specs.declared.entry.Entry.TheVariants.{Op, Take}
 use Rattle.curp_msg.specs.declared.machine.Capture.{Capture}
 use Rattle.curp_model.specs.Log.{answer_after}
 use Rattle.curp_law_line.specs.Hashes.{HashOk, Part, owns}
-use Rattle.curp_law_line.specs.Line.{Line, LineOk, LookGives}
-use Rattle.curp_law_line.specs.Moves.{Adopts, AllFit, Completes, ExpirePush, Fits, Flags, GivePush, GivenDone, Invokes, IsDropped, Look, LookFits, Looks, Migrates, Move, OpPush, TakePush, Told, after, all_after, looking}
+use Rattle.curp_law_line.specs.Line.{Left, Line, LineOk, LookGives}
+use Rattle.curp_law_line.specs.Moves.{Adopts, AllFit, Completes, ExpirePush, Fits, Flags, GivePush, GivenDone, Invokes, IsDropped, Look, LookFits, Looks, Migrates, Move, OpPush, TakePush, Told, Quicks, Lates, Strays, after, all_after, looking}
 use Rattle.curp_law_line.proofs.Given.{LogsOk, Pure, Second}
 use Rattle.curp_law_line.proofs.ReadsKept.{reads_keep}
 use Rattle.curp_law_line.proofs.UpdatesKept.{UpdatesOk, updates_keep, whole_value}
-use Rattle.curp_law_line.proofs.Values.{look_adopt, look_begins, look_flagged, look_more}
+use Rattle.curp_law_line.proofs.Values.{look_adopt, look_begins, look_flagged, look_more, look_put}
+use Rattle.curp_law_line.proofs.QuicksMoves.{quicks_keep}
+use Rattle.curp_law_line.proofs.Lates.{late_low}
+use Rattle.curp_model.specs.Marks.{quick}
 
 module _ (pure : Pure) (second : Second) where
   updates_of : (s : Line) → LineOk s → UpdatesOk s
@@ -24,7 +27,12 @@ module _ (pure : Pure) (second : Second) where
   pub keeps : (s : Line) (m : Move) → Fits s m → LogsOk s.parts → LineOk s → LineOk (after s m)
   keeps s m fits logs ok =
       let now = updates_keep pure second s m fits logs (updates_of s ok) in
-      record { order = now.order; owned = now.owned; looks = reads_keep pure s m fits logs ok.order ok.owned now.order ok.looks }
+      record {
+        order = now.order;
+        owned = now.owned;
+        looks = reads_keep pure s m fits logs ok.order ok.owned now.order ok.quick ok.looks;
+        quick = quicks_keep pure s m fits logs ok.order ok.owned ok.looks ok.quick;
+      }
 
   -- and so do all of a list
   pub all_keep : (ms : List Move) (s : Line) → AllFit LogsOk s ms → LineOk s → LineOk (all_after s ms)
@@ -47,7 +55,10 @@ module _ (pure : Pure) (second : Second) where
   look_stays s (Looks o) fits logs ok by part long id a w = inl (look_more s.marks _ by part long id a w)
   look_stays s (Flags at other b) fits logs ok by part long id a w =
       inl (look_flagged (record { id = other; answer = b; by = Some at }) s.marks ok.order.kinds (keeps s (Flags at other b) fits logs ok).order.kinds by part long id a w)
-  look_stays s (Adopts o) fits logs ok by part long id a w = look_adopt pure s ok.order.kinds ok.looks.looks o fits (logs.takes_once o.part o.p fits.here) by part long id a w
+  look_stays s (Adopts o) fits logs ok by part long id a w = look_adopt pure s ok.order.kinds ok.looks.looks ok.quick.quicks o fits (logs.takes_once o.part o.p fits.here) by part long id a w
+  look_stays s (Quicks o) fits logs ok by part long id a w = inl (look_more s.marks _ by part long id a w)
+  look_stays s (Lates o) fits logs ok by part long id a w = inl (look_put (quick o.node o.part o.epoch o.capture o.id o.command) refl o.place s.marks (late_low s ok.order o fits) by part long id a w)
+  look_stays s (Strays at number more) fits logs ok by part long id a w = inl w
 
   -- a look gives at its mark what it read in the log
   pub look_reads : (s : Line) (o : Look) → LookFits s o → LogsOk s.parts → LineOk s
@@ -59,8 +70,8 @@ module _ (pure : Pure) (second : Second) where
 -- partitions with empty logs, of which no two own a hash
 pub opening_keeps : (parts : List Part) → ((n : ℕ) (p : Part) → numbered parts n ≡ Some p → p.log ≡ [])
     → ((n k : ℕ) (p q : Part) (h : ℕ) → numbered parts n ≡ Some p → numbered parts k ≡ Some q → owns p h ≡ true → owns q h ≡ true → n ≡ k)
-    → LineOk (record { parts = parts; moving = None; told = []; marks = []; history = [] })
-opening_keeps parts empty one = record {
+    → (left : ℕ → ℕ → Left) → LineOk (record { parts = parts; moving = None; told = []; marks = []; history = []; left = left })
+opening_keeps parts empty one left = record {
   order = record {
     history = record { invoked_once = λ i j id c d h g. absurd cc; completed_once = λ i j id a b h g. absurd cc; after_invoked = λ j id a h. absurd cc };
     hashes = λ n p hn h held. subst (λ (log : List Entry). HashOk None parts [] (record p { log = log }) h) (sym (empty n p hn)) (record {
@@ -73,7 +84,7 @@ opening_keeps parts empty one = record {
     standing = λ k i m h at_i. absurd cc;
     flags = λ k m h f. absurd cc;
     unflagged = λ k i m h at_i f c. absurd cc;
-    invoked = λ k m h. absurd cc;
+    invoked = λ k m h uncut. absurd cc;
     marked = λ e id c a h inv up. absurd cc;
     kinds = λ k m h. absurd cc;
     reads = λ id c done inv read. let e = done.stands in absurd cc;
@@ -81,7 +92,7 @@ opening_keeps parts empty one = record {
     distinct = λ j k x y h g same. absurd cc;
     answered = λ n p i r a hn hi. absurd (let e = none_there n p i (Op r a) hn hi in e);
     once = λ n m p q i j r s a b hn hm hi hj same. absurd (none_there n p i (Op r a) hn hi);
-    in_time = λ j k e m o a hj f hc lt hk. absurd cc;
+    in_time = λ k o hk t j e m a lt hj f hc. absurd cc;
   };
   owned = record {
     one = one;
@@ -95,6 +106,16 @@ opening_keeps parts empty one = record {
     looks = λ j k i number long h m u hm am hk lt au f tm tu. absurd cc;
     takes = λ n p i number k hn hi. absurd (none_there n p i (Take number k) hn hi);
     values = λ k e m a h look f done. absurd cc;
+  };
+  quick = record {
+    quicks = λ j number h m hm is t. absurd cc;
+    cuts = λ j number long h m hm is firm. absurd cc;
+    low = λ j k i number long m u hm is hk lt at waits same. absurd cc;
+    numbers = λ j number long m hm is. absurd cc;
+    once = λ j k number long other m o hj hk ij ik same. absurd cc;
+    there = λ part number first last. absurd (omega (arith, first, last));
+    plain = λ k m h is. absurd cc;
+    values = λ j number long m hm is key firm. absurd cc;
   };
 }
   where

@@ -11,7 +11,7 @@ use Rattle.curp_cmd.specs.declared.entry.Entry.{Entry}
 use Rattle.curp_cmd.specs.declared.entry.Entry.TheVariants.{Take}
 use Rattle.curp_order.specs.Order.{store_after}
 use Rattle.curp_model.specs.Marks.{Executed, Looked, Mark, is_past, is_update_mark}
-use Rattle.curp_law_logs.specs.Hashes.{In, asked, on, updates}
+use Rattle.curp_law_logs.specs.Hashes.{In, on, asked, updates}
 use Rattle.curp_law_line.specs.Hashes.{Part, is_take}
 use Rattle.curp_law_line.specs.Line.{Line, LooksOk, ToldTake}
 use Rattle.curp_law_line.specs.Moves.{Adopt, AdoptFits}
@@ -37,7 +37,7 @@ filter_on h q (u ∷ marks) f = go (q u) (is_update_mark u.place) (touches u.com
     go false true false ea eb ec ih = rw (eb, ec) ih
     go false false c ea eb ec ih = rw eb ih
 
-stays_low : (part cut i : ℕ) (u : Mark) → u.place ≡ Executed i → i < cut → stays part cut u ≡ true
+pub stays_low : (part cut i : ℕ) (u : Mark) → u.place ≡ Executed i → i < cut → stays part cut u ≡ true
 stays_low part cut i u at low =
     let n : nat_le cut i ≡ false = grind (arith, nat_tests) in
     (λ j. not (((u.part == part) && not u.completed) && is_past cut (at j))) ∙ (λ j. not (((u.part == part) && not u.completed) && n j)) ∙ go ((u.part == part) && not u.completed)
@@ -46,13 +46,13 @@ stays_low part cut i u at low =
     go true = refl
     go false = refl
 
-stays_away : (part cut : ℕ) (u : Mark) → u.part ≢ part → stays part cut u ≡ true
+pub stays_away : (part cut : ℕ) (u : Mark) → u.part ≢ part → stays part cut u ≡ true
 stays_away part cut u ne = elim (cases_Bool (u.part == part)) [
   | inl y ↦ absurd (ne (eqb-true u.part part y))
   | inr n ↦ λ j. not ((n j && not u.completed) && is_past cut u.place)
 ]
 
-module _ (s : Line) (looks : LooksOk s.parts s.told s.marks) (o : Adopt) (fits : AdoptFits s o) (takes_once : TakesOnce o.p.log) where
+module _ (s : Line) (o : Adopt) (fits : AdoptFits s o) (takes_once : TakesOnce o.p.log) where
   -- a told take stands below the cut
   pub told_low : (i h : ℕ) → (t : ToldTake s.told o.p.log i h) → t.place < length o.stays
   told_low i h t =
@@ -65,6 +65,7 @@ module _ (s : Line) (looks : LooksOk s.parts s.told s.marks) (o : Adopt) (fits :
       let low = at_within o.stays w.0 w.1 w.2 in
       omega (arith, same, low)
 
+module _ (s : Line) (looks : LooksOk s.parts s.told s.marks) (o : Adopt) (fits : AdoptFits s o) (takes_once : TakesOnce o.p.log) where
   -- a look that is kept is no longer than the cut
   look_low : (j number long : ℕ) (m : Mark) → At s.marks j m → m.place ≡ Looked number long → m.part ≡ o.part → stays o.part (length o.stays) m ≡ true → long ≤ length o.stays
   look_low j number long m h at part st = elim (cases_Bool m.completed) [
@@ -108,7 +109,7 @@ module _ (s : Line) (looks : LooksOk s.parts s.told s.marks) (o : Adopt) (fits :
                 | inl here ↦
                     let p_is : other.1 ≡ o.p = numbered_same s.parts o.part other.1 o.p (subst (λ (n : ℕ). numbered s.parts n ≡ Some other.1) here other.2) fits.here in
                     let tk : ToldTake s.told o.p.log i.0 h = subst (λ (y : Part). ToldTake s.told y.log i.0 h) p_is other.3 in
-                    let low = told_low i.0 h tk in
+                    let low = told_low s o fits takes_once i.0 h tk in
                     let l : i.0 < length o.stays = omega (arith, tk.behind, low) in
                     stays_low o.part (length o.stays) i.0 u i.1 l
               ]

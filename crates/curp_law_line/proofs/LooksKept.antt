@@ -10,19 +10,20 @@ use Rattle.curp_cmd.specs.declared.command.Request.{Request}
 use Rattle.curp_cmd.specs.declared.entry.Entry.{Entry}
 use Rattle.curp_cmd.specs.declared.entry.Entry.TheVariants.{Op, Take}
 use Rattle.curp_msg.specs.declared.machine.Completed.{Completed}
-use Rattle.curp_model.specs.Marks.{Executed, Looked, Mark, flagged, looked}
+use Rattle.curp_model.specs.Marks.{Executed, Looked, Mark, flagged, looked, is_quick}
 use Rattle.curp_law_line.specs.Hashes.{Part}
 use Rattle.curp_law_line.specs.Line.{Line, LooksOk, OpAt, OrderOk, ToldTake}
-use Rattle.curp_law_line.specs.Moves.{Adopt, AdoptFits, Look, LookFits, ops, pushed, relogged, replayed_of}
+use Rattle.curp_law_line.specs.Moves.{Adopt, AdoptFits, Look, LookFits, ops, pushed, relogged, replayed_of, put_before}
 use Rattle.curp_law_line.proofs.AdoptedMarks.{filter_order, stays}
 use Rattle.curp_law_line.proofs.Completions.{flagging_at}
 use Rattle.curp_law_line.proofs.Given.{TakesOnce}
 use Rattle.curp_law_line.proofs.Looks.{told_low}
 use Rattle.curp_base.proofs.Numbered.{numbered_same, numbered_set_other, numbered_set_same}
 use Rattle.curp_law_line.proofs.Pushes as pushes
+use Rattle.curp_law_line.proofs.Puts.{put_cases, was_order}
 
 -- the take stands in a log that has all of another
-take_grows : (told : List ℕ) (log more : List Entry) (i h : ℕ) → ToldTake told log i h → ToldTake told (log ++ more) i h
+pub take_grows : (told : List ℕ) (log more : List Entry) (i h : ℕ) → ToldTake told log i h → ToldTake told (log ++ more) i h
 take_grows told log more i h t = record { place = t.place; number = t.number; taken = t.taken; stands = at_append log more t.place _ t.stands; behind = t.behind; covers = t.covers; is_told = t.is_told }
 
 -- one more entry
@@ -141,9 +142,19 @@ looks_adopt s looks o fits takes_once fresh no_look j k i number long h m u hm a
 
     stands_still : ToldTake s.told o.p.log i h → ToldTake s.told (o.stays ++ ops (replayed_of o)) i h
     stands_still t =
-        let low = told_low s looks o fits takes_once i h t in
+        let low = told_low s o fits takes_once i h t in
         let at : At o.stays t.place (Take t.number t.taken) = elim (at_append_cases o.stays o.goes t.place _ (subst (λ (l : List Entry). At l t.place (Take t.number t.taken)) fits.is t.stands)) [
           | inl y ↦ y
           | inr g ↦ absurd (omega (arith, g.1, low))
         ] in
         record { place = t.place; number = t.number; taken = t.taken; stands = at_append o.stays (ops (replayed_of o)) t.place _ at; behind = t.behind; covers = t.covers; is_told = t.is_told }
+
+-- a mark that is neither a look nor an update's, between others
+pub looks_put : (parts : List Part) (told : List ℕ) (c : ℕ) (q : Mark) (marks : List Mark) → is_quick q.place ≡ true → LooksOk parts told marks → LooksOk parts told (put_before c q marks)
+looks_put parts told c q marks quick ok j k i number long h m u hm am hk lt au f tm tu = elim (put_cases q c marks j m hm) [
+  | inr new ↦ absurd (let bad : true ≡ false = sym quick ∙ ap (λ (y : Mark). is_quick y.place) new.0 ∙ ap is_quick am in cc)
+  | inl old ↦ elim (put_cases q c marks k u hk) [
+    | inr new ↦ absurd (let bad : true ≡ false = sym quick ∙ ap (λ (y : Mark). is_quick y.place) new.0 ∙ ap is_quick au in cc)
+    | inl older ↦ ok old.0 older.0 i number long h m u old.2 am older.2 (was_order c k j older.0 old.0 older.1 old.1 lt) au f tm tu
+  ]
+]

@@ -103,7 +103,7 @@ unfolding opening
 opening_line h fits = opening_keeps (line_of (opening h)).parts (λ n p at. (begins h n p at).empty) (λ n k p q hash hn hk own other.
     let a = begins h n p hn in
     let b = begins h k q hk in
-    one_range h.parts (omega (arith, a.one, a.last)) fits n k hash a.one b.one (inside n p hash a own) (inside k q hash b other))
+    one_range h.parts (omega (arith, a.one, a.last)) fits n k hash a.one b.one (inside n p hash a own) (inside k q hash b other)) (line_of (opening h)).left
   where
     inside : (n : ℕ) (p : Part) (hash : ℕ) → Begins h n p → owns p hash ≡ true → is_in (opening_range h.parts n).lo (opening_range h.parts n).hi hash ≡ true
     inside n p hash b own =

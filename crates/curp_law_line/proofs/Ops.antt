@@ -1,5 +1,5 @@
 -- The push of an op at the owner of its hashes.
-use Rattle.std.proofs.Common.{◌≡◌, ◌≢◌, ℕ, ◌||◌, inl, inr, true, false, List, [], ◌∷◌, ◌++◌, length, take, Some, refl, ap, sym, ◌∙◌, subst, arith, append-nil, append_assoc}
+use Rattle.std.proofs.Common.{◌≡◌, ◌≢◌, ℕ, ◌||◌, inl, inr, true, false, List, [], ◌∷◌, ◌++◌, length, take, Some, refl, ap, sym, ◌∙◌, subst, arith, append-nil, append_assoc, not}
 use Rattle.std.proofs.Math.Seq.{take-append_seam}
 use Rattle.std.proofs.lemmas.Bool.{cases_Bool, or_cases}
 use Rattle.curp_base.specs.Words.{At, numbered}
@@ -26,7 +26,7 @@ use Rattle.curp_law_line.specs.Hashes.{HashOk, HashesOk, Part, has_take, holds, 
 use Rattle.curp_law_line.specs.Line.{Answered, AnswersOk, DistinctOk, FlagsOk, InTimeOk, InvokedOk, IsCompleted, KindsOk, Line, MarkedOk, OnceOk, OneFlagOk, OpAt, OrderOk, Owned, ReadsOk, StandingOk, UnflaggedOk, WaitingOk, WasInvoked}
 use Rattle.curp_law_line.specs.Moves.{PushOp, PushOpFits, op_pushed, pushed}
 use Rattle.curp_law_line.proofs.Given.{LogsValue, Pure}
-use Rattle.curp_law_line.proofs.Hashes.{any_push, behind_in, behind_op, came_op, has_take_push, no_onward, on_append, on_none, owned_op, update_mark, updates_append}
+use Rattle.curp_law_line.proofs.Hashes.{any_push, behind_in, behind_op, came_op, has_take_push, no_onward, on_append, on_none, owned_op, update_mark, updates_append, update_no_cut}
 use Rattle.curp_law_line.proofs.Lines.{has_moving, known_push, onward_given, onward_log, onward_same}
 use Rattle.curp_law_line.proofs.Lists.{in_cases, in_filter, in_none}
 use Rattle.curp_law_line.proofs.OwnedValues.{at_own, no_take, owned_answer}
@@ -78,7 +78,7 @@ module _ (pure : Pure) (s : Line) (ok : OrderOk s) (below : Owned s.moving s.par
   fresh : (y : Asked) → In y os → y.0 ≡ r.id → ⊥
   fresh y m same =
       let u = update_mark s.marks m.0 y m.1 in
-      let v = ok.invoked u.1 u.0 u.2 in
+      let v = ok.invoked u.1 u.0 u.2 (update_no_cut u.0.place (not u.0.completed) u.3) in
       let its_id : u.0.id ≡ r.id = ap (λ (z : Asked). z.0) u.4 ∙ same in
       let command : y.1 ≡ r.command = sym (ap (λ (z : Asked). z.1) u.4) ∙ one_command s.history ok.history u.0.id r.id u.0.command r.command its_id v fits.was_invoked in
       let h = fits.hash in
@@ -277,8 +277,8 @@ module _ (pure : Pure) (s : Line) (ok : OrderOk s) (below : Owned s.moving s.par
   ]
 
   op_invoked : InvokedOk (s.marks ++ mark ∷ []) s.history
-  op_invoked k m hk = elim (at_push_cases s.marks mark k m hk) [
-    | inl old ↦ ok.invoked k m old
+  op_invoked k m hk uncut = elim (at_push_cases s.marks mark k m hk) [
+    | inl old ↦ ok.invoked k m old uncut
     | inr last ↦ subst (λ (y : Mark). WasInvoked s.history y.id y.command) last.1 fits.was_invoked
   ]
 
@@ -304,10 +304,10 @@ module _ (pure : Pure) (s : Line) (ok : OrderOk s) (below : Owned s.moving s.par
   op_one_flag j k m y hj hk f g same = ok.one_flag j k m y (unflagged_new j m hj f) (unflagged_new k y hk g) f g same
 
   op_in_time : InTimeOk (s.marks ++ mark ∷ []) s.history
-  op_in_time j k ev m other a hj f hc lt hk = elim (at_push_cases s.marks mark j m hj) [
+  op_in_time k other hk t j ev m a lt hj f hc = elim (at_push_cases s.marks mark j m hj) [
     | inr last ↦ absurd (let is : false ≡ true = ap (λ (y : Mark). y.completed) last.1 ∙ f in cc)
     | inl old ↦ elim (at_push_cases s.marks mark k other hk) [
-      | inl older ↦ ok.in_time j k ev m other a old f hc lt older
+      | inl older ↦ ok.in_time k other older t j ev m a lt old f hc
       | inr last ↦ absurd (omega (arith, last.0, at_within s.marks j m old))
     ]
   ]

@@ -13,7 +13,6 @@ use Rattle.curp_cmd.specs.declared.migration.Package.{Package}
 use Rattle.curp_order.specs.Order.{store_after}
 use Rattle.curp_model.specs.Manager.{Migration}
 use Rattle.curp_model.specs.Marks.{shown}
-use Rattle.curp_law_logs.specs.Hashes.{updates}
 use Rattle.curp_law_line.specs.Hashes.{Part, owns, state_of}
 use Rattle.curp_law_line.specs.Line.{Line, LineOk}
 use Rattle.curp_law_line.specs.Moves.{IsCarried}
@@ -21,6 +20,7 @@ use Rattle.curp_law_line.proofs.Carried.{carried_value}
 use Rattle.curp_law_line.proofs.Given.{LogsOk, Pure}
 use Rattle.curp_law_line.proofs.OwnedValues.{owned_value}
 use Rattle.curp_law_line.proofs.Shown.{shown_store}
+use Rattle.curp_law_logs.specs.Hashes.{updates}
 
 -- the store of one thread over all that the order shows
 abbrev pub shown_contents : Line → Contents

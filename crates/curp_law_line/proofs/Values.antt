@@ -1,5 +1,5 @@
 -- What one thread gives a look at its mark, as the moves go on.
-use Rattle.std.proofs.Common.{◌≡◌, ◌⊎◌, inl, inr, ℕ, zero, suc, ◌<◌, ◌≤◌, ◌&&◌, ◌==◌, nat_lt, not, Bool, true, false, cond, Some, List, [], ◌∷◌, ◌++◌, take, drop, map, length, refl, ap, sym, ◌∙◌, subst, arith, le_refl, take_all}
+use Rattle.std.proofs.Common.{◌≡◌, ◌⊎◌, inl, inr, ℕ, zero, suc, ◌<◌, ◌≤◌, ◌&&◌, ◌==◌, nat_lt, not, Bool, true, false, cond, Some, List, [], ◌∷◌, ◌++◌, take, drop, map, length, refl, ap, sym, ◌∙◌, subst, arith, le_refl, take_all, ◌||◌}
 use Rattle.std.specs.List.{filter}
 use Rattle.std.proofs.lemmas.Bool.{cases_Bool, eqb-true}
 use Rattle.std.proofs.lemmas.Bool.Decides.{nat_tests}
@@ -16,11 +16,10 @@ use Rattle.curp_order.specs.declared.Event.TheVariants.{Complete, Invoke}
 use Rattle.curp_msg.specs.declared.machine.Capture.{Capture}
 use Rattle.curp_msg.specs.declared.machine.Completed.{Completed}
 use Rattle.curp_model.specs.Log.{answer_after}
-use Rattle.curp_model.specs.Marks.{Executed, Looked, Mark, Place, flagged, has_completed, is_flagged, is_past, is_update_mark, looked, shown}
-use Rattle.curp_law_logs.specs.Hashes.{updates}
-use Rattle.curp_law_line.specs.Line.{FlagsOk, IsCompleted, KindsOk, Line, LookGives, LooksOk, OrderOk, Owned, ValuesOk, answer_at}
-use Rattle.curp_law_line.specs.Moves.{Adopt, AdoptFits, Look, LookFits, adopting, looking, replayed_of}
-use Rattle.curp_law_line.proofs.AdoptedMarks.{adopted_is, new_mark_at, new_marks, stays}
+use Rattle.curp_model.specs.Marks.{Executed, Looked, Mark, Place, flagged, is_flagged, is_past, is_update_mark, looked, shown, Cut, Quick, is_cut, is_shown}
+use Rattle.curp_law_line.specs.Line.{CutsOpen, FlagsOk, IsCompleted, KindsOk, Line, LookGives, LooksOk, OrderOk, Owned, QuickGives, QuicksOk, ValuesOk, answer_at}
+use Rattle.curp_law_line.specs.Moves.{Adopt, AdoptFits, Look, LookFits, adopting, looking, replayed_of, put_before}
+use Rattle.curp_law_line.proofs.AdoptedMarks.{adopted_is, fresh_no_flag, fresh_of, stays}
 use Rattle.curp_law_line.proofs.Completions.{flagged_order, flagging_at}
 use Rattle.curp_law_line.proofs.Given.{LogValue, Pure, TakesOnce}
 use Rattle.curp_law_line.proofs.Lists.{take_split}
@@ -28,10 +27,17 @@ use Rattle.curp_law_line.proofs.Looks.{look_value}
 use Rattle.curp_base.proofs.Numbered.{filter_at}
 use Rattle.curp_law_line.proofs.OwnedValues.{owned_answer}
 use Rattle.curp_law_line.proofs.Shown.{by_updates}
+use Rattle.curp_law_line.proofs.Quicks.{front_kept}
+use Rattle.curp_law_line.proofs.Orders.{same_fronts}
+use Rattle.curp_law_line.proofs.Puts.{Was, put_cases, put_front, put_stands}
+use Rattle.curp_law_logs.specs.Hashes.{updates, asked}
 
-look_place : (p : Place) → is_update_mark p ≡ false → (number : ℕ) × (long : ℕ) × (p ≡ Looked number long)
+-- what isn't an update's mark
+look_place : (p : Place) → is_update_mark p ≡ false → ((number : ℕ) × (long : ℕ) × (p ≡ Looked number long)) ⊎ (((number : ℕ) × (p ≡ Quick number)) ⊎ (is_cut p ≡ true))
 look_place (Executed i) e = absurd cc
-look_place (Looked number long) e = (number, long, refl)
+look_place (Looked number long) e = inl (number, long, refl)
+look_place (Quick number) e = inr (inl (number, refl))
+look_place (Cut number long) e = inr (inr refl)
 
 -- ---- lists
 
@@ -39,19 +45,19 @@ look_place (Looked number long) e = (number, long, refl)
 pub value_more : (marks more : List Mark) (k : ℕ) (c : Command) → k ≤ length marks → answer_at (marks ++ more) k c ≡ answer_at marks k c
 value_more marks more k c low = ap (λ (l : List Mark). (applied (store_after nothing (shown l)) c).answer) (take-append-le k marks more low)
 
-take_map : {A B : Type 0} (f : A → B) (k : ℕ) (xs : List A) → take k (map f xs) ≡ map f (take k xs)
+pub take_map : {A B : Type 0} (f : A → B) (k : ℕ) (xs : List A) → take k (map f xs) ≡ map f (take k xs)
 take_map f zero xs = refl
 take_map f (suc k) [] = refl
 take_map f (suc k) (x ∷ xs) = ap (λ w. f x ∷ w) (take_map f k xs)
 
 -- nor do flags
-value_flagged : (c : Completed) (marks : List Mark) → KindsOk marks → KindsOk (flagged c marks) → (k : ℕ) (d : Command) → answer_at (flagged c marks) k d ≡ answer_at marks k d
+pub value_flagged : (c : Completed) (marks : List Mark) → KindsOk marks → KindsOk (flagged c marks) → (k : ℕ) (d : Command) → answer_at (flagged c marks) k d ≡ answer_at marks k d
 value_flagged c marks kinds kinds_now k d =
     let same : updates (take k (flagged c marks)) ≡ updates (take k marks) = ap updates (take_map (λ (m : Mark). cond (is_flagged c c.by m) (record m { completed = true }) m) k marks) ∙ flagged_order c (take k marks) in
     by_updates (flagged c marks) kinds_now k d ∙ ap (λ (l : _). (applied (store_after nothing l) d).answer) same ∙ sym (by_updates marks kinds k d)
 
 -- an item that a filter keeps, with what stands before it
-filter_back : {A : Type 0} (q : A → Bool) (xs : List A) (j : ℕ) (x : A) → At (filter q xs) j x → (k : ℕ) × At xs k x × (q x ≡ true) × (take j (filter q xs) ≡ filter q (take k xs))
+pub filter_back : {A : Type 0} (q : A → Bool) (xs : List A) (j : ℕ) (x : A) → At (filter q xs) j x → (k : ℕ) × At xs k x × (q x ≡ true) × (take j (filter q xs) ≡ filter q (take k xs))
 filter_back q [] j x h = absurd cc
 filter_back {A} q (y ∷ xs) j x h = go (q y) refl j h (λ i g. filter_back q xs i x g)
   where
@@ -66,7 +72,7 @@ filter_back {A} q (y ∷ xs) j x h = go (q y) refl j h (λ i g. filter_back q xs
         (suc r.0, r.1, r.2, r.3 ∙ ap (λ (b : Bool). cond b (y ∷ filter q (take r.0 xs)) (filter q (take r.0 xs))) (sym e))
 
 -- and where it stands in the filter
-filter_on : {A : Type 0} (q : A → Bool) (xs : List A) (k : ℕ) (x : A) → At xs k x → q x ≡ true → (j : ℕ) × At (filter q xs) j x × (take j (filter q xs) ≡ filter q (take k xs))
+pub filter_on : {A : Type 0} (q : A → Bool) (xs : List A) (k : ℕ) (x : A) → At xs k x → q x ≡ true → (j : ℕ) × At (filter q xs) j x × (take j (filter q xs) ≡ filter q (take k xs))
 filter_on q [] k x h t = absurd cc
 filter_on {A} q (y ∷ xs) zero x h t =
     let same : y ≡ x = cc in
@@ -126,7 +132,7 @@ values_complete marks history c kinds kinds_now flags waits own gives ok k e m a
 
 -- ---- an adoption
 
-module _ (pure : Pure) (s : Line) (kinds : KindsOk s.marks) (looks : LooksOk s.parts s.told s.marks) (o : Adopt) (fits : AdoptFits s o) (takes_once : TakesOnce o.p.log) where
+module _ (pure : Pure) (s : Line) (kinds : KindsOk s.marks) (looks : LooksOk s.parts s.told s.marks) (quicks : QuicksOk s.parts s.told s.marks) (o : Adopt) (fits : AdoptFits s o) (takes_once : TakesOnce o.p.log) where
   abbrev cut : ℕ
   cut = length o.stays
 
@@ -134,7 +140,7 @@ module _ (pure : Pure) (s : Line) (kinds : KindsOk s.marks) (looks : LooksOk s.p
   kept = filter (stays o.part (length o.stays)) s.marks
 
   abbrev fresh : List Mark
-  fresh = new_marks (has_completed s.marks) o.node o.part o.epoch (length o.stays) (replayed_of o)
+  fresh = fresh_of o.node o.part o.epoch (length o.stays) (replayed_of o) s.marks
 
   kinds_kept : KindsOk kept
   kinds_kept k m h = let f = filter_at (stays o.part (length o.stays)) s.marks k m h in kinds f.0 m f.1
@@ -148,23 +154,56 @@ module _ (pure : Pure) (s : Line) (kinds : KindsOk s.marks) (looks : LooksOk s.p
       ∙ look_value s looks o fits takes_once pure (take j s.marks) (drop (suc j) s.marks) m number long (take_split s.marks j m h) look st
       ∙ sym (by_updates s.marks kinds j m.command)
 
+  -- a quick mark has the value that it had
+  pub quick_kept : (j k number : ℕ) (m : Mark) → At s.marks j m → m.place ≡ Quick number → At kept k m → take k kept ≡ filter (stays o.part (length o.stays)) (take j s.marks)
+      → answer_at (kept ++ fresh) k m.command ≡ answer_at s.marks j m.command
+  quick_kept j k number m h is hk before =
+      let low : k < length kept = at_within kept k m hk in
+      value_more kept fresh k m.command (omega (arith, low)) ∙ by_updates kept kinds_kept k m.command
+      ∙ ap (λ (l : List Mark). (applied (store_after nothing (updates l)) m.command).answer) before
+      ∙ same_fronts pure (updates (filter (stays o.part (length o.stays)) (take j s.marks))) (updates (take j s.marks)) (asked m)
+      (λ hash t. front_kept s o fits takes_once j m.part hash (quicks j number hash m h is t) (λ own i at u hu lt place waits part tu. fits.quicks j i at number hash m u h is own hu lt place waits part t tu))
+      ∙ sym (by_updates s.marks kinds j m.command)
+
   adopted_marks : (adopting s o).marks ≡ kept ++ fresh
   adopted_marks = adopted_is o.node o.part o.epoch (length o.stays) (replayed_of o) s.marks
 
-  values_kept : (history : List Event) → ValuesOk s.marks history → ValuesOk (kept ++ fresh) history
-  values_kept history ok k e m a h look f done = elim (at_append_cases kept fresh k m h) [
+  values_kept : (history : List Event) → CutsOpen s.marks → ValuesOk s.marks history → ValuesOk (kept ++ fresh) history
+  values_kept history plain ok k e m a h look f done = elim (at_append_cases kept fresh k m h) [
     | inl old ↦
         let w = filter_back (stays o.part (length o.stays)) s.marks k m old in
-        let p = look_place m.place look in
-        value_kept w.0 k p.0 p.1 m w.1 p.2 w.2 old w.3 ∙ ok w.0 e m a w.1 look f done
-    | inr g ↦
-        let n = new_mark_at (has_completed s.marks) o.node o.part o.epoch (length o.stays) (replayed_of o) g.0 m g.2 in
-        absurd (let bad : true ≡ false = sym f ∙ ap (λ (z : Mark). z.completed) n.3 in cc)
+        elim (look_place m.place look) [
+          | inl p ↦ value_kept w.0 k p.0 p.1 m w.1 p.2 w.2 old w.3 ∙ ok w.0 e m a w.1 look f done
+          | inr (inl q) ↦ quick_kept w.0 k q.0 m w.1 q.1 old w.3 ∙ ok w.0 e m a w.1 look f done
+          | inr (inr c) ↦ absurd (let bad : true ≡ false = sym f ∙ plain w.0 m w.1 c in cc)
+        ]
+    | inr g ↦ absurd (let bad : true ≡ false = sym f ∙ fresh_no_flag o.node o.part o.epoch (length o.stays) (replayed_of o) s.marks g.0 m g.2 in cc)
   ]
 
   -- a flagged look that is kept has its value
-  pub values_adopt : (history : List Event) → ValuesOk s.marks history → ValuesOk (adopting s o).marks history
-  values_adopt history ok = subst (λ (l : List Mark). ValuesOk l history) (sym adopted_marks) (values_kept history ok)
+  pub values_adopt : (history : List Event) → CutsOpen s.marks → ValuesOk s.marks history → ValuesOk (adopting s o).marks history
+  values_adopt history plain ok = subst (λ (l : List Mark). ValuesOk l history) (sym adopted_marks) (values_kept history plain ok)
+
+  -- a quick mark stays, with its value
+  pub quick_adopt : (by : Capture) (part : ℕ) (id : RequestId) (a : Answer) → QuickGives s.marks by part id a → QuickGives (adopting s o).marks by part id a
+  quick_adopt by part id a w =
+      let st : stays o.part (length o.stays) w.mark ≡ true = (λ i. not (((w.mark.part == o.part) && not w.mark.completed) && is_past (length o.stays) (w.is_quick i))) ∙ never ((w.mark.part == o.part) && not w.mark.completed) in
+      let f = filter_on (stays o.part (length o.stays)) s.marks w.place w.mark w.stands st in
+      subst (λ (l : List Mark). QuickGives l by part id a) (sym adopted_marks) (record {
+        place = f.0;
+        mark = w.mark;
+        stands = at_append kept fresh f.0 w.mark f.1;
+        its_master = w.its_master;
+        its_epoch = w.its_epoch;
+        its_part = w.its_part;
+        its_id = w.its_id;
+        is_quick = w.is_quick;
+        gives = quick_kept w.place f.0 by.number w.mark w.stands w.is_quick f.1 f.2 ∙ w.gives;
+      })
+    where
+      never : (b : Bool) → not (b && false) ≡ true
+      never true = refl
+      never false = refl
 
   -- a look of the partition is dropped where it is longer than what stays, and else keeps its value
   pub look_adopt : (by : Capture) (part long : ℕ) (id : RequestId) (a : Answer) → LookGives s.marks by part long id a → LookGives (adopting s o).marks by part long id a ⊎ ((o.part ≡ part) × (length o.stays < long))
@@ -256,3 +295,30 @@ look_begins pure s ok below o fits its_value = record {
   where
     mark : Mark
     mark = looked o.node o.part o.epoch o.capture (length o.p.log) o.id o.command
+
+-- ---- a mark between others that isn't shown
+
+pub value_put : (q : Mark) → is_shown q ≡ false → (c k j : ℕ) → Was c k j → (marks : List Mark) (d : Command) → answer_at (put_before c q marks) k d ≡ answer_at marks j d
+value_put q out c k j w marks d = ap (λ (l : List Mark). (applied (store_after nothing (map asked l)) d).answer) (put_front q c k j w marks is_shown out)
+
+pub values_put : (q : Mark) → is_shown q ≡ false → (c : ℕ) (marks : List Mark) (history : List Event) → ValuesOk marks history → ValuesOk (put_before c q marks) history
+values_put q out c marks history ok k e m a h look f done = elim (put_cases q c marks k m h) [
+  | inr new ↦ absurd (let bad : false ≡ true = sym out ∙ ap is_shown new.0 ∙ ap (λ (b : Bool). b || is_update_mark m.place) f in cc)
+  | inl old ↦ value_put q out c k old.0 old.1 marks m.command ∙ ok old.0 e m a old.2 look f done
+]
+
+-- a look keeps its value
+pub look_put : (q : Mark) → is_shown q ≡ false → (c : ℕ) (marks : List Mark) → c ≤ length marks → (by : Capture) (part long : ℕ) (id : RequestId) (a : Answer) → LookGives marks by part long id a → LookGives (put_before c q marks) by part long id a
+look_put q out c marks low by part long id a w =
+    let n = put_stands q c marks w.place w.mark low w.stands in
+    record {
+      place = n.0;
+      mark = w.mark;
+      stands = n.2;
+      its_master = w.its_master;
+      its_epoch = w.its_epoch;
+      its_part = w.its_part;
+      its_id = w.its_id;
+      is_look = w.is_look;
+      gives = value_put q out c n.0 w.place n.1 marks w.mark.command ∙ w.gives;
+    }

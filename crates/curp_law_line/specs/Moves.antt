@@ -1,6 +1,6 @@
 -- The moves of the small machine, with what each needs and what it does.
 use Rattle.std.specs.List.{IsDistinct, filter, list_any}
-use Rattle.std.specs.Prelude.{◌≡◌, ◌≢◌, ◌≤◌, ◌<◌, ℕ, ◌-◌, Bool, true, false, List, [], ◌∷◌, ◌++◌, set, map, length, take, Some, None, ⊤}
+use Rattle.std.specs.Prelude.{◌≡◌, ◌≢◌, ◌≤◌, ◌<◌, ℕ, ◌-◌, ◌+◌, ◌==◌, ◌&&◌, if◌then◌else◌, Bool, true, false, List, [], ◌∷◌, ◌++◌, set, map, length, take, drop, Some, None, ⊤}
 use Rattle.curp_base.specs.Words.{At, numbered}
 use Rattle.curp_range.specs.Spans.{is_covered, is_in}
 use Rattle.curp_cmd.specs.Hash.{touches}
@@ -18,14 +18,14 @@ use Rattle.curp_msg.specs.declared.machine.Capture.{Capture}
 use Rattle.curp_model.specs.Laws.{clash}
 use Rattle.curp_model.specs.Log.{IsDone, entry_touches, meaning, package_of}
 use Rattle.curp_model.specs.Manager.{Migration}
-use Rattle.curp_model.specs.Marks.{Looked, Mark, adopted, executed, flagged, is_flagged, is_update_mark, looked}
+use Rattle.curp_model.specs.Marks.{Cut, Executed, Looked, Mark, Quick, adopted, adoptions, executed, flagged, is_flagged, is_quick, is_update_mark, looked, quick}
 use Rattle.curp_model.specs.Recovery.{replays}
 use Rattle.curp_model.specs.Table.{check}
 use Rattle.curp_model.specs.declared.Check.TheVariants.{New}
 use Rattle.curp_facts.specs.Facts.{IsAmong}
 use Rattle.curp_law_logs.specs.Hashes.{gives}
 use Rattle.curp_law_line.specs.Hashes.{Part, is_give, is_take, owns, state_of}
-use Rattle.curp_law_line.specs.Line.{IsCompleted, Line, Ungiven, WasInvoked, answer_at}
+use Rattle.curp_law_line.specs.Line.{EarlyAt, IsCompleted, IsFirm, Left, Line, Ungiven, WasInvoked, answer_at}
 
 -- ---- words
 
@@ -224,11 +224,60 @@ pub record LookFits (s : Line) (o : Look) : Type 0 where
 abbrev pub looking : Line → Look → Line
 looking s o = record s { marks = s.marks ++ looked o.node o.part o.epoch o.capture (length o.p.log) o.id o.command ∷ [] }
 
+-- ---- reads that are answered at once
+
+-- an adopted master answers a read at once by its log: a quick mark comes to the end. What it needs is that of a look
+abbrev pub quickly : Line → Look → Line
+quickly s o = record s { marks = s.marks ++ quick o.node o.part o.epoch o.capture o.id o.command ∷ [] }
+
+-- a superseded master answers a read at once: its partition's adoption of that number, the first one after its own, has its
+-- mark at that place
+pub record Late : Type 0 where
+  pub part : ℕ
+  pub number : ℕ
+  pub place : ℕ
+  pub node : NodeId
+  pub epoch : ℕ
+  pub capture : ℕ
+  pub id : RequestId
+  pub command : Command
+
+-- the request is an invoked read, of whose hashes its log has what the recovered front has
+pub record LateFits (s : Line) (o : Late) : Type 0 where
+  pub mark : Mark
+  pub stands : At s.marks o.place mark
+  pub its_part : mark.part ≡ o.part
+  pub long : ℕ
+  pub is_cut : mark.place ≡ Cut o.number long
+  pub firm : (h : ℕ) → touches o.command h ≡ true → IsFirm (s.left o.part o.number) h
+  pub reads : is_update o.command ≡ false
+  pub was_invoked : WasInvoked s.history o.id o.command
+
+-- a mark comes directly before the place
+abbrev pub put_before : ℕ → Mark → List Mark → List Mark
+put_before place m marks = take place marks ++ m ∷ drop place marks
+
+-- its quick mark comes directly before that of the adoption
+abbrev pub late_quickly : Line → Late → Line
+late_quickly s o = record s { marks = put_before o.place (quick o.node o.part o.epoch o.capture o.id o.command) s.marks }
+
+-- the same log, or the one of that number with more behind it
+abbrev pub longer_left : (ℕ → ℕ → Left) → ℕ → ℕ → List Entry → ℕ → ℕ → Left
+longer_left left part number more p n =
+    if (p == part) && (n == number) then record (left part number) { back = (left part number).back ++ more } else left p n
+
+-- a superseded master pushes entries
+abbrev pub straying : Line → ℕ → ℕ → List Entry → Line
+straying s part number more = record s { left = longer_left s.left part number more }
+
+-- ---- completions of reads
+
 -- a completion by a capture flags the mark
 abbrev pub flags_mark : Capture → RequestId → Answer → Mark → Bool
 flags_mark by id a m = is_flagged (record { id = id; answer = a; by = Some by }) (Some by) m
 
--- a read completes by the mark of one look, and with the answer that one thread gives at that mark
+-- A read completes by one mark, and with the answer that one thread gives at that mark. Where it is a quick mark, the read was
+-- invoked before what is flagged behind the mark completed
 pub record FlagFits (s : Line) (by : Capture) (id : RequestId) (a : Answer) : Type 0 where
   pub place : ℕ
   pub m : Mark
@@ -238,6 +287,7 @@ pub record FlagFits (s : Line) (by : Capture) (id : RequestId) (a : Answer) : Ty
   pub only : (k : ℕ) (o : Mark) → At s.marks k o → flags_mark by id a o ≡ true → k ≡ place
   pub waits : IsCompleted s.history id → ⊥
   pub gives : answer_at s.marks place m.command ≡ a
+  pub early : is_quick m.place ≡ true → EarlyAt s.marks s.history place m.id m.command
 
 -- the mark is flagged, and the history has the completion
 abbrev pub flagging : Line → Capture → RequestId → Answer → Line
@@ -262,8 +312,10 @@ replayed_of o = filter (replays (meaning o.p.lo o.p.hi o.stays)) o.held
 
 -- a take or a give that goes is of the migration in work and has its range; where its take goes, no log has its give
 abbrev pub OnlyMoving : Line → Entry → Type 0
-OnlyMoving s (Take migration taken) = (m : Migration) × (s.moving ≡ Some m) × (m.number ≡ migration) × Ungiven s.parts migration × (taken.lo ≡ m.range.lo) × (taken.hi ≡ m.range.hi)
-OnlyMoving s (Give migration given) = (m : Migration) × (s.moving ≡ Some m) × (m.number ≡ migration) × (given.lo ≡ m.range.lo) × (given.hi ≡ m.range.hi)
+OnlyMoving s (Take migration taken) = (m : Migration) × (s.moving ≡ Some m) × (m.number ≡ migration)
+    × Ungiven s.parts migration × (taken.lo ≡ m.range.lo) × (taken.hi ≡ m.range.hi)
+OnlyMoving s (Give migration given) = (m : Migration) × (s.moving ≡ Some m) × (m.number ≡ migration) × (given.lo ≡ m.range.lo)
+    × (given.hi ≡ m.range.hi)
 OnlyMoving s _ = ⊤
 
 -- a request that was held: an invoked update that names a key
@@ -282,7 +334,8 @@ pub record IsReplayedAs (o : Adopt) (r : Request) : Type 0 where
 
 -- What goes is of the migration in work, and where a give goes, what stays doesn't own its hashes. What was held are
 -- invoked updates of which no two clash. Each completed op that goes is replayed, and nothing before it there touches its
--- hashes. No completed look is longer than what stays, and each take that was told stays
+-- hashes. No completed look is longer than what stays, nor is a log that was recovered before and that a superseded log has
+-- on some hash to its end; what is uncompleted before a quick mark on its hashes stays; and each take that was told stays
 pub record AdoptFits (s : Line) (o : Adopt) : Type 0 where
   pub here : numbered s.parts o.part ≡ Some o.p
   pub is : o.p.log ≡ o.stays ++ o.goes
@@ -291,15 +344,30 @@ pub record AdoptFits (s : Line) (o : Adopt) : Type 0 where
   pub apart : IsDistinct clash o.held
   pub asked : (k : ℕ) (r : Request) → At o.held k r → IsHeld s r
   pub done : (k : ℕ) (r : Request) (a : ℕ) → At o.goes k (Op r a) → IsCompleted s.history r.id
-      → IsReplayedAs o r × ((h : ℕ) → touches r.command h ≡ true → list_any (λ (e : Entry). entry_touches e h) (take k o.goes) ≡ false)
-  pub looks : (k : ℕ) (m : Mark) (number long : ℕ) → At s.marks k m → m.part ≡ o.part → m.place ≡ Looked number long → m.completed ≡ true → long ≤ length o.stays
-  pub told : (number : ℕ) → IsAmong number s.told → list_any (is_take number) o.p.log ≡ true → list_any (is_take number) o.stays ≡ true
+      → IsReplayedAs o r × ((h : ℕ) → touches r.command h ≡ true
+      → list_any (λ (e : Entry). entry_touches e h) (take k o.goes) ≡ false)
+  pub looks : (k : ℕ) (m : Mark) (number long : ℕ) → At s.marks k m → m.part ≡ o.part → m.place ≡ Looked number long
+      → m.completed ≡ true → long ≤ length o.stays
+  pub told : (number : ℕ) → IsAmong number s.told → list_any (is_take number) o.p.log ≡ true
+      → list_any (is_take number) o.stays ≡ true
+  pub quicks : (j k i number h : ℕ) (m u : Mark) → At s.marks j m → m.place ≡ Quick number → m.part ≡ o.part → At s.marks k u
+      → k < j → u.place ≡ Executed i → u.completed ≡ false → u.part ≡ o.part
+      → touches m.command h ≡ true → touches u.command h ≡ true → i < length o.stays
+  pub cuts : (j number long h : ℕ) (m : Mark) → At s.marks j m → m.place ≡ Cut number long → m.part ≡ o.part
+      → IsFirm (s.left m.part number) h → long ≤ length o.stays
+
+-- the superseded logs after an adoption: the log as it was is one more
+abbrev pub left_after : Line → Adopt → ℕ → ℕ → Left
+left_after s o p n =
+    if (p == o.part) && (n == adoptions o.part s.marks + 1) then record { front = record o.p { log = o.stays }; back = o.goes }
+    else s.left p n
 
 -- the log is what stays and the replayed requests behind it, and the marks follow
 abbrev pub adopting : Line → Adopt → Line
 adopting s o = record s {
   parts = relogged s.parts o.part o.p (o.stays ++ ops (replayed_of o));
   marks = adopted o.node o.part o.epoch (length o.stays) (replayed_of o) s.marks;
+  left = left_after s o;
 }
 
 -- ---- all of them
@@ -318,6 +386,9 @@ pub data Move : Type 0 where
   Looks : Look → Move
   Flags : Capture → RequestId → Answer → Move
   Adopts : Adopt → Move
+  Quicks : Look → Move
+  Lates : Late → Move
+  Strays : (part number : ℕ) → List Entry → Move
 
 -- the move can be made
 abbrev pub Fits : Line → Move → Type 0
@@ -333,6 +404,9 @@ Fits s (Completes id a) = CompleteFits s id a
 Fits s (Looks o) = LookFits s o
 Fits s (Flags by id a) = FlagFits s by id a
 Fits s (Adopts o) = AdoptFits s o
+Fits s (Quicks o) = LookFits s o
+Fits s (Lates o) = LateFits s o
+Fits s (Strays part number more) = ⊤
 
 -- the state after it
 abbrev pub after : Line → Move → Line
@@ -348,6 +422,9 @@ after s (Completes id a) = completing s id a
 after s (Looks o) = looking s o
 after s (Flags by id a) = flagging s by id a
 after s (Adopts o) = adopting s o
+after s (Quicks o) = quickly s o
+after s (Lates o) = late_quickly s o
+after s (Strays part number more) = straying s part number more
 
 -- the state after moves
 abbrev pub all_after : Line → List Move → Line

@@ -11,7 +11,7 @@ use Rattle.curp_model.specs.Recovery.{MasterStage}
 use Rattle.curp_model.specs.World.{World, messages}
 use Rattle.curp_facts.specs.Facts.{Logged, hi_of, lo_of, node_log}
 use Rattle.curp_law_line.specs.Hashes.{Part}
-use Rattle.curp_law_line.specs.Line.{Line}
+use Rattle.curp_law_line.specs.Line.{Left, Line}
 
 -- the entries of a log that is there
 abbrev pub logged_entries : Option Logged → List Entry
@@ -37,7 +37,12 @@ abbrev pub moving_of : Option Migration → Option Migration
 moving_of None = None
 moving_of (Some m) = Some (record m { moved = None })
 
--- the adopted logs, the migration in work, and of which migrations a package was ever told
+-- a superseded log that owns nothing, and so has no value to keep
+abbrev pub no_left : ℕ → ℕ → Left
+no_left part number = record { front = record { lo = 1; hi = 0; log = [] }; back = [] }
+
+-- The adopted logs, the migration in work, and of which migrations a package was ever told. Of superseded logs nothing is
+-- said, since no read is answered by one
 abbrev pub line_of : World → Line
 line_of w = record {
   parts = map (part_of w) w.manager.config.parts;
@@ -45,4 +50,5 @@ line_of w = record {
   told = flat_map (λ (m : Message). told_by m.body) (messages w);
   marks = w.marks;
   history = w.history;
+  left = no_left;
 }
