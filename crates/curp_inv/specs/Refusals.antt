@@ -386,6 +386,7 @@ witness_takes n w from (body.Gc g) = refl
 witness_takes n w from (body.Record r) = refl
 witness_takes n w from (body.Start s) = refl
 witness_takes n w from (body.Freeze epoch) = refl
+witness_takes n w from (body.Probe p) = refl
 witness_takes n w from _ = refl
 
 -- a witness takes each message: it rejects records by one

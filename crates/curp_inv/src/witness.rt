@@ -6,7 +6,8 @@ ghost use Rattle.curp_msg.specs.Moved.{Moves, numbered_move, says};
 use curp_base::{Items, NoMemory};
 use curp_cmd::NodeId;
 use curp_msg::{
-    Accepted, Body, Collected, Core, Done, Gc, GcAnswer, Local, Message, Record, Rejected,
+    Accepted, Body, Collected, Core, Done, Gc, GcAnswer, Local, Message, Probe, Probed, Record,
+    Rejected,
 };
 use curp_slots::{GcError, RecordAnswer, ShapeError, Witness};
 use std::alloc::{AllocError, Global};
@@ -138,6 +139,21 @@ impl WitnessNode {
         messages.push_reserved(self.answer(from, Body::FrozenAnswer { requests }));
         Ok(Done::sends(messages))
     }
+
+    #[tactic(auto, unfolding(curp_model::specs::Witness::on_witness))]
+    fn on_probe(&self, from: NodeId, asked: &Probe) -> Result<Done, NoMemory>
+        ensures { Moves self.now self.now result
+            (numbered_move self.now.number (on_witness self.now.number self.now.state from (Body.Probe asked.now))) }
+    {
+        let mut messages = Vec::with_capacity(self.alloc, 1)?;
+        let probed = Probed {
+            id: asked.id,
+            epoch: asked.epoch,
+            live: self.witness.probe(asked.epoch),
+        };
+        messages.push_reserved(self.answer(from, Body::Probed(probed)));
+        Ok(Done::sends(messages))
+    }
 }
 
 impl Core for WitnessNode {
@@ -160,6 +176,7 @@ impl Core for WitnessNode {
                 Ok(Done::quiet(self.alloc))
             }
             Body::Freeze { epoch } => self.on_freeze(message.from, *epoch),
+            Body::Probe(asked) => self.on_probe(message.from, asked),
             _ => Ok(Done::quiet(self.alloc)),
         }
     }

@@ -50,7 +50,7 @@ fn clients_and_masters(
 ) -> Result<(Vec<ClientNode>, Vec<MasterNode>), NoMemory>
     requires { config.now ≡ opening_config (shape_of header.now) }
     ensures clients { IfOk result (λ nodes. states nodes.0.items
-        ≡ replicate header.now.clients (fresh_client header.now.fast config.now)) }
+        ≡ replicate header.now.clients (fresh_client header.now.fast header.now.protocol config.now)) }
     ensures masters { IfOk result (λ nodes. states nodes.1.items
         ≡ map (opening_master (shape_of header.now)) (numbers_from 1 header.now.parts)) }
     ensures client_numbers { IfOk result (λ nodes. HasNumbers nodes.0.items) }

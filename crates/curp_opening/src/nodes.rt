@@ -35,13 +35,13 @@ pub fn manager(alloc: Global, header: &Header) -> Result<ManagerNode, NoMemory>
 /// The clients of a header, each with a copy of the configuration.
 pub fn clients(alloc: Global, header: &Header, config: &Config) -> Result<Vec<ClientNode>, NoMemory>
     ensures states { IfOk result (λ nodes. states nodes.items
-        ≡ replicate header.now.clients (fresh_client header.now.fast config.now)) }
+        ≡ replicate header.now.clients (fresh_client header.now.fast header.now.protocol config.now)) }
     ensures numbers { IfOk result (λ nodes. HasNumbers nodes.items) }
 {
     let mut nodes = Vec::with_capacity(alloc, header.clients as usize)?;
     for made in 0..header.clients {
         let config = config.copy(alloc)?;
-        nodes.push(ClientNode::new(alloc, made + 1, header.fast, config))?;
+        nodes.push(ClientNode::new(alloc, made + 1, header.fast, header.protocol, config))?;
     }
     Ok(nodes)
 }

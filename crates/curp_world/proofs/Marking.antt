@@ -1,5 +1,5 @@
 -- What is marked of an input, by what was due before.
-use Rattle.std.proofs.Common.{◌≡◌, ◌⊎◌, inl, inr, ℕ, zero, suc, ◌-◌, ◌<◌, ◌≤◌, Bool, true, false, if◌then◌else◌, nat_lt, List, [], ◌∷◌, ◌++◌, drop, length, slice_set, slice_get, Option, Some, None, append-nil, length-append, arith, refl, ap, sym, subst}
+use Rattle.std.proofs.Common.{◌≡◌, ◌⊎◌, inl, inr, ℕ, zero, suc, ◌-◌, ◌<◌, ◌≤◌, Bool, true, false, if◌then◌else◌, nat_lt, List, [], ◌∷◌, ◌++◌, drop, length, slice_set, slice_get, Option, Some, None, append-nil, length-append, arith, refl, ap, sym, ◌∙◌, subst}
 use Rattle.std.proofs.lemmas.Bool.Decides.{nat_tests}
 use Rattle.curp_base.specs.Words.{Each, numbered}
 use Rattle.curp_base.proofs.Lists.{at_set_same}
@@ -19,7 +19,7 @@ use Rattle.curp_model.specs.Witness.{WitnessState, witness_input}
 use Rattle.curp_model.specs.World.{World, is_adopted, marks_adopted, marks_after, master_marks, moves_kind, moves_one, new_captures, op_requests, replayed_in, with_adoption, with_backup, with_client, with_master, with_witness}
 use Rattle.curp_msg.specs.Moved.{within}
 use Rattle.curp_msg.specs.declared.machine.Input.{Input}
-use Rattle.curp_world.specs.Marks.{CapturesOne, HasRoomBehind, HasRoomFor, IsFew, IsFewOf, IsLastNew, IsSound, Nothing, due_by_kind, due_marks, due_of_adoption, due_of_master, due_of_recovery, due_of_replay, marks_behind, marks_by, master_at, most_due, most_marks}
+use Rattle.curp_world.specs.Marks.{CapturesOne, HasRoomBehind, HasRoomFor, IsFew, IsFewOf, IsLastNew, IsLastNewIfAny, IsSound, Nothing, due_by_kind, due_marks, due_of_adoption, due_of_master, due_of_recovery, due_of_replay, is_captured_behind, marks_behind, marks_by, master_at, most_due, most_marks}
 use Rattle.curp_world.specs.Nodes.{NodeStates, nodes_of, with_nodes}
 
 -- ---- the marks after a move
@@ -119,9 +119,10 @@ goes_on_behind : (m m' : MasterState) (most spare : ℕ) → IsFew m m' most →
     → HasRoomBehind (length m.log) m.captured m' spare
 goes_on_behind m m' most spare few old room = record { room = omega (arith, few.few, room); captures = go few.captures }
   where
-    go : (m'.captured ≡ m.captured) ⊎ CapturesOne m m' → (m'.captured ≡ m.captured) ⊎ ((m.captured < m'.captured) × IsLastNew m.captured m')
+    go : (m'.captured ≡ m.captured) ⊎ ((m'.captures ≡ m.captures) ⊎ CapturesOne m m') → (m'.captured ≡ m.captured) ⊎ IsLastNewIfAny m.captured m'
     go (inl same) = inl same
-    go (inr one) = inr (omega (arith, one.captured), (m.captures, one.capture, one.captures, old, omega (arith, one.number)))
+    go (inr (inl same)) = inr (inl (rw same old))
+    go (inr (inr one)) = inr (inr (omega (arith, one.captured), (m.captures, one.capture, one.captures, old, omega (arith, one.number))))
 
 behind : (o o' : Option MasterStage) (most spare : ℕ) → IsFewOf o o' most → IsSound (due_of_master o) o → most_due (due_of_master o) most ≤ spare
     → HasRoomFor (due_of_master o) o' spare
@@ -178,27 +179,6 @@ last_new (d ∷ older) c count low new =
     let old : nat_lt count d.number ≡ false = grind (arith, nat_tests, low.0) in
     rw old (last_new older c count low.1 new)
 
--- where no read was captured
-pub none_captured : (captured spare former : ℕ) (m : MasterState) → HasRoomBehind former captured m spare → (captured < m.captured → ⊥)
-    → Each (λ (c : Captured). c.number ≤ m.captured) m.captures → new_captures captured m.captures ≡ []
-none_captured captured spare former m room none low = go room.captures
-  where
-    go : (m.captured ≡ captured) ⊎ ((captured < m.captured) × IsLastNew captured m) → new_captures captured m.captures ≡ []
-    go (inl same) = none_new m.captures captured (subst (λ (count : ℕ). Each (λ (c : Captured). c.number ≤ count) m.captures) same low)
-    go (inr more) = absurd (none more.0)
-
--- where one was, which is the last one
-pub one_captured : (captured spare former : ℕ) (m : MasterState) → HasRoomBehind former captured m spare → captured < m.captured
-    → IsLastNew captured m
-one_captured captured spare former m room some = go room.captures
-  where
-    go : (m.captured ≡ captured) ⊎ ((captured < m.captured) × IsLastNew captured m) → IsLastNew captured m
-    go (inl same) = absurd (omega (arith, same, some))
-    go (inr more) = more.1
-
-pub last_is_new : (captured : ℕ) (m : MasterState) (new : IsLastNew captured m) → new_captures captured m.captures ≡ new.1 ∷ []
-last_is_new captured m new = rw new.2 (last_new new.0 new.1 captured new.3 new.4)
-
 -- the last of a list
 pub last_there : {A : Type 0} (xs : List A) (x : A) → slice_get (xs ++ x ∷ []) (length (xs ++ x ∷ []) - 1) ≡ Some x
 last_there {A} xs x = let long : length (xs ++ x ∷ []) - 1 ≡ length xs = omega (arith, length-append xs (x ∷ [])) in rw long (at_end xs)
@@ -206,6 +186,54 @@ last_there {A} xs x = let long : length (xs ++ x ∷ []) - 1 ≡ length xs = ome
     at_end : (xs : List A) → slice_get (xs ++ x ∷ []) (length xs) ≡ Some x
     at_end [] = refl
     at_end (y ∷ ys) = at_end ys
+
+not_both : {A : Type 0} → false ≡ true → A
+not_both e = absurd cc
+
+-- the last read of those that were captured before wasn't captured behind it
+last_old : (captures : List Captured) (at count : ℕ) → Each (λ (c : Captured). c.number ≤ count) captures → is_captured_behind count (slice_get captures at) ≡ false
+last_old [] zero count low = refl
+last_old [] (suc at) count low = refl
+last_old (c ∷ cs) zero count low = grind (arith, nat_tests, low.0)
+last_old (c ∷ cs) (suc at) count low = last_old cs at count low.1
+
+module _ (captured spare former : ℕ) (m : MasterState) (room : HasRoomBehind former captured m spare) (low : Each (λ (c : Captured). c.number ≤ m.captured) m.captures) where
+  abbrev last_behind : Bool
+  last_behind = is_captured_behind captured (slice_get m.captures (length m.captures - 1))
+
+  same_low : m.captured ≡ captured → Each (λ (c : Captured). c.number ≤ captured) m.captures
+  same_low same = subst (λ (count : ℕ). Each (λ (c : Captured). c.number ≤ count) m.captures) same low
+
+  new_behind : IsLastNew captured m → last_behind ≡ true
+  new_behind new =
+      let last : slice_get m.captures (length m.captures - 1) ≡ Some new.1 =
+      subst (λ (cs : List Captured). slice_get cs (length cs - 1) ≡ Some new.1) (sym new.2) (last_there new.0 new.1) in
+      let behind : nat_lt captured new.1.number ≡ true = grind (arith, nat_tests, new.4) in
+      ap (is_captured_behind captured) last ∙ behind
+
+  -- where the last read was captured before, all were
+  pub none_captured : last_behind ≡ false → new_captures captured m.captures ≡ []
+  none_captured none = go room.captures
+    where
+      go : (m.captured ≡ captured) ⊎ IsLastNewIfAny captured m → new_captures captured m.captures ≡ []
+      go (inl same) = none_new m.captures captured (same_low same)
+      go (inr (inl old)) = none_new m.captures captured old
+      go (inr (inr more)) = not_both (sym none ∙ new_behind more.1)
+
+  -- where it was captured behind that number, it is the new one
+  pub one_captured : last_behind ≡ true → (captured < m.captured) × IsLastNew captured m
+  one_captured one = go room.captures
+    where
+      old_last : Each (λ (c : Captured). c.number ≤ captured) m.captures → (captured < m.captured) × IsLastNew captured m
+      old_last old = not_both (sym (last_old m.captures (length m.captures - 1) captured old) ∙ one)
+
+      go : (m.captured ≡ captured) ⊎ IsLastNewIfAny captured m → (captured < m.captured) × IsLastNew captured m
+      go (inl same) = old_last (same_low same)
+      go (inr (inl old)) = old_last old
+      go (inr (inr more)) = more
+
+pub last_is_new : (captured : ℕ) (m : MasterState) (new : IsLastNew captured m) → new_captures captured m.captures ≡ new.1 ∷ []
+last_is_new captured m new = rw new.2 (last_new new.0 new.1 captured new.3 new.4)
 
 -- no more requests than entries
 pub ops_fit : (es : List Entry) → length (op_requests es) ≤ length es

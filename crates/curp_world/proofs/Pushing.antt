@@ -14,7 +14,7 @@ use Rattle.curp_cmd.specs.declared.node.NodeId.{NodeId}
 use Rattle.curp_model.specs.declared.Check.{Check}
 use Rattle.curp_model.specs.declared.Check.TheVariants.{Expired, Stale, Known, New}
 use Rattle.curp_model.specs.Log.{LastGive, LastTake}
-use Rattle.curp_model.specs.Master.{MasterState, Acknowledged, AtOnce, Deny, Execute, HoldBack, Open, Phase, Switch, Switching, Tell, TellAgain, Verdict, WhenSynced, Wish, adopted_in, all_have, carries_out, collect_in, executes, give_after, goes_on, is_clean, is_open, last_round, on_appended, on_collected, on_expire, on_give, on_read, on_serving, on_stored, on_take, on_update, prepare_in, prepares, push_take, raised, read_command, read_of, read_refusal, serving_ordered, settle, state_of, stored_on, sync_in, synced, take_after, told_again, treat, treated, treats, unless_it_ends, verdict}
+use Rattle.curp_model.specs.Master.{MasterState, Acknowledged, AtOnce, Deny, Execute, HoldBack, Open, Phase, Switch, Switching, Tell, TellAgain, Verdict, WhenSynced, Wish, adopted_in, all_have, captures_read, carries_out, collect_in, executes, give_after, glance_command, glance_of, goes_on, is_clean, is_open, last_round, on_appended, on_collected, on_expire, on_give, on_glance, on_read, on_serving, on_stored, on_take, on_update, prepare_in, prepares, push_take, raised, read_command, read_of, read_refusal, serving_ordered, settle, state_of, stored_on, sync_in, synced, take_after, told_again, treat, treated, treats, unless_it_ends, verdict}
 use Rattle.curp_model.specs.Ranges.{owns_all}
 use Rattle.curp_model.specs.Recovery.{Fresh, MasterStage, Recovering, Serving, master_input, on_master, master_ordered}
 use Rattle.curp_model.specs.Table.{check, is_gone}
@@ -78,18 +78,35 @@ module _ (n : ℕ) (m : MasterState) where
 
   -- ---- reads
 
+  capture_few : (r : Request) (key : List ℕ) → AtMost 1 (captures_read n m r key)
+  capture_few r key = record {
+    few = omega arith;
+    captures = inr (inr (record { capture = _; captures = refl; number = refl; captured = refl }));
+  }
+
   read_few : (ask : Ask) → AtMost 1 (on_read n m ask)
   unfolding on_read
   read_few ask = go ask.request.command
     where
       answered : (key : List ℕ) (why : Option Refusal) → AtMost 1 (read_of n m ask.request key why)
       answered key (Some why) = still 1 _ refl refl
-      answered key None = record {
-        few = omega arith;
-        captures = inr (record { capture = _; captures = refl; number = refl; captured = refl });
-      }
+      answered key None = capture_few ask.request key
 
       go : (command : Command) → AtMost 1 (read_command n m ask command)
+      go (Get key) = answered key (read_refusal m ask)
+      go _ = still 1 m refl refl
+
+  glance_few : (ask : Ask) → AtMost 1 (on_glance n m ask)
+  unfolding on_glance
+  glance_few ask = go ask.request.command
+    where
+      answered : (key : List ℕ) (why : Option Refusal) → AtMost 1 (glance_of n m ask.request key why)
+      answered key (Some why) = still 1 _ refl refl
+      answered key None =
+          cond_both (is_clean m ask.request.command) _ _ (AtMost 1)
+          (λ clean. record { few = omega arith; captures = inr (inl refl) }) (λ dirty. capture_few ask.request key)
+
+      go : (command : Command) → AtMost 1 (glance_command n m ask command)
       go (Get key) = answered key (read_refusal m ask)
       go _ = still 1 m refl refl
 
@@ -214,6 +231,7 @@ unfolding on_serving
 message_few n m from (body.Update ask) = ends_few m 1 _ (update_few n m AtOnce ask)
 message_few n m from (body.Sync ask) = ends_few m 1 _ (update_few n m WhenSynced ask)
 message_few n m from (body.Read ask) = ends_few m 1 _ (read_few n m ask)
+message_few n m from (body.Glance ask) = ends_few m 1 _ (glance_few n m ask)
 message_few n m from (body.Appended a) = ends_few m 0 _ (appended_few n m from a.round a.answer)
 message_few n m from (body.Collected c) = ends_few m (most_suspects c.answer) _ (collected_few n m c.answer)
 message_few n m from (body.Prepare p) = ends_few m 0 _ (prepare_few n m p m.phase)

@@ -1,10 +1,10 @@
 -- Runs of one step more.
-use Rattle.std.proofs.Common.{◌≡◌, if◌then◌else◌, Bool, true, false, not, Option, Some, None, ◌≤◌, arith, ℕ, List, [], ◌∷◌, ◌++◌, Result, Ok, Err, OnOk, OnErr, refl, ap, sym, ◌∙◌, subst}
+use Rattle.std.proofs.Common.{◌≡◌, ◌&&◌, if◌then◌else◌, Bool, true, false, not, Option, Some, None, ◌≤◌, arith, ℕ, List, [], ◌∷◌, ◌++◌, Result, Ok, Err, OnOk, OnErr, refl, ap, sym, ◌∙◌, subst}
 use Rattle.std.proofs.lemmas.Bool.Decides.{nat_tests}
 use Rattle.curp_base.proofs.Lists.{Each-append}
 use Rattle.curp_script.specs.Built.{is_built}
-use Rattle.curp_script.specs.Headers.{bad_field, is_within}
-use Rattle.curp_script.specs.declared.error.FieldName.TheVariants.{Clients, F, Fast, Parts, Sets, Ways}
+use Rattle.curp_script.specs.Headers.{bad_field, is_second, is_within}
+use Rattle.curp_script.specs.declared.error.FieldName.TheVariants as field
 use Rattle.curp_msg.specs.declared.script.Header.{Header}
 use Rattle.curp_msg.specs.declared.script.Step.{Step}
 use Rattle.curp_facts.specs.Run.{IsHeader, IsRun, IsStep}
@@ -12,8 +12,9 @@ use Rattle.curp_law_line.specs.Line.{StandsIn}
 use Rattle.curp_law_line.proofs.Growing.{stands_self}
 use Rattle.curp_law_linear.specs.Grows.{completed_in_order}
 use Rattle.curp_msg.specs.declared.script.Protocol.{Protocol}
-use Rattle.curp_msg.specs.declared.script.Protocol.TheVariants.{One}
+use Rattle.curp_msg.specs.declared.script.Protocol.TheVariants.{One, Two}
 use Rattle.curp_script.specs.declared.error.FieldName.{FieldName}
+use Rattle.curp_script.specs.declared.error.Word.TheVariants as word
 use Rattle.curp_model.specs.World.{World, step, run, opening, world}
 use Rattle.curp_world.specs.Reached.{Reached}
 
@@ -55,26 +56,30 @@ none_behind false name rest e = (refl, e)
 within : (low high n : ℕ) → not (is_within low high n) ≡ false → (low ≤ n) × (n ≤ high)
 within low high n e = (grind (arith, nat_tests), grind (arith, nat_tests))
 
-only_protocol : (p : Protocol) → p ≡ One
-only_protocol One = refl
+-- the second protocol isn't built
+first_protocol : (p : Protocol) → (is_second p && not (is_built word.Protocol)) ≡ false → p ≡ One
+unfolding is_built
+first_protocol One e = refl
+first_protocol Two e = absurd cc
 
 -- a header without a bad field has its numbers in their ranges
 pub in_order : (h : Header) → bad_field h ≡ None → IsHeader h
 unfolding is_built
 in_order h none =
-    let clients = none_behind _ Clients _ none in
-    let f = none_behind _ F _ clients.1 in
-    let fast = none_behind _ Fast _ f.1 in
-    let parts = none_behind _ Parts _ fast.1 in
-    let sets = none_behind _ Sets _ parts.1 in
-    let ways = none_behind _ Ways _ sets.1 in
+    let clients = none_behind _ field.Clients _ none in
+    let f = none_behind _ field.F _ clients.1 in
+    let fast = none_behind _ field.Fast _ f.1 in
+    let parts = none_behind _ field.Parts _ fast.1 in
+    let protocol = none_behind _ field.Protocol _ parts.1 in
+    let sets = none_behind _ field.Sets _ protocol.1 in
+    let ways = none_behind _ field.Ways _ sets.1 in
     record {
       clients = within 1 64 h.clients clients.0;
       f = within 1 5 h.f f.0;
       parts = within 1 16 h.parts parts.0;
       sets = within 1 1024 h.sets sets.0;
       ways = within 1 16 h.ways ways.0;
-      protocol = only_protocol h.protocol;
+      protocol = first_protocol h.protocol protocol.0;
     }
 
 -- no step leads to the opening

@@ -1,5 +1,5 @@
 -- What is to be marked of an input.
-use Rattle.std.specs.Prelude.{◌≡◌, ℕ, ◌+◌, ◌-◌, ◌≤◌, ◌<◌, ◌^◌, ◌⊎◌, drop, length, map, if◌then◌else◌, List, [], ◌∷◌, ◌++◌, Option, Some, None, ⊤}
+use Rattle.std.specs.Prelude.{◌≡◌, ℕ, ◌+◌, ◌-◌, ◌≤◌, ◌<◌, ◌^◌, ◌⊎◌, Bool, false, nat_lt, drop, length, map, if◌then◌else◌, List, [], ◌∷◌, ◌++◌, Option, Some, None, ⊤}
 use Rattle.curp_base.specs.Words.{Each, numbered}
 use Rattle.curp_cmd.specs.Node.{master_node}
 use Rattle.curp_cmd.specs.declared.command.Request.{Request}
@@ -34,6 +34,7 @@ abbrev pub most_by_message : Body → ℕ
 most_by_message (body.Update ask) = 1
 most_by_message (body.Sync ask) = 1
 most_by_message (body.Read ask) = 1
+most_by_message (body.Glance ask) = 1
 most_by_message (body.Collected c) = most_suspects c.answer
 most_by_message (body.TakeOut t) = 1
 most_by_message (body.GiveIn g) = 1
@@ -59,10 +60,11 @@ pub record CapturesOne (before after : MasterState) : Type 0 where
   pub number : capture.number ≡ before.captured + 1
   pub captured : after.captured ≡ before.captured + 1
 
--- no more than so many entries and reads are new, and at most one read
+-- No more than so many entries and reads are new. No number of a capture is new, or one is, of a read that was answered at
+-- once or that waits
 pub record IsFew (before after : MasterState) (most : ℕ) : Type 0 where
   pub few : (length after.log - length before.log) + (after.captured - before.captured) ≤ most
-  pub captures : (after.captured ≡ before.captured) ⊎ CapturesOne before after
+  pub captures : (after.captured ≡ before.captured) ⊎ ((after.captures ≡ before.captures) ⊎ CapturesOne before after)
 
 -- the same of a master that served before: it serves still
 abbrev pub IsFewOf : Option MasterStage → Option MasterStage → ℕ → Type 0
@@ -150,10 +152,19 @@ abbrev pub IsLastNew : ℕ → MasterState → Type 0
 IsLastNew captured m = (older : List Captured) × (capture : Captured) × (m.captures ≡ older ++ capture ∷ [])
     × (Each (λ (c : Captured). c.number ≤ captured) older) × (captured < capture.number)
 
+-- the reads that wait were all captured before, or the last one is new
+abbrev pub IsLastNewIfAny : ℕ → MasterState → Type 0
+IsLastNewIfAny captured m = Each (λ (c : Captured). c.number ≤ captured) m.captures ⊎ ((captured < m.captured) × IsLastNew captured m)
+
 -- what a master has pushed and captured behind a length and a number has room
 pub record HasRoomBehind (former captured : ℕ) (m : MasterState) (spare : ℕ) : Type 0 where
   pub room : (length m.log - former) + (m.captured - captured) ≤ spare
-  pub captures : (m.captured ≡ captured) ⊎ ((captured < m.captured) × IsLastNew captured m)
+  pub captures : (m.captured ≡ captured) ⊎ IsLastNewIfAny captured m
+
+-- a read was captured behind a number
+abbrev pub is_captured_behind : ℕ → Option Captured → Bool
+is_captured_behind captured None = false
+is_captured_behind captured (Some c) = nat_lt captured c.number
 
 -- what is due has room, and is sound
 abbrev pub HasRoomFor : DueMarks → Option MasterStage → ℕ → Type 0

@@ -1,16 +1,16 @@
 // The marks of what masters push and capture, and of what the manager adopts.
-ghost use Rattle.std.specs.Prelude.{◌≡◌, ◌+◌, ◌<◌, ◌≤◌, ◌^◌, ◌++◌, [], ◌∷◌, List, None, Some, if◌then◌else◌, length, IfOk};
+ghost use Rattle.std.specs.Prelude.{◌≡◌, ◌+◌, ◌<◌, ◌≤◌, ◌^◌, ◌++◌, [], ◌∷◌, List, None, Some, if◌then◌else◌, length, option_copied, IfOk};
 ghost use Rattle.std.specs.List.{list_any};
 ghost use Rattle.curp_base.specs.Words.{numbered};
 ghost use Rattle.curp_cmd.specs.Node.{same_node};
 ghost use Rattle.curp_model.specs.Manager.{adopted_by};
-ghost use Rattle.curp_model.specs.Master.{Captured};
+ghost use Rattle.curp_model.specs.Master.{Captured as CapturedRead};
 ghost use Rattle.curp_model.specs.Recovery.{Serving};
 ghost use Rattle.curp_model.specs.World.{capture_mark, is_adopted, op_marks, op_requests, with_completion};
 ghost use Rattle.curp_world.specs.Given.{input_of};
 ghost use Rattle.curp_world.specs.Marks as spec;
 ghost use Rattle.curp_world.specs.Marks.{HasRoomBehind, HasRoomFor, IsSound, due_marks, marks_behind, marks_by};
-ghost use Rattle.curp_world.specs.Marks.{master_at, most_due, told_due};
+ghost use Rattle.curp_world.specs.Marks.{is_captured_behind, master_at, most_due, told_due};
 
 use crate::given::Given;
 use crate::nodes::Nodes;
@@ -18,7 +18,7 @@ use curp_base::{NoMemory, past};
 use curp_cmd::{Entry, NodeId, NodeKind, Request};
 use curp_inv::MasterNode;
 use curp_line::Line;
-use curp_master::Master;
+use curp_master::{Captured, Master};
 use curp_msg::{Body, Completed, Config, GcAnswer, Message};
 use std::alloc::Global;
 
@@ -161,7 +161,7 @@ fn most_by_message(body: &Body) -> u64
     ensures { result ≡ spec.most_by_message body.now }
 {
     match body {
-        Body::Update(_) | Body::Sync(_) | Body::Read(_) => 1,
+        Body::Update(_) | Body::Sync(_) | Body::Read(_) | Body::Glance(_) => 1,
         Body::TakeOut(_) | Body::GiveIn(_) | Body::ExpireClient { .. } => 1,
         Body::Collected(collected) => match &collected.answer {
             GcAnswer::Suspects(requests) => requests.len() as u64,
@@ -202,20 +202,30 @@ fn add_behind(marks: &mut Line, node: NodeId, master: &Master, former: u64, capt
         ++ marks_behind node former captured (Some (Serving master.now.state)) }
 {
     let log = master.log();
-    // For its clause alone.
-    let _length = log.len();
+    // For their clauses alone.
+    let (_length, _captured) = (log.len(), master.captured());
     let (part, epoch) = (master.part(), master.epoch());
     let pushed = past(log.entries(), former);
     add_ops(marks, node, part, epoch, former, pushed);
-    if captured < master.captured() {
+    if is_captured_behind(master.last_capture(), captured) {
         add_capture(marks, node, master);
+    }
+}
+
+// Whether the read was captured behind that number.
+fn is_captured_behind(last: Option<&Captured>, captured: u64) -> bool
+    ensures { result ≡ is_captured_behind captured (option_copied last) }
+{
+    match last {
+        Some(last) => captured < last.number(),
+        None => false,
     }
 }
 
 // The read that the master captured last.
 fn add_capture(marks: &mut Line, node: NodeId, master: &Master)
     requires room { 1 ≤ marks.old.spare }
-    ensures { (older : List Captured) (capture : Captured) → master.now.state.captures ≡ older ++ capture ∷ []
+    ensures { (older : List CapturedRead) (capture : CapturedRead) → master.now.state.captures ≡ older ++ capture ∷ []
         → marks.new.marks ≡ marks.old.marks
         ++ capture_mark node master.now.state.part master.now.state.epoch capture ∷ [] }
 {

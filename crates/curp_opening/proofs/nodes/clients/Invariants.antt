@@ -5,4 +5,4 @@ use Rattle.curp_opening.proofs.nodes.clients.Given as goal
 
 -- so many are made, with their numbers
 abbrev pub invariant-loop-made : goal.invariant-loop-made
-invariant-loop-made l = (states l.nodes.items ≡ replicate l.made (fresh_client l.header.fast l.config)) × HasNumbers l.nodes.items
+invariant-loop-made l = (states l.nodes.items ≡ replicate l.made (fresh_client l.header.fast l.header.protocol l.config)) × HasNumbers l.nodes.items

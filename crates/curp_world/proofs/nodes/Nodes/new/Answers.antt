@@ -27,5 +27,5 @@ returns c =
     let of_config : c.config-config.result.now ≡ c.managing.inside.manager.config = cc in
     made_opening c.args.header.now c.managing.inside.manager c.in_ok-clients.clients.items c.in_ok-masters.masters.items
     c.in_ok-backups.field-0.items c.in_ok-witnesses.field-0.items of_manager
-    (c.in_ok-clients.ensures.states ∙ ap (λ (config : Config). replicate c.args.header.now.clients (fresh_client c.args.header.now.fast config)) of_config)
+    (c.in_ok-clients.ensures.states ∙ ap (λ (config : Config). replicate c.args.header.now.clients (fresh_client c.args.header.now.fast c.args.header.now.protocol config)) of_config)
     c.in_ok-masters.ensures.states c.in_ok-backups.ensures.states c.in_ok-witnesses.ensures.states
