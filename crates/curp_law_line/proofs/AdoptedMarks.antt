@@ -1,5 +1,5 @@
 -- The marks that an adoption leaves.
-use Rattle.std.proofs.Common.{◌≡◌, ◌⊎◌, inl, inr, ℕ, zero, suc, ◌<◌, ◌+◌, ◌||◌, ◌&&◌, ◌==◌, Bool, true, false, not, cond, if◌then◌else◌, List, [], ◌∷◌, ◌++◌, map, refl, ap, sym, ◌∙◌, arith, append-nil, append_assoc}
+use Rattle.std.proofs.Common.{◌≡◌, ◌⊎◌, ◌<◌, ◌+◌, ◌||◌, ◌&&◌, ◌==◌, if◌then◌else◌, inl, inr, ℕ, zero, suc, Bool, true, false, not, cond, List, [], ◌∷◌, ◌++◌, map, refl, ap, sym, ◌∙◌, arith, append-nil, append_assoc}
 use Rattle.std.specs.List.{filter, list_any}
 use Rattle.std.proofs.lemmas.Bool.{and_parts}
 use Rattle.std.proofs.lemmas.List.Folds.{list_any-append}
@@ -8,7 +8,7 @@ use Rattle.curp_cmd.specs.RequestId.{same_id}
 use Rattle.curp_cmd.specs.declared.command.Request.{Request}
 use Rattle.curp_cmd.specs.declared.command.RequestId.{RequestId}
 use Rattle.curp_cmd.specs.declared.node.NodeId.{NodeId}
-use Rattle.curp_model.specs.Marks.{Mark, adopted, adoptions, cut_mark, executed, has_completed, is_dropped, is_past, is_update_mark, replayed_marks, Cut, Executed, Looked, Quick}
+use Rattle.curp_model.specs.Marks.{Cut, Executed, Looked, Mark, Quick, adopted, adoptions, cut_mark, executed, has_completed, is_dropped, is_past, is_update_mark, replayed_marks}
 use Rattle.curp_law_logs.specs.Hashes.{Asked, In, asked, updates}
 use Rattle.curp_law_line.proofs.Lists.{in_head, in_tail, or_none}
 

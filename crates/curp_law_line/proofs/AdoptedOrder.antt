@@ -30,7 +30,7 @@ use Rattle.curp_law_line.specs.Moves.{ops}
 use Rattle.curp_law_line.proofs.AdoptedMarks.{stays}
 use Rattle.curp_law_line.proofs.Adopting.{Adopting, Fronts, again, cut_part, done, gone, is_done, is_gone, keeps_on, new_part, not_done, order_now, order_was, parts_now, replayed}
 use Rattle.curp_law_line.proofs.Entries.{take_ungiven}
-use Rattle.curp_law_line.proofs.Hashes.{behind_append, behind_in, no_onward, on_append, update_mark, update_place, update_no_cut}
+use Rattle.curp_law_line.proofs.Hashes.{behind_append, behind_in, no_onward, on_append, update_mark, update_no_cut, update_place}
 use Rattle.curp_law_line.proofs.Lines.{has_moving}
 use Rattle.curp_law_line.proofs.Lists.{Distinct, distinct_filter, distinct_from, filter_alike, filter_full, filter_swap, from_filter, in_any, in_cases, in_filter, in_left, in_none, or_false, same_id-alike, some_or_none}
 use Rattle.curp_base.proofs.Numbered.{any_at, filter_at, numbered_set_same}

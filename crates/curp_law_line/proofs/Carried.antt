@@ -14,7 +14,7 @@ use Rattle.curp_cmd.specs.declared.entry.Entry.TheVariants.{Expire, Give, Op, Ta
 use Rattle.curp_cmd.specs.declared.migration.Package.{Package}
 use Rattle.curp_model.specs.Log.{LogState, entry_touches, package_of}
 use Rattle.curp_model.specs.Manager.{Migration}
-use Rattle.curp_law_logs.specs.Hashes.{Asked, In, NoGive, behind, behind_from, came, on, value, updates}
+use Rattle.curp_law_logs.specs.Hashes.{Asked, In, NoGive, behind, behind_from, came, on, updates, value}
 use Rattle.curp_law_line.specs.Hashes.{HashOk, Part, has_take, holds, is_take, onward, owns, state_of}
 use Rattle.curp_law_line.specs.Line.{Line, OrderOk}
 use Rattle.curp_law_line.proofs.Given.{LogValue}

@@ -1,5 +1,5 @@
 -- A completion, of an update or of a read.
-use Rattle.std.proofs.Common.{◌≡◌, ℕ, zero, suc, inl, inr, ◌⊎◌, Bool, true, false, cond, List, [], ◌∷◌, ◌++◌, map, length, Some, None, refl, ap, sym, ◌∙◌, subst, arith, ◌||◌, ◌&&◌, not, Option}
+use Rattle.std.proofs.Common.{◌≡◌, ◌⊎◌, ◌||◌, ◌&&◌, ℕ, zero, suc, inl, inr, Bool, true, false, cond, List, [], ◌∷◌, ◌++◌, map, length, Some, None, refl, ap, sym, ◌∙◌, subst, arith, not, Option}
 use Rattle.std.specs.List.{filter}
 use Rattle.std.proofs.lemmas.Bool.{and_from, and_parts, cases_Bool, or_right}
 use Rattle.curp_base.specs.Words.{At, Each, numbered}
@@ -15,12 +15,12 @@ use Rattle.curp_order.specs.declared.Event.{Event}
 use Rattle.curp_order.specs.declared.Event.TheVariants.{Complete, Invoke}
 use Rattle.curp_msg.specs.declared.machine.Capture.{Capture}
 use Rattle.curp_msg.specs.declared.machine.Completed.{Completed}
-use Rattle.curp_model.specs.Marks.{Executed, Mark, flagged, is_flagged, is_update_mark, Cut, Looked, Place, Quick, in_turn, is_capture, is_cut, is_open_cut, is_quick}
+use Rattle.curp_model.specs.Marks.{Cut, Executed, Looked, Mark, Place, Quick, flagged, in_turn, is_capture, is_cut, is_flagged, is_open_cut, is_quick, is_update_mark}
 use Rattle.curp_law_logs.specs.Hashes.{Asked, In, asked, updates}
 use Rattle.curp_law_line.specs.Hashes.{HashesOk, Part}
 use Rattle.curp_law_line.specs.Line.{Answered, AnswersOk, DistinctOk, EarlyAt, FlagOf, FlagsOk, InTimeOk, InvokedOk, IsCompleted, KindsOk, Line, MarkedOk, OneFlagOk, OpAt, OrderOk, ReadsOk, StandingOk, UnflaggedOk, WaitingOk, WasInvoked}
 use Rattle.curp_law_line.specs.Moves.{CompleteFits, FlagFits, completing, flagging}
-use Rattle.curp_law_line.proofs.Hashes.{update_mark, timed_no_cut, update_no_cut, update_timed}
+use Rattle.curp_law_line.proofs.Hashes.{timed_no_cut, update_mark, update_no_cut, update_timed}
 use Rattle.curp_law_line.proofs.Invocations.{completed_grows, invoked_grows}
 use Rattle.curp_law_line.proofs.Lists.{Distinct, distinct_from, in_filter, in_map, same_id-alike}
 use Rattle.curp_law_line.proofs.Ops.{one_command}

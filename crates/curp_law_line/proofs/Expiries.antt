@@ -1,5 +1,5 @@
 -- An expiry, and a look.
-use Rattle.std.proofs.Common.{◌≡◌, ℕ, ◌||◌, inl, inr, true, false, List, [], ◌∷◌, ◌++◌, length, None, refl, ap, sym, ◌∙◌, subst, arith, append-nil, Bool, cond, map}
+use Rattle.std.proofs.Common.{◌≡◌, ◌||◌, ℕ, inl, inr, true, false, List, [], ◌∷◌, ◌++◌, length, None, refl, ap, sym, ◌∙◌, subst, arith, append-nil, Bool, cond, map}
 use Rattle.curp_base.specs.Words.{At}
 use Rattle.curp_base.proofs.Lists.{at_append, at_push_cases, at_within}
 use Rattle.curp_range.specs.Spans.{Span, is_owned}
@@ -8,7 +8,7 @@ use Rattle.curp_cmd.specs.declared.command.Request.{Request}
 use Rattle.curp_cmd.specs.declared.entry.Entry.{Entry}
 use Rattle.curp_cmd.specs.declared.entry.Entry.TheVariants.{Expire, Op}
 use Rattle.curp_model.specs.Marks.{Executed, Mark, is_update_mark, looked, quick}
-use Rattle.curp_law_logs.specs.Hashes.{Asked, behind, updates, asked}
+use Rattle.curp_law_logs.specs.Hashes.{Asked, asked, behind, updates}
 use Rattle.curp_law_line.specs.Hashes.{HashOk, HashesOk, Part, holds, is_give, is_take, onward}
 use Rattle.curp_law_line.specs.Line.{AnswersOk, DistinctOk, InTimeOk, InvokedOk, KindsOk, Line, MarkedOk, OrderOk, ReadsOk, WasInvoked}
 use Rattle.curp_law_line.specs.Moves.{Look, LookFits, PushExpire, PushExpireFits, expire_pushed, looking, pushed, quickly}

@@ -16,7 +16,7 @@ use Rattle.curp_cmd.specs.declared.migration.Package.{Package}
 use Rattle.curp_model.specs.Manager.{Migration}
 use Rattle.curp_model.specs.Table.{check}
 use Rattle.curp_model.proofs.Logs.{op_not_new}
-use Rattle.curp_law_logs.specs.Hashes.{Asked, In, NoGive, NotNew, behind, came, gives, on, value, updates}
+use Rattle.curp_law_logs.specs.Hashes.{Asked, In, NoGive, NotNew, behind, came, gives, on, updates, value}
 use Rattle.curp_law_line.specs.Hashes.{HashOk, HashesOk, Part, given_on, has_take, holds, is_give, is_take, onward, owns, state_of}
 use Rattle.curp_law_line.specs.Line.{Line, OrderOk}
 use Rattle.curp_law_line.specs.Moves.{PushGive, PushGiveFits, give_pushed, pushed}

@@ -11,15 +11,15 @@ use Rattle.curp_order.specs.declared.Event.{Event}
 use Rattle.curp_order.specs.declared.Event.TheVariants.{Complete, Invoke}
 use Rattle.curp_msg.specs.declared.machine.Completed.{Completed}
 use Rattle.curp_facts.specs.Marked.{completes, is_completed}
-use Rattle.curp_model.specs.Marks.{Mark, flagged, is_flagged, is_shown, is_update_mark, shown, quick}
+use Rattle.curp_model.specs.Marks.{Mark, flagged, is_flagged, is_shown, is_update_mark, quick, shown}
 use Rattle.curp_law_logs.specs.Hashes.{Asked, In, asked}
 use Rattle.curp_law_line.specs.Line.{IsCompleted, Line, LineOk, StandsIn, completed_order}
-use Rattle.curp_law_line.specs.Moves.{Adopt, Adopts, AllFit, Completes, ExpirePush, Fits, Flags, GivePush, GivenDone, Invokes, Looks, Migrates, Move, OpPush, TakePush, Told, Quicks, Lates, Strays, after, all_after, replayed_of}
+use Rattle.curp_law_line.specs.Moves.{Adopt, Adopts, AllFit, Completes, ExpirePush, Fits, Flags, GivePush, GivenDone, Invokes, Lates, Looks, Migrates, Move, OpPush, Quicks, Strays, TakePush, Told, after, all_after, replayed_of}
 use Rattle.curp_law_line.proofs.AdoptedMarks.{adopted_is, flagged_stays, fresh_of, stays}
 use Rattle.curp_law_line.proofs.Given.{LogsOk, Pure, Second}
 use Rattle.curp_law_line.proofs.Hashes.{update_place}
 use Rattle.curp_law_line.proofs.Keeps.{keeps}
-use Rattle.curp_law_line.proofs.Lists.{in_any, in_head, in_tail, filter_within}
+use Rattle.curp_law_line.proofs.Lists.{filter_within, in_any, in_head, in_tail}
 use Rattle.curp_base.proofs.Numbered.{any_at}
 use Rattle.curp_law_line.proofs.Puts.{put_filter}
 

@@ -1,5 +1,5 @@
 -- The order and the logs at one hash, as they grow at their ends.
-use Rattle.std.proofs.Common.{◌≡◌, ℕ, suc, ◌==◌, ◌||◌, ◌&&◌, inl, inr, ◌⊎◌, Bool, true, false, not, cond, if◌then◌else◌, List, [], ◌∷◌, ◌++◌, map, Option, Some, None, refl, ap, sym, ◌∙◌, append-nil}
+use Rattle.std.proofs.Common.{◌≡◌, ◌==◌, ◌||◌, ◌&&◌, ◌⊎◌, if◌then◌else◌, ℕ, suc, inl, inr, Bool, true, false, not, cond, List, [], ◌∷◌, ◌++◌, map, Option, Some, None, refl, ap, sym, ◌∙◌, append-nil}
 use Rattle.std.specs.Cmp.Lexicographic.{slice_cmp}
 use Rattle.std.specs.FinMap.Entries.{find}
 use Rattle.std.specs.List.{filter, list_any}
@@ -20,7 +20,7 @@ use Rattle.curp_model.specs.Log.{LogState, after_entry, meaning}
 use Rattle.curp_model.specs.Manager.{Migration}
 use Rattle.curp_model.specs.Marks.{Cut, Executed, Looked, Mark, Place, Quick, in_turn, is_cut, is_update_mark}
 use Rattle.curp_model.proofs.Logs.{meaning_append}
-use Rattle.curp_law_logs.specs.Hashes.{Asked, In, NoGive, behind, behind_from, came, came_from, gives, on, asked, updates}
+use Rattle.curp_law_logs.specs.Hashes.{Asked, In, NoGive, asked, behind, behind_from, came, came_from, gives, on, updates}
 use Rattle.curp_law_line.specs.Hashes.{Part, given_on, has_take, is_take, onward}
 use Rattle.curp_law_line.proofs.Lists.{in_cases, in_cons, in_map, in_none, or_none}
 use Rattle.curp_base.proofs.Numbered.{filter_at}

@@ -1,5 +1,5 @@
 -- What the order shows is an order of the history.
-use Rattle.std.proofs.Common.{◌≡◌, ◌||◌, cond, inl, inr, ℕ, suc, ◌<◌, Bool, true, false, List, ◌∷◌, ◌++◌, take, drop, map, length, Some, refl, ap, sym, ◌∙◌, subst, arith, ◌&&◌, not}
+use Rattle.std.proofs.Common.{◌≡◌, ◌||◌, ◌<◌, ◌&&◌, cond, inl, inr, ℕ, suc, Bool, true, false, List, ◌∷◌, ◌++◌, take, drop, map, length, Some, refl, ap, sym, ◌∙◌, subst, arith, not}
 use Rattle.std.specs.List.{filter}
 use Rattle.std.proofs.lemmas.Bool.{cases_Bool, cases_eq, cases_lt, or_left, or_right}
 use Rattle.std.proofs.lemmas.List.{map-append}
@@ -13,13 +13,14 @@ use Rattle.curp_cmd.specs.declared.command.RequestId.{RequestId}
 use Rattle.curp_order.specs.Order.{IsOrder, answers, store_after}
 use Rattle.curp_order.specs.declared.Event.TheVariants.{Complete, Invoke}
 use Rattle.curp_model.specs.Log.{IsDone}
-use Rattle.curp_model.specs.Marks.{Mark, is_shown, is_update_mark, shown, Place, in_turn, is_cut}
+use Rattle.curp_model.specs.Marks.{Mark, Place, in_turn, is_cut, is_shown, is_update_mark, shown}
 use Rattle.curp_law_logs.specs.Hashes.{Asked, asked, updates}
 use Rattle.curp_law_line.specs.Hashes.{Part}
+use Rattle.curp_facts.specs.Kept.{ShowsAnswer}
 use Rattle.curp_law_line.specs.Line.{Answered, Line, LineOk, WasInvoked, answer_at}
 use Rattle.curp_law_line.proofs.AdoptedMarks.{filter_order}
 use Rattle.curp_law_line.proofs.Completions.{marks_once}
-use Rattle.curp_law_line.proofs.Hashes.{update_mark, update_place, updates_append, flagged_no_cut, update_no_cut, update_timed}
+use Rattle.curp_law_line.proofs.Hashes.{flagged_no_cut, update_mark, update_no_cut, update_place, update_timed, updates_append}
 use Rattle.curp_law_line.proofs.Lists.{distinct_from, in_map, take_split}
 use Rattle.curp_base.proofs.Numbered.{filter_at}
 use Rattle.curp_law_line.proofs.Ops.{one_command}
@@ -65,14 +66,6 @@ shown_no_cut p false t = update_no_cut p true t
 shown_timed : (p : Place) (b : Bool) → (b || is_update_mark p) ≡ true → (b || in_turn p) ≡ true
 shown_timed p true t = refl
 shown_timed p false t = update_timed p false t
-
--- the order shows the request, and one thread gives it that answer there
-pub record ShowsAnswer (marks : List Mark) (id : RequestId) (a : Answer) : Type 0 where
-  pub place : ℕ
-  pub x : Asked
-  pub stands : At (shown marks) place x
-  pub its_id : x.0 ≡ id
-  pub answer : At (answers (shown marks)) place a
 
 -- a mark of the order
 pub record ShownMark (marks : List Mark) (id : RequestId) : Type 0 where

@@ -8,9 +8,8 @@ use Rattle.curp_cmd.specs.declared.command.RequestId.{RequestId}
 use Rattle.curp_order.specs.Order.{IsHistory}
 use Rattle.curp_order.specs.declared.Event.{Event}
 use Rattle.curp_order.specs.declared.Event.TheVariants.{Complete, Invoke}
-use Rattle.curp_law_line.specs.Line.{IsCompleted, Line, OrderOk, WasInvoked}
-use Rattle.curp_law_line.specs.Moves.{InvokeFits, invoking, straying, take_told}
-use Rattle.curp_cmd.specs.declared.entry.Entry.{Entry}
+use Rattle.curp_law_line.specs.Line.{IsCompleted, Left, Line, OrderOk, WasInvoked}
+use Rattle.curp_law_line.specs.Moves.{InvokeFits, invoking, take_told}
 
 -- what was invoked stays so
 pub invoked_grows : (h more : List Event) (id : RequestId) (c : Command) → WasInvoked h id c → WasInvoked (h ++ more) id c
@@ -96,9 +95,9 @@ tell_keeps s number ok = record {
   in_time = ok.in_time;
 }
 
--- nor does it that a superseded log grows
-pub stray_keeps : (s : Line) (part number : ℕ) (more : List Entry) → OrderOk s → OrderOk (straying s part number more)
-stray_keeps s part number more ok = record {
+-- nor does it what the superseded logs are
+pub left_keeps : (s : Line) (left : ℕ → ℕ → Left) → OrderOk s → OrderOk (record s { left = left })
+left_keeps s left ok = record {
   history = ok.history;
   hashes = ok.hashes;
   waiting = ok.waiting;

@@ -10,7 +10,7 @@ use Rattle.curp_msg.specs.declared.machine.Capture.{Capture}
 use Rattle.curp_model.specs.Log.{answer_after}
 use Rattle.curp_law_line.specs.Hashes.{HashOk, Part, owns}
 use Rattle.curp_law_line.specs.Line.{Left, Line, LineOk, LookGives}
-use Rattle.curp_law_line.specs.Moves.{Adopts, AllFit, Completes, ExpirePush, Fits, Flags, GivePush, GivenDone, Invokes, IsDropped, Look, LookFits, Looks, Migrates, Move, OpPush, TakePush, Told, Quicks, Lates, Strays, after, all_after, looking}
+use Rattle.curp_law_line.specs.Moves.{Adopts, AllFit, Completes, ExpirePush, Fits, Flags, GivePush, GivenDone, Invokes, IsDropped, Lates, Look, LookFits, Looks, Migrates, Move, OpPush, Quicks, Strays, TakePush, Told, after, all_after, looking}
 use Rattle.curp_law_line.proofs.Given.{LogsOk, Pure, Second}
 use Rattle.curp_law_line.proofs.ReadsKept.{reads_keep}
 use Rattle.curp_law_line.proofs.UpdatesKept.{UpdatesOk, updates_keep, whole_value}

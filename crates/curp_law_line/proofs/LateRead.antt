@@ -1,6 +1,6 @@
 -- A late read as moves: a read is invoked, a master is adopted, an update completes at it, and then the master that was
 -- superseded answers the read, which completes: it stands before the update, and that is an order of the history.
-use Rattle.std.proofs.Common.{◌≡◌, ℕ, zero, suc, nat_le, ◌||◌, Bool, true, false, List, [], ◌∷◌, Some, None, refl, ap, sym, ◌∙◌, subst, arith, ◌&&◌, ◌==◌, Option}
+use Rattle.std.proofs.Common.{◌≡◌, ◌||◌, ◌&&◌, ◌==◌, ℕ, zero, suc, nat_le, Bool, true, false, List, [], ◌∷◌, Some, None, refl, ap, sym, ◌∙◌, subst, arith, Option}
 use Rattle.std.specs.FinMap as map
 use Rattle.std.specs.List.{IsDistinct}
 use Rattle.curp_cmd.specs.Store.{applied}
@@ -16,7 +16,7 @@ use Rattle.curp_cmd.specs.declared.command.Command.{Command}
 use Rattle.curp_cmd.specs.declared.command.Command.TheVariants.{Get, Put}
 use Rattle.curp_order.specs.declared.Event.{Event}
 use Rattle.curp_order.specs.declared.Event.TheVariants.{Complete, Invoke}
-use Rattle.curp_model.specs.Marks.{Mark, shown, cut_mark, executed, quick}
+use Rattle.curp_model.specs.Marks.{Mark, cut_mark, executed, quick, shown}
 use Rattle.curp_law_line.specs.Hashes.{Part}
 use Rattle.curp_law_line.specs.Line.{EarlyAt, Line}
 use Rattle.curp_law_line.specs.Moves.{Adopts, AllFit, Completes, Invokes, Lates, OpPush, after, all_after, flags_mark}

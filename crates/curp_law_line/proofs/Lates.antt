@@ -1,10 +1,10 @@
 -- A quick mark that comes between others keeps the facts of the order.
-use Rattle.std.proofs.Common.{◌≡◌, ℕ, ◌≤◌, inl, inr, true, false, List, length, refl, ap, sym, ◌∙◌, subst, arith, map}
+use Rattle.std.proofs.Common.{◌≡◌, ◌≤◌, ℕ, inl, inr, true, false, List, length, refl, ap, sym, ◌∙◌, subst, arith, map}
 use Rattle.curp_base.specs.Words.{At}
 use Rattle.curp_base.proofs.Lists.{at_within}
 use Rattle.curp_cmd.specs.Store.{is_update}
 use Rattle.curp_law_logs.specs.Hashes.{Asked, asked, updates}
-use Rattle.curp_model.specs.Marks.{Executed, Mark, is_update_mark, quick, is_timed}
+use Rattle.curp_model.specs.Marks.{Executed, Mark, is_timed, is_update_mark, quick}
 use Rattle.curp_law_line.specs.Hashes.{HashesOk}
 use Rattle.curp_law_line.specs.Line.{AnswersOk, DistinctOk, InTimeOk, InvokedOk, KindsOk, Line, MarkedOk, OneFlagOk, OrderOk, ReadsOk, WasInvoked}
 use Rattle.curp_law_line.specs.Moves.{Late, LateFits, late_quickly, put_before}

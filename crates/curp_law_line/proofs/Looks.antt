@@ -11,7 +11,7 @@ use Rattle.curp_cmd.specs.declared.entry.Entry.{Entry}
 use Rattle.curp_cmd.specs.declared.entry.Entry.TheVariants.{Take}
 use Rattle.curp_order.specs.Order.{store_after}
 use Rattle.curp_model.specs.Marks.{Executed, Looked, Mark, is_past, is_update_mark}
-use Rattle.curp_law_logs.specs.Hashes.{In, on, asked, updates}
+use Rattle.curp_law_logs.specs.Hashes.{In, asked, on, updates}
 use Rattle.curp_law_line.specs.Hashes.{Part, is_take}
 use Rattle.curp_law_line.specs.Line.{Line, LooksOk, ToldTake}
 use Rattle.curp_law_line.specs.Moves.{Adopt, AdoptFits}

@@ -10,10 +10,10 @@ use Rattle.curp_cmd.specs.declared.command.Request.{Request}
 use Rattle.curp_cmd.specs.declared.entry.Entry.{Entry}
 use Rattle.curp_cmd.specs.declared.entry.Entry.TheVariants.{Op, Take}
 use Rattle.curp_msg.specs.declared.machine.Completed.{Completed}
-use Rattle.curp_model.specs.Marks.{Executed, Looked, Mark, flagged, looked, is_quick}
+use Rattle.curp_model.specs.Marks.{Executed, Looked, Mark, flagged, is_quick, looked}
 use Rattle.curp_law_line.specs.Hashes.{Part}
 use Rattle.curp_law_line.specs.Line.{Line, LooksOk, OpAt, OrderOk, ToldTake}
-use Rattle.curp_law_line.specs.Moves.{Adopt, AdoptFits, Look, LookFits, ops, pushed, relogged, replayed_of, put_before}
+use Rattle.curp_law_line.specs.Moves.{Adopt, AdoptFits, Look, LookFits, ops, pushed, put_before, relogged, replayed_of}
 use Rattle.curp_law_line.proofs.AdoptedMarks.{filter_order, stays}
 use Rattle.curp_law_line.proofs.Completions.{flagging_at}
 use Rattle.curp_law_line.proofs.Given.{TakesOnce}

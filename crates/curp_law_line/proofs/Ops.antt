@@ -1,5 +1,5 @@
 -- The push of an op at the owner of its hashes.
-use Rattle.std.proofs.Common.{◌≡◌, ◌≢◌, ℕ, ◌||◌, inl, inr, true, false, List, [], ◌∷◌, ◌++◌, length, take, Some, refl, ap, sym, ◌∙◌, subst, arith, append-nil, append_assoc, not}
+use Rattle.std.proofs.Common.{◌≡◌, ◌≢◌, ◌||◌, ℕ, inl, inr, true, false, List, [], ◌∷◌, ◌++◌, length, take, Some, refl, ap, sym, ◌∙◌, subst, arith, append-nil, append_assoc, not}
 use Rattle.std.proofs.Math.Seq.{take-append_seam}
 use Rattle.std.proofs.lemmas.Bool.{cases_Bool, or_cases}
 use Rattle.curp_base.specs.Words.{At, numbered}
@@ -26,7 +26,7 @@ use Rattle.curp_law_line.specs.Hashes.{HashOk, HashesOk, Part, has_take, holds, 
 use Rattle.curp_law_line.specs.Line.{Answered, AnswersOk, DistinctOk, FlagsOk, InTimeOk, InvokedOk, IsCompleted, KindsOk, Line, MarkedOk, OnceOk, OneFlagOk, OpAt, OrderOk, Owned, ReadsOk, StandingOk, UnflaggedOk, WaitingOk, WasInvoked}
 use Rattle.curp_law_line.specs.Moves.{PushOp, PushOpFits, op_pushed, pushed}
 use Rattle.curp_law_line.proofs.Given.{LogsValue, Pure}
-use Rattle.curp_law_line.proofs.Hashes.{any_push, behind_in, behind_op, came_op, has_take_push, no_onward, on_append, on_none, owned_op, update_mark, updates_append, update_no_cut}
+use Rattle.curp_law_line.proofs.Hashes.{any_push, behind_in, behind_op, came_op, has_take_push, no_onward, on_append, on_none, owned_op, update_mark, update_no_cut, updates_append}
 use Rattle.curp_law_line.proofs.Lines.{has_moving, known_push, onward_given, onward_log, onward_same}
 use Rattle.curp_law_line.proofs.Lists.{in_cases, in_filter, in_none}
 use Rattle.curp_law_line.proofs.OwnedValues.{at_own, no_take, owned_answer}

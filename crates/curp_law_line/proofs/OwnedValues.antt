@@ -8,7 +8,7 @@ use Rattle.curp_cmd.specs.Store.{applied, nothing}
 use Rattle.curp_cmd.specs.declared.command.Command.{Command}
 use Rattle.curp_order.specs.Order.{store_after}
 use Rattle.curp_model.specs.Log.{answer_after}
-use Rattle.curp_law_logs.specs.Hashes.{Asked, behind, value, updates}
+use Rattle.curp_law_logs.specs.Hashes.{Asked, behind, updates, value}
 use Rattle.curp_law_line.specs.Hashes.{HashOk, Part, has_take, owns, state_of}
 use Rattle.curp_law_line.specs.Line.{Line, OrderOk, Owned}
 use Rattle.curp_law_line.proofs.Given.{LogValue, Pure}

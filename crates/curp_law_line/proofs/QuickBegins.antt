@@ -1,8 +1,8 @@
 -- Quick marks as they come, at an adopted master and at a superseded one; and what is invoked before an adoption.
-use Rattle.std.proofs.Common.{◌≡◌, inl, inr, ℕ, zero, suc, ◌<◌, ◌≤◌, ◌+◌, ◌-◌, ◌==◌, Bool, true, false, List, [], ◌∷◌, ◌++◌, take, drop, length, Some, refl, ap, sym, ◌∙◌, subst, arith, le_refl, take_all}
+use Rattle.std.proofs.Common.{◌≡◌, ◌<◌, ◌≤◌, ◌+◌, ◌-◌, ◌==◌, inl, inr, ℕ, zero, suc, Bool, true, false, List, [], ◌∷◌, ◌++◌, take, drop, length, Some, refl, ap, sym, ◌∙◌, subst, arith, le_refl, take_all}
 use Rattle.std.specs.FinMap as store
 use Rattle.std.specs.List.{filter, list_any}
-use Rattle.std.proofs.lemmas.Bool.{and_from, cases_lt, eq-eqb, and_parts, eqb-true}
+use Rattle.std.proofs.lemmas.Bool.{and_from, and_parts, cases_lt, eq-eqb, eqb-true}
 use Rattle.curp_base.specs.Words.{At, numbered}
 use Rattle.curp_base.proofs.Lists.{at_append_cases, at_append_right, at_push, at_push_cases, at_same, at_within}
 use Rattle.curp_base.proofs.Numbered.{numbered_same}
@@ -19,10 +19,10 @@ use Rattle.curp_msg.specs.declared.machine.Capture.{Capture}
 use Rattle.curp_model.specs.Log.{answer_after, entry_touches}
 use Rattle.curp_law_logs.specs.Gives.{GivesWithin}
 use Rattle.curp_law_logs.proofs.Untouched.{answer_untouched}
-use Rattle.curp_model.specs.Marks.{Cut, Executed, Mark, Quick, adoptions, is_cut, is_update_mark, quick, is_capture, shown, Looked, Place, cuts_at, cuts_part, is_number, put_at}
+use Rattle.curp_model.specs.Marks.{Cut, Executed, Looked, Mark, Place, Quick, adoptions, cuts_at, cuts_part, is_capture, is_cut, is_number, is_update_mark, put_at, quick, shown}
 use Rattle.curp_law_line.specs.Hashes.{Part, owns, state_of}
-use Rattle.curp_law_line.specs.Line.{CutEarly, IsCompleted, IsFirm, Left, Line, LineOk, QuickEarly, QuickGives, QuickLow, CutAt}
-use Rattle.curp_law_line.specs.Moves.{Adopt, FlagFits, Late, LateFits, Look, LookFits, adopting, flags_mark, late_quickly, quickly, replayed_of, put_before}
+use Rattle.curp_law_line.specs.Line.{CutAt, CutEarly, IsCompleted, IsFirm, Left, Line, LineOk, QuickEarly, QuickGives, QuickLow}
+use Rattle.curp_law_line.specs.Moves.{Adopt, FlagFits, Late, LateFits, Look, LookFits, adopting, flags_mark, late_quickly, put_before, quickly, replayed_of}
 use Rattle.curp_law_line.proofs.AdoptedMarks.{adopted_is, fresh_no_flag, fresh_of, stays, the_cut}
 use Rattle.curp_law_line.proofs.Carried.{quiet_gives}
 use Rattle.curp_law_line.proofs.Given.{LogsOk, Pure, Second}
@@ -30,7 +30,7 @@ use Rattle.curp_law_line.proofs.Hashes.{key_touches}
 use Rattle.curp_law_line.proofs.Lates.{late_low}
 use Rattle.curp_law_line.proofs.Lists.{in_any, same_id-alike}
 use Rattle.curp_law_line.proofs.OwnedValues.{owned_answer}
-use Rattle.curp_law_line.proofs.Puts.{put_before_it, put_cases, put_here, was_behind, was_low, put_at_is, put_at_end}
+use Rattle.curp_law_line.proofs.Puts.{put_at_end, put_at_is, put_before_it, put_cases, put_here, was_behind, was_low}
 use Rattle.curp_law_line.proofs.Shown.{by_updates}
 use Rattle.curp_law_line.proofs.Spans.{owned_before}
 use Rattle.curp_law_line.proofs.UpdatesKept.{whole_value}

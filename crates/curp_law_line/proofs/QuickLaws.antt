@@ -1,6 +1,6 @@
 -- Where quick marks and the marks of adoptions go as the moves go on: what they give, what stands low before them, and that
 -- requests which were invoked before them in time stay so.
-use Rattle.std.proofs.Common.{◌≡◌, inl, inr, ℕ, zero, suc, ◌<◌, ◌≤◌, ◌==◌, ◌&&◌, ◌||◌, not, Bool, true, false, cond, List, [], ◌∷◌, ◌++◌, take, length, Some, None, refl, ap, sym, ◌∙◌, subst, arith, append-nil}
+use Rattle.std.proofs.Common.{◌≡◌, ◌<◌, ◌≤◌, ◌==◌, ◌&&◌, ◌||◌, inl, inr, ℕ, zero, suc, not, Bool, true, false, cond, List, [], ◌∷◌, ◌++◌, take, length, Some, None, refl, ap, sym, ◌∙◌, subst, arith, append-nil}
 use Rattle.std.specs.List.{filter}
 use Rattle.curp_base.specs.Words.{At}
 use Rattle.curp_base.proofs.Lists.{at_append, at_append_cases, at_map, at_push_cases, at_take, at_within}
@@ -14,7 +14,7 @@ use Rattle.curp_msg.specs.declared.machine.Capture.{Capture}
 use Rattle.curp_msg.specs.declared.machine.Completed.{Completed}
 use Rattle.curp_model.specs.Marks.{Cut, Executed, Looked, Mark, Place, Quick, flagged, is_cut, is_flagged, is_past, is_quick, is_shown, is_update_mark, quick}
 use Rattle.curp_law_line.specs.Line.{CutEarly, EarlyAt, IsCompleted, KindsOk, Line, LineOk, QuickEarly, QuickGives, QuickLow, WasInvoked, answer_at}
-use Rattle.curp_law_line.specs.Moves.{Adopt, AdoptFits, Adopts, Completes, ExpirePush, Fits, Flags, GivePush, GivenDone, Invokes, Lates, Looks, Migrates, Move, OpPush, Quicks, Strays, TakePush, Told, adopting, after, replayed_of, put_before}
+use Rattle.curp_law_line.specs.Moves.{Adopt, AdoptFits, Adopts, Completes, ExpirePush, Fits, Flags, GivePush, GivenDone, Invokes, Lates, Looks, Migrates, Move, OpPush, Quicks, Strays, TakePush, Told, adopting, after, put_before, replayed_of}
 use Rattle.curp_law_line.proofs.AdoptedMarks.{adopted_is, fresh_no_flag, fresh_of, stays}
 use Rattle.curp_law_line.proofs.Completions.{flagging_at, read_own, update_own}
 use Rattle.curp_law_line.proofs.Given.{LogsOk, Pure, Second}

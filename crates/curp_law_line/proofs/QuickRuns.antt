@@ -1,5 +1,5 @@
 -- A read that is answered at once, from its answer to its completion, through lists of moves.
-use Rattle.std.proofs.Common.{◌≡◌, ℕ, ◌+◌, List, [], ◌∷◌, sym, subst}
+use Rattle.std.proofs.Common.{◌≡◌, ◌+◌, ℕ, List, [], ◌∷◌, sym, subst}
 use Rattle.curp_base.specs.Words.{At}
 use Rattle.curp_base.proofs.Lists.{at_append}
 use Rattle.curp_cmd.specs.declared.command.Answer.{Answer}

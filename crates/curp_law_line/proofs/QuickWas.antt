@@ -1,5 +1,5 @@
 -- Where the marks of a state come from: each was there before a move, or came with it.
-use Rattle.std.proofs.Common.{◌≡◌, ◌⊎◌, inl, inr, ℕ, ◌<◌, ◌≤◌, true, false, List, [], ◌∷◌, ◌++◌, take, length, Some, None, refl, ap, sym, ◌∙◌, subst, arith}
+use Rattle.std.proofs.Common.{◌≡◌, ◌⊎◌, ◌<◌, ◌≤◌, inl, inr, ℕ, true, false, List, [], ◌∷◌, ◌++◌, take, length, Some, None, refl, ap, sym, ◌∙◌, subst, arith}
 use Rattle.std.specs.List.{filter}
 use Rattle.std.proofs.lemmas.List.{length-take-le}
 use Rattle.curp_base.specs.Words.{At}
@@ -7,7 +7,7 @@ use Rattle.curp_base.proofs.Lists.{at_append_cases, at_push_cases, at_same, at_w
 use Rattle.curp_msg.specs.declared.machine.Completed.{Completed}
 use Rattle.curp_model.specs.Marks.{Mark, executed, flagged, is_flagged, is_shown, is_update_mark, looked, quick}
 use Rattle.curp_law_line.specs.Line.{IsCompleted, KindsOk, Line, LineOk}
-use Rattle.curp_law_line.specs.Moves.{Adopt, AdoptFits, Adopts, Completes, ExpirePush, Fits, Flags, GivePush, GivenDone, Invokes, Lates, Looks, Migrates, Move, OpPush, Quicks, Strays, TakePush, Told, after, replayed_of, put_before}
+use Rattle.curp_law_line.specs.Moves.{Adopt, AdoptFits, Adopts, Completes, ExpirePush, Fits, Flags, GivePush, GivenDone, Invokes, Lates, Looks, Migrates, Move, OpPush, Quicks, Strays, TakePush, Told, after, put_before, replayed_of}
 use Rattle.curp_law_line.specs.Moved.{Came, IsNew}
 use Rattle.curp_law_line.proofs.AdoptedMarks.{adopted_is, fresh_mark_at, fresh_of, stays}
 use Rattle.curp_law_line.proofs.Completions.{flagging_at, read_own, update_own}

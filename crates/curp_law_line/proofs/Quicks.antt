@@ -1,5 +1,5 @@
 -- What an adoption leaves before a place of the marks, where what is uncompleted there on a hash stays.
-use Rattle.std.proofs.Common.{◌≡◌, ℕ, ◌<◌, inl, inr, true, false, List, ◌++◌, take, length, Some, sym, ◌∙◌, subst, arith}
+use Rattle.std.proofs.Common.{◌≡◌, ◌<◌, ℕ, inl, inr, true, false, List, ◌++◌, take, length, Some, sym, ◌∙◌, subst, arith}
 use Rattle.std.specs.List.{filter}
 use Rattle.std.proofs.lemmas.Bool.{cases_Bool, cases_eq}
 use Rattle.curp_base.specs.Words.{At, numbered}

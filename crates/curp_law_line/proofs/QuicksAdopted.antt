@@ -1,5 +1,5 @@
 -- What is kept of quick marks and adoptions, through an adoption.
-use Rattle.std.proofs.Common.{◌≡◌, inl, inr, ℕ, ◌<◌, ◌≤◌, ◌+◌, ◌==◌, ◌&&◌, nat_le, Bool, true, false, cond, not, List, [], ◌∷◌, ◌++◌, take, length, Some, refl, ap, sym, ◌∙◌, subst, arith, append-nil, append_assoc}
+use Rattle.std.proofs.Common.{◌≡◌, ◌<◌, ◌≤◌, ◌+◌, ◌==◌, ◌&&◌, inl, inr, ℕ, nat_le, Bool, true, false, cond, not, List, [], ◌∷◌, ◌++◌, take, length, Some, refl, ap, sym, ◌∙◌, subst, arith, append-nil, append_assoc}
 use Rattle.std.specs.FinMap as store
 use Rattle.std.specs.List.{filter, list_any}
 use Rattle.std.proofs.lemmas.Bool.{and_from, and_parts, cases_Bool, cases_eq, cases_lt, eq-eqb, eqb-true}
@@ -12,7 +12,7 @@ use Rattle.curp_cmd.specs.declared.command.Command.{Command}
 use Rattle.curp_cmd.specs.declared.entry.Entry.{Entry}
 use Rattle.curp_cmd.specs.declared.entry.Entry.TheVariants.{Expire, Give, Op, Take}
 use Rattle.curp_model.specs.Log.{entry_touches}
-use Rattle.curp_law_logs.specs.Hashes.{Asked, behind, came, on, value, updates}
+use Rattle.curp_law_logs.specs.Hashes.{Asked, behind, came, on, updates, value}
 use Rattle.curp_model.specs.Marks.{Cut, Executed, Looked, Mark, Place, Quick, adoptions, cuts_part, has_completed, is_cut, is_past, is_update_mark}
 use Rattle.curp_law_line.specs.Hashes.{Part, owns, state_of}
 use Rattle.curp_law_line.specs.Line.{AwayOk, IsFirm, Left, Line, OrderOk, Owned, QuickKept, TakesOk}

@@ -1,5 +1,5 @@
 -- What is kept of quick marks and adoptions, as the moves go on: all but an adoption.
-use Rattle.std.proofs.Common.{◌≡◌, inl, inr, ℕ, suc, ◌<◌, ◌≤◌, ◌+◌, ◌==◌, ◌&&◌, Bool, true, false, cond, List, [], ◌∷◌, ◌++◌, take, map, length, Some, refl, ap, sym, ◌∙◌, subst, arith, take_all}
+use Rattle.std.proofs.Common.{◌≡◌, ◌<◌, ◌≤◌, ◌+◌, ◌==◌, ◌&&◌, inl, inr, ℕ, suc, Bool, true, false, cond, List, [], ◌∷◌, ◌++◌, take, map, length, Some, refl, ap, sym, ◌∙◌, subst, arith, take_all}
 use Rattle.std.specs.FinMap as store
 use Rattle.std.specs.List.{filter, list_any}
 use Rattle.std.proofs.lemmas.Bool.{and_from, and_parts, cases_Bool, cases_eq, cases_lt, eq-eqb, eqb-true, or_parts}
@@ -7,14 +7,14 @@ use Rattle.std.proofs.lemmas.List.{length-append, take-append-le}
 use Rattle.std.proofs.lemmas.List.Elements.{filter-append}
 use Rattle.std.proofs.lemmas.List.Folds.{list_any-append}
 use Rattle.curp_base.specs.Words.{At, numbered}
-use Rattle.curp_base.proofs.Lists.{at_append, at_append_cases, at_push, at_push_cases, at_within, at_map}
+use Rattle.curp_base.proofs.Lists.{at_append, at_append_cases, at_map, at_push, at_push_cases, at_within}
 use Rattle.curp_base.proofs.Numbered.{numbered_same}
 use Rattle.curp_cmd.specs.Hash.{hash_of, touches}
 use Rattle.curp_cmd.specs.declared.entry.Entry.{Entry}
 use Rattle.curp_cmd.specs.declared.command.Command.{Command}
 use Rattle.curp_msg.specs.declared.machine.Completed.{Completed}
 use Rattle.curp_model.specs.Log.{entry_touches}
-use Rattle.curp_law_logs.specs.Hashes.{value, asked, updates}
+use Rattle.curp_law_logs.specs.Hashes.{asked, updates, value}
 use Rattle.curp_model.specs.Marks.{Cut, Executed, Looked, Mark, Place, Quick, adoptions, cuts_part, flagged, is_cut, is_flagged, is_update_mark}
 use Rattle.curp_law_line.specs.Hashes.{Part, state_of}
 use Rattle.curp_law_line.specs.Line.{AwayOk, CutAt, IsFirm, Left, QuickKept, ToldTake}

@@ -1,12 +1,12 @@
 -- Each move keeps what is kept of quick marks and adoptions.
 use Rattle.std.proofs.Common.{◌≡◌, inl, inr, ℕ, true, false, List, [], ◌∷◌, ◌++◌, length, Some, None, refl, ap, sym, ◌∙◌, subst, arith}
 use Rattle.curp_base.specs.Words.{At}
-use Rattle.curp_base.proofs.Lists.{at_one, at_append_cases}
+use Rattle.curp_base.proofs.Lists.{at_append_cases, at_one}
 use Rattle.curp_cmd.specs.Hash.{touches}
 use Rattle.curp_cmd.specs.declared.command.Command.{Command}
 use Rattle.curp_cmd.specs.declared.entry.Entry.TheVariants.{Expire, Give, Op, Take}
 use Rattle.curp_model.specs.Marks.{Mark, executed, is_cut, is_quick, looked, quick}
-use Rattle.curp_law_line.specs.Line.{AwayOk, Line, LooksKept, OrderOk, Owned, QuickKept, IsFirm}
+use Rattle.curp_law_line.specs.Line.{AwayOk, IsFirm, Line, LooksKept, OrderOk, Owned, QuickKept}
 use Rattle.curp_law_line.specs.Moves.{Adopts, Completes, ExpirePush, Fits, Flags, GivePush, GivenDone, Invokes, Lates, Look, LookFits, Looks, Migrates, Move, OpPush, Quicks, Strays, TakePush, Told, after, pushed, taken_by}
 use Rattle.curp_law_line.proofs.Given.{LogsOk, Pure}
 use Rattle.curp_law_line.proofs.Lates.{late_low}

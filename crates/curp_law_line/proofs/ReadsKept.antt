@@ -5,7 +5,7 @@ use Rattle.curp_base.proofs.Lists.{at_same}
 use Rattle.curp_cmd.specs.declared.entry.Entry.TheVariants.{Expire, Give, Op, Take}
 use Rattle.curp_model.specs.Marks.{Mark, executed, quick}
 use Rattle.curp_law_line.specs.Line.{Line, LooksKept, LooksOk, OrderOk, Owned, QuickKept, answer_at}
-use Rattle.curp_law_line.specs.Moves.{Adopt, AdoptFits, Adopts, Completes, ExpirePush, Fits, Flags, GivePush, GivenDone, Invokes, Looks, Migrates, Move, OpPush, TakePush, Told, Quicks, Lates, Strays, after, ops, relogged, replayed_of, taken_by}
+use Rattle.curp_law_line.specs.Moves.{Adopt, AdoptFits, Adopts, Completes, ExpirePush, Fits, Flags, GivePush, GivenDone, Invokes, Lates, Looks, Migrates, Move, OpPush, Quicks, Strays, TakePush, Told, after, ops, relogged, replayed_of, taken_by}
 use Rattle.curp_law_line.proofs.AdoptedMarks.{adopted_is, fresh_no_look, fresh_of}
 use Rattle.curp_law_line.proofs.Completions.{read_own, update_kind, update_own}
 use Rattle.curp_law_line.proofs.Given.{LogsOk, Pure}

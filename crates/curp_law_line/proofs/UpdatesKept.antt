@@ -10,7 +10,7 @@ use Rattle.curp_model.specs.Recovery.{replays}
 use Rattle.curp_model.proofs.Filters.{filter_apart}
 use Rattle.curp_law_line.specs.Hashes.{Part}
 use Rattle.curp_law_line.specs.Line.{Line, OrderOk, Owned}
-use Rattle.curp_law_line.specs.Moves.{Adopt, AdoptFits, Adopts, Completes, ExpirePush, Fits, Flags, GivePush, GivenDone, Invokes, Looks, Migrates, Move, OpPush, TakePush, Told, Quicks, Lates, Strays, after, replayed_of}
+use Rattle.curp_law_line.specs.Moves.{Adopt, AdoptFits, Adopts, Completes, ExpirePush, Fits, Flags, GivePush, GivenDone, Invokes, Lates, Looks, Migrates, Move, OpPush, Quicks, Strays, TakePush, Told, after, longer_left, replayed_of}
 use Rattle.curp_law_line.proofs.AdoptedOwners.{adopt_owned, replayed_alone}
 use Rattle.curp_law_line.proofs.Adoptions.{adopt_keeps}
 use Rattle.curp_law_line.proofs.Completions.{complete_keeps, flag_keeps}
@@ -19,7 +19,7 @@ use Rattle.curp_law_line.proofs.Given.{LogValue, LogsOk, Pure, Second}
 use Rattle.curp_law_line.proofs.Gives.{give_keeps}
 use Rattle.curp_law_line.proofs.Grounds.{adopt_ground}
 use Rattle.curp_law_line.proofs.Hashes.{owned_expire, owned_op}
-use Rattle.curp_law_line.proofs.Invocations.{invoke_keeps, stray_keeps, tell_keeps}
+use Rattle.curp_law_line.proofs.Invocations.{invoke_keeps, left_keeps, tell_keeps}
 use Rattle.curp_law_line.proofs.Migrations.{given_keeps, migrate_keeps}
 use Rattle.curp_law_line.proofs.Ops.{op_keeps}
 use Rattle.curp_law_line.proofs.Owners.{give_owned, given_owned, migrate_owned, owned_alike, push_was, take_owned}
@@ -72,4 +72,4 @@ module _ (pure : Pure) (second : Second) where
   updates_keep s (Adopts o) fits logs ok = adopt_line s o fits logs ok
   updates_keep s (Quicks o) fits logs ok = record { order = quick_keeps s ok.order o fits; owned = ok.owned }
   updates_keep s (Lates o) fits logs ok = record { order = late_keeps s ok.order o fits; owned = ok.owned }
-  updates_keep s (Strays part number more) fits logs ok = record { order = stray_keeps s part number more ok.order; owned = ok.owned }
+  updates_keep s (Strays part number more) fits logs ok = record { order = left_keeps s (longer_left s.left part number more) ok.order; owned = ok.owned }

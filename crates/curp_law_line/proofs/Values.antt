@@ -1,5 +1,5 @@
 -- What one thread gives a look at its mark, as the moves go on.
-use Rattle.std.proofs.Common.{◌≡◌, ◌⊎◌, inl, inr, ℕ, zero, suc, ◌<◌, ◌≤◌, ◌&&◌, ◌==◌, nat_lt, not, Bool, true, false, cond, Some, List, [], ◌∷◌, ◌++◌, take, drop, map, length, refl, ap, sym, ◌∙◌, subst, arith, le_refl, take_all, ◌||◌}
+use Rattle.std.proofs.Common.{◌≡◌, ◌⊎◌, ◌<◌, ◌≤◌, ◌&&◌, ◌==◌, ◌||◌, inl, inr, ℕ, zero, suc, nat_lt, not, Bool, true, false, cond, Some, List, [], ◌∷◌, ◌++◌, take, drop, map, length, refl, ap, sym, ◌∙◌, subst, arith, le_refl, take_all}
 use Rattle.std.specs.List.{filter}
 use Rattle.std.proofs.lemmas.Bool.{cases_Bool, eqb-true}
 use Rattle.std.proofs.lemmas.Bool.Decides.{nat_tests}
@@ -16,9 +16,9 @@ use Rattle.curp_order.specs.declared.Event.TheVariants.{Complete, Invoke}
 use Rattle.curp_msg.specs.declared.machine.Capture.{Capture}
 use Rattle.curp_msg.specs.declared.machine.Completed.{Completed}
 use Rattle.curp_model.specs.Log.{answer_after}
-use Rattle.curp_model.specs.Marks.{Executed, Looked, Mark, Place, flagged, is_flagged, is_past, is_update_mark, looked, shown, Cut, Quick, is_cut, is_shown}
+use Rattle.curp_model.specs.Marks.{Cut, Executed, Looked, Mark, Place, Quick, flagged, is_cut, is_flagged, is_past, is_shown, is_update_mark, looked, shown}
 use Rattle.curp_law_line.specs.Line.{CutsOpen, FlagsOk, IsCompleted, KindsOk, Line, LookGives, LooksOk, OrderOk, Owned, QuickGives, QuicksOk, ValuesOk, answer_at}
-use Rattle.curp_law_line.specs.Moves.{Adopt, AdoptFits, Look, LookFits, adopting, looking, replayed_of, put_before}
+use Rattle.curp_law_line.specs.Moves.{Adopt, AdoptFits, Look, LookFits, adopting, looking, put_before, replayed_of}
 use Rattle.curp_law_line.proofs.AdoptedMarks.{adopted_is, fresh_no_flag, fresh_of, stays}
 use Rattle.curp_law_line.proofs.Completions.{flagged_order, flagging_at}
 use Rattle.curp_law_line.proofs.Given.{LogValue, Pure, TakesOnce}
@@ -30,7 +30,7 @@ use Rattle.curp_law_line.proofs.Shown.{by_updates}
 use Rattle.curp_law_line.proofs.Quicks.{front_kept}
 use Rattle.curp_law_line.proofs.Orders.{same_fronts}
 use Rattle.curp_law_line.proofs.Puts.{Was, put_cases, put_front, put_stands}
-use Rattle.curp_law_logs.specs.Hashes.{updates, asked}
+use Rattle.curp_law_logs.specs.Hashes.{asked, updates}
 
 -- what isn't an update's mark
 look_place : (p : Place) → is_update_mark p ≡ false → ((number : ℕ) × (long : ℕ) × (p ≡ Looked number long)) ⊎ (((number : ℕ) × (p ≡ Quick number)) ⊎ (is_cut p ≡ true))

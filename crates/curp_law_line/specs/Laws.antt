@@ -12,7 +12,7 @@ use Rattle.curp_law_logs.specs.Gives.{GivesWithin}
 use Rattle.curp_model.specs.Marks.{Mark, adoptions, is_cut, is_quick, put_at}
 use Rattle.curp_law_line.specs.Line.{CutAt, CutEarly, IsCompleted, Line, LineOk, QuickEarly, QuickGives, QuickLow, WasInvoked}
 use Rattle.curp_law_line.specs.Moved.{Came, IsNew, Moved}
-use Rattle.curp_law_line.specs.Moves.{Adopt, AdoptFits, AllFit, Fits, FlagFits, Late, LateFits, Look, LookFits, Move, adopting, after, all_after, flags_mark, late_quickly, quickly, put_before}
+use Rattle.curp_law_line.specs.Moves.{Adopt, AdoptFits, AllFit, Fits, FlagFits, Late, LateFits, Look, LookFits, Move, adopting, after, all_after, flags_mark, late_quickly, put_before, quickly}
 use Rattle.curp_law_line.specs.Given.{LogsOk}
 
 -- the capture of a read that is answered at once

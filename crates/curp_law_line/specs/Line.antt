@@ -2,7 +2,7 @@
 -- migrations that were told, the marks and the history: no node, no message (this project's own).
 use Rattle.std.specs.FinMap as store
 use Rattle.std.specs.List.{filter, list_any}
-use Rattle.std.specs.Prelude.{◌≡◌, ◌≢◌, ◌⊎◌, ℕ, ◌<◌, ◌≤◌, true, false, List, [], ◌∷◌, take, Option, Some, ⊤}
+use Rattle.std.specs.Prelude.{◌≡◌, ◌≢◌, ◌⊎◌, ◌<◌, ◌≤◌, ℕ, true, false, List, [], ◌∷◌, take, Option, Some, ⊤}
 use Rattle.curp_base.specs.Words.{At, numbered}
 use Rattle.curp_range.specs.Spans.{is_in}
 use Rattle.curp_cmd.specs.Hash.{hash_of, touches}
@@ -23,7 +23,7 @@ use Rattle.curp_model.specs.Manager.{Migration}
 use Rattle.curp_facts.specs.Marked.{is_completed}
 use Rattle.curp_model.specs.Marks.{Cut, Executed, Looked, Mark, Quick, adoptions, is_cut, is_open_cut, is_timed, is_update_mark, shown}
 use Rattle.curp_facts.specs.Facts.{IsAmong}
-use Rattle.curp_law_logs.specs.Hashes.{Asked, value, updates}
+use Rattle.curp_law_logs.specs.Hashes.{Asked, updates, value}
 use Rattle.curp_law_line.specs.Hashes.{HashesOk, Part, has_take, is_give, is_take, owns, state_of}
 
 -- What a superseded master's log is: the front that was recovered when its partition was adopted anew, with the partition's

@@ -1,5 +1,5 @@
 -- Where marks go by a move, and where they come from.
-use Rattle.std.specs.Prelude.{◌≡◌, ◌⊎◌, ℕ, ◌<◌, ◌+◌, true, false, not, List, length}
+use Rattle.std.specs.Prelude.{◌≡◌, ◌⊎◌, ◌<◌, ◌+◌, ℕ, true, false, not, List, length}
 use Rattle.std.specs.List.{filter}
 use Rattle.curp_base.specs.Words.{At}
 use Rattle.curp_cmd.specs.declared.command.Request.{Request}

@@ -1,6 +1,6 @@
 -- The moves of the small machine, with what each needs and what it does.
 use Rattle.std.specs.List.{IsDistinct, filter, list_any}
-use Rattle.std.specs.Prelude.{◌≡◌, ◌≢◌, ◌≤◌, ◌<◌, ℕ, ◌-◌, ◌+◌, ◌==◌, ◌&&◌, if◌then◌else◌, Bool, true, false, List, [], ◌∷◌, ◌++◌, set, map, length, take, drop, Some, None, ⊤}
+use Rattle.std.specs.Prelude.{◌≡◌, ◌≢◌, ◌≤◌, ◌<◌, ◌-◌, ◌+◌, ◌==◌, ◌&&◌, if◌then◌else◌, ℕ, Bool, true, false, List, [], ◌∷◌, ◌++◌, set, map, length, take, drop, Some, None, ⊤}
 use Rattle.curp_base.specs.Words.{At, numbered}
 use Rattle.curp_range.specs.Spans.{is_covered, is_in}
 use Rattle.curp_cmd.specs.Hash.{touches}

@@ -2,6 +2,7 @@
 use Rattle.std.proofs.Common.{◌≡◌, ℕ, zero, suc, ◌-◌, List, [], ◌∷◌, ◌++◌, map, drop, length, refl, ap, sym, ◌∙◌, Option, Some}
 use Rattle.std.specs.Prelude.{set}
 use Rattle.curp_base.specs.Words.{IsPrefix, numbered}
+use Rattle.curp_base.proofs.Lists.{Each-at}
 use Rattle.curp_cmd.specs.declared.command.Request.{Request}
 use Rattle.curp_cmd.specs.declared.entry.Entry.{Entry}
 use Rattle.curp_cmd.specs.declared.node.NodeId.{NodeId}
@@ -21,7 +22,8 @@ use Rattle.curp_law_kept.proofs.Known.{Known}
 use Rattle.curp_law_line.specs.Hashes.{Part}
 use Rattle.curp_law_line.specs.Moves.{Adopt, AdoptFits, adopting, ops, relogged, replayed_of}
 use Rattle.curp_law_line.specs.OfWorld.{entries_at, line_of, logged_entries, moving_of, part_of}
-use Rattle.curp_law_linear.specs.Ordered.{Ordered}
+use Rattle.curp_law_linear.specs.Ordered.{NotQuick, Ordered}
+use Rattle.curp_law_linear.specs.Refined.{seen}
 use Rattle.curp_law_linear.proofs.AdoptDone.{adopt, done_replayed}
 use Rattle.curp_law_linear.proofs.AdoptHeld.{held_apart, held_asked, looks_short}
 use Rattle.curp_law_linear.proofs.AdoptMigrations.{only_moving, told_stays, unowned}
@@ -29,6 +31,7 @@ use Rattle.curp_law_linear.proofs.AdoptRecovery.{Recovery}
 use Rattle.curp_law_linear.proofs.Managers.{moved_line}
 use Rattle.curp_law_linear.proofs.ManagersLine.{map_alike, seat, seated, seated_grown, seated_parts}
 use Rattle.curp_law_linear.proofs.Parts.{entry_part}
+use Rattle.curp_law_linear.proofs.Superseded.{firm_nowhere, quick_nowhere}
 use Rattle.curp_law_names.specs.Names.{Names}
 use Rattle.curp_law_names.proofs.Later.{Later}
 use Rattle.curp_law_names.proofs.Steps.{manager_moved}
@@ -69,6 +72,8 @@ module _ {w : World} (known : Known w) (chain : Predecessors w) (routes : Routes
     done = λ k r acknowledged at d. done_replayed known chain routes migrated ordered c a o front k r acknowledged at d;
     looks = λ k m number long at part place completed. looks_short known c a o ordered k m number long at part place completed;
     told = told_stays known routes migrated c a o front;
+    quicks = λ j k i number h m u at is. absurd (quick_nowhere m number (Each-at NotQuick w.marks ordered.no_quicks j m at) is);
+    cuts = λ j number long h m at is part firm. absurd (firm_nowhere m.part number h firm);
   }
 
   -- the log that was replayed
@@ -115,7 +120,7 @@ module _ {w : World} (known : Known w) (chain : Predecessors w) (routes : Routes
           here s = seated w.manager.shape w.masters s
 
       -- so the move leads there
-      pub adopt_leads : line_of v ≡ adopting (line_of w) it
+      pub adopt_leads : line_of v ≡ seen (adopting (line_of w) it)
       adopt_leads =
           moved_line (Some a) events none r does names (relogged (line_of w).parts c.part (part_of w c) (o.b.log ++ ops (replayed_of it))) adopted_parts (line_of w).moving (ap moving_of moving)
           ∙ ap (λ (ms : List Mark). record (line_of w) { parts = relogged (line_of w).parts c.part (part_of w c) (o.b.log ++ ops (replayed_of it)); marks = ms }) marks_are

@@ -17,7 +17,7 @@ use Rattle.curp_model.specs.Marks.{Mark}
 use Rattle.curp_model.specs.Ranges.{opening_range}
 use Rattle.curp_model.specs.Recovery.{MasterStage, master_input}
 use Rattle.curp_model.specs.Witness.{WitnessState, witness_input}
-use Rattle.curp_model.specs.World.{World, invocation_of, is_adopted, kept, master_marks, messages, with_backup, with_client, with_completion, with_witness}
+use Rattle.curp_model.specs.World.{World, invocation_of, is_adopted, kept, master_marks, messages, with_backup, with_client, with_completion, with_glance, with_witness}
 use Rattle.curp_facts.specs.ByOne.{ByOne}
 use Rattle.curp_facts.specs.Growth.{Grows}
 use Rattle.curp_facts.specs.Kept.{AdoptedLog}
@@ -34,10 +34,11 @@ use Rattle.curp_law_kept.proofs.MastersMoves.{heard_in, input_idle, speaker}
 use Rattle.curp_law_kept.proofs.Others.{SaysMore, nothing_ready}
 use Rattle.curp_law_kept.proofs.Worlds.{other_item, same_history}
 use Rattle.curp_law_line.specs.Line.{LineOk}
+use Rattle.curp_law_line.specs.Moves.{all_after}
 use Rattle.curp_law_line.specs.OfWorld.{line_of}
 use Rattle.curp_law_line.proofs.Discharged.{pure, second}
 use Rattle.curp_law_line.proofs.Keeps.{all_keep}
-use Rattle.curp_law_linear.specs.Ordered.{AdoptedOk, Ordered}
+use Rattle.curp_law_linear.specs.Ordered.{AdoptedOk, NoQuicks, Ordered}
 use Rattle.curp_law_linear.specs.Refined.{Refines, RefinesQuiet}
 use Rattle.curp_law_linear.proofs.ClientsRefine.{client_refines}
 use Rattle.curp_law_linear.proofs.Commands.{CommandsName}
@@ -45,10 +46,12 @@ use Rattle.curp_law_linear.proofs.KeepersRefine.{backup_refines, rest_refines, w
 use Rattle.curp_law_linear.proofs.Masters.{master_refines}
 use Rattle.curp_law_linear.proofs.MastersCaptures.{input_captures}
 use Rattle.curp_law_linear.proofs.MastersLogs.{master_logs}
+use Rattle.curp_law_linear.proofs.NoQuicks.{glances_none}
 use Rattle.curp_law_linear.proofs.ReadsKeepers.{backup_reads, witness_reads}
 use Rattle.curp_law_linear.proofs.ReadsLater.{ReadsOk}
 use Rattle.curp_law_linear.proofs.ReadsMasterSteps.{input_reads, master_reads}
 use Rattle.curp_law_linear.proofs.ReadsQuiet.{client_reads, frame_reads, looks_same, none_late}
+use Rattle.curp_law_linear.proofs.Superseded.{seen_ok}
 use Rattle.curp_law_logs.specs.Gives.{GivesFit}
 use Rattle.curp_law_names.proofs.Later.{Later}
 use Rattle.curp_law_names.proofs.Lists.{all_of-kept}
@@ -57,18 +60,19 @@ use Rattle.curp_law_routes.specs.Migrated.{Migrated}
 use Rattle.curp_law_routes.specs.Routes.{Routes}
 use Rattle.curp_law_runs.proofs.ByOne.{brings_one}
 
--- what a step owes, but for the commands and the protocol
+-- what a step owes, but for the commands, the protocol, and that no mark is a quick one
 pub record KeepsOrder (w v : World) : Type 0 where
   pub refines : Refines w v
   pub logs : (c : PartConfig) (l : AdoptedLog v c) → AdoptedOk v c l
   pub reads : ReadsOk v
 
 -- it keeps what is kept of the order
-pub ordered_after : {w v : World} → Ordered w → CommandsName v.history → ByOne v → KeepsOrder w v → Ordered v
-ordered_after {w} {v} ordered commands by_one k = record {
-  line = subst LineOk k.refines.leads (all_keep pure second k.refines.moves (line_of w) k.refines.fit ordered.line);
+pub ordered_after : {w v : World} → Ordered w → CommandsName v.history → ByOne v → NoQuicks v.marks → KeepsOrder w v → Ordered v
+ordered_after {w} {v} ordered commands by_one no_quicks k = record {
+  line = subst LineOk k.refines.leads (seen_ok (all_after (line_of w) k.refines.moves) (all_keep pure second k.refines.moves (line_of w) k.refines.fit ordered.line));
   commands = commands;
   by_one = by_one;
+  no_quicks = no_quicks;
   logs = k.logs;
   numbered_looks = k.reads.numbered_looks;
   worths = k.reads.worths;
@@ -212,9 +216,14 @@ module _ {w : World} (known : Known w) (chain : Predecessors w) (routes : Routes
   abbrev v : World
   v = master_world known n given m here for events none
 
-  marks : v.marks ≡ (if is_adopted w.manager (master_node n) then w.marks ++ master_marks (master_node n) m (master_input n m given).state else w.marks)
-  marks = idle_marks (if is_adopted w.manager (master_node n) then w.marks ++ master_marks (master_node n) m (master_input n m given).state else w.marks)
-      (master_input n m given).completed (input_idle known n m (record { its_kind = refl; its_state = here }) given for)
+  abbrev unglanced : List Mark
+  unglanced = if is_adopted w.manager (master_node n) then w.marks ++ master_marks (master_node n) m (master_input n m given).state else w.marks
+
+  marks : v.marks ≡ unglanced
+  marks =
+      idle_marks (with_glance (master_node n) given m (master_input n m given).state unglanced) (master_input n m given).completed
+      (input_idle known n m (record { its_kind = refl; its_state = here }) given for)
+      ∙ glances_none (master_node n) given (brings_one ordered.by_one (master_node n) given for) m (master_input n m given).state unglanced
 
   pub master_keeps_order : Grows w v → Later w v → Known v → Predecessors v → Migrated v → KeepsOrder w v
   master_keeps_order grows later now chain_now migrated_now =

@@ -3,7 +3,7 @@ use Rattle.std.proofs.Common.{◌≡◌, inl, inr, ℕ, zero, suc, ◌≤◌, �
 use Rattle.std.proofs.lemmas.Bool.{cases_lt}
 use Rattle.std.proofs.lemmas.Bool.Decides.{nat_tests}
 use Rattle.curp_base.specs.Words.{At, numbered}
-use Rattle.curp_base.proofs.Lists.{at_some}
+use Rattle.curp_base.proofs.Lists.{Each-at, at_some}
 use Rattle.curp_cmd.specs.Node.{client_node, same_node}
 use Rattle.curp_cmd.specs.RequestId.{same_id}
 use Rattle.curp_cmd.specs.declared.command.Answer.{Answer}
@@ -20,7 +20,7 @@ use Rattle.curp_msg.specs.declared.config.PartConfig.{PartConfig}
 use Rattle.curp_msg.specs.declared.machine.Capture.{Capture}
 use Rattle.curp_order.specs.declared.Event.TheVariants.{Invoke}
 use Rattle.curp_model.specs.Log.{IsDone}
-use Rattle.curp_model.specs.Marks.{Mark, Place, Executed, Looked, is_capture, is_update_mark}
+use Rattle.curp_model.specs.Marks.{Cut, Executed, Looked, Mark, Place, Quick, is_capture, is_quick, is_update_mark}
 use Rattle.curp_model.specs.World.{World}
 use Rattle.curp_facts.specs.Facts.{Completable, HasLog, IsAdoptedNow, IsGiven, Lists, WasSent, hi_of, lists_of_part, lo_of}
 use Rattle.curp_facts.specs.Kept.{AdoptedLog}
@@ -31,7 +31,7 @@ use Rattle.curp_law_line.specs.Line.{Line, LineOk, LookGives}
 use Rattle.curp_law_line.proofs.Given.{LogsOk}
 use Rattle.curp_law_line.specs.Moves.{CompleteFits, FlagFits, flags_mark}
 use Rattle.curp_law_line.specs.OfWorld.{line_of, part_of}
-use Rattle.curp_law_linear.specs.Ordered.{Ordered, WorthOk}
+use Rattle.curp_law_linear.specs.Ordered.{NotQuick, Ordered, WorthOk}
 use Rattle.curp_law_linear.proofs.Parts.{entry_part, line_logs, part_log}
 use Rattle.curp_law_routes.specs.Migrated.{Migrated, OpStored}
 use Rattle.curp_law_pairs.specs.Predecessors.{Predecessors}
@@ -109,9 +109,10 @@ module _ {w : World} (known : Known w) (chain : Predecessors w) (migrated : Migr
         stands = ok.look.stands;
         looks = ap is_update_mark ok.look.is_look;
         hits = hits ok.look.mark ok.look.its_id ok.look.its_master ok.look.its_epoch ok.long ok.look.is_look;
-        only = λ k o at flags. let f = flags_look o flags in ordered.numbered_looks.once k ok.look.place v.capture f.1.0 ok.long o ok.look.mark at ok.look.stands f.1.1 ok.look.is_look (f.0 ∙ sym ok.look.its_master);
+        only = λ k o at flags. let f = flags_look o (Each-at NotQuick w.marks ordered.no_quicks k o at) flags in ordered.numbered_looks.once k ok.look.place v.capture f.1.0 ok.long o ok.look.mark at ok.look.stands f.1.1 ok.look.is_look (f.0 ∙ sym ok.look.its_master);
         waits = waits;
         gives = ok.look.gives;
+        early = λ quick. absurd (let bad : false ≡ true = sym (ap is_quick ok.look.is_look) ∙ quick in cc);
       }
     where
       by : Capture
@@ -139,10 +140,10 @@ module _ {w : World} (known : Known w) (chain : Predecessors w) (migrated : Migr
           go p q r s = cc
 
       -- a mark that the completion flags is of that capture
-      flags_look : (o : Mark) → flags_mark by v.id v.answer o ≡ true → (o.master ≡ node) × ((long : ℕ) × (o.place ≡ Looked v.capture long))
-      flags_look o flags =
+      flags_look : (o : Mark) → NotQuick o → flags_mark by v.id v.answer o ≡ true → (o.master ≡ node) × ((long : ℕ) × (o.place ≡ Looked v.capture long))
+      flags_look o slow flags =
           let t = all_true (same_id o.id v.id) (same_node o.master node) (o.epoch == v.epoch) (is_capture v.capture o.place) flags in
-          (same_node-true o.master node t.0, capture_is o.place t.1)
+          (same_node-true o.master node t.0, capture_is o.place slow t.1)
         where
           all_true : (a b c d : Bool) → (a && b && c && d) ≡ true → (b ≡ true) × (d ≡ true)
           all_true true true true true e = (refl, refl)
@@ -151,6 +152,8 @@ module _ {w : World} (known : Known w) (chain : Predecessors w) (migrated : Migr
           all_true true false c d e = absurd cc
           all_true false b c d e = absurd cc
 
-          capture_is : (x : Place) → is_capture v.capture x ≡ true → (long : ℕ) × (x ≡ Looked v.capture long)
-          capture_is (Executed index) e = absurd cc
-          capture_is (Looked number long) e = let same : number ≡ v.capture = grind (arith, nat_tests) in (long, ap (λ (n : ℕ). Looked n long) same)
+          capture_is : (x : Place) → is_quick x ≡ false → is_capture v.capture x ≡ true → (long : ℕ) × (x ≡ Looked v.capture long)
+          capture_is (Executed index) slow e = absurd cc
+          capture_is (Quick number) slow e = absurd cc
+          capture_is (Cut number long) slow e = absurd cc
+          capture_is (Looked number long) slow e = let same : number ≡ v.capture = grind (arith, nat_tests) in (long, ap (λ (n : ℕ). Looked n long) same)

@@ -9,7 +9,7 @@ use Rattle.curp_law_kept.specs.ManagerEffect.{ManagerEffect}
 use Rattle.curp_law_kept.proofs.Known.{Known}
 use Rattle.curp_law_line.specs.Hashes.{Part}
 use Rattle.curp_law_line.specs.Moves.{GivenDone, Migrates}
-use Rattle.curp_law_line.specs.OfWorld.{line_of, moving_of}
+use Rattle.curp_law_line.specs.OfWorld.{line_of, moving_of, no_left}
 use Rattle.curp_law_line.proofs.Given.{LogsOk}
 use Rattle.curp_law_linear.specs.Ordered.{Ordered}
 use Rattle.curp_law_linear.specs.Refined.{RefinesQuiet}
@@ -45,13 +45,14 @@ module _ {w : World} (o : Option Attempted) (events : List Event) (none : events
 
   -- the machine's state by what changes in it
   pub moved_line : Names (manager_moved w o events r) → (parts : List Part) → (line_of (manager_moved w o events r)).parts ≡ parts → (moving : Option Migration) → moving_of r.state.moving ≡ moving
-      → line_of (manager_moved w o events r) ≡ record { parts = parts; moving = moving; told = (line_of w).told; marks = with_adoption w.masters o w.marks; history = w.history }
+      → line_of (manager_moved w o events r) ≡ record { parts = parts; moving = moving; told = (line_of w).told; marks = with_adoption w.masters o w.marks; history = w.history; left = no_left }
   moved_line names parts same_parts moving same_moving i = record {
     parts = same_parts i;
     moving = same_moving i;
     told = moved_told names i;
     marks = moved_marks i;
     history = moved_history i;
+    left = no_left;
   }
 
 -- ---- moves

@@ -27,11 +27,11 @@ use Rattle.curp_law_kept.proofs.MastersMoves.{MasterStep}
 use Rattle.curp_law_line.specs.Hashes.{Part}
 use Rattle.curp_law_line.specs.Line.{Line}
 use Rattle.curp_law_line.specs.Moves.{relogged}
-use Rattle.curp_law_line.specs.OfWorld.{line_of, moving_of, part_of, told_by}
+use Rattle.curp_law_line.specs.OfWorld.{line_of, moving_of, no_left, part_of, told_by}
 use Rattle.curp_law_line.proofs.Given.{LogsOk}
 use Rattle.curp_law_line.proofs.Lists.{some_same}
 use Rattle.curp_law_linear.specs.Ordered.{MigrationsRise, Ordered}
-use Rattle.curp_law_linear.specs.Refined.{RefinesQuiet}
+use Rattle.curp_law_linear.specs.Refined.{RefinesQuiet, seen}
 use Rattle.curp_law_linear.proofs.MastersCaptures.{Captures, StageCaptures}
 use Rattle.curp_law_linear.proofs.MastersLog.{Leads, leads_none, leads_on, line_at, logs_at}
 use Rattle.curp_law_linear.proofs.MastersLooks.{look_all}
@@ -64,7 +64,7 @@ module _ {w v : World} (known : Known w) (chain : Predecessors w) (routes : Rout
   module _ (m k : MasterStage) (step : MasterStep w v n from heard m k out) where
     -- what the machine has before the packages are told
     abbrev untold : List Part → List Mark → Line
-    untold parts marks = record { parts = parts; moving = moving_of w.manager.moving; told = (line_of w).told; marks = marks; history = w.history }
+    untold parts marks = record { parts = parts; moving = moving_of w.manager.moving; told = (line_of w).told; marks = marks; history = w.history; left = no_left }
 
     told_after : (line_of w).told ++ flat_map (λ (x : Message). told_by x.body) out ≡ (line_of v).told
     told_after = sym (ap (flat_map (λ (x : Message). told_by x.body)) step.frame.sent ∙ flat_append (λ (x : Message). told_by x.body) (messages w) out)
@@ -77,7 +77,7 @@ module _ {w v : World} (known : Known w) (chain : Predecessors w) (routes : Rout
         = tell_all out_numbers (untold parts marks) logs (λ j a. subst (λ (ps : List Part). TakeStands ps j) same
         (takes_stand w v moved out step.frame.sent (all_tell w n from heard m k out step.move) j a)) in
         let all = leads_on (line_of w) (untold parts marks) (record (untold parts marks) { told = (line_of w).told ++ out_numbers }) on tell in
-        record { its = record { moves = all.moves; fit = all.fit; leads = all.leads ∙ last }; quiet = all.steady }
+        record { its = record { moves = all.moves; fit = all.fit; leads = ap seen all.leads ∙ last }; quiet = all.steady }
       where
         last : record (untold parts marks) { told = (line_of w).told ++ flat_map (λ (x : Message). told_by x.body) out } ≡ line_of v
         last i = record {
@@ -86,6 +86,7 @@ module _ {w v : World} (known : Known w) (chain : Predecessors w) (routes : Rout
           told = told_after i;
           marks = sym marked i;
           history = sym step.frame.history i;
+          left = no_left;
         }
 
     -- where all logs stay and nothing is marked

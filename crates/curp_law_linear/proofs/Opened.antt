@@ -64,6 +64,7 @@ module _ (h : Header) where
     line = opening_line h (few h.parts its.parts.1);
     commands = λ i id command at. absurd cc;
     by_one = by_one_opening h its.protocol;
+    no_quicks = tt;
     logs = logs_first;
     numbered_looks = record { made = λ k number long m at is. absurd cc; once = λ j k number long other m o at to is its same. absurd cc };
     worths = λ node v sent. absurd (nothing_sent h _ sent);

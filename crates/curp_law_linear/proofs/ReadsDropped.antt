@@ -3,13 +3,14 @@ use Rattle.std.proofs.Common.{◌≡◌, inl, inr, ℕ, zero, suc, ◌+◌, ◌�
 use Rattle.std.specs.List.{filter}
 use Rattle.std.proofs.lemmas.Bool.Decides.{nat_tests}
 use Rattle.curp_base.specs.Words.{At, Each}
-use Rattle.curp_base.proofs.Lists.{Each-at, at_append_cases}
+use Rattle.curp_base.proofs.Lists.{Each-at, at_append_cases, at_one}
 use Rattle.curp_cmd.specs.declared.command.Request.{Request}
 use Rattle.curp_cmd.specs.declared.node.NodeId.{NodeId}
 use Rattle.curp_model.specs.Marks as mark
-use Rattle.curp_model.specs.Marks.{Executed, Looked, Mark, Place, executed, has_completed, is_dropped, is_past, is_update_mark, replayed_marks}
+use Rattle.curp_model.specs.Marks.{Cut, Looked, Mark, Place, adoptions, cut_mark, executed, has_completed, is_dropped, is_past, is_update_mark, replayed_marks}
 use Rattle.curp_model.specs.World.{World}
 use Rattle.curp_law_linear.proofs.ReadsLater.{LooksWere}
+use Rattle.curp_law_linear.proofs.ReadsMarks.{no_look}
 
 -- what stands in a filtered list stood before, at a place that tells its place now
 pub record Filtered {A : Type 0} (q : A → Bool) (xs : List A) (k : ℕ) (x : A) : Type 0 where
@@ -55,7 +56,7 @@ pub record MoreOps (marks later : List Mark) : Type 0 where
   pub is : later ≡ marks ++ more
   pub ops : Each (λ (m : Mark). is_update_mark m.place ≡ true) more
 
-replayed_more : (node : NodeId) (part epoch index : ℕ) (rs : List Request) (marks : List Mark) → MoreOps marks (replayed_marks node part epoch index rs marks)
+pub replayed_more : (node : NodeId) (part epoch index : ℕ) (rs : List Request) (marks : List Mark) → MoreOps marks (replayed_marks node part epoch index rs marks)
 replayed_more node part epoch index [] marks = record { more = []; is = sym (append-nil marks); ops = tt }
 replayed_more node part epoch index (r ∷ rs) marks = go (has_completed marks r.id) (λ (ms : List Mark). replayed_more node part epoch (index + 1) rs ms)
   where
@@ -78,15 +79,21 @@ module _ (w v : World) (node : NodeId) (part epoch cut : ℕ) (rs : List Request
   pub look_stays : (k number long : ℕ) (m : Mark) → At v.marks k m → m.place ≡ Looked number long → Stays part cut w.marks k m
   look_stays k number long m at look =
       let left : List Mark = filter (λ (x : Mark). not (is_dropped part cut x)) w.marks in
-      let more = replayed_more node part epoch cut rs left in
-      elim (at_append_cases left more.more k m (subst (λ (ms : List Mark). At ms k m) (same ∙ more.is) at)) [
-        | inl here ↦ filtered (λ (x : Mark). not (is_dropped part cut x)) w.marks k m here
-        | inr new ↦ absurd (no_look m.place look (Each-at (λ (x : Mark). is_update_mark x.place ≡ true) more.more more.ops new.0 m new.2))
+      let own : Mark = cut_mark node part epoch (adoptions part w.marks + 1) cut in
+      let more = replayed_more node part epoch cut rs (left ++ own ∷ []) in
+      elim (at_append_cases (left ++ own ∷ []) more.more k m (subst (λ (ms : List Mark). At ms k m) (same ∙ more.is) at)) [
+        | inl old ↦ elim (at_append_cases left (own ∷ []) k m old) [
+          | inl here ↦ filtered (λ (x : Mark). not (is_dropped part cut x)) w.marks k m here
+          | inr its ↦ absurd (no_cut m.place look (sym (ap (λ (x : Mark). x.place) (at_one own its.0 m its.2).1)))
+        ]
+        | inr new ↦ absurd (no_look m.place number long (Each-at (λ (x : Mark). is_update_mark x.place ≡ true) more.more more.ops new.0 m new.2) look)
       ]
     where
-      no_look : (x : Place) → x ≡ Looked number long → is_update_mark x ≡ true → ⊥
-      no_look (Executed i) is e = cc
-      no_look (Looked i j) is e = cc
+      no_cut : (x : Place) → x ≡ Looked number long → x ≡ Cut (adoptions part w.marks + 1) cut → ⊥
+      no_cut x is e = apart (sym is ∙ e)
+        where
+          apart : {a b c d : ℕ} → Looked a b ≡ Cut c d → ⊥
+          apart e = cc
 
   -- each was there before, no two at one place
   pub looks_adopted : LooksWere w v

@@ -7,7 +7,7 @@ use Rattle.curp_base.proofs.Lists.{Each-at, Each-weaker}
 use Rattle.curp_cmd.specs.declared.entry.Entry.{Entry}
 use Rattle.curp_cmd.specs.declared.entry.Entry.TheVariants.{Expire, Give, Op, Take}
 use Rattle.curp_cmd.specs.declared.node.NodeId.{NodeId}
-use Rattle.curp_model.specs.Marks.{Executed, Looked, Mark, Place, is_update_mark}
+use Rattle.curp_model.specs.Marks.{Looked, Mark, Place, is_update_mark}
 use Rattle.curp_model.specs.Master.{Captured, MasterState}
 use Rattle.curp_model.specs.World.{World, capture_mark, new_captures, op_marks, pushed_marks}
 use Rattle.curp_facts.specs.Facts.{IsAmong}
@@ -16,16 +16,16 @@ use Rattle.curp_law_linear.proofs.ReadsCaptures.{CapturesMove, CapturesRead, Few
 use Rattle.curp_law_names.proofs.Lists.{among_each}
 
 -- the marks of ops are of no look
-ops_only : (node : NodeId) (part epoch index : ℕ) (es : List Entry) → Each (λ (m : Mark). is_update_mark m.place ≡ true) (op_marks node part epoch index es)
+pub ops_only : (node : NodeId) (part epoch index : ℕ) (es : List Entry) → Each (λ (m : Mark). is_update_mark m.place ≡ true) (op_marks node part epoch index es)
 ops_only node part epoch index [] = tt
 ops_only node part epoch index (Op r acknowledged ∷ es) = (refl, ops_only node part epoch (index + 1) es)
 ops_only node part epoch index (Take migration taken ∷ es) = ops_only node part epoch (index + 1) es
 ops_only node part epoch index (Give migration given ∷ es) = ops_only node part epoch (index + 1) es
 ops_only node part epoch index (Expire client ∷ es) = ops_only node part epoch (index + 1) es
 
-no_look : (x : Place) (number long : ℕ) → is_update_mark x ≡ true → x ≡ Looked number long → ⊥
-no_look (Executed i) number long e is = cc
-no_look (Looked i j) number long e is = cc
+-- the mark of an op is that of no look
+pub no_look : (x : Place) (number long : ℕ) → is_update_mark x ≡ true → x ≡ Looked number long → ⊥
+no_look x number long e is = let bad : true ≡ false = sym e ∙ ap is_update_mark is in cc
 
 -- of old captures none is new
 none_new : (last : ℕ) (cs : List Captured) → Each (λ (c : Captured). c.number ≤ last) cs → new_captures last cs ≡ []

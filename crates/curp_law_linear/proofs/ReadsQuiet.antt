@@ -2,7 +2,7 @@
 use Rattle.std.proofs.Common.{◌≡◌, ◌≢◌, ◌⊎◌, inl, inr, ℕ, ◌==◌, ◌&&◌, Bool, true, false, if◌then◌else◌, List, refl, ap, sym, ◌∙◌, subst, arith, Option, Some, None}
 use Rattle.std.proofs.lemmas.Bool.Decides.{nat_tests}
 use Rattle.curp_base.specs.Words.{At, Each, numbered}
-use Rattle.curp_base.proofs.Lists.{at_same}
+use Rattle.curp_base.proofs.Lists.{Each-at, at_same}
 use Rattle.curp_cmd.specs.Node.{client_node, same_node}
 use Rattle.curp_cmd.specs.RequestId.{same_id}
 use Rattle.curp_cmd.specs.declared.node.NodeId.{NodeId}
@@ -19,7 +19,7 @@ use Rattle.curp_msg.specs.declared.machine.Input.{Input}
 use Rattle.curp_msg.specs.declared.message.Message.{Message}
 use Rattle.curp_model.specs.Client.{ClientState, client_input}
 use Rattle.curp_model.specs.Manager.{ManagerState}
-use Rattle.curp_model.specs.Marks.{Executed, Looked, Mark, Place, flagged, is_capture, is_flagged, is_update_mark}
+use Rattle.curp_model.specs.Marks.{Cut, Executed, Looked, Mark, Place, Quick, flagged, is_capture, is_flagged, is_quick, is_update_mark}
 use Rattle.curp_model.specs.Recovery.{MasterStage, Serving}
 use Rattle.curp_model.specs.World.{World, with_completion}
 use Rattle.curp_facts.specs.Facts.{EntryWas, IsAdoptedNow, WasSent}
@@ -31,10 +31,11 @@ use Rattle.curp_law_kept.proofs.Clients.{client_messages, effect}
 use Rattle.curp_law_kept.proofs.Known.{Known, fits, said}
 use Rattle.curp_law_kept.proofs.Moved.{adopted_back, sent_back}
 use Rattle.curp_law_kept.proofs.Others.{SaysMore, nothing_ready}
-use Rattle.curp_law_linear.specs.Ordered.{IsStored, Ordered, StoredFrom, WorthOk}
+use Rattle.curp_law_linear.specs.Ordered.{IsStored, NotQuick, Ordered, StoredFrom, WorthOk}
 use Rattle.curp_law_linear.specs.Refined.{Refines}
 use Rattle.curp_law_linear.proofs.ReadsLater.{EntryStays, LookWas, LooksWere, ReadsOk, reads_later}
 use Rattle.curp_law_linear.specs.Refined.{NoAdoption}
+use Rattle.curp_law_linear.proofs.ReadsMarks.{no_look}
 use Rattle.curp_law_linear.proofs.ReadsMoves.{none_drops}
 use Rattle.curp_law_linear.proofs.ReadsPassed.{NewerLists, NoneLate}
 use Rattle.curp_law_linear.proofs.ReadsStored.{from_stays}
@@ -63,8 +64,8 @@ looks_same {w} {v} same = record {
 }
 
 -- a look that a completion flags is of its capture
-hit_look : (c : Completed) (by : Capture) (m : Mark) → is_flagged c (Some by) m ≡ true → (m.master ≡ by.master) × ((long : ℕ) × (m.place ≡ Looked by.number long))
-hit_look c by m flags = let t = all_true (same_id m.id c.id) (same_node m.master by.master) (m.epoch == by.epoch) (is_capture by.number m.place) flags in (same_node-true m.master by.master t.0, capture_is m.place t.1)
+hit_look : (c : Completed) (by : Capture) (m : Mark) → NotQuick m → is_flagged c (Some by) m ≡ true → (m.master ≡ by.master) × ((long : ℕ) × (m.place ≡ Looked by.number long))
+hit_look c by m slow flags = let t = all_true (same_id m.id c.id) (same_node m.master by.master) (m.epoch == by.epoch) (is_capture by.number m.place) flags in (same_node-true m.master by.master t.0, capture_is m.place slow t.1)
   where
     all_true : (a b c d : Bool) → (a && b && c && d) ≡ true → (b ≡ true) × (d ≡ true)
     all_true true true true true e = (refl, refl)
@@ -73,9 +74,11 @@ hit_look c by m flags = let t = all_true (same_id m.id c.id) (same_node m.master
     all_true true false c d e = absurd cc
     all_true false b c d e = absurd cc
 
-    capture_is : (x : Place) → is_capture by.number x ≡ true → (long : ℕ) × (x ≡ Looked by.number long)
-    capture_is (Executed index) e = absurd cc
-    capture_is (Looked number long) e = let same : number ≡ by.number = grind (arith, nat_tests) in (long, ap (λ (n : ℕ). Looked n long) same)
+    capture_is : (x : Place) → is_quick x ≡ false → is_capture by.number x ≡ true → (long : ℕ) × (x ≡ Looked by.number long)
+    capture_is (Executed index) slow e = absurd cc
+    capture_is (Quick number) slow e = absurd cc
+    capture_is (Cut number long) slow e = absurd cc
+    capture_is (Looked number long) slow e = let same : number ≡ by.number = grind (arith, nat_tests) in (long, ap (λ (n : ℕ). Looked n long) same)
 
 -- the mark after a completion
 abbrev flag : Completed → Mark → Mark
@@ -178,7 +181,7 @@ module _ {w : World} (known : Known w) (ordered : Ordered w) (n : ℕ) (c : Clie
   value_stored done e k number long m at look flags = go hit
     where
       hit : (m.master ≡ e.from) × ((long : ℕ) × (m.place ≡ Looked e.value.capture long))
-      hit = hit_look done (record { master = e.from; epoch = e.value.epoch; number = e.value.capture }) m (subst (λ (o : Option Capture). is_flagged done o m ≡ true) e.its_capture flags)
+      hit = hit_look done (record { master = e.from; epoch = e.value.epoch; number = e.value.capture }) m (Each-at NotQuick w.marks ordered.no_quicks k m at) (subst (λ (o : Option Capture). is_flagged done o m ≡ true) e.its_capture flags)
 
       ok : WorthOk w e.from e.value
       ok =
@@ -205,17 +208,13 @@ module _ {w : World} (known : Known w) (ordered : Ordered w) (n : ℕ) (c : Clie
   -- what completes is stored, where it is a look
   completes_stored : (done : Completed) → CompletionOk (MayCome w n) (EntryWas w) c done → FlagsStored w done
   completes_stored done ok k number long m at look flags = elim ok.evidence [
-    | inl u ↦ absurd (no_look m.place look (both (same_id m.id done.id) (is_update_mark m.place) (subst (λ (o : Option Capture). is_flagged done o m ≡ true) u.no_capture flags)))
+    | inl u ↦ absurd (no_look m.place number long (both (same_id m.id done.id) (is_update_mark m.place) (subst (λ (o : Option Capture). is_flagged done o m ≡ true) u.no_capture flags)) look)
     | inr r ↦ value_stored done (by_value ordered.by_one n ok.p.request done r) k number long m at look flags
   ]
     where
       both : (a b : Bool) → (a && b) ≡ true → b ≡ true
       both true b e = e
       both false b e = absurd cc
-
-      no_look : (x : Place) → x ≡ Looked number long → is_update_mark x ≡ true → ⊥
-      no_look (Executed i) is e = cc
-      no_look (Looked i j) is e = cc
 
 module _ {w v : World} (known : Known w) (now : Known v) (chain : Predecessors w) (later : Predecessors v) (ordered : Ordered w)
     (n : ℕ) (given : Input) (c : ClientState) (moved : ClientMoved w v n given c) where

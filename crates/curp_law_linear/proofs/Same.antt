@@ -8,7 +8,7 @@ use Rattle.curp_model.specs.Ranges.{opening_range}
 use Rattle.curp_model.specs.Recovery.{MasterStage}
 use Rattle.curp_model.specs.World.{World, messages}
 use Rattle.curp_law_line.specs.Hashes.{Part}
-use Rattle.curp_law_line.specs.OfWorld.{entries_at, line_of, moving_of, told_by}
+use Rattle.curp_law_line.specs.OfWorld.{entries_at, line_of, moving_of, no_left, told_by}
 
 -- the world has the same masters and the same manager, and its new messages tell of no package
 pub record SameLogs (w v : World) (out : List Message) : Type 0 where
@@ -43,4 +43,5 @@ module _ {w v : World} (out : List Message) (s : SameLogs w v out) where
     told = same_told i;
     marks = v.marks;
     history = v.history;
+    left = no_left;
   }

@@ -1,5 +1,5 @@
 -- What a world keeps of the order: the facts of the small machine, of the adopted logs, and of reads, which are those of protocol 1.
-use Rattle.std.specs.Prelude.{◌≡◌, ◌≤◌, ◌<◌, ◌⊎◌, ℕ, true, List, length, Option, Some, None}
+use Rattle.std.specs.Prelude.{◌≡◌, ◌≤◌, ◌<◌, ◌⊎◌, ℕ, true, false, List, length, Option, Some, None}
 use Rattle.curp_base.specs.Words.{At, Each}
 use Rattle.curp_cmd.specs.Node.{client_node}
 use Rattle.curp_cmd.specs.declared.command.Command.{Command}
@@ -13,7 +13,7 @@ use Rattle.curp_msg.specs.declared.body.Worth.{Worth}
 use Rattle.curp_msg.specs.declared.config.PartConfig.{PartConfig}
 use Rattle.curp_order.specs.declared.Event.TheVariants.{Invoke}
 use Rattle.curp_model.specs.Log.{log_opening}
-use Rattle.curp_model.specs.Marks.{Mark, Looked}
+use Rattle.curp_model.specs.Marks.{Looked, Mark, is_quick}
 use Rattle.curp_model.specs.Master.{Captured, MasterState}
 use Rattle.curp_model.specs.Named.{IsMaster}
 use Rattle.curp_model.specs.Recovery.{Serving}
@@ -53,6 +53,13 @@ pub record LooksNumbered (w : World) : Type 0 where
       → (x : MasterState) × IsMaster w m.master (Serving x) × (number ≤ x.captured) × (x.part ≡ m.part) × (x.epoch ≡ m.epoch)
   pub once : (j k number long other : ℕ) (m o : Mark) → At w.marks j m → At w.marks k o → m.place ≡ Looked number long → o.place ≡ Looked number other
       → m.master ≡ o.master → j ≡ k
+
+-- no mark is that of a read that was answered at once
+abbrev pub NotQuick : Mark → Type 0
+NotQuick m = is_quick m.place ≡ false
+
+abbrev pub NoQuicks : List Mark → Type 0
+NoQuicks marks = Each NotQuick marks
 
 -- a master's log has so many entries, and so has each backup of each ready list of it, from a version on
 pub record IsStored (w : World) (node : NodeId) (version long : ℕ) : Type 0 where
@@ -103,6 +110,7 @@ pub record LooksReached (w : World) : Type 0 where
 pub record Ordered (w : World) : Type 0 where
   pub line : LineOk (line_of w)
   pub by_one : ByOne w
+  pub no_quicks : NoQuicks w.marks
   pub commands : (i : ℕ) (id : RequestId) (command : Command) → At w.history i (Invoke id command) → NamesKey command
   pub logs : (c : PartConfig) (l : AdoptedLog w c) → AdoptedOk w c l
   pub numbered_looks : LooksNumbered w
