@@ -33,7 +33,7 @@ kind_long w kind.Manager n given = grown_long w.masters Fresh _
 kind_long w kind.Client n given =
     one_long w (λ c. within (with_client w n) (client_input n c given)) (numbered w.clients n) (λ c. omega arith)
 kind_long w kind.Master n given =
-    one_long w (λ m. within (with_master w n m) (master_input n m given)) (numbered w.masters n)
+    one_long w (λ m. within (with_master w n given m) (master_input n m given)) (numbered w.masters n)
     (λ m. set_long w.masters (n - 1) (master_input n m given).state)
 kind_long w kind.Backup n given =
     one_long w (λ b. within (with_backup w n) (backup_input n b given)) (numbered w.backups n) (λ b. omega arith)

@@ -30,11 +30,11 @@ same_input n m (input.Message message) = same_master n m message.from message.bo
 same_input n m (input.Local order) = refl
 
 abbrev pub listed_moves : World → NodeKind → ℕ → Input → Moved World
-listed_moves w kind.Master n given = moves_one w (λ m. within (with_master w n m) (listed_input n m given)) (numbered w.masters n)
+listed_moves w kind.Master n given = moves_one w (λ m. within (with_master w n given m) (listed_input n m given)) (numbered w.masters n)
 listed_moves w k n given = moves_kind w k n given
 
 same_moves : (w : World) (k : NodeKind) (n : ℕ) (given : Input) → moves_kind w k n given ≡ listed_moves w k n given
-same_moves w kind.Master n given = λ i. moves_one w (λ m. within (with_master w n m) (same_input n m given i)) (numbered w.masters n)
+same_moves w kind.Master n given = λ i. moves_one w (λ m. within (with_master w n given m) (same_input n m given i)) (numbered w.masters n)
 same_moves w k n given = refl
 
 abbrev pub listed_effect : World → Deed → Moved World
