@@ -8,7 +8,7 @@ ghost use Rattle.curp_msg.specs.Moved.{Moves, numbered_move};
 use crate::journal::Journal;
 use crate::shell::Shell;
 use curp_base::NoMemory;
-use curp_cmd::NodeId;
+use curp_cmd::{Command, NodeId};
 use curp_collect::Queue;
 use curp_log::Log;
 use curp_msg::{Body, Done, Local, Message};
@@ -144,6 +144,7 @@ impl Master {
             Body::Update(ask) => self.on_update(Wish::AtOnce, ask.get()),
             Body::Sync(ask) => self.on_update(Wish::WhenSynced, ask.get()),
             Body::Read(ask) => self.on_read(ask.get()),
+            Body::Glance(ask) => self.on_glance(ask.get()),
             Body::Appended(appended) => self.on_appended(&message.from, appended),
             Body::Collected(collected) => self.on_collected(&collected.answer),
             Body::Prepare(prepare) => self.prepare(prepare),
@@ -182,6 +183,13 @@ impl Master {
         ensures { result ≡ master.synced self.now.state }
     {
         self.journal.synced()
+    }
+
+    /// Whether no entry that isn't synced touches the command.
+    pub(crate) fn is_clean(&self, command: &Command) -> bool
+        ensures { result ≡ master.is_clean self.now.state command.now }
+    {
+        self.journal.is_clean(command)
     }
 
     pub fn number(&self) -> u32

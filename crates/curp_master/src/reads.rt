@@ -1,14 +1,15 @@
+ghost use Rattle.std.specs.FinMap as store;
 ghost use Rattle.std.specs.Prelude.{◌≡◌, Some, None};
 ghost use Rattle.curp_cmd.specs.declared.command.Command.TheVariants.{Get};
-ghost use Rattle.curp_model.specs.Master.{captures_read, on_read, read_refusal};
+ghost use Rattle.curp_model.specs.Master.{answers_at_once, captures_read, on_glance, on_read, read_refusal, state_of};
 ghost use Rattle.curp_msg.specs.Moved.{Moves};
 ghost use Rattle.curp_master.specs.Built.{move_of};
 
 use crate::Master;
-use curp_base::NoMemory;
+use curp_base::{Boxed, NoMemory};
 use curp_cmd::{Answer, Command, Key, Request};
 use curp_model::Check;
-use curp_msg::{Ask, Done, Refusal};
+use curp_msg::{Ask, Done, Quick, Refusal};
 use curp_rounds::{Captured, messages};
 
 impl Master {
@@ -23,6 +24,22 @@ impl Master {
         };
         match self.read_refusal(ask) {
             Some(why) => self.tell(messages::refuse(self.number, ask.request.id, why)),
+            None => self.capture(&ask.request, key),
+        }
+    }
+
+    /// A client asks to read, and for an answer at once where that is safe. Only a Get is read.
+    #[tactic(auto, unfolding(curp_model::specs::Master::on_glance))]
+    pub(crate) fn on_glance(&mut self, ask: &Ask) -> Result<Done, NoMemory>
+        ensures moves { Moves self.old self.new result
+            (move_of self.old (on_glance self.old.number self.old.state ask.now)) }
+    {
+        let Command::Get(key) = &ask.request.command else {
+            return Ok(Done::quiet(self.alloc));
+        };
+        match self.read_refusal(ask) {
+            Some(why) => self.tell(messages::refuse(self.number, ask.request.id, why)),
+            None if self.is_clean(&ask.request.command) => self.answer_at_once(&ask.request, key),
             None => self.capture(&ask.request, key),
         }
     }
@@ -67,18 +84,43 @@ impl Master {
         let Some(round) = self.next_round(&[])? else {
             return Ok(Done::quiet(self.alloc));
         };
-        let log = self.journal.log();
-        let value = Answer::Found(log.store().get(key));
         let captured = Captured::new(
             number,
             request.id,
             request.command,
-            value,
-            log.len(),
+            self.value(key),
+            self.journal.log().len(),
             round.number,
         );
         self.captures.push(captured);
         self.round = round.number;
         Ok(Done::sends(round.appends))
+    }
+
+    // It takes the next capture number, and no round begins.
+    fn answer_at_once(&mut self, request: &Request, key: &Key) -> Result<Done, NoMemory>
+        ensures moves { Moves self.old self.new result
+            (move_of self.old (answers_at_once self.old.number self.old.state request.now key.now)) }
+    {
+        let Some(number) = self.captures.count().checked_add(1) else {
+            return Ok(Done::quiet(self.alloc));
+        };
+        let quick = Quick {
+            id: request.id,
+            epoch: self.epoch,
+            version: self.version,
+            capture: number,
+            answer: self.value(key),
+        };
+        let done = self.tell(messages::quick(self.number, Boxed::new(self.alloc, quick)?))?;
+        self.captures.use_number(number);
+        Ok(done)
+    }
+
+    // What a key has.
+    fn value(&self, key: &Key) -> Answer
+        ensures { result ≡ Answer.Found (store.get (state_of self.now.state).store key.now) }
+    {
+        Answer::Found(self.journal.log().store().get(key))
     }
 }

@@ -113,7 +113,7 @@ impl Master {
             (executes self.old.number self.old.state (wish_of wish) request.now
             (is_clean self.old.state request.now.command))) }
     {
-        let is_clean = self.journal.is_clean(&request.command);
+        let is_clean = self.is_clean(&request.command);
         match wish {
             Wish::AtOnce if is_clean => self.push_free(request),
             Wish::AtOnce => self.push_held(request, false),
