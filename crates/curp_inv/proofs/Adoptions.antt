@@ -3,8 +3,9 @@ use Rattle.std.proofs.Common.{◌≡◌, ℕ, false, Result, Ok, Err, refl, ap, 
 use Rattle.std.proofs.lemmas.Bool.{cond_both}
 use Rattle.std.specs.declared.alloc.AllocError.{AllocError}
 use Rattle.curp_cmd.specs.Store.{is_update}
+use Rattle.curp_cmd.specs.declared.command.Request.{Request}
 use Rattle.curp_cmd.specs.declared.node.NodeId.{NodeId}
-use Rattle.curp_model.specs.Recovery.{MasterStage, Recovering, RecoveryPhase, RecoveryState, Asking, Storing, Waiting, on_master, serves}
+use Rattle.curp_model.specs.Recovery.{MasterStage, Recovering, RecoveryPhase, RecoveryState, Asking, Storing, Waiting, on_master, serves, turns_read_away}
 use Rattle.curp_msg.specs.Moved.{Moved, Moves, Node, numbered_move, quiet, within}
 use Rattle.curp_msg.specs.declared.body.Body.{Body}
 use Rattle.curp_msg.specs.declared.body.Body.TheVariants as body
@@ -20,13 +21,18 @@ not_served s (Asking log requests) unserved = refl
 not_served s (Storing r) unserved = refl
 not_served s (Waiting r) unserved = absurd (true≢false unserved)
 
+turned_within : (n : ℕ) (s : RecoveryState) (r : Request)
+    → turns_read_away n (Recovering s) r ≡ within Recovering (within (recovery_in s) (turns_read_away n (Recovering s) r))
+turned_within n s r =
+    cond_both (is_update r.command) _ _ (λ (m : Moved MasterStage). m ≡ within Recovering (within (recovery_in s) m)) (λ y. refl) (λ no. refl)
+
 -- its recovery goes on
 goes_on : (n : ℕ) (s : RecoveryState) (from : NodeId) (b : Body) → is_serving (on_master n (Recovering s) from b).state ≡ false
     → on_master n (Recovering s) from b ≡ within Recovering (unadopted n s from b)
 unfolding on_master
 goes_on n s from (body.Adopted a) unserved = not_served s s.phase unserved
-goes_on n s from (body.Read ask) unserved =
-    cond_both (is_update ask.request.command) _ _ (λ (m : Moved MasterStage). m ≡ within Recovering (within (recovery_in s) m)) (λ y. refl) (λ n. refl)
+goes_on n s from (body.Read ask) unserved = turned_within n s ask.request
+goes_on n s from (body.Glance ask) unserved = turned_within n s ask.request
 goes_on n s from _ unserved = refl
 
 -- a node with its recovery inside

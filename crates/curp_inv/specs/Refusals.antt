@@ -35,7 +35,7 @@ use Rattle.curp_msg.specs.declared.message.Message.{Message}
 use Rattle.curp_model.specs.Backup.{BackupState, on_backup}
 use Rattle.curp_model.specs.Client as client
 use Rattle.curp_model.specs.Client.{ClientState, Pending, Early, Glimpse, Attempt, client_ordered, client_input, on_client}
-use Rattle.curp_model.specs.Master.{MasterState, Wish, AtOnce, WhenSynced, Verdict, Deny, Tell, TellAgain, HoldBack, Execute, Phase, Open, Switching, carries_out, executes, goes_on, is_clean, last_round, on_appended, on_collected, on_serving, on_update, raised, serving_ordered, settle, stored_on, sync_in, unless_it_ends, verdict, all_have, adopted_in, collect_in, give_after, is_open, on_expire, on_give, on_read, on_take, prepare_in, push_take, read_command, read_of, read_refusal, state_of, synced, take_after, told_again, treat}
+use Rattle.curp_model.specs.Master.{MasterState, Wish, AtOnce, WhenSynced, Verdict, Deny, Tell, TellAgain, HoldBack, Execute, Phase, Open, Switching, carries_out, executes, glance_command, glance_of, goes_on, is_clean, last_round, on_appended, on_collected, on_serving, on_update, raised, serving_ordered, settle, stored_on, sync_in, unless_it_ends, verdict, all_have, adopted_in, collect_in, give_after, is_open, on_expire, on_give, on_glance, on_read, on_take, prepare_in, push_take, read_command, read_of, read_refusal, state_of, synced, take_after, told_again, treat}
 use Rattle.curp_cmd.specs.Node.{is_among, same_node}
 use Rattle.curp_cmd.specs.declared.entry.Entry.{Entry}
 use Rattle.curp_model.specs.Log.{LastGive, LastTake, is_log}
@@ -203,6 +203,18 @@ read_taken n m ask = go ask.request.command
     go (Get key) = answered key (read_refusal m ask)
     go _ = refl
 
+glance_taken : (n : ℕ) (m : MasterState) (ask : Ask) → (on_glance n m ask).refused ≡ 0
+unfolding on_glance
+glance_taken n m ask = go ask.request.command
+  where
+    answered : (key : List ℕ) (why : Option Refusal) → (glance_of n m ask.request key why).refused ≡ 0
+    answered key (Some why) = refl
+    answered key None = cond_both (is_clean m ask.request.command) _ _ (λ (r : Moved MasterState). r.refused ≡ 0) (λ y. refl) (λ no. refl)
+
+    go : (command : Command) → (glance_command n m ask command).refused ≡ 0
+    go (Get key) = answered key (read_refusal m ask)
+    go _ = refl
+
 prepare_taken : (n : ℕ) (m : MasterState) (p : Prepare) (phase : Phase) → (prepare_in n m p phase).refused ≡ 0
 prepare_taken n m p Open = cond_both (nat_lt m.version p.version) _ _ (λ (r : Moved MasterState). r.refused ≡ 0) (λ y. refl) (λ no. refl)
 prepare_taken n m p (Switching s) = cond_both (s.version == p.version) _ _ (λ (r : Moved MasterState). r.refused ≡ 0) (λ y. refl) (λ no. refl)
@@ -252,6 +264,7 @@ unfolding on_serving
 serving_taken n m from (body.Update ask) = ends_taken m _ (update_taken n m AtOnce ask)
 serving_taken n m from (body.Sync ask) = ends_taken m _ (update_taken n m WhenSynced ask)
 serving_taken n m from (body.Read ask) = ends_taken m _ (read_taken n m ask)
+serving_taken n m from (body.Glance ask) = ends_taken m _ (glance_taken n m ask)
 serving_taken n m from (body.Appended a) = ends_taken m _ (appended_taken n m from a.round a.answer)
 serving_taken n m from (body.Collected c) = ends_taken m _ (collected_taken n m c.answer)
 serving_taken n m from (body.Prepare p) = ends_taken m _ (prepare_taken n m p m.phase)
@@ -276,6 +289,7 @@ fresh_taken n (body.Recover o) = refl
 fresh_taken n (body.Update ask) = refl
 fresh_taken n (body.Sync ask) = refl
 fresh_taken n (body.Read ask) = turned_taken n Fresh ask.request
+fresh_taken n (body.Glance ask) = turned_taken n Fresh ask.request
 fresh_taken n _ = refl
 
 both_taken : (n : ℕ) (o : Recover) (log : Option (List Entry)) (requests : Option (List Request)) → (both_there n o log requests).refused ≡ 0
@@ -324,6 +338,7 @@ recovering_taken n s from (body.Adopted a) = refl
 recovering_taken n s from (body.Update ask) = refl
 recovering_taken n s from (body.Sync ask) = refl
 recovering_taken n s from (body.Read ask) = turned_taken n (Recovering s) ask.request
+recovering_taken n s from (body.Glance ask) = turned_taken n (Recovering s) ask.request
 recovering_taken n s from _ = refl
 
 stage_taken : (n : ℕ) (m : MasterStage) (from : NodeId) (b : Body) → (on_master n m from b).refused ≡ 0
