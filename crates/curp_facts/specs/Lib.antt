@@ -12,3 +12,11 @@ pub mod Run
 pub mod ByOne
 pub mod Silence
 pub mod Marked
+pub mod Names
+pub mod Fits
+pub mod Known
+pub mod Predecessors
+pub mod Routes
+pub mod Migrated
+pub mod Stored
+pub mod Before

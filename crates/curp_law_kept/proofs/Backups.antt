@@ -27,8 +27,9 @@ use Rattle.curp_law_growth.specs.Deeds.{IsFor}
 use Rattle.curp_law_keepers.specs.BackupEffect.{AppendAnswerSays, AppendedSays, BackupAnswers, BackupMove, BackupSays, ByAppend, ByFence, ByInstall, Extends, FenceAnswerSays, FenceReplySays, Rests}
 use Rattle.curp_law_keepers.specs.Brought.{Brings}
 use Rattle.curp_law_keepers.proofs.Brought.{brought_sent}
-use Rattle.curp_law_kept.proofs.Known.{Known, from_manager, said}
-use Rattle.curp_law_names.specs.Names.{InstallOk, OrderOk}
+use Rattle.curp_facts.specs.Known.{Known}
+use Rattle.curp_law_kept.proofs.Known.{from_manager, said}
+use Rattle.curp_facts.specs.Names.{InstallOk, OrderOk}
 use Rattle.curp_law_stays.proofs.Nodes.{backup_ok_later}
 use Rattle.curp_law_stays.proofs.Words.{Follows, given_later, log_later, sent_later}
 

@@ -29,7 +29,8 @@ use Rattle.curp_cmd.specs.Store.{NamesKey}
 use Rattle.curp_law_growth.specs.Deeds.{IsFor}
 use Rattle.curp_law_growth.proofs.Deeds.{done_taken}
 use Rattle.curp_base.proofs.Numbered.{place}
-use Rattle.curp_law_kept.proofs.Known.{Known, fits}
+use Rattle.curp_facts.specs.Known.{Known}
+use Rattle.curp_law_kept.proofs.Known.{fits}
 use Rattle.curp_law_kept.proofs.Steps.{Suits, message_suits, none_at}
 
 -- a command that the input invokes names a key

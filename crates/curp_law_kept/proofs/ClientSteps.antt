@@ -18,7 +18,7 @@ use Rattle.curp_facts.specs.Nodes.{ClientOk}
 use Rattle.curp_law_growth.specs.Deeds.{IsFor}
 use Rattle.curp_law_keepers.specs.ClientEffect.{events_after}
 use Rattle.curp_law_kept.proofs.Clients.{client_keeps, client_messages, client_said, completed_keeps, history_keeps, other_client_keeps, reads_keep}
-use Rattle.curp_law_kept.proofs.Known.{Known}
+use Rattle.curp_facts.specs.Known.{Known}
 use Rattle.curp_law_kept.proofs.Moved.{messages_say}
 use Rattle.curp_law_kept.proofs.Others.{SaysMore, backups_stay, masters_stay, nothing_ready, started_stay, witnesses_stay}
 use Rattle.curp_law_names.proofs.Later.{Later}

@@ -32,7 +32,8 @@ use Rattle.curp_law_keepers.proofs.ClientLater.{others_stay}
 use Rattle.curp_law_keepers.proofs.Clients.{client_effect}
 use Rattle.curp_law_keepers.proofs.Numbers.{waiting}
 use Rattle.curp_law_kept.proofs.Completes.{by_accepts, by_synced}
-use Rattle.curp_law_kept.proofs.Known.{Known, knows_later, said}
+use Rattle.curp_facts.specs.Known.{Known}
+use Rattle.curp_law_kept.proofs.Known.{knows_later, said}
 use Rattle.curp_law_stays.proofs.Nodes.{completed_by_later, value_later, read_later}
 use Rattle.curp_law_stays.proofs.Words.{Follows, event_at}
 use Rattle.curp_facts.specs.Reach.{QuickSaid}

@@ -12,7 +12,8 @@ use Rattle.curp_facts.specs.Facts.{Completable, EntryWas, WasSent, lists_of_part
 use Rattle.curp_facts.specs.Nodes.{MayCome}
 use Rattle.curp_facts.specs.Said.{ReplySaid}
 use Rattle.curp_law_keepers.specs.ClientEffect.{BySynced, ByAccepts}
-use Rattle.curp_law_kept.proofs.Known.{Known, said}
+use Rattle.curp_facts.specs.Known.{Known}
+use Rattle.curp_law_kept.proofs.Known.{said}
 
 module _ {w : World} (known : Known w) (n : ℕ) where
   -- a synced reply that came was sent by a master of the partition

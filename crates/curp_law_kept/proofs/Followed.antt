@@ -28,7 +28,8 @@ use Rattle.curp_law_keepers.proofs.Backups.{backup_effect}
 use Rattle.curp_law_keepers.proofs.Witnesses.{witness_effect}
 use Rattle.curp_law_kept.proofs.Cases.{ByBackup, ByClient, ByManager, ByMaster, ByWitness, Rests, StepCase, Stays, step_case}
 use Rattle.curp_law_kept.proofs.Clients.{client_messages}
-use Rattle.curp_law_kept.proofs.Known.{Frame, Known}
+use Rattle.curp_facts.specs.Known.{Known}
+use Rattle.curp_law_kept.proofs.Known.{Frame}
 use Rattle.curp_law_kept.proofs.ManagersDo.{manager_does}
 use Rattle.curp_law_kept.proofs.ManagersReady.{manager_follows}
 use Rattle.curp_law_kept.proofs.MastersMoves.{MasterStep, heard_in, input_idle, input_moves, input_step, speaker, stage_from}
@@ -36,7 +37,7 @@ use Rattle.curp_law_kept.proofs.MastersReady.{step_follows}
 use Rattle.curp_law_kept.proofs.Others.{SaysMore, nothing_ready}
 use Rattle.curp_law_kept.proofs.Steps.{known_step}
 use Rattle.curp_law_kept.proofs.Worlds.{other_item, same_history}
-use Rattle.curp_law_names.specs.Names.{Names}
+use Rattle.curp_facts.specs.Names.{Names}
 use Rattle.curp_law_names.proofs.Later.{Later}
 use Rattle.curp_law_names.proofs.Lists.{all_of-kept}
 use Rattle.curp_law_names.proofs.Runs.{step_goes}

@@ -23,7 +23,8 @@ use Rattle.curp_law_keepers.specs.WitnessEffect.{WitnessEffect, WitnessSays}
 use Rattle.curp_law_keepers.proofs.Backups.{backup_effect}
 use Rattle.curp_law_keepers.proofs.Witnesses.{witness_effect}
 use Rattle.curp_law_kept.proofs.Backups.{backup_keeps, backup_says}
-use Rattle.curp_law_kept.proofs.Known.{Frame, Known, all_say, clients_stay, completed_stays, history_stays, moving_stays, present_stays, reads_stay}
+use Rattle.curp_facts.specs.Known.{Known}
+use Rattle.curp_law_kept.proofs.Known.{Frame, all_say, clients_stay, completed_stays, history_stays, moving_stays, present_stays, reads_stay}
 use Rattle.curp_law_kept.proofs.Others.{SaysMore, backups_stay, masters_stay, nothing_ready, same_given, started_stay, witnesses_stay}
 use Rattle.curp_law_kept.proofs.Witnesses.{started_keeps, witness_keeps, witness_says}
 use Rattle.curp_law_names.proofs.Later.{Later}

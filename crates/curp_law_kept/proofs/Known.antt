@@ -1,4 +1,4 @@
--- All that is known of a world before a step, and what stays where one backup, witness or master alone has moved.
+-- What follows from what is known of a world, and what stays where one backup, witness or master alone has moved.
 use Rattle.std.proofs.Common.{◌≡◌, ◌≢◌, ℕ, ◌+◌, List, ◌++◌, length, ap, sym, ◌∙◌, subst, Some, false}
 use Rattle.curp_base.specs.Words.{At, Each, numbered}
 use Rattle.curp_base.proofs.Lists.{Each-at}
@@ -23,25 +23,18 @@ use Rattle.curp_model.specs.World.{World, messages}
 use Rattle.curp_facts.specs.Facts.{EntryWas, IsAdoptedNow, IsGiven, Lists, WasSent}
 use Rattle.curp_facts.specs.ClientNumbers.{NumbersOk}
 use Rattle.curp_facts.specs.Evidence.{KnowledgeOk}
-use Rattle.curp_facts.specs.Growth.{Steady}
-use Rattle.curp_facts.specs.Invariant.{Invariant, MovingOk, PresentOk}
+use Rattle.curp_facts.specs.Invariant.{MovingOk, PresentOk}
+use Rattle.curp_facts.specs.Known.{Known}
 use Rattle.curp_facts.specs.Nodes.{ClientOk, CompletedBy, MayCome, WasRead}
 use Rattle.curp_facts.specs.Said.{Says}
-use Rattle.curp_law_names.specs.Names.{IsOf, Names}
-use Rattle.curp_law_names.specs.Nodes.{MessageFits, Nodes, sender_kind}
+use Rattle.curp_facts.specs.Names.{IsOf}
+use Rattle.curp_facts.specs.Fits.{MessageFits, sender_kind}
 use Rattle.curp_law_keepers.proofs.ClientLater.{knowledge_grows}
 use Rattle.curp_law_kept.proofs.Moved.{given_back, messages_say}
 use Rattle.curp_law_stays.proofs.Entries.{ordered_later}
 use Rattle.curp_law_stays.proofs.Nodes.{completed_by_later, read_later}
 use Rattle.curp_law_stays.proofs.Said.{entry_was_later, says_later}
 use Rattle.curp_law_stays.proofs.Words.{Follows, ready_later, sent_later}
-
--- all that holds of a world that a script reaches
-pub record Known (w : World) : Type 0 where
-  pub names : Names w
-  pub nodes : Nodes w
-  pub steady : Steady w
-  pub inv : Invariant w
 
 module _ {w : World} (known : Known w) where
   -- a message that was sent fits

@@ -24,7 +24,7 @@ use Rattle.curp_facts.specs.Facts.{IsMasterOf, WasTaken, GivenTo, IsAmong, Taken
 use Rattle.curp_facts.specs.Invariant.{take_order}
 use Rattle.curp_law_growth.specs.Deeds.{IsFor}
 use Rattle.curp_law_kept.specs.ManagerEffect.{EntryKeeps, ManagerEffect, MovingKeeps}
-use Rattle.curp_law_kept.proofs.Known.{Known}
+use Rattle.curp_facts.specs.Known.{Known}
 use Rattle.curp_law_kept.proofs.ManagersAdopt.{prepared_does, recover_does, recovered_does, replace_does}
 use Rattle.curp_law_kept.proofs.ManagersSay.{configuration_does, entries_keep, expire_does, nudge_does, refused, rests, stays, take_word}
 use Rattle.curp_law_names.proofs.Keeps.{entry_now}

@@ -30,12 +30,13 @@ use Rattle.curp_facts.specs.Invariant.{Invariant, MovingOk, PresentOk}
 use Rattle.curp_facts.specs.Nodes.{BackupOk, ClientOk, FreshOk, MasterOk, StartedAt, WitnessOk}
 use Rattle.curp_law_growth.specs.Deeds.{IsFor}
 use Rattle.curp_law_kept.specs.ManagerEffect.{EntryKeeps, IsOrdered, ManagerEffect, Uttered}
-use Rattle.curp_law_kept.proofs.Known.{Known, fits, knows_later}
+use Rattle.curp_facts.specs.Known.{Known}
+use Rattle.curp_law_kept.proofs.Known.{fits, knows_later}
 use Rattle.curp_law_kept.proofs.ManagersDo.{manager_does}
 use Rattle.curp_law_kept.proofs.ManagersReady.{from_all, given_cases, manager_follows, other_kind, other_sent}
 use Rattle.curp_law_kept.proofs.Moved.{messages_say, says_no_more, sent_now}
-use Rattle.curp_law_names.specs.Names.{IsOf, Names}
-use Rattle.curp_law_names.specs.Nodes.{sender_kind}
+use Rattle.curp_facts.specs.Names.{IsOf, Names}
+use Rattle.curp_facts.specs.Fits.{sender_kind}
 use Rattle.curp_law_names.proofs.Later.{Later}
 use Rattle.curp_law_names.proofs.Lists.{among_each, number_within, place as place_of}
 use Rattle.curp_law_names.proofs.Steps.{manager_moved, moved_messages}

@@ -19,9 +19,10 @@ use Rattle.curp_facts.specs.Growth.{Grows}
 use Rattle.curp_facts.specs.Reach.{IsReady, RecoveredTo}
 use Rattle.curp_facts.specs.Said.{RecoveredSaid}
 use Rattle.curp_law_kept.specs.ManagerEffect.{NewNodes, Orders, Uttered}
-use Rattle.curp_law_kept.proofs.Known.{Known, said}
+use Rattle.curp_facts.specs.Known.{Known}
+use Rattle.curp_law_kept.proofs.Known.{said}
 use Rattle.curp_law_kept.proofs.Moved.{sent_back, sent_cases}
-use Rattle.curp_law_names.specs.Names.{Names, OrderOk, PrepareOk}
+use Rattle.curp_facts.specs.Names.{Names, OrderOk, PrepareOk}
 use Rattle.curp_law_names.proofs.Later as names
 use Rattle.curp_law_names.proofs.Later.{Later}
 use Rattle.curp_law_stays.proofs.Words.{Follows}

@@ -21,8 +21,8 @@ use Rattle.curp_model.specs.Ranges.{Range}
 use Rattle.curp_model.specs.World.{World}
 use Rattle.curp_facts.specs.Facts.{EntryWas, IsAmong, lists_of_part}
 use Rattle.curp_law_kept.specs.ManagerEffect.{EntryKeeps, ManagerEffect, MovingKeeps, Orders, ToldAgain, Uttered}
-use Rattle.curp_law_kept.proofs.Known.{Known}
-use Rattle.curp_law_names.specs.Names.{AdoptedOk, RecoveringOk, ReplacingOk}
+use Rattle.curp_facts.specs.Known.{Known}
+use Rattle.curp_facts.specs.Names.{AdoptedOk, RecoveringOk, ReplacingOk}
 use Rattle.curp_law_names.proofs.Keeps.{entry_now}
 use Rattle.curp_law_names.proofs.Lists.{among_each, each_among}
 use Rattle.curp_law_names.proofs.Says.{each_flat}

@@ -20,7 +20,8 @@ use Rattle.curp_facts.specs.Nodes.{BackupOk, MasterOk, StartedAt, WitnessOk}
 use Rattle.curp_facts.specs.Said.{Says}
 use Rattle.curp_law_growth.specs.Deeds.{IsFor}
 use Rattle.curp_law_kept.proofs.Apart.{either_node}
-use Rattle.curp_law_kept.proofs.Known.{Frame, Known, all_say, clients_stay, completed_stays, given_before, history_stays, present_stays, moving_stays, reads_stay}
+use Rattle.curp_facts.specs.Known.{Known}
+use Rattle.curp_law_kept.proofs.Known.{Frame, all_say, clients_stay, completed_stays, given_before, history_stays, present_stays, moving_stays, reads_stay}
 use Rattle.curp_law_kept.proofs.MastersKept.{master_keeps}
 use Rattle.curp_law_kept.proofs.MastersMoves.{MasterStep, input_step}
 use Rattle.curp_law_kept.proofs.MastersReady.{step_follows}

@@ -36,11 +36,12 @@ use Rattle.curp_facts.specs.Nodes.{BackupOk, MasterOk, RecoveringOk, ReplayedOk,
 use Rattle.curp_facts.specs.Reach.{RecoveredTo}
 use Rattle.curp_facts.specs.Said.{AdoptedSaid, AppendHolds, AppendSaid, AppendedSaid, Says, StoredEntry, IsTakeOf, SuspectsHold}
 use Rattle.curp_law_kept.proofs.Apart.{one_some}
-use Rattle.curp_law_kept.proofs.Known.{Known, from_manager, said}
+use Rattle.curp_facts.specs.Known.{Known}
+use Rattle.curp_law_kept.proofs.Known.{from_manager, said}
 use Rattle.curp_law_logs.proofs.Frozen.{kept_held}
 use Rattle.curp_law_logs.proofs.Logs.{log_prefix}
 use Rattle.curp_law_masters.specs.Moves.{Hears, HearsAnswer, HearsLog, HearsStored, HearsSuspects, RecoveryHears}
-use Rattle.curp_law_names.specs.Names.{OrderOk, PrepareOk}
+use Rattle.curp_facts.specs.Names.{OrderOk, PrepareOk}
 use Rattle.curp_law_names.proofs.Lists.{at_mapped}
 
 -- a master has one log

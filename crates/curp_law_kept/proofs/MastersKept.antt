@@ -23,14 +23,15 @@ use Rattle.curp_facts.specs.Nodes.{CapturedOk, FreshOk, HasSentAll, IsOpAt, IsWa
 use Rattle.curp_facts.specs.Reach.{RecoveredTo}
 use Rattle.curp_facts.specs.Said.{AdoptedSaid}
 use Rattle.curp_law_kept.proofs.Apart.{not_both}
-use Rattle.curp_law_kept.proofs.Known.{Known, from_manager, said}
+use Rattle.curp_facts.specs.Known.{Known}
+use Rattle.curp_law_kept.proofs.Known.{from_manager, said}
 use Rattle.curp_law_kept.proofs.MastersHeard.{order_lowest}
 use Rattle.curp_law_kept.proofs.MastersMoves.{GetsOrder, MasterStep, StageMove, StartsToServe}
 use Rattle.curp_law_kept.proofs.MastersReady.{next_given, no_switch, one_switch, step_follows}
 use Rattle.curp_law_kept.proofs.Moved.{sent_cases, sent_now}
 use Rattle.curp_law_masters.specs.Moves.{Begins, IsSaidBy, ListsMove, Prepares, RecoveryMove, RecoverySays, SaysAll, SaysPrepared, ServingMove, ServingSays, Stays, TakesUp}
 use Rattle.curp_law_masters.specs.Stages.{FreshSays}
-use Rattle.curp_law_names.specs.Names.{AdoptedOk, OrderOk}
+use Rattle.curp_facts.specs.Names.{AdoptedOk, OrderOk}
 use Rattle.curp_law_names.proofs.Lists.{among_each}
 use Rattle.curp_law_stays.proofs.Entries.{log_ok_later}
 use Rattle.curp_law_stays.proofs.Masters.{acknowledged_later, captures_later, stage_later}

@@ -21,7 +21,8 @@ use Rattle.curp_facts.specs.Nodes.{HasSentAll, ServingOk}
 use Rattle.curp_facts.specs.Reach.{HasMany}
 use Rattle.curp_facts.specs.Said.{AppendSaid}
 use Rattle.curp_law_kept.proofs.Apart.{not_both}
-use Rattle.curp_law_kept.proofs.Known.{Known, said}
+use Rattle.curp_facts.specs.Known.{Known}
+use Rattle.curp_law_kept.proofs.Known.{said}
 use Rattle.curp_law_kept.proofs.MastersHeard.{backup_front, one_log, serving_log}
 use Rattle.curp_law_kept.proofs.MastersMoves.{MasterStep}
 use Rattle.curp_law_kept.proofs.MastersReady.{next_given, no_switch, one_switch, step_follows}

@@ -21,7 +21,7 @@ use Rattle.curp_facts.specs.Kept.{lists_of_master}
 use Rattle.curp_facts.specs.Nodes.{IsWaiting, MasterOk, ServingOk, StageOk, SwitchOk}
 use Rattle.curp_facts.specs.Reach.{HasMany, HasStored, IsReady, Whole}
 use Rattle.curp_law_kept.proofs.Apart.{not_both}
-use Rattle.curp_law_kept.proofs.Known.{Known}
+use Rattle.curp_facts.specs.Known.{Known}
 use Rattle.curp_law_kept.proofs.MastersHeard.{one_log}
 use Rattle.curp_law_kept.proofs.MastersMoves.{MasterStep, StageMove}
 use Rattle.curp_law_kept.proofs.Moved.{given_back, sent_back, sent_cases}

@@ -21,14 +21,14 @@ use Rattle.curp_facts.specs.Facts.{ByRecovery, HasLog, IsGiven, Lists, WasSent, 
 use Rattle.curp_facts.specs.Nodes.{IsWaiting, RecoveringOk, ReplayedOk, StageOk}
 use Rattle.curp_facts.specs.Reach.{HasMany, HasStored, Reach, RecoveredTo}
 use Rattle.curp_facts.specs.Said.{AppendSaid, IsOrderedTo, RecoveredSaid, Says}
-use Rattle.curp_law_kept.proofs.Known.{Known}
+use Rattle.curp_facts.specs.Known.{Known}
 use Rattle.curp_law_kept.proofs.MastersHeard.{backup_front}
 use Rattle.curp_law_kept.proofs.MastersKept.{master_keeps}
 use Rattle.curp_law_kept.proofs.MastersMoves.{MasterStep}
 use Rattle.curp_law_kept.proofs.MastersPrepared.{prefix_whole}
 use Rattle.curp_law_kept.proofs.MastersReady.{all_stored, given_was, manager_was, many_now, step_follows, stored_many}
 use Rattle.curp_law_masters.specs.Moves.{IsWhole, RecoverySays}
-use Rattle.curp_law_names.specs.Names.{OrderOk}
+use Rattle.curp_facts.specs.Names.{OrderOk}
 use Rattle.curp_law_stays.proofs.Entries.{refusal_later}
 use Rattle.curp_law_stays.proofs.Nodes.{backup_ok_later}
 use Rattle.curp_law_stays.proofs.Words.{Follows, given_later}

@@ -14,7 +14,7 @@ use Rattle.curp_model.specs.World.{World, messages}
 use Rattle.curp_facts.specs.Facts.{IsAmong}
 use Rattle.curp_facts.specs.Nodes.{StageOk}
 use Rattle.curp_facts.specs.Said.{IsGiveFrom, IsTakeOf, Says}
-use Rattle.curp_law_kept.proofs.Known.{Known}
+use Rattle.curp_facts.specs.Known.{Known}
 use Rattle.curp_law_kept.proofs.MastersKept.{none_said}
 use Rattle.curp_law_kept.proofs.MastersMoves.{MasterStep}
 use Rattle.curp_law_kept.proofs.MastersPrepared.{prepared_says}

@@ -29,7 +29,8 @@ use Rattle.curp_facts.specs.Kept.{IsCollectable, lists_of_master}
 use Rattle.curp_facts.specs.Nodes.{AcknowledgedOk, FreeOp, ServingOk}
 use Rattle.curp_facts.specs.Reach.{EarlySaid, GcSaid, HasMany, IsReady, Reach, RecoveredTo, SyncedSaid, QuickSaid}
 use Rattle.curp_facts.specs.Said.{GiveWasOrdered, AppendSaid, GcHolds, ReplyHolds, ReplySaid, StoredEntry, WorthSaid}
-use Rattle.curp_law_kept.proofs.Known.{Known, said}
+use Rattle.curp_facts.specs.Known.{Known}
+use Rattle.curp_law_kept.proofs.Known.{said}
 use Rattle.curp_law_kept.proofs.MastersHeard.{order_lowest, one_log}
 use Rattle.curp_law_kept.proofs.MastersKept.{lists_adopted, master_keeps}
 use Rattle.curp_law_kept.proofs.MastersMoves.{MasterStep}

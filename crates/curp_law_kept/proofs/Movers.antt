@@ -21,7 +21,7 @@ use Rattle.curp_law_keepers.proofs.Backups.{backup_effect}
 use Rattle.curp_law_keepers.proofs.Witnesses.{witness_effect}
 use Rattle.curp_law_kept.proofs.Cases.{ByBackup, ByClient, ByManager, ByMaster, ByWitness, Rests, StepCase, Stays}
 use Rattle.curp_law_kept.proofs.Clients.{client_messages}
-use Rattle.curp_law_kept.proofs.Known.{Known}
+use Rattle.curp_facts.specs.Known.{Known}
 use Rattle.curp_law_kept.proofs.MastersMoves.{heard_in, input_moves, speaker, stage_from}
 use Rattle.curp_law_names.proofs.Lists.{all_of-kept}
 use Rattle.curp_law_names.proofs.Steps.{manager_moved}

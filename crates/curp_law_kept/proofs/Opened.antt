@@ -25,7 +25,7 @@ use Rattle.curp_facts.specs.Nodes.{BackupOk, ClientOk, MasterOk, StartedAt, Witn
 use Rattle.curp_facts.specs.Reach.{HasStored}
 use Rattle.curp_facts.specs.Run.{IsHeader}
 use Rattle.curp_law_keepers.proofs.ClientLater.{fresh_knows, fresh_numbers, no_history}
-use Rattle.curp_law_names.specs.Names.{IsOf}
+use Rattle.curp_facts.specs.Names.{IsOf}
 use Rattle.curp_law_names.proofs.Lists.{among_each, at_mapped, each_among, numbers_back, place as place_of}
 use Rattle.curp_law_names.proofs.Opened.{opening_names}
 

@@ -15,9 +15,9 @@ use Rattle.curp_model.specs.World.{World, messages}
 use Rattle.curp_facts.specs.Facts.{IsAmong, IsGiven, Lists}
 use Rattle.curp_facts.specs.Nodes.{BackupOk, MasterOk, StartedAt, WitnessOk}
 use Rattle.curp_facts.specs.Reach.{IsReady, Whole}
-use Rattle.curp_law_kept.proofs.Known.{Known}
+use Rattle.curp_facts.specs.Known.{Known}
 use Rattle.curp_law_kept.proofs.Moved.{given_back, ready_back, says_no_more}
-use Rattle.curp_law_names.specs.Names.{Names}
+use Rattle.curp_facts.specs.Names.{Names}
 use Rattle.curp_law_stays.proofs.Masters.{master_ok_later}
 use Rattle.curp_law_stays.proofs.Nodes.{backup_ok_later, witness_ok_later}
 use Rattle.curp_law_stays.proofs.Words.{Follows}

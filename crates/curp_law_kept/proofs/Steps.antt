@@ -34,13 +34,14 @@ use Rattle.curp_facts.specs.Facts.{WasSent}
 use Rattle.curp_base.proofs.Numbered.{numbered_set_same, place}
 use Rattle.curp_law_growth.proofs.Reached.{grows_steady, reached_steady}
 use Rattle.curp_law_growth.proofs.Worlds.{step_grows}
-use Rattle.curp_law_kept.proofs.Known.{Known, fits}
+use Rattle.curp_facts.specs.Known.{Known}
+use Rattle.curp_law_kept.proofs.Known.{fits}
 use Rattle.curp_law_kept.proofs.ManagersKeep.{manager_keeps}
 use Rattle.curp_law_kept.proofs.MasterSteps.{master_input_keeps, nothing_keeps}
 use Rattle.curp_law_kept.proofs.MastersMoves.{heard_in, input_idle, input_moves, speaker, stage_from}
 use Rattle.curp_law_kept.proofs.Opened.{opening_keeps}
 use Rattle.curp_law_kept.proofs.Worlds.{backup_world, client_world, other_item, same_history, witness_world}
-use Rattle.curp_law_names.specs.Names.{Names}
+use Rattle.curp_facts.specs.Names.{Names}
 use Rattle.curp_law_names.proofs.Later.{Later}
 use Rattle.curp_law_names.proofs.Lists.{all_of-kept}
 use Rattle.curp_law_names.proofs.Opened.{opening_names, opening_nodes}

@@ -18,7 +18,7 @@ use Rattle.curp_law_keepers.proofs.Backups.{backup_effect}
 use Rattle.curp_law_keepers.proofs.Witnesses.{witness_effect}
 use Rattle.curp_law_kept.proofs.ClientSteps.{client_step}
 use Rattle.curp_law_kept.proofs.KeeperSteps.{backup_step, witness_step}
-use Rattle.curp_law_kept.proofs.Known.{Known}
+use Rattle.curp_facts.specs.Known.{Known}
 use Rattle.curp_law_names.proofs.Later.{Later}
 use Rattle.curp_law_names.proofs.Lists.{all_of-kept}
 

@@ -18,7 +18,7 @@ use Rattle.curp_facts.specs.Facts.{IsAmong, IsGiven, IsMasterOf, Lists, WasOrder
 use Rattle.curp_facts.specs.Invariant.{take_order}
 use Rattle.curp_facts.specs.Reach.{IsReady}
 use Rattle.curp_facts.specs.Said.{Says}
-use Rattle.curp_law_names.specs.Names.{AdoptedOk, IsOf, RecoveringOk, Top}
+use Rattle.curp_facts.specs.Names.{AdoptedOk, IsOf, RecoveringOk, Top}
 
 -- ---- what it says
 

@@ -18,7 +18,7 @@ use Rattle.curp_model.specs.World.{World, marks_adopted, marks_after, op_request
 use Rattle.curp_model.proofs.Replays.{replay_is}
 use Rattle.curp_facts.specs.Facts.{phase_log}
 use Rattle.curp_law_kept.specs.ManagerEffect.{ManagerEffect}
-use Rattle.curp_law_kept.proofs.Known.{Known}
+use Rattle.curp_facts.specs.Known.{Known}
 use Rattle.curp_law_line.specs.Hashes.{Part}
 use Rattle.curp_law_line.specs.Moves.{Adopt, AdoptFits, adopting, ops, relogged, replayed_of}
 use Rattle.curp_law_line.specs.OfWorld.{entries_at, line_of, logged_entries, moving_of, part_of}
@@ -32,12 +32,12 @@ use Rattle.curp_law_linear.proofs.Managers.{moved_line}
 use Rattle.curp_law_linear.proofs.ManagersLine.{map_alike, seat, seated, seated_grown, seated_parts}
 use Rattle.curp_law_linear.proofs.Parts.{entry_part}
 use Rattle.curp_law_linear.proofs.Superseded.{firm_nowhere, quick_nowhere}
-use Rattle.curp_law_names.specs.Names.{Names}
+use Rattle.curp_facts.specs.Names.{Names}
 use Rattle.curp_law_names.proofs.Later.{Later}
 use Rattle.curp_law_names.proofs.Steps.{manager_moved}
-use Rattle.curp_law_pairs.specs.Predecessors.{Predecessors}
-use Rattle.curp_law_routes.specs.Migrated.{Migrated}
-use Rattle.curp_law_routes.specs.Routes.{Routes}
+use Rattle.curp_facts.specs.Predecessors.{Predecessors}
+use Rattle.curp_facts.specs.Migrated.{Migrated}
+use Rattle.curp_facts.specs.Routes.{Routes}
 
 -- what is made of items, one of which was replaced
 map_set : {A B : Type 0} (f : A → B) (xs : List A) (i : ℕ) (y : A) → map f (set xs i y) ≡ set (map f xs) i (f y)

@@ -29,7 +29,8 @@ use Rattle.curp_facts.specs.Facts.{Completable, HasLog, IsAmong, IsAnswered, IsW
 use Rattle.curp_facts.specs.Kept.{AdoptedLog}
 use Rattle.curp_facts.specs.Reach.{EarlySaid, HasMany, Reach, SyncedSaid, Tells}
 use Rattle.curp_facts.specs.Said.{ReplyHolds, ReplySaid, StoredEntry}
-use Rattle.curp_law_kept.proofs.Known.{Known, said}
+use Rattle.curp_facts.specs.Known.{Known}
+use Rattle.curp_law_kept.proofs.Known.{said}
 use Rattle.curp_law_line.specs.Line.{IsCompleted}
 use Rattle.curp_law_line.specs.Moves.{Adopt, IsReplayedAs}
 use Rattle.curp_law_line.specs.OfWorld.{part_of}
@@ -42,16 +43,16 @@ use Rattle.curp_law_linear.proofs.AdoptRecovery.{Recovery}
 use Rattle.curp_law_linear.proofs.Clients.{answered_log}
 use Rattle.curp_law_linear.proofs.ManagersMoves.{adopted_entry, entry_here, told_adopted}
 use Rattle.curp_law_linear.proofs.Parts.{entry_part, part_log}
-use Rattle.curp_law_names.specs.Names.{Top}
-use Rattle.curp_law_pairs.specs.Predecessors.{Predecessors}
+use Rattle.curp_facts.specs.Names.{Top}
+use Rattle.curp_facts.specs.Predecessors.{Predecessors}
 use Rattle.curp_law_pairs.proofs.Completed.{completed_update}
 use Rattle.curp_law_pairs.proofs.Logs.{reached}
 use Rattle.curp_law_pairs.proofs.Pairs.{completable_at, completable_stands, pairs_good, stands_along}
 use Rattle.curp_law_pairs.proofs.Requests.{one_command}
 use Rattle.curp_law_pairs.proofs.Witnessed.{early}
 use Rattle.curp_law_pairs.proofs.Words.{one_log}
-use Rattle.curp_law_routes.specs.Migrated.{AllStored, Migrated, OpStored}
-use Rattle.curp_law_routes.specs.Routes.{Routes}
+use Rattle.curp_facts.specs.Migrated.{AllStored, Migrated, OpStored}
+use Rattle.curp_facts.specs.Routes.{Routes}
 use Rattle.curp_law_linear.proofs.Found.{none_any}
 
 -- the op at the place of a list of ops

@@ -14,7 +14,7 @@ use Rattle.curp_model.specs.Witness.{HeldRequest, frozen_requests}
 use Rattle.curp_model.specs.World.{World}
 use Rattle.curp_facts.specs.Entries.{UpdateOk}
 use Rattle.curp_cmd.specs.Store.{NamesKey}
-use Rattle.curp_law_kept.proofs.Known.{Known}
+use Rattle.curp_facts.specs.Known.{Known}
 use Rattle.curp_law_line.specs.Moves.{IsHeld}
 use Rattle.curp_law_line.specs.OfWorld.{line_of}
 use Rattle.curp_law_line.proofs.Hashes.{key_touches}

@@ -23,7 +23,8 @@ use Rattle.curp_model.specs.Manager.{Attempted, Migration}
 use Rattle.curp_model.specs.World.{World, messages}
 use Rattle.curp_facts.specs.Facts.{HasLog, IsAdoptedNow, IsAmong, WasSent, hi_of, lo_of}
 use Rattle.curp_facts.specs.Kept.{AdoptedLog}
-use Rattle.curp_law_kept.proofs.Known.{Known, fits}
+use Rattle.curp_facts.specs.Known.{Known}
+use Rattle.curp_law_kept.proofs.Known.{fits}
 use Rattle.curp_law_line.specs.Hashes.{Part, is_give, is_take, owns}
 use Rattle.curp_law_line.specs.Line.{Ungiven}
 use Rattle.curp_law_line.specs.Moves.{OnlyMoving}
@@ -36,10 +37,10 @@ use Rattle.curp_law_linear.specs.Ordered.{Ordered}
 use Rattle.curp_law_linear.proofs.AdoptRecovery.{Recovery}
 use Rattle.curp_law_linear.proofs.ManagersMoves.{adopted_entry, adopted_ok, self_number}
 use Rattle.curp_law_linear.proofs.Parts.{adopted_or_none, part_entry, part_log}
-use Rattle.curp_law_names.specs.Names.{IsOf}
+use Rattle.curp_facts.specs.Names.{IsOf}
 use Rattle.curp_law_pairs.proofs.Words.{one_log}
-use Rattle.curp_law_routes.specs.Migrated.{AllStored, Migrated, OnlyInWork, TakeStored}
-use Rattle.curp_law_routes.specs.Routes.{Routes, order_of}
+use Rattle.curp_facts.specs.Migrated.{AllStored, Migrated, OnlyInWork, TakeStored}
+use Rattle.curp_facts.specs.Routes.{Routes, order_of}
 use Rattle.curp_law_linear.proofs.Found.{at_any, give_is, none_any, take_is}
 
 -- ---- words

@@ -20,11 +20,12 @@ use Rattle.curp_facts.specs.Facts.{ByRecovery, IsAdoptedNow, Logged, WasSent, hi
 use Rattle.curp_facts.specs.Kept.{lists_of_master}
 use Rattle.curp_facts.specs.Nodes.{IsWaiting, MasterOk, StageOk}
 use Rattle.curp_facts.specs.Said.{RecoveredSaid}
-use Rattle.curp_law_kept.proofs.Known.{Known, said}
+use Rattle.curp_facts.specs.Known.{Known}
+use Rattle.curp_law_kept.proofs.Known.{said}
 use Rattle.curp_law_line.specs.OfWorld.{part_of}
 use Rattle.curp_law_linear.proofs.ManagersDeeds.{Recovers}
 use Rattle.curp_law_linear.proofs.Parts.{part_log}
-use Rattle.curp_law_names.specs.Names.{Agree, OrderOk, RecoveringOk}
+use Rattle.curp_facts.specs.Names.{Agree, OrderOk, RecoveringOk}
 
 -- the master of the attempt waits with its replay over the backup's log and the witness's requests
 pub record Recovery (w : World) (c : PartConfig) (a : Attempted) : Type 0 where

@@ -16,10 +16,10 @@ use Rattle.curp_facts.specs.Facts.{HasLog, IsAdoptedNow, lists_of_part}
 use Rattle.curp_facts.specs.Growth.{Grows, LifeGrows}
 use Rattle.curp_facts.specs.Kept.{AdoptedLog, AdoptionOk}
 use Rattle.curp_law_growth.proofs.Worlds.{step_grows}
-use Rattle.curp_law_kept.proofs.Known.{Known}
+use Rattle.curp_facts.specs.Known.{Known}
 use Rattle.curp_law_linear.specs.Serves.{OpeningServes}
-use Rattle.curp_law_names.specs.Names.{GivenOk, Top}
-use Rattle.curp_law_pairs.specs.Predecessors.{Predecessors}
+use Rattle.curp_facts.specs.Names.{GivenOk, Top}
+use Rattle.curp_facts.specs.Predecessors.{Predecessors}
 use Rattle.curp_law_pairs.proofs.Adoptions.{adoptions_ok}
 
 at_numbers : (first count k : ℕ) → k < count → At (numbers_from first count) k (first + k)

@@ -29,7 +29,7 @@ use Rattle.curp_law_kept.proofs.Cases.{RestsIn}
 use Rattle.curp_law_kept.proofs.ClientSteps.{ClientMoved}
 use Rattle.curp_law_kept.proofs.Followed.{master_step, master_world}
 use Rattle.curp_law_kept.proofs.KeeperSteps.{KeeperMoved}
-use Rattle.curp_law_kept.proofs.Known.{Known}
+use Rattle.curp_facts.specs.Known.{Known}
 use Rattle.curp_law_kept.proofs.MastersMoves.{heard_in, input_idle, speaker}
 use Rattle.curp_law_kept.proofs.Others.{SaysMore, nothing_ready}
 use Rattle.curp_law_kept.proofs.Worlds.{other_item, same_history}
@@ -55,9 +55,9 @@ use Rattle.curp_law_linear.proofs.Superseded.{seen_ok}
 use Rattle.curp_law_logs.specs.Gives.{GivesFit}
 use Rattle.curp_law_names.proofs.Later.{Later}
 use Rattle.curp_law_names.proofs.Lists.{all_of-kept}
-use Rattle.curp_law_pairs.specs.Predecessors.{Predecessors}
-use Rattle.curp_law_routes.specs.Migrated.{Migrated}
-use Rattle.curp_law_routes.specs.Routes.{Routes}
+use Rattle.curp_facts.specs.Predecessors.{Predecessors}
+use Rattle.curp_facts.specs.Migrated.{Migrated}
+use Rattle.curp_facts.specs.Routes.{Routes}
 use Rattle.curp_law_runs.proofs.ByOne.{brings_one}
 
 -- what a step owes, but for the commands, the protocol, and that no mark is a quick one

@@ -24,7 +24,7 @@ use Rattle.curp_model.specs.Marks.{Cut, Executed, Looked, Mark, Place, Quick, is
 use Rattle.curp_model.specs.World.{World}
 use Rattle.curp_facts.specs.Facts.{Completable, HasLog, IsAdoptedNow, IsGiven, Lists, WasSent, hi_of, lists_of_part, lo_of}
 use Rattle.curp_facts.specs.Kept.{AdoptedLog}
-use Rattle.curp_law_kept.proofs.Known.{Known}
+use Rattle.curp_facts.specs.Known.{Known}
 use Rattle.curp_law_line.specs.Hashes.{Part}
 use Rattle.curp_law_line.specs.Line as line
 use Rattle.curp_law_line.specs.Line.{Line, LineOk, LookGives}
@@ -33,8 +33,8 @@ use Rattle.curp_law_line.specs.Moves.{CompleteFits, FlagFits, flags_mark}
 use Rattle.curp_law_line.specs.OfWorld.{line_of, part_of}
 use Rattle.curp_law_linear.specs.Ordered.{NotQuick, Ordered, WorthOk}
 use Rattle.curp_law_linear.proofs.Parts.{entry_part, line_logs, part_log}
-use Rattle.curp_law_routes.specs.Migrated.{Migrated, OpStored}
-use Rattle.curp_law_pairs.specs.Predecessors.{Predecessors}
+use Rattle.curp_facts.specs.Migrated.{Migrated, OpStored}
+use Rattle.curp_facts.specs.Predecessors.{Predecessors}
 use Rattle.curp_law_pairs.specs.Answered.{AnsweredBy}
 use Rattle.curp_law_pairs.proofs.Pairs.{completable_at, completable_stands, stands_along}
 

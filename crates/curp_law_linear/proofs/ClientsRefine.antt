@@ -32,7 +32,8 @@ use Rattle.curp_law_keepers.specs.ClientEffect.{ByValue, ClientAsks, ClientEffec
 use Rattle.curp_law_keepers.proofs.Numbers.{never_invoked, waiting}
 use Rattle.curp_law_kept.proofs.Clients.{effect}
 use Rattle.curp_law_kept.proofs.Completes.{by_accepts, by_synced}
-use Rattle.curp_law_kept.proofs.Known.{Known, said}
+use Rattle.curp_facts.specs.Known.{Known}
+use Rattle.curp_law_kept.proofs.Known.{said}
 use Rattle.curp_law_line.specs.Line as line
 use Rattle.curp_law_line.specs.Moves.{Completes, Flags, FlagFits, Invokes}
 use Rattle.curp_law_line.specs.OfWorld.{line_of, told_by}
@@ -44,8 +45,8 @@ use Rattle.curp_law_linear.specs.Refined.{RefinesQuiet}
 use Rattle.curp_law_linear.proofs.Quiet.{line_is, no_move, tell_nothing}
 use Rattle.curp_law_linear.proofs.Same.{SameLogs}
 use Rattle.curp_law_names.proofs.Lists.{all_of-kept}
-use Rattle.curp_law_pairs.specs.Predecessors.{Predecessors}
-use Rattle.curp_law_routes.specs.Migrated.{Migrated}
+use Rattle.curp_facts.specs.Predecessors.{Predecessors}
+use Rattle.curp_facts.specs.Migrated.{Migrated}
 use Rattle.curp_law_runs.proofs.ByOne.{by_value}
 
 -- ---- an order completes nothing

@@ -16,7 +16,7 @@ use Rattle.curp_facts.specs.Entries.{EntryOk}
 use Rattle.curp_facts.specs.Facts.{IsAdoptedNow, Logged, hi_of, lo_of}
 use Rattle.curp_facts.specs.Kept.{AdoptedLog, HashesOwned, OnItsWay, OwnedByOne}
 use Rattle.curp_facts.specs.Said.{StoredEntry}
-use Rattle.curp_law_kept.proofs.Known.{Known}
+use Rattle.curp_facts.specs.Known.{Known}
 use Rattle.curp_law_line.specs.Hashes.{is_give}
 use Rattle.curp_law_line.specs.OfWorld.{part_of}
 use Rattle.curp_law_line.proofs.Entries.{take_of}
@@ -32,10 +32,10 @@ use Rattle.curp_law_linear.proofs.ManagersMoves.{self_number}
 use Rattle.curp_law_linear.proofs.OpeningOwners.{opening_owner}
 use Rattle.curp_law_linear.proofs.Parts.{entry_part, part_log}
 use Rattle.curp_law_logs.proofs.Logs.{take_one}
-use Rattle.curp_law_pairs.specs.Predecessors.{Predecessors}
-use Rattle.curp_law_routes.specs.Migrated.{Migrated, TakeStored}
-use Rattle.curp_law_routes.specs.Routes.{IsDone, IsGiveOf, IsMoving, Routes}
-use Rattle.curp_law_routes.specs.Stored.{StoredNow}
+use Rattle.curp_facts.specs.Predecessors.{Predecessors}
+use Rattle.curp_facts.specs.Migrated.{Migrated, TakeStored}
+use Rattle.curp_facts.specs.Routes.{IsDone, IsGiveOf, IsMoving, Routes}
+use Rattle.curp_facts.specs.Stored.{StoredNow}
 use Rattle.curp_law_routes.proofs.Migrated.{one_stored, work_or_done}
 use Rattle.curp_law_routes.proofs.Stored.{entry_of, front_at, one_adopted, stored_now}
 use Rattle.curp_law_linear.proofs.Found.{give_is}

@@ -15,7 +15,7 @@ use Rattle.curp_model.specs.World.{World}
 use Rattle.curp_facts.specs.Entries.{EntryOk, LogOk}
 use Rattle.curp_facts.specs.Facts.{hi_of, lo_of}
 use Rattle.curp_facts.specs.Kept.{OnItsWay, StoresTogether}
-use Rattle.curp_law_kept.proofs.Known.{Known}
+use Rattle.curp_facts.specs.Known.{Known}
 use Rattle.curp_law_line.specs.Hashes.{is_give}
 use Rattle.curp_law_line.specs.Moves.{IsCarried}
 use Rattle.curp_law_line.specs.OfWorld.{line_of, moving_of, part_of}
@@ -28,9 +28,9 @@ use Rattle.curp_law_linear.proofs.MastersRise.{TakeOfWork, adopted_ok, standing,
 use Rattle.curp_law_linear.proofs.Parts.{entry_part, line_logs, part_log}
 use Rattle.curp_law_linear.proofs.TakenRanges.{covered_before, quiet_behind}
 use Rattle.curp_law_logs.proofs.Packages.{take_package}
-use Rattle.curp_law_pairs.specs.Predecessors.{Predecessors}
-use Rattle.curp_law_routes.specs.Migrated.{Migrated}
-use Rattle.curp_law_routes.specs.Routes.{InWork, Routes}
+use Rattle.curp_facts.specs.Predecessors.{Predecessors}
+use Rattle.curp_facts.specs.Migrated.{Migrated}
+use Rattle.curp_facts.specs.Routes.{InWork, Routes}
 use Rattle.curp_law_linear.proofs.Found.{give_is}
 
 module _ {w : World} (known : Known w) (chain : Predecessors w) (routes : Routes w) (migrated : Migrated w) (ordered : Ordered w) where

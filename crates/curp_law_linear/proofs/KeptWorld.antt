@@ -2,16 +2,16 @@
 use Rattle.curp_model.specs.World.{World}
 use Rattle.curp_facts.specs.Facts.{PairsGood}
 use Rattle.curp_facts.specs.Kept.{FactsKept, Kept}
-use Rattle.curp_law_kept.proofs.Known.{Known}
+use Rattle.curp_facts.specs.Known.{Known}
 use Rattle.curp_law_linear.specs.Ordered.{Ordered}
 use Rattle.curp_law_linear.specs.Serves.{OpeningServes}
 use Rattle.curp_law_linear.proofs.KeptOwners.{hashes_kept}
 use Rattle.curp_law_linear.proofs.KeptReads.{captures_kept, values_kept}
 use Rattle.curp_law_linear.proofs.KeptStores.{stores_kept}
 use Rattle.curp_law_linear.proofs.Statements.{late_replies}
-use Rattle.curp_law_pairs.specs.Predecessors.{Predecessors}
-use Rattle.curp_law_routes.specs.Migrated.{Migrated}
-use Rattle.curp_law_routes.specs.Routes.{Routes}
+use Rattle.curp_facts.specs.Predecessors.{Predecessors}
+use Rattle.curp_facts.specs.Migrated.{Migrated}
+use Rattle.curp_facts.specs.Routes.{Routes}
 
 -- with the pairs and what was said, logs, nodes and adoptions keep, it is what follows of the order
 pub kept_of_world : {w : World} → Known w → Predecessors w → Routes w → Migrated w → Ordered w → OpeningServes w → PairsGood w → FactsKept w → Kept w

@@ -6,7 +6,7 @@ use Rattle.curp_order.specs.declared.Event.{Event}
 use Rattle.curp_model.specs.Manager.{Attempted, ManagerState, Migration}
 use Rattle.curp_model.specs.World.{World, completion, with_adoption, with_completion}
 use Rattle.curp_law_kept.specs.ManagerEffect.{ManagerEffect}
-use Rattle.curp_law_kept.proofs.Known.{Known}
+use Rattle.curp_facts.specs.Known.{Known}
 use Rattle.curp_law_line.specs.Hashes.{Part}
 use Rattle.curp_law_line.specs.Moves.{GivenDone, Migrates}
 use Rattle.curp_law_line.specs.OfWorld.{line_of, moving_of, no_left}
@@ -17,12 +17,12 @@ use Rattle.curp_law_linear.proofs.ManagersDeeds.{Begins, Ends, KeepsSeats, Leads
 use Rattle.curp_law_linear.proofs.ManagersLine.{same_seats, same_told, tells_none}
 use Rattle.curp_law_linear.proofs.ManagersMoves.{given_fits, migrate_fits}
 use Rattle.curp_law_linear.proofs.Parts.{line_logs}
-use Rattle.curp_law_names.specs.Names.{Names}
+use Rattle.curp_facts.specs.Names.{Names}
 use Rattle.curp_law_names.proofs.Later.{Later}
 use Rattle.curp_law_names.proofs.Steps.{manager_moved, moved_messages, sent_now}
-use Rattle.curp_law_pairs.specs.Predecessors.{Predecessors}
-use Rattle.curp_law_routes.specs.Migrated.{Migrated}
-use Rattle.curp_law_routes.specs.Routes.{Routes}
+use Rattle.curp_facts.specs.Predecessors.{Predecessors}
+use Rattle.curp_facts.specs.Migrated.{Migrated}
+use Rattle.curp_facts.specs.Routes.{Routes}
 
 -- ---- what is left of a world
 

@@ -25,7 +25,7 @@ use Rattle.curp_facts.specs.Facts.{IsAdoptedNow, IsAmong, WasSent, lists_of_part
 use Rattle.curp_law_growth.specs.Deeds.{IsFor}
 use Rattle.curp_law_line.specs.OfWorld.{moving_of}
 use Rattle.curp_law_linear.proofs.ManagersLine.{seat}
-use Rattle.curp_law_names.specs.Names.{Names, RecoveringOk}
+use Rattle.curp_facts.specs.Names.{Names, RecoveringOk}
 use Rattle.curp_law_names.proofs.Keeps.{entry_now, entry_numbered, numbered_now}
 use Rattle.curp_law_names.proofs.Lists.{at_mapped, there_among}
 

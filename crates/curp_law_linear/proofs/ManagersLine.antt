@@ -18,7 +18,7 @@ use Rattle.curp_law_kept.specs.ManagerEffect.{Uttered}
 use Rattle.curp_law_line.specs.Hashes.{Part}
 use Rattle.curp_law_line.specs.OfWorld.{entries_at, line_of, told_by}
 use Rattle.curp_law_linear.proofs.Same.{flat_append}
-use Rattle.curp_law_names.specs.Names.{ManagerSays, Names}
+use Rattle.curp_facts.specs.Names.{ManagerSays, Names}
 
 -- ---- logs
 

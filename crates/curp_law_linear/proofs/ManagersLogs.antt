@@ -16,7 +16,7 @@ use Rattle.curp_model.specs.World.{World}
 use Rattle.curp_facts.specs.Kept.{AdoptedLog}
 use Rattle.curp_law_growth.specs.Deeds.{IsFor}
 use Rattle.curp_law_kept.specs.ManagerEffect.{ManagerEffect}
-use Rattle.curp_law_kept.proofs.Known.{Known}
+use Rattle.curp_facts.specs.Known.{Known}
 use Rattle.curp_law_kept.proofs.ManagersDo.{manager_does}
 use Rattle.curp_law_line.specs.Hashes.{Part}
 use Rattle.curp_law_line.specs.Moves.{ops, replayed_of}
@@ -31,12 +31,12 @@ use Rattle.curp_law_linear.proofs.AdoptRecovery.{Recovery, backup_begins, recove
 use Rattle.curp_law_linear.proofs.ManagersDeeds.{Begins, Ends, KeepsSeats, Leads, Renews, Rests, manager_leads}
 use Rattle.curp_law_linear.proofs.ManagersLine.{same_seats}
 use Rattle.curp_law_linear.proofs.Parts.{adopted_or_none, entry_part, numbered_mapped, part_entry, part_log}
-use Rattle.curp_law_names.specs.Names.{Names}
+use Rattle.curp_facts.specs.Names.{Names}
 use Rattle.curp_law_names.proofs.Later.{Later}
 use Rattle.curp_law_names.proofs.Steps.{manager_moved}
-use Rattle.curp_law_pairs.specs.Predecessors.{Predecessors}
-use Rattle.curp_law_routes.specs.Migrated.{Migrated}
-use Rattle.curp_law_routes.specs.Routes.{Routes}
+use Rattle.curp_facts.specs.Predecessors.{Predecessors}
+use Rattle.curp_facts.specs.Migrated.{Migrated}
+use Rattle.curp_facts.specs.Routes.{Routes}
 
 -- takes and gives rise together, and each give fits
 abbrev pub LogFits : Part → Type 0

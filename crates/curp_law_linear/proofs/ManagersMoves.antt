@@ -21,18 +21,19 @@ use Rattle.curp_facts.specs.Facts.{HasLog, IsAdoptedNow, IsGiven, Lists, WasSent
 use Rattle.curp_facts.specs.Kept.{AdoptedLog}
 use Rattle.curp_facts.specs.Reach.{Reach}
 use Rattle.curp_facts.specs.Said.{IsGiveFrom, StoredEntry}
-use Rattle.curp_law_kept.proofs.Known.{Known, said}
+use Rattle.curp_facts.specs.Known.{Known}
+use Rattle.curp_law_kept.proofs.Known.{said}
 use Rattle.curp_law_line.specs.Hashes.{Part, is_give, is_take}
 use Rattle.curp_law_line.specs.Moves.{GivenFits, MigrateFits}
 use Rattle.curp_law_line.specs.OfWorld.{line_of, moving_of, part_of}
 use Rattle.curp_law_linear.specs.Ordered.{moved_number}
 use Rattle.curp_law_linear.proofs.Parts.{adopted_or_none, entry_part, part_entry, part_log}
 use Rattle.curp_law_pairs.specs.Along.{HoldsOn}
-use Rattle.curp_law_pairs.specs.Predecessors.{Predecessors}
+use Rattle.curp_facts.specs.Predecessors.{Predecessors}
 use Rattle.curp_law_pairs.proofs.Along.{entry_along}
 use Rattle.curp_law_pairs.proofs.Logs.{log_ok}
-use Rattle.curp_law_routes.specs.Migrated.{AllStored, Migrated, TakeStored}
-use Rattle.curp_law_routes.specs.Routes.{InWork, Routes, order_of}
+use Rattle.curp_facts.specs.Migrated.{AllStored, Migrated, TakeStored}
+use Rattle.curp_facts.specs.Routes.{InWork, Routes, order_of}
 use Rattle.curp_law_linear.proofs.Found.{at_any, none_any}
 
 -- ---- words

@@ -11,7 +11,7 @@ use Rattle.curp_model.specs.Recovery.{Recovering, RecoveryState, Replayed, Waiti
 use Rattle.curp_model.specs.World.{World}
 use Rattle.curp_law_growth.specs.Deeds.{IsFor}
 use Rattle.curp_law_kept.specs.ManagerEffect.{ManagerEffect}
-use Rattle.curp_law_kept.proofs.Known.{Known}
+use Rattle.curp_facts.specs.Known.{Known}
 use Rattle.curp_law_kept.proofs.ManagersDo.{manager_does}
 use Rattle.curp_law_line.specs.Moves.{Adopts, Move}
 use Rattle.curp_law_linear.specs.Ordered.{Ordered}
@@ -24,12 +24,12 @@ use Rattle.curp_law_linear.proofs.ManagersDeeds.{Leads, Renews, manager_leads}
 use Rattle.curp_law_linear.proofs.Parts.{line_logs}
 use Rattle.curp_law_linear.proofs.ReadsAdoption.{WaitsFor}
 use Rattle.curp_law_linear.proofs.ReadsManager.{AdoptsThat}
-use Rattle.curp_law_names.specs.Names.{Names}
+use Rattle.curp_facts.specs.Names.{Names}
 use Rattle.curp_law_names.proofs.Later.{Later}
 use Rattle.curp_law_names.proofs.Steps.{manager_moved}
-use Rattle.curp_law_pairs.specs.Predecessors.{Predecessors}
-use Rattle.curp_law_routes.specs.Migrated.{Migrated}
-use Rattle.curp_law_routes.specs.Routes.{Routes}
+use Rattle.curp_facts.specs.Predecessors.{Predecessors}
+use Rattle.curp_facts.specs.Migrated.{Migrated}
+use Rattle.curp_facts.specs.Routes.{Routes}
 use Rattle.curp_law_stays.proofs.Words.{one_state}
 
 -- the moves adopt what the manager adopts, if it does, and as much of its log as was recovered

@@ -22,7 +22,7 @@ use Rattle.curp_facts.specs.Growth.{MasterGrows, ServesOn}
 use Rattle.curp_facts.specs.Kept.{AdoptedLog, lists_of_master}
 use Rattle.curp_facts.specs.Nodes.{CapturedOk, ServingOk}
 use Rattle.curp_law_kept.proofs.Apart.{either_node}
-use Rattle.curp_law_kept.proofs.Known.{Known}
+use Rattle.curp_facts.specs.Known.{Known}
 use Rattle.curp_law_kept.proofs.MastersMoves.{MasterStep}
 use Rattle.curp_law_line.specs.Hashes.{Part}
 use Rattle.curp_law_line.specs.Line.{Line}
@@ -43,9 +43,9 @@ use Rattle.curp_law_linear.proofs.MastersTold.{TakeStands, all_tell, takes_stand
 use Rattle.curp_law_linear.proofs.Parts.{entry_part, line_logs, part_log}
 use Rattle.curp_law_linear.proofs.Same.{flat_append}
 use Rattle.curp_law_logs.specs.Gives.{GivesFit}
-use Rattle.curp_law_pairs.specs.Predecessors.{Predecessors}
-use Rattle.curp_law_routes.specs.Migrated.{Migrated}
-use Rattle.curp_law_routes.specs.Routes.{Routes}
+use Rattle.curp_facts.specs.Predecessors.{Predecessors}
+use Rattle.curp_facts.specs.Migrated.{Migrated}
+use Rattle.curp_facts.specs.Routes.{Routes}
 
 -- the log of an adopted master that serves
 abbrev pub serving_log : {w : World} (c : PartConfig) (node : NodeId) (m : MasterState) → IsAdoptedNow w c → c.master ≡ node → IsMaster w node (Serving m) → AdoptedLog w c

@@ -30,7 +30,8 @@ use Rattle.curp_facts.specs.Entries.{EntryOk, LogOk}
 use Rattle.curp_facts.specs.Facts.{IsAmong, WasSent, WasTaken, hi_of, lo_of}
 use Rattle.curp_facts.specs.Kept.{AdoptedLog}
 use Rattle.curp_cmd.specs.Store.{NamesKey}
-use Rattle.curp_law_kept.proofs.Known.{Known, said}
+use Rattle.curp_facts.specs.Known.{Known}
+use Rattle.curp_law_kept.proofs.Known.{said}
 use Rattle.curp_law_line.specs.Hashes.{Part, is_give, is_take}
 use Rattle.curp_law_line.specs.Line.{Ungiven}
 use Rattle.curp_law_line.specs.Moves.{IsCarried, PushExpire, PushExpireFits, PushGive, PushGiveFits, PushOp, PushOpFits, PushTake, PushTakeFits, taken_by}
@@ -44,9 +45,9 @@ use Rattle.curp_law_linear.proofs.TakenRanges.{covered_before, quiet_behind}
 use Rattle.curp_law_logs.proofs.Logs.{log_back}
 use Rattle.curp_law_logs.proofs.Packages.{package_same, package_self, take_package}
 use Rattle.curp_law_logs.proofs.Ranges.{owns_touched}
-use Rattle.curp_law_pairs.specs.Predecessors.{Predecessors}
-use Rattle.curp_law_routes.specs.Migrated.{Migrated, TakeStored}
-use Rattle.curp_law_routes.specs.Routes.{Routes}
+use Rattle.curp_facts.specs.Predecessors.{Predecessors}
+use Rattle.curp_facts.specs.Migrated.{Migrated, TakeStored}
+use Rattle.curp_facts.specs.Routes.{Routes}
 use Rattle.curp_law_linear.proofs.Found.{found_give, found_take}
 
 -- a command that names a key touches its hash

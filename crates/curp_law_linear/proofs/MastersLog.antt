@@ -10,7 +10,7 @@ use Rattle.curp_model.specs.World.{World}
 use Rattle.curp_facts.specs.Entries.{LogOk}
 use Rattle.curp_facts.specs.Facts.{hi_of, lo_of}
 use Rattle.curp_facts.specs.Kept.{AdoptedLog}
-use Rattle.curp_law_kept.proofs.Known.{Known}
+use Rattle.curp_facts.specs.Known.{Known}
 use Rattle.curp_law_line.specs.Hashes.{Part}
 use Rattle.curp_law_line.specs.Line.{Line}
 use Rattle.curp_law_line.specs.Moves.{AllFit, Fits, Move, after, all_after, pushed, relogged}
@@ -25,10 +25,10 @@ use Rattle.curp_law_logs.specs.Gives.{GivesFit}
 use Rattle.curp_law_logs.specs.Migrations.{give_number, take_number}
 use Rattle.curp_law_logs.proofs.Gives.{gives_fit_front}
 use Rattle.curp_law_logs.proofs.Logs.{log_prefix}
-use Rattle.curp_law_pairs.specs.Predecessors.{Predecessors}
+use Rattle.curp_facts.specs.Predecessors.{Predecessors}
 use Rattle.curp_law_pairs.proofs.Logs.{range_ordered}
-use Rattle.curp_law_routes.specs.Migrated.{Migrated}
-use Rattle.curp_law_routes.specs.Routes.{Routes}
+use Rattle.curp_facts.specs.Migrated.{Migrated}
+use Rattle.curp_facts.specs.Routes.{Routes}
 use Rattle.curp_law_linear.proofs.MastersRise.{new_fit, new_rise}
 
 -- these moves, each of which can be made and none of which adopts, lead from one state to the other

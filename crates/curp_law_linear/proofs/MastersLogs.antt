@@ -15,16 +15,16 @@ use Rattle.curp_model.specs.World.{World}
 use Rattle.curp_facts.specs.Facts.{IsAdoptedNow, Logged, hi_of, lo_of, node_log}
 use Rattle.curp_facts.specs.Kept.{AdoptedLog}
 use Rattle.curp_law_kept.proofs.Apart.{either_node}
-use Rattle.curp_law_kept.proofs.Known.{Known}
+use Rattle.curp_facts.specs.Known.{Known}
 use Rattle.curp_law_kept.proofs.MastersMoves.{MasterStep}
 use Rattle.curp_law_line.proofs.Lists.{some_same}
 use Rattle.curp_law_linear.specs.Ordered.{AdoptedOk, MigrationsRise, Ordered}
 use Rattle.curp_law_linear.proofs.Masters.{serving_fit, serving_rise}
 use Rattle.curp_law_linear.proofs.MastersStand.{SameLog, begins_stands, fresh_stands, recovering_stands}
 use Rattle.curp_law_logs.specs.Gives.{GivesFit}
-use Rattle.curp_law_pairs.specs.Predecessors.{Predecessors}
-use Rattle.curp_law_routes.specs.Migrated.{Migrated}
-use Rattle.curp_law_routes.specs.Routes.{Routes}
+use Rattle.curp_facts.specs.Predecessors.{Predecessors}
+use Rattle.curp_facts.specs.Migrated.{Migrated}
+use Rattle.curp_facts.specs.Routes.{Routes}
 
 module _ {w v : World} (known : Known w) (chain : Predecessors w) (routes : Routes w) (migrated : Migrated w) (ordered : Ordered w) (moved : Migrated v)
     (n : ℕ) (from : NodeId) (heard : Option Body) (out : List Message) where

@@ -18,16 +18,16 @@ use Rattle.curp_facts.specs.Entries.{LogOk}
 use Rattle.curp_facts.specs.Facts.{IsAmong, hi_of, lo_of}
 use Rattle.curp_facts.specs.Kept.{AdoptedLog}
 use Rattle.curp_facts.specs.Nodes.{CapturedOk}
-use Rattle.curp_law_kept.proofs.Known.{Known}
+use Rattle.curp_facts.specs.Known.{Known}
 use Rattle.curp_law_line.specs.Line.{Line}
 use Rattle.curp_law_line.specs.Moves.{Look, LookFits, Looks}
 use Rattle.curp_law_linear.specs.Ordered.{Ordered}
 use Rattle.curp_law_linear.proofs.MastersCaptures.{Captures, NoRead, OneRead, TakesNone, TakesOne}
 use Rattle.curp_law_linear.proofs.MastersLog.{Leads, here_at, leads_first, leads_none, line_at, logs_at, part_at}
 use Rattle.curp_law_logs.proofs.Ranges.{owns_touched}
-use Rattle.curp_law_pairs.specs.Predecessors.{Predecessors}
-use Rattle.curp_law_routes.specs.Migrated.{Migrated}
-use Rattle.curp_law_routes.specs.Routes.{Routes}
+use Rattle.curp_facts.specs.Predecessors.{Predecessors}
+use Rattle.curp_facts.specs.Migrated.{Migrated}
+use Rattle.curp_facts.specs.Routes.{Routes}
 
 filter_none : {A : Type 0} (p : A → Bool) (xs : List A) → ((k : ℕ) (x : A) → At xs k x → p x ≡ false) → filter p xs ≡ []
 filter_none p [] none = refl

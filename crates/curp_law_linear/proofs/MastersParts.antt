@@ -14,13 +14,13 @@ use Rattle.curp_model.specs.Ranges.{opening_range}
 use Rattle.curp_model.specs.Recovery.{MasterStage}
 use Rattle.curp_model.specs.World.{World, is_adopted}
 use Rattle.curp_facts.specs.Facts.{IsAdoptedNow, lists_of_part, node_log}
-use Rattle.curp_law_kept.proofs.Known.{Known}
+use Rattle.curp_facts.specs.Known.{Known}
 use Rattle.curp_law_kept.proofs.MastersMoves.{MasterStep}
 use Rattle.curp_law_line.specs.Hashes.{Part}
 use Rattle.curp_law_line.specs.Moves.{relogged}
 use Rattle.curp_law_line.specs.OfWorld.{entries_at, line_of, logged_entries, part_of}
 use Rattle.curp_base.proofs.Numbered.{any_at}
-use Rattle.curp_law_names.specs.Names.{IsOf}
+use Rattle.curp_facts.specs.Names.{IsOf}
 use Rattle.curp_law_names.proofs.Homes.{master_there}
 use Rattle.curp_law_linear.proofs.Found.{at_any}
 

@@ -10,16 +10,16 @@ use Rattle.curp_model.specs.Marks.{Mark, executed}
 use Rattle.curp_model.specs.World.{World, op_marks}
 use Rattle.curp_facts.specs.Entries.{LogOk}
 use Rattle.curp_facts.specs.Kept.{AdoptedLog}
-use Rattle.curp_law_kept.proofs.Known.{Known}
+use Rattle.curp_facts.specs.Known.{Known}
 use Rattle.curp_law_line.specs.Line.{Line}
 use Rattle.curp_law_line.specs.Moves.{ExpirePush, Fits, GivePush, Move, OpPush, TakePush, after, pushed}
 use Rattle.curp_law_linear.specs.Refined.{NoAdoption}
 use Rattle.curp_law_linear.specs.Ordered.{Ordered}
 use Rattle.curp_law_linear.proofs.MastersFit.{expire_fits, expire_push, give_moves, give_push, op_fits, op_push, take_moves, take_push}
 use Rattle.curp_law_linear.proofs.MastersLog.{Leads, leads_first, leads_none, line_at, logs_at, one_pushed, part_at}
-use Rattle.curp_law_pairs.specs.Predecessors.{Predecessors}
-use Rattle.curp_law_routes.specs.Migrated.{Migrated}
-use Rattle.curp_law_routes.specs.Routes.{Routes}
+use Rattle.curp_facts.specs.Predecessors.{Predecessors}
+use Rattle.curp_facts.specs.Migrated.{Migrated}
+use Rattle.curp_facts.specs.Routes.{Routes}
 
 module _ {w : World} (known : Known w) (chain : Predecessors w) (routes : Routes w) (migrated : Migrated w) (ordered : Ordered w)
     (c : PartConfig) (l : AdoptedLog w c) (new : List Entry) (front : IsPrefix l.its.log new) (ok : LogOk w c.part new) (node : NodeId) (epoch : ℕ) where

@@ -24,7 +24,8 @@ use Rattle.curp_facts.specs.Facts.{HasLog, Logged, WasTaken, hi_of, lists_of_par
 use Rattle.curp_facts.specs.Kept.{AdoptedLog}
 use Rattle.curp_facts.specs.Reach.{Reach}
 use Rattle.curp_facts.specs.Said.{StoredEntry}
-use Rattle.curp_law_kept.proofs.Known.{Known, said}
+use Rattle.curp_facts.specs.Known.{Known}
+use Rattle.curp_law_kept.proofs.Known.{said}
 use Rattle.curp_law_line.specs.Hashes.{Part, has_take, is_give, is_take, owns}
 use Rattle.curp_law_line.specs.OfWorld.{line_of, moving_of, part_of}
 use Rattle.curp_law_line.proofs.Lists.{some_same}
@@ -37,12 +38,12 @@ use Rattle.curp_law_logs.proofs.Gives.{gives_fit_append, gives_fit_from, package
 use Rattle.curp_law_logs.proofs.Migrations.{owned_more}
 use Rattle.curp_law_logs.proofs.Packages.{take_package}
 use Rattle.curp_law_pairs.specs.Along.{HoldsOn}
-use Rattle.curp_law_pairs.specs.Predecessors.{Predecessors}
+use Rattle.curp_facts.specs.Predecessors.{Predecessors}
 use Rattle.curp_law_pairs.proofs.Along.{entry_along}
 use Rattle.curp_law_pairs.proofs.Logs.{log_ok}
 use Rattle.curp_law_pairs.proofs.Words.{one_log}
-use Rattle.curp_law_routes.specs.Migrated.{Migrated, TakeStored}
-use Rattle.curp_law_routes.specs.Routes.{IsDone, IsGiveOf, IsMoving, Routes, order_of}
+use Rattle.curp_facts.specs.Migrated.{Migrated, TakeStored}
+use Rattle.curp_facts.specs.Routes.{IsDone, IsGiveOf, IsMoving, Routes, order_of}
 use Rattle.curp_law_linear.proofs.Found.{at_any, found_give}
 
 same_number : (n : ℕ) → (n == n) ≡ true

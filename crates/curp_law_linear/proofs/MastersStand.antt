@@ -17,11 +17,11 @@ use Rattle.curp_model.specs.Witness.{WitnessState, frozen_requests}
 use Rattle.curp_model.specs.World.{World}
 use Rattle.curp_facts.specs.Facts.{ByRecovery, IsAdoptedNow, Logged, ReplayOk, WasSent, lists_of_order, lists_of_part, node_log, phase_log}
 use Rattle.curp_facts.specs.Nodes.{IsWaiting, RecoveringOk, StageOk}
-use Rattle.curp_law_kept.proofs.Known.{Known}
+use Rattle.curp_facts.specs.Known.{Known}
 use Rattle.curp_law_kept.proofs.MastersMoves.{StageMove}
 use Rattle.curp_law_line.specs.OfWorld.{logged_entries}
-use Rattle.curp_law_names.specs.Names.{OrderOk}
-use Rattle.curp_law_pairs.specs.Predecessors.{Predecessor, Predecessors}
+use Rattle.curp_facts.specs.Names.{OrderOk}
+use Rattle.curp_facts.specs.Predecessors.{Predecessor, Predecessors}
 use Rattle.curp_law_pairs.proofs.Words.{one_backup, one_witness}
 
 -- the log stays, and so does that there is one

@@ -27,7 +27,7 @@ use Rattle.curp_law_linear.proofs.MastersLog.{Leads, leads_first, leads_none}
 use Rattle.curp_law_linear.proofs.Parts.{numbered_mapped}
 use Rattle.curp_law_masters.specs.Moves.{IsSaidBy, RecoverySays, ServingSays}
 use Rattle.curp_law_masters.specs.Stages.{FreshSays}
-use Rattle.curp_law_routes.specs.Migrated.{Migrated, TakeStored}
+use Rattle.curp_facts.specs.Migrated.{Migrated, TakeStored}
 use Rattle.curp_law_linear.proofs.Found.{at_any}
 
 -- the take of the migration stands in a partition

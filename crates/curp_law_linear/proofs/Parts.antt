@@ -10,7 +10,7 @@ use Rattle.curp_model.specs.World.{World}
 use Rattle.curp_facts.specs.Entries.{LogOk}
 use Rattle.curp_facts.specs.Facts.{IsAdoptedNow, Logged, hi_of, lists_of_part, lo_of, node_log}
 use Rattle.curp_facts.specs.Kept.{AdoptedLog}
-use Rattle.curp_law_kept.proofs.Known.{Known}
+use Rattle.curp_facts.specs.Known.{Known}
 use Rattle.curp_law_line.specs.Hashes.{Part}
 use Rattle.curp_law_line.specs.OfWorld.{entries_at, line_of, logged_entries, part_of}
 use Rattle.curp_law_line.proofs.Discharged.{IsPlainLog, logs_ok}

@@ -25,7 +25,7 @@ use Rattle.curp_model.specs.World.{World, is_adopted}
 use Rattle.curp_facts.specs.Facts.{HasLog, IsAdoptedNow, hi_of, lists_of_part, lo_of}
 use Rattle.curp_facts.specs.Kept.{AdoptedLog, lists_of_master}
 use Rattle.curp_facts.specs.Nodes.{CapturedOk, ServingOk}
-use Rattle.curp_law_kept.proofs.Known.{Known}
+use Rattle.curp_facts.specs.Known.{Known}
 use Rattle.curp_law_line.specs.Hashes.{owns}
 use Rattle.curp_law_line.specs.Line.{LookGives}
 use Rattle.curp_law_line.specs.Moves.{Look, LookFits}

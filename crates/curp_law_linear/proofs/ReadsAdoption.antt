@@ -26,7 +26,8 @@ use Rattle.curp_facts.specs.Said.{RecoveredSaid}
 use Rattle.curp_law_growth.specs.Deeds.{IsFor}
 use Rattle.curp_base.proofs.Numbered.{numbered_set_cases, numbered_set_same}
 use Rattle.curp_law_kept.specs.ManagerEffect.{ManagerEffect, Uttered}
-use Rattle.curp_law_kept.proofs.Known.{Known, said}
+use Rattle.curp_facts.specs.Known.{Known}
+use Rattle.curp_law_kept.proofs.Known.{said}
 use Rattle.curp_law_kept.proofs.ManagersDo.{manager_does}
 use Rattle.curp_law_linear.specs.Ordered.{Ordered}
 use Rattle.curp_law_linear.specs.Refined.{Refines}
@@ -35,10 +36,10 @@ use Rattle.curp_law_linear.proofs.ReadsLater.{EntryStays, ReadsOk}
 use Rattle.curp_law_linear.proofs.ReadsManager.{AdoptsRecovery, AdoptsThat, adoption_reads}
 use Rattle.curp_law_linear.proofs.ReadsManagerLists.{manager_said, new_entry}
 use Rattle.curp_law_linear.proofs.ReadsManagerSteps.{was_heard}
-use Rattle.curp_law_names.specs.Names.{RecoveringOk}
+use Rattle.curp_facts.specs.Names.{RecoveringOk}
 use Rattle.curp_law_names.proofs.Lists.{place}
 use Rattle.curp_law_names.proofs.Steps.{manager_moved, moved_messages}
-use Rattle.curp_law_pairs.specs.Predecessors.{Predecessors}
+use Rattle.curp_facts.specs.Predecessors.{Predecessors}
 use Rattle.curp_law_pairs.proofs.Uttered.{manager_adopts}
 use Rattle.curp_law_stays.proofs.Words.{Follows}
 

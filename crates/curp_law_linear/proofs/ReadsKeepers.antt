@@ -22,7 +22,7 @@ use Rattle.curp_law_keepers.specs.WitnessEffect.{WitnessSays}
 use Rattle.curp_law_keepers.proofs.Backups.{backup_effect}
 use Rattle.curp_law_keepers.proofs.Witnesses.{witness_effect}
 use Rattle.curp_law_kept.proofs.KeeperSteps.{KeeperMoved}
-use Rattle.curp_law_kept.proofs.Known.{Known}
+use Rattle.curp_facts.specs.Known.{Known}
 use Rattle.curp_law_kept.proofs.Moved.{sent_cases}
 use Rattle.curp_law_kept.proofs.Others.{SaysMore, nothing_ready}
 use Rattle.curp_law_linear.specs.Ordered.{Ordered}
@@ -32,7 +32,7 @@ use Rattle.curp_law_linear.specs.Refined.{NoAdoption}
 use Rattle.curp_law_linear.proofs.ReadsPassed.{NoneLate}
 use Rattle.curp_law_linear.proofs.ReadsQuiet.{frame_reads, looks_same, none_late}
 use Rattle.curp_law_names.proofs.Lists.{among_each}
-use Rattle.curp_law_pairs.specs.Predecessors.{Predecessors}
+use Rattle.curp_facts.specs.Predecessors.{Predecessors}
 use Rattle.curp_law_stays.proofs.Words.{Follows, one_state}
 
 module _ {w v : World} (known : Known w) (now : Known v) (chain : Predecessors w) (later : Predecessors v) (ordered : Ordered w) (marks : v.marks ≡ w.marks)

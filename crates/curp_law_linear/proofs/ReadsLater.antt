@@ -16,13 +16,13 @@ use Rattle.curp_model.specs.World.{World}
 use Rattle.curp_facts.specs.Facts.{IsAdoptedNow, WasSent}
 use Rattle.curp_facts.specs.Growth.{CoreGrows}
 use Rattle.curp_facts.specs.Kept.{PassedBy, lists_of_master}
-use Rattle.curp_law_kept.proofs.Known.{Known}
+use Rattle.curp_facts.specs.Known.{Known}
 use Rattle.curp_law_linear.specs.Ordered.{CaptureOk, IsStored, LooksNumbered, LooksReached, LooksStored, Ordered, StoredFrom, WorthOk}
 use Rattle.curp_law_linear.specs.Refined.{Refines}
 use Rattle.curp_law_linear.proofs.ReadsMoves.{KeepsStored, NoneDrops, worth_later}
 use Rattle.curp_law_linear.proofs.ReadsPassed.{NewerLists, NoneLate, capture_later}
 use Rattle.curp_law_linear.proofs.ReadsStored.{from_stays, looks_stored, stored_stays}
-use Rattle.curp_law_pairs.specs.Predecessors.{Predecessors}
+use Rattle.curp_facts.specs.Predecessors.{Predecessors}
 use Rattle.curp_law_stays.proofs.Words.{Follows, serving_later}
 
 -- what is kept of reads

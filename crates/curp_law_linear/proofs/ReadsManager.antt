@@ -28,7 +28,8 @@ use Rattle.curp_facts.specs.Kept.{PassedBy, lists_of_master}
 use Rattle.curp_facts.specs.Nodes as nodes
 use Rattle.curp_facts.specs.Nodes.{ReplayedOk, StageOk}
 use Rattle.curp_facts.specs.Reach.{HasMany, HasStored, Reach}
-use Rattle.curp_law_kept.proofs.Known.{Known, fits}
+use Rattle.curp_facts.specs.Known.{Known}
+use Rattle.curp_law_kept.proofs.Known.{fits}
 use Rattle.curp_law_kept.proofs.MastersReady.{all_stored, stored_many}
 use Rattle.curp_law_kept.proofs.Moved.{sent_back}
 use Rattle.curp_law_line.specs.Moves.{Adopts, Move, IsDropped}
@@ -42,10 +43,10 @@ use Rattle.curp_law_linear.proofs.ReadsPassed.{NewerLists, NoneLate, passed_late
 use Rattle.curp_law_linear.proofs.ReadsQuiet.{looks_same}
 use Rattle.curp_law_linear.proofs.ReadsStored.{stored_stays}
 use Rattle.curp_law_logs.proofs.Replayed.{replay_prefix}
-use Rattle.curp_law_names.specs.Names.{IsOf, RecoveringOk}
-use Rattle.curp_law_pairs.specs.Predecessors.{Predecessors}
+use Rattle.curp_facts.specs.Names.{IsOf, RecoveringOk}
+use Rattle.curp_facts.specs.Predecessors.{Predecessors}
 use Rattle.curp_law_pairs.proofs.Lists.{order_first}
-use Rattle.curp_law_routes.specs.Migrated.{AllStored}
+use Rattle.curp_facts.specs.Migrated.{AllStored}
 use Rattle.curp_law_stays.proofs.Words.{Follows, one_state, sent_later}
 
 -- the manager has said more, and no other node has moved; new nodes are fresh

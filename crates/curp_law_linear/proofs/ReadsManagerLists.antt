@@ -14,11 +14,11 @@ use Rattle.curp_model.specs.Master.{MasterState}
 use Rattle.curp_model.specs.Recovery.{Fresh, Serving}
 use Rattle.curp_model.specs.World.{World, grown, messages}
 use Rattle.curp_facts.specs.Facts.{ByRecovery, IsAdoptedNow, IsAmong, IsGiven, Lists, WasAdopted, lists_of_order, lists_of_part}
-use Rattle.curp_law_kept.proofs.Known.{Known}
+use Rattle.curp_facts.specs.Known.{Known}
 use Rattle.curp_law_kept.proofs.Moved.{sent_cases}
 use Rattle.curp_law_linear.proofs.ReadsManager.{ManagerSaid}
 use Rattle.curp_law_linear.proofs.ReadsPassed.{NewerLists}
-use Rattle.curp_law_names.specs.Names.{AdoptedOk}
+use Rattle.curp_facts.specs.Names.{AdoptedOk}
 use Rattle.curp_law_names.proofs.Later.{Later, given_later}
 use Rattle.curp_law_names.proofs.Lists.{at_place, place}
 use Rattle.curp_law_names.proofs.Steps.{manager_moved, moved_messages}

@@ -16,7 +16,7 @@ use Rattle.curp_model.specs.World.{World, with_adoption, with_completion}
 use Rattle.curp_facts.specs.Facts.{IsAdoptedNow, WasSent}
 use Rattle.curp_law_kept.specs.ManagerEffect.{ManagerEffect, Uttered}
 use Rattle.curp_law_growth.specs.Deeds.{IsFor}
-use Rattle.curp_law_kept.proofs.Known.{Known}
+use Rattle.curp_facts.specs.Known.{Known}
 use Rattle.curp_law_kept.proofs.ManagersDo.{manager_does}
 use Rattle.curp_law_linear.specs.Ordered.{Ordered}
 use Rattle.curp_law_linear.specs.Refined.{Refines}
@@ -26,7 +26,7 @@ use Rattle.curp_law_linear.proofs.ReadsManager.{manager_reads}
 use Rattle.curp_law_linear.proofs.ReadsManagerLists.{manager_said, newer_lists}
 use Rattle.curp_law_linear.specs.Refined.{NoAdoption}
 use Rattle.curp_law_names.proofs.Steps.{manager_moved, moved_messages}
-use Rattle.curp_law_pairs.specs.Predecessors.{Predecessors}
+use Rattle.curp_facts.specs.Predecessors.{Predecessors}
 use Rattle.curp_law_pairs.proofs.Uttered.{WasHeard, manager_adopts}
 use Rattle.curp_law_stays.proofs.Words.{Follows}
 

@@ -19,7 +19,7 @@ use Rattle.curp_model.specs.Recovery.{Fresh, MasterStage, Recovering, Serving, m
 use Rattle.curp_model.specs.World.{World, is_adopted, master_marks}
 use Rattle.curp_facts.specs.Facts.{IsAmong}
 use Rattle.curp_law_kept.proofs.Apart.{either_node}
-use Rattle.curp_law_kept.proofs.Known.{Known}
+use Rattle.curp_facts.specs.Known.{Known}
 use Rattle.curp_law_kept.proofs.MastersMoves.{MasterStep, heard_in, speaker}
 use Rattle.curp_law_kept.proofs.MastersReady.{step_follows}
 use Rattle.curp_law_kept.proofs.Moved.{adopted_back, sent_back, sent_cases}
@@ -34,7 +34,7 @@ use Rattle.curp_law_linear.proofs.ReadsQuiet.{looks_same}
 use Rattle.curp_law_masters.specs.Moves.{IsSaidBy, RecoverySays}
 use Rattle.curp_law_masters.specs.Stages.{FreshSays}
 use Rattle.curp_law_names.proofs.Lists.{among_each}
-use Rattle.curp_law_pairs.specs.Predecessors.{Predecessors}
+use Rattle.curp_facts.specs.Predecessors.{Predecessors}
 use Rattle.curp_law_runs.proofs.ByOne.{BringsOne}
 use Rattle.curp_law_stays.proofs.Words.{one_state}
 

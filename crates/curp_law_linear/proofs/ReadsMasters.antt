@@ -26,7 +26,8 @@ use Rattle.curp_facts.specs.Kept.{NeverSoLate, lists_of_master}
 use Rattle.curp_facts.specs.Nodes.{AcknowledgedOk, CapturedOk, ServingOk}
 use Rattle.curp_facts.specs.Said.{AppendHolds, AppendSaid, AppendedSaid}
 use Rattle.curp_law_kept.proofs.Apart.{either_node}
-use Rattle.curp_law_kept.proofs.Known.{Known, fits, said}
+use Rattle.curp_facts.specs.Known.{Known}
+use Rattle.curp_law_kept.proofs.Known.{fits, said}
 use Rattle.curp_law_kept.proofs.MastersHeard.{one_log}
 use Rattle.curp_law_kept.proofs.MastersMoves.{MasterStep}
 use Rattle.curp_law_kept.proofs.MastersReady.{step_follows}
@@ -44,7 +45,7 @@ use Rattle.curp_law_linear.proofs.ReadsReady.{passed_new, ready_looks, ready_sto
 use Rattle.curp_law_linear.proofs.ReadsStored.{looks_stored}
 use Rattle.curp_law_masters.specs.Moves.{IsSaidBy, ServingMove, ServingSays, WorthSays}
 use Rattle.curp_law_names.proofs.Lists.{among_each}
-use Rattle.curp_law_pairs.specs.Predecessors.{Predecessors}
+use Rattle.curp_facts.specs.Predecessors.{Predecessors}
 use Rattle.curp_law_stays.proofs.Words.{Follows, adopted_later, one_state, serving_later}
 
 module _ {w v : World} (known : Known w) (now : Known v) (chain : Predecessors w) (later : Predecessors v) (ordered : Ordered w) {n : ℕ} {from : NodeId} {heard : Option Body} {x y : MasterState} {out : List Message}

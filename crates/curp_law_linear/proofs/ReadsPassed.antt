@@ -15,12 +15,12 @@ use Rattle.curp_facts.specs.Facts.{ByRecovery, Lists, WasAdopted, WasSent, lists
 use Rattle.curp_facts.specs.Growth.{BackupGrows}
 use Rattle.curp_facts.specs.Kept.{NeverSoLate, PassedBy, lists_of_master}
 use Rattle.curp_facts.specs.Nodes.{BackupOk}
-use Rattle.curp_law_kept.proofs.Known.{Known}
+use Rattle.curp_facts.specs.Known.{Known}
 use Rattle.curp_law_line.specs.Line.{LookGives}
 use Rattle.curp_law_linear.specs.Ordered.{CaptureOk, Ordered}
 use Rattle.curp_law_linear.specs.Refined.{Refines}
 use Rattle.curp_law_linear.proofs.ReadsMoves.{NoneDrops, look_later}
-use Rattle.curp_law_names.specs.Names.{OrderOk}
+use Rattle.curp_facts.specs.Names.{OrderOk}
 use Rattle.curp_law_stays.proofs.Words.{Follows, adopted_later, backup_later, sent_later}
 
 -- lists that are adopted now are of no earlier epoch than those of their partition that were

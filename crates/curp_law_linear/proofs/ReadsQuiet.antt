@@ -28,7 +28,8 @@ use Rattle.curp_facts.specs.Said.{WorthSaid}
 use Rattle.curp_law_keepers.specs.ClientEffect.{ByValue, CompletionOk, MayComplete}
 use Rattle.curp_law_kept.proofs.ClientSteps.{ClientMoved}
 use Rattle.curp_law_kept.proofs.Clients.{client_messages, effect}
-use Rattle.curp_law_kept.proofs.Known.{Known, fits, said}
+use Rattle.curp_facts.specs.Known.{Known}
+use Rattle.curp_law_kept.proofs.Known.{fits, said}
 use Rattle.curp_law_kept.proofs.Moved.{adopted_back, sent_back}
 use Rattle.curp_law_kept.proofs.Others.{SaysMore, nothing_ready}
 use Rattle.curp_law_linear.specs.Ordered.{IsStored, NotQuick, Ordered, StoredFrom, WorthOk}
@@ -39,9 +40,9 @@ use Rattle.curp_law_linear.proofs.ReadsMarks.{no_look}
 use Rattle.curp_law_linear.proofs.ReadsMoves.{none_drops}
 use Rattle.curp_law_linear.proofs.ReadsPassed.{NewerLists, NoneLate}
 use Rattle.curp_law_linear.proofs.ReadsStored.{from_stays}
-use Rattle.curp_law_names.specs.Names.{IsOf}
+use Rattle.curp_facts.specs.Names.{IsOf}
 use Rattle.curp_law_names.proofs.Lists.{at_mapped}
-use Rattle.curp_law_pairs.specs.Predecessors.{Predecessors}
+use Rattle.curp_facts.specs.Predecessors.{Predecessors}
 use Rattle.curp_law_runs.proofs.ByOne.{by_value}
 use Rattle.curp_law_stays.proofs.Words.{Follows}
 

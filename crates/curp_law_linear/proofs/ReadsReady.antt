@@ -18,14 +18,14 @@ use Rattle.curp_facts.specs.Facts.{IsAmong, Lists, WasAdopted, WasSent}
 use Rattle.curp_facts.specs.Kept.{AdoptionOk, NeverSoLate, PassedBy, lists_of_master}
 use Rattle.curp_facts.specs.Nodes.{ServingOk}
 use Rattle.curp_facts.specs.Reach.{HasMany, IsReady}
-use Rattle.curp_law_kept.proofs.Known.{Known}
+use Rattle.curp_facts.specs.Known.{Known}
 use Rattle.curp_law_line.specs.Line.{LookGives}
 use Rattle.curp_law_linear.specs.Ordered.{CaptureOk, IsStored}
 use Rattle.curp_law_masters.specs.Moves.{HasAcknowledged}
 use Rattle.curp_law_masters.proofs.Among.{each_tested}
 use Rattle.curp_law_masters.proofs.Synced.{acknowledged_many}
 use Rattle.curp_law_names.proofs.Lists.{among_each}
-use Rattle.curp_law_pairs.specs.Predecessors.{Predecessor, Predecessors}
+use Rattle.curp_facts.specs.Predecessors.{Predecessor, Predecessors}
 use Rattle.curp_law_pairs.proofs.Adoptions.{adoptions_ok}
 use Rattle.curp_law_pairs.proofs.Lists.{order_first, ready}
 

@@ -7,7 +7,7 @@ use Rattle.curp_facts.specs.Growth.{Grows}
 use Rattle.curp_facts.specs.Run.{IsRun, IsStep}
 use Rattle.curp_law_growth.proofs.Worlds.{step_grows}
 use Rattle.curp_law_kept.proofs.Cases.{StepCase, ByBackup, ByClient, ByManager, ByMaster, ByWitness, Rests, Stays, step_case}
-use Rattle.curp_law_kept.proofs.Known.{Known}
+use Rattle.curp_facts.specs.Known.{Known}
 use Rattle.curp_law_kept.proofs.Steps.{along, known_step}
 use Rattle.curp_law_linear.specs.Ordered.{Ordered}
 use Rattle.curp_law_linear.proofs.Always.{KeepsOrder, backup_keeps_order, client_keeps_order, master_keeps_order, ordered_after, rest_keeps_order, stay_keeps_order, witness_keeps_order}

@@ -14,7 +14,7 @@ use Rattle.curp_model.specs.World.{World}
 use Rattle.curp_facts.specs.Entries.{EntryOk, LogOk}
 use Rattle.curp_facts.specs.Facts.{hi_of, lo_of}
 use Rattle.curp_facts.specs.Kept.{AdoptedLog}
-use Rattle.curp_law_kept.proofs.Known.{Known}
+use Rattle.curp_facts.specs.Known.{Known}
 use Rattle.curp_base.proofs.Numbered.{any_at}
 use Rattle.curp_law_linear.specs.Ordered.{Ordered, moved_number}
 use Rattle.curp_law_linear.proofs.MastersRise.{adopted_ok, give_given, take_given}
@@ -25,9 +25,9 @@ use Rattle.curp_law_logs.proofs.Migrations.{owned_more}
 use Rattle.curp_law_logs.proofs.Packages.{take_covered}
 use Rattle.curp_law_logs.proofs.Ranges.{covered_owns}
 use Rattle.curp_law_logs.proofs.Taken.{owned_taken}
-use Rattle.curp_law_pairs.specs.Predecessors.{Predecessors}
-use Rattle.curp_law_routes.specs.Migrated.{Migrated}
-use Rattle.curp_law_routes.specs.Routes.{Routes}
+use Rattle.curp_facts.specs.Predecessors.{Predecessors}
+use Rattle.curp_facts.specs.Migrated.{Migrated}
+use Rattle.curp_facts.specs.Routes.{Routes}
 
 module _ {w : World} (known : Known w) (chain : Predecessors w) (routes : Routes w) (migrated : Migrated w) (ordered : Ordered w)
     (c : PartConfig) (l : AdoptedLog w c) (index number : ℕ) (taken : Package) (stands : At l.its.log index (Take number taken)) (last : number + 1 ≡ w.manager.next.migration) where

@@ -26,7 +26,7 @@ use Rattle.curp_cmd.specs.Store.{NamesKey}
 use Rattle.curp_law_line.specs.Line.{LineOk, LookGives}
 use Rattle.curp_law_line.specs.OfWorld.{line_of}
 use Rattle.curp_law_logs.specs.Gives.{GivesFit}
-use Rattle.curp_law_routes.specs.Migrated.{AllStored}
+use Rattle.curp_facts.specs.Migrated.{AllStored}
 
 -- the number of the migration that an entry takes or gives
 abbrev pub moved_number : Entry → Option ℕ

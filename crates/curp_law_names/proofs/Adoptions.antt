@@ -9,7 +9,7 @@ use Rattle.curp_model.specs.Manager.{Attempted, Doing, ManagerState, Steady, ado
 use Rattle.curp_msg.specs.Moved.{Moved}
 use Rattle.curp_model.specs.World.{World}
 use Rattle.curp_facts.specs.Facts.{IsAdoptedNow, IsGiven, Lists, WasAdopted, lists_of_part}
-use Rattle.curp_law_names.specs.Names.{DoingOk, IsClientNumber, IsToldOf, RecoveredFrom, Names, Top}
+use Rattle.curp_facts.specs.Names.{DoingOk, IsClientNumber, IsToldOf, RecoveredFrom, Names, Top}
 use Rattle.curp_law_names.proofs.Keeps.{chain_adopted, entry_numbered, links_adopted, names_moved, numbered_now, told_adopted, top_adopted, top_stays}
 use Rattle.curp_law_names.proofs.Later.{Later, client_later, doing_later, moving_later, given_later}
 use Rattle.curp_law_names.proofs.Lists.{number_within, numbered_set_cases}

@@ -34,8 +34,8 @@ use Rattle.curp_model.specs.Named.{IsNodeOf}
 use Rattle.curp_model.specs.Ranges.{owns_all}
 use Rattle.curp_model.specs.World.{World}
 use Rattle.curp_facts.specs.Facts.{AttemptWas, WasAdopted, WasSent, lists_of_part}
-use Rattle.curp_law_names.specs.Names.{ConfigurationOk, GivenOk, IsOf, Names}
-use Rattle.curp_law_names.specs.Nodes.{ClientFits, MessageFits, PendingFits, sender_kind}
+use Rattle.curp_facts.specs.Names.{ConfigurationOk, GivenOk, IsOf, Names}
+use Rattle.curp_facts.specs.Fits.{ClientFits, MessageFits, PendingFits, sender_kind}
 use Rattle.curp_law_names.proofs.Keepers.{AllSaid, Said, each_filter}
 use Rattle.curp_law_names.proofs.Lists.{among_each, each_among, filter_among, first_among, last_among}
 use Rattle.curp_msg.specs.declared.script.Protocol.{Protocol}

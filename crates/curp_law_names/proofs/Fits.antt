@@ -24,7 +24,7 @@ use Rattle.curp_model.specs.Recovery.{Asking, Fresh, MasterStage, Recovering, Re
 use Rattle.curp_model.specs.Witness.{HeldRequest, WitnessState}
 use Rattle.curp_model.specs.World.{World}
 use Rattle.curp_facts.specs.Facts.{AttemptWas, Lists}
-use Rattle.curp_law_names.specs.Nodes.{BackupFits, BodyFits, ClientFits, EntryAsked, IsAsked, LogThere, MasterFits, MessageFits, NextSent, PendingFits, PhaseFits, ReplyAsked, RequestsThere, ServesBy, SuspectsAsked, WitnessFits, addressee_kind, sender_kind}
+use Rattle.curp_facts.specs.Fits.{BackupFits, BodyFits, ClientFits, EntryAsked, IsAsked, LogThere, MasterFits, MessageFits, NextSent, PendingFits, PhaseFits, ReplyAsked, RequestsThere, ServesBy, SuspectsAsked, WitnessFits, addressee_kind, sender_kind}
 use Rattle.curp_law_names.proofs.Later.{Later, adopted_later, configuration_later, given_later, node_later, of_later}
 
 module _ {w v : World} (g : Later w v) where

@@ -30,8 +30,8 @@ use Rattle.curp_model.specs.Backup.{AfterAppend, AfterFence, BackupState, append
 use Rattle.curp_model.specs.Named.{IsNodeOf}
 use Rattle.curp_model.specs.Witness.{AfterCollection, AfterRecord, HeldRequest, WitnessState, by_room, collect, collected_at, collected_in, conflict, full_set, gc, hold, holds, least_hash, newly_held, on_witness, placed, sorted_in, started, stranger_to, survives, suspect, turned_away, unless_turned_away, verdict_body, witness_input}
 use Rattle.curp_model.specs.World.{World}
-use Rattle.curp_law_names.specs.Names.{IsOf}
-use Rattle.curp_law_names.specs.Nodes.{BackupFits, BodyFits, EntryAsked, IsAsked, MessageFits, ReplyAsked, SuspectsAsked, WitnessFits, sender_kind}
+use Rattle.curp_facts.specs.Names.{IsOf}
+use Rattle.curp_facts.specs.Fits.{BackupFits, BodyFits, EntryAsked, IsAsked, MessageFits, ReplyAsked, SuspectsAsked, WitnessFits, sender_kind}
 
 -- a node says what fits, in its own name
 pub record Said (w : World) (me : NodeId) (m : Message) : Type 0 where

@@ -19,7 +19,7 @@ use Rattle.curp_model.specs.Named.{IsNodeOf}
 use Rattle.curp_model.specs.Ranges.{opening_range}
 use Rattle.curp_model.specs.World.{World}
 use Rattle.curp_facts.specs.Facts.{AtOpening, ByRecovery, ByReplacement, IsGiven, Lists, WasAdopted, WasSent, WasTaken, lists_of_part}
-use Rattle.curp_law_names.specs.Names.{AdoptedOk, ConfigurationOk, DoingOk, GivenOk, IsClientNumber, IsMasterOf, IsOf, IsAdoptedMaster, IsCarried, IsToldOf, MovingOk, NextAfter, ManagerSays, OrderOk}
+use Rattle.curp_facts.specs.Names.{AdoptedOk, ConfigurationOk, DoingOk, GivenOk, IsClientNumber, IsMasterOf, IsOf, IsAdoptedMaster, IsCarried, IsToldOf, MovingOk, NextAfter, ManagerSays, OrderOk}
 
 -- a world after a step: the header's numbers stay, nodes and numbers grow, and what was sent was sent
 pub record Later (w v : World) : Type 0 where

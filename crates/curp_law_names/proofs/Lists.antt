@@ -8,7 +8,7 @@ use Rattle.curp_base.proofs.Lists.{at_append_right, at_within, at_set_cases, Eac
 use Rattle.curp_msg.specs.declared.message.Message.{Message}
 use Rattle.curp_model.specs.World.{with_batch}
 use Rattle.curp_facts.specs.Facts.{IsAmong}
-use Rattle.curp_law_names.specs.Names.{AllDiffer}
+use Rattle.curp_facts.specs.Names.{AllDiffer}
 
 -- ---- numbers from 1
 

@@ -27,9 +27,9 @@ use Rattle.curp_model.specs.Manager.{Doing, ManagerState, Migration, Move, NewLi
 use Rattle.curp_model.specs.Ranges.{Range, range_of}
 use Rattle.curp_model.specs.World.{World}
 use Rattle.curp_facts.specs.Facts.{ByRecovery, ByReplacement, IsAdoptedNow, IsAmong, IsGiven, WasSent, WasTaken, lists_of_order, lists_of_part}
-use Rattle.curp_law_names.specs.Nodes.{MessageFits}
+use Rattle.curp_facts.specs.Fits.{MessageFits}
 use Rattle.curp_law_names.proofs.Clients.{Arrives, is_manager}
-use Rattle.curp_law_names.specs.Names.{IsClientNumber, MovingOk, Names, RecoveringOk, ReplacingOk}
+use Rattle.curp_facts.specs.Names.{IsClientNumber, MovingOk, Names, RecoveringOk, ReplacingOk}
 use Rattle.curp_law_names.proofs.Adoptions.{adopts_good}
 use Rattle.curp_law_names.proofs.Keeps.{entry_now, entry_numbered, numbered_now}
 use Rattle.curp_law_names.proofs.Lists.{at_mapped, filter_among, first_among, place, there_among}

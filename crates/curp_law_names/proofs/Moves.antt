@@ -14,7 +14,7 @@ use Rattle.curp_msg.specs.declared.body.Recover.{Recover}
 use Rattle.curp_model.specs.Manager.{Shape, opening_config}
 use Rattle.curp_model.specs.World.{World}
 use Rattle.curp_facts.specs.Facts.{AtOpening, ByRecovery, ByReplacement, IsGiven, Lists, WasAdopted, WasSent, lists_of_order, lists_of_prepare}
-use Rattle.curp_law_names.specs.Names.{AdoptedOk, Agree, GivenOk, IsOf, ManagerSays, Names, PrepareOk}
+use Rattle.curp_facts.specs.Names.{AdoptedOk, Agree, GivenOk, IsOf, ManagerSays, Names, PrepareOk}
 use Rattle.curp_law_names.proofs.Later.{Later, given_ok_later, says_later}
 
 -- ---- agreement

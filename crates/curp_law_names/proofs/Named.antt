@@ -6,7 +6,7 @@ use Rattle.curp_cmd.specs.declared.node.NodeId.{NodeId}
 use Rattle.curp_cmd.specs.declared.node.NodeKind.{NodeKind}
 use Rattle.curp_model.specs.World.{World}
 use Rattle.curp_facts.specs.Facts.{IsAmong}
-use Rattle.curp_law_names.specs.Names.{AllDiffer, IsOf}
+use Rattle.curp_facts.specs.Names.{AllDiffer, IsOf}
 use Rattle.curp_law_names.proofs.Later.{Later, of_later}
 use Rattle.curp_law_names.proofs.Lists.{among_each, among_set, at_mapped, each_among, length-numbers, numbers_back, set_differs}
 

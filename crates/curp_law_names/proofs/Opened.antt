@@ -18,8 +18,8 @@ use Rattle.curp_model.specs.Witness.{WitnessState, started_witness}
 use Rattle.curp_model.specs.World.{World, messages, opening, opening_master, shape_of, opening_client}
 use Rattle.curp_facts.specs.Facts.{AtOpening, ByRecovery, ByReplacement, IsAdoptedNow, IsGiven, Lists, WasAdopted, lists_of_part}
 use Rattle.curp_facts.specs.Run.{IsHeader}
-use Rattle.curp_law_names.specs.Names.{Agree, ConfigurationOk, DoingOk, GivenOk, IsOf, Names, NumbersOk, Top}
-use Rattle.curp_law_names.specs.Nodes.{BackupFits, ClientFits, MasterFits, Nodes, WitnessFits}
+use Rattle.curp_facts.specs.Names.{Agree, ConfigurationOk, DoingOk, GivenOk, IsOf, Names, NumbersOk, Top}
+use Rattle.curp_facts.specs.Fits.{BackupFits, ClientFits, MasterFits, Nodes, WitnessFits}
 use Rattle.curp_law_names.proofs.Lists.{at_mapped, each_among, length-numbers, numbers_back, place}
 use Rattle.curp_law_names.proofs.Named.{in_row, row_differs, row_each, row_length}
 

@@ -10,7 +10,7 @@ use Rattle.curp_order.specs.declared.Event.{Event}
 use Rattle.curp_model.specs.Manager.{Attempted, Doing, ManagerState, Next, with_doing}
 use Rattle.curp_model.specs.World.{World}
 use Rattle.curp_facts.specs.Facts.{IsAdoptedNow, Lists, lists_of_part}
-use Rattle.curp_law_names.specs.Names.{DoingOk, IsClientNumber, Names}
+use Rattle.curp_facts.specs.Names.{DoingOk, IsClientNumber, Names}
 use Rattle.curp_law_names.proofs.Keeps.{chain_stays, links_stay, names_moved, told_stays, top_stays}
 use Rattle.curp_law_names.proofs.Later.{Later, client_later, doing_later, moving_later}
 use Rattle.curp_law_names.proofs.Lists.{number_within, numbered_set_cases}

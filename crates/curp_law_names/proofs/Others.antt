@@ -16,8 +16,8 @@ use Rattle.curp_model.specs.Recovery.{MasterStage}
 use Rattle.curp_model.specs.Witness.{WitnessState}
 use Rattle.curp_model.specs.World.{World, kept, messages, with_backup, with_client, with_master, with_witness}
 use Rattle.curp_facts.specs.Facts.{lists_of_part}
-use Rattle.curp_law_names.specs.Names.{IsClientNumber, MovingOk, Names, NumbersOk}
-use Rattle.curp_law_names.specs.Nodes.{BackupFits, ClientFits, MasterFits, MessageFits, Nodes, WitnessFits}
+use Rattle.curp_facts.specs.Names.{IsClientNumber, MovingOk, Names, NumbersOk}
+use Rattle.curp_facts.specs.Fits.{BackupFits, ClientFits, MasterFits, MessageFits, Nodes, WitnessFits}
 use Rattle.curp_law_names.proofs.Fits.{backup_later, client_fits_later, master_later, message_later, witness_later}
 use Rattle.curp_law_names.proofs.Keepers.{AllSaid, Said}
 use Rattle.curp_law_names.proofs.Later.{Later, client_later, moving_later}

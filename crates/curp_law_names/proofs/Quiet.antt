@@ -11,7 +11,7 @@ use Rattle.curp_order.specs.declared.Event.{Event}
 use Rattle.curp_model.specs.Manager.{Attempted, Doing, ManagerState, Migration}
 use Rattle.curp_model.specs.World.{World}
 use Rattle.curp_facts.specs.Facts.{IsAdoptedNow, Lists, lists_of_part}
-use Rattle.curp_law_names.specs.Names.{DoingOk, IsClientNumber, ManagerSays, MovingOk, Names, NumbersOk, Top}
+use Rattle.curp_facts.specs.Names.{DoingOk, IsClientNumber, ManagerSays, MovingOk, Names, NumbersOk, Top}
 use Rattle.curp_law_names.proofs.Keeps.{chain_stays, links_stay, names_moved, told_stays, top_stays}
 use Rattle.curp_law_names.proofs.Later.{Later, client_later, doing_later, moving_later, says_later}
 use Rattle.curp_law_names.proofs.Lists.{at_mapped, at_place, place}

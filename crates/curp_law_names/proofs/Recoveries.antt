@@ -17,7 +17,7 @@ use Rattle.curp_order.specs.declared.Event.{Event}
 use Rattle.curp_model.specs.Manager.{Attempted, Recovering, after_recover_numbers, install_on, part_at, recover, recover_messages, recover_order, recovers, start_on}
 use Rattle.curp_model.specs.World.{World}
 use Rattle.curp_facts.specs.Facts.{ByRecovery, IsAmong, IsGiven, Lists, WasSent, lists_of_order, lists_of_part}
-use Rattle.curp_law_names.specs.Names.{Agree, GivenOk, IsOf, Names, OrderOk}
+use Rattle.curp_facts.specs.Names.{Agree, GivenOk, IsOf, Names, OrderOk}
 use Rattle.curp_law_names.proofs.Keeps.{numbered_now}
 use Rattle.curp_law_names.proofs.Later.{Later, adopted_later}
 use Rattle.curp_law_names.proofs.Lists.{among_each, each_among, place as place_of}

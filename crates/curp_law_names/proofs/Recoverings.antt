@@ -32,8 +32,8 @@ use Rattle.curp_model.specs.Named.{IsNodeOf}
 use Rattle.curp_model.specs.Recovery.{Asking, Fresh, MasterStage, RecoveryPhase, RecoveryState, Recovering, Replayed, Serving, Storing, Waiting, again_in, all_complete, append_answered, appends_whole, both_there, completed_by, fence_answered, fence_of, freeze_of, log_comes, master_input, master_ordered, next_storing, on_fresh, on_master, on_recover, on_recovering, recovered_message, recovery_ordered, replay, replays, requests_come, serves, stored_comes, turns_away, turns_read_away, unanswered_log, unanswered_requests, with_complete}
 use Rattle.curp_model.specs.World.{World}
 use Rattle.curp_facts.specs.Facts.{ByRecovery, IsGiven, WasSent, lists_of_order}
-use Rattle.curp_law_names.specs.Names.{IsOf, Names, OrderOk}
-use Rattle.curp_law_names.specs.Nodes.{BodyFits, EntryAsked, IsAsked, LogThere, MasterFits, PhaseFits, RecoveringFits, ReplyAsked, RequestsThere, sender_kind}
+use Rattle.curp_facts.specs.Names.{IsOf, Names, OrderOk}
+use Rattle.curp_facts.specs.Fits.{BodyFits, EntryAsked, IsAsked, LogThere, MasterFits, PhaseFits, RecoveringFits, ReplyAsked, RequestsThere, sender_kind}
 use Rattle.curp_law_names.proofs.Clients.{Arrives, is_manager}
 use Rattle.curp_law_names.proofs.Keepers.{AllSaid, Said, each_filter}
 use Rattle.curp_law_names.proofs.Lists.{among_each, each_among}

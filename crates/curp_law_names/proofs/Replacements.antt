@@ -18,7 +18,7 @@ use Rattle.curp_order.specs.declared.Event.{Event}
 use Rattle.curp_model.specs.Manager.{Attempted, Replacing, after_replace_numbers, fresh_keeper, fresh_node, is_recovering, is_replacing, keepers_of, new_backups, new_witnesses, part_at, replace, replace_messages, replaces}
 use Rattle.curp_model.specs.World.{World}
 use Rattle.curp_facts.specs.Facts.{ByReplacement, IsAmong, IsGiven, Lists, WasAdopted, WasSent, lists_of_part, lists_of_prepare}
-use Rattle.curp_law_names.specs.Names.{Agree, GivenOk, IsOf, IsPlaced, Names, PrepareOk}
+use Rattle.curp_facts.specs.Names.{Agree, GivenOk, IsOf, IsPlaced, Names, PrepareOk}
 use Rattle.curp_law_names.proofs.Keeps.{numbered_now}
 use Rattle.curp_law_names.proofs.Later.{Later, adopted_later, given_later, given_ok_later}
 use Rattle.curp_law_names.proofs.Lists.{among_each, place as place_of}

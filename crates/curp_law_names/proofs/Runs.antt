@@ -28,8 +28,8 @@ use Rattle.curp_model.specs.Witness.{fresh_witness, witness_input}
 use Rattle.curp_model.specs.World.{World, deed_of, delivery, effect, events_of, grown, kept, messages, moves_kind, moves_one, opening, result_of, run, step, steps_by, world}
 use Rattle.curp_facts.specs.Facts.{ByRecovery, IsAmong, WasSent, lists_of_order}
 use Rattle.curp_facts.specs.Run.{IsRun, IsStep}
-use Rattle.curp_law_names.specs.Names.{IsOf, IsAdoptedMaster, ManagerSays, Names}
-use Rattle.curp_law_names.specs.Nodes.{BackupFits, MasterFits, MessageFits, WitnessFits}
+use Rattle.curp_facts.specs.Names.{IsOf, IsAdoptedMaster, ManagerSays, Names}
+use Rattle.curp_facts.specs.Fits.{BackupFits, MasterFits, MessageFits, WitnessFits}
 use Rattle.curp_law_names.proofs.Clients.{Arrives, client_fits}
 use Rattle.curp_law_names.proofs.Fits.{backup_later, client_fits_later, master_later, message_later, witness_later}
 use Rattle.curp_law_names.proofs.Keepers.{InputFits, backup_fits, witness_fits}

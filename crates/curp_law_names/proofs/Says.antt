@@ -17,7 +17,7 @@ use Rattle.curp_msg.specs.declared.message.Message.{Message}
 use Rattle.curp_model.specs.Manager.{Doing, Migration, Recovering, Replacing, Steady, adopted_message, expire_messages, fresh_keeper, give_message, install_on, nudge_give, nudge_moving, nudge_part, recover_messages, replace_messages, start_on, take_message}
 use Rattle.curp_model.specs.World.{World}
 use Rattle.curp_facts.specs.Facts.{ByRecovery, ByReplacement, IsAmong, IsGiven, Lists, WasAdopted, WasSent, lists_of_order, lists_of_part, lists_of_prepare}
-use Rattle.curp_law_names.specs.Names.{IsCarried, MovingOk, AdoptedOk, ConfigurationOk, IsClientNumber, IsPlaced, IsAdoptedMaster, Names, RecoveringOk, ReplacingOk}
+use Rattle.curp_facts.specs.Names.{IsCarried, MovingOk, AdoptedOk, ConfigurationOk, IsClientNumber, IsPlaced, IsAdoptedMaster, Names, RecoveringOk, ReplacingOk}
 use Rattle.curp_law_names.proofs.Keeps.{entry_now}
 use Rattle.curp_law_names.proofs.Lists.{each_among, among_each}
 use Rattle.curp_law_names.proofs.Quiet.{Again, AllAgain}

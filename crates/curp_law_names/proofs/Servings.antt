@@ -44,8 +44,8 @@ use Rattle.curp_model.specs.Table.{check, is_gone}
 use Rattle.curp_model.specs.World.{World}
 use Rattle.curp_facts.specs.Facts.{ByReplacement, Lists, WasSent}
 use Rattle.curp_facts.specs.Kept.{lists_of_master}
-use Rattle.curp_law_names.specs.Names.{IsOf, Names}
-use Rattle.curp_law_names.specs.Nodes.{BodyFits, EntryAsked, IsAsked, MessageFits, NextSent, ServesBy, ServingFits, SuspectsAsked, sender_kind}
+use Rattle.curp_facts.specs.Names.{IsOf, Names}
+use Rattle.curp_facts.specs.Fits.{BodyFits, EntryAsked, IsAsked, MessageFits, NextSent, ServesBy, ServingFits, SuspectsAsked, sender_kind}
 use Rattle.curp_law_names.proofs.Clients.{is_manager}
 use Rattle.curp_law_names.proofs.Keepers.{AllSaid, Said, each_filter}
 use Rattle.curp_law_names.proofs.Lists.{among_each, each_among}

@@ -12,7 +12,7 @@ use Rattle.curp_order.specs.declared.Event.{Event}
 use Rattle.curp_model.specs.Manager.{Attempted, ManagerState}
 use Rattle.curp_model.specs.World.{World, grown, kept, messages, with_manager}
 use Rattle.curp_facts.specs.Facts.{IsAmong, WasSent}
-use Rattle.curp_law_names.specs.Names.{Names, NumbersOk}
+use Rattle.curp_facts.specs.Names.{Names, NumbersOk}
 use Rattle.curp_law_names.proofs.Later.{Later}
 use Rattle.curp_law_names.proofs.Lists.{all_of-kept, among_right}
 use Rattle.curp_law_names.proofs.Moves.{Fresh, Move, Utters}

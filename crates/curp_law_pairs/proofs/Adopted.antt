@@ -12,10 +12,10 @@ use Rattle.curp_model.specs.Manager.{Shape, opening_config}
 use Rattle.curp_model.specs.World.{World, messages}
 use Rattle.curp_facts.specs.Facts.{AtOpening, ByRecovery, ByReplacement, IsGiven, Lists, WasAdopted, WasSent}
 use Rattle.curp_facts.specs.Invariant.{Invariant}
-use Rattle.curp_law_names.specs.Names.{AdoptedOk, Names, OrderOk, PrepareOk}
+use Rattle.curp_facts.specs.Names.{AdoptedOk, Names, OrderOk, PrepareOk}
 use Rattle.curp_law_names.proofs.Later.{Later, adopted_later}
 use Rattle.curp_law_pairs.specs.Adopting.{Adopts}
-use Rattle.curp_law_pairs.specs.Predecessors.{Predecessor, Predecessors}
+use Rattle.curp_facts.specs.Predecessors.{Predecessor, Predecessors}
 use Rattle.curp_law_pairs.proofs.Chain.{chain_later}
 use Rattle.curp_law_pairs.proofs.Lists.{opening_epoch}
 

@@ -15,9 +15,9 @@ use Rattle.curp_facts.specs.Facts.{IsAmong, Lists, WasAdopted, hi_of, lo_of}
 use Rattle.curp_facts.specs.Invariant.{Invariant}
 use Rattle.curp_facts.specs.Kept.{AdoptionOk, AdoptionsOk}
 use Rattle.curp_facts.specs.Said.{RecoveredSaid}
-use Rattle.curp_law_names.specs.Names.{Names, OrderOk}
+use Rattle.curp_facts.specs.Names.{Names, OrderOk}
 use Rattle.curp_law_names.proofs.Lists.{each_among}
-use Rattle.curp_law_pairs.specs.Predecessors.{Predecessor, Predecessors}
+use Rattle.curp_facts.specs.Predecessors.{Predecessor, Predecessors}
 use Rattle.curp_law_pairs.proofs.Lists.{order_first}
 use Rattle.curp_law_pairs.proofs.Logs.{begins, reached}
 use Rattle.curp_law_pairs.proofs.Prefixes.{prefix_shorter}

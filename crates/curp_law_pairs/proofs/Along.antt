@@ -17,10 +17,10 @@ use Rattle.curp_facts.specs.Kept.{AdoptionOk}
 use Rattle.curp_facts.specs.Reach.{Reach}
 use Rattle.curp_law_logs.proofs.Logs.{prefix_take}
 use Rattle.curp_law_logs.proofs.Replayed.{replay_prefix}
-use Rattle.curp_law_names.specs.Names.{Names}
+use Rattle.curp_facts.specs.Names.{Names}
 use Rattle.curp_law_names.proofs.Lists.{each_among}
 use Rattle.curp_law_pairs.specs.Along.{HoldsOn, IsLast, IsLasting, IsRecoverable}
-use Rattle.curp_law_pairs.specs.Predecessors.{Predecessors}
+use Rattle.curp_facts.specs.Predecessors.{Predecessors}
 use Rattle.curp_law_pairs.proofs.Adoptions.{adoptions_ok}
 use Rattle.curp_law_pairs.proofs.Lists.{versions_rise}
 use Rattle.curp_law_pairs.proofs.Logs.{begins, reached}

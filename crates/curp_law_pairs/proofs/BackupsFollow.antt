@@ -15,7 +15,7 @@ use Rattle.curp_facts.specs.Invariant.{Invariant}
 use Rattle.curp_facts.specs.Kept.{BackupsFollow, KnowsNoMore}
 use Rattle.curp_facts.specs.Nodes.{AcknowledgedOk, RecoveringOk, ReplayedOk, ServingOk, StageOk}
 use Rattle.curp_facts.specs.Reach.{HasStored}
-use Rattle.curp_law_names.specs.Names.{Names}
+use Rattle.curp_facts.specs.Names.{Names}
 use Rattle.curp_law_pairs.proofs.Logs.{begins}
 use Rattle.curp_law_pairs.proofs.Prefixes.{prefix_whole}
 use Rattle.curp_law_pairs.proofs.Words.{one_backup}

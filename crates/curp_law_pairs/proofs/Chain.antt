@@ -10,10 +10,10 @@ use Rattle.curp_model.specs.World.{World}
 use Rattle.curp_facts.specs.Facts.{ByRecovery, IsGiven, Lists, WasAdopted, WasSent, lists_of_order}
 use Rattle.curp_facts.specs.Invariant.{Invariant}
 use Rattle.curp_facts.specs.Said.{RecoveredSaid}
-use Rattle.curp_law_names.specs.Names.{Names, RecoveringOk, Top}
+use Rattle.curp_facts.specs.Names.{Names, RecoveringOk, Top}
 use Rattle.curp_law_names.proofs.Later.{Later, adopted_later, given_later}
 use Rattle.curp_law_pairs.specs.Adopting.{Adopts, Comes, FromRecovery, FromReplacement}
-use Rattle.curp_law_pairs.specs.Predecessors.{Predecessor, Predecessors}
+use Rattle.curp_facts.specs.Predecessors.{Predecessor, Predecessors}
 use Rattle.curp_law_pairs.proofs.Words.{said}
 
 module _ {w v : World} (names : Names w) (later_names : Names v) (inv : Invariant w) (s : Later w v) (IsNew : Lists → Type 0) (a : Adopts w v IsNew) (chain : Predecessors w) where

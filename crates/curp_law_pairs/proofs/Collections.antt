@@ -12,7 +12,7 @@ use Rattle.curp_facts.specs.Invariant.{Invariant}
 use Rattle.curp_facts.specs.Kept.{CollectionOk, CollectionsOk}
 use Rattle.curp_facts.specs.Reach.{GcSaid}
 use Rattle.curp_facts.specs.Said.{GcHolds}
-use Rattle.curp_law_names.specs.Names.{Names}
+use Rattle.curp_facts.specs.Names.{Names}
 use Rattle.curp_law_pairs.proofs.Lists.{ready}
 
 module _ {w : World} (names : Names w) (inv : Invariant w) where

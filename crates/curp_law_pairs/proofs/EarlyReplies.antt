@@ -13,7 +13,7 @@ use Rattle.curp_facts.specs.Invariant.{Invariant}
 use Rattle.curp_facts.specs.Kept.{EarlyOk, EarlyRepliesOk}
 use Rattle.curp_facts.specs.Reach.{EarlySaid}
 use Rattle.curp_facts.specs.Said.{ReplyHolds, ReplySaid}
-use Rattle.curp_law_names.specs.Names.{Names}
+use Rattle.curp_facts.specs.Names.{Names}
 use Rattle.curp_law_pairs.proofs.Words.{one_master, said}
 
 module _ {w : World} (names : Names w) (inv : Invariant w) where

@@ -13,9 +13,9 @@ use Rattle.curp_facts.specs.Facts.{AtOpening, ByRecovery, ByReplacement, IsGiven
 use Rattle.curp_facts.specs.Invariant.{Invariant}
 use Rattle.curp_facts.specs.Reach.{IsReady}
 use Rattle.curp_facts.specs.Said.{AdoptedSaid}
-use Rattle.curp_law_names.specs.Names.{Names, OrderOk, PrepareOk}
+use Rattle.curp_facts.specs.Names.{Names, OrderOk, PrepareOk}
 use Rattle.curp_law_names.proofs.Lists.{at_mapped}
-use Rattle.curp_law_pairs.specs.Predecessors.{Predecessors}
+use Rattle.curp_facts.specs.Predecessors.{Predecessors}
 use Rattle.curp_law_pairs.proofs.Words.{said}
 
 -- lists of the opening have the first epoch

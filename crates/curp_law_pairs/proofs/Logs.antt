@@ -25,7 +25,7 @@ use Rattle.curp_facts.specs.Said.{IsTakeOf, StoredEntry}
 use Rattle.curp_law_logs.specs.Gives.{GivesWithin, PairsWithin}
 use Rattle.curp_law_logs.proofs.Gives.{package_within}
 use Rattle.curp_law_logs.proofs.Packages.{take_package}
-use Rattle.curp_law_names.specs.Names.{Names}
+use Rattle.curp_facts.specs.Names.{Names}
 use Rattle.curp_law_pairs.proofs.Lists.{ready}
 use Rattle.curp_law_pairs.proofs.Words.{one_log, said}
 

@@ -15,11 +15,11 @@ use Rattle.curp_model.specs.Manager.{Attempted, ManagerState, adopted_message, m
 use Rattle.curp_model.specs.World.{World, messages}
 use Rattle.curp_facts.specs.Facts.{IsAmong, IsGiven, Lists, WasSent, lists_of_part}
 use Rattle.curp_facts.specs.Invariant.{Invariant}
-use Rattle.curp_law_names.specs.Names.{AdoptedOk, Names, RecoveringOk}
+use Rattle.curp_facts.specs.Names.{AdoptedOk, Names, RecoveringOk}
 use Rattle.curp_law_names.proofs.Later.{Later}
 use Rattle.curp_law_names.proofs.Steps.{manager_moved, moved_messages, sent_cases}
 use Rattle.curp_law_pairs.specs.Adopting.{Comes, FromRecovery, FromReplacement}
-use Rattle.curp_law_pairs.specs.Predecessors.{Predecessors}
+use Rattle.curp_facts.specs.Predecessors.{Predecessors}
 use Rattle.curp_law_pairs.proofs.Adopted.{adopted_back, adopted_word}
 use Rattle.curp_law_pairs.proofs.Chain.{chain_later}
 use Rattle.curp_law_pairs.proofs.Uttered.{AdoptsOne, AllOld, IsOld, NoNew, OneNew, WasHeard, manager_adopts}

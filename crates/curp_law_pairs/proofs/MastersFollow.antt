@@ -11,7 +11,7 @@ use Rattle.curp_facts.specs.Facts.{Lists, WasAdopted, WasSent}
 use Rattle.curp_facts.specs.Invariant.{Invariant}
 use Rattle.curp_facts.specs.Kept.{MastersFollow, lists_of_master}
 use Rattle.curp_facts.specs.Nodes.{ServingOk, WasPrepared}
-use Rattle.curp_law_names.specs.Names.{Names}
+use Rattle.curp_facts.specs.Names.{Names}
 use Rattle.curp_law_pairs.proofs.Lists.{order_first, ready}
 
 module _ {w : World} (names : Names w) (inv : Invariant w) where

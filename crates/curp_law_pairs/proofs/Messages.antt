@@ -25,11 +25,11 @@ use Rattle.curp_facts.specs.Said.{AcceptedSaid, AppendHolds, GcHolds, IsGiveFrom
 use Rattle.curp_law_logs.proofs.Early.{synced_stands}
 use Rattle.curp_law_logs.proofs.Frozen.{held_kept}
 use Rattle.curp_law_logs.proofs.Standings.{stands_here}
-use Rattle.curp_law_names.specs.Names.{IsOf, Names}
-use Rattle.curp_law_names.specs.Nodes.{MessageFits, Nodes}
+use Rattle.curp_facts.specs.Names.{IsOf, Names}
+use Rattle.curp_facts.specs.Fits.{MessageFits, Nodes}
 use Rattle.curp_law_names.proofs.Lists.{each_among}
 use Rattle.curp_law_pairs.specs.GivenStand.{GivenStand}
-use Rattle.curp_law_pairs.specs.Predecessors.{Predecessors}
+use Rattle.curp_facts.specs.Predecessors.{Predecessors}
 use Rattle.curp_law_pairs.proofs.Logs.{begins, reached}
 use Rattle.curp_law_pairs.proofs.Requests.{held_there}
 use Rattle.curp_law_pairs.proofs.Told.{is_server, package_ok, taken_on_adopted}

@@ -17,10 +17,10 @@ use Rattle.curp_facts.specs.Facts.{Completable, HasLog, IsAdoptedNow, Lists, Log
 use Rattle.curp_facts.specs.Invariant.{Invariant}
 use Rattle.curp_law_logs.proofs.Early.{stands_grows}
 use Rattle.curp_law_logs.proofs.Replayed.{replay_prefix}
-use Rattle.curp_law_names.specs.Names.{Names, Top}
+use Rattle.curp_facts.specs.Names.{Names, Top}
 use Rattle.curp_law_pairs.specs.Along.{HoldsOn, IsLast, IsRecoverable}
 use Rattle.curp_law_pairs.specs.Answered.{AnsweredBy, PairsHave}
-use Rattle.curp_law_pairs.specs.Predecessors.{Predecessors}
+use Rattle.curp_facts.specs.Predecessors.{Predecessors}
 use Rattle.curp_law_pairs.proofs.Along.{along}
 use Rattle.curp_law_pairs.proofs.Synced.{synced_answered}
 use Rattle.curp_law_pairs.proofs.Witnessed.{witnessed_answered}

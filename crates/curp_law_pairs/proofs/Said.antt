@@ -14,11 +14,11 @@ use Rattle.curp_facts.specs.Facts.{AttemptOk, AttemptWas, EntryWas, IsAdoptedNow
 use Rattle.curp_facts.specs.Evidence.{EvidenceOk, IsAttempt}
 use Rattle.curp_facts.specs.Invariant.{Invariant}
 use Rattle.curp_facts.specs.Nodes.{MayCome, RecoveringOk, StageOk}
-use Rattle.curp_law_names.specs.Names.{Names}
-use Rattle.curp_law_names.specs.Nodes.{Nodes}
+use Rattle.curp_facts.specs.Names.{Names}
+use Rattle.curp_facts.specs.Fits.{Nodes}
 use Rattle.curp_law_names.proofs.Lists.{at_place}
 use Rattle.curp_law_pairs.specs.GivenStand.{GivenStand}
-use Rattle.curp_law_pairs.specs.Predecessors.{Predecessors}
+use Rattle.curp_facts.specs.Predecessors.{Predecessors}
 use Rattle.curp_law_pairs.proofs.Messages.{messages_ok}
 
 module _ {w : World} (names : Names w) (inv : Invariant w) where

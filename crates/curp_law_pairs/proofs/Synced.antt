@@ -13,7 +13,7 @@ use Rattle.curp_facts.specs.Said.{ReplyHolds, ReplySaid}
 use Rattle.curp_law_logs.specs.Standing.{StandsHere}
 use Rattle.curp_law_logs.proofs.Early.{stands_from_here, synced_stands}
 use Rattle.curp_law_logs.proofs.Standings.{stands_here}
-use Rattle.curp_law_names.specs.Names.{Names}
+use Rattle.curp_facts.specs.Names.{Names}
 use Rattle.curp_law_pairs.specs.Answered.{AnsweredBy}
 use Rattle.curp_law_pairs.proofs.Logs.{begins, reached}
 use Rattle.curp_law_pairs.proofs.Words.{said}

@@ -11,8 +11,8 @@ use Rattle.curp_facts.specs.Facts.{FromPart, HasLog, IsServer, OnAdopted, Packag
 use Rattle.curp_facts.specs.Invariant.{Invariant}
 use Rattle.curp_facts.specs.Reach.{Reach}
 use Rattle.curp_facts.specs.Said.{IsTakeOf, StoredEntry}
-use Rattle.curp_law_names.specs.Names.{Names}
-use Rattle.curp_law_pairs.specs.Predecessors.{Predecessors}
+use Rattle.curp_facts.specs.Names.{Names}
+use Rattle.curp_facts.specs.Predecessors.{Predecessors}
 use Rattle.curp_law_pairs.proofs.Along.{entry_along, holds_weaker}
 
 -- its sender has served

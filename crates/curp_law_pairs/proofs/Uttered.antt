@@ -26,7 +26,7 @@ use Rattle.curp_msg.specs.declared.message.Message.{Message}
 use Rattle.curp_model.specs.Manager.{Doing, ManagerState, Migration, NewLists, Recovering, Replacing, Steady, adopted_at, adopted_message, adopts, attempt_at, counter_ends, expire, expires, fresh_keeper, given_in, gives, heard, install_on, last_number, lists_in_work, manager_input, manager_ordered, migrate, migrates, nudge, on_given, on_manager, on_prepared, on_recovered, on_taken, part_at, prepared_in, recover, recover_messages, recovered_in, recovered_part, recovers, replace, replaces, start_on, taken_in, tells_again, told, unless_numbers_end, version_adopted, version_in_work}
 use Rattle.curp_model.specs.World.{World}
 use Rattle.curp_facts.specs.Facts.{IsAdoptedNow, IsAmong, WasSent, lists_of_part}
-use Rattle.curp_law_names.specs.Names.{AdoptedOk, Names, RecoveringOk}
+use Rattle.curp_facts.specs.Names.{AdoptedOk, Names, RecoveringOk}
 use Rattle.curp_law_names.proofs.Keeps.{entry_now, entry_numbered, numbered_now}
 use Rattle.curp_law_names.proofs.Lists.{at_mapped, filter_among, first_among, place, there_among}
 use Rattle.curp_law_names.proofs.Moves.{Nothing, Repeats}

@@ -29,7 +29,7 @@ use Rattle.curp_law_logs.specs.Hashes.{NotNew}
 use Rattle.curp_law_logs.specs.Standing.{StandsHere}
 use Rattle.curp_law_logs.proofs.Early.{collected_below, early_replayed, synced_stands}
 use Rattle.curp_law_logs.proofs.Frozen.{frozen_apart, held_kept}
-use Rattle.curp_law_names.specs.Names.{Names}
+use Rattle.curp_facts.specs.Names.{Names}
 use Rattle.curp_law_pairs.specs.Along.{IsLast}
 use Rattle.curp_law_pairs.specs.Answered.{AnsweredBy, PairHas}
 use Rattle.curp_law_pairs.proofs.Logs.{begins, gives_within, log_ok, range_ordered, reached}

@@ -7,7 +7,7 @@ use Rattle.curp_msg.specs.declared.body.Body.TheVariants as body
 use Rattle.curp_msg.specs.declared.body.Recover.{Recover}
 use Rattle.curp_model.specs.World.{World}
 use Rattle.curp_facts.specs.Facts.{Lists, WasAdopted, WasSent}
-use Rattle.curp_law_names.specs.Names.{RecoveringOk, Top}
+use Rattle.curp_facts.specs.Names.{RecoveringOk, Top}
 
 -- Lists come behind the present ones of their partition: they are of the same master, or of one that recovers from the present
 -- ones, as some node has told the manager

@@ -1,4 +1,3 @@
-pub mod Predecessors
 pub mod Along
 pub mod Answered
 pub mod GivenStand

@@ -5,14 +5,14 @@ use Rattle.curp_msg.specs.declared.script.Step.{Step}
 use Rattle.curp_model.specs.World.{World, opening, step, world}
 use Rattle.curp_facts.specs.Run.{IsRun, IsStep}
 use Rattle.curp_law_kept.proofs.Followed.{follows_step}
-use Rattle.curp_law_kept.proofs.Known.{Known}
+use Rattle.curp_facts.specs.Known.{Known}
 use Rattle.curp_law_kept.proofs.Steps.{along, known_step}
-use Rattle.curp_law_pairs.specs.Predecessors.{Predecessors}
+use Rattle.curp_facts.specs.Predecessors.{Predecessors}
 use Rattle.curp_law_pairs.proofs.Adopted.{chain_opening}
 use Rattle.curp_law_pairs.proofs.Chained.{chain_step}
-use Rattle.curp_law_routes.specs.Before.{GivesBefore, Routed}
-use Rattle.curp_law_routes.specs.Migrated.{Migrated}
-use Rattle.curp_law_routes.specs.Routes.{Routes}
+use Rattle.curp_facts.specs.Before.{GivesBefore, Routed}
+use Rattle.curp_facts.specs.Migrated.{Migrated}
+use Rattle.curp_facts.specs.Routes.{Routes}
 use Rattle.curp_law_routes.proofs.Before.{opening_before}
 use Rattle.curp_law_routes.proofs.Kept.{routed_migrated, step_before, step_routes}
 use Rattle.curp_law_routes.proofs.Steps.{opening_routes}

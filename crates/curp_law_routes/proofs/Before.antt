@@ -22,9 +22,9 @@ use Rattle.curp_law_kept.proofs.Moved.{sent_cases}
 use Rattle.curp_law_pairs.proofs.Logs.{has_home}
 use Rattle.curp_law_pairs.proofs.Words.{one_log, said}
 use Rattle.curp_law_stays.proofs.Words.{Follows, log_later, sent_later}
-use Rattle.curp_law_routes.specs.Before.{GivesBefore, Routed}
-use Rattle.curp_law_routes.specs.Migrated.{WasTold}
-use Rattle.curp_law_routes.specs.Routes.{IsMoving}
+use Rattle.curp_facts.specs.Before.{GivesBefore, Routed}
+use Rattle.curp_facts.specs.Migrated.{WasTold}
+use Rattle.curp_facts.specs.Routes.{IsMoving}
 use Rattle.curp_law_routes.proofs.Migrated.{given_in, one_stored, taken_out, told_stored, work_or_done}
 use Rattle.curp_law_routes.proofs.Steps.{nothing_sent}
 use Rattle.curp_law_routes.proofs.Stored.{front_at, front_back, one_adopted, one_take, stored_now}

@@ -30,13 +30,13 @@ use Rattle.curp_law_logs.specs.Standing.{StandsHere}
 use Rattle.curp_law_logs.proofs.Logs.{prefix_take}
 use Rattle.curp_law_logs.proofs.Standings.{stands_longer}
 use Rattle.curp_law_logs.proofs.Packages.{take_package}
-use Rattle.curp_law_names.specs.Names.{Names}
+use Rattle.curp_facts.specs.Names.{Names}
 use Rattle.curp_law_names.proofs.Lists.{at_mapped}
-use Rattle.curp_law_pairs.specs.Predecessors.{Predecessors}
+use Rattle.curp_facts.specs.Predecessors.{Predecessors}
 use Rattle.curp_law_pairs.proofs.Words.{said}
-use Rattle.curp_law_routes.specs.Before.{GivesBefore}
-use Rattle.curp_law_routes.specs.Migrated.{AllStored, Migrated, OnlyInWork, OpStored, TakeStored, WasTold}
-use Rattle.curp_law_routes.specs.Routes.{IsDone, IsGiveOf, IsMoving, Routes}
+use Rattle.curp_facts.specs.Before.{GivesBefore}
+use Rattle.curp_facts.specs.Migrated.{AllStored, Migrated, OnlyInWork, OpStored, TakeStored, WasTold}
+use Rattle.curp_facts.specs.Routes.{IsDone, IsGiveOf, IsMoving, Routes}
 use Rattle.curp_law_logs.proofs.Records.{recorded}
 use Rattle.curp_law_routes.proofs.Stored.{adopted_ok, front_at, one_adopted, one_entry, one_give, one_take, stored_now}
 

@@ -25,8 +25,8 @@ use Rattle.curp_model.specs.Witness.{witness_input}
 use Rattle.curp_model.specs.World.{World, deed_of, delivery, effect, events_of, kept, messages, moves_kind, moves_one, result_of, step, steps_by}
 use Rattle.curp_facts.specs.Facts.{IsAmong}
 use Rattle.curp_law_growth.specs.Deeds as deeds
-use Rattle.curp_law_names.specs.Names.{IsOf}
-use Rattle.curp_law_names.specs.Nodes.{MessageFits}
+use Rattle.curp_facts.specs.Names.{IsOf}
+use Rattle.curp_facts.specs.Fits.{MessageFits}
 use Rattle.curp_law_names.proofs.Clients.{Arrives, client_fits, is_manager}
 use Rattle.curp_law_names.proofs.Keepers.{AllSaid, InputFits, Said, backup_fits, witness_fits}
 use Rattle.curp_law_names.proofs.Lists.{all_of-kept, among_each, number_within, place}

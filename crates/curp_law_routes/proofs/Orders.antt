@@ -33,14 +33,14 @@ use Rattle.curp_facts.specs.Facts.{IsAmong, IsMasterOf, WasSent, WasTaken, lists
 use Rattle.curp_facts.specs.Invariant.{Invariant}
 use Rattle.curp_facts.specs.Said.{IsGiveFrom, StoredEntry}
 use Rattle.curp_law_growth.specs.Deeds.{IsFor}
-use Rattle.curp_law_names.specs.Names.{Names}
+use Rattle.curp_facts.specs.Names.{Names}
 use Rattle.curp_law_names.proofs.Keeps.{entry_now, entry_numbered}
 use Rattle.curp_law_names.proofs.Lists.{each_among, filter_among, first_among, number_within, place}
 use Rattle.curp_law_names.proofs.Says.{each_flat}
 use Rattle.curp_law_pairs.proofs.Logs.{has_home}
 use Rattle.curp_law_pairs.proofs.Words.{said}
 use Rattle.curp_law_routes.specs.Orders.{AllMayOrder, MayOrder, Orders}
-use Rattle.curp_law_routes.specs.Routes.{IsDone, Routes}
+use Rattle.curp_facts.specs.Routes.{IsDone, Routes}
 
 -- what is found by a test passes it
 first_passes : {A : Type 0} (p : A → Bool) (xs : List A) (x : A) → first_of (filter p xs) ≡ Some x → p x ≡ true

@@ -15,12 +15,12 @@ use Rattle.curp_model.specs.Manager.{ManagerState, Migration, Shape}
 use Rattle.curp_model.specs.World.{World, messages}
 use Rattle.curp_facts.specs.Facts.{IsMasterOf, WasOrdered, WasSent}
 use Rattle.curp_law_kept.proofs.Moved.{given_back, sent_back, sent_cases, sent_now}
-use Rattle.curp_law_names.specs.Names.{IsAdoptedMaster, Names}
+use Rattle.curp_facts.specs.Names.{IsAdoptedMaster, Names}
 use Rattle.curp_law_stays.proofs.Entries.{ordered_later}
 use Rattle.curp_law_stays.proofs.Replies.{entry_stored_later}
 use Rattle.curp_law_stays.proofs.Words.{Follows, given_later, sent_later}
 use Rattle.curp_law_routes.specs.Orders.{Begins, Ends, MayOrder, Orders, Stays}
-use Rattle.curp_law_routes.specs.Routes.{InWork, IsDone, IsGiveOf, IsMoving, Routes, order_of}
+use Rattle.curp_facts.specs.Routes.{InWork, IsDone, IsGiveOf, IsMoving, Routes, order_of}
 
 -- ---- a later world
 

@@ -14,14 +14,14 @@ use Rattle.curp_model.specs.World.{World}
 use Rattle.curp_facts.specs.Entries.{EntryOk}
 use Rattle.curp_facts.specs.Facts.{FromPart, GiveStands, IsAmong, OnAdopted, WasSent, lists_of_part}
 use Rattle.curp_facts.specs.Said.{GiveWasOrdered, IsGiveFrom, StoredEntry}
-use Rattle.curp_law_names.specs.Names.{Names}
+use Rattle.curp_facts.specs.Names.{Names}
 use Rattle.curp_facts.specs.Invariant.{Invariant}
 use Rattle.curp_law_pairs.specs.GivenStand.{GivenStand}
-use Rattle.curp_law_pairs.specs.Predecessors.{Predecessors}
+use Rattle.curp_facts.specs.Predecessors.{Predecessors}
 use Rattle.curp_law_pairs.proofs.Logs.{begins, has_home}
 use Rattle.curp_law_pairs.proofs.Words.{said}
-use Rattle.curp_law_routes.specs.Routes.{IsGiveOf, Routes}
-use Rattle.curp_law_routes.specs.Stored.{StoredNow}
+use Rattle.curp_facts.specs.Routes.{IsGiveOf, Routes}
+use Rattle.curp_facts.specs.Stored.{StoredNow}
 use Rattle.curp_law_routes.proofs.Migrated.{work_or_done}
 use Rattle.curp_law_routes.proofs.Stored.{front_at, one_entry, stored_now}
 

@@ -11,7 +11,7 @@ use Rattle.curp_msg.specs.declared.message.Message.{Message}
 use Rattle.curp_model.specs.Manager.{ManagerState, Migration}
 use Rattle.curp_model.specs.World.{World}
 use Rattle.curp_facts.specs.Facts.{IsAmong, IsMasterOf}
-use Rattle.curp_law_routes.specs.Routes.{IsDone, order_of}
+use Rattle.curp_facts.specs.Routes.{IsDone, order_of}
 
 -- of migrations only that in work is ordered: to be taken out at a master of its source, or to be given at a master of its target
 abbrev pub MayOrder : World → Option Migration → NodeId → Body → Type 0

@@ -42,13 +42,14 @@ use Rattle.curp_law_keepers.proofs.Backups.{backup_effect}
 use Rattle.curp_law_keepers.proofs.Witnesses.{witness_effect}
 use Rattle.curp_law_kept.specs.ManagerEffect.{Uttered}
 use Rattle.curp_law_kept.proofs.Cases.{ByBackup, ByClient, ByManager, ByMaster, ByWitness, Rests, StepCase, Stays, step_case}
-use Rattle.curp_law_kept.proofs.Known.{Known, fits}
+use Rattle.curp_facts.specs.Known.{Known}
+use Rattle.curp_law_kept.proofs.Known.{fits}
 use Rattle.curp_law_kept.proofs.ManagersDo.{manager_does}
 use Rattle.curp_law_kept.proofs.MastersMoves.{StageMove, heard_in, input_moves, speaker}
 use Rattle.curp_law_kept.proofs.Steps.{along, known_step}
 use Rattle.curp_law_masters.specs.Moves.{IsSaidBy, RecoverySays, ServingSays}
 use Rattle.curp_law_masters.specs.Stages.{FreshSays}
-use Rattle.curp_law_names.specs.Nodes.{sender_kind}
+use Rattle.curp_facts.specs.Fits.{sender_kind}
 use Rattle.curp_law_names.proofs.Lists.{all_of-kept, number_within, numbered_set_cases}
 use Rattle.curp_law_names.proofs.Steps.{sent_now}
 use Rattle.curp_law_runs.proofs.ClientsByOne.{OfOne, client_by_one}

@@ -6,7 +6,7 @@ use Rattle.curp_model.specs.World.{World, world}
 use Rattle.curp_facts.specs.Facts.{PairsGood}
 use Rattle.curp_facts.specs.Kept.{FactsKept}
 use Rattle.curp_facts.specs.Run.{IsRun}
-use Rattle.curp_law_kept.proofs.Known.{Known}
+use Rattle.curp_facts.specs.Known.{Known}
 use Rattle.curp_law_pairs.proofs.Adoptions.{adoptions_ok}
 use Rattle.curp_law_pairs.proofs.BackupsFollow.{backups_follow}
 use Rattle.curp_law_pairs.proofs.Collections.{collections_ok}

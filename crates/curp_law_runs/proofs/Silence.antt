@@ -33,7 +33,7 @@ use Rattle.curp_law_growth.proofs.Worlds.{step_grows}
 use Rattle.curp_law_kept.specs.ManagerEffect.{Uttered}
 use Rattle.curp_law_kept.proofs.Cases.{ByBackup, ByClient, ByManager, ByMaster, ByWitness, Rests, StepCase, Stays, step_case}
 use Rattle.curp_law_kept.proofs.Clients.{client_messages}
-use Rattle.curp_law_kept.proofs.Known.{Known}
+use Rattle.curp_facts.specs.Known.{Known}
 use Rattle.curp_law_kept.proofs.ManagersDo.{manager_does}
 use Rattle.curp_law_kept.proofs.MastersMoves.{heard_in, input_moves, speaker, stage_from}
 use Rattle.curp_law_names.proofs.Lists.{all_of-kept}

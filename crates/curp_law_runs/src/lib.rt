@@ -15,7 +15,7 @@ ghost use Rattle.curp_facts.specs.Kept.{FactsKept};
 ghost use Rattle.curp_facts.specs.Nodes.{ValueWasSent, WasRead};
 ghost use Rattle.curp_facts.specs.Run.{IsRun, IsStep};
 ghost use Rattle.curp_facts.specs.Silence.{IsSilentIn};
-ghost use Rattle.curp_law_names.specs.Nodes.{GoesHome, IsBetweenNodes};
+ghost use Rattle.curp_facts.specs.Fits.{GoesHome, IsBetweenNodes};
 ghost use Rattle.curp_model.specs.World.{messages, step, world};
 ghost use Rattle.curp_msg.specs.declared.script.Header.{Header};
 ghost use Rattle.curp_msg.specs.declared.script.Protocol.TheVariants.{One};

@@ -18,7 +18,7 @@ use Rattle.curp_facts.specs.Facts.{ReplayOk, WasSent}
 use Rattle.curp_facts.specs.Invariant.{Invariant}
 use Rattle.curp_facts.specs.Nodes.{AcknowledgedOk, CameLog, CameRequests, CapturedOk, HasSentAll, MasterOk, RecoveringOk, ReplayedOk, ServingOk, StageOk, SwitchOk}
 use Rattle.curp_facts.specs.Reach.{HasStored}
-use Rattle.curp_law_names.specs.Names.{OrderOk}
+use Rattle.curp_facts.specs.Names.{OrderOk}
 use Rattle.curp_law_stays.proofs.Entries.{log_ok_later, updates_later}
 use Rattle.curp_law_stays.proofs.Keepers.{fenced_later, fenced_stays, frozen_later}
 use Rattle.curp_law_stays.proofs.Words.{Follows, adopted_later, backup_later, event_at, hi_later, lo_later, sent_later, stored_later, witness_later}

@@ -21,7 +21,7 @@ use Rattle.curp_facts.specs.Invariant.{Invariant}
 use Rattle.curp_facts.specs.Nodes.{MasterOk}
 use Rattle.curp_facts.specs.Said.{RecoveredSaid}
 use Rattle.curp_law_logs.proofs.Logs.{take_grows}
-use Rattle.curp_law_names.specs.Names.{OrderOk}
+use Rattle.curp_facts.specs.Names.{OrderOk}
 use Rattle.curp_law_stays.proofs.Keepers.{fenced_stays, fronts_later}
 use Rattle.curp_law_stays.proofs.Words.{Follows, backup_later, given_later, log_later, master_later, message_at, one_state, reach_later, sent_later, there, witness_later}
 

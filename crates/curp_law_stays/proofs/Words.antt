@@ -18,7 +18,7 @@ use Rattle.curp_facts.specs.Facts.{HasLog, IsGiven, Lists, Logged, WasAdopted, W
 use Rattle.curp_facts.specs.Growth.{BackupGrows, Dropped, Grows, LogGrows, MasterGrows, Steady, WitnessGrows}
 use Rattle.curp_facts.specs.Reach.{HasMany, HasStored, IsReady, IsThere, Reach, Whole}
 use Rattle.curp_law_logs.proofs.Reaches.{many_grows, reach_grows}
-use Rattle.curp_law_names.specs.Names.{IsOf, Names}
+use Rattle.curp_facts.specs.Names.{IsOf, Names}
 use Rattle.curp_law_names.proofs.Later as names
 use Rattle.curp_law_names.proofs.Later.{Later}
 

@@ -29,7 +29,7 @@ use Rattle.curp_model.specs.Manager.{manager_input}
 use Rattle.curp_model.specs.Named.{IsNode, IsNodeOf}
 use Rattle.curp_model.specs.World.{Gives, Stepped, Stops, World, deed_of, delivery, effect, has_node, is_stopped, is_there, kept, messages, moves, opening, result_of, step, weight, weight_limit}
 use Rattle.curp_facts.specs.Run.{IsHeader}
-use Rattle.curp_law_names.specs.Nodes.{IsBetweenNodes}
+use Rattle.curp_facts.specs.Fits.{IsBetweenNodes}
 use Rattle.curp_law_names.proofs.Laws.{only_sent_to_nodes}
 use Rattle.curp_law_names.proofs.Opened.{opening_names, opening_nodes}
 use Rattle.curp_law_names.proofs.Others.{Both}

@@ -7,10 +7,10 @@ use Rattle.curp_msg.specs.declared.config.PartConfig.{PartConfig}
 use Rattle.curp_model.specs.World.{World}
 use Rattle.curp_facts.specs.Kept.{AdoptedLog}
 use Rattle.curp_facts.specs.Invariant.{Invariant}
-use Rattle.curp_law_names.specs.Names.{Names}
-use Rattle.curp_law_pairs.specs.Predecessors.{Predecessors}
-use Rattle.curp_law_routes.specs.Migrated.{WasTold}
-use Rattle.curp_law_routes.specs.Routes.{Routes}
+use Rattle.curp_facts.specs.Names.{Names}
+use Rattle.curp_facts.specs.Predecessors.{Predecessors}
+use Rattle.curp_facts.specs.Migrated.{WasTold}
+use Rattle.curp_facts.specs.Routes.{Routes}
 
 -- in an adopted log only gives of earlier migrations stand before the take of one that was told
 pub record GivesBefore (w : World) : Type 0 where

@@ -5,7 +5,7 @@ use Rattle.curp_cmd.specs.declared.entry.Entry.{Entry}
 use Rattle.curp_msg.specs.declared.config.PartConfig.{PartConfig}
 use Rattle.curp_model.specs.World.{World}
 use Rattle.curp_facts.specs.Kept.{AdoptedLog}
-use Rattle.curp_law_routes.specs.Migrated.{AllStored}
+use Rattle.curp_facts.specs.Migrated.{AllStored}
 
 -- what was stored, as it stands in an adopted log: the log begins as that of the sender up to the entry, and each backup of the
 -- partition has so much

@@ -28,7 +28,7 @@ use Rattle.curp_model.specs.Witness.{HeldRequest, WitnessState}
 use Rattle.curp_model.specs.World.{World, messages}
 use Rattle.curp_facts.specs.Facts.{AttemptWas, IsGiven, Lists, WasSent, hi_of, lo_of}
 use Rattle.curp_facts.specs.Kept.{lists_of_master}
-use Rattle.curp_law_names.specs.Names.{ConfigurationOk, IsOf}
+use Rattle.curp_facts.specs.Names.{ConfigurationOk, IsOf}
 
 -- ---- kinds
 
