@@ -3,6 +3,7 @@ use Rattle.std.specs.Prelude.{◌≡◌, ◌≤◌, ◌<◌, ◌⊎◌, ℕ, ◌
 use Rattle.std.specs.Cmp.Lexicographic.{slice_cmp}
 use Rattle.std.specs.FinMap as store
 use Rattle.std.specs.FinMap.Entries.{find}
+use Rattle.std.specs.List.{IsDistinct}
 use Rattle.std.specs.Ordering.{nat_cmp}
 use Rattle.curp_base.specs.Words.{At, Each, IsPrefix}
 use Rattle.curp_cmd.specs.Hash.{hash_of, hashes}
@@ -38,12 +39,14 @@ use Rattle.curp_model.specs.declared.Check.{Check}
 use Rattle.curp_model.specs.declared.Mode.TheVariants as mode
 use Rattle.curp_model.specs.declared.Check.TheVariants.{Expired, Stale, Known, New}
 use Rattle.curp_model.specs.Backup.{BackupState}
-use Rattle.curp_facts.specs.Facts.{AdoptedBefore, Completable, HasLog, IsAdoptedNow, IsAmong, IsGiven, Lists, Logged, PairsGood, SaidOk, WasAdopted, WasSent, hi_of, lo_of, reply_message}
+use Rattle.curp_facts.specs.Facts.{AdoptedBefore, Completable, HasLog, IsAdoptedNow, IsAmong, IsGiven, Lists, Logged, PairsGood, SaidOk, WasAdopted, WasSent, hi_of, lists_of_part, lo_of, reply_message}
+use Rattle.curp_facts.specs.Names.{Agree, GivenOk, Top}
+use Rattle.curp_model.specs.Laws.{clash}
 use Rattle.curp_model.specs.Log.{IsLog, IsDone, LogState, entry_touches, meaning}
 use Rattle.curp_model.specs.Manager.{Migration}
 use Rattle.curp_model.specs.Marks.{Mark, Looked, shown}
 use Rattle.curp_model.specs.Master as master
-use Rattle.curp_model.specs.Master.{MasterState, Captured, Acknowledged, from_backup, has}
+use Rattle.curp_model.specs.Master.{MasterState, Captured, from_backup, has}
 use Rattle.curp_cmd.specs.Node.{is_among, client_node, manager_node}
 use Rattle.curp_msg.specs.Moved.{says}
 use Rattle.curp_model.specs.Named.{IsBackup, IsMaster, IsWitness}
@@ -51,6 +54,35 @@ use Rattle.curp_model.specs.Recovery.{Recovering, RecoveryState, Replayed, Servi
 use Rattle.curp_model.specs.Table.{check}
 use Rattle.curp_model.specs.Witness.{WitnessState, frozen_requests}
 use Rattle.curp_model.specs.World.{World, messages, order}
+
+-- ---- lists and names
+
+-- The present entry of a partition was adopted, and is above all that were adopted before. Its master is a node of the world, and so
+-- are its f backups and its f witnesses, of which no two are one
+pub record HasEntry (w : World) (part : ℕ) : Type 0 where
+  pub entry : PartConfig
+  pub now : IsAdoptedNow w entry
+  pub its_part : entry.part ≡ part
+  pub top : Top w (lists_of_part entry)
+  pub whole : GivenOk w (lists_of_part entry)
+
+-- each partition has one
+abbrev pub PartsHaveEntries : World → Type 0
+PartsHaveEntries w = (part : ℕ) → 1 ≤ part → part ≤ w.manager.shape.parts → HasEntry w part
+
+-- all lists that were ever given are so: by numbers that were used, with f backups and f witnesses, all different nodes of the world
+abbrev pub ListsWhole : World → Type 0
+ListsWhole w = (l : Lists) → IsGiven w l → GivenOk w l
+
+-- no master, epoch, version, backup or witness is given twice
+abbrev pub GivenOnce : World → Type 0
+GivenOnce w = (l k : Lists) → IsGiven w l → IsGiven w k → Agree l k
+
+-- ---- what witnesses hold
+
+-- of what a witness holds no two requests have one id or conflict, so that it may be replayed in any order
+abbrev pub HeldApart : World → Type 0
+HeldApart w = (node : NodeId) (x : WitnessState) → IsWitness w node x → IsDistinct clash (frozen_requests x)
 
 -- ---- logs
 
@@ -355,8 +387,13 @@ LateRepliesAgree w = (part : ℕ) (id : RequestId) (a : Answer) → Completable 
 
 -- ---- all together
 
--- what holds after every step of what was said, of logs, nodes, early replies, collections, first numbers and adoptions
+-- what holds after every step of lists and names, of what was said, of logs, nodes, early replies, collections, first numbers and
+-- adoptions
 pub record FactsKept (w : World) : Type 0 where
+  pub entries : PartsHaveEntries w
+  pub lists : ListsWhole w
+  pub names : GivenOnce w
+  pub held : HeldApart w
   pub said : SaidOk w
   pub logs : LogsOk w
   pub backups : BackupsFollow w

@@ -4,8 +4,8 @@ pub use curp_law_linear::{
     history_stands, kept_stands, late_replies_agree, order_grows, order_stands,
 };
 pub use curp_law_runs::{
-    completed_is_completable, facts_kept, only_protocol_one, only_sent_to_nodes, pairs_good,
-    silent_while_switching,
+    completed_is_completable, facts_kept, known_witnesses_differ, only_protocol_one,
+    only_sent_to_nodes, pairs_good, silent_while_switching,
 };
 pub use curp_law_steps::{full_changes_nothing, only_the_named_node_moves, results_have_causes};
 pub use curp_law_trip::{one_round_trip, premises_stay, rejected_exactly, trip_can_be_met};

@@ -1,12 +1,17 @@
 -- The facts on what was said, on logs and on nodes, in one world.
-use Rattle.std.proofs.Common.{List}
+use Rattle.std.proofs.Common.{◌≡◌, ◌-◌, List, arith}
+use Rattle.curp_base.proofs.Lists.{at_some}
 use Rattle.curp_msg.specs.declared.script.Header.{Header}
 use Rattle.curp_msg.specs.declared.script.Step.{Step}
-use Rattle.curp_model.specs.World.{World, world}
-use Rattle.curp_facts.specs.Facts.{PairsGood}
-use Rattle.curp_facts.specs.Kept.{FactsKept}
-use Rattle.curp_facts.specs.Run.{IsRun}
+use Rattle.curp_model.specs.World.{World, opening, shape_of, world}
+use Rattle.curp_facts.specs.Facts.{IsAdoptedNow, PairsGood, lists_of_part}
+use Rattle.curp_facts.specs.Kept.{FactsKept, PartsHaveEntries}
 use Rattle.curp_facts.specs.Known.{Known}
+use Rattle.curp_facts.specs.Names.{Names}
+use Rattle.curp_facts.specs.Run.{IsRun}
+use Rattle.curp_law_logs.proofs.Frozen.{frozen_apart}
+use Rattle.curp_law_names.proofs.Lists.{at_place}
+use Rattle.curp_law_names.proofs.Runs.{always}
 use Rattle.curp_law_pairs.proofs.Adoptions.{adoptions_ok}
 use Rattle.curp_law_pairs.proofs.BackupsFollow.{backups_follow}
 use Rattle.curp_law_pairs.proofs.Collections.{collections_ok}
@@ -19,8 +24,26 @@ use Rattle.curp_law_pairs.proofs.Said.{said_ok}
 use Rattle.curp_law_routes.proofs.Always.{Moving, moving_all}
 use Rattle.curp_law_routes.proofs.Told.{given_stand}
 
+-- each partition has its entry
+parts_have_entries : {w : World} → Names w → PartsHaveEntries w
+parts_have_entries {w} names part from_one within =
+    let there = at_some w.manager.config.parts (part - 1) (omega (arith, from_one, within, names.numbers.parts)) in
+    let its_part : there.0.part ≡ part = omega (arith, from_one, names.entries (part - 1) there.0 there.1) in
+    let now : IsAdoptedNow w there.0 = at_place w.manager.config.parts (part - 1) there.0.part there.0 (omega (arith, from_one, its_part)) there.1 in
+    let top = names.top there.0 now in
+    record { entry = there.0; now = now; its_part = its_part; top = top; whole = names.given (lists_of_part there.0) top.was.given }
+
+-- the shape is the header's
+pub shape_all : (h : Header) (steps : List Step) → IsRun h steps → (world h steps).manager.shape ≡ shape_of h
+unfolding opening
+shape_all h steps is = (always h steps is).later.shape
+
 facts : (w : World) → Known w → Moving w → FactsKept w
 facts w known m = record {
+  entries = parts_have_entries known.names;
+  lists = known.names.given;
+  names = known.names.agree;
+  held = λ node x is. frozen_apart x (known.inv.witnesses node x is).apart;
   said = said_ok known.names known.inv known.nodes m.chain (given_stand known.names known.inv m.chain m.routes);
   logs = logs_ok known.names known.inv;
   backups = backups_follow known.names known.inv;

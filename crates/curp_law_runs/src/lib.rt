@@ -3,8 +3,8 @@
 //! contract of a function with nothing in it, and a caller has the law by the call.
 #![tactic(auto)]
 
-ghost use Rattle.std.specs.Prelude.{◌≡◌, ℕ, List, false, true};
-ghost use Rattle.curp_base.specs.Words.{At, Each};
+ghost use Rattle.std.specs.Prelude.{◌≡◌, ℕ, List, Some, false, true};
+ghost use Rattle.curp_base.specs.Words.{At, Each, numbered};
 ghost use Rattle.curp_cmd.specs.Store.{is_update};
 ghost use Rattle.curp_cmd.specs.declared.command.Answer.{Answer};
 ghost use Rattle.curp_cmd.specs.declared.command.Command.{Command};
@@ -16,7 +16,9 @@ ghost use Rattle.curp_facts.specs.Nodes.{ValueWasSent, WasRead};
 ghost use Rattle.curp_facts.specs.Run.{IsRun, IsStep};
 ghost use Rattle.curp_facts.specs.Silence.{IsSilentIn};
 ghost use Rattle.curp_facts.specs.Fits.{GoesHome, IsBetweenNodes};
-ghost use Rattle.curp_model.specs.World.{messages, step, world};
+ghost use Rattle.curp_law_trip.specs.Trip.{BringsApart, WitnessesAreApart};
+ghost use Rattle.curp_model.specs.Client.{ClientState};
+ghost use Rattle.curp_model.specs.World.{messages, shape_of, step, world};
 ghost use Rattle.curp_msg.specs.declared.script.Header.{Header};
 ghost use Rattle.curp_msg.specs.declared.script.Protocol.TheVariants.{One};
 ghost use Rattle.curp_msg.specs.declared.script.Step.{Step};
@@ -29,10 +31,21 @@ pub fn pairs_good()
     ensures pairs { (h : Header) (steps : List Step) → IsRun h steps → PairsGood (world h steps) }
 {}
 
-/// What each message says stays true, and what each node keeps: logs, backups, masters, early replies, collections, first
-/// numbers and adoptions.
+/// What each message says stays true, and what each node keeps: lists and names, what witnesses hold, logs, backups,
+/// masters, early replies, collections, first numbers and adoptions. How many backups and witnesses a list has, and how
+/// many partitions there are, is as the header says.
 pub fn facts_kept()
     ensures facts { (h : Header) (steps : List Step) → IsRun h steps → FactsKept (world h steps) }
+    ensures shape { (h : Header) (steps : List Step) → IsRun h steps → (world h steps).manager.shape ≡ shape_of h }
+{}
+
+/// The witnesses of each partition are different nodes, in the configuration that a client has, and in each that a message
+/// brings: what an update needs for its one round trip, for clients of every script.
+pub fn known_witnesses_differ()
+    ensures known { (h : Header) (steps : List Step) → IsRun h steps → (n : ℕ) (c : ClientState)
+        → numbered (world h steps).clients n ≡ Some c → WitnessesAreApart c.config }
+    ensures brought { (h : Header) (steps : List Step) → IsRun h steps
+        → Each (λ m. BringsApart m.body) (messages (world h steps)) }
 {}
 
 /// In a script of protocol 1 nobody asks for an answer at once, and none is given.
