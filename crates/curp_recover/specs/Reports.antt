@@ -1,6 +1,7 @@
 -- A recovery whose named backup and witness answer, and whose fresh backups store the whole log.
-use Rattle.std.specs.Prelude.{◌≡◌, ℕ, ◌≤◌, Bool, true, List, [], ◌∷◌, length, map}
+use Rattle.std.specs.Prelude.{◌≡◌, ◌⊎◌, ℕ, ◌≤◌, Bool, true, List, [], ◌∷◌, length, map}
 use Rattle.std.specs.List.{list_all}
+use Rattle.curp_base.specs.Words.{Each}
 use Rattle.curp_cmd.specs.Node.{is_among, manager_node}
 use Rattle.curp_cmd.specs.declared.command.Request.{Request}
 use Rattle.curp_cmd.specs.declared.entry.Entry.{Entry}
@@ -11,6 +12,11 @@ use Rattle.curp_msg.specs.declared.answer.FenceReply.TheVariants.{Log}
 use Rattle.curp_msg.specs.declared.body.Body.{Body}
 use Rattle.curp_msg.specs.declared.body.Body.TheVariants as body
 use Rattle.curp_msg.specs.declared.body.Recover.{Recover}
+use Rattle.curp_msg.specs.declared.body.Recovered.{Recovered}
+use Rattle.curp_msg.specs.declared.machine.Input.{Input}
+use Rattle.curp_msg.specs.declared.machine.Input.TheVariants as input
+use Rattle.curp_msg.specs.declared.message.Message.{Message}
+use Rattle.curp_msg.specs.Moved.{says}
 
 -- ---- messages
 
@@ -58,3 +64,18 @@ pub record IsWhole (o : Recover) (entries : List Entry) (requests : List Request
 -- each fresh backup has said so
 abbrev pub all_stored : Recover → List StoredAnswer → Bool
 all_stored o answers = list_all (λ b. is_among b (map (λ (a : StoredAnswer). a.backup) answers)) o.backups
+
+-- ---- any input, while it stores
+
+-- a fresh backup says that it has the whole log, and each other one has said so before
+pub record IsLastStored (o : Recover) (r : Replayed) (given : Input) : Type 0 where
+  pub answer : StoredAnswer
+  pub to : NodeId
+  pub comes : given ≡ input.Message (says answer.backup to (stored_answer answer))
+  pub fresh : is_among answer.backup o.backups ≡ true
+  pub whole : length r.log ≤ answer.length
+  pub others : Each (λ (b : NodeId). (is_among b r.complete ≡ true) ⊎ (b ≡ answer.backup)) o.backups
+
+-- the message reports that a partition is recovered
+abbrev pub IsReport : Message → Type 0
+IsReport m = (r : Recovered) × (m.body ≡ body.Recovered r)
