@@ -72,7 +72,7 @@ module _ (given : Input) (nodes nodes' : List (Node MasterStage)) (n : ℕ) (r :
   masters_give w others =
       let v : World = with_nodes w (record others { masters = states nodes }) in
       world_moves (λ (list : List MasterStage). record others { masters = list }) (states nodes) (states nodes') n r
-      (λ s. master_input n s given) (λ s. within (with_master v n s) (master_input n s given)) v (λ s. refl)
+      (λ s. master_input n s given) (λ s. within (with_master v n given s) (master_input n s given)) v (λ s. refl)
       (one_moves (λ (s : MasterStage). s) nodes nodes' n r (λ node. master_machine node given) (λ i s. master_input i s given)
       (λ s. master_input n s given) (master_moves given) numbers low made (λ s. refl))
 

@@ -1,9 +1,10 @@
 -- What is marked of an input, by what was due before.
-use Rattle.std.proofs.Common.{◌≡◌, ◌⊎◌, inl, inr, ℕ, zero, suc, ◌-◌, ◌<◌, ◌≤◌, Bool, true, false, if◌then◌else◌, nat_lt, List, [], ◌∷◌, ◌++◌, drop, length, slice_set, slice_get, Option, Some, None, append-nil, length-append, arith, refl, ap, sym, ◌∙◌, subst}
+use Rattle.std.proofs.Common.{◌≡◌, ◌⊎◌, inl, inr, ℕ, zero, suc, ◌-◌, ◌<◌, ◌≤◌, ◌==◌, ◌&&◌, ◌||◌, Bool, true, false, if◌then◌else◌, nat_lt, fold, is_some, List, [], ◌∷◌, ◌++◌, drop, length, slice_set, slice_get, Option, Some, None, append-nil, length-append, arith, refl, ap, sym, ◌∙◌, subst}
 use Rattle.std.proofs.lemmas.Bool.Decides.{nat_tests}
 use Rattle.curp_base.specs.Words.{Each, numbered}
 use Rattle.curp_base.proofs.Lists.{at_set_same}
 use Rattle.curp_cmd.specs.Node.{master_node}
+use Rattle.curp_cmd.specs.declared.command.Request.{Request}
 use Rattle.curp_cmd.specs.declared.entry.Entry.{Entry}
 use Rattle.curp_cmd.specs.declared.entry.Entry.TheVariants.{Op, Take, Give, Expire}
 use Rattle.curp_cmd.specs.declared.node.NodeId.{NodeId}
@@ -12,14 +13,18 @@ use Rattle.curp_cmd.specs.declared.node.NodeKind.TheVariants as kind
 use Rattle.curp_model.specs.Backup.{BackupState, backup_input}
 use Rattle.curp_model.specs.Client.{ClientState, client_input}
 use Rattle.curp_model.specs.Manager.{Attempted, adoption}
-use Rattle.curp_model.specs.Marks.{Mark}
+use Rattle.curp_model.specs.Marks.{Mark, with_quick}
 use Rattle.curp_model.specs.Master.{Captured, MasterState}
 use Rattle.curp_model.specs.Recovery.{Fresh, MasterStage, Recovering, Replayed, Serving, master_input}
 use Rattle.curp_model.specs.Witness.{WitnessState, witness_input}
-use Rattle.curp_model.specs.World.{World, is_adopted, marks_adopted, marks_after, master_marks, moves_kind, moves_one, new_captures, op_requests, replayed_in, with_adoption, with_backup, with_client, with_master, with_witness}
+use Rattle.curp_model.specs.World.{World, glance_in, is_adopted, marks_adopted, marks_after, master_marks, moves_kind, moves_one, new_captures, op_requests, quick_mark, replayed_in, with_adoption, with_backup, with_client, with_glance, with_master, with_witness}
 use Rattle.curp_msg.specs.Moved.{within}
+use Rattle.curp_msg.specs.declared.body.Body.{Body}
+use Rattle.curp_msg.specs.declared.body.Body.TheVariants as body
 use Rattle.curp_msg.specs.declared.machine.Input.{Input}
-use Rattle.curp_world.specs.Marks.{CapturesOne, HasRoomBehind, HasRoomFor, IsFew, IsFewOf, IsLastNew, IsLastNewIfAny, IsSound, Nothing, due_by_kind, due_marks, due_of_adoption, due_of_master, due_of_recovery, due_of_replay, is_captured_behind, marks_behind, marks_by, master_at, most_due, most_marks}
+use Rattle.curp_msg.specs.declared.machine.Input.TheVariants as input
+use Rattle.curp_world.specs.Marks.{CapturesOne, HasRoomFor, HasRoomSince, IsFew, IsFewOf, IsLastNew, IsLastNewIfAny, IsSound, Nothing, answered, due_by_kind, due_if, due_marks, due_of_adoption, due_of_master, due_of_recovery, due_of_replay, due_to_master, former, glanced, glanced_in, has_answered, is_captured_behind, marks_behind, marks_by, marks_since, master_at, most_due, most_marks, with_answered}
+use Rattle.curp_world.specs.declared.marks.Former.{Former}
 use Rattle.curp_world.specs.Nodes.{NodeStates, nodes_of, with_nodes}
 
 -- ---- the marks after a move
@@ -49,27 +54,74 @@ set_there : {A : Type 0} (xs : List A) (n : ℕ) (x y : A) → numbered xs n ≡
 set_there xs zero x y here = absurd cc
 set_there xs (suc k) x y here = let place : suc k - 1 ≡ k = omega arith in rw place (at_set_same xs k x y here)
 
--- of a master
-left_behind : (node : NodeId) (before after : MasterStage) (marks : List Mark) (masters : List MasterStage) → numbered masters node.number ≡ Some after
-    → marks ++ master_marks node before after ≡ marks_by (due_of_master (Some before)) node masters marks
-left_behind node Fresh after marks masters there = append-nil marks
-left_behind node (Recovering s) after marks masters there = append-nil marks
-left_behind node (Serving m) after marks masters there =
-    rw there (ap (λ (left : List Mark). marks ++ left) (served after))
+-- ---- what a master has done
+
+same_either_way : (b : Bool) (marks : List Mark) → (if b then marks ++ [] else marks) ≡ marks
+same_either_way true marks = append-nil marks
+same_either_way false marks = refl
+
+module _ (node : NodeId) (adopted : Bool) (m m' : MasterState) (marks : List Mark) where
+  -- a read is marked where it was answered at once
+  if_answered : (answers : Bool) (r : Request)
+      → fold (λ ms r. with_quick (quick_mark node m' r) ms) marks (if answers then r ∷ [] else []) ≡ with_answered node m' (if answers then Some r else None) marks
+  if_answered true r = refl
+  if_answered false r = refl
+
+  no_glance : (answers : Bool) → marks ≡ with_answered node m' (if answers then None else None) marks
+  no_glance true = refl
+  no_glance false = refl
+
+  glance_marked : (b : Body)
+      → fold (λ ms r. with_quick (quick_mark node m' r) ms) marks (glance_in b m m') ≡ with_answered node m' (answered (former adopted (glanced_in b) m) m') marks
+  glance_marked (body.Glance ask) = if_answered (nat_lt m.captured m'.captured && (m'.round == m.round)) ask.request
+  glance_marked _ = no_glance (nat_lt m.captured m'.captured && (m'.round == m.round))
+
+  input_marked : (given : Input) → with_glance node given (Serving m) (Serving m') marks ≡ with_answered node m' (answered (former adopted (glanced given) m) m') marks
+  input_marked (input.Message x) = glance_marked x.body
+  input_marked (input.Local order) = no_glance (nat_lt m.captured m'.captured && (m'.round == m.round))
+
+module _ (node : NodeId) (adopted : Bool) (masters : List MasterStage) (marks : List Mark) where
+  -- what a master leaves to be marked is what it has done since
+  left_since : (given : Input) (before after : MasterStage) → numbered masters node.number ≡ Some after
+      → with_glance node given before after (if adopted then marks ++ master_marks node before after else marks)
+      ≡ marks_by (due_of_master adopted (glanced given) (Some before)) node masters marks
+  left_since (input.Message x) Fresh after there = same_either_way adopted marks
+  left_since (input.Local order) Fresh after there = same_either_way adopted marks
+  left_since (input.Message x) (Recovering s) after there = same_either_way adopted marks
+  left_since (input.Local order) (Recovering s) after there = same_either_way adopted marks
+  left_since given (Serving m) after there = rw there (served given after)
+    where
+      served : (given : Input) (after : MasterStage)
+          → with_glance node given (Serving m) after (if adopted then marks ++ master_marks node (Serving m) after else marks)
+          ≡ marks_since node (former adopted (glanced given) m) (Some after) marks
+      served given (Serving m') =
+          input_marked node adopted m m' (if adopted then marks ++ marks_behind node (former adopted (glanced given) m) m' else marks) given
+      served (input.Message x) Fresh = same_either_way adopted marks
+      served (input.Local order) Fresh = same_either_way adopted marks
+      served (input.Message x) (Recovering s) = same_either_way adopted marks
+      served (input.Local order) (Recovering s) = same_either_way adopted marks
+
+-- one that isn't adopted, and isn't asked to answer at once, leaves nothing
+nothing_due : (node : NodeId) (masters : List MasterStage) (marks : List Mark) (o : Option MasterStage)
+    → marks ≡ marks_by (due_of_master false None o) node masters marks
+nothing_due node masters marks None = refl
+nothing_due node masters marks (Some Fresh) = refl
+nothing_due node masters marks (Some (Recovering s)) = refl
+nothing_due node masters marks (Some (Serving m)) = since (numbered masters node.number)
   where
-    served : (after : MasterStage) → master_marks node (Serving m) after ≡ marks_behind node (length m.log) m.captured (Some after)
-    served Fresh = refl
-    served (Recovering s) = refl
-    served (Serving m') = refl
+    since : (o : Option MasterStage) → marks ≡ marks_since node (former false None m) o marks
+    since None = refl
+    since (Some Fresh) = refl
+    since (Some (Recovering s)) = refl
+    since (Some (Serving m')) = no_glance node false m m' marks (has_answered (former false None m) m')
 
-if_adopted : (b : Bool) (node : NodeId) (before after : MasterStage) (marks : List Mark) (masters : List MasterStage) → numbered masters node.number ≡ Some after
-    → (if b then marks ++ master_marks node before after else marks) ≡ marks_by (if b then due_of_master (Some before) else Nothing) node masters marks
-if_adopted true node before after marks masters there = left_behind node before after marks masters there
-if_adopted false node before after marks masters there = refl
+if_due : (node : NodeId) (adopted : Bool) (read : Option Request) (masters : List MasterStage) (marks : List Mark) (o : Option MasterStage)
+    → marks_by (due_of_master adopted read o) node masters marks ≡ marks_by (due_if adopted read o) node masters marks
+if_due node true read masters marks o = refl
+if_due node false (Some r) masters marks o = refl
+if_due node false None masters marks o = sym (nothing_due node masters marks o)
 
-nobody : (b : Bool) (node : NodeId) (marks : List Mark) (masters : List MasterStage) → marks ≡ marks_by (if b then due_of_master None else Nothing) node masters marks
-nobody true node marks masters = refl
-nobody false node marks masters = refl
+-- ---- any node
 
 module _ (w : World) (n : ℕ) (given : Input) where
   client_moved : (o : Option ClientState) → MovedAs w (record { kind = kind.Client; number = n }) given (moves_one w (λ c. within (with_client w n) (client_input n c given)) o).state
@@ -85,14 +137,20 @@ module _ (w : World) (n : ℕ) (given : Input) where
   witness_moved (Some x) = refl
 
   master_moved : (o : Option MasterStage) → numbered w.masters n ≡ o
-      → let v : World = (moves_one w (λ s. within (with_master w n s) (master_input n s given)) o).state in
-      v ≡ record (with_nodes w (nodes_of v)) { marks = marks_by (if is_adopted w.manager (master_node n) then due_of_master o else Nothing) (master_node n) v.masters w.marks }
-  master_moved None is = ap (λ (marks : List Mark). record w { marks = marks }) (nobody (is_adopted w.manager (master_node n)) (master_node n) w.marks w.masters)
+      → let v : World = (moves_one w (λ s. within (with_master w n given s) (master_input n s given)) o).state in
+      v ≡ record (with_nodes w (nodes_of v)) {
+        marks = marks_by (due_if (is_adopted w.manager (master_node n)) (glanced given) o) (master_node n) v.masters w.marks;
+      }
+  master_moved None is =
+      ap (λ (marks : List Mark). record w { marks = marks })
+      (if_due (master_node n) (is_adopted w.manager (master_node n)) (glanced given) w.masters w.marks None)
   master_moved (Some s) is =
       let after : MasterStage = (master_input n s given).state in
-      let v : World = with_master w n s after in
+      let v : World = with_master w n given s after in
+      let adopted : Bool = is_adopted w.manager (master_node n) in
       ap (λ (marks : List Mark). record v { marks = marks })
-      (if_adopted (is_adopted w.manager (master_node n)) (master_node n) s after w.marks v.masters (set_there w.masters n s after is))
+      (left_since (master_node n) adopted v.masters w.marks given s after (set_there w.masters n s after is)
+      ∙ if_due (master_node n) adopted (glanced given) v.masters w.marks (Some s))
 
   -- what an input to a node leaves, whatever it is
   pub moved_as : (k : NodeKind) → MovedAs w (record { kind = k; number = n }) given (moves_kind w k n given).state
@@ -107,34 +165,43 @@ module _ (w : World) (n : ℕ) (given : Input) where
 
 -- what is due of the node of that name, where it is a master
 pub as_master : (nodes : NodeStates) (to : NodeId) (given : Input) → to.kind ≡ kind.Master
-    → (if is_adopted nodes.manager to then due_of_master (numbered nodes.masters to.number) else Nothing) ≡ due_marks nodes to given
+    → due_to_master nodes to given ≡ due_marks nodes to given
 as_master nodes to given is =
-    subst (λ (k : NodeKind). (if is_adopted nodes.manager (record { kind = k; number = to.number }) then due_of_master (numbered nodes.masters to.number) else Nothing)
-    ≡ due_by_kind nodes k to.number given) (sym is) refl
+    subst (λ (k : NodeKind). due_to_master nodes (record { kind = k; number = to.number }) given ≡ due_by_kind nodes k to.number given)
+    (sym is) refl
 
 -- ---- room
 
 -- a master that serves on has room for what is new
-goes_on_behind : (m m' : MasterState) (most spare : ℕ) → IsFew m m' most → Each (λ (c : Captured). c.number ≤ m.captured) m.captures → most ≤ spare
-    → HasRoomBehind (length m.log) m.captured m' spare
-goes_on_behind m m' most spare few old room = record { room = omega (arith, few.few, room); captures = go few.captures }
+goes_on : (adopted : Bool) (read : Option Request) (m m' : MasterState) (most spare : ℕ) → IsFew m m' most
+    → Each (λ (c : Captured). c.number ≤ m.captured) m.captures → most ≤ spare → HasRoomSince (former adopted read m) m' spare
+goes_on adopted read m m' most spare few old room = record { room = omega (arith, few.few, room); captures = go few.captures }
   where
-    go : (m'.captured ≡ m.captured) ⊎ ((m'.captures ≡ m.captures) ⊎ CapturesOne m m') → (m'.captured ≡ m.captured) ⊎ IsLastNewIfAny m.captured m'
+    go : (m'.captured ≡ m.captured) ⊎ ((m'.captures ≡ m.captures) ⊎ CapturesOne m m')
+        → (m'.captured ≡ m.captured) ⊎ IsLastNewIfAny (former adopted read m) m'
     go (inl same) = inl same
     go (inr (inl same)) = inr (inl (rw same old))
-    go (inr (inr one)) = inr (inr (omega (arith, one.captured), (m.captures, one.capture, one.captures, old, omega (arith, one.number))))
+    go (inr (inr one)) = inr (inr (
+      omega (arith, one.captured),
+      omega (arith, one.round),
+      (m.captures, one.capture, one.captures, old, omega (arith, one.number)),
+    ))
 
-behind : (o o' : Option MasterStage) (most spare : ℕ) → IsFewOf o o' most → IsSound (due_of_master o) o → most_due (due_of_master o) most ≤ spare
-    → HasRoomFor (due_of_master o) o' spare
-behind None o' most spare few sound room = tt
-behind (Some Fresh) o' most spare few sound room = tt
-behind (Some (Recovering s)) o' most spare few sound room = tt
-behind (Some (Serving m)) o' most spare few sound room = rw few.1 (goes_on_behind m few.0 most spare few.2 sound room)
+behind : (adopted : Bool) (read : Option Request) (o o' : Option MasterStage) (most spare : ℕ) → IsFewOf o o' most
+    → IsSound (due_of_master adopted read o) o → most_due (due_of_master adopted read o) most ≤ spare
+    → HasRoomFor (due_of_master adopted read o) o' spare
+behind adopted read None o' most spare few sound room = tt
+behind adopted read (Some Fresh) o' most spare few sound room = tt
+behind adopted read (Some (Recovering s)) o' most spare few sound room = tt
+behind adopted read (Some (Serving m)) o' most spare few sound room =
+    rw few.1 (goes_on adopted read m few.0 most spare few.2 sound room)
 
-master_room : (b : Bool) (o o' : Option MasterStage) (most spare : ℕ) → IsFewOf o o' most → IsSound (if b then due_of_master o else Nothing) o
-    → most_due (if b then due_of_master o else Nothing) most ≤ spare → HasRoomFor (if b then due_of_master o else Nothing) o' spare
-master_room true o o' most spare few sound room = behind o o' most spare few sound room
-master_room false o o' most spare few sound room = tt
+master_room : (c adopted : Bool) (read : Option Request) (o o' : Option MasterStage) (most spare : ℕ) → IsFewOf o o' most
+    → IsSound (if c then due_of_master adopted read o else Nothing) o
+    → most_due (if c then due_of_master adopted read o else Nothing) most ≤ spare
+    → HasRoomFor (if c then due_of_master adopted read o else Nothing) o' spare
+master_room true adopted read o o' most spare few sound room = behind adopted read o o' most spare few sound room
+master_room false adopted read o o' most spare few sound room = tt
 
 manager_room : (masters : List MasterStage) (o : Option Attempted) (o' : Option MasterStage) (most spare : ℕ) → IsSound (due_of_adoption masters o) None
     → most_due (due_of_adoption masters o) most ≤ spare → HasRoomFor (due_of_adoption masters o) o' spare
@@ -161,7 +228,8 @@ has_room nodes after kind.Client n given spare few sound room = tt
 has_room nodes after kind.Backup n given spare few sound room = tt
 has_room nodes after kind.Witness n given spare few sound room = tt
 has_room nodes after kind.Master n given spare few sound room =
-    master_room (is_adopted nodes.manager (master_node n)) (numbered nodes.masters n) (numbered after n) (most_marks given) spare few sound room
+    master_room (is_adopted nodes.manager (master_node n) || is_some (glanced given)) (is_adopted nodes.manager (master_node n))
+    (glanced given) (numbered nodes.masters n) (numbered after n) (most_marks given) spare few sound room
 has_room nodes after kind.Manager n given spare few sound room =
     manager_room nodes.masters (adoption nodes.manager given) (numbered after n) (most_marks given) spare sound room
 
@@ -187,7 +255,7 @@ last_there {A} xs x = let long : length (xs ++ x ∷ []) - 1 ≡ length xs = ome
     at_end [] = refl
     at_end (y ∷ ys) = at_end ys
 
-not_both : {A : Type 0} → false ≡ true → A
+pub not_both : {A : Type 0} → false ≡ true → A
 not_both e = absurd cc
 
 -- the last read of those that were captured before wasn't captured behind it
@@ -197,40 +265,62 @@ last_old [] (suc at) count low = refl
 last_old (c ∷ cs) zero count low = grind (arith, nat_tests, low.0)
 last_old (c ∷ cs) (suc at) count low = last_old cs at count low.1
 
-module _ (captured spare former : ℕ) (m : MasterState) (room : HasRoomBehind former captured m spare) (low : Each (λ (c : Captured). c.number ≤ m.captured) m.captures) where
+module _ (f : Former) (spare : ℕ) (m : MasterState) (room : HasRoomSince f m spare) (low : Each (λ (c : Captured). c.number ≤ m.captured) m.captures) where
   abbrev last_behind : Bool
-  last_behind = is_captured_behind captured (slice_get m.captures (length m.captures - 1))
+  last_behind = is_captured_behind f.captured (slice_get m.captures (length m.captures - 1))
 
-  same_low : m.captured ≡ captured → Each (λ (c : Captured). c.number ≤ captured) m.captures
+  -- the last read was captured since, and it alone
+  abbrev IsNew : Type 0
+  IsNew = (f.captured < m.captured) × (f.round < m.round) × IsLastNew f.captured m
+
+  same_low : m.captured ≡ f.captured → Each (λ (c : Captured). c.number ≤ f.captured) m.captures
   same_low same = subst (λ (count : ℕ). Each (λ (c : Captured). c.number ≤ count) m.captures) same low
 
-  new_behind : IsLastNew captured m → last_behind ≡ true
+  new_behind : IsLastNew f.captured m → last_behind ≡ true
   new_behind new =
       let last : slice_get m.captures (length m.captures - 1) ≡ Some new.1 =
       subst (λ (cs : List Captured). slice_get cs (length cs - 1) ≡ Some new.1) (sym new.2) (last_there new.0 new.1) in
-      let behind : nat_lt captured new.1.number ≡ true = grind (arith, nat_tests, new.4) in
-      ap (is_captured_behind captured) last ∙ behind
+      let behind : nat_lt f.captured new.1.number ≡ true = grind (arith, nat_tests, new.4) in
+      ap (is_captured_behind f.captured) last ∙ behind
 
   -- where the last read was captured before, all were
-  pub none_captured : last_behind ≡ false → new_captures captured m.captures ≡ []
+  pub none_captured : last_behind ≡ false → new_captures f.captured m.captures ≡ []
   none_captured none = go room.captures
     where
-      go : (m.captured ≡ captured) ⊎ IsLastNewIfAny captured m → new_captures captured m.captures ≡ []
-      go (inl same) = none_new m.captures captured (same_low same)
-      go (inr (inl old)) = none_new m.captures captured old
-      go (inr (inr more)) = not_both (sym none ∙ new_behind more.1)
+      go : (m.captured ≡ f.captured) ⊎ IsLastNewIfAny f m → new_captures f.captured m.captures ≡ []
+      go (inl same) = none_new m.captures f.captured (same_low same)
+      go (inr (inl old)) = none_new m.captures f.captured old
+      go (inr (inr more)) = not_both (sym none ∙ new_behind more.2)
 
   -- where it was captured behind that number, it is the new one
-  pub one_captured : last_behind ≡ true → (captured < m.captured) × IsLastNew captured m
+  pub one_captured : last_behind ≡ true → IsNew
   one_captured one = go room.captures
     where
-      old_last : Each (λ (c : Captured). c.number ≤ captured) m.captures → (captured < m.captured) × IsLastNew captured m
-      old_last old = not_both (sym (last_old m.captures (length m.captures - 1) captured old) ∙ one)
+      old_last : Each (λ (c : Captured). c.number ≤ f.captured) m.captures → IsNew
+      old_last old = not_both (sym (last_old m.captures (length m.captures - 1) f.captured old) ∙ one)
 
-      go : (m.captured ≡ captured) ⊎ IsLastNewIfAny captured m → (captured < m.captured) × IsLastNew captured m
+      go : (m.captured ≡ f.captured) ⊎ IsLastNewIfAny f m → IsNew
       go (inl same) = old_last (same_low same)
       go (inr (inl old)) = old_last old
       go (inr (inr more)) = more
+
+-- where a round began no read was answered at once
+pub began_none : (f : Former) (m : MasterState) → f.round < m.round → has_answered f m ≡ false
+began_none f m began =
+    let other : (m.round == f.round) ≡ false = grind (arith, nat_tests, began) in
+    rw other (none_of (nat_lt f.captured m.captured))
+  where
+    none_of : (b : Bool) → (b && false) ≡ false
+    none_of true = refl
+    none_of false = refl
+
+-- a read that was answered at once took a number
+pub answered_more : (f : Former) (m : MasterState) → has_answered f m ≡ true → f.captured < m.captured
+answered_more f m answers = go (nat_lt f.captured m.captured) refl answers
+  where
+    go : (b : Bool) → nat_lt f.captured m.captured ≡ b → (b && (m.round == f.round)) ≡ true → f.captured < m.captured
+    go true more both = grind (arith, nat_tests, more)
+    go false less both = absurd cc
 
 pub last_is_new : (captured : ℕ) (m : MasterState) (new : IsLastNew captured m) → new_captures captured m.captures ≡ new.1 ∷ []
 last_is_new captured m new = rw new.2 (last_new new.0 new.1 captured new.3 new.4)

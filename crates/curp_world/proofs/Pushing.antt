@@ -81,7 +81,7 @@ module _ (n : ℕ) (m : MasterState) where
   capture_few : (r : Request) (key : List ℕ) → AtMost 1 (captures_read n m r key)
   capture_few r key = record {
     few = omega arith;
-    captures = inr (inr (record { capture = _; captures = refl; number = refl; captured = refl }));
+    captures = inr (inr (record { capture = _; captures = refl; number = refl; captured = refl; round = refl }));
   }
 
   read_few : (ask : Ask) → AtMost 1 (on_read n m ask)

@@ -1,16 +1,15 @@
 // The marks of what masters push and capture, and of what the manager adopts.
-ghost use Rattle.std.specs.Prelude.{◌≡◌, ◌+◌, ◌<◌, ◌≤◌, ◌^◌, ◌++◌, [], ◌∷◌, List, None, Some, if◌then◌else◌, length, option_copied, IfOk};
+ghost use Rattle.std.specs.Prelude.{◌≡◌, ◌+◌, ◌<◌, ◌≤◌, ◌^◌, ◌++◌, [], ◌∷◌, List, None, Some, true, length, option_copied, IfOk};
 ghost use Rattle.std.specs.List.{list_any};
 ghost use Rattle.curp_base.specs.Words.{numbered};
 ghost use Rattle.curp_cmd.specs.Node.{same_node};
 ghost use Rattle.curp_model.specs.Manager.{adopted_by};
 ghost use Rattle.curp_model.specs.Master.{Captured as CapturedRead};
-ghost use Rattle.curp_model.specs.Recovery.{Serving};
-ghost use Rattle.curp_model.specs.World.{capture_mark, is_adopted, op_marks, op_requests, with_completion};
+ghost use Rattle.curp_model.specs.World.{capture_mark, op_marks, op_requests, with_completion};
 ghost use Rattle.curp_world.specs.Given.{input_of};
 ghost use Rattle.curp_world.specs.Marks as spec;
-ghost use Rattle.curp_world.specs.Marks.{HasRoomBehind, HasRoomFor, IsSound, due_marks, marks_behind, marks_by};
-ghost use Rattle.curp_world.specs.Marks.{is_captured_behind, master_at, most_due, told_due};
+ghost use Rattle.curp_world.specs.Marks.{HasRoomFor, HasRoomSince, IsSound, answered, due_marks, due_to_master, has_answered};
+ghost use Rattle.curp_world.specs.Marks.{is_captured_behind, marks_behind, marks_by, marks_of_serving, master_at, most_due, told_due};
 
 use crate::given::Given;
 use crate::nodes::Nodes;
@@ -33,32 +32,65 @@ pub(crate) struct Adoption {
     replayed: Vec<Request>,
 }
 
+/// A master that serves, before it gets an input: whether it is adopted, how long its log is, the numbers of its last
+/// capture and of its last round, and the read that the input asks it to answer at once.
+#[derive(Clone, Copy)]
+pub(crate) struct Former {
+    adopted: bool,
+    length: u64,
+    captured: u64,
+    round: u64,
+    glanced: Option<Request>,
+}
+
 /// What is to be marked of an input, once its node got it.
 #[derive(Drop)]
 pub(crate) enum Due {
     Nothing,
-    /// What an adopted master has pushed behind that length of its log, and captured behind that number.
-    Behind { length: u64, captured: u64 },
+    /// What a master has pushed and captured since, if it is adopted, and what it has answered at once.
+    Since(Former),
     Adoption(Adoption),
 }
 
-// What an adopted master pushes and captures from now on.
-fn due_of_master(nodes: &Nodes, to: NodeId) -> Due
+// What a master does from now on that is to be marked.
+fn due_of_master(nodes: &Nodes, to: NodeId, given: &Given) -> Due
     requires { to.kind ≡ NodeKind.Master }
-    ensures value { told_due result
-        ≡ (if is_adopted nodes.now.manager to then spec.due_of_master (numbered nodes.now.masters to.number)
-        else spec.Nothing) }
+    ensures value { told_due result ≡ due_to_master nodes.now to (input_of given.now) }
     ensures sound { IsSound (told_due result) (numbered nodes.now.masters to.number) }
 {
-    if !is_adopted(nodes.manager().config(), to) {
+    let adopted = is_adopted(nodes.manager().config(), to);
+    let glanced = glanced(given);
+    if !adopted && glanced.is_none() {
         return Due::Nothing;
     }
     match nodes.master(to.number).and_then(MasterNode::serving) {
-        Some(master) => Due::Behind {
+        Some(master) => Due::Since(Former {
+            adopted,
             length: master.log().len(),
             captured: master.captured(),
-        },
+            round: master.round(),
+            glanced,
+        }),
         None => Due::Nothing,
+    }
+}
+
+// The read that an input asks for an answer at once.
+fn glanced(given: &Given) -> Option<Request>
+    ensures { result ≡ spec.glanced (input_of given.now) }
+{
+    match given {
+        Given::Message(message) => glanced_in(&message.body),
+        Given::Order(_) => None,
+    }
+}
+
+fn glanced_in(body: &Body) -> Option<Request>
+    ensures { result ≡ spec.glanced_in body.now }
+{
+    match body {
+        Body::Glance(ask) => Some(ask.get().request),
+        _ => None,
     }
 }
 
@@ -98,7 +130,7 @@ impl Due {
         ensures sound { IfOk result (λ due. IsSound (told_due due) (master_at to.kind to.number nodes.now.masters)) }
     {
         match to.kind {
-            NodeKind::Master => Ok(due_of_master(nodes, to)),
+            NodeKind::Master => Ok(due_of_master(nodes, to, given)),
             NodeKind::Manager => match given {
                 Given::Message(message) => due_of_adoption(alloc, nodes, message),
                 Given::Order(_) => Ok(Due::Nothing),
@@ -113,8 +145,9 @@ impl Due {
     {
         match self {
             Due::Nothing => 0,
-            Due::Behind { .. } => most_marks(given),
-            Due::Adoption(adoption) => adoption.replayed.len() as u64,
+            Due::Since(_) => most_marks(given),
+            // One is that of the adoption itself.
+            Due::Adoption(adoption) => 1 + adoption.replayed.len() as u64,
         }
     }
 
@@ -126,14 +159,58 @@ impl Due {
     {
         match self {
             Due::Nothing => (),
-            Due::Behind { length, captured } => {
+            Due::Since(former) => {
                 if let Some(master) = nodes.master(to.number).and_then(MasterNode::serving) {
-                    add_behind(marks, to, master, *length, *captured);
+                    former.mark(marks, to, master);
                 }
             }
             Due::Adoption(a) => {
                 marks.adopted(a.master, a.part, a.epoch, a.cut, &a.replayed);
             }
+        }
+    }
+}
+
+impl Former {
+    // Marks what the master has done since.
+    fn mark(&self, marks: &mut Line, node: NodeId, master: &Master)
+        requires { HasRoomSince self.now master.now.state marks.old.spare }
+        ensures { marks.new.marks ≡ marks_of_serving node self.now master.now.state marks.old.marks }
+    {
+        if self.adopted {
+            self.add_behind(marks, node, master);
+        }
+        if let Some(read) = self.answered(master) {
+            let (part, epoch) = (master.part(), master.epoch());
+            marks.quick(node, part, epoch, master.captured(), read.id, read.command);
+        }
+    }
+
+    // The read that the master has answered at once since: a capture was numbered, and no round began.
+    fn answered(&self, master: &Master) -> Option<Request>
+        ensures { result ≡ answered self.now master.now.state }
+    {
+        if self.captured < master.captured() && master.round() == self.round {
+            self.glanced
+        } else {
+            None
+        }
+    }
+
+    // What the master has pushed since, and the read that it has captured, if it has.
+    fn add_behind(&self, marks: &mut Line, node: NodeId, master: &Master)
+        requires { HasRoomSince self.now master.now.state marks.old.spare }
+        ensures marks { marks.new.marks ≡ marks.old.marks ++ marks_behind node self.now master.now.state }
+        ensures spare { has_answered self.now master.now.state ≡ true → 1 ≤ marks.new.spare }
+    {
+        let log = master.log();
+        // For their clauses alone.
+        let (_length, _captured) = (log.len(), master.captured());
+        let (part, epoch) = (master.part(), master.epoch());
+        let pushed = past(log.entries(), self.length);
+        add_ops(marks, node, part, epoch, self.length, pushed);
+        if is_captured_behind(master.last_capture(), self.captured) {
+            add_capture(marks, node, master);
         }
     }
 }
@@ -195,26 +272,9 @@ fn op_requests(alloc: Global, entries: &[Entry]) -> Result<Vec<Request>, NoMemor
     Ok(requests)
 }
 
-// What a master has pushed behind that length, and the read that it has captured behind that number, if it has.
-fn add_behind(marks: &mut Line, node: NodeId, master: &Master, former: u64, captured: u64)
-    requires { HasRoomBehind former captured master.now.state marks.old.spare }
-    ensures { marks.new.marks ≡ marks.old.marks
-        ++ marks_behind node former captured (Some (Serving master.now.state)) }
-{
-    let log = master.log();
-    // For their clauses alone.
-    let (_length, _captured) = (log.len(), master.captured());
-    let (part, epoch) = (master.part(), master.epoch());
-    let pushed = past(log.entries(), former);
-    add_ops(marks, node, part, epoch, former, pushed);
-    if is_captured_behind(master.last_capture(), captured) {
-        add_capture(marks, node, master);
-    }
-}
-
 // Whether the read was captured behind that number.
 fn is_captured_behind(last: Option<&Captured>, captured: u64) -> bool
-    ensures { result ≡ is_captured_behind captured (option_copied last) }
+    ensures { result ≡ is_captured_behind captured (option_copied last.entry) }
 {
     match last {
         Some(last) => captured < last.number(),
