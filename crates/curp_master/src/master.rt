@@ -228,4 +228,11 @@ impl Master {
     {
         self.epoch
     }
+
+    /// The number of its last round.
+    pub fn round(&self) -> u64
+        ensures { result ≡ self.now.state.round }
+    {
+        self.round
+    }
 }
