@@ -9,7 +9,7 @@ use curp_cmd::{Command, Entry, NodeId, Request, RequestId};
 use curp_inv::{BackupNode, ClientNode, MasterNode, WitnessNode};
 use curp_msg::{
     Accepted, Append, AppendAnswer, Body, Collected, Core, Done, FenceReply, Gc, GcAnswer, Local,
-    Reason, Record, Recover, Refusal, Refuse, Rejected,
+    Probe, Protocol, Reason, Record, Recover, Refusal, Refuse, Rejected,
 };
 use std::alloc::Global;
 use std::process::Abort;
@@ -37,6 +37,8 @@ enum Comes {
     Freeze,
     // A collection of that epoch.
     Collect(u32, u32),
+    // A probe of that epoch.
+    Probe(u32),
     // A fresh master's order, a log of one entry, the request of one client, and the adoption.
     Recover,
     Logged,
@@ -65,6 +67,8 @@ enum Said {
     Frozen(usize),
     // A collection was of that epoch, and there are so many suspects.
     Suspects(u32, usize),
+    // Whether a witness takes requests of that epoch.
+    Probed(u32, bool),
     Another,
     Completes(u32),
     Refuses(u8),
@@ -129,7 +133,9 @@ const BACKUP: [(Comes, &[Said]); 6] = [
     ),
 ];
 
-const WITNESS: [(Comes, &[Said]); 10] = [
+const WITNESS: [(Comes, &[Said]); 13] = [
+    (Comes::Probe(1), &[Said::Probed(1, true)]),
+    (Comes::Probe(2), &[Said::Probed(2, false)]),
     (Comes::Record(1), &[Said::Accepted(1, 1)]),
     (
         Comes::Record(2),
@@ -148,6 +154,7 @@ const WITNESS: [(Comes, &[Said]); 10] = [
     (Comes::Collect(1, 1), &[Said::Suspects(1, 0)]),
     (Comes::Freeze, &[Said::Frozen(1)]),
     (Comes::Record(1), &[Said::Rejected(1, Reason::Frozen)]),
+    (Comes::Probe(1), &[Said::Probed(1, false)]),
 ];
 
 #[test]
@@ -166,7 +173,8 @@ fn a_client_completes_an_update_at_once(rt: HostRuntime) {
 
 fn client(rt: &impl Abort, alloc: Global, number: u32) -> ClientNode {
     let part = part(rt, alloc, &[NodeId::witness(1)], u64::MAX);
-    ClientNode::new(alloc, number, true, config(rt, alloc, 1, part))
+    let config = config(rt, alloc, 1, part);
+    ClientNode::new(alloc, number, true, Protocol::One, config)
 }
 
 #[test]
@@ -250,6 +258,7 @@ fn comes_from(rt: &impl Abort, alloc: Global, comes: Comes) -> (NodeId, Body) {
         }
         Comes::Append(_, _, _) | Comes::Collect(_, _) | Comes::Reply(_, _) | Comes::InProgress(_) =>
             { (NodeId::master(1), by_master(rt, alloc, comes)) }
+        Comes::Probe(epoch) => (NodeId::client(1), probe(epoch)),
         Comes::Fence(epoch) => (NodeId::master(2), Body::Fence { epoch }),
         Comes::Freeze => (NodeId::master(2), Body::Freeze { epoch: 2 }),
         Comes::Stored(length, round) => (NodeId::backup(1), stored(1, length, round)),
@@ -268,6 +277,13 @@ fn asked(rt: &impl Abort, alloc: Global, comes: Comes, client: u32) -> Body {
         Comes::Sync(_) => Body::Sync(boxed(rt, alloc, ask(request))),
         _ => Body::Record(boxed(rt, alloc, Record { request, epoch: 1 })),
     }
+}
+
+fn probe(epoch: u32) -> Body {
+    Body::Probe(Probe {
+        id: id(1, 1),
+        epoch,
+    })
 }
 
 fn by_master(rt: &impl Abort, alloc: Global, comes: Comes) -> Body {
@@ -376,6 +392,7 @@ fn said_in(body: &Body) -> Said {
         Body::Rejected(rejected) => Said::Rejected(rejected.id.client, rejected.reason),
         Body::FrozenAnswer { requests } => Said::Frozen(requests.len()),
         Body::Collected(collected) => told(collected),
+        Body::Probed(probed) => Said::Probed(probed.epoch, probed.live),
         _ => Said::Another,
     }
 }

@@ -57,7 +57,9 @@ fn answers_each_call(rt: HostRuntime) {
     let held = put_by(&rt, 1, 1, b"a", b"1");
     let idle = RecordAnswer::Rejected(Reason::Idle);
     try_hold(&rt, &mut witness, 2, &held, idle);
+    assert!(rt; !witness.probe(2));
     assert!(rt; witness.start(1, 2) == Ok(()));
+    assert!(rt; witness.probe(2) && !witness.probe(1));
     assert!(rt; witness.start(1, 2) == Err(NotIdle { mode: Mode::Normal }));
     try_calls(&rt, &mut witness, &held);
     assert_eq!(rt; witness.epoch(), Some(2));
@@ -66,7 +68,7 @@ fn answers_each_call(rt: HostRuntime) {
     }
     let frozen = RecordAnswer::Rejected(Reason::Frozen);
     try_hold(&rt, &mut witness, 2, &held, frozen);
-    assert!(rt; witness.mode() == Mode::Frozen);
+    assert!(rt; witness.mode() == Mode::Frozen && !witness.probe(2));
     assert!(rt; witness.holds(&held.id));
     drop(witness);
 }

@@ -6,9 +6,9 @@ use curp_cmd::{
 };
 use curp_msg::{
     Accepted, Adopted, Append, AppendAnswer, Appended, Ask, Body, Collected, Completed, Config,
-    FenceAnswer, FenceReply, Gc, GcAnswer, Message, Outcome, Parcel, PartConfig, Prepare, Reason,
-    Record, Recover, Recovered, Refusal, Refuse, Rejected, Reply, Start, StepResult, TakeOut,
-    Worth,
+    FenceAnswer, FenceReply, Gc, GcAnswer, Message, Outcome, Parcel, PartConfig, Prepare, Probe,
+    Probed, Quick, Reason, Record, Recover, Recovered, Refusal, Refuse, Rejected, Reply, Start,
+    StepResult, TakeOut, Worth,
 };
 use curp_range::{Ranges, Spans};
 use curp_report::{order_text, step_text};
@@ -96,6 +96,25 @@ fn worth(alloc: Global, answer: Answer) -> Result<Boxed<Worth>, NoMemory> {
     Ok(Boxed::new(alloc, worth)?)
 }
 
+fn quick(alloc: Global, answer: Answer) -> Result<Boxed<Quick>, NoMemory> {
+    let quick = Quick {
+        id: ID,
+        epoch: 5,
+        version: 7,
+        capture: 8,
+        answer,
+    };
+    Ok(Boxed::new(alloc, quick)?)
+}
+
+fn probed(live: bool) -> Body {
+    Body::Probed(Probed {
+        id: ID,
+        epoch: 5,
+        live,
+    })
+}
+
 #[test]
 fn shows_what_clients_ask(rt: HostRuntime) -> Result<(), Fail> {
     let alloc = rt.alloc();
@@ -106,6 +125,10 @@ fn shows_what_clients_ask(rt: HostRuntime) -> Result<(), Fail> {
     assert!(rt; says(alloc, delete, "sync 1.2 f2 e5 v7 delete 666f")?);
     let get = Body::Read(ask(alloc, Command::Get(key))?);
     assert!(rt; says(alloc, get, "read 1.2 f2 e5 v7 get 666f")?);
+    let glance = Body::Glance(ask(alloc, Command::Get(key))?);
+    assert!(rt; says(alloc, glance, "glance 1.2 f2 e5 v7 get 666f")?);
+    let probe = Body::Probe(Probe { id: ID, epoch: 5 });
+    assert!(rt; says(alloc, probe, "probe 1.2 e5")?);
     let incr = Body::Record(record(alloc, Command::Incr(key))?);
     assert!(rt; says(alloc, incr, "record 1.2 f2 e5 incr 666f")?);
     assert!(rt; says(alloc, Body::Fetch, "fetch")?);
@@ -122,6 +145,8 @@ fn shows_what_clients_are_answered(rt: HostRuntime) -> Result<(), Fail> {
     let found = Answer::Found(Some(Value::new(b"2")?));
     let worth = Body::Worth(worth(alloc, found)?);
     assert!(rt; says(alloc, worth, "value 1.2 e5 r8 found 32")?);
+    let quick = Body::Quick(quick(alloc, Answer::Found(None))?);
+    assert!(rt; says(alloc, quick, "quick 1.2 e5 v7 r8 none")?);
     Ok(())
 }
 
@@ -246,6 +271,8 @@ fn shows_what_a_witness_says(rt: HostRuntime) -> Result<(), Fail> {
     let alloc = rt.alloc();
     let accepted = Body::Accepted(Accepted { id: ID, epoch: 5 });
     assert!(rt; says(alloc, accepted, "accepted 1.2 e5")?);
+    assert!(rt; says(alloc, probed(true), "live 1.2 e5")?);
+    assert!(rt; says(alloc, probed(false), "not-live 1.2 e5")?);
     let suspects = collected(GcAnswer::Suspects(two_requests(alloc)?));
     assert!(rt; says(alloc, suspects, "suspects e5 3.14 1.2")?);
     let no_suspects = collected(GcAnswer::Suspects(items(alloc, &[])?));
