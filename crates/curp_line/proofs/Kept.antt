@@ -8,7 +8,7 @@ use Rattle.curp_cmd.specs.declared.command.RequestId.{RequestId}
 use Rattle.curp_model.specs.Marks.{Mark, flagged, has_completed, is_dropped, is_flagged, is_shown, shown}
 use Rattle.curp_msg.specs.declared.machine.Capture.{Capture}
 use Rattle.curp_msg.specs.declared.machine.Completed.{Completed}
-use Rattle.curp_line.specs.Slots.{asked, dropped_slot, flagged_slot, is_completed, is_kept, is_of_part, is_of_request, is_shown_slot, kept_marks}
+use Rattle.curp_line.specs.Slots.{asked, completes, dropped_slot, flagged_slot, is_completed, is_kept, is_of_part, is_of_request, is_shown_slot, kept_marks, shown_of}
 use Rattle.curp_line.specs.declared.slot.Slot.{Slot}
 use Rattle.curp_line.proofs.Links.{KeepsLinks}
 
@@ -115,10 +115,6 @@ drops_keep_links part cut = record {
 
 -- ---- what is asked of the marks
 
--- the slot has a mark by which the request has completed
-abbrev pub completes : RequestId → Slot → Bool
-completes id s = is_completed s && is_of_request id s
-
 none_of_others : (a : Bool) → (a && false) ≡ false
 none_of_others true = refl
 none_of_others false = refl
@@ -135,14 +131,14 @@ pub completed_in_slots : (id : RequestId) (slots : List Slot) → has_completed 
 completed_in_slots id [] = refl
 completed_in_slots id (s ∷ slots) = any_kept id s s.dropped slots refl (completed_in_slots id slots)
 
-shows : (s : Slot) (d b : Bool) (ss : List Slot) → s.dropped ≡ d → is_shown s.mark ≡ b → shown (kept_marks ss) ≡ map asked (filter is_shown_slot ss)
-    → shown (kept_marks (s ∷ ss)) ≡ map asked (filter is_shown_slot (s ∷ ss))
+shows : (s : Slot) (d b : Bool) (ss : List Slot) → s.dropped ≡ d → is_shown s.mark ≡ b → shown (kept_marks ss) ≡ map asked (map shown_of (filter is_shown_slot ss))
+    → shown (kept_marks (s ∷ ss)) ≡ map asked (map shown_of (filter is_shown_slot (s ∷ ss)))
 shows s true true ss d e rest = simp (e, d) rest
 shows s true false ss d e rest = simp (e, d) rest
-shows s false true ss d e rest = simp (e, d) (ap (λ (rs : List (RequestId × Command)). asked s ∷ rs) rest)
+shows s false true ss d e rest = simp (e, d) (ap (λ (rs : List (RequestId × Command)). asked (shown_of s) ∷ rs) rest)
 shows s false false ss d e rest = simp (e, d) rest
 
-pub shown_in_slots : (slots : List Slot) → shown (kept_marks slots) ≡ map asked (filter is_shown_slot slots)
+pub shown_in_slots : (slots : List Slot) → shown (kept_marks slots) ≡ map asked (map shown_of (filter is_shown_slot slots))
 shown_in_slots [] = refl
 shown_in_slots (s ∷ slots) = shows s s.dropped (is_shown s.mark) slots refl refl (shown_in_slots slots)
 

@@ -1,7 +1,17 @@
--- The marks, and for how many more there is room.
+-- What contracts see of the marks, of the slots and of the adoptions, and for how many more there is room.
 use Rattle.std.specs.Prelude.{ℕ, List}
 use Rattle.curp_model.specs.Marks.{Mark}
+use Rattle.curp_line.specs.declared.cuts.Cut.{Cut}
+use Rattle.curp_line.specs.declared.slot.Slot.{Slot}
 
 pub record Content : Type 0 where
   pub marks : List Mark
+  pub spare : ℕ
+
+pub record Slotted : Type 0 where
+  pub slots : List Slot
+  pub spare : ℕ
+
+pub record Adoptions : Type 0 where
+  pub cuts : List Cut
   pub spare : ℕ

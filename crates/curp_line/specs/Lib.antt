@@ -1,3 +1,4 @@
 pub mod Content
+pub mod Cuts
 pub mod Slots
 pub mod Standing

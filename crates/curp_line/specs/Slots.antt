@@ -1,12 +1,16 @@
--- The slots in which the marks stand, and how those of one request, and those of one partition, are found.
-use Rattle.std.specs.Prelude.{◌≡◌, ℕ, suc, ◌==◌, ◌&&◌, if◌then◌else◌, Bool, true, not, List, [], ◌∷◌, map, take, Option, Some, None}
+-- The slots in which the marks of requests stand, between those of adoptions, and how those of one request, and those of
+-- one partition, are found.
+use Rattle.std.specs.Prelude.{◌≡◌, ℕ, zero, suc, ◌≤◌, ◌==◌, ◌&&◌, if◌then◌else◌, Bool, true, false, not, List, [], ◌∷◌, ◌++◌, map, take, Option, Some, None}
 use Rattle.std.specs.List.{filter}
 use Rattle.curp_base.specs.Words.{At}
 use Rattle.curp_cmd.specs.RequestId.{same_id}
 use Rattle.curp_cmd.specs.declared.command.Command.{Command}
 use Rattle.curp_cmd.specs.declared.command.RequestId.{RequestId}
-use Rattle.curp_model.specs.Marks.{Mark, is_dropped, is_flagged, is_shown}
+use Rattle.curp_model.specs.Marks.{Mark, is_cut, is_dropped, is_flagged, is_shown}
 use Rattle.curp_msg.specs.declared.machine.Completed.{Completed}
+use Rattle.curp_line.specs.Cuts.{mark_of}
+use Rattle.curp_line.specs.declared.cuts.Cut.{Cut}
+use Rattle.curp_line.specs.declared.slot.ShownMark.{ShownMark}
 use Rattle.curp_line.specs.declared.slot.Slot.{Slot}
 
 -- ---- marks
@@ -35,9 +39,38 @@ is_completed s = is_kept s && s.mark.completed
 abbrev pub is_shown_slot : Slot → Bool
 is_shown_slot s = is_kept s && is_shown s.mark
 
--- what the slot's mark is of
-abbrev pub asked : Slot → RequestId × Command
-asked s = (s.mark.id, s.mark.command)
+-- the slot has a mark by which the request has completed
+abbrev pub completes : RequestId → Slot → Bool
+completes id s = is_completed s && is_of_request id s
+
+-- what the slot's mark is of, and where it stands
+abbrev pub shown_of : Slot → ShownMark
+shown_of s = record { cuts_before = s.cuts_before; id = s.mark.id; command = s.mark.command }
+
+-- what it is of
+abbrev pub asked : ShownMark → RequestId × Command
+asked s = (s.id, s.command)
+
+-- ---- the order
+
+-- those whose key is n, then those whose key is one more, and so on, so many times more
+abbrev pub in_runs : {A : Type 0} → (A → ℕ) → ℕ → ℕ → List A → List A
+in_runs key n zero xs = filter (λ x. key x == n) xs
+in_runs key n (suc more) xs = filter (λ x. key x == n) xs ++ in_runs key (suc n) more xs
+
+-- the marks that stand behind so many adoptions
+abbrev pub marks_behind : ℕ → List Slot → List Mark
+marks_behind n slots = kept_marks (filter (λ s. s.cuts_before == n) slots)
+
+-- the marks behind so many adoptions, then the mark of the next one, and so on: what came late stands before it
+abbrev pub marks_from : ℕ → List Cut → List Slot → List Mark
+marks_from n [] slots = marks_behind n slots
+marks_from n (c ∷ cuts) slots = marks_behind n slots ++ mark_of c ∷ marks_from (suc n) cuts slots
+
+-- it stands behind so many adoptions at most, and is the slot of a request's mark
+pub record StandsWithin (cuts : ℕ) (s : Slot) : Type 0 where
+  pub within : s.cuts_before ≤ cuts
+  pub of_request : is_cut s.mark.place ≡ false
 
 -- ---- places
 
@@ -67,6 +100,16 @@ pub record IsLinked (of_request : RequestId → Option ℕ) (of_part : ℕ → O
   pub latest_of_part : (part : ℕ) → of_part part ≡ last_place (is_of_part part) slots
 
 -- ---- what happens to slots
+
+-- one more slot, with a mark that stands behind so many adoptions
+abbrev pub with_slot : Mark → ℕ → List Slot → List Slot
+with_slot mark cuts_before slots = slots ++ record {
+  mark = mark;
+  cuts_before = cuts_before;
+  dropped = false;
+  earlier_of_request = last_place (is_of_request mark.id) slots;
+  earlier_of_part = last_place (is_of_part mark.part) slots;
+} ∷ []
 
 -- a completion flags the slot's mark, if it is meant
 abbrev pub flagged_slot : Completed → Slot → Slot

@@ -1,13 +1,18 @@
-//! The marks of which the order that the world shows is made: an update's at its index in a log, a read's at a capture.
+//! The marks of which the order that the world shows is made: an update's at its index in a log, a read's at a capture
+//! or where it was answered at once, and an adoption's.
 //!
-//! `executed`, `looked`, `completed`, `adopted`, `order`: exact over the list of marks (`Marks.antt` of `curp_model`).
-//! The first four take no memory; `reserve` makes the room that they ask for. A completion looks at the marks of its
-//! request alone, and an adoption at those of its partition and of the requests that are replayed.
+//! `executed`, `looked`, `quick`, `completed`, `adopted`, `order`: exact over the list of marks (`Marks.antt` of
+//! `curp_model`). All but `order` take no memory; `reserve` makes the room that they ask for. A completion looks at the
+//! marks of its request alone, an adoption at those of its partition and of the requests that are replayed, and a read
+//! that was answered at once at none: it finds the adoption that it stands before by a binary search of the epochs.
 #![tactic(auto)]
 
+mod cuts;
+mod epochs;
 mod key;
 mod line;
 mod mark;
 mod slot;
+mod slots;
 
 pub use line::Line;

@@ -1,49 +1,46 @@
-ghost use Rattle.std.specs.Prelude.{◌≡◌, ◌+◌, ◌<◌, ◌≤◌, ◌^◌, [], ◌∷◌, ◌++◌, length, filter, not, IfOk, OnOk};
-ghost use Rattle.curp_model.specs.Marks.{adopted, executed, flagged, has_completed, is_dropped, looked, shown};
+ghost use Rattle.std.specs.Prelude.{◌≡◌, ◌+◌, ◌<◌, ◌≤◌, ◌^◌, [], ◌∷◌, ◌++◌, false, length, filter, not, IfOk, OnOk};
+ghost use Rattle.curp_model.specs.Marks.{adopted, adoptions, cut_mark, executed, flagged, has_completed, is_cut};
+ghost use Rattle.curp_model.specs.Marks.{is_dropped, looked, quick, replayed_marks, shown, with_quick};
 
-use crate::key::RequestKey;
+use crate::cuts::Cuts;
 use crate::mark::{KeptMark, MarkPlace};
-use crate::slot::{Slot, drop_marks, flag_marks, has_completed, shown};
+use crate::slot::in_order;
+use crate::slots::Slots;
 use curp_base::NoMemory;
 use curp_cmd::{Command, NodeId, Request, RequestId};
 use curp_msg::Completed;
 use std::alloc::Global;
-use std::collections::HashMap;
 use std::marker::Model;
 
-/// The marks of which the order that the world shows is made, in the order in which they came: an update's at its index
-/// in a log, and a read's at a capture. Contracts see them, and for how many more there is room.
+/// The marks of which the order that the world shows is made, in that order: an update's at its index in a log, a read's
+/// at a capture or where it was answered at once, and an adoption's. Contracts see them, and for how many more there is
+/// room.
 ///
-/// The marks of one request, and those of one partition, are found from the last one back to the first (this project's
-/// own choice). A mark that an adoption drops leaves its place behind, so the memory taken is that of all marks that
-/// ever came.
+/// The marks of requests and those of adoptions are kept apart, in the order in which they came. A mark of a request
+/// tells how many of the adoptions it stands behind, so that one which comes late, before an adoption, moves no other
+/// (this project's own choice). A mark that an adoption drops leaves its place behind, so the memory taken is that of all
+/// marks that ever came.
 #[derive(Drop)]
 pub struct Line {
     alloc: Global,
-    slots: Vec<Slot>,
-    // The last slot of each request, and of each partition.
-    requests: HashMap<RequestKey, usize>,
-    parts: HashMap<u32, usize>,
+    slots: Slots,
+    cuts: Cuts,
 }
 
 impl Model for Line {
-    ghost use Rattle.std.specs.Prelude.{◌==◌, ◌-◌, min, vec_len, vec_capacity};
-    ghost use Rattle.std.specs.HashMap.{get, spare};
-    ghost use Rattle.curp_cmd.specs.RequestId.{same_id};
+    ghost use Rattle.std.specs.Prelude.{length, min};
+    ghost use Rattle.curp_base.specs.Words.{Each};
     ghost use Rattle.curp_line.specs.Content.{Content};
-    ghost use Rattle.curp_line.specs.Slots.{IsLinked, kept_marks};
+    ghost use Rattle.curp_line.specs.Slots.{StandsWithin, marks_from};
 
     ghost Value = { Content };
 
     ghost view = { λ l. record {
-      marks = kept_marks l.slots.items;
-      spare = min (vec_capacity l.slots - vec_len l.slots) (min (spare l.requests) (spare l.parts));
+      marks = marks_from 0 l.cuts.cuts l.slots.slots;
+      spare = min l.slots.spare l.cuts.spare;
     } };
 
-    ghost invariant = { λ l. IsLinked
-        (λ id. get (λ a b. same_id a.0 b.0) l.requests (record { 0 = id }))
-        (λ part. get (λ a b. a == b) l.parts part)
-        l.slots.items };
+    ghost invariant = { λ l. Each (StandsWithin (length l.cuts.cuts)) l.slots.slots };
 }
 
 impl Line {
@@ -53,9 +50,8 @@ impl Line {
     {
         Line {
             alloc,
-            slots: Vec::new(alloc),
-            requests: HashMap::new(alloc),
-            parts: HashMap::new(alloc),
+            slots: Slots::new(alloc),
+            cuts: Cuts::new(alloc),
         }
     }
 
@@ -67,8 +63,7 @@ impl Line {
         ensures kept { self.old.spare ≤ self.new.spare }
     {
         self.slots.reserve(marks as usize)?;
-        self.requests.reserve(marks as usize)?;
-        self.parts.reserve(marks as usize)
+        self.cuts.reserve(marks as usize)
     }
 
     /// Adds the mark of an update that the master pushed, at its index in the log. It takes no memory, since there is
@@ -110,27 +105,92 @@ impl Line {
         self.push(KeptMark::new(master, part, epoch, place, id, command));
     }
 
+    /// Adds the mark of a read that the master answered at once: before the partition's first adoption behind that of the
+    /// master, and to the end where there is none. It takes no memory, since there is room, and looks at no other mark.
+    pub fn quick(
+        &mut self,
+        master: NodeId,
+        part: u32,
+        epoch: u32,
+        capture: u64,
+        id: RequestId,
+        command: Command,
+    )
+        requires { 1 ≤ self.old.spare }
+        ensures marks { self.new.marks ≡ with_quick (quick master part epoch capture id command) self.old.marks }
+        ensures spare { self.old.spare ≤ self.new.spare + 1 }
+    {
+        let cuts_before = self.cuts.place_behind(part, epoch);
+        let place = MarkPlace::Quick { capture };
+        let mark = KeptMark::new(master, part, epoch, place, id, command);
+        self.slots.push(mark, cuts_before);
+    }
+
     /// Flags the mark by which a request has completed: an update's marks, or the mark of the capture whose value
     /// completed a read. It takes no memory, and looks at the marks of that request alone.
     pub fn completed(&mut self, completed: &Completed)
         ensures marks { self.new.marks ≡ flagged completed.now self.old.marks }
         ensures spare { self.new.spare ≡ self.old.spare }
     {
-        let latest = self.requests.get(&RequestKey(completed.id)).copied();
-        flag_marks(&mut self.slots, latest, completed);
+        self.slots.flag(completed);
     }
 
     /// A master is adopted for the partition, of that epoch, with the log that was recovered, whose length is the cut,
-    /// and the replayed requests behind it. The partition's marks that aren't completed and didn't reach that log go, and
-    /// each replayed request that isn't completed gets a mark at its index in the new log. It takes no memory, since
-    /// there is room, and looks at the marks of that partition and of those requests alone.
+    /// and the replayed requests behind it. The partition's marks that aren't completed and didn't reach that log go, the
+    /// adoption gets a mark behind what is left, and each replayed request that isn't completed one at its index in the
+    /// new log. It takes no memory, since there is room, and looks at the marks of that partition and of those requests
+    /// alone.
     pub fn adopted(&mut self, master: NodeId, part: u32, epoch: u32, cut: u64, replayed: &[Request])
-        requires room { length replayed.now ≤ self.old.spare }
+        requires room { 1 + length replayed.now ≤ self.old.spare }
         requires fits { cut + length replayed.now < 2 ^ 64 }
         ensures marks { self.new.marks ≡ adopted master part epoch cut replayed.now self.old.marks }
-        ensures spare { self.old.spare ≤ self.new.spare + length replayed.now }
+        ensures spare { self.old.spare ≤ self.new.spare + 1 + length replayed.now }
     {
         self.drop_past(part, cut);
+        self.cut(master, part, epoch, cut);
+        self.replay(master, part, epoch, cut, replayed);
+    }
+
+    /// The requests in the order that the world shows: all updates, and each completed read where its value was captured
+    /// or where it was answered at once. It looks at all marks that ever came, and sorts what it shows.
+    pub fn order(&self) -> Result<Vec<(RequestId, Command)>, NoMemory>
+        ensures { IfOk result (λ order. order.items ≡ shown self.now.marks) }
+    {
+        let shown = self.slots.shown(self.alloc)?;
+        in_order(self.alloc, shown)
+    }
+
+    fn push(&mut self, mark: KeptMark)
+        requires room { 1 ≤ self.old.spare }
+        requires of_request { is_cut mark.place ≡ false }
+        ensures marks { self.new.marks ≡ self.old.marks ++ mark ∷ [] }
+        ensures spare { self.old.spare ≤ self.new.spare + 1 }
+    {
+        let cuts_before = self.cuts.len();
+        self.slots.push(mark, cuts_before);
+    }
+
+    fn cut(&mut self, master: NodeId, part: u32, epoch: u32, length: u64)
+        requires { 1 ≤ self.old.spare }
+        ensures marks { self.new.marks ≡ self.old.marks ++ cut_mark master part epoch (adoptions part self.old.marks + 1) length ∷ [] }
+        ensures spare { self.old.spare ≤ self.new.spare + 1 }
+    {
+        self.cuts.add(master, part, epoch, length);
+    }
+
+    fn drop_past(&mut self, part: u32, cut: u64)
+        ensures marks { self.new.marks ≡ filter (λ m. not (is_dropped part cut m)) self.old.marks }
+        ensures spare { self.new.spare ≡ self.old.spare }
+    {
+        self.slots.drop_past(part, cut);
+    }
+
+    fn replay(&mut self, master: NodeId, part: u32, epoch: u32, cut: u64, replayed: &[Request])
+        requires room { length replayed.now ≤ self.old.spare }
+        requires fits { cut + length replayed.now < 2 ^ 64 }
+        ensures marks { self.new.marks ≡ replayed_marks master part epoch cut replayed.now self.old.marks }
+        ensures spare { self.old.spare ≤ self.new.spare + length replayed.now }
+    {
         for (at, request) in replayed.iter().enumerate() {
             if !self.has_completed(&request.id) {
                 let index = cut + at as u64;
@@ -139,42 +199,9 @@ impl Line {
         }
     }
 
-    /// The requests in the order that the world shows: all updates, and each completed read where its value was captured.
-    /// It looks at all marks that ever came.
-    pub fn order(&self) -> Result<Vec<(RequestId, Command)>, NoMemory>
-        ensures { IfOk result (λ order. order.items ≡ shown self.now.marks) }
-    {
-        shown(self.alloc, &self.slots)
-    }
-
-    fn push(&mut self, mark: KeptMark)
-        requires { 1 ≤ self.old.spare }
-        ensures marks { self.new.marks ≡ self.old.marks ++ mark ∷ [] }
-        ensures spare { self.old.spare ≤ self.new.spare + 1 }
-    {
-        let at = self.slots.len();
-        let of_request: Result<_, _> = self.requests.insert(RequestKey(mark.id()), at);
-        let of_part: Result<_, _> = self.parts.insert(mark.part(), at);
-        self.slots.push_reserved(Slot {
-            mark,
-            dropped: false,
-            earlier_of_request: of_request.unwrap(),
-            earlier_of_part: of_part.unwrap(),
-        });
-    }
-
-    fn drop_past(&mut self, part: u32, cut: u64)
-        ensures marks { self.new.marks ≡ filter (λ m. not (is_dropped part cut m)) self.old.marks }
-        ensures spare { self.new.spare ≡ self.old.spare }
-    {
-        let latest = self.parts.get(&part).copied();
-        drop_marks(&mut self.slots, latest, part, cut);
-    }
-
     fn has_completed(&self, id: &RequestId) -> bool
         ensures { result ≡ has_completed self.now.marks id.now }
     {
-        let latest = self.requests.get(&RequestKey(*id)).copied();
-        has_completed(&self.slots, latest, id)
+        self.slots.has_completed(id)
     }
 }

@@ -13,6 +13,8 @@ pub enum MarkPlace {
     Executed { index: u64 },
     /// A read, at the capture of that number, made when the log had that length.
     Looked { capture: u64, length: u64 },
+    /// A read that was answered at once, at the capture of that number.
+    Quick { capture: u64 },
 }
 
 /// A mark that is kept.
@@ -116,7 +118,7 @@ impl KeptMark {
         }
         match (completed.by, self.place) {
             (None, MarkPlace::Executed { .. }) => true,
-            (Some(by), MarkPlace::Looked { capture, .. }) => {
+            (Some(by), MarkPlace::Looked { capture, .. } | MarkPlace::Quick { capture }) => {
                 self.master == by.master && self.epoch == by.epoch && capture == by.number
             }
             _ => false,
@@ -130,6 +132,7 @@ impl KeptMark {
         let is_past = match self.place {
             MarkPlace::Executed { index } => cut <= index,
             MarkPlace::Looked { length, .. } => cut < length,
+            MarkPlace::Quick { .. } => false,
         };
         self.part == part && !self.completed && is_past
     }

@@ -1,7 +1,8 @@
-ghost use Rattle.std.specs.Prelude.{◌≡◌, filter, map, IfOk};
-ghost use Rattle.curp_model.specs.Marks.{has_completed};
-ghost use Rattle.curp_line.specs.Slots.{PartsLinked, RequestsLinked, asked, dropped_slot, flagged_slot, is_completed};
-ghost use Rattle.curp_line.specs.Slots.{is_of_part, is_of_request, is_shown_slot, kept_marks, last_place};
+ghost use Rattle.std.specs.Prelude.{◌≡◌, ◌≤◌, ℕ, filter, map, IfOk};
+ghost use Rattle.std.specs.List.{list_any};
+ghost use Rattle.curp_base.specs.Words.{Each};
+ghost use Rattle.curp_line.specs.Slots.{PartsLinked, RequestsLinked, asked, completes, dropped_slot, flagged_slot, in_runs};
+ghost use Rattle.curp_line.specs.Slots.{is_completed, is_of_part, is_of_request, is_shown_slot, last_place, shown_of};
 
 use crate::mark::KeptMark;
 use curp_base::NoMemory;
@@ -14,9 +15,19 @@ use std::alloc::Global;
 #[derive(Drop)]
 pub struct Slot {
     pub mark: KeptMark,
+    /// How many of the adoptions the mark stands behind.
+    pub cuts_before: usize,
     pub dropped: bool,
     pub earlier_of_request: Option<usize>,
     pub earlier_of_part: Option<usize>,
+}
+
+/// What a mark that the order shows is of, and how many of the adoptions it stands behind.
+#[derive(Clone, Copy)]
+pub struct ShownMark {
+    pub cuts_before: usize,
+    pub id: RequestId,
+    pub command: Command,
 }
 
 impl Slot {
@@ -52,23 +63,44 @@ impl Slot {
         !self.dropped && self.mark.is_shown()
     }
 
-    /// What its mark is of.
-    pub fn asked(&self) -> (RequestId, Command)
-        ensures { result ≡ asked self.now }
+    /// What its mark is of, and where it stands.
+    pub fn shown(&self) -> ShownMark
+        ensures { result ≡ shown_of self.now }
     {
-        (self.mark.id(), self.mark.command())
+        ShownMark {
+            cuts_before: self.cuts_before,
+            id: self.mark.id(),
+            command: self.mark.command(),
+        }
     }
 }
 
-/// What the marks that the order shows are of.
-pub fn shown(alloc: Global, slots: &[Slot]) -> Result<Vec<(RequestId, Command)>, NoMemory>
-    ensures { IfOk result (λ order. order.items ≡ map asked (filter is_shown_slot slots.now)) }
+/// What the marks that the order shows are of, in the order in which they came.
+pub fn shown(alloc: Global, slots: &[Slot]) -> Result<Vec<ShownMark>, NoMemory>
+    ensures { IfOk result (λ shown. shown.items ≡ map shown_of (filter is_shown_slot slots.now)) }
 {
-    let mut order = Vec::new(alloc);
+    let mut shown = Vec::new(alloc);
     for slot in slots {
         if slot.is_shown() {
-            order.push(slot.asked())?;
+            shown.push(slot.shown())?;
         }
+    }
+    Ok(shown)
+}
+
+/// What the marks are of, in the order in which they stand: those behind fewer adoptions first, and those between the
+/// same two as they came.
+pub fn in_order(
+    alloc: Global,
+    mut shown: Vec<ShownMark>,
+) -> Result<Vec<(RequestId, Command)>, NoMemory>
+    ensures { IfOk result (λ order. (cuts : ℕ) → Each (λ s. s.cuts_before ≤ cuts) shown.items
+        → order.items ≡ map asked (in_runs (λ s. s.cuts_before) 0 cuts shown.items)) }
+{
+    shown.sort_by_key(|mark| mark.cuts_before)?;
+    let mut order = Vec::new(alloc);
+    for mark in &shown {
+        order.push((mark.id, mark.command))?;
     }
     Ok(order)
 }
@@ -107,7 +139,7 @@ pub fn drop_marks(slots: &mut [Slot], latest: Option<usize>, part: u32, cut: u64
 pub fn has_completed(slots: &[Slot], latest: Option<usize>, id: &RequestId) -> bool
     requires linked { RequestsLinked slots.now }
     requires latest { latest ≡ last_place (is_of_request id.now) slots.now }
-    ensures { result ≡ has_completed (kept_marks slots.now) id.now }
+    ensures { result ≡ list_any (completes id.now) slots.now }
 {
     let mut next = latest;
     while let Some(at) = next {

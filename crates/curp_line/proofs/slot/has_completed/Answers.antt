@@ -1,8 +1,8 @@
 use Rattle.std.proofs.Common.{◌≡◌, ◌&&◌, Bool, true, false, refl, get_or, take, sym, ap, subst, ◌∙◌, arith}
 use Rattle.std.specs.List.{list_any}
-use Rattle.curp_line.specs.Slots.{is_completed, is_of_request}
+use Rattle.curp_line.specs.Slots.{completes, is_completed, is_of_request}
 use Rattle.curp_line.specs.declared.slot.Slot.{Slot}
-use Rattle.curp_line.proofs.Kept.{completed_in_slots, completes, other_completes_none}
+use Rattle.curp_line.proofs.Kept.{other_completes_none}
 use Rattle.curp_line.proofs.Links.{requests_chain}
 use Rattle.curp_line.proofs.Places.{HasPassed, last_is_place, look_begins, place_passes, place_within, reach, walk_finds, walk_passes}
 use Rattle.curp_line.proofs.slot.has_completed.Goals as goal
@@ -28,7 +28,7 @@ returns-then-is_completed c =
     let completed : is_completed (get_or c.args.slots.now c.in-Some.at c.index-slots-at.result) ≡ true = rw (← c.index-slots-at.is) (sym c.is_completed.ensures ∙ c.if-is_completed.true) in
     let here : completes c.args.id.now (get_or c.args.slots.now c.in-Some.at c.index-slots-at.result) ≡ true = both _ _ completed its in
     let found = walk_finds (is_of_request c.args.id.now) (λ (s : Slot). s.earlier_of_request) (completes c.args.id.now) c.args.slots.now c.loop-next.next c.in-Some.at c.index-slots-at.result c.in-Some.is c.loop-next.invariant.next here in
-    sym (completed_in_slots c.args.id.now c.args.slots.now ∙ found)
+    sym found
 
 walked : (c : goal.After-next-in-Some-1) → HasPassed (is_of_request c.args.id.now) (λ (s : Slot). s.earlier_of_request) (completes c.args.id.now) c.args.slots.now c.in-Some.at c.index-slots-at.result
 walked c =
@@ -48,5 +48,5 @@ loop-next-preserved c = let w = walked c in record { next = w.next; left = w.lef
 -- no slot is left
 pub returns : goal.returns
 returns c =
-    sym (completed_in_slots c.args.id.now c.args.slots.now ∙ c.loop-next.invariant.left
+    sym (c.loop-next.invariant.left
     ∙ ap (λ r. list_any (completes c.args.id.now) (take (reach r) c.args.slots.now)) c.in_default.is)

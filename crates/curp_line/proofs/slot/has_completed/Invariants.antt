@@ -1,7 +1,6 @@
 use Rattle.std.proofs.Common.{◌≡◌, take}
 use Rattle.std.specs.List.{list_any}
-use Rattle.curp_line.specs.Slots.{is_of_request}
-use Rattle.curp_line.proofs.Kept.{completes}
+use Rattle.curp_line.specs.Slots.{completes, is_of_request}
 use Rattle.curp_line.proofs.Places.{IsPlace, reach}
 use Rattle.curp_line.proofs.slot.has_completed.Given as goal
 
