@@ -22,14 +22,6 @@ pub struct Slot {
     pub earlier_of_part: Option<usize>,
 }
 
-/// What a mark that the order shows is of, and how many of the adoptions it stands behind.
-#[derive(Clone, Copy)]
-pub struct ShownMark {
-    pub cuts_before: usize,
-    pub id: RequestId,
-    pub command: Command,
-}
-
 impl Slot {
     /// Flags the mark, if the completion means it.
     pub fn flag(&mut self, completed: &Completed)
@@ -73,6 +65,14 @@ impl Slot {
             command: self.mark.command(),
         }
     }
+}
+
+/// What a mark that the order shows is of, and how many of the adoptions it stands behind.
+#[derive(Clone, Copy)]
+pub struct ShownMark {
+    pub cuts_before: usize,
+    pub id: RequestId,
+    pub command: Command,
 }
 
 /// What the marks that the order shows are of, in the order in which they came.

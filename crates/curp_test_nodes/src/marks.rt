@@ -17,6 +17,11 @@ const SECOND: NodeId = NodeId {
     number: 2,
 };
 
+const THIRD: NodeId = NodeId {
+    kind: NodeKind::Master,
+    number: 3,
+};
+
 fn update(rt: &impl Abort) -> Command {
     Command::Incr(key(rt, b"k"))
 }
@@ -85,7 +90,7 @@ fn marked(rt: &impl Abort, alloc: Global) -> Line {
 fn an_adoption_keeps_what_completed_or_was_recovered(rt: HostRuntime) {
     let mut line = marked(&rt, rt.alloc());
     updated(&mut line, id(1, 2));
-    must(&rt, line.reserve(2));
+    must(&rt, line.reserve(3));
     let both = [replayed(&rt, id(2, 2)), replayed(&rt, id(1, 2))];
     line.adopted(SECOND, 1, 2, 2, &both);
     let order = [id(1, 1), id(2, 1), id(1, 2), id(2, 2)];
@@ -93,6 +98,59 @@ fn an_adoption_keeps_what_completed_or_was_recovered(rt: HostRuntime) {
     read_by(&mut line, id(3, 2), 2);
     read_by(&mut line, id(3, 1), 1);
     let order = [id(1, 1), id(2, 1), id(3, 1), id(1, 2), id(2, 2)];
+    assert!(rt; ids(&rt, rt.alloc(), &line).as_slice() == order.as_slice());
+}
+
+// The master adopts the partition in that epoch, and replays one update.
+fn adopted(rt: &impl Abort, line: &mut Line, master: NodeId, epoch: u32, id: RequestId) {
+    must(rt, line.reserve(2));
+    line.adopted(master, 1, epoch, u64::from(epoch), &[replayed(rt, id)]);
+}
+
+// The master answers a read at once, by which it completes.
+fn read_at_once(rt: &impl Abort, line: &mut Line, by: Capture, id: RequestId) {
+    must(rt, line.reserve(1));
+    line.quick(by.master, 1, by.epoch, by.number, id, read(rt));
+    line.completed(&Completed {
+        id,
+        answer: Answer::Found(None),
+        by: Some(by),
+    });
+}
+
+// Masters whose partition is adopted again answer reads at once: each comes before the first adoption behind that of its
+// master, in the order in which they came, and one of the last master to the end.
+#[test]
+fn a_read_at_once_comes_before_the_adoption_behind_its_master(rt: HostRuntime) {
+    let mut line = Line::new(rt.alloc());
+    executed(&rt, &mut line, 1, 0, id(1, 1));
+    adopted(&rt, &mut line, SECOND, 2, id(2, 1));
+    executed(&rt, &mut line, 2, 0, id(1, 2));
+    adopted(&rt, &mut line, THIRD, 3, id(2, 2));
+    let reads = [
+        (FIRST, 1, 1, id(3, 1)),
+        (SECOND, 2, 1, id(3, 2)),
+        (FIRST, 1, 2, id(3, 3)),
+        (THIRD, 3, 1, id(3, 4)),
+    ];
+    for (master, epoch, number, id) in reads {
+        let by = Capture {
+            master,
+            epoch,
+            number,
+        };
+        read_at_once(&rt, &mut line, by, id);
+    }
+    let order = [
+        id(1, 1),
+        id(3, 1),
+        id(3, 3),
+        id(2, 1),
+        id(1, 2),
+        id(3, 2),
+        id(2, 2),
+        id(3, 4),
+    ];
     assert!(rt; ids(&rt, rt.alloc(), &line).as_slice() == order.as_slice());
 }
 
@@ -118,7 +176,7 @@ fn ten_thousand(rt: &impl Abort, alloc: Global) -> Line {
 fn holds_ten_thousand_marks(rt: HostRuntime) {
     let mut line = ten_thousand(&rt, rt.alloc());
     for n in 0..64_u32 {
-        must(&rt, line.reserve(2));
+        must(&rt, line.reserve(3));
         let cut = u64::from(1_000 + n);
         let both = [
             replayed(&rt, nth(9_998 - 4 * n)),
