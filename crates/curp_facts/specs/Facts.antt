@@ -1,6 +1,6 @@
 -- What holds after every step, as statements. From the facts about messages and nodes it follows that any one pair of a
 -- backup and a witness of an adopted list is enough to recover from (this project's own).
-use Rattle.std.specs.Prelude.{◌≡◌, ◌≤◌, ◌<◌, ◌⊎◌, ℕ, ◌+◌, Bool, true, false, List, length, take, drop, Option, Some, None, ⊤}
+use Rattle.std.specs.Prelude.{◌≡◌, ◌≢◌, ◌≤◌, ◌<◌, ◌⊎◌, ℕ, ◌+◌, ◌==◌, if◌then◌else◌, Bool, true, false, List, [], ◌∷◌, length, take, drop, Option, Some, None, ⊤}
 use Rattle.curp_base.specs.Words.{At, Each, IsPrefix, numbered}
 use Rattle.curp_cmd.specs.declared.command.Answer.{Answer}
 use Rattle.curp_cmd.specs.declared.command.Request.{Request}
@@ -27,13 +27,13 @@ use Rattle.curp_msg.specs.declared.body.TakeOut.{TakeOut}
 use Rattle.curp_msg.specs.declared.config.Config.{Config}
 use Rattle.curp_msg.specs.declared.config.PartConfig.{PartConfig}
 use Rattle.curp_msg.specs.declared.message.Message.{Message}
-use Rattle.curp_range.specs.Spans.{Span, with_range, without}
+use Rattle.curp_range.specs.Spans.{Span, is_covered, with_range, without}
 use Rattle.curp_model.specs.declared.Mode.TheVariants as mode
 use Rattle.curp_model.specs.Backup.{BackupState}
 use Rattle.curp_model.specs.Client.{Attempt, ClientState, Pending}
 use Rattle.curp_model.specs.Log.{IsDone, Stands}
 use Rattle.curp_model.specs.Manager as manager
-use Rattle.curp_model.specs.Manager.{ManagerState, Doing, opening_config}
+use Rattle.curp_model.specs.Manager.{Doing, Shape, opening_config}
 use Rattle.curp_model.specs.Master.{MasterState}
 use Rattle.curp_model.specs.Named.{IsBackup, IsMaster, IsNode, IsWitness}
 use Rattle.curp_msg.specs.Moved.{says}
@@ -145,14 +145,45 @@ pub record WasOrdered (w : World) (part : ℕ) (b : Body) : Type 0 where
   pub is : IsMasterOf w part node
   pub sent : WasSent w (says manager_node node b)
 
--- the ranges of a partition at some time: those of the opening, without what was ordered to be taken out of it, and with what
--- was ordered to be taken out of another one
-pub data WereRanges (w : World) : ℕ → List Span → Type 0 where
-  Opened : (k : ℕ) (c : PartConfig) → At (opening_config w.manager.shape).parts k c → WereRanges w c.part c.ranges
-  TakenFrom : (part : ℕ) (spans : List Span) (order : TakeOut) → WereRanges w part spans → WasOrdered w part (body.TakeOut order)
-      → WereRanges w part (without spans order.lo order.hi)
-  GivenTo : (part other : ℕ) (spans : List Span) (order : TakeOut) → WereRanges w part spans → WasOrdered w other (body.TakeOut order)
-      → WereRanges w part (with_range spans order.lo order.hi)
+-- ---- the ranges of partitions
+
+-- the migration of that number: its range was ordered to be taken out of its source, and what was taken to be given to its target
+pub record WasMigrated (w : World) (number : ℕ) : Type 0 where
+  pub source : ℕ
+  pub target : ℕ
+  pub apart : source ≢ target
+  pub order : TakeOut
+  pub ordered : WasOrdered w source (body.TakeOut order)
+  pub its_order : order.migration ≡ number
+  pub parcel : Parcel
+  pub given : WasOrdered w target (body.GiveIn parcel)
+  pub its_parcel : parcel.migration ≡ number
+
+-- the ranges of each partition at the opening
+abbrev pub ranges_at_first : Shape → ℕ → List Span
+ranges_at_first s part = ((opening_range s.parts part).lo, (opening_range s.parts part).hi) ∷ []
+
+-- the range has gone from the one partition to the other
+abbrev pub ranges_moved : ℕ → ℕ → TakeOut → (ℕ → List Span) → ℕ → List Span
+ranges_moved source target order ranges part =
+    if part == source then without (ranges part) order.lo order.hi
+    else if part == target then with_range (ranges part) order.lo order.hi
+    else ranges part
+
+-- The ranges of each partition after the migrations 1 to n: those of the opening, of which each migration has brought its range from its
+-- source, which had all of it, to its target
+pub data RangesAfter (w : World) : ℕ → (ℕ → List Span) → Type 0 where
+  AtFirst : RangesAfter w 0 (ranges_at_first w.manager.shape)
+  Migrated : (n : ℕ) (ranges : ℕ → List Span) → RangesAfter w n ranges → (m : WasMigrated w (n + 1))
+      → is_covered (ranges m.source) m.order.lo m.order.hi ≡ true
+      → RangesAfter w (n + 1) (ranges_moved m.source m.target m.order ranges)
+
+-- all entries of a configuration have the ranges after the same migrations
+pub record HasRanges (w : World) (config : Config) : Type 0 where
+  pub count : ℕ
+  pub ranges : ℕ → List Span
+  pub after : RangesAfter w count ranges
+  pub has : Each (λ (c : PartConfig). c.ranges ≡ ranges c.part) config.parts
 
 -- ---- completable, and good pairs
 
@@ -375,14 +406,14 @@ pub record PreparedOk (w : World) (from : NodeId) (version : ℕ) : Type 0 where
   pub on_all : Each (λ node. (b : BackupState) → IsBackup w node b → IsPrefix (take long l.log) b.log) lists.backups
   pub since : (m : MasterState) → IsMaster w from (Serving m) → m.version < version → Each IsOnlyExpire (drop long m.log)
 
--- an entry of a configuration was adopted, with ranges that its partition had
-pub record EntryWas (w : World) (c : PartConfig) : Type 0 where
-  pub adopted : WasAdopted w (lists_of_part c)
-  pub ranges : WereRanges w c.part c.ranges
+-- an entry of a configuration was adopted
+abbrev pub EntryWas : World → PartConfig → Type 0
+EntryWas w c = WasAdopted w (lists_of_part c)
 
--- each entry of a configuration is one that was adopted
-abbrev pub ConfigOk : World → Config → Type 0
-ConfigOk w config = Each (EntryWas w) config.parts
+-- each entry of a configuration was adopted, and all have the ranges after the same migrations
+pub record ConfigOk (w : World) (config : Config) : Type 0 where
+  pub entries : Each (EntryWas w) config.parts
+  pub ranges : HasRanges w config
 
 -- it is a master that had lists of that epoch, and of that version
 pub record Speaks (w : World) (from : NodeId) (epoch version : ℕ) : Type 0 where
@@ -483,9 +514,11 @@ pub record AttemptWas (w : World) (a : Attempt) : Type 0 where
   pub its_version : a.version ≡ lists.version
   pub its_witnesses : a.witnesses ≡ lists.witnesses
 
--- what was said, and what recoveries and clients go by
+-- what was said, and what recoveries, the manager and clients go by
 pub record SaidOk (w : World) : Type 0 where
   pub messages_ok : Each (MessageOk w) (messages w)
   pub recoveries : (node : NodeId) (s : RecoveryState) → IsMaster w node (Recovering s) → PhaseOk w s s.phase
   pub attempts : Each (λ c. AttemptOk c (numbered w.manager.doing c.part)) w.manager.config.parts
+  pub config : ConfigOk w w.manager.config
+  pub configs : Each (λ (c : ClientState). ConfigOk w c.config) w.clients
   pub sendings : Each (λ (c : ClientState). Each (λ (p : Pending). Each (AttemptWas w) p.attempts) c.pending) w.clients

@@ -20,3 +20,4 @@ pub mod Routes
 pub mod Migrated
 pub mod Stored
 pub mod Before
+pub mod Configs

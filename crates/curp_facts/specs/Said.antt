@@ -33,7 +33,7 @@ use Rattle.curp_model.specs.Recovery.{replay}
 use Rattle.curp_model.specs.Witness.{WitnessState, frozen_requests, holds}
 use Rattle.curp_model.specs.World.{World}
 use Rattle.curp_facts.specs.Entries.{RequestOk, UpdateOk}
-use Rattle.curp_facts.specs.Facts.{AdoptedBefore, AppendOk, Collected, ConfigOk, FenceReplyOk, FrozenOk, HasLog, IsAmong, IsGiven, Lists, Logged, PreparedOk, RecoveredOk, Speaks, StoredOk, WasAdopted, WasSent, WasTaken, IsMasterOf, WasOrdered}
+use Rattle.curp_facts.specs.Facts.{AdoptedBefore, AppendOk, Collected, EntryWas, FenceReplyOk, FrozenOk, HasLog, IsAmong, IsGiven, Lists, Logged, PreparedOk, RecoveredOk, Speaks, StoredOk, WasAdopted, WasSent, WasTaken, IsMasterOf, WasOrdered}
 use Rattle.curp_facts.specs.Kept.{RefusalFirstOk}
 use Rattle.curp_facts.specs.Reach.{EarlySaid, GcSaid, IsReady, Reach, SyncedSaid, QuickSaid}
 use Rattle.curp_msg.specs.declared.body.Probed.{Probed}
@@ -218,7 +218,7 @@ Says w place from to (body.Glance ask) = ReadSaid w from ask.request
 Says w place from to (body.Record r) = UpdateSaid w from r.request
 Says w place from to (body.Probe a) = ProbeSaid w from a.id
 Says w place from to body.Fetch = ⊤
-Says w place from to (body.Configuration config) = ConfigOk w config
+Says w place from to (body.Configuration config) = Each (EntryWas w) config.parts
 Says w place from to (body.Reply r) = ReplySaid w from to r
 Says w place from to (body.Worth v) = WorthSaid w from to v
 Says w place from to (body.Quick q) = QuickSaid w place from to q

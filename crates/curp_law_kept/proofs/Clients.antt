@@ -34,7 +34,7 @@ use Rattle.curp_law_keepers.proofs.Numbers.{waiting}
 use Rattle.curp_law_kept.proofs.Completes.{by_accepts, by_synced}
 use Rattle.curp_facts.specs.Known.{Known}
 use Rattle.curp_law_kept.proofs.Known.{knows_later, said}
-use Rattle.curp_law_stays.proofs.Nodes.{completed_by_later, value_later, read_later}
+use Rattle.curp_law_stays.proofs.Nodes.{completed_by_later, read_later}
 use Rattle.curp_law_stays.proofs.Words.{Follows, event_at}
 use Rattle.curp_facts.specs.Reach.{QuickSaid}
 
@@ -116,7 +116,7 @@ module _ {w v : World} (known : Known w) (n : ℕ) (given : Input) (for : IsFor 
       let client : client_node n ≡ client_node done.id.client = ok.addressee ∙ ap (λ (id : RequestId). client_node id.client) e.its_id in
       record {
         lists = lists_of_part e.part;
-        adopted = e.adopted.adopted;
+        adopted = e.adopted;
         quick = e.quick;
         sent = subst (λ (to : NodeId). WasSent w (says e.part.master to (body.Quick e.quick))) client e.came;
         its_id = e.its_id;

@@ -42,7 +42,7 @@ module _ {w : World} (known : Known w) (n : ℕ) where
         e.part.part,
         inr (record {
           lists = lists_of_part e.part;
-          given = e.adopted.adopted.given;
+          given = e.adopted.given;
           its_part = refl;
           reply = e.reply;
           sent = subst (λ (to : NodeId). WasSent w (says e.part.master to (body.Reply e.reply))) ok.addressee e.came;

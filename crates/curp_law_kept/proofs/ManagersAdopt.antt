@@ -19,7 +19,7 @@ use Rattle.curp_msg.specs.declared.body.Recovered.{Recovered}
 use Rattle.curp_msg.specs.declared.config.PartConfig.{PartConfig}
 use Rattle.curp_model.specs.Manager.{Doing, NewLists, Recovering, Replacing, Steady, adopted_at, adopts, attempt_at, fresh_node, is_recovering, is_replacing, keepers_of, lists_in_work, new_backups, new_witnesses, on_prepared, on_recovered, part_at, prepared_in, recover, recover_order, recovered_in, recovered_part, recovers, replace, replaces, version_adopted, version_in_work}
 use Rattle.curp_model.specs.World.{World}
-use Rattle.curp_facts.specs.Facts.{ByRecovery, ByReplacement, IsAdoptedNow, IsAmong, IsGiven, Lists, PreparedOk, WasSent, WereRanges, lists_of_order, lists_of_part, lists_of_prepare}
+use Rattle.curp_facts.specs.Facts.{ByRecovery, ByReplacement, IsAdoptedNow, IsAmong, IsGiven, Lists, PreparedOk, WasSent, lists_of_order, lists_of_part, lists_of_prepare}
 use Rattle.curp_facts.specs.Reach.{IsReady}
 use Rattle.curp_facts.specs.Said.{RecoveredSaid}
 use Rattle.curp_law_kept.specs.ManagerEffect.{EntryKeeps, IsNewOrHome, ManagerEffect, NewNodes, Recovers, Renews}
@@ -124,9 +124,9 @@ module _ {w : World} (known : Known w) where
   -- ---- adoptions
 
   -- an entry that is ready and succeeds the present one is adopted
-  adopts_does : (p : ℕ) (now new : PartConfig) → IsAdoptedNow w now → IsReady w (lists_of_part new) → new.part ≡ now.part → new.ranges ≡ now.ranges
+  adopts_does : (p : ℕ) (now new : PartConfig) → IsAdoptedNow w now → IsReady w (lists_of_part new) → new.part ≡ now.part
       → Renews (lists_of_part now) new ⊎ Recovers w (lists_of_part now) new → ManagerEffect w (adopts w.manager p new)
-  adopts_does p now new here ready part ranges how = record {
+  adopts_does p now new here ready part how = record {
     messages = (
       record {
         from = refl;
@@ -137,15 +137,12 @@ module _ {w : World} (known : Known w) where
     );
     adopts = inr (new, refl, record { now = lists_of_part now; top = known.names.top now here; its_part = part; how = how });
     entries = each_among (EntryKeeps w) (set w.manager.config.parts (p - 1) new) (λ c a. elim (among_set w.manager.config.parts (p - 1) new c a) [
-      | inl is ↦ subst (EntryKeeps w) (sym is) (record { ready = ready; ranges = its_ranges })
+      | inl is ↦ subst (EntryKeeps w) (sym is) ready
       | inr was ↦ entry_keeps known c was
     ]);
     moving = moving_keeps known _;
     idle = refl;
   }
-    where
-      its_ranges : WereRanges w new.part new.ranges
-      its_ranges = subst (λ (i : ℕ). WereRanges w i new.ranges) (sym part) (subst (WereRanges w now.part) (sym ranges) (known.inv.present now here).entry.ranges)
 
   -- what is said to be adopted is a present entry
   adopted_at_among : (r : Recovered) (c : PartConfig) → adopted_at w.manager r ≡ Some c → IsAmong c w.manager.config.parts
@@ -195,7 +192,7 @@ module _ {w : World} (known : Known w) where
 
       by_epoch : (b : Bool) → (o.epoch == r.epoch) ≡ b → ManagerEffect w (recovered_in w.manager r (only_if b (record { master = node; order = o })) (Some c))
       by_epoch true e = adopts_does r.part c (recovered_part c (record { master = node; order = o })) (numbered_now known.names r.part c here)
-          (attempt_ready from r sent c here node o ok (eqb-true _ _ e)) refl refl (inr (record { order = o; ok = ok; its_epoch = refl }))
+          (attempt_ready from r sent c here node o ok (eqb-true _ _ e)) refl (inr (record { order = o; ok = ok; its_epoch = refl }))
       by_epoch false e = again_does known (adopted_at w.manager r) (adopted_at_among r)
   attempt_does from r sent c here (Some (Replacing which fresh version backups witnesses)) its = again_does known (adopted_at w.manager r) (adopted_at_among r)
   attempt_does from r sent c here (Some Steady) its = again_does known (adopted_at w.manager r) (adopted_at_among r)
@@ -241,7 +238,7 @@ module _ {w : World} (known : Known w) where
 
       does : own ≡ version → ManagerEffect w (adopts w.manager c.part (record c { version = own; backups = backups; witnesses = witnesses }))
       does same = adopts_does c.part c (record c { version = own; backups = backups; witnesses = witnesses }) now
-          (new_ready from version sent c now (record { version = own; backups = backups; witnesses = witnesses }) ok.sent ok.newer same) refl refl (inl (record { its_master = refl; its_epoch = refl }))
+          (new_ready from version sent c now (record { version = own; backups = backups; witnesses = witnesses }) ok.sent ok.newer same) refl (inl (record { its_master = refl; its_epoch = refl }))
 
       by_version : (b : Bool) → (own == version) ≡ b → only_if b new ≡ Some x → ManagerEffect w (adopts w.manager x.part.part (record x.part { version = x.version; backups = x.backups; witnesses = x.witnesses }))
       by_version true same e =

@@ -20,8 +20,7 @@ use Rattle.curp_msg.specs.declared.machine.Local.TheVariants as local
 use Rattle.curp_model.specs.Manager.{ManagerState, Migration, Move, given_in, gives, heard, manager_input, manager_ordered, migrate, migrates, moved_part, on_given, on_manager, on_taken, owner_of_range, owns_range, part_at, taken_in, told, unless_numbers_end}
 use Rattle.curp_model.specs.Ranges.{Range, range_of}
 use Rattle.curp_model.specs.World.{World}
-use Rattle.curp_facts.specs.Facts.{IsMasterOf, WasTaken, GivenTo, IsAmong, TakenFrom, WasOrdered, WasSent, lists_of_part}
-use Rattle.curp_facts.specs.Invariant.{take_order}
+use Rattle.curp_facts.specs.Facts.{IsMasterOf, WasTaken, IsAmong, WasSent, lists_of_part}
 use Rattle.curp_law_growth.specs.Deeds.{IsFor}
 use Rattle.curp_law_kept.specs.ManagerEffect.{EntryKeeps, ManagerEffect, MovingKeeps}
 use Rattle.curp_facts.specs.Known.{Known}
@@ -114,11 +113,9 @@ module _ {w : World} (known : Known w) where
       by_migration None its = rests known
       by_migration (Some m) its = cond_both (m.number == t.migration) _ _ (ManagerEffect w) (λ y. gives_does from t sent m its (eqb-true _ _ y) (part_at w.manager m.target)) (λ y. rests known)
 
-  -- the ranges of an entry as the migration is done
-  moved_keeps : (m : Migration) → WasOrdered w m.source (body.TakeOut (take_order m)) → (c : PartConfig) → EntryKeeps w c → EntryKeeps w (moved_part m c)
-  moved_keeps m ordered c ok = cond_both (c.part == m.source) _ _ (EntryKeeps w)
-      (λ y. record { ready = ok.ready; ranges = TakenFrom c.part c.ranges (take_order m) ok.ranges (subst (λ (p : ℕ). WasOrdered w p (body.TakeOut (take_order m))) (sym (eqb-true _ _ y)) ordered) })
-      (λ y. cond_both (c.part == m.target) _ _ (EntryKeeps w) (λ z. record { ready = ok.ready; ranges = GivenTo c.part m.source c.ranges (take_order m) ok.ranges ordered }) (λ z. ok))
+  -- the lists of an entry stay as the migration is done
+  moved_keeps : (m : Migration) (c : PartConfig) → EntryKeeps w c → EntryKeeps w (moved_part m c)
+  moved_keeps m c ok = cond_both (c.part == m.source) _ _ (EntryKeeps w) (λ y. ok) (λ y. cond_both (c.part == m.target) _ _ (EntryKeeps w) (λ z. ok) (λ z. ok))
 
   given_does : (number : ℕ) → ManagerEffect w (on_given w.manager number)
   unfolding on_given
@@ -131,7 +128,7 @@ module _ {w : World} (known : Known w) where
       by_migration None its = rests known
       by_migration (Some m) its = cond_both (m.number == number) _ _ (ManagerEffect w)
           (λ y. stays known _ tt (Each-map (EntryKeeps w) (moved_part m) w.manager.config.parts
-          (Each-weaker (EntryKeeps w) (λ (c : PartConfig). EntryKeeps w (moved_part m c)) (moved_keeps m (known.inv.moving m its).ordered) w.manager.config.parts (entries_keep known)))
+          (Each-weaker (EntryKeeps w) (λ (c : PartConfig). EntryKeeps w (moved_part m c)) (moved_keeps m) w.manager.config.parts (entries_keep known)))
           (λ k is. absurd (none is)) refl)
           (λ y. rests known)
 

@@ -43,7 +43,7 @@ use Rattle.curp_law_names.proofs.Steps.{manager_moved, moved_messages}
 use Rattle.curp_law_stays.proofs.Entries.{ordered_later}
 use Rattle.curp_law_stays.proofs.Masters.{master_ok_later}
 use Rattle.curp_law_stays.proofs.Nodes.{backup_ok_later, completed_by_later, read_later, witness_ok_later}
-use Rattle.curp_law_stays.proofs.Said.{ranges_later, says_later}
+use Rattle.curp_law_stays.proofs.Said.{says_later}
 use Rattle.curp_law_stays.proofs.Words.{Follows, given_later, ready_later, sent_later}
 
 -- what stands among grown nodes was there, or is fresh and wasn't
@@ -167,7 +167,7 @@ module _ {w : World} (known : Known w) (given : Input) (for : IsFor w manager_no
     present_keeps c now =
         let p = place_of r.state.config.parts c.part c now in
         let ok = Each-at (EntryKeeps w) r.state.config.parts does.entries p.0 c p.2 in
-        record { entry = record { adopted = (names.top c now).was; ranges = ranges_later follows c.part c.ranges ok.ranges }; ready = ready_later follows ok.ready }
+        record { entry = (names.top c now).was; ready = ready_later follows ok }
 
     ordered_keeps : (part : ℕ) (b : Body) → IsOrdered w r.messages part b → WasOrdered v part b
     ordered_keeps part b ordered = elim ordered [

@@ -36,7 +36,7 @@ module _ {w : World} (known : Known w) where
   -- ---- what stays
 
   pub entry_keeps : (c : PartConfig) → IsAmong c w.manager.config.parts → EntryKeeps w c
-  entry_keeps c a = let ok = known.inv.present c (entry_now known.names c a) in record { ready = ok.ready; ranges = ok.entry.ranges }
+  entry_keeps c a = (known.inv.present c (entry_now known.names c a)).ready
 
   pub entries_keep : Each (EntryKeeps w) w.manager.config.parts
   entries_keep = each_among (EntryKeeps w) w.manager.config.parts entry_keeps
@@ -74,7 +74,7 @@ module _ {w : World} (known : Known w) where
   adopted_word c a = record {
     uttered = record {
       from = refl;
-      says_so = λ place. record { lists = lists_of_part c; ready = (entry_keeps c a).ready; its_master = refl; its_part = refl; its_epoch = refl; its_version = refl };
+      says_so = λ place. record { lists = lists_of_part c; ready = entry_keeps c a; its_master = refl; its_part = refl; its_epoch = refl; its_version = refl };
       orders = tt;
     };
     again = adopted_now c a;

@@ -19,7 +19,7 @@ use Rattle.curp_model.specs.Recovery.{MasterStage}
 use Rattle.curp_model.specs.Witness.{WitnessState, started_witness}
 use Rattle.curp_model.specs.World.{World, messages, opening, opening_master, shape_of, opening_client}
 use Rattle.curp_facts.specs.Entries.{LogOk}
-use Rattle.curp_facts.specs.Facts.{AtOpening, ByRecovery, ByReplacement, EntryWas, IsAdoptedNow, IsGiven, Lists, Opened, WasAdopted, WasSent, lists_of_part}
+use Rattle.curp_facts.specs.Facts.{AtOpening, ByRecovery, ByReplacement, EntryWas, IsAdoptedNow, IsGiven, Lists, WasAdopted, WasSent, lists_of_part}
 use Rattle.curp_facts.specs.Invariant.{Invariant, MovingOk, PresentOk}
 use Rattle.curp_facts.specs.Nodes.{BackupOk, ClientOk, MasterOk, StartedAt, WitnessOk}
 use Rattle.curp_facts.specs.Reach.{HasStored}
@@ -68,7 +68,7 @@ module _ (h : Header) (its : IsHeader h) where
 
   entry_was : (k : ℕ) (c : PartConfig) → At (opening_config s).parts k c → EntryWas start c
   unfolding opening
-  entry_was k c at = record { adopted = adopted_first k c at; ranges = Opened k c at }
+  entry_was k c at = adopted_first k c at
 
   entries_were : Each (EntryWas start) (opening_config s).parts
   entries_were = each_among (EntryWas start) (opening_config s).parts (λ c a. entry_was a.place c a.stands)

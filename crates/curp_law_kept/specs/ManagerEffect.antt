@@ -14,7 +14,7 @@ use Rattle.curp_msg.specs.declared.config.PartConfig.{PartConfig}
 use Rattle.curp_msg.specs.declared.message.Message.{Message}
 use Rattle.curp_model.specs.Manager.{ManagerState, Migration, adopted_message}
 use Rattle.curp_model.specs.World.{World}
-use Rattle.curp_facts.specs.Facts.{IsAmong, IsGiven, IsMasterOf, Lists, WasOrdered, WasSent, WasTaken, WereRanges, lists_of_part}
+use Rattle.curp_facts.specs.Facts.{IsAmong, IsGiven, IsMasterOf, Lists, WasOrdered, WasSent, WasTaken, lists_of_part}
 use Rattle.curp_facts.specs.Invariant.{take_order}
 use Rattle.curp_facts.specs.Reach.{IsReady}
 use Rattle.curp_facts.specs.Said.{Says}
@@ -74,10 +74,9 @@ Adopts w out = Each (λ (m : Message). ToldAgain w m.to m.body) out ⊎ ((c : Pa
 
 -- ---- what its state keeps
 
--- the lists of an entry are ready, and it has ranges that its partition had
-pub record EntryKeeps (w : World) (c : PartConfig) : Type 0 where
-  pub ready : IsReady w (lists_of_part c)
-  pub ranges : WereRanges w c.part c.ranges
+-- the lists of an entry are ready
+abbrev pub EntryKeeps : World → PartConfig → Type 0
+EntryKeeps w c = IsReady w (lists_of_part c)
 
 -- it was ordered to a master of the partition, or is so now
 abbrev pub IsOrdered : World → List Message → ℕ → Body → Type 0

@@ -1,10 +1,11 @@
 -- What each message says stays true.
-use Rattle.std.proofs.Common.{◌≡◌, inl, inr, ℕ, ◌+◌, Bool, true, false, refl, sym, ◌∙◌, subst, arith}
+use Rattle.std.proofs.Common.{◌≡◌, inl, inr, ℕ, ◌+◌, Bool, true, false, refl, ap, sym, ◌∙◌, subst, arith}
 use Rattle.curp_base.specs.Words.{At, Each}
 use Rattle.curp_base.proofs.Lists.{Each-at, Each-from_at}
 use Rattle.curp_cmd.specs.Node.{manager_node}
 use Rattle.curp_cmd.specs.declared.node.NodeId.{NodeId}
 use Rattle.curp_cmd.specs.declared.node.NodeKind.{NodeKind}
+use Rattle.curp_cmd.specs.declared.node.NodeKind.TheVariants as kind
 use Rattle.curp_msg.specs.Moved.{says}
 use Rattle.curp_msg.specs.declared.answer.AppendAnswer.{AppendAnswer}
 use Rattle.curp_msg.specs.declared.answer.AppendAnswer.TheVariants.{Stored}
@@ -26,7 +27,8 @@ use Rattle.curp_law_logs.proofs.Early.{synced_stands}
 use Rattle.curp_law_logs.proofs.Frozen.{held_kept}
 use Rattle.curp_law_logs.proofs.Standings.{stands_here}
 use Rattle.curp_facts.specs.Names.{IsOf, Names}
-use Rattle.curp_facts.specs.Fits.{MessageFits, Nodes}
+use Rattle.curp_facts.specs.Configs.{Configs}
+use Rattle.curp_facts.specs.Fits.{MessageFits, Nodes, sender_kind}
 use Rattle.curp_law_names.proofs.Lists.{each_among}
 use Rattle.curp_law_pairs.specs.GivenStand.{GivenStand}
 use Rattle.curp_facts.specs.Predecessors.{Predecessors}
@@ -38,6 +40,10 @@ use Rattle.curp_law_pairs.proofs.Words.{said}
 -- a node of a kind is a node
 of_is_node : (w : World) (k : NodeKind) (node : NodeId) → IsOf w k node → IsNode w node
 of_is_node w k node of = subst (λ (x : NodeKind). IsNodeOf w x node.number) (sym of.0) of.1
+
+-- the manager is one
+the_manager : (w : World) (node : NodeId) → IsOf w kind.Manager node → node ≡ manager_node
+the_manager w node of = ap (λ (k : NodeKind). record { kind = k; number = node.number }) of.0 ∙ ap (λ (n : ℕ). record { kind = kind.Manager; number = n }) of.1
 
 append_answer : (w : World) (from to : NodeId) (a : Appended) (answer : AppendAnswer) → AppendHolds w from to a answer → AppendAnswerOk w from to a answer
 append_answer w from to a (Stored long) ok = ok
@@ -84,26 +90,31 @@ module _ {w : World} (names : Names w) (inv : Invariant w) where
       go true s = (ok.speaks, synced_ok from r s)
       go false e = ok.speaks
 
-  module _ (chain : Predecessors w) (earlier : GivenStand w) where
-    body_ok : (place : ℕ) (from to : NodeId) (b : Body) → At (messages w) place (says from to b) → Says w place from to b → BodyOk w from to b
-    body_ok place from to (body.Append a) at ok = ok.holds
-    body_ok place from to (body.Appended a) at ok = append_answer w from to a a.answer ok.1
-    body_ok place from to (body.FenceAnswer a) at ok = ok.1
-    body_ok place from to (body.FrozenAnswer requests) at ok = ok
-    body_ok place from to (body.Accepted a) at ok = accepted_ok from to a ok
-    body_ok place from to (body.Reply r) at ok = reply_ok from to r ok
-    body_ok place from to (body.Worth v) at ok = record { version = ok.version; speaks = ok.speaks }
-    body_ok place from to (body.Quick q) at ok = record { lists = ok.lists; adopted = ok.adopted; its_master = ok.its_master; its_epoch = ok.its_epoch; its_version = ok.its_version }
-    body_ok place from to (body.Gc g) at ok = gc_served place from to g ok
-    body_ok place from to (body.Taken t) at ok =
+  module _ (chain : Predecessors w) (earlier : GivenStand w) (configs : Configs w) where
+    body_ok : (place : ℕ) (from to : NodeId) (b : Body) → At (messages w) place (says from to b) → IsOf w (sender_kind b) from → Says w place from to b → BodyOk w from to b
+    body_ok place from to (body.Append a) at of ok = ok.holds
+    body_ok place from to (body.Appended a) at of ok = append_answer w from to a a.answer ok.1
+    body_ok place from to (body.FenceAnswer a) at of ok = ok.1
+    body_ok place from to (body.FrozenAnswer requests) at of ok = ok
+    body_ok place from to (body.Accepted a) at of ok = accepted_ok from to a ok
+    body_ok place from to (body.Reply r) at of ok = reply_ok from to r ok
+    body_ok place from to (body.Worth v) at of ok = record { version = ok.version; speaks = ok.speaks }
+    body_ok place from to (body.Quick q) at of ok = record { lists = ok.lists; adopted = ok.adopted; its_master = ok.its_master; its_epoch = ok.its_epoch; its_version = ok.its_version }
+    body_ok place from to (body.Gc g) at of ok = gc_served place from to g ok
+    body_ok place from to (body.Taken t) at of ok =
         (is_server from (IsTakeOf t.migration t.package) ok, package_ok from t.migration t.package ok, taken_on_adopted names inv chain from t.migration t.package ok)
-    body_ok place from to (body.GiveIn t) at ok = (ok, package_ok ok.node t.migration t.package (said inv ok.node manager_node (body.Taken t) ok.told))
-    body_ok place from to (body.Given migration) at ok =
+    body_ok place from to (body.GiveIn t) at of ok = (ok, package_ok ok.node t.migration t.package (said inv ok.node manager_node (body.Taken t) ok.told))
+    body_ok place from to (body.Given migration) at of ok =
         (is_server from (IsGiveFrom migration) ok.0, earlier.stand from to migration (record { place = place; stands = at }))
-    body_ok place from to (body.Recovered r) at ok = ok.holds
-    body_ok place from to (body.Prepared version) at ok = ok
-    body_ok place from to (body.Configuration config) at ok = ok
-    body_ok place from to _ at ok = tt
+    body_ok place from to (body.Recovered r) at of ok = ok.holds
+    body_ok place from to (body.Prepared version) at of ok = ok
+    body_ok place from to (body.Configuration config) at of ok =
+        let manager : from ≡ manager_node = the_manager w from of in
+        record {
+          entries = ok;
+          ranges = configs.told to config (record { place = place; stands = subst (λ (x : NodeId). At (messages w) place (says x to (body.Configuration config))) manager at });
+        }
+    body_ok place from to _ at of ok = tt
 
     -- each message's sender and addressee are nodes, and what it says is so
     pub messages_ok : Nodes w → Each (MessageOk w) (messages w)
@@ -112,5 +123,5 @@ module _ {w : World} (names : Names w) (inv : Invariant w) where
         record {
           sender = of_is_node w _ m.from fits.sender;
           addressee = of_is_node w _ m.to fits.addressee;
-          says_so = body_ok k m.from m.to m.body at (inv.messages k m at);
+          says_so = body_ok k m.from m.to m.body at fits.sender (inv.messages k m at);
         })

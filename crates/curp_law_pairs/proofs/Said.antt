@@ -10,7 +10,8 @@ use Rattle.curp_model.specs.Named.{IsMaster}
 use Rattle.curp_model.specs.Recovery as recovery
 use Rattle.curp_model.specs.Recovery.{Asking, RecoveryPhase, RecoveryState, Storing, Waiting}
 use Rattle.curp_model.specs.World.{World}
-use Rattle.curp_facts.specs.Facts.{AttemptOk, AttemptWas, EntryWas, IsAdoptedNow, PhaseOk, SaidOk, lists_of_part}
+use Rattle.curp_facts.specs.Configs.{Configs}
+use Rattle.curp_facts.specs.Facts.{AttemptOk, AttemptWas, ConfigOk, EntryWas, IsAdoptedNow, PhaseOk, SaidOk, lists_of_part}
 use Rattle.curp_facts.specs.Evidence.{EvidenceOk, IsAttempt}
 use Rattle.curp_facts.specs.Invariant.{Invariant}
 use Rattle.curp_facts.specs.Nodes.{MayCome, RecoveringOk, StageOk}
@@ -54,17 +55,23 @@ module _ {w : World} (names : Names w) (inv : Invariant w) where
       attempted : (a : Attempt) → IsAttempt (EntryWas w) a → AttemptWas w a
       attempted a k = record {
         lists = lists_of_part k.part;
-        adopted = k.adopted.adopted;
+        adopted = k.adopted;
         its_master = ap (λ (x : Attempt). x.master) k.is;
         its_epoch = ap (λ (x : Attempt). x.epoch) k.is;
         its_version = ap (λ (x : Attempt). x.version) k.is;
         its_witnesses = ap (λ (x : Attempt). x.witnesses) k.is;
       }
 
-  pub said_ok : Nodes w → Predecessors w → GivenStand w → SaidOk w
-  said_ok nodes chain earlier = record {
-    messages_ok = messages_ok names inv chain earlier nodes;
+  pub said_ok : Nodes w → Predecessors w → GivenStand w → Configs w → SaidOk w
+  said_ok nodes chain earlier configs = record {
+    messages_ok = messages_ok names inv chain earlier configs nodes;
     recoveries = recoveries;
     attempts = Each-from_at (λ (c : PartConfig). AttemptOk c (numbered w.manager.doing c.part)) w.manager.config.parts attempts;
+    config = record {
+      entries = Each-from_at (EntryWas w) w.manager.config.parts (λ k c at. (inv.present c (at_place w.manager.config.parts k c.part c (names.entries k c at) at)).entry);
+      ranges = configs.present.have;
+    };
+    configs = Each-from_at (λ (c : ClientState). ConfigOk w c.config) w.clients (λ k c at.
+        record { entries = (inv.clients (suc k) c at).knows.config; ranges = configs.known (suc k) c at });
     sendings = Each-from_at (λ (c : ClientState). Each (λ (p : Pending). Each (AttemptWas w) p.attempts) c.pending) w.clients sendings;
   }

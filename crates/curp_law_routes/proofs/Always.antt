@@ -11,9 +11,11 @@ use Rattle.curp_facts.specs.Predecessors.{Predecessors}
 use Rattle.curp_law_pairs.proofs.Adopted.{chain_opening}
 use Rattle.curp_law_pairs.proofs.Chained.{chain_step}
 use Rattle.curp_facts.specs.Before.{GivesBefore, Routed}
+use Rattle.curp_facts.specs.Configs.{Configs}
 use Rattle.curp_facts.specs.Migrated.{Migrated}
 use Rattle.curp_facts.specs.Routes.{Routes}
 use Rattle.curp_law_routes.proofs.Before.{opening_before}
+use Rattle.curp_law_routes.proofs.Configs.{opening_configs, step_configs}
 use Rattle.curp_law_routes.proofs.Kept.{routed_migrated, step_before, step_routes}
 use Rattle.curp_law_routes.proofs.Steps.{opening_routes}
 
@@ -22,6 +24,7 @@ pub record Moving (w : World) : Type 0 where
   pub chain : Predecessors w
   pub routes : Routes w
   pub before : GivesBefore w
+  pub configs : Configs w
 
 abbrev pub routed : (w : World) → Known w → Moving w → Routed w
 routed w known m = record { names = known.names; inv = known.inv; chain = m.chain; routes = m.routes }
@@ -36,11 +39,12 @@ moving_step w known x its m =
       chain = chain;
       routes = routes;
       before = step_before known m.before (routed w known m) x s (record { names = later.names; inv = later.inv; chain = chain; routes = routes });
+      configs = step_configs known m.routes m.configs x its s;
     }
 
 pub moving_opening : (h : Header) → Moving (opening h)
 unfolding opening
-moving_opening h = record { chain = chain_opening (opening h) refl; routes = opening_routes h; before = opening_before h }
+moving_opening h = record { chain = chain_opening (opening h) refl; routes = opening_routes h; before = opening_before h; configs = opening_configs h }
 
 -- all of it holds in every run
 pub moving_all : (h : Header) (xs : List Step) → IsRun h xs → Known (world h xs) × Moving (world h xs)

@@ -6,5 +6,6 @@ pub mod Stored
 pub mod Migrated
 pub mod Before
 pub mod Kept
+pub mod Configs
 pub mod Always
 pub mod Told

@@ -1,10 +1,10 @@
 -- What the manager orders of migrations, by each input.
-use Rattle.std.proofs.Common.{◌≡◌, inl, inr, ◌≤◌, ℕ, ◌==◌, Bool, true, false, List, [], ◌∷◌, ◌++◌, map, refl, sym, ◌∙◌, ap, subst, arith, Option, Some, None, Result, Ok, Err}
+use Rattle.std.proofs.Common.{◌≡◌, inl, inr, ◌≤◌, ℕ, ◌==◌, Bool, true, false, List, [], ◌∷◌, ◌++◌, ◌-◌, map, set, refl, sym, ◌∙◌, ap, subst, arith, Option, Some, None, Result, Ok, Err}
 use Rattle.std.specs.Prelude.{is_some, flat_map, if◌then◌else◌}
 use Rattle.std.specs.List.{filter}
 use Rattle.std.specs.Option.{ok_or}
 use Rattle.std.proofs.lemmas.Bool.{cond_both, eqb-true}
-use Rattle.curp_base.specs.Cases.{◌>>=◌, refuse_if}
+use Rattle.curp_base.specs.Cases.{◌>>=◌, only_if, refuse_if}
 use Rattle.curp_base.specs.Words.{At, Each, first_of, numbered}
 use Rattle.curp_base.proofs.Lists.{Each-append, Each-at, Each-map}
 use Rattle.curp_cmd.specs.Node.{manager_node}
@@ -19,27 +19,28 @@ use Rattle.curp_msg.specs.declared.body.Body.TheVariants as body
 use Rattle.curp_msg.specs.declared.body.Parcel.{Parcel}
 use Rattle.curp_msg.specs.declared.body.Recover.{Recover}
 use Rattle.curp_msg.specs.declared.body.Recovered.{Recovered}
+use Rattle.curp_msg.specs.declared.config.Config.{Config}
 use Rattle.curp_msg.specs.declared.config.PartConfig.{PartConfig}
 use Rattle.curp_msg.specs.declared.machine.Input.{Input}
 use Rattle.curp_msg.specs.declared.machine.Input.TheVariants as input
 use Rattle.curp_msg.specs.declared.machine.Local.{Local}
 use Rattle.curp_msg.specs.declared.machine.Local.TheVariants as local
 use Rattle.curp_msg.specs.declared.message.Message.{Message}
-use Rattle.curp_model.specs.Manager.{Attempted, Doing, ManagerState, Migration, NewLists, Recovering, Replacing, Steady, adopted_at, after_replace_numbers, fresh_node, new_backups, new_witnesses, client_for, expire, expire_messages, expires, finished, fresh_keeper, given_in, gives, heard, install_on, manager_input, manager_ordered, migrate, migrates, nudge, nudge_give, nudge_moving, nudge_part, on_given, on_manager, on_prepared, on_recovered, on_taken, owner_of_range, owns_range, part_at, prepared_in, recover, recover_messages, recovered_in, recovers, recovery_for, replace, replace_messages, replacement_for, replaces, start_on, take_message, give_message, taken_in, tells_again, told, unless_numbers_end, version_adopted, version_in_work}
+use Rattle.curp_model.specs.Manager.{Attempted, Doing, ManagerState, Migration, NewLists, Recovering, Replacing, Steady, adopted_at, adopts, after_replace_numbers, fresh_node, new_backups, new_witnesses, client_for, expire, expire_messages, expires, finished, fresh_keeper, given_in, gives, heard, install_on, lists_in_work, manager_input, manager_ordered, migrate, migrates, nudge, nudge_give, nudge_moving, nudge_part, on_given, on_manager, on_prepared, on_recovered, on_taken, owner_of_range, owns_range, part_at, prepared_in, recover, recover_messages, recovered_in, recovered_part, recovers, recovery_for, replace, replace_messages, replacement_for, replaces, start_on, take_message, give_message, taken_in, tells_again, told, unless_numbers_end, version_adopted, version_in_work}
 use Rattle.curp_model.specs.Ranges.{Range, range_of}
 use Rattle.curp_model.specs.World.{World}
 use Rattle.curp_facts.specs.Entries.{EntryOk}
-use Rattle.curp_facts.specs.Facts.{IsAmong, IsMasterOf, WasSent, WasTaken, lists_of_part}
+use Rattle.curp_facts.specs.Facts.{IsAmong, IsMasterOf, WasOrdered, WasSent, WasTaken, lists_of_part}
 use Rattle.curp_facts.specs.Invariant.{Invariant}
-use Rattle.curp_facts.specs.Said.{IsGiveFrom, StoredEntry}
+use Rattle.curp_facts.specs.Said.{GiveWasOrdered, IsGiveFrom, StoredEntry}
 use Rattle.curp_law_growth.specs.Deeds.{IsFor}
 use Rattle.curp_facts.specs.Names.{Names}
 use Rattle.curp_law_names.proofs.Keeps.{entry_now, entry_numbered}
-use Rattle.curp_law_names.proofs.Lists.{each_among, filter_among, first_among, number_within, place}
+use Rattle.curp_law_names.proofs.Lists.{among_set, at_mapped, each_among, filter_among, first_among, number_within, place, there_among}
 use Rattle.curp_law_names.proofs.Says.{each_flat}
 use Rattle.curp_law_pairs.proofs.Logs.{has_home}
 use Rattle.curp_law_pairs.proofs.Words.{said}
-use Rattle.curp_law_routes.specs.Orders.{AllMayOrder, MayOrder, Orders}
+use Rattle.curp_law_routes.specs.Orders.{AllMayOrder, KeepsRanges, MayOrder, Orders}
 use Rattle.curp_facts.specs.Routes.{IsDone, Routes}
 
 -- what is found by a test passes it
@@ -117,16 +118,42 @@ module _ {w : World} (names : Names w) where
 
   -- ---- inputs by which the migration in work stays
 
-  rests : (r : Moved ManagerState) → r.state.shape ≡ w.manager.shape → r.state.next.migration ≡ w.manager.next.migration → r.state.moving ≡ w.manager.moving → AllMayOrder w r → Orders w r
-  rests r shape next moving may = record { shape = shape; orders = may; change = inl (record { next = next; same = inl moving }) }
+  kept : (c : PartConfig) → IsAmong c w.manager.config.parts → KeepsRanges w c
+  kept c a = record { before = c; was = a; its_part = refl; its_ranges = refl }
+
+  all_kept : Each (KeepsRanges w) w.manager.config.parts
+  all_kept = each_among (KeepsRanges w) w.manager.config.parts kept
+
+  rests : (r : Moved ManagerState) → r.state.shape ≡ w.manager.shape → r.state.next.migration ≡ w.manager.next.migration → r.state.moving ≡ w.manager.moving
+      → r.state.config ≡ w.manager.config → AllMayOrder w r → Orders w r
+  rests r shape next moving config may = record {
+    shape = shape;
+    orders = may;
+    change = inl (record { next = next; same = inl moving; ranges = subst (λ (x : Config). Each (KeepsRanges w) x.parts) (sym config) all_kept });
+  }
+
+  -- an entry is adopted that has the partition and the ranges of a present one
+  adopts_orders : (p : ℕ) (c : PartConfig) → KeepsRanges w c → Orders w (adopts w.manager p c)
+  adopts_orders p c keeps = record {
+    shape = refl;
+    orders = (tt, tt);
+    change = inl (record {
+      next = refl;
+      same = inl refl;
+      ranges = each_among (KeepsRanges w) (set w.manager.config.parts (p - 1) c) (λ d a. elim (among_set w.manager.config.parts (p - 1) c d a) [
+        | inl is ↦ subst (KeepsRanges w) (sym is) keeps
+        | inr was ↦ kept d was
+      ]);
+    });
+  }
 
   recover_orders : (part backup witness : ℕ) → Orders w (recover w.manager part backup witness)
   unfolding recover
   recover_orders part backup witness = go (recovery_for w.manager part backup witness)
     where
       go : (o : Result Recover ℕ) → Orders w (unless_refused w.manager (recovers w.manager part) o)
-      go (Ok o) = rests _ refl refl refl (recovery_may w.manager.moving _ o)
-      go (Err why) = rests _ refl refl refl tt
+      go (Ok o) = rests _ refl refl refl refl (recovery_may w.manager.moving _ o)
+      go (Err why) = rests _ refl refl refl refl tt
 
   replace_orders : (kind : Keeper) (part spot : ℕ) → Orders w (replace w.manager kind part spot)
   unfolding replace
@@ -139,41 +166,61 @@ module _ {w : World} (names : Names w) where
       go : (o : Result PartConfig ℕ) → Orders w (unless_refused w.manager (replaces w.manager part kind spot) o)
       go (Ok c) =
           let fresh : NodeId = fresh_node w.manager kind in
-          rests (replaces w.manager part kind spot c) refl (next_migration kind) refl (replacement_may w.manager.moving c kind fresh w.manager.next.version (new_backups c kind spot fresh) (new_witnesses c kind spot fresh))
-      go (Err why) = rests _ refl refl refl tt
+          rests (replaces w.manager part kind spot c) refl (next_migration kind) refl refl (replacement_may w.manager.moving c kind fresh w.manager.next.version (new_backups c kind spot fresh) (new_witnesses c kind spot fresh))
+      go (Err why) = rests _ refl refl refl refl tt
 
   again_orders : (o : Option PartConfig) → Orders w (tells_again w.manager o)
-  again_orders None = rests _ refl refl refl tt
-  again_orders (Some c) = rests _ refl refl refl (tt, tt)
+  again_orders None = rests _ refl refl refl refl tt
+  again_orders (Some c) = rests _ refl refl refl refl (tt, tt)
 
   recovered_orders : (r : Recovered) → Orders w (on_recovered w.manager r)
   unfolding on_recovered
-  recovered_orders r = go (finished w.manager r) (part_at w.manager r.part)
+  recovered_orders r = go (finished w.manager r) (part_at w.manager r.part) refl
     where
-      go : (a : Option Attempted) (c : Option PartConfig) → Orders w (recovered_in w.manager r a c)
-      go (Some a) (Some c) = rests _ refl refl refl (tt, tt)
-      go (Some a) None = again_orders (adopted_at w.manager r)
-      go None c = again_orders (adopted_at w.manager r)
+      go : (a : Option Attempted) (o : Option PartConfig) → numbered w.manager.config.parts r.part ≡ o → Orders w (recovered_in w.manager r a o)
+      go (Some a) (Some c) here =
+          let k = place w.manager.config.parts r.part c here in
+          adopts_orders r.part (recovered_part c a) (record { before = c; was = record { place = k.0; stands = k.2 }; its_part = refl; its_ranges = refl })
+      go (Some a) None here = again_orders (adopted_at w.manager r)
+      go None o here = again_orders (adopted_at w.manager r)
+
+  -- the entry whose new lists are in work is a present one
+  work_among : (version : ℕ) (x : NewLists) → version_in_work w.manager version ≡ Some x → IsAmong x.part w.manager.config.parts
+  work_among version x is =
+      let t = there_among (map (λ (c : PartConfig). lists_in_work version c (numbered w.manager.doing c.part)) w.manager.config.parts) x is in
+      let m = at_mapped (λ (c : PartConfig). lists_in_work version c (numbered w.manager.doing c.part)) w.manager.config.parts t.place (Some x) t.stands in
+      subst (λ (c : PartConfig). IsAmong c w.manager.config.parts) (of m.0 (numbered w.manager.doing m.0.part) m.2) (record { place = t.place; stands = m.1 })
+    where
+      by_version : (c : PartConfig) (b : Bool) (lists : NewLists) → lists.part ≡ c → only_if b lists ≡ Some x → c ≡ x.part
+      by_version c true lists its is = let same : lists ≡ x = cc is in sym its ∙ ap (λ (y : NewLists). y.part) same
+      by_version c false lists its is = absurd cc
+
+      of : (c : PartConfig) (d : Option Doing) → lists_in_work version c d ≡ Some x → c ≡ x.part
+      of c (Some (Replacing kind fresh own backups witnesses)) is = by_version c (own == version) (record { part = c; version = own; backups = backups; witnesses = witnesses }) refl is
+      of c (Some (Recovering master order)) is = absurd cc
+      of c (Some Steady) is = absurd cc
+      of c None is = absurd cc
 
   prepared_orders : (version : ℕ) → Orders w (on_prepared w.manager version)
   unfolding on_prepared
-  prepared_orders version = go (version_in_work w.manager version)
+  prepared_orders version = go (version_in_work w.manager version) refl
     where
-      go : (o : Option NewLists) → Orders w (prepared_in w.manager version o)
-      go (Some p) = rests _ refl refl refl (tt, tt)
-      go None = again_orders (version_adopted w.manager version)
+      go : (o : Option NewLists) → version_in_work w.manager version ≡ o → Orders w (prepared_in w.manager version o)
+      go (Some x) is = adopts_orders x.part.part (record x.part { version = x.version; backups = x.backups; witnesses = x.witnesses })
+          (record { before = x.part; was = work_among version x is; its_part = refl; its_ranges = refl })
+      go None is = again_orders (version_adopted w.manager version)
 
   expire_orders : (client : ℕ) → Orders w (expire w.manager client)
   unfolding expire
   expire_orders client = go (client_for w.manager client)
     where
       go : (o : Result ℕ ℕ) → Orders w (unless_refused w.manager (expires w.manager) o)
-      go (Ok c) = rests _ refl refl refl (expire_may w.manager.moving c)
-      go (Err why) = rests _ refl refl refl tt
+      go (Ok c) = rests _ refl refl refl refl (expire_may w.manager.moving c)
+      go (Err why) = rests _ refl refl refl refl tt
 
   nudge_orders : Orders w (nudge w.manager)
   unfolding nudge
-  nudge_orders = rests _ refl refl refl nudge_may
+  nudge_orders = rests _ refl refl refl refl nudge_may
 
   -- the package comes, and goes on to the target
   taken_orders : (t : Parcel) → Orders w (on_taken w.manager t)
@@ -181,18 +228,18 @@ module _ {w : World} (names : Names w) where
   taken_orders t = by_migration w.manager.moving refl
     where
       gives_orders : (m : Migration) → w.manager.moving ≡ Some m → (o : Option PartConfig) → numbered w.manager.config.parts m.target ≡ o → Orders w (gives w.manager m t.package o)
-      gives_orders m is None found = rests _ refl refl refl tt
+      gives_orders m is None found = rests _ refl refl refl refl tt
       gives_orders m is (Some target) found =
           let k = place w.manager.config.parts m.target target found in
           record {
             shape = refl;
             orders = ((record m { moved = Some t.package }, refl, refl, present_master target (record { place = k.0; stands = k.2 }) m.target (entry_numbered names m.target target found)), tt);
-            change = inl (record { next = refl; same = inr (m, t.package, is, refl) });
+            change = inl (record { next = refl; same = inr (m, t.package, is, refl); ranges = all_kept });
           }
 
       by_migration : (o : Option Migration) → w.manager.moving ≡ o → Orders w (taken_in w.manager t o)
-      by_migration None is = rests _ refl refl refl tt
-      by_migration (Some m) is = cond_both (m.number == t.migration) _ _ (Orders w) (λ y. gives_orders m is (part_at w.manager m.target) refl) (λ y. rests _ refl refl refl tt)
+      by_migration None is = rests _ refl refl refl refl tt
+      by_migration (Some m) is = cond_both (m.number == t.migration) _ _ (Orders w) (λ y. gives_orders m is (part_at w.manager m.target) refl) (λ y. rests _ refl refl refl refl tt)
 
   -- ---- a migration begins
 
@@ -225,6 +272,11 @@ module _ {w : World} (names : Names w) where
           node = owner.master;
           is = is;
           ordered = record { place = 0; stands = refl };
+          config = refl;
+          owner = owner;
+          present = a;
+          its_part = refl;
+          covers = owns;
         }));
       }
     where
@@ -236,7 +288,7 @@ module _ {w : World} (names : Names w) where
           absurd (cc (lacking, owns))
 
   refused : (why : ℕ) → Orders w (refuses w.manager why)
-  refused why = rests _ refl refl refl tt
+  refused why = rests _ refl refl refl refl tt
 
   by_moving : (r : Range) (to : ℕ) (target owner : PartConfig) → numbered w.manager.config.parts to ≡ Some target → owns_range r.lo r.hi target ≡ false → owner_of_range w.manager r.lo r.hi ≡ Some owner
       → (busy : Option Migration) → w.manager.moving ≡ busy
@@ -304,12 +356,25 @@ module _ {w : World} (names : Names w) where
               };
             }
 
+    -- and was ordered to be given to its target
+    ordered_give : (from : NodeId) (m : Migration) → WasSent w (says from manager_node (body.Given m.number)) → GiveWasOrdered w from m.number
+    ordered_give from m sent = (said inv from manager_node (body.Given m.number) sent).1
+
+    given_order : (from : NodeId) (m : Migration) → w.manager.moving ≡ Some m → (sent : WasSent w (says from manager_node (body.Given m.number)))
+        → WasOrdered w m.target (body.GiveIn (ordered_give from m sent).parcel)
+    given_order from m is sent =
+        let g = ordered_give from m sent in
+        subst (λ (part : ℕ). WasOrdered w part (body.GiveIn g.parcel)) ((routes.in_work m is).to_target g.part g.parcel g.ordered g.its_number) g.ordered
+
     given_orders : (from : NodeId) (number : ℕ) → WasSent w (says from manager_node (body.Given number)) → Orders w (on_given w.manager number)
     unfolding on_given
     given_orders from number sent = by_migration w.manager.moving refl
       where
+        told : (m : Migration) → (m.number == number) ≡ true → WasSent w (says from manager_node (body.Given m.number))
+        told m y = subst (λ (k : ℕ). WasSent w (says from manager_node (body.Given k))) (sym (eqb-true m.number number y)) sent
+
         by_migration : (o : Option Migration) → w.manager.moving ≡ o → Orders w (given_in w.manager number o)
-        by_migration None is = rests _ refl refl refl tt
+        by_migration None is = rests _ refl refl refl refl tt
         by_migration (Some m) is = cond_both (m.number == number) _ _ (Orders w)
             (λ y. record {
               shape = refl;
@@ -319,20 +384,24 @@ module _ {w : World} (names : Names w) where
                 was = is;
                 free = refl;
                 next = refl;
-                done = given_done from m is (subst (λ (k : ℕ). WasSent w (says from manager_node (body.Given k))) (sym (eqb-true m.number number y)) sent);
+                done = given_done from m is (told m y);
+                moved = refl;
+                parcel = (ordered_give from m (told m y)).parcel;
+                given = given_order from m is (told m y);
+                its_parcel = (ordered_give from m (told m y)).its_number;
               }));
             })
-            (λ y. rests _ refl refl refl tt)
+            (λ y. rests _ refl refl refl refl tt)
 
     -- ---- inputs
 
     heard_orders : (from : NodeId) (b : Body) → WasSent w (says from manager_node b) → Orders w (heard w.manager from b)
-    heard_orders from body.Fetch sent = rests _ refl refl refl (tt, tt)
+    heard_orders from body.Fetch sent = rests _ refl refl refl refl (refl, tt)
     heard_orders from (body.Recovered r) sent = recovered_orders r
     heard_orders from (body.Prepared version) sent = prepared_orders version
     heard_orders from (body.Taken t) sent = taken_orders t
     heard_orders from (body.Given number) sent = given_orders from number sent
-    heard_orders from _ sent = rests _ refl refl refl tt
+    heard_orders from _ sent = rests _ refl refl refl refl tt
 
     told_orders : (order : Local) → Orders w (told w.manager order)
     told_orders (local.Recover part backup witness) = recover_orders part backup witness
@@ -340,10 +409,10 @@ module _ {w : World} (names : Names w) where
     told_orders (local.Migrate lo hi to) = migrate_orders lo hi to
     told_orders local.Nudge = nudge_orders
     told_orders (local.Expire client) = expire_orders client
-    told_orders _ = rests _ refl refl refl tt
+    told_orders _ = rests _ refl refl refl refl tt
 
     unless_ended : (r : Moved ManagerState) → Orders w r → Orders w (unless_numbers_end w.manager r)
-    unless_ended r good = cond_both _ _ _ (Orders w) (λ y. rests _ refl refl refl tt) (λ y. good)
+    unless_ended r good = cond_both _ _ _ (Orders w) (λ y. rests _ refl refl refl refl tt) (λ y. good)
 
     message_orders : (from : NodeId) (b : Body) → WasSent w (says from manager_node b) → Orders w (on_manager w.manager from b)
     unfolding on_manager

@@ -1,6 +1,5 @@
 -- What a message says stays so, whatever kind it is.
-use Rattle.std.proofs.Common.{ℕ, List, sym, subst}
-use Rattle.curp_base.specs.Words.{At}
+use Rattle.std.proofs.Common.{ℕ, ◌+◌, List, subst}
 use Rattle.curp_base.proofs.Lists.{Each-weaker}
 use Rattle.curp_cmd.specs.declared.command.Request.{Request}
 use Rattle.curp_cmd.specs.declared.node.NodeId.{NodeId}
@@ -11,10 +10,10 @@ use Rattle.curp_msg.specs.declared.body.Body.TheVariants as body
 use Rattle.curp_msg.specs.declared.body.Recover.{Recover}
 use Rattle.curp_msg.specs.declared.config.Config.{Config}
 use Rattle.curp_msg.specs.declared.config.PartConfig.{PartConfig}
-use Rattle.curp_model.specs.Manager.{Shape, opening_config}
+use Rattle.curp_model.specs.Manager.{Shape}
 use Rattle.curp_model.specs.World.{World}
 use Rattle.curp_range.specs.Spans.{Span}
-use Rattle.curp_facts.specs.Facts.{ConfigOk, EntryWas, GivenTo, Opened, TakenFrom, WereRanges}
+use Rattle.curp_facts.specs.Facts.{AtFirst, EntryWas, HasRanges, Migrated, RangesAfter, WasMigrated, ranges_at_first}
 use Rattle.curp_facts.specs.Invariant.{Invariant}
 use Rattle.curp_facts.specs.Said.{AskSaid, IsGiveFrom, IsOrderedTo, IsTakeOf, Says, SuspectsHold, UpdateSaid}
 use Rattle.curp_law_stays.proofs.Entries.{ordered_later, refusal_later, request_later, updates_later}
@@ -24,16 +23,28 @@ use Rattle.curp_law_stays.proofs.Replies.{entry_stored_later, gc_later, reply_la
 use Rattle.curp_law_stays.proofs.Words.{Follows, adopted_later, event_at, given_later, ready_later, sent_later}
 
 module _ {w v : World} (s : Follows w v) where
-  pub ranges_later : (part : ℕ) (spans : List Span) → WereRanges w part spans → WereRanges v part spans
-  ranges_later _ _ (Opened k c at) = Opened k c (subst (λ (x : Shape). At (opening_config x).parts k c) (sym s.later.shape) at)
-  ranges_later _ _ (TakenFrom part spans order before ordered) = TakenFrom part spans order (ranges_later part spans before) (ordered_later s ordered)
-  ranges_later _ _ (GivenTo part other spans order before ordered) = GivenTo part other spans order (ranges_later part spans before) (ordered_later s ordered)
+  abbrev migrated_later : (number : ℕ) → WasMigrated w number → WasMigrated v number
+  migrated_later number m = record {
+    source = m.source;
+    target = m.target;
+    apart = m.apart;
+    order = m.order;
+    ordered = ordered_later s m.ordered;
+    its_order = m.its_order;
+    parcel = m.parcel;
+    given = ordered_later s m.given;
+    its_parcel = m.its_parcel;
+  }
+
+  pub ranges_later : (n : ℕ) (ranges : ℕ → List Span) → RangesAfter w n ranges → RangesAfter v n ranges
+  ranges_later _ _ AtFirst = subst (λ (x : Shape). RangesAfter v 0 (ranges_at_first x)) s.later.shape AtFirst
+  ranges_later _ _ (Migrated n ranges before m covered) = Migrated n ranges (ranges_later n ranges before) (migrated_later (n + 1) m) covered
+
+  pub has_ranges_later : (config : Config) → HasRanges w config → HasRanges v config
+  has_ranges_later config ok = record { count = ok.count; ranges = ok.ranges; after = ranges_later ok.count ok.ranges ok.after; has = ok.has }
 
   pub entry_was_later : (c : PartConfig) → EntryWas w c → EntryWas v c
-  entry_was_later c ok = record { adopted = adopted_later s ok.adopted; ranges = ranges_later c.part c.ranges ok.ranges }
-
-  pub config_later : (config : Config) → ConfigOk w config → ConfigOk v config
-  config_later config ok = Each-weaker (EntryWas w) (EntryWas v) entry_was_later config.parts ok
+  entry_was_later c ok = adopted_later s ok
 
   asked_later : (from : NodeId) (r : Request) → AskSaid w from r → AskSaid v from r
   asked_later from r ok = record { request = request_later s ok.request; sender = ok.sender }
@@ -58,7 +69,7 @@ module _ {w v : World} (s : Follows w v) where
   says_later inv place from to (body.Quick q) ok = quick_later s place from to q ok
   says_later inv place from to (body.Probed a) ok = probed_later s from to a ok
   says_later inv place from to (body.Record r) ok = update_said_later from r.request ok
-  says_later inv place from to (body.Configuration config) ok = config_later config ok
+  says_later inv place from to (body.Configuration config) ok = Each-weaker (EntryWas w) (EntryWas v) entry_was_later config.parts ok
   says_later inv place from to (body.Reply r) ok = reply_later s from to r ok
   says_later inv place from to (body.Worth x) ok = worth_later s from to x ok
   says_later inv place from to (body.Refuse r) ok = refusal_later s r.id.client r.refusal ok
