@@ -27,7 +27,7 @@ use Rattle.curp_msg.specs.declared.body.TakeOut.{TakeOut}
 use Rattle.curp_msg.specs.declared.config.Config.{Config}
 use Rattle.curp_msg.specs.declared.config.PartConfig.{PartConfig}
 use Rattle.curp_msg.specs.declared.message.Message.{Message}
-use Rattle.curp_range.specs.Spans.{Span, is_covered, with_range, without}
+use Rattle.curp_range.specs.Spans.{Owns, Span, is_covered, with_range, without}
 use Rattle.curp_model.specs.declared.Mode.TheVariants as mode
 use Rattle.curp_model.specs.Backup.{BackupState}
 use Rattle.curp_model.specs.Client.{Attempt, ClientState, Pending}
@@ -410,10 +410,11 @@ pub record PreparedOk (w : World) (from : NodeId) (version : ℕ) : Type 0 where
 abbrev pub EntryWas : World → PartConfig → Type 0
 EntryWas w c = WasAdopted w (lists_of_part c)
 
--- each entry of a configuration was adopted, and all have the ranges after the same migrations
+-- each entry of a configuration was adopted, and all have the ranges after the same migrations. So no hash is in those of two
 pub record ConfigOk (w : World) (config : Config) : Type 0 where
   pub entries : Each (EntryWas w) config.parts
   pub ranges : HasRanges w config
+  pub apart : (c d : PartConfig) (h : ℕ) → IsAmong c config.parts → IsAmong d config.parts → Owns c.ranges h → Owns d.ranges h → c.part ≡ d.part
 
 -- it is a master that had lists of that epoch, and of that version
 pub record Speaks (w : World) (from : NodeId) (epoch version : ℕ) : Type 0 where

@@ -20,3 +20,4 @@ pub mod Owned
 pub mod Migrations
 pub mod Taken
 pub mod Shown
+pub mod OpeningRanges

@@ -14,6 +14,7 @@ pub mod EarlyReplies
 pub mod Collections
 pub mod FirstNumbers
 pub mod Told
+pub mod Ranges
 pub mod Messages
 pub mod Said
 pub mod Completed

@@ -1,5 +1,5 @@
 -- What each message says stays true.
-use Rattle.std.proofs.Common.{◌≡◌, inl, inr, ℕ, ◌+◌, Bool, true, false, refl, ap, sym, ◌∙◌, subst, arith}
+use Rattle.std.proofs.Common.{◌≡◌, ◌≤◌, ◌^◌, inl, inr, ℕ, ◌+◌, Bool, true, false, refl, ap, sym, ◌∙◌, subst, arith}
 use Rattle.curp_base.specs.Words.{At, Each}
 use Rattle.curp_base.proofs.Lists.{Each-at, Each-from_at}
 use Rattle.curp_cmd.specs.Node.{manager_node}
@@ -33,6 +33,7 @@ use Rattle.curp_law_names.proofs.Lists.{each_among}
 use Rattle.curp_law_pairs.specs.GivenStand.{GivenStand}
 use Rattle.curp_facts.specs.Predecessors.{Predecessors}
 use Rattle.curp_law_pairs.proofs.Logs.{begins, reached}
+use Rattle.curp_law_pairs.proofs.Ranges.{config_ok}
 use Rattle.curp_law_pairs.proofs.Requests.{held_there}
 use Rattle.curp_law_pairs.proofs.Told.{is_server, package_ok, taken_on_adopted}
 use Rattle.curp_law_pairs.proofs.Words.{said}
@@ -90,7 +91,7 @@ module _ {w : World} (names : Names w) (inv : Invariant w) where
       go true s = (ok.speaks, synced_ok from r s)
       go false e = ok.speaks
 
-  module _ (chain : Predecessors w) (earlier : GivenStand w) (configs : Configs w) where
+  module _ (chain : Predecessors w) (earlier : GivenStand w) (configs : Configs w) (few : w.manager.shape.parts ≤ 2 ^ 64) where
     body_ok : (place : ℕ) (from to : NodeId) (b : Body) → At (messages w) place (says from to b) → IsOf w (sender_kind b) from → Says w place from to b → BodyOk w from to b
     body_ok place from to (body.Append a) at of ok = ok.holds
     body_ok place from to (body.Appended a) at of ok = append_answer w from to a a.answer ok.1
@@ -110,10 +111,8 @@ module _ {w : World} (names : Names w) (inv : Invariant w) where
     body_ok place from to (body.Prepared version) at of ok = ok
     body_ok place from to (body.Configuration config) at of ok =
         let manager : from ≡ manager_node = the_manager w from of in
-        record {
-          entries = ok;
-          ranges = configs.told to config (record { place = place; stands = subst (λ (x : NodeId). At (messages w) place (says x to (body.Configuration config))) manager at });
-        }
+        let stands : At (messages w) place (says manager_node to (body.Configuration config)) = subst (λ (x : NodeId). At (messages w) place (says x to (body.Configuration config))) manager at in
+        config_ok names few config ok (configs.told to config (record { place = place; stands = stands }))
     body_ok place from to _ at of ok = tt
 
     -- each message's sender and addressee are nodes, and what it says is so

@@ -1,5 +1,5 @@
 -- What was said, and what recoveries and clients go by.
-use Rattle.std.proofs.Common.{◌≡◌, ℕ, suc, refl, ap, Option, Some, None}
+use Rattle.std.proofs.Common.{◌≡◌, ◌≤◌, ◌^◌, ℕ, suc, refl, ap, Option, Some, None}
 use Rattle.curp_base.specs.Words.{At, Each, numbered}
 use Rattle.curp_base.proofs.Lists.{Each-from_at, Each-weaker}
 use Rattle.curp_cmd.specs.declared.node.NodeId.{NodeId}
@@ -21,6 +21,7 @@ use Rattle.curp_law_names.proofs.Lists.{at_place}
 use Rattle.curp_law_pairs.specs.GivenStand.{GivenStand}
 use Rattle.curp_facts.specs.Predecessors.{Predecessors}
 use Rattle.curp_law_pairs.proofs.Messages.{messages_ok}
+use Rattle.curp_law_pairs.proofs.Ranges.{config_ok}
 
 module _ {w : World} (names : Names w) (inv : Invariant w) where
   -- a recovery that has a log replayed it from the two that its order named
@@ -62,16 +63,15 @@ module _ {w : World} (names : Names w) (inv : Invariant w) where
         its_witnesses = ap (λ (x : Attempt). x.witnesses) k.is;
       }
 
-  pub said_ok : Nodes w → Predecessors w → GivenStand w → Configs w → SaidOk w
-  said_ok nodes chain earlier configs = record {
-    messages_ok = messages_ok names inv chain earlier configs nodes;
+  pub said_ok : Nodes w → Predecessors w → GivenStand w → Configs w → w.manager.shape.parts ≤ 2 ^ 64 → SaidOk w
+  said_ok nodes chain earlier configs few = record {
+    messages_ok = messages_ok names inv chain earlier configs few nodes;
     recoveries = recoveries;
     attempts = Each-from_at (λ (c : PartConfig). AttemptOk c (numbered w.manager.doing c.part)) w.manager.config.parts attempts;
-    config = record {
-      entries = Each-from_at (EntryWas w) w.manager.config.parts (λ k c at. (inv.present c (at_place w.manager.config.parts k c.part c (names.entries k c at) at)).entry);
-      ranges = configs.present.have;
-    };
+    config = config_ok names few w.manager.config
+        (Each-from_at (EntryWas w) w.manager.config.parts (λ k c at. (inv.present c (at_place w.manager.config.parts k c.part c (names.entries k c at) at)).entry))
+        configs.present.have;
     configs = Each-from_at (λ (c : ClientState). ConfigOk w c.config) w.clients (λ k c at.
-        record { entries = (inv.clients (suc k) c at).knows.config; ranges = configs.known (suc k) c at });
+        config_ok names few c.config (inv.clients (suc k) c at).knows.config (configs.known (suc k) c at));
     sendings = Each-from_at (λ (c : ClientState). Each (λ (p : Pending). Each (AttemptWas w) p.attempts) c.pending) w.clients sendings;
   }

@@ -1,8 +1,9 @@
 -- The facts on what was said, on logs and on nodes, in one world.
-use Rattle.std.proofs.Common.{◌≡◌, ◌-◌, List, arith}
+use Rattle.std.proofs.Common.{◌≡◌, ◌≤◌, ◌-◌, ◌^◌, List, ap, arith}
 use Rattle.curp_base.proofs.Lists.{at_some}
 use Rattle.curp_msg.specs.declared.script.Header.{Header}
 use Rattle.curp_msg.specs.declared.script.Step.{Step}
+use Rattle.curp_model.specs.Manager.{Shape}
 use Rattle.curp_model.specs.World.{World, opening, shape_of, world}
 use Rattle.curp_facts.specs.Facts.{IsAdoptedNow, PairsGood, lists_of_part}
 use Rattle.curp_facts.specs.Kept.{FactsKept, PartsHaveEntries}
@@ -38,13 +39,13 @@ pub shape_all : (h : Header) (steps : List Step) → IsRun h steps → (world h 
 unfolding opening
 shape_all h steps is = (always h steps is).later.shape
 
-facts : (w : World) → Known w → Moving w → FactsKept w
-facts w known m = record {
+facts : (w : World) → Known w → Moving w → w.manager.shape.parts ≤ 2 ^ 64 → FactsKept w
+facts w known m few = record {
   entries = parts_have_entries known.names;
   lists = known.names.given;
   names = known.names.agree;
   held = λ node x is. frozen_apart x (known.inv.witnesses node x is).apart;
-  said = said_ok known.names known.inv known.nodes m.chain (given_stand known.names known.inv m.chain m.routes) m.configs;
+  said = said_ok known.names known.inv known.nodes m.chain (given_stand known.names known.inv m.chain m.routes) m.configs few;
   logs = logs_ok known.names known.inv;
   backups = backups_follow known.names known.inv;
   masters = masters_follow known.names known.inv;
@@ -56,7 +57,9 @@ facts w known m = record {
 
 -- in every run
 pub facts_all : (h : Header) (steps : List Step) → IsRun h steps → FactsKept (world h steps)
-facts_all h steps is = let a = moving_all h steps is in facts (world h steps) a.0 a.1
+facts_all h steps is =
+    let a = moving_all h steps is in
+    facts (world h steps) a.0 a.1 (omega (arith, ap (λ (s : Shape). s.parts) (shape_all h steps is), is.header.parts.1))
 
 -- and any pair of a backup and a witness is good
 pub pairs_all : (h : Header) (steps : List Step) → IsRun h steps → PairsGood (world h steps)
