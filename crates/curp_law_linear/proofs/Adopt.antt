@@ -1,5 +1,5 @@
 -- An adoption is a move of the machine, and leads to what the machine has of the world behind it.
-use Rattle.std.proofs.Common.{◌≡◌, ℕ, zero, suc, ◌-◌, List, [], ◌∷◌, ◌++◌, map, drop, length, refl, ap, sym, ◌∙◌, Option, Some}
+use Rattle.std.proofs.Common.{◌≡◌, ◌+◌, ◌==◌, ◌&&◌, if◌then◌else◌, ℕ, zero, suc, ◌-◌, true, false, List, [], ◌∷◌, ◌++◌, map, drop, length, refl, ap, sym, ◌∙◌, Option, Some}
 use Rattle.std.specs.Prelude.{set}
 use Rattle.curp_base.specs.Words.{IsPrefix, numbered}
 use Rattle.curp_base.proofs.Lists.{Each-at}
@@ -10,7 +10,7 @@ use Rattle.curp_msg.specs.Moved.{Moved}
 use Rattle.curp_msg.specs.declared.config.PartConfig.{PartConfig}
 use Rattle.curp_order.specs.declared.Event.{Event}
 use Rattle.curp_model.specs.Manager.{Attempted, ManagerState, Shape, recovered_part}
-use Rattle.curp_model.specs.Marks.{Mark}
+use Rattle.curp_model.specs.Marks.{Mark, Quick, adoptions, cut_mark, is_quick}
 use Rattle.curp_model.specs.Marks as mark
 use Rattle.curp_model.specs.Recovery.{MasterStage, RecoveryPhase}
 use Rattle.curp_model.specs.Witness.{frozen_requests}
@@ -20,18 +20,20 @@ use Rattle.curp_facts.specs.Facts.{phase_log}
 use Rattle.curp_law_kept.specs.ManagerEffect.{ManagerEffect}
 use Rattle.curp_facts.specs.Known.{Known}
 use Rattle.curp_law_line.specs.Hashes.{Part}
-use Rattle.curp_law_line.specs.Moves.{Adopt, AdoptFits, adopting, ops, relogged, replayed_of}
-use Rattle.curp_law_line.specs.OfWorld.{entries_at, line_of, logged_entries, moving_of, part_of}
+use Rattle.curp_law_line.specs.Line.{Left}
+use Rattle.curp_law_line.specs.Moves.{Adopt, AdoptFits, adopting, left_after, ops, relogged, replayed_of}
+use Rattle.curp_law_line.specs.OfWorld.{cuts, entries_at, left_of, line_of, logged_entries, moving_of, part_of}
 use Rattle.curp_law_linear.specs.Ordered.{NotQuick, Ordered}
-use Rattle.curp_law_linear.specs.Refined.{seen}
 use Rattle.curp_law_linear.proofs.AdoptDone.{adopt, done_replayed}
-use Rattle.curp_law_linear.proofs.AdoptHeld.{held_apart, held_asked, looks_short}
+use Rattle.curp_law_linear.proofs.AdoptHeld.{cuts_short, held_apart, held_asked, looks_short}
+use Rattle.curp_law_linear.proofs.AdoptLeft.{drop_front, left_adopted, left_front}
 use Rattle.curp_law_linear.proofs.AdoptMigrations.{only_moving, told_stays, unowned}
 use Rattle.curp_law_linear.proofs.AdoptRecovery.{Recovery}
-use Rattle.curp_law_linear.proofs.Managers.{moved_line}
-use Rattle.curp_law_linear.proofs.ManagersLine.{map_alike, seat, seated, seated_grown, seated_parts}
+use Rattle.curp_law_linear.proofs.CutMarks.{cuts_adopted}
+use Rattle.curp_law_linear.proofs.Cuts.{last_reign}
+use Rattle.curp_law_linear.proofs.Managers.{moved_line, moved_marks}
+use Rattle.curp_law_linear.proofs.ManagersLine.{entries_grown, map_alike, seat, seated, seated_grown, seated_parts}
 use Rattle.curp_law_linear.proofs.Parts.{entry_part}
-use Rattle.curp_law_linear.proofs.Superseded.{firm_nowhere, quick_nowhere}
 use Rattle.curp_facts.specs.Names.{Names}
 use Rattle.curp_law_names.proofs.Later.{Later}
 use Rattle.curp_law_names.proofs.Steps.{manager_moved}
@@ -50,10 +52,9 @@ requests_of_ops : (rs : List Request) → op_requests (ops rs) ≡ rs
 requests_of_ops [] = refl
 requests_of_ops (r ∷ rs) = ap (λ (qs : List Request). r ∷ qs) (requests_of_ops rs)
 
--- what stands behind a beginning
-drop_front : {A : Type 0} (xs ys : List A) → drop (length xs) (xs ++ ys) ≡ ys
-drop_front [] ys = refl
-drop_front (x ∷ xs) ys = drop_front xs ys
+-- a mark that is no quick one doesn't have the place of one
+quick_nowhere : (m : Mark) (number : ℕ) → NotQuick m → m.place ≡ Quick number → ⊥
+quick_nowhere m number slow is = let bad : false ≡ true = sym slow ∙ ap is_quick is in cc
 
 module _ {w : World} (known : Known w) (chain : Predecessors w) (routes : Routes w) (migrated : Migrated w) (ordered : Ordered w)
     (c : PartConfig) (a : Attempted) (o : Recovery w c a) (front : IsPrefix o.b.log (part_of w c).log) where
@@ -73,7 +74,7 @@ module _ {w : World} (known : Known w) (chain : Predecessors w) (routes : Routes
     looks = λ k m number long at part place completed. looks_short known c a o ordered k m number long at part place completed;
     told = told_stays known routes migrated c a o front;
     quicks = λ j k i number h m u at is. absurd (quick_nowhere m number (Each-at NotQuick w.marks ordered.no_quicks j m at) is);
-    cuts = λ j number long h m at is part firm. absurd (firm_nowhere m.part number h firm);
+    cuts = λ j number long h m at is part firm. cuts_short known chain ordered c a o j m number long at part is;
   }
 
   -- the log that was replayed
@@ -119,8 +120,19 @@ module _ {w : World} (known : Known w) (chain : Predecessors w) (routes : Routes
           here : ℕ × NodeId → Part
           here s = seated w.manager.shape w.masters s
 
+      -- the log that it had is superseded
+      adopted_left : (p n : ℕ) → left_of v p n ≡ left_after (line_of w) it p n
+      adopted_left p n =
+          left_adopted w v later.shape (λ node. entries_grown w.masters r.state.next.master node.number) c own (last_reign known ordered.cuts_follow c o.now)
+          (λ q. ap (cuts q) (moved_marks (Some a) events none r does ∙ marks_are) ∙ cuts_adopted q a.master c.part a.order.epoch (length o.b.log) (replayed_of it) w.marks) p n
+          ∙ ap (λ (l : Left). if (p == c.part) && (n == adoptions c.part w.marks + 1) then l else left_of w p n) (left_front (part_of w c) o.b.log front.rest front.is)
+        where
+          own : Mark
+          own = cut_mark a.master c.part a.order.epoch (adoptions c.part w.marks + 1) (length o.b.log)
+
       -- so the move leads there
-      pub adopt_leads : line_of v ≡ seen (adopting (line_of w) it)
+      pub adopt_leads : line_of v ≡ adopting (line_of w) it
       adopt_leads =
           moved_line (Some a) events none r does names (relogged (line_of w).parts c.part (part_of w c) (o.b.log ++ ops (replayed_of it))) adopted_parts (line_of w).moving (ap moving_of moving)
-          ∙ ap (λ (ms : List Mark). record (line_of w) { parts = relogged (line_of w).parts c.part (part_of w c) (o.b.log ++ ops (replayed_of it)); marks = ms }) marks_are
+          (left_after (line_of w) it) adopted_left
+          ∙ ap (λ (ms : List Mark). record (adopting (line_of w) it) { marks = ms }) marks_are

@@ -1,5 +1,6 @@
--- What the witness held that an adoption replays from; and the looks that stay.
-use Rattle.std.proofs.Common.{◌≡◌, ℕ, ◌≤◌, true, length, sym, subst, arith, inl}
+-- What the witness held that an adoption replays from; and the looks, and the logs that were recovered before, that stay.
+use Rattle.std.proofs.Common.{◌≡◌, ℕ, ◌≤◌, ◌==◌, ◌&&◌, true, length, ap, sym, ◌∙◌, subst, arith, inl}
+use Rattle.std.proofs.lemmas.Bool.Decides.{nat_tests}
 use Rattle.std.specs.List.{IsDistinct}
 use Rattle.curp_base.specs.Words.{At}
 use Rattle.curp_base.proofs.Lists.{Each-at, at_some}
@@ -9,18 +10,21 @@ use Rattle.curp_cmd.specs.declared.command.Request.{Request}
 use Rattle.curp_msg.specs.declared.config.PartConfig.{PartConfig}
 use Rattle.curp_model.specs.Laws.{clash}
 use Rattle.curp_model.specs.Manager.{Attempted}
-use Rattle.curp_model.specs.Marks.{Looked, Mark}
+use Rattle.curp_model.specs.Marks.{Cut, Looked, Mark, Place, cuts_part, is_cut}
 use Rattle.curp_model.specs.Witness.{HeldRequest, frozen_requests}
 use Rattle.curp_model.specs.World.{World}
 use Rattle.curp_facts.specs.Entries.{UpdateOk}
 use Rattle.curp_cmd.specs.Store.{NamesKey}
 use Rattle.curp_facts.specs.Known.{Known}
+use Rattle.curp_facts.specs.Predecessors.{Predecessors}
 use Rattle.curp_law_line.specs.Moves.{IsHeld}
-use Rattle.curp_law_line.specs.OfWorld.{line_of}
+use Rattle.curp_law_line.specs.OfWorld.{cut_length, line_of}
 use Rattle.curp_law_line.proofs.Hashes.{key_touches}
+use Rattle.curp_law_line.proofs.Lists.{in_filter}
 use Rattle.curp_law_logs.proofs.Frozen.{frozen_apart, kept_held}
 use Rattle.curp_law_linear.specs.Ordered.{Ordered}
 use Rattle.curp_law_linear.proofs.AdoptRecovery.{Recovery}
+use Rattle.curp_law_linear.proofs.ReadsStored.{stored_now}
 
 module _ {w : World} (known : Known w) (c : PartConfig) (a : Attempted) (o : Recovery w c a) where
   -- (c) no two of them clash
@@ -49,3 +53,17 @@ module _ {w : World} (known : Known w) (c : PartConfig) (a : Attempted) (o : Rec
   -- (e) a completed look is no longer than what stays
   pub looks_short : Ordered w → (k : ℕ) (m : Mark) (number long : ℕ) → At w.marks k m → m.part ≡ c.part → m.place ≡ Looked number long → m.completed ≡ true → long ≤ length o.b.log
   looks_short ordered k m number long at part place completed = ordered.stored k number long m c at place o.now (sym part) (inl completed) a.order.backup o.ok.its_backup o.b o.its_backup
+
+-- (f) nor is a log that was recovered before
+pub cuts_short : {w : World} → Known w → Predecessors w → Ordered w → (c : PartConfig) (a : Attempted) (o : Recovery w c a) (k : ℕ) (m : Mark) (number long : ℕ) → At w.marks k m → m.part ≡ c.part
+    → m.place ≡ Cut number long → long ≤ length o.b.log
+cuts_short {w} known chain ordered c a o k m number long at part place =
+    let f = in_filter (cuts_part m.part) w.marks m (k, at) (is_own m place) in
+    let stored = stored_now known chain m.master m.part (cut_length m.place) ((ordered.cuts_follow m.part).stored f.0 m f.1) c o.now (sym part) a.order.backup o.ok.its_backup o.b o.its_backup in
+    omega (arith, stored, ap cut_length place)
+  where
+    is_own : (m : Mark) → m.place ≡ Cut number long → cuts_part m.part m ≡ true
+    is_own m is = ap (λ (p : Place). is_cut p && (m.part == m.part)) is ∙ self m.part
+      where
+        self : (n : ℕ) → (n == n) ≡ true
+        self n = grind (arith, nat_tests)

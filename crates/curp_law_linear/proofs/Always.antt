@@ -34,8 +34,7 @@ use Rattle.curp_law_kept.proofs.MastersMoves.{heard_in, input_idle, speaker}
 use Rattle.curp_law_kept.proofs.Others.{SaysMore, nothing_ready}
 use Rattle.curp_law_kept.proofs.Worlds.{other_item, same_history}
 use Rattle.curp_law_line.specs.Line.{LineOk}
-use Rattle.curp_law_line.specs.Moves.{all_after}
-use Rattle.curp_law_line.specs.OfWorld.{line_of}
+use Rattle.curp_law_line.specs.OfWorld.{cuts, line_of}
 use Rattle.curp_law_line.proofs.Discharged.{pure, second}
 use Rattle.curp_law_line.proofs.Keeps.{all_keep}
 use Rattle.curp_law_linear.specs.Ordered.{AdoptedOk, NoQuicks, Ordered}
@@ -44,6 +43,7 @@ use Rattle.curp_law_linear.proofs.ClientsRefine.{client_refines}
 use Rattle.curp_law_linear.proofs.Commands.{CommandsName}
 use Rattle.curp_law_linear.proofs.KeepersRefine.{backup_refines, rest_refines, witness_refines}
 use Rattle.curp_law_linear.proofs.Masters.{master_refines}
+use Rattle.curp_law_linear.proofs.MastersCuts.{master_cuts}
 use Rattle.curp_law_linear.proofs.MastersCaptures.{input_captures}
 use Rattle.curp_law_linear.proofs.MastersLogs.{master_logs}
 use Rattle.curp_law_linear.proofs.NoQuicks.{glances_none}
@@ -51,7 +51,6 @@ use Rattle.curp_law_linear.proofs.ReadsKeepers.{backup_reads, witness_reads}
 use Rattle.curp_law_linear.proofs.ReadsLater.{ReadsOk}
 use Rattle.curp_law_linear.proofs.ReadsMasterSteps.{input_reads, master_reads}
 use Rattle.curp_law_linear.proofs.ReadsQuiet.{client_reads, frame_reads, looks_same, none_late}
-use Rattle.curp_law_linear.proofs.Superseded.{seen_ok}
 use Rattle.curp_law_logs.specs.Gives.{GivesFit}
 use Rattle.curp_law_names.proofs.Later.{Later}
 use Rattle.curp_law_names.proofs.Lists.{all_of-kept}
@@ -69,7 +68,8 @@ pub record KeepsOrder (w v : World) : Type 0 where
 -- it keeps what is kept of the order
 pub ordered_after : {w v : World} → Ordered w → CommandsName v.history → ByOne v → NoQuicks v.marks → KeepsOrder w v → Ordered v
 ordered_after {w} {v} ordered commands by_one no_quicks k = record {
-  line = subst LineOk k.refines.leads (seen_ok (all_after (line_of w) k.refines.moves) (all_keep pure second k.refines.moves (line_of w) k.refines.fit ordered.line));
+  line = subst LineOk k.refines.leads (all_keep pure second k.refines.moves (line_of w) k.refines.fit ordered.line);
+  cuts_follow = k.reads.cuts_follow;
   commands = commands;
   by_one = by_one;
   no_quicks = no_quicks;
@@ -86,7 +86,7 @@ pub stay_keeps_order : {w : World} → Ordered w → KeepsOrder w w
 stay_keeps_order ordered = record {
   refines = record { moves = []; fit = tt; leads = refl };
   logs = ordered.logs;
-  reads = record { numbered_looks = ordered.numbered_looks; worths = ordered.worths; captures = ordered.captures; reached = ordered.reached; stored = ordered.stored };
+  reads = record { cuts_follow = ordered.cuts_follow; numbered_looks = ordered.numbered_looks; worths = ordered.worths; captures = ordered.captures; reached = ordered.reached; stored = ordered.stored };
 }
 
 -- ---- where no master moves
@@ -203,7 +203,7 @@ module _ {w : World} (known : Known w) (chain : Predecessors w) (migrated : Migr
         logs = same_logs w v says.manager masters ordered.logs;
         reads = frame_reads known now says (λ e. absurd cc) chain chain_now ordered
             (record { grows = grows; later = later; names = known.names; steady = known.steady; ready = nothing_ready says known.names (λ e. absurd cc) })
-            r.its r.quiet masters (looks_same (ap (λ (u : World). u.marks) rest.is)) (none_late known now says (λ e. absurd cc) (λ e. absurd cc));
+            r.its r.quiet masters (λ part. ap (λ (u : World). cuts part u.marks) rest.is) (looks_same (ap (λ (u : World). u.marks) rest.is)) (none_late known now says (λ e. absurd cc) (λ e. absurd cc));
       }
     where
       apart : kind.Manager ≢ kind.Client
@@ -236,5 +236,6 @@ module _ {w : World} (known : Known w) (chain : Predecessors w) (routes : Routes
       record {
         refines = r.its;
         logs = master_logs known chain routes migrated ordered migrated_now n from heard out m k step;
-        reads = master_reads known now chain chain_now ordered r.its r.quiet m k step marks (λ x y before after. input_reads known n m given (brings_one ordered.by_one (master_node n) given for) x y before after);
+        reads = master_reads known now chain chain_now ordered r.its r.quiet m k step marks (λ x y before after. input_reads known n m given (brings_one ordered.by_one (master_node n) given for) x y before after)
+            (master_cuts known now n from heard out m k step marks ordered.cuts_follow);
       }

@@ -47,6 +47,7 @@ use Rattle.curp_law_linear.proofs.Same.{SameLogs}
 use Rattle.curp_law_names.proofs.Lists.{all_of-kept}
 use Rattle.curp_facts.specs.Predecessors.{Predecessors}
 use Rattle.curp_facts.specs.Migrated.{Migrated}
+use Rattle.curp_law_linear.proofs.CutMarks.{cuts_after}
 use Rattle.curp_law_runs.proofs.ByOne.{by_value}
 
 -- ---- an order completes nothing
@@ -171,6 +172,7 @@ module _ {w : World} (known : Known w) (chain : Predecessors w) (migrated : Migr
       tells_nothing = tell_nothing (ClientSays (EntryWas w) n later) (client_tells (EntryWas w) n later) r.messages does.says;
       manager = refl;
       masters = refl;
+      cuts_same = λ part. cuts_after part r.completed w.marks;
     }
 
     -- the history, by what completes

@@ -19,6 +19,7 @@ use Rattle.curp_law_kept.proofs.Worlds.{same_history}
 use Rattle.curp_law_line.specs.OfWorld.{told_by}
 use Rattle.curp_law_linear.specs.Refined.{RefinesQuiet}
 use Rattle.curp_law_linear.proofs.Quiet.{no_move, tell_nothing}
+use Rattle.curp_law_linear.proofs.CutMarks.{cuts_after}
 use Rattle.curp_law_names.proofs.Lists.{all_of-kept}
 
 -- ---- what they tell of
@@ -48,6 +49,7 @@ module _ {w v : World} where
     tells_nothing = tell_nothing (BackupSays n given (backup_input n b given).state) (backup_tells n given (backup_input n b given).state) (backup_input n b given).messages effect.says;
     manager = refl;
     masters = refl;
+    cuts_same = λ part. cuts_after part (backup_input n b given).completed w.marks;
   }) (ap (λ (o : Option Completed). with_completion o w.marks) effect.idle) (same_history w.history events (backup_input n b given).completed none effect.idle))
     where
       effect : BackupEffect n given b (backup_input n b given)
@@ -61,6 +63,7 @@ module _ {w v : World} where
     tells_nothing = tell_nothing (WitnessSays n given (witness_input n x given).state) (witness_tells n given (witness_input n x given).state) (witness_input n x given).messages effect.says;
     manager = refl;
     masters = refl;
+    cuts_same = λ part. cuts_after part (witness_input n x given).completed w.marks;
   }) (ap (λ (o : Option Completed). with_completion o w.marks) effect.idle) (same_history w.history events (witness_input n x given).completed none effect.idle))
     where
       effect : WitnessEffect n given x (witness_input n x given)
@@ -68,9 +71,9 @@ module _ {w v : World} where
 
   -- nothing but what is stopped changes
   pub rest_refines : RestsIn w v → RefinesQuiet w v
-  rest_refines r = subst (RefinesQuiet w) (sym r.is) (no_move [] (record { sent = all_of-kept w.sent []; tells_nothing = refl; manager = refl; masters = refl }) refl
+  rest_refines r = subst (RefinesQuiet w) (sym r.is) (no_move [] (record { sent = all_of-kept w.sent []; tells_nothing = refl; manager = refl; masters = refl; cuts_same = λ part. refl }) refl
       (same_history w.history [] None refl refl))
 
   -- nothing changes
   pub stay_refines : v ≡ w → RefinesQuiet w v
-  stay_refines is = subst (RefinesQuiet w) (sym is) (no_move [] (record { sent = sym (append-nil (messages w)); tells_nothing = refl; manager = refl; masters = refl }) refl refl)
+  stay_refines is = subst (RefinesQuiet w) (sym is) (no_move [] (record { sent = sym (append-nil (messages w)); tells_nothing = refl; manager = refl; masters = refl; cuts_same = λ part. refl }) refl refl)

@@ -1,5 +1,5 @@
 -- An input to the manager that adopts no recovery is at most one move of the machine: a migration begins, or is done.
-use Rattle.std.proofs.Common.{◌≡◌, List, [], ◌∷◌, ◌++◌, append-nil, refl, ap, sym, ◌∙◌, Option, Some, None}
+use Rattle.std.proofs.Common.{◌≡◌, ℕ, List, [], ◌∷◌, ◌++◌, append-nil, refl, ap, sym, ◌∙◌, Option, Some, None}
 use Rattle.curp_msg.specs.Moved.{Moved}
 use Rattle.curp_msg.specs.declared.machine.Completed.{Completed}
 use Rattle.curp_order.specs.declared.Event.{Event}
@@ -8,13 +8,15 @@ use Rattle.curp_model.specs.World.{World, completion, with_adoption, with_comple
 use Rattle.curp_law_kept.specs.ManagerEffect.{ManagerEffect}
 use Rattle.curp_facts.specs.Known.{Known}
 use Rattle.curp_law_line.specs.Hashes.{Part}
+use Rattle.curp_law_line.specs.Line.{Left}
 use Rattle.curp_law_line.specs.Moves.{GivenDone, Migrates}
-use Rattle.curp_law_line.specs.OfWorld.{line_of, moving_of, no_left}
+use Rattle.curp_law_line.specs.OfWorld.{cuts, left_of, line_of, moving_of}
 use Rattle.curp_law_line.proofs.Given.{LogsOk}
 use Rattle.curp_law_linear.specs.Ordered.{Ordered}
 use Rattle.curp_law_linear.specs.Refined.{RefinesQuiet}
+use Rattle.curp_law_linear.proofs.Left.{left_stays}
 use Rattle.curp_law_linear.proofs.ManagersDeeds.{Begins, Ends, KeepsSeats, Leads, Rests}
-use Rattle.curp_law_linear.proofs.ManagersLine.{same_seats, same_told, tells_none}
+use Rattle.curp_law_linear.proofs.ManagersLine.{entries_grown, same_seats, same_told, tells_none}
 use Rattle.curp_law_linear.proofs.ManagersMoves.{given_fits, migrate_fits}
 use Rattle.curp_law_linear.proofs.Parts.{line_logs}
 use Rattle.curp_facts.specs.Names.{Names}
@@ -45,14 +47,15 @@ module _ {w : World} (o : Option Attempted) (events : List Event) (none : events
 
   -- the machine's state by what changes in it
   pub moved_line : Names (manager_moved w o events r) → (parts : List Part) → (line_of (manager_moved w o events r)).parts ≡ parts → (moving : Option Migration) → moving_of r.state.moving ≡ moving
-      → line_of (manager_moved w o events r) ≡ record { parts = parts; moving = moving; told = (line_of w).told; marks = with_adoption w.masters o w.marks; history = w.history; left = no_left }
-  moved_line names parts same_parts moving same_moving i = record {
+      → (left : ℕ → ℕ → Left) → ((part number : ℕ) → left_of (manager_moved w o events r) part number ≡ left part number)
+      → line_of (manager_moved w o events r) ≡ record { parts = parts; moving = moving; told = (line_of w).told; marks = with_adoption w.masters o w.marks; history = w.history; left = left }
+  moved_line names parts same_parts moving same_moving left same_left i = record {
     parts = same_parts i;
     moving = same_moving i;
     told = moved_told names i;
     marks = moved_marks i;
     history = moved_history i;
-    left = no_left;
+    left = λ part number. same_left part number i;
   }
 
 -- ---- moves
@@ -67,7 +70,8 @@ module _ {w : World} (known : Known w) (chain : Predecessors w) (routes : Routes
   module _ (names : Names v) (later : Later w v) (after : Routes v) where
     -- what changes is the migration in work alone
     steady_line : KeepsSeats w r.state → (moving : Option Migration) → moving_of r.state.moving ≡ moving → line_of v ≡ record (line_of w) { moving = moving }
-    steady_line seats moving same = moved_line None events none r does names (line_of w).parts (same_seats w v r.state.next.master later.shape refl seats) moving same
+    steady_line seats moving same = moved_line None events none r does names (line_of w).parts (same_seats w v r.state.next.master later.shape refl seats) moving same (left_of w)
+        (λ part number. left_stays w v later.shape part number (ap (cuts part) (moved_marks None events none r does)) (λ x m h. entries_grown w.masters r.state.next.master x.master.number))
 
     -- an input that adopts no recovery
     pub steady_refines : Leads w r.state None → RefinesQuiet w v

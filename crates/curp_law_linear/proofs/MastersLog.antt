@@ -14,7 +14,7 @@ use Rattle.curp_facts.specs.Known.{Known}
 use Rattle.curp_law_line.specs.Hashes.{Part}
 use Rattle.curp_law_line.specs.Line.{Line}
 use Rattle.curp_law_line.specs.Moves.{AllFit, Fits, Move, after, all_after, pushed, relogged}
-use Rattle.curp_law_line.specs.OfWorld.{line_of, moving_of, no_left, part_of}
+use Rattle.curp_law_line.specs.OfWorld.{left_of, line_of, moving_of, part_of}
 use Rattle.curp_law_line.proofs.Discharged.{IsPlainLog, logs_ok}
 use Rattle.curp_law_line.proofs.Given.{LogsOk}
 use Rattle.curp_base.proofs.Numbered.{numbered_set_cases, numbered_set_other, numbered_set_same}
@@ -76,7 +76,7 @@ module _ {w : World} (known : Known w) (chain : Predecessors w) (routes : Routes
     told = (line_of w).told;
     marks = marks;
     history = w.history;
-    left = no_left;
+    left = left_of w;
   }
 
   pub here_at : (log : List Entry) (marks : List Mark) → numbered (line_at log marks).parts c.part ≡ Some (part_at log)

@@ -12,7 +12,7 @@ use Rattle.curp_model.specs.Named.{IsMaster}
 use Rattle.curp_model.specs.Ranges.{opening_range}
 use Rattle.curp_model.specs.Recovery.{Fresh, MasterStage, Recovering, RecoveryState, Serving}
 use Rattle.curp_model.specs.World.{World}
-use Rattle.curp_facts.specs.Facts.{IsAdoptedNow, Logged, hi_of, lo_of, node_log}
+use Rattle.curp_facts.specs.Facts.{IsAdoptedNow, Logged, hi_of, lists_of_part, lo_of, node_log}
 use Rattle.curp_facts.specs.Kept.{AdoptedLog}
 use Rattle.curp_law_kept.proofs.Apart.{either_node}
 use Rattle.curp_facts.specs.Known.{Known}
@@ -66,13 +66,13 @@ module _ {w v : World} (known : Known w) (chain : Predecessors w) (routes : Rout
   own : (m k : MasterStage) (step : MasterStep w v n from heard m k out) (d : PartConfig) (x : AdoptedLog v d) → d.master ≡ master_node n → AdoptedOk v d x
   own Fresh Fresh step d x its = let none = has Fresh Fresh step d x its in absurd cc
   own Fresh (Recovering t) step d x its =
-      own_ok Fresh (Recovering t) step d x its (fresh_stands known chain n d (before Fresh (Recovering t) step d x) its t (ap (λ (s : RecoveryState). node_log (Recovering s)) step.move.asks))
+      own_ok Fresh (Recovering t) step d x its (fresh_stands known chain n t (ap (λ (s : RecoveryState). node_log (Recovering s)) step.move.asks))
   own Fresh (Serving k) step d x its = let none = step.move in elim none [ ]
   own (Recovering s) Fresh step d x its = let none = step.move in elim none [ ]
   own (Recovering s) (Recovering t) step d x its =
-      own_ok (Recovering s) (Recovering t) step d x its (recovering_stands known chain n d (before (Recovering s) (Recovering t) step d x) its s t step.was from heard out step.move)
+      own_ok (Recovering s) (Recovering t) step d x its (recovering_stands known chain n (lists_of_part d) (known.names.top d (before (Recovering s) (Recovering t) step d x)).was its s t step.was from heard out step.move)
   own (Recovering s) (Serving k) step d x its =
-      own_ok (Recovering s) (Serving k) step d x its (begins_stands known chain n d (before (Recovering s) (Serving k) step d x) its s k from heard out step.move)
+      own_ok (Recovering s) (Serving k) step d x its (begins_stands known chain n s k from heard out step.move)
   own (Serving m) Fresh step d x its = let none = step.move in elim none [ ]
   own (Serving m) (Recovering t) step d x its = let none = step.move in elim none [ ]
   own (Serving m) (Serving k) step d x its =

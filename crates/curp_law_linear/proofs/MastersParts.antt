@@ -77,14 +77,23 @@ module _ {w v : World} (known : Known w) (n : ℕ) (from : NodeId) (heard : Opti
   abbrev part_by : PartConfig → ManagerState → Option MasterStage → Part
   part_by d g o = record { lo = (opening_range g.shape.parts d.part).lo; hi = (opening_range g.shape.parts d.part).hi; log = entries_at o }
 
-  -- another master's log stays
+  -- another master stays
+  pub other_master : (node : NodeId) → IsOf w kind.Master node → node ≢ master_node n → numbered v.masters node.number ≡ numbered w.masters node.number
+  other_master node of other =
+      let x = master_there w node of in
+      let y = step.grows.masters node.number x.0 x.1.its_state in
+      let back : IsMaster w node y.0 = step.others node y.0 other (record { its_kind = of.0; its_state = y.1 }) in
+      y.1 ∙ sym back.its_state
+
+  -- and so its log
   pub other_part : (d : PartConfig) → IsAdoptedNow w d → d.master ≢ master_node n → part_of v d ≡ part_of w d
-  other_part d now other =
-      let of : IsOf w kind.Master d.master = (known.names.given (lists_of_part d) (known.names.top d now).was.given).master in
-      let x = master_there w d.master of in
-      let y = step.grows.masters d.master.number x.0 x.1.its_state in
-      let back : IsMaster w d.master y.0 = step.others d.master y.0 other (record { its_kind = of.0; its_state = y.1 }) in
-      ap₂ (part_by d) step.frame.manager (y.1 ∙ sym back.its_state)
+  other_part d now other = ap₂ (part_by d) step.frame.manager (other_master d.master (known.names.given (lists_of_part d) (known.names.top d now).was.given).master other)
+
+  pub own_log_before : (node : NodeId) → node ≡ master_node n → entries_at (numbered w.masters node.number) ≡ logged_entries (node_log m)
+  own_log_before node its = ap entries_at (ap (λ (x : NodeId). numbered w.masters x.number) its ∙ step.was.its_state)
+
+  pub own_log_after : (node : NodeId) → node ≡ master_node n → entries_at (numbered v.masters node.number) ≡ logged_entries (node_log k)
+  own_log_after node its = ap entries_at (ap (λ (x : NodeId). numbered v.masters x.number) its ∙ step.is.its_state)
 
   -- the master's own
   pub own_before : (d : PartConfig) → d.master ≡ master_node n → part_of w d ≡ part_by d w.manager (Some m)

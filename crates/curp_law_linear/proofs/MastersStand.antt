@@ -1,4 +1,4 @@
--- An adopted master that doesn't serve keeps its log: it waits, and begins to serve with what it has replayed.
+-- A master that was adopted and doesn't serve yet keeps its log: it waits, and begins to serve with what it has replayed.
 use Rattle.std.proofs.Common.{◌≡◌, ℕ, List, refl, ap, ap₂, sym, ◌∙◌, subst, arith, Option, Some, None}
 use Rattle.curp_cmd.specs.Node.{manager_node, master_node}
 use Rattle.curp_cmd.specs.declared.node.NodeId.{NodeId}
@@ -7,7 +7,6 @@ use Rattle.curp_msg.specs.declared.body.Body.{Body}
 use Rattle.curp_msg.specs.declared.body.Body.TheVariants as body
 use Rattle.curp_msg.specs.declared.body.Recover.{Recover}
 use Rattle.curp_msg.specs.declared.body.Recovered.{Recovered}
-use Rattle.curp_msg.specs.declared.config.PartConfig.{PartConfig}
 use Rattle.curp_msg.specs.declared.message.Message.{Message}
 use Rattle.curp_model.specs.Backup.{BackupState}
 use Rattle.curp_model.specs.Named.{IsBackup, IsMaster, IsWitness}
@@ -15,7 +14,7 @@ use Rattle.curp_model.specs.Master.{MasterState}
 use Rattle.curp_model.specs.Recovery.{Asking, Fresh, MasterStage, Recovering, RecoveryPhase, RecoveryState, Replayed, Serving, Storing, Waiting, replay}
 use Rattle.curp_model.specs.Witness.{WitnessState, frozen_requests}
 use Rattle.curp_model.specs.World.{World}
-use Rattle.curp_facts.specs.Facts.{ByRecovery, IsAdoptedNow, Logged, ReplayOk, WasSent, lists_of_order, lists_of_part, node_log, phase_log}
+use Rattle.curp_facts.specs.Facts.{ByRecovery, Lists, Logged, ReplayOk, WasAdopted, WasSent, lists_of_order, node_log, phase_log}
 use Rattle.curp_facts.specs.Nodes.{IsWaiting, RecoveringOk, StageOk}
 use Rattle.curp_facts.specs.Known.{Known}
 use Rattle.curp_law_kept.proofs.MastersMoves.{StageMove}
@@ -30,17 +29,16 @@ pub record SameLog (m k : MasterStage) : Type 0 where
   pub logged : (y : Logged) → node_log k ≡ Some y → (l : Logged) × (node_log m ≡ Some l) × (y.log ≡ l.log)
 
 module _ {w : World} (known : Known w) (chain : Predecessors w) (n : ℕ) where
-  -- an adopted master that recovers waits
-  pub adopted_waits : (s : RecoveryState) → IsMaster w (master_node n) (Recovering s) → (c : PartConfig) → IsAdoptedNow w c → c.master ≡ master_node n → IsWaiting s.phase
-  adopted_waits s is c now its =
+  -- a master that was adopted and recovers waits
+  pub adopted_waits : (s : RecoveryState) → IsMaster w (master_node n) (Recovering s) → (l : Lists) → WasAdopted w l → l.master ≡ master_node n → IsWaiting s.phase
+  adopted_waits s is l was its =
       let ok : RecoveringOk w (master_node n) s = known.inv.masters (master_node n) (Recovering s) is in
       let home : OrderOk w (master_node n) s.order = known.names.manager_says (master_node n) (body.Recover s.order) ok.ordered in
-      let top = known.names.top c now in
-      let agree = known.names.agree (lists_of_part c) (lists_of_order (master_node n) s.order) top.was.given (ByRecovery (master_node n) s.order ok.ordered) in
-      let epoch : c.epoch ≡ s.order.epoch = (agree.by_master its).1 in
+      let agree = known.names.agree l (lists_of_order (master_node n) s.order) was.given (ByRecovery (master_node n) s.order ok.ordered) in
+      let epoch : l.epoch ≡ s.order.epoch = (agree.by_master its).1 in
       let first = (known.names.given home.before home.was.given).epoch.0 in
-      let p : Predecessor w (lists_of_part c) = chain (lists_of_part c) top.was (omega (arith, epoch, first, home.earlier)) in
-      let r : Recovered = record { part = c.part; epoch = c.epoch } in
+      let p : Predecessor w l = chain l was (omega (arith, epoch, first, home.earlier)) in
+      let r : Recovered = record { part = l.part; epoch = l.epoch } in
       ok.told r (subst (λ (x : NodeId). WasSent w (says x manager_node (body.Recovered r))) its p.told)
 
   -- a replay is the same as long as the order is
@@ -73,22 +71,21 @@ module _ {w : World} (known : Known w) (chain : Predecessors w) (n : ℕ) where
       go (Waiting r) (Asking log requests) is it a b x y = absurd b
       go (Waiting r) (Storing q) is it a b x y = absurd b
 
-  module _ (c : PartConfig) (now : IsAdoptedNow w c) (its : c.master ≡ master_node n) where
-    pub fresh_stands : (t : RecoveryState) → node_log (Recovering t) ≡ None → SameLog Fresh (Recovering t)
-    fresh_stands t none = record { entries = ap logged_entries none; logged = λ y e. absurd (let both = sym none ∙ e in cc) }
+  pub fresh_stands : (t : RecoveryState) → node_log (Recovering t) ≡ None → SameLog Fresh (Recovering t)
+  fresh_stands t none = record { entries = ap logged_entries none; logged = λ y e. absurd (let both = sym none ∙ e in cc) }
 
-    pub recovering_stands : (s t : RecoveryState) → IsMaster w (master_node n) (Recovering s) → (from : NodeId) (heard : Option Body) (out : List Message)
-        → StageMove w n from heard (Recovering s) (Recovering t) out → SameLog (Recovering s) (Recovering t)
-    recovering_stands s t is from heard out move =
-        let waits = adopted_waits s is c now its in
-        let ok : RecoveringOk w (master_node n) s = known.inv.masters (master_node n) (Recovering s) is in
-        waiting_same s t move.order waits (move.waits waits) ok.stage move.stage
+  pub recovering_stands : (l : Lists) → WasAdopted w l → l.master ≡ master_node n → (s t : RecoveryState) → IsMaster w (master_node n) (Recovering s) → (from : NodeId) (heard : Option Body) (out : List Message)
+      → StageMove w n from heard (Recovering s) (Recovering t) out → SameLog (Recovering s) (Recovering t)
+  recovering_stands l was its s t is from heard out move =
+      let waits = adopted_waits s is l was its in
+      let ok : RecoveringOk w (master_node n) s = known.inv.masters (master_node n) (Recovering s) is in
+      waiting_same s t move.order waits (move.waits waits) ok.stage move.stage
 
-    pub begins_stands : (s : RecoveryState) (k : MasterState) (from : NodeId) (heard : Option Body) (out : List Message)
-        → StageMove w n from heard (Recovering s) (Serving k) out → SameLog (Recovering s) (Serving k)
-    begins_stands s k from heard out move = record {
-      entries = move.log ∙ sym (ap (λ (z : RecoveryPhase). logged_entries (phase_log z)) move.waits);
-      logged = λ y e.
-          let same : k.log ≡ y.log = ap logged_entries e in
-          (record { log = move.r.log; round = move.r.round }, ap phase_log move.waits, sym same ∙ move.log);
-    }
+  pub begins_stands : (s : RecoveryState) (k : MasterState) (from : NodeId) (heard : Option Body) (out : List Message)
+      → StageMove w n from heard (Recovering s) (Serving k) out → SameLog (Recovering s) (Serving k)
+  begins_stands s k from heard out move = record {
+    entries = move.log ∙ sym (ap (λ (z : RecoveryPhase). logged_entries (phase_log z)) move.waits);
+    logged = λ y e.
+        let same : k.log ≡ y.log = ap logged_entries e in
+        (record { log = move.r.log; round = move.r.round }, ap phase_log move.waits, sym same ∙ move.log);
+  }

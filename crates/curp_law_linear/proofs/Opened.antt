@@ -13,6 +13,7 @@ use Rattle.curp_facts.specs.Facts.{HasLog, Logged, hi_of, lo_of, node_log}
 use Rattle.curp_facts.specs.Kept.{AdoptedLog}
 use Rattle.curp_facts.specs.Run.{IsHeader}
 use Rattle.curp_law_line.proofs.Openings.{opening_line}
+use Rattle.curp_law_linear.proofs.OpenedCuts.{cuts_follow_opening}
 use Rattle.curp_law_linear.specs.Ordered.{AdoptedOk, CaptureOk, MigrationsRise, Ordered}
 use Rattle.curp_law_logs.specs.Gives.{GivesFit}
 use Rattle.curp_law_names.proofs.Lists.{at_mapped, place}
@@ -62,6 +63,7 @@ module _ (h : Header) where
   unfolding opening
   ordered_opening its = record {
     line = opening_line h (few h.parts its.parts.1);
+    cuts_follow = cuts_follow_opening h;
     commands = λ i id command at. absurd cc;
     by_one = by_one_opening h its.protocol;
     no_quicks = tt;

@@ -33,7 +33,7 @@ use Rattle.curp_law_linear.specs.Ordered.{Ordered}
 use Rattle.curp_law_linear.specs.Refined.{Refines}
 use Rattle.curp_law_linear.proofs.ReadsFinished.{Finished, attempt_finished}
 use Rattle.curp_law_linear.proofs.ReadsLater.{EntryStays, ReadsOk}
-use Rattle.curp_law_linear.proofs.ReadsManager.{AdoptsRecovery, AdoptsThat, adoption_reads}
+use Rattle.curp_law_linear.proofs.ReadsManager.{AdoptsRecovery, AdoptsThat, ManagerSaid, adoption_reads, cut_stored, cut_within}
 use Rattle.curp_law_linear.proofs.ReadsManagerLists.{manager_said, new_entry}
 use Rattle.curp_law_linear.proofs.ReadsManagerSteps.{was_heard}
 use Rattle.curp_facts.specs.Names.{RecoveringOk}
@@ -41,6 +41,7 @@ use Rattle.curp_law_names.proofs.Lists.{place}
 use Rattle.curp_law_names.proofs.Steps.{manager_moved, moved_messages}
 use Rattle.curp_facts.specs.Predecessors.{Predecessors}
 use Rattle.curp_law_pairs.proofs.Uttered.{manager_adopts}
+use Rattle.curp_law_linear.proofs.CutsAdopt.{cuts_follow_adopted}
 use Rattle.curp_law_stays.proofs.Words.{Follows}
 
 -- a master that waits to be adopted, with what it has replayed
@@ -143,10 +144,12 @@ module _ {w : World} (known : Known w) (given : Input) (adopted : Option Attempt
   -- an input by which the manager adopts a recovery: the moves adopt it alone, with as much as was recovered
   pub adoption_step_reads : Known v → Predecessors w → Predecessors v → (ordered : Ordered w) → Follows w v → adopted ≡ Some a → (r : Refines w v)
       → ((h : WaitsFor w a.master) → Each (AdoptsThat a.order.part h.p.cut) r.moves) → ReadsOk v
-  adoption_step_reads now chain later ordered s adopts r moves = adoption_reads known now chain later ordered s r
-      (manager_said w adopted events result (Each-weaker (Uttered w) (λ (m : Message). m.from ≡ manager_node) (λ m u. u.from) result.messages effect.messages))
-      (adoption_of (attempt_waits known a fin))
+  adoption_step_reads now chain later ordered s adopts r moves = adoption_reads known now chain later ordered s r more
+      its (cuts_follow_adopted known now s r its ordered.cuts_follow (cut_within known now chain later ordered s r more its) (cut_stored known now chain later ordered s r more its))
     where
+      more : ManagerSaid w v result.messages
+      more = manager_said w adopted events result (Each-weaker (Uttered w) (λ (m : Message). m.from ≡ manager_node) (λ m u. u.from) result.messages effect.messages)
+
       adoption_of : WaitsFor w a.master → AdoptsRecovery w v r
       adoption_of h = record {
         a = a;
@@ -167,3 +170,6 @@ module _ {w : World} (known : Known w) (given : Input) (adopted : Option Attempt
         entries = entries;
         moves = moves h;
       }
+
+      its : AdoptsRecovery w v r
+      its = adoption_of (attempt_waits known a fin)

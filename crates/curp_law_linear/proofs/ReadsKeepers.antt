@@ -33,6 +33,7 @@ use Rattle.curp_law_linear.proofs.ReadsPassed.{NoneLate}
 use Rattle.curp_law_linear.proofs.ReadsQuiet.{frame_reads, looks_same, none_late}
 use Rattle.curp_law_names.proofs.Lists.{among_each}
 use Rattle.curp_facts.specs.Predecessors.{Predecessors}
+use Rattle.curp_law_line.specs.OfWorld.{cuts}
 use Rattle.curp_law_stays.proofs.Words.{Follows, one_state}
 
 module _ {w v : World} (known : Known w) (now : Known v) (chain : Predecessors w) (later : Predecessors v) (ordered : Ordered w) (marks : v.marks ≡ w.marks)
@@ -42,7 +43,7 @@ module _ {w v : World} (known : Known w) (now : Known v) (chain : Predecessors w
     follows = record { grows = moved.grows; later = moved.later; names = known.names; steady = known.steady; ready = nothing_ready f known.names not_master }
 
     keeper_reads : NoneLate w v → ReadsOk v
-    keeper_reads late = frame_reads known now f not_master chain later ordered follows r none moved.masters (looks_same marks) late
+    keeper_reads late = frame_reads known now f not_master chain later ordered follows r none moved.masters (λ part. ap (cuts part) marks) (looks_same marks) late
 
   -- an input to a witness
   pub witness_reads : (n : ℕ) (x : WitnessState) (given : Input) → KeeperMoved w v (witness_node n) (witness_input n x given).messages → ReadsOk v

@@ -33,7 +33,7 @@ use Rattle.curp_law_kept.proofs.Known.{fits}
 use Rattle.curp_law_kept.proofs.MastersReady.{all_stored, stored_many}
 use Rattle.curp_law_kept.proofs.Moved.{sent_back}
 use Rattle.curp_law_line.specs.Moves.{Adopts, Move, IsDropped}
-use Rattle.curp_law_linear.specs.Ordered.{CaptureOk, IsStored, Ordered}
+use Rattle.curp_law_linear.specs.Ordered.{CaptureOk, CutsFollow, IsStored, Ordered, StoredFrom}
 use Rattle.curp_law_linear.specs.Refined.{Refines}
 use Rattle.curp_law_linear.proofs.ReadsDropped.{Stays, kept_short, look_stays, looks_adopted}
 use Rattle.curp_law_linear.proofs.ReadsLater.{EntryStays, LooksStand, ReadsOk, reads_later}
@@ -47,6 +47,8 @@ use Rattle.curp_facts.specs.Names.{IsOf, RecoveringOk}
 use Rattle.curp_facts.specs.Predecessors.{Predecessors}
 use Rattle.curp_law_pairs.proofs.Lists.{order_first}
 use Rattle.curp_facts.specs.Migrated.{AllStored}
+use Rattle.curp_law_linear.proofs.Cuts.{cuts_stay}
+use Rattle.curp_law_line.specs.OfWorld.{cuts, entries_at, log_of, logged_entries}
 use Rattle.curp_law_stays.proofs.Words.{Follows, one_state, sent_later}
 
 -- the manager has said more, and no other node has moved; new nodes are fresh
@@ -81,6 +83,7 @@ module _ {w v : World} (now : Known v) {out : List Message} (f : ManagerSaid w v
   pub manager_reads : Known w → Predecessors w → Predecessors v → (ordered : Ordered w) → Follows w v → (r : Refines w v) → Each NoAdoption r.moves → v.marks ≡ w.marks
       → ((c : PartConfig) → IsAdoptedNow v c → EntryStays w c) → NewerLists w v → ReadsOk v
   manager_reads known chain later ordered s r none marks entries newer = reads_later known chain ordered s now later r (record {
+    cuts_follow = cuts_stay known now s entries newer (λ part. ap (cuts part) marks) ordered.cuts_follow;
     looks = looks_same marks;
     entries = λ c here. inl (entries c here);
     newer = newer;
@@ -213,6 +216,25 @@ module _ {w v : World} (known : Known w) (now : Known v) (chain : Predecessors w
         ]
       ]
 
+  -- what was recovered is a beginning of the present log
+  pub cut_within : d.p.cut ≤ length (log_of w d.a.order.part d.before.master).log
+  cut_within = elim (known.inv.backups (lists_of_part d.before) (known.names.top d.before d.was_now).was.given d.a.order.backup d.ok.its_backup its.b named).follows [
+    | inl none ↦ omega (arith, its.its_cut, ap (λ (es : List Entry). length es) none)
+    | inr g ↦
+        let is : (log_of w d.a.order.part d.before.master).log ≡ g.its.log = ap entries_at g.its_log.is.its_state ∙ ap logged_entries g.its_log.its_log in
+        omega (arith, its.its_cut, prefix_length g.front, ap (λ (es : List Entry). length es) is)
+  ]
+
+  -- and the new master has stored it
+  pub cut_stored : StoredFrom v d.a.master d.a.order.part d.p.cut
+  cut_stored = record {
+    lists = lists_of_part d.entry;
+    adopted = (now.names.top d.entry d.entry_now).was;
+    its_master = d.its_master;
+    its_part = d.its_part;
+    stored = let h = stored_stays s d.a.master 0 d.p.cut (stored_there d.p.cut (omega arith)) in record { its = h.its; its_log = h.its_log; low = h.low; reach = λ l told master above. h.reach l told master (omega arith) };
+  }
+
   stand : LooksStand v d.entry
   stand k number long m at look part =
       subst (λ (z : NodeId). IsStored v z 0 long) (sym d.its_master) (stored_stays s d.a.master 0 long (stored_there long (stay_short k number long m at look (part ∙ d.its_part))))
@@ -264,8 +286,9 @@ module _ {w v : World} (known : Known w) (now : Known v) (chain : Predecessors w
     ]
 
   -- an adoption of a recovery keeps what is kept of reads
-  pub adoption_reads : ReadsOk v
-  adoption_reads = reads_later known chain ordered s now later r (record {
+  pub adoption_reads : CutsFollow v → ReadsOk v
+  adoption_reads cuts_follow = reads_later known chain ordered s now later r (record {
+    cuts_follow = cuts_follow;
     looks = looks_adopted w v d.a.master d.a.order.part d.a.order.epoch d.p.cut (op_requests (drop d.p.cut d.p.log)) d.marks;
     entries = λ c here. elim (d.entries c here) [
       | inl new ↦ inr (subst (LooksStand v) (sym new) stand)

@@ -44,6 +44,9 @@ use Rattle.curp_facts.specs.Names.{IsOf}
 use Rattle.curp_law_names.proofs.Lists.{at_mapped}
 use Rattle.curp_facts.specs.Predecessors.{Predecessors}
 use Rattle.curp_law_runs.proofs.ByOne.{by_value}
+use Rattle.curp_law_linear.proofs.CutMarks.{cuts_after}
+use Rattle.curp_law_linear.proofs.Cuts.{cuts_stay}
+use Rattle.curp_law_line.specs.OfWorld.{cuts}
 use Rattle.curp_law_stays.proofs.Words.{Follows}
 
 -- ---- marks
@@ -162,8 +165,9 @@ module _ {w v : World} (known : Known w) (now : Known v) {out : List Message} {m
 
   -- so such a step, whose moves adopt nothing, keeps what is kept of reads
   pub frame_reads : Predecessors w → Predecessors v → (ordered : Ordered w) → Follows w v → (r : Refines w v) → Each NoAdoption r.moves → v.masters ≡ w.masters
-      → LooksWere w v → NoneLate w v → ReadsOk v
-  frame_reads chain later ordered s r none masters looks late = reads_later known chain ordered s now later r (record {
+      → ((part : ℕ) → cuts part v.marks ≡ cuts part w.marks) → LooksWere w v → NoneLate w v → ReadsOk v
+  frame_reads chain later ordered s r none masters cuts_same looks late = reads_later known chain ordered s now later r (record {
+    cuts_follow = cuts_stay known now s entry_stays lists_stay cuts_same ordered.cuts_follow;
     looks = looks;
     entries = λ c here. inl (entry_stays c here);
     newer = lists_stay;
@@ -243,6 +247,7 @@ module _ {w v : World} (known : Known w) (now : Known v) (chain : Predecessors w
   pub client_reads : v.marks ≡ with_completion (client_input n c given).completed w.marks → (r : Refines w v) → Each NoAdoption r.moves → ReadsOk v
   client_reads marks r none =
       frame_reads known now more not_master chain later ordered follows r none moved.masters
+      (λ part. ap (cuts part) marks ∙ cuts_after part (client_input n c given).completed w.marks)
       (go (client_input n c given).completed (effect known n given moved.for c moved.was moved.made).completes marks) (none_late known now more not_master not_backup)
     where
       go : (o : Option Completed) → MayComplete (MayCome w n) (EntryWas w) c o → v.marks ≡ with_completion o w.marks → LooksWere w v

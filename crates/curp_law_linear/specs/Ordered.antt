@@ -24,7 +24,7 @@ use Rattle.curp_facts.specs.Kept.{AdoptedLog, PassedBy, lists_of_master}
 use Rattle.curp_facts.specs.Reach.{Reach}
 use Rattle.curp_cmd.specs.Store.{NamesKey}
 use Rattle.curp_law_line.specs.Line.{LineOk, LookGives}
-use Rattle.curp_law_line.specs.OfWorld.{line_of}
+use Rattle.curp_law_line.specs.OfWorld.{Reign, cut_length, cuts, line_of, log_of, reigns}
 use Rattle.curp_law_logs.specs.Gives.{GivesFit}
 use Rattle.curp_facts.specs.Migrated.{AllStored}
 
@@ -105,10 +105,39 @@ pub record LooksReached (w : World) : Type 0 where
   pub older : (k number long : ℕ) (m : Mark) (c : PartConfig) → At w.marks k m → m.place ≡ Looked number long → IsAdoptedNow w c → c.part ≡ m.part
       → m.epoch < c.epoch → IsStored w c.master 0 long
 
+-- ---- adoptions
+
+-- lists of the partition that were adopted have that master and that epoch
+pub record ReignOk (w : World) (part : ℕ) (r : Reign) : Type 0 where
+  pub lists : Lists
+  pub adopted : WasAdopted w lists
+  pub its_part : lists.part ≡ part
+  pub its_epoch : lists.epoch ≡ r.epoch
+  pub its_master : lists.master ≡ r.master
+
+-- the master of the lists, from their epoch on
+abbrev pub reign_in : Lists → Reign
+reign_in l = record { epoch = l.epoch; master = l.master }
+
+-- The marks of a partition's adoptions tell its masters: each was adopted, with a higher epoch than the one before, and no other
+-- was. An adoption recovered a beginning of the log of the one before, which its own master has stored
+pub record PartCuts (w : World) (part : ℕ) (cs : List Mark) : Type 0 where
+  pub ranged : (i : ℕ) (m : Mark) → At cs i m → (1 ≤ part) × (part ≤ w.manager.shape.parts)
+  pub adopted : (i : ℕ) (r : Reign) → 1 ≤ part → part ≤ w.manager.shape.parts → At (reigns part cs) i r → ReignOk w part r
+  pub rise : (i j : ℕ) (r s : Reign) → i < j → At (reigns part cs) i r → At (reigns part cs) j s → r.epoch < s.epoch
+  pub there : (l : Lists) → WasAdopted w l → l.part ≡ part → (i : ℕ) × At (reigns part cs) i (reign_in l)
+  pub low : (i : ℕ) (r : Reign) (m : Mark) → At (reigns part cs) i r → At cs i m → cut_length m.place ≤ length (log_of w part r.master).log
+  pub stored : (i : ℕ) (m : Mark) → At cs i m → StoredFrom w m.master part (cut_length m.place)
+
+-- so it is with each partition
+abbrev pub CutsFollow : World → Type 0
+CutsFollow w = (part : ℕ) → PartCuts w part (cuts part w.marks)
+
 -- ---- all together
 
 pub record Ordered (w : World) : Type 0 where
   pub line : LineOk (line_of w)
+  pub cuts_follow : CutsFollow w
   pub by_one : ByOne w
   pub no_quicks : NoQuicks w.marks
   pub commands : (i : ℕ) (id : RequestId) (command : Command) → At w.history i (Invoke id command) → NamesKey command

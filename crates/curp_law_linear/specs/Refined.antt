@@ -4,20 +4,15 @@ use Rattle.std.specs.Bool.{⊤}
 use Rattle.curp_base.specs.Words.{Each}
 use Rattle.curp_model.specs.World.{World}
 use Rattle.curp_law_line.specs.Moves.{Adopts, AllFit, Move, all_after}
-use Rattle.curp_law_line.specs.OfWorld.{line_of, no_left}
+use Rattle.curp_law_line.specs.OfWorld.{line_of}
 use Rattle.curp_law_line.specs.Given.{LogsOk}
-use Rattle.curp_law_line.specs.Line.{Line}
-
--- the machine's state without the superseded logs, as a world is seen
-abbrev pub seen : Line → Line
-seen s = record s { left = no_left }
 
 -- these moves, each of which can be made and from logs that are logs, lead from what the machine has of one world to what it
--- has of the other, but for the superseded logs
+-- has of the other
 pub record Refines (w v : World) : Type 0 where
   pub moves : List Move
   pub fit : AllFit LogsOk (line_of w) moves
-  pub leads : seen (all_after (line_of w) moves) ≡ line_of v
+  pub leads : all_after (line_of w) moves ≡ line_of v
 
 -- the move adopts nothing
 abbrev pub NoAdoption : Move → Type 0
