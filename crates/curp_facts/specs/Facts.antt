@@ -147,7 +147,8 @@ pub record WasOrdered (w : World) (part : ℕ) (b : Body) : Type 0 where
 
 -- ---- the ranges of partitions
 
--- the migration of that number: its range was ordered to be taken out of its source, and what was taken to be given to its target
+-- the migration of that number: its range was ordered to be taken out of its source, and what was taken to be given to its
+-- target
 pub record WasMigrated (w : World) (number : ℕ) : Type 0 where
   pub source : ℕ
   pub target : ℕ
@@ -170,8 +171,8 @@ ranges_moved source target order ranges part =
     else if part == target then with_range (ranges part) order.lo order.hi
     else ranges part
 
--- The ranges of each partition after the migrations 1 to n: those of the opening, of which each migration has brought its range from its
--- source, which had all of it, to its target
+-- The ranges of each partition after the migrations 1 to n: those of the opening, of which each migration has brought its range
+-- from its source, which had all of it, to its target
 pub data RangesAfter (w : World) : ℕ → (ℕ → List Span) → Type 0 where
   AtFirst : RangesAfter w 0 (ranges_at_first w.manager.shape)
   Migrated : (n : ℕ) (ranges : ℕ → List Span) → RangesAfter w n ranges → (m : WasMigrated w (n + 1))
@@ -414,7 +415,8 @@ EntryWas w c = WasAdopted w (lists_of_part c)
 pub record ConfigOk (w : World) (config : Config) : Type 0 where
   pub entries : Each (EntryWas w) config.parts
   pub ranges : HasRanges w config
-  pub apart : (c d : PartConfig) (h : ℕ) → IsAmong c config.parts → IsAmong d config.parts → Owns c.ranges h → Owns d.ranges h → c.part ≡ d.part
+  pub apart : (c d : PartConfig) (h : ℕ) → IsAmong c config.parts → IsAmong d config.parts → Owns c.ranges h → Owns d.ranges h
+      → c.part ≡ d.part
 
 -- it is a master that had lists of that epoch, and of that version
 pub record Speaks (w : World) (from : NodeId) (epoch version : ℕ) : Type 0 where

@@ -1,5 +1,5 @@
 -- What holds after every step of the nodes and of the order, as statements (this project's own).
-use Rattle.std.specs.Prelude.{◌≡◌, ◌≤◌, ◌<◌, ◌⊎◌, ℕ, ◌^◌, true, false, List, [], length, take, Some, ⊤}
+use Rattle.std.specs.Prelude.{◌≡◌, ◌≢◌, ◌≤◌, ◌<◌, ◌⊎◌, ℕ, ◌^◌, true, false, List, [], length, take, Some, ⊤}
 use Rattle.std.specs.Cmp.Lexicographic.{slice_cmp}
 use Rattle.std.specs.FinMap as store
 use Rattle.std.specs.FinMap.Entries.{find}
@@ -26,7 +26,9 @@ use Rattle.curp_msg.specs.declared.answer.Refusal.TheVariants as refusal
 use Rattle.curp_msg.specs.declared.body.Appended.{Appended}
 use Rattle.curp_msg.specs.declared.body.Body.{Body}
 use Rattle.curp_msg.specs.declared.body.Body.TheVariants as body
+use Rattle.curp_msg.specs.declared.body.Parcel.{Parcel}
 use Rattle.curp_msg.specs.declared.body.Recover.{Recover}
+use Rattle.curp_msg.specs.declared.body.TakeOut.{TakeOut}
 use Rattle.curp_msg.specs.declared.message.Message.{Message}
 use Rattle.curp_msg.specs.declared.body.Gc.{Gc}
 use Rattle.curp_msg.specs.declared.body.Reply.{Reply}
@@ -39,7 +41,7 @@ use Rattle.curp_model.specs.declared.Check.{Check}
 use Rattle.curp_model.specs.declared.Mode.TheVariants as mode
 use Rattle.curp_model.specs.declared.Check.TheVariants.{Expired, Stale, Known, New}
 use Rattle.curp_model.specs.Backup.{BackupState}
-use Rattle.curp_facts.specs.Facts.{AdoptedBefore, Completable, HasLog, IsAdoptedNow, IsAmong, IsGiven, Lists, Logged, PairsGood, SaidOk, WasAdopted, WasSent, hi_of, lists_of_part, lo_of, reply_message}
+use Rattle.curp_facts.specs.Facts.{AdoptedBefore, Completable, HasLog, IsAdoptedNow, IsAmong, IsGiven, Lists, Logged, PairsGood, SaidOk, WasAdopted, WasOrdered, WasSent, hi_of, lists_of_part, lo_of, reply_message}
 use Rattle.curp_facts.specs.Names.{Agree, GivenOk, Top}
 use Rattle.curp_model.specs.Laws.{clash}
 use Rattle.curp_model.specs.Log.{IsLog, IsDone, LogState, entry_touches, meaning}
@@ -57,8 +59,8 @@ use Rattle.curp_model.specs.World.{World, messages, order}
 
 -- ---- lists and names
 
--- The present entry of a partition was adopted, and is above all that were adopted before. Its master is a node of the world, and so
--- are its f backups and its f witnesses, of which no two are one
+-- The present entry of a partition was adopted, and is above all that were adopted before. Its master is a node of the world, and
+-- so are its f backups and its f witnesses, and no two of a list are one
 pub record HasEntry (w : World) (part : ℕ) : Type 0 where
   pub entry : PartConfig
   pub now : IsAdoptedNow w entry
@@ -70,13 +72,23 @@ pub record HasEntry (w : World) (part : ℕ) : Type 0 where
 abbrev pub PartsHaveEntries : World → Type 0
 PartsHaveEntries w = (part : ℕ) → 1 ≤ part → part ≤ w.manager.shape.parts → HasEntry w part
 
--- all lists that were ever given are so: by numbers that were used, with f backups and f witnesses, all different nodes of the world
+-- all lists that were ever given are so: their numbers were used, and they have f backups and f witnesses, all different nodes of
+-- the world
 abbrev pub ListsWhole : World → Type 0
 ListsWhole w = (l : Lists) → IsGiven w l → GivenOk w l
 
 -- no master, epoch, version, backup or witness is given twice
 abbrev pub GivenOnce : World → Type 0
 GivenOnce w = (l k : Lists) → IsGiven w l → IsGiven w k → Agree l k
+
+-- no number of a migration is given twice: it has one range and one source, and one target, which is another partition
+pub record MigrationsGivenOnce (w : World) : Type 0 where
+  pub one_source : (part other : ℕ) (t u : TakeOut) → WasOrdered w part (body.TakeOut t) → WasOrdered w other (body.TakeOut u)
+      → t.migration ≡ u.migration → (part ≡ other) × (t.lo ≡ u.lo) × (t.hi ≡ u.hi)
+  pub one_target : (part other : ℕ) (g k : Parcel) → WasOrdered w part (body.GiveIn g) → WasOrdered w other (body.GiveIn k)
+      → g.migration ≡ k.migration → part ≡ other
+  pub apart : (part other : ℕ) (t : TakeOut) (g : Parcel) → WasOrdered w part (body.TakeOut t) → WasOrdered w other (body.GiveIn g)
+      → t.migration ≡ g.migration → part ≢ other
 
 -- ---- what witnesses hold
 
@@ -387,12 +399,13 @@ LateRepliesAgree w = (part : ℕ) (id : RequestId) (a : Answer) → Completable 
 
 -- ---- all together
 
--- what holds after every step of lists and names, of what was said, of logs, nodes, early replies, collections, first numbers and
--- adoptions
+-- what holds after every step of lists, names and migrations, of what was said, of logs, nodes, early replies, collections, first
+-- numbers and adoptions
 pub record FactsKept (w : World) : Type 0 where
   pub entries : PartsHaveEntries w
   pub lists : ListsWhole w
   pub names : GivenOnce w
+  pub migrations : MigrationsGivenOnce w
   pub held : HeldApart w
   pub said : SaidOk w
   pub logs : LogsOk w

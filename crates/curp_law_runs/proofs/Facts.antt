@@ -44,6 +44,7 @@ facts w known m few = record {
   entries = parts_have_entries known.names;
   lists = known.names.given;
   names = known.names.agree;
+  migrations = record { one_source = m.routes.one_source; one_target = m.routes.one_target; apart = m.routes.apart };
   held = λ node x is. frozen_apart x (known.inv.witnesses node x is).apart;
   said = said_ok known.names known.inv known.nodes m.chain (given_stand known.names known.inv m.chain m.routes) m.configs few;
   logs = logs_ok known.names known.inv;

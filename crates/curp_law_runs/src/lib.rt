@@ -31,9 +31,9 @@ pub fn pairs_good()
     ensures pairs { (h : Header) (steps : List Step) → IsRun h steps → PairsGood (world h steps) }
 {}
 
-/// What each message says stays true, and what each node keeps: lists and names, what witnesses hold, logs, backups,
-/// masters, early replies, collections, first numbers and adoptions. How many backups and witnesses a list has, and how
-/// many partitions there are, is as the header says.
+/// What each message says stays true, and what each node keeps: lists and names, migrations, what witnesses hold, logs,
+/// backups, masters, early replies, collections, first numbers and adoptions. How many backups and witnesses a list has,
+/// and how many partitions there are, is as the header says.
 pub fn facts_kept()
     ensures facts { (h : Header) (steps : List Step) → IsRun h steps → FactsKept (world h steps) }
     ensures shape { (h : Header) (steps : List Step) → IsRun h steps → (world h steps).manager.shape ≡ shape_of h }
