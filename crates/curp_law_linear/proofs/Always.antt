@@ -43,14 +43,14 @@ use Rattle.curp_law_linear.proofs.ClientsRefine.{client_refines}
 use Rattle.curp_law_linear.proofs.Commands.{CommandsName}
 use Rattle.curp_law_linear.proofs.KeepersRefine.{backup_refines, rest_refines, witness_refines}
 use Rattle.curp_law_linear.proofs.Masters.{master_refines}
-use Rattle.curp_law_linear.proofs.MastersCuts.{master_cuts}
+use Rattle.curp_law_linear.proofs.MastersCuts.{master_cuts, master_timed}
 use Rattle.curp_law_linear.proofs.MastersCaptures.{input_captures}
 use Rattle.curp_law_linear.proofs.MastersLogs.{master_logs}
 use Rattle.curp_law_linear.proofs.NoQuicks.{glances_none}
 use Rattle.curp_law_linear.proofs.ReadsKeepers.{backup_reads, witness_reads}
 use Rattle.curp_law_linear.proofs.ReadsLater.{ReadsOk}
 use Rattle.curp_law_linear.proofs.ReadsMasterSteps.{input_reads, master_reads}
-use Rattle.curp_law_linear.proofs.ReadsQuiet.{client_reads, frame_reads, looks_same, none_late}
+use Rattle.curp_law_linear.proofs.ReadsQuiet.{client_reads, frame_reads, looks_same, none_late, none_lives}
 use Rattle.curp_law_logs.specs.Gives.{GivesFit}
 use Rattle.curp_law_names.proofs.Later.{Later}
 use Rattle.curp_law_names.proofs.Lists.{all_of-kept}
@@ -70,6 +70,7 @@ pub ordered_after : {w v : World} → Ordered w → CommandsName v.history → B
 ordered_after {w} {v} ordered commands by_one no_quicks k = record {
   line = subst LineOk k.refines.leads (all_keep pure second k.refines.moves (line_of w) k.refines.fit ordered.line);
   cuts_follow = k.reads.cuts_follow;
+  cuts_timed = k.reads.cuts_timed;
   commands = commands;
   by_one = by_one;
   no_quicks = no_quicks;
@@ -86,7 +87,7 @@ pub stay_keeps_order : {w : World} → Ordered w → KeepsOrder w w
 stay_keeps_order ordered = record {
   refines = record { moves = []; fit = tt; leads = refl };
   logs = ordered.logs;
-  reads = record { cuts_follow = ordered.cuts_follow; numbered_looks = ordered.numbered_looks; worths = ordered.worths; captures = ordered.captures; reached = ordered.reached; stored = ordered.stored };
+  reads = record { cuts_follow = ordered.cuts_follow; cuts_timed = ordered.cuts_timed; numbered_looks = ordered.numbered_looks; worths = ordered.worths; captures = ordered.captures; reached = ordered.reached; stored = ordered.stored };
 }
 
 -- ---- where no master moves
@@ -184,7 +185,7 @@ module _ {w : World} (known : Known w) (chain : Predecessors w) (migrated : Migr
         record {
           refines = r.its;
           logs = same_logs w v moved.manager moved.masters ordered.logs;
-          reads = witness_reads known now chain chain_now ordered (ap (λ (u : World). u.marks) is ∙ idle_marks w.marks (witness_input n x given).completed (witness_effect n x given).idle) r.its r.quiet n x given moved;
+          reads = witness_reads known now chain chain_now ordered (ap (λ (u : World). u.marks) is ∙ idle_marks w.marks (witness_input n x given).completed (witness_effect n x given).idle) r.its r.quiet n x given (ap (λ (u : World). numbered u.witnesses n) is ∙ numbered_set_same w.witnesses n x (witness_input n x given).state was) moved;
         }
 
   -- where nothing changes but what is stopped
@@ -203,7 +204,7 @@ module _ {w : World} (known : Known w) (chain : Predecessors w) (migrated : Migr
         logs = same_logs w v says.manager masters ordered.logs;
         reads = frame_reads known now says (λ e. absurd cc) chain chain_now ordered
             (record { grows = grows; later = later; names = known.names; steady = known.steady; ready = nothing_ready says known.names (λ e. absurd cc) })
-            r.its r.quiet masters (λ part. ap (λ (u : World). cuts part u.marks) rest.is) (looks_same (ap (λ (u : World). u.marks) rest.is)) (none_late known now says (λ e. absurd cc) (λ e. absurd cc));
+            r.its r.quiet masters (λ part. ap (λ (u : World). cuts part u.marks) rest.is) (looks_same (ap (λ (u : World). u.marks) rest.is)) (none_late known now says (λ e. absurd cc) (λ e. absurd cc)) (none_lives known now says (λ e. absurd cc) (λ e. absurd cc));
       }
     where
       apart : kind.Manager ≢ kind.Client
@@ -237,5 +238,5 @@ module _ {w : World} (known : Known w) (chain : Predecessors w) (routes : Routes
         refines = r.its;
         logs = master_logs known chain routes migrated ordered migrated_now n from heard out m k step;
         reads = master_reads known now chain chain_now ordered r.its r.quiet m k step marks (λ x y before after. input_reads known n m given (brings_one ordered.by_one (master_node n) given for) x y before after)
-            (master_cuts known now n from heard out m k step marks ordered.cuts_follow);
+            (master_cuts known chain now n from heard out m k step marks ordered.cuts_follow) (master_timed known chain ordered now n from heard out m k step marks r.its);
       }

@@ -11,8 +11,8 @@ use Rattle.curp_model.specs.Manager.{Shape}
 use Rattle.curp_model.specs.Marks.{Mark}
 use Rattle.curp_model.specs.Recovery.{MasterStage}
 use Rattle.curp_model.specs.World.{World}
-use Rattle.curp_facts.specs.Facts.{IsAdoptedNow, Lists, Logged, WasAdopted, lists_of_part, node_log}
-use Rattle.curp_facts.specs.Growth.{LogGrows}
+use Rattle.curp_facts.specs.Facts.{IsAdoptedNow, Lists, Logged, WasAdopted, lists_of_part, node_log, WasSent}
+use Rattle.curp_facts.specs.Growth.{LogGrows, BackupGrows}
 use Rattle.curp_facts.specs.Known.{Known}
 use Rattle.curp_facts.specs.Names.{Top}
 use Rattle.curp_law_line.specs.OfWorld.{Reign, cut_length, cuts, entries_at, log_of, logged_entries, reign_of, reigns}
@@ -22,12 +22,37 @@ use Rattle.curp_law_linear.proofs.ManagersMoves.{entry_here}
 use Rattle.curp_law_linear.proofs.ReadsLater.{EntryStays}
 use Rattle.curp_law_linear.proofs.ReadsPassed.{NewerLists}
 use Rattle.curp_law_linear.proofs.ReadsStored.{from_stays}
-use Rattle.curp_law_stays.proofs.Words.{Follows, adopted_later, master_later}
+use Rattle.curp_cmd.specs.Node.{manager_node, master_node}
+use Rattle.curp_cmd.specs.declared.entry.Entry.{Entry}
+use Rattle.curp_msg.specs.Moved.{says}
+use Rattle.curp_model.specs.Backup.{BackupState}
+use Rattle.curp_model.specs.Named.{IsBackup}
+use Rattle.curp_facts.specs.Kept.{AdoptionOk}
+use Rattle.curp_facts.specs.Nodes.{BackupOk}
+use Rattle.curp_facts.specs.Predecessors.{Predecessors}
+use Rattle.curp_law_pairs.proofs.Adoptions.{adoptions_ok}
+use Rattle.curp_law_pairs.proofs.Words.{one_backup}
+use Rattle.curp_msg.specs.declared.body.Body.TheVariants as body
+use Rattle.curp_msg.specs.declared.body.Recover.{Recover}
+use Rattle.curp_law_stays.proofs.Words.{Follows, adopted_later, master_later, backup_later, sent_later}
 
 -- ---- where no recovery is adopted
 
--- what is there stays, and whoever is adopted now was, or has the epoch of the present entry
-module _ {w v : World} (known : Known w) (now : Known v) (s : Follows w v) where
+-- the adoption of a mark
+pub record CutAdopted (w : World) (part : ℕ) (m : Mark) : Type 0 where
+  pub its : ReignOk w part (reign_of m)
+  pub ok : AdoptionOk w its.lists
+
+module _ {w : World} (known : Known w) (chain : Predecessors w) where
+  pub cut_adoption : (part : ℕ) (cs : List Mark) → PartCuts w part cs → (i : ℕ) (m : Mark) → At cs i m → CutAdopted w part m
+  cut_adoption part cs f i m at =
+      let p = f.ranged i m at in
+      let next = at_map reign_of cs i m at in
+      let o = f.adopted (suc i) (reign_of m) p.0 p.1 next in
+      let up = f.rise 0 (suc i) (record { epoch = 1; master = master_node part }) (reign_of m) (omega arith) refl next in
+      record { its = o; ok = adoptions_ok known.names known.inv chain o.lists o.adopted (omega (arith, up, o.its_epoch)) }
+
+module _ {w v : World} (known : Known w) (chain : Predecessors w) (now : Known v) (s : Follows w v) where
   pub parts_same : v.manager.shape.parts ≡ w.manager.shape.parts
   parts_same = ap (λ (x : Shape). x.parts) s.later.shape
 
@@ -55,6 +80,29 @@ module _ {w v : World} (known : Known w) (now : Known v) (s : Follows w v) where
       let of = (known.names.given a.lists a.adopted.given).master.0 in
       omega (arith, f.low i r m at there, log_grows r.master (subst (λ (node : NodeId). node.kind ≡ kind.Master) a.its_master of))
 
+  -- the backup that was named keeps its log
+  pub recovered_later : (part : ℕ) (cs : List Mark) → PartCuts w part cs → (i : ℕ) (m : Mark) → At cs i m → (order : Recover) → WasSent v (says manager_node m.master (body.Recover order))
+      → (b : BackupState) → IsBackup v order.backup b → cut_length m.place ≡ length b.log
+  recovered_later part cs f i m at order sent b is =
+      let c = cut_adoption known chain part cs f i m at in
+      let a : AdoptionOk w c.its.lists = c.ok in
+      let told : WasSent w (says manager_node m.master (body.Recover a.order)) = subst (λ (node : NodeId). WasSent w (says manager_node node (body.Recover a.order))) c.its.its_master a.ordered in
+      let same : order ≡ a.order = now.names.one_order m.master order a.order sent (sent_later s told) in
+      let was : IsBackup w a.order.backup a.b = subst (λ (node : NodeId). IsBackup w node a.b) (sym a.its_node) a.its_backup in
+      let o = backup_later s a.order.backup a.b was in
+      let one : b ≡ o.0 = one_backup b o.0 (subst (λ (r : Recover). IsBackup v r.backup b) same is) o.1 in
+      f.recovered i m at a.order told a.b was ∙ ap (λ (es : List Entry). length es) (sym (kept a o.0 o.2)) ∙ ap (λ (x : BackupState). length x.log) (sym one)
+    where
+      kept : {l : Lists} → (a : AdoptionOk w l) → (b : BackupState) → BackupGrows a.b b → b.log ≡ a.b.log
+      kept {l} a b grows = go a.b.installed refl
+        where
+          at_home : BackupOk w a.before a.b
+          at_home = known.inv.backups a.before a.was.given a.node a.named a.b a.its_backup
+
+          go : (o : Option ℕ) → a.b.installed ≡ o → b.log ≡ a.b.log
+          go None is = grows.absent is
+          go (Some e) is = grows.fenced e is (omega (arith, at_home.installed e is, a.earlier, a.fenced))
+
   -- what they tell stays, with those who are adopted now among them
   pub part_later : (part : ℕ) (cs : List Mark) → PartCuts w part cs → ((l : Lists) → WasAdopted v l → l.part ≡ part → (i : ℕ) × At (reigns part cs) i (reign_in l)) → PartCuts v part cs
   part_later part cs f there = record {
@@ -64,6 +112,8 @@ module _ {w v : World} (known : Known w) (now : Known v) (s : Follows w v) where
     there = there;
     low = λ i r m at there. low_later part cs f i r m at there;
     stored = λ i m at. from_stays s m.master part (cut_length m.place) (f.stored i m at);
+    counted = f.counted;
+    recovered = λ i m at order sent b is. recovered_later part cs f i m at order sent b is;
   }
 
   module _ (entries : (c : PartConfig) → IsAdoptedNow v c → EntryStays w c) (newer : NewerLists w v) where

@@ -11,7 +11,7 @@ use Rattle.curp_facts.specs.Known.{Known}
 use Rattle.curp_law_kept.proofs.ManagersDo.{manager_does}
 use Rattle.curp_law_kept.proofs.ManagersReady.{manager_follows}
 use Rattle.curp_law_linear.specs.Ordered.{Ordered}
-use Rattle.curp_law_linear.specs.Refined.{Refines}
+use Rattle.curp_law_linear.specs.Refined.{Refines, EarlyAfter}
 use Rattle.curp_law_linear.proofs.Always.{KeepsOrder}
 use Rattle.curp_law_linear.proofs.ManagersLogs.{manager_logs}
 use Rattle.curp_law_linear.proofs.ManagersRefine.{AdoptsOnly, ManagerRefines, manager_refines}
@@ -36,12 +36,12 @@ module _ {w : World} (known : Known w) (chain : Predecessors w) (routes : Routes
       record {
         refines = r.its;
         logs = manager_logs known chain routes migrated ordered events none given for now.names later;
-        reads = reads r.its (adoption w.manager given) refl r.adopts;
+        reads = reads r.its (adoption w.manager given) refl r.adopts r.early;
       }
     where
       follows : Follows w v
       follows = manager_follows known now.names later (manager_input w.manager given).messages (moved_messages w (adoption w.manager given) events (manager_input w.manager given)) (manager_does known given for).messages grows
 
-      reads : (r : Refines w v) (o : Option Attempted) → adoption w.manager given ≡ o → AdoptsOnly w o r.moves → ReadsOk v
-      reads r None is quiet = manager_step_reads known given (adoption w.manager given) events now chain chain_now ordered follows for is is r quiet
-      reads r (Some a) is adopts = adoption_step_reads known given (adoption w.manager given) events a for is now chain chain_now ordered follows is r adopts
+      reads : (r : Refines w v) (o : Option Attempted) → adoption w.manager given ≡ o → AdoptsOnly w o r.moves → EarlyAfter w v o → ReadsOk v
+      reads r None is quiet early = manager_step_reads known given (adoption w.manager given) events now chain chain_now ordered follows for is is r quiet
+      reads r (Some a) is adopts early = adoption_step_reads known given (adoption w.manager given) events a for is now chain chain_now ordered follows is r adopts early

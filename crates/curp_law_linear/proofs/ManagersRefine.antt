@@ -1,5 +1,5 @@
 -- An input to the manager is at most one move of the machine.
-use Rattle.std.proofs.Common.{◌≡◌, List, [], ◌∷◌, length, ap, sym, ◌∙◌, Option, Some, None}
+use Rattle.std.proofs.Common.{◌≡◌, List, [], ◌∷◌, length, ap, sym, ◌∙◌, Option, Some, None, ℕ, ◌+◌, subst}
 use Rattle.curp_base.specs.Words.{Each, numbered}
 use Rattle.curp_cmd.specs.Node.{manager_node}
 use Rattle.curp_msg.specs.Moved.{Moved}
@@ -15,7 +15,7 @@ use Rattle.curp_facts.specs.Known.{Known}
 use Rattle.curp_law_kept.proofs.ManagersDo.{manager_does}
 use Rattle.curp_law_line.specs.Moves.{Adopts, Move}
 use Rattle.curp_law_linear.specs.Ordered.{Ordered}
-use Rattle.curp_law_linear.specs.Refined.{NoAdoption, Refines}
+use Rattle.curp_law_linear.specs.Refined.{NoAdoption, Refines, EarlyAfter}
 use Rattle.curp_law_linear.proofs.Adopt.{adopt_fits, adopt_leads}
 use Rattle.curp_law_linear.proofs.AdoptDone.{adopt}
 use Rattle.curp_law_linear.proofs.AdoptRecovery.{Recovery, backup_begins, recovery}
@@ -30,6 +30,10 @@ use Rattle.curp_law_names.proofs.Steps.{manager_moved}
 use Rattle.curp_facts.specs.Predecessors.{Predecessors}
 use Rattle.curp_facts.specs.Migrated.{Migrated}
 use Rattle.curp_facts.specs.Routes.{Routes}
+use Rattle.curp_law_line.specs.Line.{CutEarly, Line}
+use Rattle.curp_law_line.specs.OfWorld.{line_of}
+use Rattle.curp_model.specs.Marks.{adoptions}
+use Rattle.curp_law_line.proofs.QuickBegins.{cut_early_begins}
 use Rattle.curp_law_stays.proofs.Words.{one_state}
 
 -- the moves adopt what the manager adopts, if it does, and as much of its log as was recovered
@@ -41,6 +45,7 @@ AdoptsOnly w (Some a) moves = (h : WaitsFor w a.master) → Each (AdoptsThat a.o
 pub record ManagerRefines (w v : World) (o : Option Attempted) : Type 0 where
   pub its : Refines w v
   pub adopts : AdoptsOnly w o its.moves
+  pub early : EarlyAfter w v o
 
 module _ {w : World} (known : Known w) (chain : Predecessors w) (routes : Routes w) (migrated : Migrated w) (ordered : Ordered w) (events : List Event) (none : events ≡ []) where
   -- the recovered log was cut where the backup's log ends
@@ -58,7 +63,7 @@ module _ {w : World} (known : Known w) (chain : Predecessors w) (routes : Routes
       → ManagerRefines w (manager_moved w o events r) o
   leads_refine r does None leads names later after =
       let q = steady_refines known chain routes migrated ordered events none r does names later after leads in
-      record { its = q.its; adopts = q.quiet }
+      record { its = q.its; adopts = q.quiet; early = tt }
   leads_refine r does (Some _) (Renews a o parts moving) names later after =
       let rec : Recovery w o.c a = recovery known a o in
       let front = backup_begins known o.c a rec in
@@ -69,6 +74,10 @@ module _ {w : World} (known : Known w) (chain : Predecessors w) (routes : Routes
           leads = sym (adopt_leads known chain routes migrated ordered o.c a rec front events none r does names later parts moving);
         };
         adopts = λ h. ((sym rec.ok.its_part, same_cut o.c a rec h), tt);
+        early = λ id c.
+            subst (λ (p : ℕ). CutEarly (line_of (manager_moved w (Some a) events r)) p (adoptions p w.marks + 1) id c) (sym rec.ok.its_part)
+            (subst (λ (l : Line). CutEarly l o.c.part (adoptions o.c.part w.marks + 1) id c) (sym (adopt_leads known chain routes migrated ordered o.c a rec front events none r does names later parts moving))
+            (cut_early_begins (line_of w) (adopt known chain routes migrated ordered o.c a rec front) id c));
       }
 
   -- whatever comes to the manager

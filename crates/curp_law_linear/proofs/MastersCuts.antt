@@ -1,5 +1,5 @@
 -- A step of a master leaves what the marks of adoptions tell.
-use Rattle.std.proofs.Common.{◌≡◌, inl, ℕ, ◌++◌, if◌then◌else◌, List, refl, ap, subst, Option, Some}
+use Rattle.std.proofs.Common.{◌≡◌, inl, ℕ, ◌++◌, if◌then◌else◌, List, refl, ap, subst, Option, Some, sym, ◌∙◌}
 use Rattle.curp_base.specs.Words.{numbered}
 use Rattle.curp_cmd.specs.Node.{master_node}
 use Rattle.curp_cmd.specs.declared.node.NodeId.{NodeId}
@@ -11,19 +11,23 @@ use Rattle.curp_model.specs.Recovery.{MasterStage}
 use Rattle.curp_model.specs.World.{World, is_adopted, master_marks}
 use Rattle.curp_facts.specs.Facts.{IsAdoptedNow}
 use Rattle.curp_facts.specs.Known.{Known}
+use Rattle.curp_facts.specs.Predecessors.{Predecessors}
 use Rattle.curp_law_kept.proofs.MastersMoves.{MasterStep}
 use Rattle.curp_law_kept.proofs.MastersReady.{step_follows}
-use Rattle.curp_law_kept.proofs.Moved.{adopted_back}
-use Rattle.curp_law_linear.specs.Ordered.{CutsFollow}
+use Rattle.curp_law_kept.proofs.Moved.{adopted_back, sent_back}
+use Rattle.curp_law_linear.specs.Ordered.{CutsFollow, Ordered, CutsTimed}
 use Rattle.curp_law_linear.proofs.CutMarks.{cuts_marked}
 use Rattle.curp_law_linear.proofs.Cuts.{cuts_stay}
 use Rattle.curp_law_linear.proofs.ReadsLater.{EntryStays}
+use Rattle.curp_law_linear.specs.Refined.{Refines}
+use Rattle.curp_law_linear.proofs.CutsTimes.{timed_stay, NoneLives}
+use Rattle.curp_cmd.specs.declared.node.NodeKind.TheVariants as kind
 use Rattle.curp_law_linear.proofs.ReadsPassed.{NewerLists}
 
-pub master_cuts : {w v : World} → Known w → Known v → (n : ℕ) (from : NodeId) (heard : Option Body) (out : List Message) (m k : MasterStage) → MasterStep w v n from heard m k out
+pub master_cuts : {w v : World} → Known w → Predecessors w → Known v → (n : ℕ) (from : NodeId) (heard : Option Body) (out : List Message) (m k : MasterStage) → MasterStep w v n from heard m k out
     → v.marks ≡ (if is_adopted w.manager (master_node n) then w.marks ++ master_marks (master_node n) m k else w.marks) → CutsFollow w → CutsFollow v
-master_cuts {w} {v} known now n from heard out m k s marks follow =
-    cuts_stay known now (step_follows known s) entries newer (cuts_marked w v (master_node n) m k (is_adopted w.manager (master_node n)) marks) follow
+master_cuts {w} {v} known chain now n from heard out m k s marks follow =
+    cuts_stay known chain now (step_follows known s) entries newer (cuts_marked w v (master_node n) m k (is_adopted w.manager (master_node n)) marks) follow
   where
     entries : (c : PartConfig) → IsAdoptedNow v c → EntryStays w c
     entries c here = record {
@@ -36,3 +40,14 @@ master_cuts {w} {v} known now n from heard out m k s marks follow =
 
     newer : NewerLists w v
     newer l was = inl (adopted_back w v out s.frame.sent (master_node n) s.frame.all (ap (λ (g : ManagerState). g.shape) s.frame.manager) s.frame.not_manager l was)
+
+pub master_timed : {w v : World} → Known w → Predecessors w → Ordered w → Known v → (n : ℕ) (from : NodeId) (heard : Option Body) (out : List Message) (m k : MasterStage) → MasterStep w v n from heard m k out
+    → v.marks ≡ (if is_adopted w.manager (master_node n) then w.marks ++ master_marks (master_node n) m k else w.marks) → Refines w v → CutsTimed v
+master_timed {w} {v} known chain ordered now n from heard out m k s marks r =
+    timed_stay known chain ordered now (step_follows known s) r lives (cuts_marked w v (master_node n) m k (is_adopted w.manager (master_node n)) marks)
+  where
+    lives : NoneLives w v
+    lives node to x a is frozen live sent = sent_back w v out s.frame.sent (master_node n) s.frame.all _ sent (λ same. kinds (sym is.its_kind ∙ ap (λ (z : NodeId). z.kind) same))
+      where
+        kinds : kind.Witness ≡ kind.Master → ⊥
+        kinds e = cc

@@ -64,6 +64,7 @@ module _ (h : Header) where
   ordered_opening its = record {
     line = opening_line h (few h.parts its.parts.1);
     cuts_follow = cuts_follow_opening h;
+    cuts_timed = λ part i m at order sent. absurd (nothing_sent h _ sent);
     commands = λ i id command at. absurd cc;
     by_one = by_one_opening h its.protocol;
     no_quicks = tt;

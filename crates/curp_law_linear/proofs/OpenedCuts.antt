@@ -57,6 +57,8 @@ module _ (h : Header) where
     there = λ l was its. (0, subst (λ (r : Reign). At (reigns part []) 0 r) (sym (given_first l was.given ∙ ap first its)) refl);
     low = λ i r m at to. absurd (none_at i m to);
     stored = λ i m at. absurd (none_at i m at);
+    counted = λ i m at. absurd (none_at i m at);
+    recovered = λ i m at order sent b is. absurd (none_at i m at);
   }
 
   pub cuts_follow_opening : CutsFollow (opening h)

@@ -1,5 +1,5 @@
 -- An input by which the manager adopts a recovery keeps what is kept of reads.
-use Rattle.std.proofs.Common.{◌≡◌, ◌⊎◌, inl, inr, ℕ, ◌-◌, List, [], ◌∷◌, drop, set, refl, ap, sym, ◌∙◌, subst, arith, Option, Some, None}
+use Rattle.std.proofs.Common.{◌≡◌, ◌⊎◌, inl, inr, ℕ, ◌-◌, List, [], ◌∷◌, drop, set, refl, ap, sym, ◌∙◌, subst, arith, Option, Some, None, ◌≤◌, length}
 use Rattle.curp_base.specs.Words.{Each, numbered}
 use Rattle.curp_base.proofs.Lists.{Each-weaker}
 use Rattle.curp_cmd.specs.Node.{manager_node}
@@ -15,11 +15,11 @@ use Rattle.curp_order.specs.declared.Event.{Event}
 use Rattle.curp_model.specs.Manager.{Attempted, ManagerState, Recovering, adopted_message, adoption, manager_input, recovered_part}
 use Rattle.curp_model.specs.Marks as mark
 use Rattle.curp_model.specs.Marks.{Mark}
-use Rattle.curp_model.specs.Named.{IsMaster}
+use Rattle.curp_model.specs.Named.{IsMaster, IsBackup}
 use Rattle.curp_model.specs.Recovery as recovery
 use Rattle.curp_model.specs.Recovery.{Asking, Fresh, MasterStage, RecoveryPhase, RecoveryState, Replayed, Serving, Storing, Waiting}
 use Rattle.curp_model.specs.World.{World, marks_adopted, marks_after, op_requests, replayed_in, with_adoption, with_completion}
-use Rattle.curp_facts.specs.Facts.{ByRecovery, IsAdoptedNow, WasSent, lists_of_order, lists_of_part}
+use Rattle.curp_facts.specs.Facts.{ByRecovery, IsAdoptedNow, WasSent, lists_of_order, lists_of_part, ReplayOk}
 use Rattle.curp_facts.specs.Kept.{lists_of_master}
 use Rattle.curp_facts.specs.Nodes.{IsWaiting, MasterOk}
 use Rattle.curp_facts.specs.Said.{RecoveredSaid}
@@ -29,11 +29,11 @@ use Rattle.curp_law_kept.specs.ManagerEffect.{ManagerEffect, Uttered}
 use Rattle.curp_facts.specs.Known.{Known}
 use Rattle.curp_law_kept.proofs.Known.{said}
 use Rattle.curp_law_kept.proofs.ManagersDo.{manager_does}
-use Rattle.curp_law_linear.specs.Ordered.{Ordered}
-use Rattle.curp_law_linear.specs.Refined.{Refines}
+use Rattle.curp_law_linear.specs.Ordered.{Ordered, StoredFrom, CutsFollow, CutsTimed}
+use Rattle.curp_law_linear.specs.Refined.{Refines, EarlyAfter}
 use Rattle.curp_law_linear.proofs.ReadsFinished.{Finished, attempt_finished}
 use Rattle.curp_law_linear.proofs.ReadsLater.{EntryStays, ReadsOk}
-use Rattle.curp_law_linear.proofs.ReadsManager.{AdoptsRecovery, AdoptsThat, ManagerSaid, adoption_reads, cut_stored, cut_within}
+use Rattle.curp_law_linear.proofs.ReadsManager.{AdoptsRecovery, AdoptsThat, ManagerSaid, adoption_reads, cut_stored, cut_within, cut_replay, cut_backup, lives}
 use Rattle.curp_law_linear.proofs.ReadsManagerLists.{manager_said, new_entry}
 use Rattle.curp_law_linear.proofs.ReadsManagerSteps.{was_heard}
 use Rattle.curp_facts.specs.Names.{RecoveringOk}
@@ -41,7 +41,9 @@ use Rattle.curp_law_names.proofs.Lists.{place}
 use Rattle.curp_law_names.proofs.Steps.{manager_moved, moved_messages}
 use Rattle.curp_facts.specs.Predecessors.{Predecessors}
 use Rattle.curp_law_pairs.proofs.Uttered.{manager_adopts}
-use Rattle.curp_law_linear.proofs.CutsAdopt.{cuts_follow_adopted}
+use Rattle.curp_law_linear.proofs.CutsAdopt.{cuts_follow_adopted, cuts_cases}
+use Rattle.curp_law_line.specs.OfWorld.{log_of}
+use Rattle.curp_law_linear.proofs.CutsTimes.{timed_more}
 use Rattle.curp_law_stays.proofs.Words.{Follows}
 
 -- a master that waits to be adopted, with what it has replayed
@@ -143,9 +145,10 @@ module _ {w : World} (known : Known w) (given : Input) (adopted : Option Attempt
 
   -- an input by which the manager adopts a recovery: the moves adopt it alone, with as much as was recovered
   pub adoption_step_reads : Known v → Predecessors w → Predecessors v → (ordered : Ordered w) → Follows w v → adopted ≡ Some a → (r : Refines w v)
-      → ((h : WaitsFor w a.master) → Each (AdoptsThat a.order.part h.p.cut) r.moves) → ReadsOk v
-  adoption_step_reads now chain later ordered s adopts r moves = adoption_reads known now chain later ordered s r more
-      its (cuts_follow_adopted known now s r its ordered.cuts_follow (cut_within known now chain later ordered s r more its) (cut_stored known now chain later ordered s r more its))
+      → ((h : WaitsFor w a.master) → Each (AdoptsThat a.order.part h.p.cut) r.moves) → EarlyAfter w v (Some a) → ReadsOk v
+  adoption_step_reads now chain later ordered s adopts r moves early = adoption_reads known now chain later ordered s r more
+      its follow
+      timed
     where
       more : ManagerSaid w v result.messages
       more = manager_said w adopted events result (Each-weaker (Uttered w) (λ (m : Message). m.from ≡ manager_node) (λ m u. u.from) result.messages effect.messages)
@@ -173,3 +176,22 @@ module _ {w : World} (known : Known w) (given : Input) (adopted : Option Attempt
 
       its : AdoptsRecovery w v r
       its = adoption_of (attempt_waits known a fin)
+
+      -- the backup that was recovered from
+      replayed : ReplayOk w its.s its.p
+      replayed = cut_replay known now chain later ordered s r more its
+
+      here : IsBackup v a.order.backup replayed.b
+      here = more.backups a.order.backup replayed.b (cut_backup known now chain later ordered s r more its)
+
+      within : its.p.cut ≤ length (log_of w a.order.part its.before.master).log
+      within = cut_within known now chain later ordered s r more its
+
+      stored : StoredFrom v a.master a.order.part its.p.cut
+      stored = cut_stored known now chain later ordered s r more its
+
+      follow : CutsFollow v
+      follow = cuts_follow_adopted known chain now s r its ordered.cuts_follow within stored replayed.b here replayed.its_cut
+
+      timed : CutsTimed v
+      timed = timed_more known chain ordered now s r (lives now more) a.order.part (cuts_cases known chain now s r its ordered.cuts_follow within stored replayed.b here replayed.its_cut) early

@@ -1,5 +1,5 @@
 -- A step of a backup or of a witness keeps what is kept of reads.
-use Rattle.std.proofs.Common.{◌≡◌, ◌≢◌, inl, inr, ℕ, ◌≤◌, List, ap, subst, arith, Some}
+use Rattle.std.proofs.Common.{◌≡◌, ◌≢◌, inl, inr, ℕ, ◌≤◌, List, ap, subst, arith, Some, ◌∙◌, Option, true, false, sym}
 use Rattle.curp_base.specs.Words.{Each, numbered}
 use Rattle.curp_base.proofs.Lists.{Each-weaker}
 use Rattle.curp_cmd.specs.Node.{backup_node, witness_node}
@@ -13,12 +13,12 @@ use Rattle.curp_msg.specs.declared.body.Body.TheVariants as body
 use Rattle.curp_msg.specs.declared.machine.Input.{Input}
 use Rattle.curp_msg.specs.declared.message.Message.{Message}
 use Rattle.curp_model.specs.Backup.{BackupState, backup_input}
-use Rattle.curp_model.specs.Named.{IsBackup}
-use Rattle.curp_model.specs.Witness.{WitnessState, witness_input}
+use Rattle.curp_model.specs.Named.{IsBackup, IsWitness}
+use Rattle.curp_model.specs.Witness.{WitnessState, witness_input, is_live}
 use Rattle.curp_model.specs.World.{World}
-use Rattle.curp_facts.specs.Growth.{BackupGrows}
+use Rattle.curp_facts.specs.Growth.{BackupGrows, WitnessGrows, Dropped}
 use Rattle.curp_law_keepers.specs.BackupEffect.{AppendAnswerSays, AppendedSays, BackupSays}
-use Rattle.curp_law_keepers.specs.WitnessEffect.{WitnessSays}
+use Rattle.curp_law_keepers.specs.WitnessEffect.{WitnessSays, ProbedSays}
 use Rattle.curp_law_keepers.proofs.Backups.{backup_effect}
 use Rattle.curp_law_keepers.proofs.Witnesses.{witness_effect}
 use Rattle.curp_law_kept.proofs.KeeperSteps.{KeeperMoved}
@@ -30,10 +30,13 @@ use Rattle.curp_law_linear.specs.Refined.{Refines}
 use Rattle.curp_law_linear.proofs.ReadsLater.{ReadsOk}
 use Rattle.curp_law_linear.specs.Refined.{NoAdoption}
 use Rattle.curp_law_linear.proofs.ReadsPassed.{NoneLate}
-use Rattle.curp_law_linear.proofs.ReadsQuiet.{frame_reads, looks_same, none_late}
+use Rattle.curp_law_linear.proofs.ReadsQuiet.{frame_reads, looks_same, none_late, none_lives}
 use Rattle.curp_law_names.proofs.Lists.{among_each}
 use Rattle.curp_facts.specs.Predecessors.{Predecessors}
 use Rattle.curp_law_line.specs.OfWorld.{cuts}
+use Rattle.curp_law_linear.proofs.CutsTimes.{NoneLives}
+use Rattle.curp_model.specs.declared.Mode.TheVariants as mode
+use Rattle.curp_model.specs.declared.Mode.{Mode}
 use Rattle.curp_law_stays.proofs.Words.{Follows, one_state}
 
 module _ {w v : World} (known : Known w) (now : Known v) (chain : Predecessors w) (later : Predecessors v) (ordered : Ordered w) (marks : v.marks ≡ w.marks)
@@ -42,12 +45,12 @@ module _ {w v : World} (known : Known w) (now : Known v) (chain : Predecessors w
     follows : Follows w v
     follows = record { grows = moved.grows; later = moved.later; names = known.names; steady = known.steady; ready = nothing_ready f known.names not_master }
 
-    keeper_reads : NoneLate w v → ReadsOk v
-    keeper_reads late = frame_reads known now f not_master chain later ordered follows r none moved.masters (λ part. ap (cuts part) marks) (looks_same marks) late
+    keeper_reads : NoneLate w v → NoneLives w v → ReadsOk v
+    keeper_reads late lives = frame_reads known now f not_master chain later ordered follows r none moved.masters (λ part. ap (cuts part) marks) (looks_same marks) late lives
 
   -- an input to a witness
-  pub witness_reads : (n : ℕ) (x : WitnessState) (given : Input) → KeeperMoved w v (witness_node n) (witness_input n x given).messages → ReadsOk v
-  witness_reads n x given moved = keeper_reads more (λ e. absurd cc) moved (none_late known now more (λ e. absurd cc) (λ e. absurd cc))
+  pub witness_reads : (n : ℕ) (x : WitnessState) (given : Input) → numbered v.witnesses n ≡ Some (witness_input n x given).state → KeeperMoved w v (witness_node n) (witness_input n x given).messages → ReadsOk v
+  witness_reads n x given is moved = keeper_reads more (λ e. absurd cc) moved (none_late known now more (λ e. absurd cc) (λ e. absurd cc)) lives
     where
       more : SaysMore w v (witness_input n x given).messages (witness_node n)
       more = record {
@@ -60,10 +63,29 @@ module _ {w v : World} (known : Known w) (now : Known v) (chain : Predecessors w
           kinds : kind.Manager ≡ kind.Witness → ⊥
           kinds e = cc
 
+      -- one that is frozen stays so, and isn't live
+      stays_frozen : (node : NodeId) (y : WitnessState) → node ≡ witness_node n → IsWitness w node y → y.mode ≡ mode.Frozen → (witness_input n x given).state.mode ≡ mode.Frozen
+      stays_frozen node y same here frozen = go (moved.grows.witnesses n y (subst (λ (m : NodeId). numbered w.witnesses m.number ≡ Some y) same here.its_state))
+        where
+          go : (z : WitnessState) × (numbered v.witnesses n ≡ Some z) × WitnessGrows (Dropped v n y) y z → (witness_input n x given).state.mode ≡ mode.Frozen
+          go o = ap (λ (z : WitnessState). z.mode) (one_state _ (witness_input n x given).state o.0 is o.1 ∙ o.2.frozen frozen) ∙ frozen
+
+      not_live : (m : Mode) (own : Option ℕ) (epoch : ℕ) → m ≡ mode.Frozen → is_live m own epoch ≡ true → ⊥
+      not_live m own epoch frozen live = let bad : false ≡ true = sym (ap (λ (z : Mode). is_live z own epoch) frozen) ∙ live in cc
+
+      lives : NoneLives w v
+      lives node to y a here frozen live sent = elim (sent_cases w v (witness_input n x given).messages moved.sent _ sent) [
+        | inl before ↦ before
+        | inr new ↦
+            let k = among_each (WitnessSays n given (witness_input n x given).state) (witness_input n x given).messages (witness_effect n x given).says (says node to (body.Probed a)) new in
+            let p : ProbedSays given (witness_input n x given).state to a = k.says_so in
+            absurd (not_live (witness_input n x given).state.mode (witness_input n x given).state.epoch a.epoch (stays_frozen node y k.sender here frozen) (sym p.live ∙ live))
+      ]
+
   -- an input to a backup: one that is fenced above an epoch stores nothing of that epoch
   pub backup_reads : (n : ℕ) (b : BackupState) (given : Input) → numbered w.backups n ≡ Some b → numbered v.backups n ≡ Some (backup_input n b given).state
       → KeeperMoved w v (backup_node n) (backup_input n b given).messages → ReadsOk v
-  backup_reads n b given was is moved = keeper_reads more (λ e. absurd cc) moved late
+  backup_reads n b given was is moved = keeper_reads more (λ e. absurd cc) moved late (none_lives known now more (λ e. absurd cc) (λ e. absurd cc))
     where
       more : SaysMore w v (backup_input n b given).messages (backup_node n)
       more = record {

@@ -17,7 +17,7 @@ use Rattle.curp_facts.specs.Facts.{IsAdoptedNow, WasSent}
 use Rattle.curp_facts.specs.Growth.{CoreGrows}
 use Rattle.curp_facts.specs.Kept.{PassedBy, lists_of_master}
 use Rattle.curp_facts.specs.Known.{Known}
-use Rattle.curp_law_linear.specs.Ordered.{CaptureOk, CutsFollow, IsStored, LooksNumbered, LooksReached, LooksStored, Ordered, StoredFrom, WorthOk}
+use Rattle.curp_law_linear.specs.Ordered.{CaptureOk, CutsFollow, IsStored, LooksNumbered, LooksReached, LooksStored, Ordered, StoredFrom, WorthOk, CutsTimed}
 use Rattle.curp_law_linear.specs.Refined.{Refines}
 use Rattle.curp_law_linear.proofs.ReadsMoves.{KeepsStored, NoneDrops, worth_later}
 use Rattle.curp_law_linear.proofs.ReadsPassed.{NewerLists, NoneLate, capture_later}
@@ -28,6 +28,7 @@ use Rattle.curp_law_stays.proofs.Words.{Follows, serving_later}
 -- what is kept of reads
 pub record ReadsOk (w : World) : Type 0 where
   pub cuts_follow : CutsFollow w
+  pub cuts_timed : CutsTimed w
   pub numbered_looks : LooksNumbered w
   pub worths : (node : NodeId) (v : Worth) → WasSent w (says node (client_node v.id.client) (body.Worth v)) → WorthOk w node v
   pub captures : (node : NodeId) (m : MasterState) → IsMaster w node (Serving m) → Each (CaptureOk w node m) m.captures
@@ -117,6 +118,7 @@ module _ {w v : World} (s : Follows w v) where
 -- drops; of captures that wait it drops none, or they are passed by
 pub record ReadStep (w v : World) (r : Refines w v) : Type 0 where
   pub cuts_follow : CutsFollow v
+  pub cuts_timed : CutsTimed v
   pub looks : LooksWere w v
   pub entries : (c : PartConfig) → IsAdoptedNow v c → EntryStays w c ⊎ LooksStand v c
   pub newer : NewerLists w v
@@ -131,6 +133,7 @@ pub record ReadStep (w v : World) (r : Refines w v) : Type 0 where
 pub reads_later : {w v : World} → Known w → Predecessors w → (ordered : Ordered w) → Follows w v → Known v → Predecessors v → (r : Refines w v) → ReadStep w v r → ReadsOk v
 reads_later {w} {v} known chain ordered s now later r step = record {
   cuts_follow = step.cuts_follow;
+  cuts_timed = step.cuts_timed;
   numbered_looks = numbered_later s ordered.numbered_looks step.looks;
   worths = λ node x sent. worth_later ordered r known chain s step.keeps node x (ordered.worths node x (step.worths node x sent));
   captures = λ node m is. elim (step.masters node m is) [

@@ -33,7 +33,7 @@ use Rattle.curp_law_kept.proofs.Known.{fits}
 use Rattle.curp_law_kept.proofs.MastersReady.{all_stored, stored_many}
 use Rattle.curp_law_kept.proofs.Moved.{sent_back}
 use Rattle.curp_law_line.specs.Moves.{Adopts, Move, IsDropped}
-use Rattle.curp_law_linear.specs.Ordered.{CaptureOk, CutsFollow, IsStored, Ordered, StoredFrom}
+use Rattle.curp_law_linear.specs.Ordered.{CaptureOk, CutsFollow, IsStored, Ordered, StoredFrom, CutsTimed}
 use Rattle.curp_law_linear.specs.Refined.{Refines}
 use Rattle.curp_law_linear.proofs.ReadsDropped.{Stays, kept_short, look_stays, looks_adopted}
 use Rattle.curp_law_linear.proofs.ReadsLater.{EntryStays, LooksStand, ReadsOk, reads_later}
@@ -49,6 +49,7 @@ use Rattle.curp_law_pairs.proofs.Lists.{order_first}
 use Rattle.curp_facts.specs.Migrated.{AllStored}
 use Rattle.curp_law_linear.proofs.Cuts.{cuts_stay}
 use Rattle.curp_law_line.specs.OfWorld.{cuts, entries_at, log_of, logged_entries}
+use Rattle.curp_law_linear.proofs.CutsTimes.{NoneLives, timed_stay}
 use Rattle.curp_law_stays.proofs.Words.{Follows, one_state, sent_later}
 
 -- the manager has said more, and no other node has moved; new nodes are fresh
@@ -74,6 +75,12 @@ module _ {w v : World} (now : Known v) {out : List Message} (f : ManagerSaid w v
   late : NoneLate w v
   late node to b a long is below stored sent = sent_back w v out f.sent manager_node f.all _ sent (another node (inr is.its_kind))
 
+  pub lives : NoneLives w v
+  lives node to x a is frozen live sent = sent_back w v out f.sent manager_node f.all _ sent (λ same. kinds (sym is.its_kind ∙ ap (λ (z : NodeId). z.kind) same))
+    where
+      kinds : kind.Witness ≡ kind.Manager → ⊥
+      kinds e = cc
+
   worth_was : (node : NodeId) (x : Worth) → WasSent v (says node (client_node x.id.client) (body.Worth x)) → WasSent w (says node (client_node x.id.client) (body.Worth x))
   worth_was node x sent =
       let of : IsOf v kind.Master node = (fits now (says node (client_node x.id.client) (body.Worth x)) sent).sender in
@@ -83,7 +90,8 @@ module _ {w v : World} (now : Known v) {out : List Message} (f : ManagerSaid w v
   pub manager_reads : Known w → Predecessors w → Predecessors v → (ordered : Ordered w) → Follows w v → (r : Refines w v) → Each NoAdoption r.moves → v.marks ≡ w.marks
       → ((c : PartConfig) → IsAdoptedNow v c → EntryStays w c) → NewerLists w v → ReadsOk v
   manager_reads known chain later ordered s r none marks entries newer = reads_later known chain ordered s now later r (record {
-    cuts_follow = cuts_stay known now s entries newer (λ part. ap (cuts part) marks) ordered.cuts_follow;
+    cuts_follow = cuts_stay known chain now s entries newer (λ part. ap (cuts part) marks) ordered.cuts_follow;
+    cuts_timed = timed_stay known chain ordered now s r lives (λ part. ap (cuts part) marks);
     looks = looks_same marks;
     entries = λ c here. inl (entries c here);
     newer = newer;
@@ -137,17 +145,17 @@ module _ {w v : World} (known : Known w) (now : Known v) (chain : Predecessors w
   replayed = stage d.s.phase d.waits recovering.stage
 
   -- the recovered backup is one of the present list
-  its : ReplayOk w d.s d.p
-  its = replayed.0.replayed
+  pub cut_replay : ReplayOk w d.s d.p
+  cut_replay = replayed.0.replayed
 
-  named : IsBackup w d.a.order.backup its.b
-  named = subst (λ (o : Recover). IsBackup w o.backup its.b) same_order its.its_backup
+  pub cut_backup : IsBackup w d.a.order.backup cut_replay.b
+  cut_backup = subst (λ (o : Recover). IsBackup w o.backup cut_replay.b) same_order cut_replay.its_backup
 
   -- what each backup of the present list has is no longer than what stays
   within_cut : (part long : ℕ) → d.a.order.part ≡ part → ((c : PartConfig) → IsAdoptedNow w c → c.part ≡ part → AllStored w c long) → long ≤ d.p.cut
   within_cut part long same stored =
-      let low = stored d.before d.was_now (sym d.ok.its_part ∙ same) d.a.order.backup d.ok.its_backup its.b named in
-      omega (arith, low, its.its_cut)
+      let low = stored d.before d.was_now (sym d.ok.its_part ∙ same) d.a.order.backup d.ok.its_backup cut_replay.b cut_backup in
+      omega (arith, low, cut_replay.its_cut)
 
   -- no move drops what is no longer than that
   none_dropped : (ms : List Move) → Each (AdoptsThat d.a.order.part d.p.cut) ms → (part long : ℕ) → (d.a.order.part ≡ part → long ≤ d.p.cut) → NoneDrops ms part long
@@ -190,8 +198,8 @@ module _ {w v : World} (known : Known w) (now : Known v) (chain : Predecessors w
 
       within : long ≤ length d.p.log
       within =
-          let front = prefix_length (replay_prefix d.s.order.lo d.s.order.hi (frozen_requests its.x) its.b.log) in
-          omega (arith, short, its.its_cut, front, ap (λ (es : List Entry). length es) its.is)
+          let front = prefix_length (replay_prefix d.s.order.lo d.s.order.hi (frozen_requests cut_replay.x) cut_replay.b.log) in
+          omega (arith, short, cut_replay.its_cut, front, ap (λ (es : List Entry). length es) cut_replay.is)
 
       many : Each (HasMany w long) d.a.order.backups
       many = subst (λ (o : Recover). Each (HasMany w long) o.backups) same_order
@@ -218,11 +226,11 @@ module _ {w v : World} (known : Known w) (now : Known v) (chain : Predecessors w
 
   -- what was recovered is a beginning of the present log
   pub cut_within : d.p.cut ≤ length (log_of w d.a.order.part d.before.master).log
-  cut_within = elim (known.inv.backups (lists_of_part d.before) (known.names.top d.before d.was_now).was.given d.a.order.backup d.ok.its_backup its.b named).follows [
-    | inl none ↦ omega (arith, its.its_cut, ap (λ (es : List Entry). length es) none)
+  cut_within = elim (known.inv.backups (lists_of_part d.before) (known.names.top d.before d.was_now).was.given d.a.order.backup d.ok.its_backup cut_replay.b cut_backup).follows [
+    | inl none ↦ omega (arith, cut_replay.its_cut, ap (λ (es : List Entry). length es) none)
     | inr g ↦
         let is : (log_of w d.a.order.part d.before.master).log ≡ g.its.log = ap entries_at g.its_log.is.its_state ∙ ap logged_entries g.its_log.its_log in
-        omega (arith, its.its_cut, prefix_length g.front, ap (λ (es : List Entry). length es) is)
+        omega (arith, cut_replay.its_cut, prefix_length g.front, ap (λ (es : List Entry). length es) is)
   ]
 
   -- and the new master has stored it
@@ -270,10 +278,10 @@ module _ {w v : World} (known : Known w) (now : Known v) (chain : Predecessors w
           ];
           order = d.a.order;
           ordered = subst (λ (z : NodeId). WasSent v (says manager_node z (body.Recover d.a.order))) (sym d.its_master) (sent_later s d.ok.sent);
-          b = its.b;
-          is = f.backups d.a.order.backup its.b named;
-          fenced = omega (arith, its.fenced, ap (λ (o : Recover). o.epoch) same_order, d.ok.later, same);
-          passed = inl (omega (arith, its.its_cut, long));
+          b = cut_replay.b;
+          is = f.backups d.a.order.backup cut_replay.b cut_backup;
+          fenced = omega (arith, cut_replay.fenced, ap (λ (o : Recover). o.epoch) same_order, d.ok.later, same);
+          passed = inl (omega (arith, cut_replay.its_cut, long));
         }
 
     waiting : CaptureOk w node m c → NoneDrops r.moves m.part c.length ⊎ PassedBy v (lists_of_master node m) m c
@@ -286,9 +294,10 @@ module _ {w v : World} (known : Known w) (now : Known v) (chain : Predecessors w
     ]
 
   -- an adoption of a recovery keeps what is kept of reads
-  pub adoption_reads : CutsFollow v → ReadsOk v
-  adoption_reads cuts_follow = reads_later known chain ordered s now later r (record {
+  pub adoption_reads : CutsFollow v → CutsTimed v → ReadsOk v
+  adoption_reads cuts_follow cuts_timed = reads_later known chain ordered s now later r (record {
     cuts_follow = cuts_follow;
+    cuts_timed = cuts_timed;
     looks = looks_adopted w v d.a.master d.a.order.part d.a.order.epoch d.p.cut (op_requests (drop d.p.cut d.p.log)) d.marks;
     entries = λ c here. elim (d.entries c here) [
       | inl new ↦ inr (subst (LooksStand v) (sym new) stand)

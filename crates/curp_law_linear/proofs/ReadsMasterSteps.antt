@@ -23,7 +23,7 @@ use Rattle.curp_facts.specs.Known.{Known}
 use Rattle.curp_law_kept.proofs.MastersMoves.{MasterStep, heard_in, speaker}
 use Rattle.curp_law_kept.proofs.MastersReady.{step_follows}
 use Rattle.curp_law_kept.proofs.Moved.{adopted_back, sent_back, sent_cases}
-use Rattle.curp_law_linear.specs.Ordered.{CutsFollow, Ordered}
+use Rattle.curp_law_linear.specs.Ordered.{CutsFollow, Ordered, CutsTimed}
 use Rattle.curp_law_linear.specs.Refined.{Refines}
 use Rattle.curp_law_linear.proofs.ReadsCaptures.{ReadsMove, ordered_reads, serving_reads}
 use Rattle.curp_law_linear.proofs.ReadsLater.{ReadsOk, reads_later}
@@ -73,9 +73,10 @@ module _ {w v : World} (known : Known w) (now : Known v) (chain : Predecessors w
     said_none : (Say : NodeId → Body → Type 0) → ((to : NodeId) (x : Worth) → Say to (body.Worth x) → ⊥) → Each (IsSaidBy n Say) out → (node to : NodeId) (x : Worth) → IsAmong (says node to (body.Worth x)) out → ⊥
     said_none Say never all node to x a = never to x (among_each (IsSaidBy n Say) out all _ a).says_so
 
-    idle : CutsFollow v → v.marks ≡ w.marks → ((node to : NodeId) (x : Worth) → IsAmong (says node to (body.Worth x)) out → ⊥) → ((y : MasterState) → k ≡ Serving y → y.captures ≡ []) → ReadsOk v
-    idle cuts_follow marks silent own = reads_later known chain ordered (step_follows known s) now later r (record {
+    idle : CutsFollow v → CutsTimed v → v.marks ≡ w.marks → ((node to : NodeId) (x : Worth) → IsAmong (says node to (body.Worth x)) out → ⊥) → ((y : MasterState) → k ≡ Serving y → y.captures ≡ []) → ReadsOk v
+    idle cuts_follow cuts_timed marks silent own = reads_later known chain ordered (step_follows known s) now later r (record {
       cuts_follow = cuts_follow;
+      cuts_timed = cuts_timed;
       looks = looks_same marks;
       entries = λ c here. inl (record {
         entry = c;
@@ -105,19 +106,19 @@ module _ {w v : World} (known : Known w) (now : Known v) (chain : Predecessors w
 
   -- an input to a master keeps what is kept of reads
   pub master_reads : (m k : MasterStage) → MasterStep w v n from heard m k out → v.marks ≡ (if is_adopted w.manager (master_node n) then w.marks ++ master_marks (master_node n) m k else w.marks)
-      → ((x y : MasterState) → m ≡ Serving x → k ≡ Serving y → ReadsMove x from heard (sends y out)) → CutsFollow v → ReadsOk v
-  master_reads (Serving x) (Serving y) s marks reads cuts_follow = serving_step_reads known now chain later ordered s (reads x y refl refl) r none marks cuts_follow
-  master_reads Fresh Fresh s marks reads cuts_follow = idle s cuts_follow (unmarked (is_adopted w.manager (master_node n)) w.marks v.marks marks) (said_none s (FreshSays w) (λ to x e. e) s.move) (λ y e. absurd cc)
-  master_reads Fresh (Recovering t) s marks reads cuts_follow = idle s cuts_follow (unmarked (is_adopted w.manager (master_node n)) w.marks v.marks marks) (said_none s (RecoverySays w t) (λ to x e. e) s.move.move.says) (λ y e. absurd cc)
-  master_reads (Recovering a) (Recovering t) s marks reads cuts_follow = idle s cuts_follow (unmarked (is_adopted w.manager (master_node n)) w.marks v.marks marks) (said_none s (RecoverySays w t) (λ to x e. e) s.move.says) (λ y e. absurd cc)
-  master_reads (Recovering a) (Serving y) s marks reads cuts_follow = idle s cuts_follow (unmarked (is_adopted w.manager (master_node n)) w.marks v.marks marks) (λ node to x among. nothing s.move.silent among) (λ z e. empty e s.move.begins.captures)
+      → ((x y : MasterState) → m ≡ Serving x → k ≡ Serving y → ReadsMove x from heard (sends y out)) → CutsFollow v → CutsTimed v → ReadsOk v
+  master_reads (Serving x) (Serving y) s marks reads cuts_follow cuts_timed = serving_step_reads known now chain later ordered s (reads x y refl refl) r none marks cuts_follow cuts_timed
+  master_reads Fresh Fresh s marks reads cuts_follow cuts_timed = idle s cuts_follow cuts_timed (unmarked (is_adopted w.manager (master_node n)) w.marks v.marks marks) (said_none s (FreshSays w) (λ to x e. e) s.move) (λ y e. absurd cc)
+  master_reads Fresh (Recovering t) s marks reads cuts_follow cuts_timed = idle s cuts_follow cuts_timed (unmarked (is_adopted w.manager (master_node n)) w.marks v.marks marks) (said_none s (RecoverySays w t) (λ to x e. e) s.move.move.says) (λ y e. absurd cc)
+  master_reads (Recovering a) (Recovering t) s marks reads cuts_follow cuts_timed = idle s cuts_follow cuts_timed (unmarked (is_adopted w.manager (master_node n)) w.marks v.marks marks) (said_none s (RecoverySays w t) (λ to x e. e) s.move.says) (λ y e. absurd cc)
+  master_reads (Recovering a) (Serving y) s marks reads cuts_follow cuts_timed = idle s cuts_follow cuts_timed (unmarked (is_adopted w.manager (master_node n)) w.marks v.marks marks) (λ node to x among. nothing s.move.silent among) (λ z e. empty e s.move.begins.captures)
     where
       nothing : {x : Message} → out ≡ [] → IsAmong x out → ⊥
       nothing {x} silent among = let at : At [] among.place x = subst (λ (xs : List Message). At xs among.place x) silent among.stands in cc
 
       empty : {a b : MasterState} → Serving a ≡ Serving b → a.captures ≡ [] → b.captures ≡ []
       empty {a} {b} e none = let same : a ≡ b = cc in subst (λ (z : MasterState). z.captures ≡ []) same none
-  master_reads (Serving x) Fresh s marks reads cuts_follow = absurd s.move
-  master_reads (Serving x) (Recovering t) s marks reads cuts_follow = absurd s.move
-  master_reads Fresh (Serving y) s marks reads cuts_follow = absurd s.move
-  master_reads (Recovering a) Fresh s marks reads cuts_follow = absurd s.move
+  master_reads (Serving x) Fresh s marks reads cuts_follow cuts_timed = absurd s.move
+  master_reads (Serving x) (Recovering t) s marks reads cuts_follow cuts_timed = absurd s.move
+  master_reads Fresh (Serving y) s marks reads cuts_follow cuts_timed = absurd s.move
+  master_reads (Recovering a) Fresh s marks reads cuts_follow cuts_timed = absurd s.move

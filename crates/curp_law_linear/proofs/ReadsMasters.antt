@@ -32,7 +32,7 @@ use Rattle.curp_law_kept.proofs.MastersHeard.{one_log}
 use Rattle.curp_law_kept.proofs.MastersMoves.{MasterStep}
 use Rattle.curp_law_kept.proofs.MastersReady.{step_follows}
 use Rattle.curp_law_kept.proofs.Moved.{adopted_back, sent_back, sent_cases}
-use Rattle.curp_law_linear.specs.Ordered.{CaptureOk, CutsFollow, LooksNumbered, LooksReached, Ordered, WorthOk}
+use Rattle.curp_law_linear.specs.Ordered.{CaptureOk, CutsFollow, LooksNumbered, LooksReached, Ordered, WorthOk, CutsTimed}
 use Rattle.curp_law_linear.specs.Refined.{Refines}
 use Rattle.curp_law_linear.proofs.ReadsAdopted.{later_entry, new_look, own_entry}
 use Rattle.curp_law_linear.proofs.ReadsCaptures.{CapturesMove, CapturesRead, Fewer, HeardStored, OneMore, ReadsMove, SaysValue, ValueOf}
@@ -325,9 +325,10 @@ module _ {w v : World} (known : Known w) (now : Known v) (chain : Predecessors w
         states e = cc
 
     -- an input to a serving master keeps what is kept of reads
-    pub serving_step_reads : CutsFollow v → ReadsOk v
-    serving_step_reads cuts_follow = record {
+    pub serving_step_reads : CutsFollow v → CutsTimed v → ReadsOk v
+    serving_step_reads cuts_follow cuts_timed = record {
       cuts_follow = cuts_follow;
+      cuts_timed = cuts_timed;
       numbered_looks = numbered_now;
       worths = worths;
       captures = captures;

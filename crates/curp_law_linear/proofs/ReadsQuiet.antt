@@ -47,6 +47,7 @@ use Rattle.curp_law_runs.proofs.ByOne.{by_value}
 use Rattle.curp_law_linear.proofs.CutMarks.{cuts_after}
 use Rattle.curp_law_linear.proofs.Cuts.{cuts_stay}
 use Rattle.curp_law_line.specs.OfWorld.{cuts}
+use Rattle.curp_law_linear.proofs.CutsTimes.{NoneLives, timed_stay}
 use Rattle.curp_law_stays.proofs.Words.{Follows}
 
 -- ---- marks
@@ -163,11 +164,15 @@ module _ {w v : World} (known : Known w) (now : Known v) {out : List Message} {m
   pub none_late : mover.kind ≢ kind.Backup → NoneLate w v
   none_late other node to b a long is below stored sent = sent_back w v out f.sent mover f.all _ sent (another kind.Backup other node is.its_kind)
 
+  pub none_lives : mover.kind ≢ kind.Witness → NoneLives w v
+  none_lives other node to x a is frozen live sent = sent_back w v out f.sent mover f.all _ sent (another kind.Witness other node is.its_kind)
+
   -- so such a step, whose moves adopt nothing, keeps what is kept of reads
   pub frame_reads : Predecessors w → Predecessors v → (ordered : Ordered w) → Follows w v → (r : Refines w v) → Each NoAdoption r.moves → v.masters ≡ w.masters
-      → ((part : ℕ) → cuts part v.marks ≡ cuts part w.marks) → LooksWere w v → NoneLate w v → ReadsOk v
-  frame_reads chain later ordered s r none masters cuts_same looks late = reads_later known chain ordered s now later r (record {
-    cuts_follow = cuts_stay known now s entry_stays lists_stay cuts_same ordered.cuts_follow;
+      → ((part : ℕ) → cuts part v.marks ≡ cuts part w.marks) → LooksWere w v → NoneLate w v → NoneLives w v → ReadsOk v
+  frame_reads chain later ordered s r none masters cuts_same looks late lives = reads_later known chain ordered s now later r (record {
+    cuts_follow = cuts_stay known chain now s entry_stays lists_stay cuts_same ordered.cuts_follow;
+    cuts_timed = timed_stay known chain ordered now s r lives cuts_same;
     looks = looks;
     entries = λ c here. inl (entry_stays c here);
     newer = lists_stay;
@@ -248,7 +253,7 @@ module _ {w v : World} (known : Known w) (now : Known v) (chain : Predecessors w
   client_reads marks r none =
       frame_reads known now more not_master chain later ordered follows r none moved.masters
       (λ part. ap (cuts part) marks ∙ cuts_after part (client_input n c given).completed w.marks)
-      (go (client_input n c given).completed (effect known n given moved.for c moved.was moved.made).completes marks) (none_late known now more not_master not_backup)
+      (go (client_input n c given).completed (effect known n given moved.for c moved.was moved.made).completes marks) (none_late known now more not_master not_backup) (none_lives known now more not_master (λ e. absurd cc))
     where
       go : (o : Option Completed) → MayComplete (MayCome w n) (EntryWas w) c o → v.marks ≡ with_completion o w.marks → LooksWere w v
       go None ok same = looks_same same

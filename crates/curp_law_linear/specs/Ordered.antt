@@ -1,7 +1,7 @@
 -- What a world keeps of the order: the facts of the small machine, of the adopted logs, and of reads, which are those of protocol 1.
-use Rattle.std.specs.Prelude.{◌≡◌, ◌≤◌, ◌<◌, ◌⊎◌, ℕ, true, false, List, length, Option, Some, None}
+use Rattle.std.specs.Prelude.{◌≡◌, ◌≤◌, ◌<◌, ◌⊎◌, ℕ, true, false, List, length, Option, Some, None, suc}
 use Rattle.curp_base.specs.Words.{At, Each}
-use Rattle.curp_cmd.specs.Node.{client_node}
+use Rattle.curp_cmd.specs.Node.{client_node, manager_node}
 use Rattle.curp_cmd.specs.declared.command.Command.{Command}
 use Rattle.curp_cmd.specs.declared.command.RequestId.{RequestId}
 use Rattle.curp_cmd.specs.declared.entry.Entry.{Entry}
@@ -9,13 +9,16 @@ use Rattle.curp_cmd.specs.declared.entry.Entry.TheVariants.{Op, Take, Give, Expi
 use Rattle.curp_cmd.specs.declared.node.NodeId.{NodeId}
 use Rattle.curp_msg.specs.Moved.{says}
 use Rattle.curp_msg.specs.declared.body.Body.TheVariants as body
+use Rattle.curp_msg.specs.declared.body.Probed.{Probed}
+use Rattle.curp_msg.specs.declared.body.Recover.{Recover}
 use Rattle.curp_msg.specs.declared.body.Worth.{Worth}
 use Rattle.curp_msg.specs.declared.config.PartConfig.{PartConfig}
 use Rattle.curp_order.specs.declared.Event.TheVariants.{Invoke}
 use Rattle.curp_model.specs.Log.{log_opening}
-use Rattle.curp_model.specs.Marks.{Looked, Mark, is_quick}
+use Rattle.curp_model.specs.Marks.{Cut, Looked, Mark, is_quick}
 use Rattle.curp_model.specs.Master.{Captured, MasterState}
-use Rattle.curp_model.specs.Named.{IsMaster}
+use Rattle.curp_model.specs.Backup.{BackupState}
+use Rattle.curp_model.specs.Named.{IsBackup, IsMaster}
 use Rattle.curp_model.specs.Recovery.{Serving}
 use Rattle.curp_model.specs.World.{World}
 use Rattle.curp_facts.specs.ByOne.{ByOne}
@@ -23,7 +26,7 @@ use Rattle.curp_facts.specs.Facts.{HasLog, IsAdoptedNow, Lists, Logged, WasAdopt
 use Rattle.curp_facts.specs.Kept.{AdoptedLog, PassedBy, lists_of_master}
 use Rattle.curp_facts.specs.Reach.{Reach}
 use Rattle.curp_cmd.specs.Store.{NamesKey}
-use Rattle.curp_law_line.specs.Line.{LineOk, LookGives}
+use Rattle.curp_law_line.specs.Line.{CutEarly, LineOk, LookGives, WasInvoked}
 use Rattle.curp_law_line.specs.OfWorld.{Reign, cut_length, cuts, line_of, log_of, reigns}
 use Rattle.curp_law_logs.specs.Gives.{GivesFit}
 use Rattle.curp_facts.specs.Migrated.{AllStored}
@@ -128,16 +131,29 @@ pub record PartCuts (w : World) (part : ℕ) (cs : List Mark) : Type 0 where
   pub there : (l : Lists) → WasAdopted w l → l.part ≡ part → (i : ℕ) × At (reigns part cs) i (reign_in l)
   pub low : (i : ℕ) (r : Reign) (m : Mark) → At (reigns part cs) i r → At cs i m → cut_length m.place ≤ length (log_of w part r.master).log
   pub stored : (i : ℕ) (m : Mark) → At cs i m → StoredFrom w m.master part (cut_length m.place)
+  -- each has the next number
+  pub counted : (i : ℕ) (m : Mark) → At cs i m → m.place ≡ Cut (suc i) (cut_length m.place)
+  -- what was recovered is the log of the backup that its order named
+  pub recovered : (i : ℕ) (m : Mark) → At cs i m → (order : Recover) → WasSent w (says manager_node m.master (body.Recover order)) → (b : BackupState) → IsBackup w order.backup b
+      → cut_length m.place ≡ length b.log
 
 -- so it is with each partition
 abbrev pub CutsFollow : World → Type 0
 CutsFollow w = (part : ℕ) → PartCuts w part (cuts part w.marks)
+
+-- What the witness that a recovery's order named has called live was invoked before what is flagged behind the adoption's mark
+-- completed
+abbrev pub CutsTimed : World → Type 0
+CutsTimed w = (part i : ℕ) (m : Mark) → At (cuts part w.marks) i m → (order : Recover) → WasSent w (says manager_node m.master (body.Recover order))
+    → (to : NodeId) (a : Probed) → WasSent w (says order.witness to (body.Probed a)) → a.live ≡ true
+    → (c : Command) × WasInvoked w.history a.id c × CutEarly (line_of w) part (suc i) a.id c
 
 -- ---- all together
 
 pub record Ordered (w : World) : Type 0 where
   pub line : LineOk (line_of w)
   pub cuts_follow : CutsFollow w
+  pub cuts_timed : CutsTimed w
   pub by_one : ByOne w
   pub no_quicks : NoQuicks w.marks
   pub commands : (i : ℕ) (id : RequestId) (command : Command) → At w.history i (Invoke id command) → NamesKey command
