@@ -11,7 +11,6 @@ ghost use Rattle.curp_play.specs.Status.{ended, is_cut_short, status_of};
 use crate::reading::ScriptReader;
 use crate::status::Status;
 use crate::writing::{close, write};
-use curp_inv::laws;
 use curp_io::{Sink, Source};
 use curp_report::{order_text, push_step_text};
 use curp_script::{Header, LineError, Step};
@@ -74,8 +73,8 @@ fn play<S: Source, K: Sink>(alloc: Global, source: &mut S, sink: &mut K) -> Resu
     ensures never_usage { result ≢ Err Status.Usage }
     ensures never_ok { result ≢ Err Status.Ok }
 {
-    laws::history_stands();
-    laws::order_stands();
+    curp_laws::history_stands();
+    curp_laws::order_stands();
     let mut script = ScriptReader::new(alloc)?;
     let header = script.read_header(source)?;
     play_behind(alloc, &header, &mut script, source, sink)

@@ -16,7 +16,7 @@ use crate::ordered;
 use curp_base::NoMemory;
 use curp_cmd::laws::names_one_to_four_keys;
 use curp_cmd::{Answer, Command, RequestId};
-use curp_inv::{ClientNode, laws};
+use curp_inv::ClientNode;
 use curp_msg::{Header, Message, Outcome, Step, StepResult};
 use curp_order::History;
 use curp_script::{FieldName, bad_field};
@@ -95,9 +95,9 @@ impl World {
         ensures err { OnErr result (self.new ≡ self.old) }
     {
         names_its_keys(step);
-        laws::order_grows();
-        laws::results_have_causes();
-        laws::only_the_named_node_moves();
+        curp_laws::order_grows();
+        curp_laws::results_have_causes();
+        curp_laws::only_the_named_node_moves();
         self.cluster.step(step)
     }
 
@@ -108,7 +108,7 @@ impl World {
     pub fn keeps(&self)
         ensures { Kept self.now }
     {
-        laws::kept_stands();
+        curp_laws::kept_stands();
         // For what the world's type keeps.
         let _history = self.cluster.history();
     }
@@ -164,7 +164,7 @@ impl World {
         ensures events { result.now.events ≡ self.now.history }
         ensures is_history { IsHistory self.now.history }
     {
-        laws::history_stands();
+        curp_laws::history_stands();
         self.cluster.history()
     }
 
@@ -173,7 +173,7 @@ impl World {
         ensures list { IfOk result (λ list. list.items ≡ world.answered_order self.now) }
         ensures is_order { IsOrder self.now.history (world.order self.now) }
     {
-        laws::order_stands();
+        curp_laws::order_stands();
         let requests = self.cluster.marks().order()?;
         ordered::answered(alloc, &requests)
     }

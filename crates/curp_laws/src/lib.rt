@@ -1,5 +1,8 @@
 //! What is proved of the nodes and of every script. Each law is the contract of a function with nothing in it, and a
-//! caller has the law by the call.
+//! caller has the law by the call; `docs/THEOREMS.md` has them all. Who uses the nodes or the definitions finds them
+//! here, and doesn't see in which crate each is proved.
+#![tactic(auto)]
+
 pub use curp_law_linear::{
     history_stands, kept_stands, late_replies_agree, order_grows, order_stands,
 };
