@@ -4,6 +4,8 @@ pub mod Verdicts
 pub mod Inputs
 pub mod Numbers
 pub mod Deliveries
+pub mod AnyOrder
 pub mod Trips
 pub mod Apart
+pub mod OpeningOwners
 pub mod Opening

@@ -1,3 +1,4 @@
 pub mod Holding
 pub mod Trip
+pub mod Reading
 pub mod Meeting

@@ -1,4 +1,5 @@
--- One round trip of an update (after CURP): the nodes that it meets, what they say, and how the client completes it.
+-- One round trip: the nodes that a request meets, what they say, and how the client completes it. Here of an update (after
+-- CURP), and of a read in Reading.antt.
 use Rattle.std.specs.Prelude.{◌≡◌, ℕ, true, false, List, [], ◌∷◌, ◌++◌, map, flat_map, Some, None, ⊤}
 use Rattle.std.specs.List.{IsDistinct}
 use Rattle.curp_base.specs.Words.{Each}
@@ -55,33 +56,56 @@ client_of t = client_node t.client.number
 
 -- ---- what is asked
 
--- what the Update asks of the master
-abbrev pub update_of : Trip → Ask
-update_of t = record { request = request t; epoch = t.part.epoch; version = t.part.version }
+-- what is asked of the master
+abbrev pub ask_of : Trip → Ask
+ask_of t = record { request = request t; epoch = t.part.epoch; version = t.part.version }
 
 -- what a Record asks of a witness
 abbrev pub record_of : Trip → Record
 record_of t = record { request = request t; epoch = t.part.epoch }
 
+-- a message to the master, and one to each witness
+abbrev pub sent_out : Trip → (to_master to_witness : Body) → List Message
+sent_out t to_master to_witness =
+    says (client_of t) t.part.master to_master ∷ says_each (client_of t) t.part.witnesses to_witness
+
 -- the Update to the master, and a Record to each witness
 abbrev pub sendings : Trip → List Message
-sendings t =
-    says (client_of t) t.part.master (body.Update (update_of t))
-    ∷ says_each (client_of t) t.part.witnesses (body.Record (record_of t))
+sendings t = sent_out t (body.Update (ask_of t)) (body.Record (record_of t))
 
 -- ---- what is answered
 
+-- what the master sends when that comes to it
+abbrev pub master_sends : Trip → Body → List Message
+master_sends t asked = (on_serving t.master.number t.master.state (client_of t) asked).messages
+
+-- what a witness sends when that comes to it
+abbrev pub witness_sends : Trip → Body → Node WitnessState → List Message
+witness_sends t asked w = (on_witness w.number w.state (client_of t) asked).messages
+
+-- all that these deliveries send
+abbrev pub answers_to : Trip → (to_master to_witness : Body) → List Message
+answers_to t to_master to_witness = master_sends t to_master ++ flat_map (witness_sends t to_witness) t.witnesses
+
+-- the master says this to the client
+abbrev pub from_the_master : Trip → Body → Message
+from_the_master t said = says (master_node t.master.number) (client_of t) said
+
+-- a witness says this to the client
+abbrev pub from_a_witness : Trip → Body → Node WitnessState → Message
+from_a_witness t said w = says (witness_node w.number) (client_of t) said
+
 -- what the master sends when the Update comes to it
 abbrev pub from_master : Trip → List Message
-from_master t = (on_serving t.master.number t.master.state (client_of t) (body.Update (update_of t))).messages
+from_master t = master_sends t (body.Update (ask_of t))
 
 -- what a witness sends when the Record comes to it
 abbrev pub from_witness : Trip → Node WitnessState → List Message
-from_witness t w = (on_witness w.number w.state (client_of t) (body.Record (record_of t))).messages
+from_witness t = witness_sends t (body.Record (record_of t))
 
--- all that these deliveries send
+-- all that the Update and the Records bring
 abbrev pub answers : Trip → List Message
-answers t = from_master t ++ flat_map (from_witness t) t.witnesses
+answers t = answers_to t (body.Update (ask_of t)) (body.Record (record_of t))
 
 -- the answer of the Op at the end of the master's log
 abbrev pub answer_of : Trip → Answer
@@ -89,7 +113,7 @@ answer_of t = answer_after t.master.state.lo t.master.state.hi t.master.state.lo
 
 -- the master's unsynced reply
 abbrev pub reply_of : Trip → Message
-reply_of t = says (master_node t.master.number) (client_of t) (body.Reply (record {
+reply_of t = from_the_master t (body.Reply (record {
   id = (request t).id;
   synced = false;
   epoch = t.part.epoch;
@@ -99,8 +123,7 @@ reply_of t = says (master_node t.master.number) (client_of t) (body.Reply (recor
 
 -- a witness's accept
 abbrev pub accept_of : Trip → Node WitnessState → Message
-accept_of t w =
-    says (witness_node w.number) (client_of t) (body.Accepted (record { id = (request t).id; epoch = t.part.epoch }))
+accept_of t = from_a_witness t (body.Accepted (record { id = (request t).id; epoch = t.part.epoch }))
 
 -- the request completes with the master's answer
 abbrev pub completion_of : Trip → Completed
@@ -122,20 +145,37 @@ abbrev pub GivesApart : Input → Type 0
 GivesApart (input.Message m) = BringsApart m.body
 GivesApart (input.Local order) = ⊤
 
--- the master serves the partition as the client knows it, owns what the request touches, finds it new, and has no entry
--- that touches it and isn't synced
-pub record MasterIsFree (part : PartConfig) (r : Request) (m : MasterState) : Type 0 where
+-- the invocation isn't refused, and goes to those who take part, of whom the witnesses are different
+pub record Reaches (t : Trip) : Type 0 where
+  pub not_refused : (invoked t).refused ≡ 0
+  pub numbers : NumbersAreUsed t.client.state
+  pub owner : owner_of t.client.state.config t.command ≡ Some t.part
+  pub its_master : t.part.master ≡ master_node t.master.number
+  pub its_witnesses : t.part.witnesses ≡ map (λ (w : Node WitnessState). witness_node w.number) t.witnesses
+  pub apart : IsDistinct same_node t.part.witnesses
+
+-- the master serves the partition as the client knows it, owns what the request touches, and has no entry that touches it
+-- and isn't synced
+pub record MasterServes (part : PartConfig) (r : Request) (m : MasterState) : Type 0 where
   pub serves : m.phase ≡ Open
   pub epoch : m.epoch ≡ part.epoch
   pub version : m.version ≡ part.version
   pub owns : owns_all (state_of m).owned (hashes r.command) ≡ true
-  pub is_new : check (state_of m).table r.id ≡ New
   pub untouched : is_clean m r.command ≡ true
 
--- the witness takes requests of the partition's epoch, holds nothing that conflicts, and has room
-pub record WitnessIsFree (part : PartConfig) (r : Request) (w : WitnessState) : Type 0 where
+-- and finds the request new
+pub record MasterIsFree (part : PartConfig) (r : Request) (m : MasterState) : Type 0 where
+  pub serving : MasterServes part r m
+  pub is_new : check (state_of m).table r.id ≡ New
+
+-- the witness takes requests of the partition's epoch
+pub record WitnessIsLive (part : PartConfig) (w : WitnessState) : Type 0 where
   pub mode : w.mode ≡ Normal
   pub epoch : w.epoch ≡ Some part.epoch
+
+-- it holds nothing that conflicts, too, and has room
+pub record WitnessIsFree (part : PartConfig) (r : Request) (w : WitnessState) : Type 0 where
+  pub live : WitnessIsLive part w
   pub no_conflict : HasNoConflict w r
   pub room : HasRoomFor w r
 
@@ -143,12 +183,7 @@ pub record WitnessIsFree (part : PartConfig) (r : Request) (w : WitnessState) : 
 pub record MeetsNothing (t : Trip) : Type 0 where
   pub fast : t.client.state.fast ≡ true
   pub update : is_update t.command ≡ true
-  pub not_refused : (invoked t).refused ≡ 0
-  pub numbers : NumbersAreUsed t.client.state
-  pub owner : owner_of t.client.state.config t.command ≡ Some t.part
-  pub its_master : t.part.master ≡ master_node t.master.number
-  pub its_witnesses : t.part.witnesses ≡ map (λ (w : Node WitnessState). witness_node w.number) t.witnesses
-  pub apart : IsDistinct same_node t.part.witnesses
+  pub reaches : Reaches t
   pub master : MasterIsFree t.part (request t) t.master.state
   pub witnesses : Each (λ (w : Node WitnessState). WitnessIsFree t.part (request t) w.state) t.witnesses
 

@@ -30,7 +30,9 @@ ghost use Rattle.curp_model.specs.World.{opening};
 ghost use Rattle.curp_law_trip.specs.Holding.{AcceptsRecord, ChangesNothing, HasNoConflict, HasRoomFor, HoldsId};
 ghost use Rattle.curp_law_trip.specs.Holding.{IsAlikeButMarks, IsLeastConflict, IsLeastFull, IsNewTo, IsOfEpoch};
 ghost use Rattle.curp_law_trip.specs.Holding.{IsOpen, IsStranger, RejectsWith};
-ghost use Rattle.curp_law_trip.specs.Meeting.{CanBeFast, MeetsNothingIn};
+ghost use Rattle.curp_law_trip.specs.Meeting.{CanBeFast, CanGlance, MeetsNothingIn, ReadMeetsNothingIn};
+ghost use Rattle.curp_law_trip.specs.Reading.{ReadMeetsNothing, from_glanced, from_probed, live_of, quick_of};
+ghost use Rattle.curp_law_trip.specs.Reading.{read_answers, read_completion_of, read_sendings};
 ghost use Rattle.curp_law_trip.specs.Trip.{CompletesAtLast, CompletesNothing, GivesApart, MeetsNothing, Trip};
 ghost use Rattle.curp_law_trip.specs.Trip.{WitnessesAreApart, accept_of, answers, completion_of, from_master};
 ghost use Rattle.curp_law_trip.specs.Trip.{from_witness, invoked, reply_of, sendings};
@@ -74,6 +76,23 @@ pub fn one_round_trip()
         → IsPermutation (answers t) (missing ∷ others) → CompletesNothing t.client.number (invoked t).state others }
 {}
 
+/// A read in protocol 2 that meets nothing in its way takes one round trip. The client sends the Glance to the master and a
+/// Probe to each witness; the master answers with one Quick, the value in its log, since no entry that touches the key
+/// still waits for a backup, and each witness with one Live; and these, in any order, complete the read at the last one and not
+/// before, by the master's next capture number. With any one of them left out nothing completes.
+pub fn one_round_trip_read()
+    ensures sent { (t : Trip) (key : List ℕ) → ReadMeetsNothing t key → (invoked t).messages ≡ read_sendings t }
+    ensures answered { (t : Trip) (key : List ℕ) → ReadMeetsNothing t key → from_glanced t ≡ quick_of t key ∷ [] }
+    ensures live { (t : Trip) (key : List ℕ) → ReadMeetsNothing t key → (k : ℕ) (w : Node WitnessState) → At t.witnesses k w
+        → from_probed t w ≡ live_of t w ∷ [] }
+    ensures completes { (t : Trip) (key : List ℕ) → ReadMeetsNothing t key
+        → (order : List Message) → IsPermutation (read_answers t) order
+        → CompletesAtLast t.client.number (invoked t).state order (read_completion_of t key) }
+    ensures all_count { (t : Trip) (key : List ℕ) → ReadMeetsNothing t key
+        → (missing : Message) (others : List Message) → IsPermutation (read_answers t) (missing ∷ others)
+        → CompletesNothing t.client.number (invoked t).state others }
+{}
+
 /// Two of the premises of a trip are always so: no number of what is pending is behind the client's last one, and the
 /// witnesses of each partition that the client knows are different nodes. They are so at first, and every input of a
 /// client keeps them; a configuration that a message brings has to have different witnesses itself.
@@ -94,4 +113,10 @@ pub fn premises_stay()
 pub fn trip_can_be_met()
     ensures at_opening { (h : Header) (n : ℕ) (command : Command) → CanBeFast h n command
         → MeetsNothingIn (opening h) n command }
+{}
+
+/// The premises of a read's trip can be met: the first read of each client of an opening of protocol 2, of any key and
+/// with any number of partitions, meets nothing.
+pub fn read_trip_can_be_met()
+    ensures at_opening { (h : Header) (n : ℕ) (key : List ℕ) → CanGlance h n → ReadMeetsNothingIn (opening h) n key }
 {}

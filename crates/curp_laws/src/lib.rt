@@ -11,5 +11,8 @@ pub use curp_law_runs::{
     only_sent_to_nodes, pairs_good, silent_while_switching,
 };
 pub use curp_law_steps::{full_changes_nothing, only_the_named_node_moves, results_have_causes};
-pub use curp_law_trip::{one_round_trip, premises_stay, rejected_exactly, trip_can_be_met};
+pub use curp_law_trip::{
+    one_round_trip, one_round_trip_read, premises_stay, read_trip_can_be_met, rejected_exactly,
+    trip_can_be_met,
+};
 pub use curp_recover::laws::recovery_reports;
