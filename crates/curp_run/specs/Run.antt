@@ -1,5 +1,6 @@
 -- How a run of the program ends.
-use Rattle.std.specs.Prelude.{◌≡◌, ◌⊎◌, ℕ, Option, List, drop}
+use Rattle.std.specs.Prelude.{◌≡◌, ◌⊎◌, ℕ, Option, List, String, drop, map, string_bytes}
+use Rattle.std.specs.declared.alloc.Global.{Global}
 use Rattle.std.specs.declared.io.ErrorKind.{ErrorKind}
 use Rattle.std.specs.declared.io.ErrorKind.TheVariants as kind
 use Rattle.curp_io.specs.Streams.{Rose}
@@ -9,8 +10,8 @@ use Rattle.curp_words.specs.Words.{order_in}
 use Rattle.curp_words.specs.declared.order.Order.{Order}
 
 -- what the arguments of the program ask for: the words behind its name, which is the first of them
-abbrev pub asked : List (List ℕ) → Option Order
-asked arguments = order_in (drop 1 arguments)
+abbrev pub asked : List (String Global) → Option Order
+asked arguments = order_in (map string_bytes (drop 1 arguments))
 
 -- words that are no text are no command line; any other error of reading them is want of memory
 abbrev pub unread_words : ErrorKind → Status

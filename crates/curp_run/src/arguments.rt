@@ -1,18 +1,19 @@
-ghost use Rattle.std.specs.Prelude.{◌≡◌, ◌⊎◌, drop, Some, None, Err, IfOk};
+ghost use Rattle.std.specs.Prelude.{◌≡◌, ◌⊎◌, drop, map, string_bytes, Some, None, Err, IfOk};
 ghost use Rattle.clap.specs.Walk.{texts};
 ghost use Rattle.curp_run.specs.Run.{asked};
 ghost use Rattle.curp_words.specs.declared.order.WordsError.TheVariants as WordsError;
 
-use curp_base::NoMemory;
+use curp_base::{NoMemory, past};
 use curp_words::{Order, WordsError, read};
 use std::alloc::Global;
 
 /// The words behind the program's name, which is the first argument.
 pub(crate) fn words_in(alloc: Global, arguments: &[String]) -> Result<Vec<&str>, NoMemory>
-    ensures { IfOk result (λ words. texts words ≡ drop 1 arguments.now) }
+    ensures { IfOk result (λ words. texts words.items ≡ map string_bytes (drop 1 arguments.now)) }
 {
     let mut words = Vec::new(alloc);
-    for argument in arguments.iter().skip(1) {
+    let behind = past(arguments, 1);
+    for argument in behind {
         words.push(argument.as_str())?;
     }
     Ok(words)
