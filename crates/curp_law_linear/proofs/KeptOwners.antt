@@ -29,7 +29,7 @@ use Rattle.curp_law_linear.proofs.AdoptMigrations.{moving_give, moving_take}
 use Rattle.curp_law_linear.proofs.AdoptedLogs.{adopted_log}
 use Rattle.curp_law_linear.proofs.MastersRise.{adopted_ok, take_given}
 use Rattle.curp_law_linear.proofs.ManagersMoves.{self_number}
-use Rattle.curp_law_linear.proofs.OpeningOwners.{opening_owner}
+use Rattle.curp_law_trip.proofs.OpeningOwners.{opening_owner}
 use Rattle.curp_law_linear.proofs.Parts.{entry_part, part_log}
 use Rattle.curp_law_logs.proofs.Logs.{take_one}
 use Rattle.curp_facts.specs.Predecessors.{Predecessors}
