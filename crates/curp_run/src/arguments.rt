@@ -1,6 +1,7 @@
 ghost use Rattle.std.specs.Prelude.{◌≡◌, ◌⊎◌, drop, map, string_bytes, Some, None, Err, IfOk};
 ghost use Rattle.clap.specs.Walk.{texts};
 ghost use Rattle.curp_run.specs.Run.{asked};
+ghost use Rattle.curp_words.specs.Plan.{fits};
 ghost use Rattle.curp_words.specs.declared.order.WordsError.TheVariants as WordsError;
 
 use curp_base::{NoMemory, past};
@@ -25,6 +26,7 @@ pub(crate) fn order_of(alloc: Global, arguments: &[String]) -> Result<Order, Wor
     ensures usage { result ≡ Err WordsError.Usage → asked arguments.now ≡ None }
     ensures no_order { asked arguments.now ≡ None
         → (result ≡ Err WordsError.Usage) ⊎ (result ≡ Err WordsError.NoMemory) }
+    ensures in_range { IfOk result fits }
 {
     match words_in(alloc, arguments) {
         Ok(words) => read(alloc, &words),
