@@ -68,7 +68,7 @@ least_within bound f [] below = omega arith
 least_within bound f (x ∷ []) below = below x
 least_within bound f (x ∷ y ∷ rest) below = omega (arith, below x)
 
-synced_within : (u : World) (x : MasterState) → Each (AcknowledgedOk u x) x.acknowledged → synced x ≤ length x.log
+pub synced_within : (u : World) (x : MasterState) → Each (AcknowledgedOk u x) x.acknowledged → synced x ≤ length x.log
 synced_within u x all = least_within (length x.log) (λ b. (from_backup x.acknowledged b).length) x.backups (from_within u x x.acknowledged all)
 
 module _ {w v : World} (known : Known w) {n : ℕ} {from : NodeId} {heard : Option Body} {x y : MasterState} {out : List Message} (s : MasterStep w v n from heard (Serving x) (Serving y) out) where

@@ -1,8 +1,7 @@
 -- An adoption is a move of the machine, and leads to what the machine has of the world behind it.
-use Rattle.std.proofs.Common.{◌≡◌, ◌+◌, ◌==◌, ◌&&◌, if◌then◌else◌, ℕ, zero, suc, ◌-◌, true, false, List, [], ◌∷◌, ◌++◌, map, drop, length, refl, ap, sym, ◌∙◌, Option, Some}
+use Rattle.std.proofs.Common.{◌≡◌, ◌+◌, ◌==◌, ◌&&◌, if◌then◌else◌, ℕ, zero, suc, ◌-◌, List, [], ◌∷◌, ◌++◌, map, drop, length, refl, ap, sym, ◌∙◌, Option, Some}
 use Rattle.std.specs.Prelude.{set}
 use Rattle.curp_base.specs.Words.{IsPrefix, numbered}
-use Rattle.curp_base.proofs.Lists.{Each-at}
 use Rattle.curp_cmd.specs.declared.command.Request.{Request}
 use Rattle.curp_cmd.specs.declared.entry.Entry.{Entry}
 use Rattle.curp_cmd.specs.declared.node.NodeId.{NodeId}
@@ -23,9 +22,9 @@ use Rattle.curp_law_line.specs.Hashes.{Part}
 use Rattle.curp_law_line.specs.Line.{Left}
 use Rattle.curp_law_line.specs.Moves.{Adopt, AdoptFits, adopting, left_after, ops, relogged, replayed_of}
 use Rattle.curp_law_line.specs.OfWorld.{cuts, entries_at, left_of, line_of, logged_entries, moving_of, part_of}
-use Rattle.curp_law_linear.specs.Ordered.{NotQuick, Ordered}
+use Rattle.curp_law_linear.specs.Ordered.{Ordered}
 use Rattle.curp_law_linear.proofs.AdoptDone.{adopt, done_replayed}
-use Rattle.curp_law_linear.proofs.AdoptHeld.{cuts_short, held_apart, held_asked, looks_short}
+use Rattle.curp_law_linear.proofs.AdoptHeld.{cuts_short, held_apart, held_asked, looks_short, quicks_short}
 use Rattle.curp_law_linear.proofs.AdoptLeft.{drop_front, left_adopted, left_front}
 use Rattle.curp_law_linear.proofs.AdoptMigrations.{only_moving, told_stays, unowned}
 use Rattle.curp_law_linear.proofs.AdoptRecovery.{Recovery}
@@ -52,10 +51,6 @@ requests_of_ops : (rs : List Request) → op_requests (ops rs) ≡ rs
 requests_of_ops [] = refl
 requests_of_ops (r ∷ rs) = ap (λ (qs : List Request). r ∷ qs) (requests_of_ops rs)
 
--- a mark that is no quick one doesn't have the place of one
-quick_nowhere : (m : Mark) (number : ℕ) → NotQuick m → m.place ≡ Quick number → ⊥
-quick_nowhere m number slow is = let bad : false ≡ true = sym slow ∙ ap is_quick is in cc
-
 module _ {w : World} (known : Known w) (chain : Predecessors w) (routes : Routes w) (migrated : Migrated w) (ordered : Ordered w)
     (c : PartConfig) (a : Attempted) (o : Recovery w c a) (front : IsPrefix o.b.log (part_of w c).log) where
   abbrev it : Adopt
@@ -73,7 +68,7 @@ module _ {w : World} (known : Known w) (chain : Predecessors w) (routes : Routes
     done = λ k r acknowledged at d. done_replayed known chain routes migrated ordered c a o front k r acknowledged at d;
     looks = λ k m number long at part place completed. looks_short known c a o ordered k m number long at part place completed;
     told = told_stays known routes migrated c a o front;
-    quicks = λ j k i number h m u at is. absurd (quick_nowhere m number (Each-at NotQuick w.marks ordered.no_quicks j m at) is);
+    quicks = λ j k i number h m u at is part there lt place waits its touched too. quicks_short known chain ordered c a o j k i number h m u at is part there lt place waits its touched too;
     cuts = λ j number long h m at is part firm. cuts_short known chain ordered c a o j m number long at part is;
   }
 

@@ -1,16 +1,16 @@
 -- What the witness held that an adoption replays from; and the looks, and the logs that were recovered before, that stay.
-use Rattle.std.proofs.Common.{◌≡◌, ℕ, ◌≤◌, ◌==◌, ◌&&◌, true, length, ap, sym, ◌∙◌, subst, arith, inl}
+use Rattle.std.proofs.Common.{◌≡◌, ℕ, ◌≤◌, ◌==◌, ◌&&◌, true, length, ap, sym, ◌∙◌, subst, arith, inl, false, ◌<◌}
 use Rattle.std.proofs.lemmas.Bool.Decides.{nat_tests}
 use Rattle.std.specs.List.{IsDistinct}
 use Rattle.curp_base.specs.Words.{At}
-use Rattle.curp_base.proofs.Lists.{Each-at, at_some}
-use Rattle.curp_cmd.specs.Hash.{hash_of}
+use Rattle.curp_base.proofs.Lists.{Each-at, at_some, at_same}
+use Rattle.curp_cmd.specs.Hash.{hash_of, touches}
 use Rattle.curp_cmd.specs.Store.{keys_of}
 use Rattle.curp_cmd.specs.declared.command.Request.{Request}
 use Rattle.curp_msg.specs.declared.config.PartConfig.{PartConfig}
 use Rattle.curp_model.specs.Laws.{clash}
 use Rattle.curp_model.specs.Manager.{Attempted}
-use Rattle.curp_model.specs.Marks.{Cut, Looked, Mark, Place, cuts_part, is_cut}
+use Rattle.curp_model.specs.Marks.{Cut, Looked, Mark, Place, cuts_part, is_cut, Quick, Executed}
 use Rattle.curp_model.specs.Witness.{HeldRequest, frozen_requests}
 use Rattle.curp_model.specs.World.{World}
 use Rattle.curp_facts.specs.Entries.{UpdateOk}
@@ -22,8 +22,9 @@ use Rattle.curp_law_line.specs.OfWorld.{cut_length, line_of}
 use Rattle.curp_law_line.proofs.Hashes.{key_touches}
 use Rattle.curp_law_line.proofs.Lists.{in_filter}
 use Rattle.curp_law_logs.proofs.Frozen.{frozen_apart, kept_held}
-use Rattle.curp_law_linear.specs.Ordered.{Ordered}
+use Rattle.curp_law_linear.specs.Ordered.{Ordered, IsLow}
 use Rattle.curp_law_linear.proofs.AdoptRecovery.{Recovery}
+use Rattle.curp_law_linear.proofs.ReadsLater.{quick_capture}
 use Rattle.curp_law_linear.proofs.ReadsStored.{stored_now}
 
 module _ {w : World} (known : Known w) (c : PartConfig) (a : Attempted) (o : Recovery w c a) where
@@ -67,3 +68,15 @@ cuts_short {w} known chain ordered c a o k m number long at part place =
       where
         self : (n : ℕ) → (n == n) ≡ true
         self n = grind (arith, nat_tests)
+
+-- (g) and what is uncompleted before a quick mark, on one of its hashes, stays
+pub quicks_short : {w : World} → Known w → Predecessors w → Ordered w → (c : PartConfig) (a : Attempted) (o : Recovery w c a) (j k i number h : ℕ) (m u : Mark) → At w.marks j m → m.place ≡ Quick number
+    → m.part ≡ c.part → At w.marks k u → k < j → u.place ≡ Executed i → u.completed ≡ false → u.part ≡ c.part → touches m.command h ≡ true → touches u.command h ≡ true → i < length o.b.log
+quicks_short {w} known chain ordered c a o j k i number h m u at is part there lt place waits its touched too =
+    let q : IsLow w number m = ordered.reached.quick j number m at is in
+    let g = q.low in
+    let one : j ≡ g.place = ordered.numbered_looks.once j g.place number m g.mark at g.stands (quick_capture number m.place is) (quick_capture number g.mark.place g.is_quick) (sym g.its_master) in
+    let same : m ≡ g.mark = at_same w.marks j m g.mark at (subst (λ (z : ℕ). At w.marks z g.mark) (sym one) g.stands) in
+    let low = g.low k i h u there (omega (arith, lt, one)) place waits (its ∙ sym part) (subst (λ (z : Mark). touches z.command h ≡ true) same touched) too in
+    let stored = stored_now known chain q.other m.part q.long q.stored c o.now (sym part) a.order.backup o.ok.its_backup o.b o.its_backup in
+    omega (arith, low, stored)

@@ -1,5 +1,5 @@
 -- What is kept of the order stays in every step.
-use Rattle.std.proofs.Common.{◌≡◌, ◌≢◌, ℕ, ◌++◌, if◌then◌else◌, List, [], refl, ap, sym, ◌∙◌, subst, Option, Some, None}
+use Rattle.std.proofs.Common.{◌≡◌, ◌≢◌, ℕ, ◌++◌, if◌then◌else◌, List, [], refl, ap, sym, ◌∙◌, subst, Option, Some, None, append-nil, true, false, Bool, subst₂, ap₂}
 use Rattle.curp_base.specs.Words.{numbered}
 use Rattle.curp_cmd.specs.Node.{backup_node, client_node, master_node, witness_node}
 use Rattle.curp_cmd.specs.declared.node.NodeId.{NodeId}
@@ -13,12 +13,11 @@ use Rattle.curp_model.specs.Backup.{BackupState, backup_input}
 use Rattle.curp_model.specs.Client.{ClientState, client_input}
 use Rattle.curp_model.specs.Log.{log_opening}
 use Rattle.curp_model.specs.Manager.{ManagerState}
-use Rattle.curp_model.specs.Marks.{Mark}
+use Rattle.curp_model.specs.Marks.{Mark, with_quick}
 use Rattle.curp_model.specs.Ranges.{opening_range}
-use Rattle.curp_model.specs.Recovery.{MasterStage, master_input}
+use Rattle.curp_model.specs.Recovery.{MasterStage, master_input, Serving}
 use Rattle.curp_model.specs.Witness.{WitnessState, witness_input}
-use Rattle.curp_model.specs.World.{World, invocation_of, is_adopted, kept, master_marks, messages, with_backup, with_client, with_completion, with_glance, with_witness}
-use Rattle.curp_facts.specs.ByOne.{ByOne}
+use Rattle.curp_model.specs.World.{World, invocation_of, is_adopted, kept, master_marks, messages, with_backup, with_client, with_completion, with_glance, with_witness, quick_mark}
 use Rattle.curp_facts.specs.Growth.{Grows}
 use Rattle.curp_facts.specs.Kept.{AdoptedLog}
 use Rattle.curp_law_growth.specs.Deeds.{IsFor}
@@ -30,53 +29,56 @@ use Rattle.curp_law_kept.proofs.ClientSteps.{ClientMoved}
 use Rattle.curp_law_kept.proofs.Followed.{master_step, master_world}
 use Rattle.curp_law_kept.proofs.KeeperSteps.{KeeperMoved}
 use Rattle.curp_facts.specs.Known.{Known}
-use Rattle.curp_law_kept.proofs.MastersMoves.{heard_in, input_idle, speaker}
+use Rattle.curp_law_kept.proofs.MastersMoves.{heard_in, input_idle, speaker, MasterStep}
 use Rattle.curp_law_kept.proofs.Others.{SaysMore, nothing_ready}
 use Rattle.curp_law_kept.proofs.Worlds.{other_item, same_history}
 use Rattle.curp_law_line.specs.Line.{LineOk}
 use Rattle.curp_law_line.specs.OfWorld.{cuts, line_of}
 use Rattle.curp_law_line.proofs.Discharged.{pure, second}
 use Rattle.curp_law_line.proofs.Keeps.{all_keep}
-use Rattle.curp_law_linear.specs.Ordered.{AdoptedOk, NoQuicks, Ordered}
+use Rattle.curp_law_linear.specs.Ordered.{AdoptedOk, Ordered}
 use Rattle.curp_law_linear.specs.Refined.{Refines, RefinesQuiet}
 use Rattle.curp_law_linear.proofs.ClientsRefine.{client_refines}
 use Rattle.curp_law_linear.proofs.Commands.{CommandsName}
 use Rattle.curp_law_linear.proofs.KeepersRefine.{backup_refines, rest_refines, witness_refines}
 use Rattle.curp_law_linear.proofs.Masters.{master_refines}
-use Rattle.curp_law_linear.proofs.MastersCuts.{master_cuts, master_timed}
-use Rattle.curp_law_linear.proofs.MastersCaptures.{input_captures}
+use Rattle.curp_law_linear.proofs.MastersCuts.{master_cuts, master_lives}
 use Rattle.curp_law_linear.proofs.MastersLogs.{master_logs}
-use Rattle.curp_law_linear.proofs.NoQuicks.{glances_none}
 use Rattle.curp_law_linear.proofs.ReadsKeepers.{backup_reads, witness_reads}
 use Rattle.curp_law_linear.proofs.ReadsLater.{ReadsOk}
-use Rattle.curp_law_linear.proofs.ReadsMasterSteps.{input_reads, master_reads}
+use Rattle.curp_law_linear.proofs.ReadsMasterSteps.{master_reads}
 use Rattle.curp_law_linear.proofs.ReadsQuiet.{client_reads, frame_reads, looks_same, none_late, none_lives}
 use Rattle.curp_law_logs.specs.Gives.{GivesFit}
 use Rattle.curp_law_names.proofs.Later.{Later}
 use Rattle.curp_law_names.proofs.Lists.{all_of-kept}
 use Rattle.curp_facts.specs.Predecessors.{Predecessors}
 use Rattle.curp_facts.specs.Migrated.{Migrated}
+use Rattle.curp_law_linear.proofs.MastersInput.{StageInput, Slow, Quickly, stage_input, nothing_pushed}
+use Rattle.curp_law_linear.proofs.QuickReads.{quick_refines, quick_reads}
+use Rattle.curp_law_linear.proofs.CutsTimes.{timed_stay}
+use Rattle.curp_law_linear.proofs.CutMarks.{cuts_marked}
+use Rattle.curp_law_kept.proofs.MastersReady.{step_follows}
+use Rattle.curp_msg.specs.declared.message.Message.{Message}
+use Rattle.curp_model.specs.Master.{MasterState}
 use Rattle.curp_facts.specs.Routes.{Routes}
-use Rattle.curp_law_runs.proofs.ByOne.{brings_one}
 
--- what a step owes, but for the commands, the protocol, and that no mark is a quick one
+-- what a step owes, but for the commands
 pub record KeepsOrder (w v : World) : Type 0 where
   pub refines : Refines w v
   pub logs : (c : PartConfig) (l : AdoptedLog v c) → AdoptedOk v c l
   pub reads : ReadsOk v
 
 -- it keeps what is kept of the order
-pub ordered_after : {w v : World} → Ordered w → CommandsName v.history → ByOne v → NoQuicks v.marks → KeepsOrder w v → Ordered v
-ordered_after {w} {v} ordered commands by_one no_quicks k = record {
+pub ordered_after : {w v : World} → Ordered w → CommandsName v.history → KeepsOrder w v → Ordered v
+ordered_after {w} {v} ordered commands k = record {
   line = subst LineOk k.refines.leads (all_keep pure second k.refines.moves (line_of w) k.refines.fit ordered.line);
   cuts_follow = k.reads.cuts_follow;
   cuts_timed = k.reads.cuts_timed;
   commands = commands;
-  by_one = by_one;
-  no_quicks = no_quicks;
   logs = k.logs;
   numbered_looks = k.reads.numbered_looks;
   worths = k.reads.worths;
+  quicks = k.reads.quicks;
   captures = k.reads.captures;
   reached = k.reads.reached;
   stored = k.reads.stored;
@@ -87,7 +89,7 @@ pub stay_keeps_order : {w : World} → Ordered w → KeepsOrder w w
 stay_keeps_order ordered = record {
   refines = record { moves = []; fit = tt; leads = refl };
   logs = ordered.logs;
-  reads = record { cuts_follow = ordered.cuts_follow; cuts_timed = ordered.cuts_timed; numbered_looks = ordered.numbered_looks; worths = ordered.worths; captures = ordered.captures; reached = ordered.reached; stored = ordered.stored };
+  reads = record { cuts_follow = ordered.cuts_follow; cuts_timed = ordered.cuts_timed; numbered_looks = ordered.numbered_looks; worths = ordered.worths; quicks = ordered.quicks; captures = ordered.captures; reached = ordered.reached; stored = ordered.stored };
 }
 
 -- ---- where no master moves
@@ -220,23 +222,46 @@ module _ {w : World} (known : Known w) (chain : Predecessors w) (routes : Routes
   abbrev unglanced : List Mark
   unglanced = if is_adopted w.manager (master_node n) then w.marks ++ master_marks (master_node n) m (master_input n m given).state else w.marks
 
-  marks : v.marks ≡ unglanced
-  marks =
-      idle_marks (with_glance (master_node n) given m (master_input n m given).state unglanced) (master_input n m given).completed
-      (input_idle known n m (record { its_kind = refl; its_state = here }) given for)
-      ∙ glances_none (master_node n) given (brings_one ordered.by_one (master_node n) given for) m (master_input n m given).state unglanced
+  abbrev out : List Message
+  out = (master_input n m given).messages
 
-  pub master_keeps_order : Grows w v → Later w v → Known v → Predecessors v → Migrated v → KeepsOrder w v
-  master_keeps_order grows later now chain_now migrated_now =
-      let from = speaker known n given in
-      let heard = heard_in known n given in
-      let out = (master_input n m given).messages in
-      let k = (master_input n m given).state in
-      let step = master_step known n given m here for events none grows later in
-      let r : RefinesQuiet w v = master_refines known chain routes migrated ordered migrated_now n from heard out m k step (input_captures n m given (brings_one ordered.by_one (master_node n) given for)) marks in
-      record {
-        refines = r.its;
-        logs = master_logs known chain routes migrated ordered migrated_now n from heard out m k step;
-        reads = master_reads known now chain chain_now ordered r.its r.quiet m k step marks (λ x y before after. input_reads known n m given (brings_one ordered.by_one (master_node n) given for) x y before after)
-            (master_cuts known chain now n from heard out m k step marks ordered.cuts_follow) (master_timed known chain ordered now n from heard out m k step marks r.its);
-      }
+  abbrev k : MasterStage
+  k = (master_input n m given).state
+
+  marks : v.marks ≡ with_glance (master_node n) given m k unglanced
+  marks = idle_marks (with_glance (master_node n) given m k unglanced) (master_input n m given).completed (input_idle known n m (record { its_kind = refl; its_state = here }) given for)
+
+  module _ (grows : Grows w v) (later : Later w v) (now : Known v) (chain_now : Predecessors v) (migrated_now : Migrated v) where
+    step : MasterStep w v n (speaker known n given) (heard_in known n given) m k out
+    step = master_step known n given m here for events none grows later
+
+    by_input : StageInput n given (speaker known n given) (heard_in known n given) m k out → KeepsOrder w v
+    by_input (Slow captures reads same) =
+        let its = marks ∙ same unglanced in
+        let r : RefinesQuiet w v = master_refines known chain routes migrated ordered migrated_now n (speaker known n given) (heard_in known n given) out m k step captures its in
+        record {
+          refines = r.its;
+          logs = master_logs known chain routes migrated ordered migrated_now n (speaker known n given) (heard_in known n given) out m k step;
+          reads = master_reads known now chain chain_now ordered r.its r.quiet m k step its reads
+              (master_cuts known chain now n (speaker known n given) (heard_in known n given) out m k step its ordered.cuts_follow)
+              (timed_stay known chain ordered now (step_follows known step) r.its (master_lives n (speaker known n given) (heard_in known n given) out m k step) (cuts_marked w v (master_node n) m k (is_adopted w.manager (master_node n)) its));
+        }
+    by_input (Quickly x y is_x is_y a same) =
+        let at = subst₂ (λ (p q : MasterStage). MasterStep w v n (speaker known n given) (heard_in known n given) p q out) is_x is_y step in
+        let low = (known.inv.masters (master_node n) (Serving x) at.was).captures in
+        let idle : unglanced ≡ w.marks
+        = ap₂ (λ (p q : MasterStage). if is_adopted w.manager (master_node n) then w.marks ++ master_marks (master_node n) p q else w.marks) is_x is_y
+        ∙ ap (λ (ms : List Mark). if is_adopted w.manager (master_node n) then w.marks ++ ms else w.marks) (nothing_pushed w n (heard_in known n given) x y out low a) ∙ neither (is_adopted w.manager (master_node n)) in
+        let its = marks ∙ same unglanced ∙ ap₂ with_quick (ap (λ (z : MasterState). quick_mark (master_node n) z a.ask.request) a.state) idle in
+        record {
+          refines = (quick_refines known chain ordered now chain_now n (speaker known n given) (heard_in known n given) x y out at a its).its;
+          logs = master_logs known chain routes migrated ordered migrated_now n (speaker known n given) (heard_in known n given) out m k step;
+          reads = quick_reads known chain ordered now chain_now n (speaker known n given) (heard_in known n given) x y out at a its;
+        }
+      where
+        neither : (b : Bool) → (if b then w.marks ++ [] else w.marks) ≡ w.marks
+        neither true = append-nil w.marks
+        neither false = refl
+
+    pub master_keeps_order : KeepsOrder w v
+    master_keeps_order = by_input (stage_input known n m given)

@@ -1,9 +1,9 @@
 -- What completes fits the machine: an update by its op in an adopted log, a read by the mark of one look.
-use Rattle.std.proofs.Common.{◌≡◌, inl, inr, ℕ, zero, suc, ◌≤◌, ◌&&◌, ◌==◌, Bool, true, false, List, refl, ap, sym, ◌∙◌, subst, arith, Some}
+use Rattle.std.proofs.Common.{◌≡◌, inl, inr, ℕ, zero, suc, ◌≤◌, ◌&&◌, ◌==◌, Bool, true, false, List, refl, ap, sym, ◌∙◌, subst, arith, Some, ◌⊎◌}
 use Rattle.std.proofs.lemmas.Bool.{cases_lt}
 use Rattle.std.proofs.lemmas.Bool.Decides.{nat_tests}
 use Rattle.curp_base.specs.Words.{At, numbered}
-use Rattle.curp_base.proofs.Lists.{Each-at, at_some}
+use Rattle.curp_base.proofs.Lists.{at_some}
 use Rattle.curp_cmd.specs.Node.{client_node, same_node}
 use Rattle.curp_cmd.specs.RequestId.{same_id}
 use Rattle.curp_cmd.specs.declared.command.Answer.{Answer}
@@ -20,22 +20,27 @@ use Rattle.curp_msg.specs.declared.config.PartConfig.{PartConfig}
 use Rattle.curp_msg.specs.declared.machine.Capture.{Capture}
 use Rattle.curp_order.specs.declared.Event.TheVariants.{Invoke}
 use Rattle.curp_model.specs.Log.{IsDone}
-use Rattle.curp_model.specs.Marks.{Cut, Executed, Looked, Mark, Place, Quick, is_capture, is_quick, is_update_mark}
+use Rattle.curp_model.specs.Marks.{Looked, Mark, Place, is_capture, is_quick, is_update_mark}
 use Rattle.curp_model.specs.World.{World}
-use Rattle.curp_facts.specs.Facts.{Completable, HasLog, IsAdoptedNow, IsGiven, Lists, WasSent, hi_of, lists_of_part, lo_of}
+use Rattle.curp_facts.specs.Facts.{Completable, HasLog, IsAdoptedNow, IsGiven, Lists, WasSent, hi_of, lists_of_part, lo_of, IsAmong}
 use Rattle.curp_facts.specs.Kept.{AdoptedLog}
 use Rattle.curp_facts.specs.Known.{Known}
 use Rattle.curp_law_line.specs.Hashes.{Part}
 use Rattle.curp_law_line.specs.Line as line
-use Rattle.curp_law_line.specs.Line.{Line, LineOk, LookGives}
+use Rattle.curp_law_line.specs.Line.{Line, LineOk, LookGives, QuickEarly}
 use Rattle.curp_law_line.proofs.Given.{LogsOk}
 use Rattle.curp_law_line.specs.Moves.{CompleteFits, FlagFits, flags_mark}
 use Rattle.curp_law_line.specs.OfWorld.{line_of, part_of}
-use Rattle.curp_law_linear.specs.Ordered.{NotQuick, Ordered, WorthOk}
+use Rattle.curp_law_linear.specs.Ordered.{Ordered, WorthOk, capture_of, QuickOk, Gated}
 use Rattle.curp_law_linear.proofs.Parts.{entry_part, line_logs, part_log}
 use Rattle.curp_facts.specs.Migrated.{Migrated, OpStored}
 use Rattle.curp_facts.specs.Predecessors.{Predecessors}
 use Rattle.curp_law_pairs.specs.Answered.{AnsweredBy}
+use Rattle.curp_law_linear.proofs.ReadsLater.{looked_capture, quick_capture}
+use Rattle.curp_facts.specs.Nodes.{WasSeen}
+use Rattle.curp_law_line.proofs.QuickBegins.{flag_fits}
+use Rattle.curp_law_names.proofs.Lists.{among_each}
+use Rattle.curp_law_linear.proofs.CutMarks.{hit_capture}
 use Rattle.curp_law_pairs.proofs.Pairs.{completable_at, completable_stands, stands_along}
 
 module _ {w : World} (known : Known w) (chain : Predecessors w) (migrated : Migrated w) (ordered : Ordered w) where
@@ -109,7 +114,7 @@ module _ {w : World} (known : Known w) (chain : Predecessors w) (migrated : Migr
         stands = ok.look.stands;
         looks = ap is_update_mark ok.look.is_look;
         hits = hits ok.look.mark ok.look.its_id ok.look.its_master ok.look.its_epoch ok.long ok.look.is_look;
-        only = λ k o at flags. let f = flags_look o (Each-at NotQuick w.marks ordered.no_quicks k o at) flags in ordered.numbered_looks.once k ok.look.place v.capture f.1.0 ok.long o ok.look.mark at ok.look.stands f.1.1 ok.look.is_look (f.0 ∙ sym ok.look.its_master);
+        only = λ k o at flags. let g = flags_look o flags in ordered.numbered_looks.once k ok.look.place v.capture o ok.look.mark at ok.look.stands g.1 (looked_capture v.capture ok.long ok.look.mark.place ok.look.is_look) (g.0 ∙ sym ok.look.its_master);
         waits = waits;
         gives = ok.look.gives;
         early = λ quick. absurd (let bad : false ≡ true = sym (ap is_quick ok.look.is_look) ∙ quick in cc);
@@ -140,10 +145,10 @@ module _ {w : World} (known : Known w) (chain : Predecessors w) (migrated : Migr
           go p q r s = cc
 
       -- a mark that the completion flags is of that capture
-      flags_look : (o : Mark) → NotQuick o → flags_mark by v.id v.answer o ≡ true → (o.master ≡ node) × ((long : ℕ) × (o.place ≡ Looked v.capture long))
-      flags_look o slow flags =
+      flags_look : (o : Mark) → flags_mark by v.id v.answer o ≡ true → (o.master ≡ node) × (is_capture v.capture o.place ≡ true)
+      flags_look o flags =
           let t = all_true (same_id o.id v.id) (same_node o.master node) (o.epoch == v.epoch) (is_capture v.capture o.place) flags in
-          (same_node-true o.master node t.0, capture_is o.place slow t.1)
+          (same_node-true o.master node t.0, t.1)
         where
           all_true : (a b c d : Bool) → (a && b && c && d) ≡ true → (b ≡ true) × (d ≡ true)
           all_true true true true true e = (refl, refl)
@@ -152,8 +157,42 @@ module _ {w : World} (known : Known w) (chain : Predecessors w) (migrated : Migr
           all_true true false c d e = absurd cc
           all_true false b c d e = absurd cc
 
-          capture_is : (x : Place) → is_quick x ≡ false → is_capture v.capture x ≡ true → (long : ℕ) × (x ≡ Looked v.capture long)
-          capture_is (Executed index) slow e = absurd cc
-          capture_is (Quick number) slow e = absurd cc
-          capture_is (Cut number long) slow e = absurd cc
-          capture_is (Looked number long) slow e = let same : number ≡ v.capture = grind (arith, nat_tests) in (long, ap (λ (n : ℕ). Looked n long) same)
+  -- ---- a read that was answered at once
+
+  -- its client has seen it, so each witness has called itself live
+  pub seen_early : (id : RequestId) (a : Answer) (seen : WasSeen w id a) → QuickEarly (line_of w) (capture_of seen.lists.master seen.quick) seen.lists.part id a
+  seen_early id a seen = go ok.time
+    where
+      sent : WasSent w (says seen.lists.master (client_node seen.quick.id.client) (body.Quick seen.quick))
+      sent = subst (λ (i : RequestId). WasSent w (says seen.lists.master (client_node i.client) (body.Quick seen.quick))) (sym seen.its_id) seen.sent
+
+      ok : QuickOk w seen.lists.master seen.quick
+      ok = ordered.quicks seen.lists.master seen.quick sent
+
+      same : ok.lists ≡ seen.lists
+      same = (known.names.agree ok.lists seen.lists ok.adopted.given seen.adopted.given).by_version ok.its_master (ok.its_version ∙ seen.its_version)
+
+      Early : RequestId → Answer → ℕ → Type 0
+      Early i b part = QuickEarly (line_of w) (capture_of seen.lists.master seen.quick) part i b
+
+      as_seen : Early seen.quick.id seen.quick.answer ok.lists.part → Early id a seen.lists.part
+      as_seen early =
+          subst (λ (l : Lists). Early id a l.part) same
+          (subst (λ (i : RequestId). Early i a ok.lists.part) seen.its_id (subst (λ (b : Answer). Early seen.quick.id b ok.lists.part) seen.its_answer early))
+
+      go : QuickEarly (line_of w) (capture_of seen.lists.master seen.quick) ok.lists.part seen.quick.id seen.quick.answer ⊎ Gated w ok.lists seen.lists.master seen.quick → Early id a seen.lists.part
+      go (inl early) = as_seen early
+      go (inr gate) =
+          let named : IsAmong gate.witness seen.lists.witnesses = subst (λ (l : Lists). IsAmong gate.witness l.witnesses) same gate.named in
+          let live = among_each (λ (x : NodeId). WasSent w (says x (client_node id.client) (body.Probed (record { id = id; epoch = seen.lists.epoch; live = true })))) seen.lists.witnesses seen.lives gate.witness named in
+          as_seen (gate.opens (subst (λ (i : RequestId). WasSent w (says gate.witness (client_node i.client) (body.Probed (record { id = i; epoch = seen.quick.epoch; live = true })))) (sym seen.its_id)
+          (subst (λ (e : ℕ). WasSent w (says gate.witness (client_node id.client) (body.Probed (record { id = id; epoch = e; live = true })))) (sym seen.its_epoch) live)))
+
+  -- so it completes by its mark
+  pub seen_fits : (id : RequestId) (a : Answer) (seen : WasSeen w id a) → (line.IsCompleted w.history id → ⊥) → FlagFits (line_of w) (capture_of seen.lists.master seen.quick) id a
+  seen_fits id a seen waits =
+      let early = seen_early id a seen in
+      let g = early.its in
+      flag_fits (line_of w) (capture_of seen.lists.master seen.quick) seen.lists.part id a early (λ k o at flags.
+      let hit = hit_capture (record { id = id; answer = a; by = Some (capture_of seen.lists.master seen.quick) }) (capture_of seen.lists.master seen.quick) o flags in
+      ordered.numbered_looks.once k g.place seen.quick.capture o g.mark at g.stands hit.1 (quick_capture seen.quick.capture g.mark.place g.is_quick) (hit.0 ∙ sym g.its_master)) waits

@@ -1,7 +1,7 @@
 -- An input to a client is at most one move of the machine: a request is invoked, or completes.
-use Rattle.std.proofs.Common.{◌≡◌, inl, inr, ℕ, List, [], ◌∷◌, ◌++◌, append-nil, refl, ap, sym, ◌∙◌, subst, Option, Some, None}
+use Rattle.std.proofs.Common.{◌≡◌, inl, inr, ℕ, List, [], ◌∷◌, ◌++◌, append-nil, refl, ap, sym, ◌∙◌, subst, Option, Some, None, true}
 use Rattle.std.specs.Prelude.{Result, Ok, Err}
-use Rattle.curp_base.specs.Words.{At, numbered}
+use Rattle.curp_base.specs.Words.{At, numbered, Each}
 use Rattle.curp_cmd.specs.Node.{client_node}
 use Rattle.curp_cmd.specs.declared.command.Answer.{Answer}
 use Rattle.curp_cmd.specs.declared.command.Command.{Command}
@@ -24,11 +24,11 @@ use Rattle.curp_model.specs.Client.{ClientState, Resent, client_input, client_or
 use Rattle.curp_model.specs.Marks.{flagged}
 use Rattle.curp_model.specs.World.{World, completion, invocation_of, kept, with_client, with_completion}
 use Rattle.curp_facts.specs.ClientNumbers.{IsWaiting, NumbersOk}
-use Rattle.curp_facts.specs.Facts.{Completable, EntryWas, WasSent}
-use Rattle.curp_facts.specs.Nodes.{MayCome}
+use Rattle.curp_facts.specs.Facts.{Completable, EntryWas, WasSent, lists_of_part}
+use Rattle.curp_facts.specs.Nodes.{MayCome, WasSeen}
 use Rattle.curp_facts.specs.Said.{WorthSaid}
 use Rattle.curp_law_growth.specs.Deeds.{IsFor}
-use Rattle.curp_law_keepers.specs.ClientEffect.{ByValue, ClientAsks, ClientEffect, ClientSays, CompletionOk, MayComplete, events_after}
+use Rattle.curp_law_keepers.specs.ClientEffect.{ByValue, ClientAsks, ClientEffect, ClientSays, CompletionOk, MayComplete, events_after, ByQuick}
 use Rattle.curp_law_keepers.proofs.Numbers.{never_invoked, waiting}
 use Rattle.curp_law_kept.proofs.Clients.{effect}
 use Rattle.curp_law_kept.proofs.Completes.{by_accepts, by_synced}
@@ -38,8 +38,8 @@ use Rattle.curp_law_line.specs.Line as line
 use Rattle.curp_law_line.specs.Moves.{Completes, Flags, FlagFits, Invokes}
 use Rattle.curp_law_line.specs.OfWorld.{line_of, told_by}
 use Rattle.curp_law_line.proofs.Given.{LogsOk}
-use Rattle.curp_law_linear.specs.Ordered.{Ordered}
-use Rattle.curp_law_linear.proofs.Clients.{read_fits, update_fits}
+use Rattle.curp_law_linear.specs.Ordered.{Ordered, capture_of}
+use Rattle.curp_law_linear.proofs.Clients.{read_fits, update_fits, seen_fits}
 use Rattle.curp_law_linear.proofs.Parts.{line_logs}
 use Rattle.curp_law_linear.specs.Refined.{RefinesQuiet}
 use Rattle.curp_law_linear.proofs.Quiet.{line_is, no_move, tell_nothing}
@@ -48,7 +48,7 @@ use Rattle.curp_law_names.proofs.Lists.{all_of-kept}
 use Rattle.curp_facts.specs.Predecessors.{Predecessors}
 use Rattle.curp_facts.specs.Migrated.{Migrated}
 use Rattle.curp_law_linear.proofs.CutMarks.{cuts_after}
-use Rattle.curp_law_runs.proofs.ByOne.{by_value}
+use Rattle.curp_facts.specs.Reach.{QuickSaid}
 
 -- ---- an order completes nothing
 
@@ -83,6 +83,25 @@ client_tells Adopted n events m k = go m.body k.says_so
     go : (b : Body) → ClientAsks Adopted n events m.to b → told_by b ≡ []
     go (body.Taken t) asks = absurd asks
     go _ asks = refl
+
+-- ---- a read that was seen
+
+-- who completes a read by a Quick has seen it
+seen_of : {w : World} → Known w → (n : ℕ) (d : Completed) → ByQuick (MayCome w n) (EntryWas w) d.id d.answer d.by → WasSeen w d.id d.answer
+seen_of {w} known n d e =
+    let ok : QuickSaid w e.came.place e.part.master (client_node n) e.quick = known.inv.messages e.came.place _ e.came.stands in
+    let client : client_node n ≡ client_node d.id.client = ok.addressee ∙ ap (λ (id : RequestId). client_node id.client) e.its_id in
+    record {
+      lists = lists_of_part e.part;
+      adopted = e.adopted;
+      quick = e.quick;
+      sent = subst (λ (to : NodeId). WasSent w (says e.part.master to (body.Quick e.quick))) client e.came;
+      its_id = e.its_id;
+      its_answer = e.its_answer;
+      its_epoch = e.epoch;
+      its_version = e.version;
+      lives = subst (λ (to : NodeId). Each (λ x. WasSent w (says x to (body.Probed (record { id = d.id; epoch = e.part.epoch; live = true })))) e.part.witnesses) client e.lives;
+    }
 
 -- ---- moves
 
@@ -153,10 +172,24 @@ module _ {w : World} (known : Known w) (chain : Predecessors w) (migrated : Migr
           fits = subst (λ (a : Answer). FlagFits (line_of w) by d.id a) e.its_answer (subst (λ (id : RequestId). FlagFits (line_of w) by id e.value.answer) e.its_id
               (read_fits known chain migrated ordered e.from e.value sent (λ done. waits (subst (line.IsCompleted w.history) e.its_id done))))
 
+      -- a read that was answered at once
+      quick_completes : ByQuick (MayCome w n) (EntryWas w) d.id d.answer d.by → RefinesQuiet w v
+      unfolding seen_of
+      quick_completes e =
+          let seen = seen_of known n d e in
+          record {
+            its = record {
+              moves = Flags (capture_of e.part.master e.quick) d.id d.answer ∷ [];
+              fit = (seen_fits known chain migrated ordered d.id d.answer seen waits, logs, tt);
+              leads = sym (line_is out s (flagged (record { id = d.id; answer = d.answer; by = Some (capture_of e.part.master e.quick) }) w.marks) (w.history ++ Complete d.id d.answer ∷ []) (its_marks (Some (capture_of e.part.master e.quick)) e.its_capture) history);
+            };
+            quiet = (tt, tt);
+          }
+
       completes : RefinesQuiet w v
       completes = elim ok.evidence [
         | inl u ↦ elim u.evidence [ inl e ↦ update_completes (by_synced known n d.id d.answer e) u.no_capture | inr e ↦ update_completes (by_accepts known n d.id d.answer e) u.no_capture ]
-        | inr r ↦ read_completes (by_value ordered.by_one n ok.p.request d r)
+        | inr r ↦ elim r.evidence [ inl e ↦ read_completes e | inr e ↦ quick_completes e ]
       ]
 
   -- ---- any input

@@ -19,6 +19,7 @@ use Rattle.curp_law_line.proofs.Lists.{filter_within}
 use Rattle.curp_law_line.proofs.QuicksAdopted.{cut_stays}
 use Rattle.curp_law_line.specs.OfWorld.{cuts}
 use Rattle.curp_law_linear.proofs.ReadsDropped.{replayed_more}
+use Rattle.curp_cmd.proofs.Nodes.{same_node-true}
 use Rattle.curp_law_linear.proofs.ReadsMarks.{ops_only}
 
 -- marks of which none is that of an adoption
@@ -130,3 +131,16 @@ cuts_marked w v node m k b marked part = ap (cuts part) marked ∙ go b
     go : (b : Bool) → cuts part (if b then w.marks ++ master_marks node m k else w.marks) ≡ cuts part w.marks
     go true = cuts_more part w.marks (master_marks node m k) (pushes_no_cut node m k)
     go false = refl
+
+-- ---- what a completion flags
+
+-- a read that a completion flags is of its capture
+pub hit_capture : (c : Completed) (by : Capture) (m : Mark) → is_flagged c (Some by) m ≡ true → (m.master ≡ by.master) × (is_capture by.number m.place ≡ true)
+hit_capture c by m flags = let t = all_true (same_id m.id c.id) (same_node m.master by.master) (m.epoch == by.epoch) (is_capture by.number m.place) flags in (same_node-true m.master by.master t.0, t.1)
+  where
+    all_true : (a b c d : Bool) → (a && b && c && d) ≡ true → (b ≡ true) × (d ≡ true)
+    all_true true true true true e = (refl, refl)
+    all_true true true true false e = absurd cc
+    all_true true true false d e = absurd cc
+    all_true true false c d e = absurd cc
+    all_true false b c d e = absurd cc

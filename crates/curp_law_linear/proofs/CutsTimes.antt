@@ -3,13 +3,11 @@ use Rattle.std.proofs.Common.{◌≡◌, inl, inr, ◌+◌, ℕ, suc, List, leng
 use Rattle.curp_base.specs.Words.{At}
 use Rattle.curp_model.specs.World.{World}
 use Rattle.curp_cmd.specs.declared.node.NodeId.{NodeId}
-use Rattle.curp_model.specs.Witness.{WitnessState}
 use Rattle.curp_msg.specs.declared.body.Probed.{Probed}
 use Rattle.curp_model.specs.Named.{IsWitness}
 use Rattle.curp_facts.specs.Facts.{WasSent}
 use Rattle.curp_msg.specs.Moved.{says}
 use Rattle.curp_msg.specs.declared.body.Body.TheVariants as body
-use Rattle.curp_model.specs.declared.Mode.TheVariants as mode
 use Rattle.curp_facts.specs.Known.{Known}
 use Rattle.curp_facts.specs.Predecessors.{Predecessors}
 use Rattle.curp_law_linear.specs.Ordered.{Ordered, CutsTimed}
@@ -28,12 +26,8 @@ use Rattle.curp_law_linear.proofs.Cuts.{cut_adoption}
 use Rattle.curp_law_line.proofs.QuickRuns.{cut_early_on}
 use Rattle.curp_facts.specs.Kept.{AdoptionOk}
 use Rattle.curp_order.specs.declared.Event.TheVariants.{Invoke}
+use Rattle.curp_law_linear.proofs.ReadsPassed.{NoneLives}
 use Rattle.curp_law_kept.proofs.Known.{said}
-
--- a frozen witness says no more that it is live
-abbrev pub NoneLives : World → World → Type 0
-NoneLives w v = (node to : NodeId) (x : WitnessState) (a : Probed) → IsWitness w node x → x.mode ≡ mode.Frozen → a.live ≡ true
-    → WasSent v (says node to (body.Probed a)) → WasSent w (says node to (body.Probed a))
 
 module _ {w v : World} (known : Known w) (chain : Predecessors w) (ordered : Ordered w) (now : Known v) (s : Follows w v) (r : Refines w v) (lives : NoneLives w v) where
   -- what was invoked before

@@ -26,8 +26,6 @@ use Rattle.curp_msg.specs.declared.body.Body.TheVariants as body
 use Rattle.curp_msg.specs.declared.body.Parcel.{Parcel}
 use Rattle.curp_msg.specs.declared.body.Prepare.{Prepare}
 use Rattle.curp_msg.specs.declared.body.TakeOut.{TakeOut}
-use Rattle.curp_msg.specs.declared.machine.Input.{Input}
-use Rattle.curp_msg.specs.declared.machine.Input.TheVariants as input
 use Rattle.curp_msg.specs.declared.machine.Local.{Local}
 use Rattle.curp_msg.specs.declared.machine.Local.TheVariants as local
 use Rattle.curp_msg.specs.declared.message.Message.{Message}
@@ -35,14 +33,12 @@ use Rattle.curp_range.specs.Spans.{is_covered}
 use Rattle.curp_model.specs.declared.Check.{Check}
 use Rattle.curp_model.specs.declared.Check.TheVariants.{Expired, Stale, Known, New}
 use Rattle.curp_model.specs.Log.{LastGive, LastTake, answer_after}
-use Rattle.curp_model.specs.Master.{AtOnce, Captured, Deny, Execute, HoldBack, MasterState, Open, Phase, Switch, Switching, Tell, TellAgain, Verdict, WhenSynced, Wish, adopted_in, all_have, by_epoch, by_message, by_phase, by_read_check, by_version, carries_out, collect_in, executes, give_after, goes_on, is_clean, is_open, is_ready, last_round, on_appended, on_collected, on_expire, on_give, on_read, on_serving, on_stored, on_take, on_update, prepare_in, prepares, push_take, raised, read_command, read_of, read_refusal, serving_ordered, settle, state_of, stored_on, sync_in, synced, take_after, told_again, treat, treated, treats, unless_it_ends, verdict}
+use Rattle.curp_model.specs.Master.{AtOnce, Captured, Deny, Execute, HoldBack, MasterState, Open, Phase, Switch, Switching, Tell, TellAgain, Verdict, WhenSynced, Wish, adopted_in, all_have, by_epoch, by_message, by_phase, by_read_check, by_version, carries_out, collect_in, executes, give_after, goes_on, is_clean, is_open, is_ready, last_round, on_appended, on_collected, on_expire, on_give, on_read, on_serving, on_stored, on_take, on_update, prepare_in, prepares, push_take, raised, read_command, read_of, read_refusal, serving_ordered, settle, state_of, stored_on, sync_in, synced, take_after, told_again, treat, treated, treats, unless_it_ends, verdict, captures_read}
 use Rattle.curp_model.specs.Ranges.{owns_all}
-use Rattle.curp_model.specs.Recovery.{Fresh, MasterStage, Recovering, Serving, master_input, master_ordered, on_master}
+use Rattle.curp_model.specs.Recovery.{MasterStage, Serving}
 use Rattle.curp_model.specs.Table.{check, is_gone}
-use Rattle.curp_facts.specs.ByOne.{IsOfOne}
 use Rattle.curp_facts.specs.Facts.{IsAmong}
 use Rattle.curp_base.proofs.Numbered.{filter_at}
-use Rattle.curp_law_runs.proofs.ByOne.{BringsOne}
 
 -- a read that the master takes: it has the next number and the length of the log, its hashes are owned, and its answer is that
 -- of the log's store
@@ -76,6 +72,11 @@ pub data Captures (m k : MasterState) : Type 0 where
   NoRead : TakesNone m k → Captures m k
   OneRead : TakesOne m k → Captures m k
 
+-- the message is no glance
+abbrev pub NotGlance : Body → Type 0
+NotGlance (body.Glance ask) = ⊥
+NotGlance _ = ⊤
+
 -- captures that stay
 keeps_all : (m k : MasterState) → k.captures ≡ m.captures → k.captured ≡ m.captured → Captures m k
 keeps_all m k same number = NoRead (record { stood = λ c a. subst (IsAmong c) same a; captured = number })
@@ -84,7 +85,7 @@ module _ (n : ℕ) (m : MasterState) where
   abbrev pub After : Moved MasterState → Type 0
   After r = Captures m r.state
 
-  rests : Captures m m
+  pub rests : Captures m m
   rests = keeps_all m m refl refl
 
   executes_captures : (w : Wish) (r : Request) (clean : Bool) → After (executes n m w r clean)
@@ -119,25 +120,28 @@ module _ (n : ℕ) (m : MasterState) where
       go true e = refl
       go false e = absurd cc
 
+  pub captured_one : (ask : Ask) (key : List ℕ) → ask.request.command ≡ Get key → read_refusal m ask ≡ None → After (captures_read n m ask.request key)
+  captured_one ask key same e = OneRead (record {
+    c = record {
+      number = m.captured + 1;
+      id = ask.request.id;
+      command = ask.request.command;
+      answer = Found (store.get (state_of m).store key);
+      length = length m.log;
+      round = m.round + 1;
+    };
+    its = record { key = key; number = refl; long = refl; gets = same; answer = refl; owned = owned_by ask (by_epoch m ask) (by_phase m) (by_read_check (check (state_of m).table ask.request.id)) (by_version m ask) e };
+    captures = refl;
+    captured = refl;
+    log = refl;
+  })
+
   command_captures : (ask : Ask) (c : Command) → ask.request.command ≡ c → After (read_command n m ask c)
   command_captures ask (Get key) same = go (read_refusal m ask) refl
     where
       go : (o : Option Refusal) → read_refusal m ask ≡ o → After (read_of n m ask.request key o)
       go (Some why) e = rests
-      go None e = OneRead (record {
-        c = record {
-          number = m.captured + 1;
-          id = ask.request.id;
-          command = ask.request.command;
-          answer = Found (store.get (state_of m).store key);
-          length = length m.log;
-          round = m.round + 1;
-        };
-        its = record { key = key; number = refl; long = refl; gets = same; answer = refl; owned = owned_by ask (by_epoch m ask) (by_phase m) (by_read_check (check (state_of m).table ask.request.id)) (by_version m ask) e };
-        captures = refl;
-        captured = refl;
-        log = refl;
-      })
+      go None e = captured_one ask key same e
   command_captures ask _ same = rests
 
   read_captures : (ask : Ask) → After (on_read n m ask)
@@ -242,7 +246,7 @@ module _ (n : ℕ) (m : MasterState) where
   ends_captures : (r : Moved MasterState) → After n m r → After n m (unless_it_ends m r)
   ends_captures r g = cond_both (rises_past last_round m.round r.state.round || rises_past last_round m.captured r.state.captured) _ _ (After n m) (λ y. rests n m) (λ y. g)
 
-  message_captures : (from : NodeId) (b : Body) → IsOfOne b → After n m (by_message n m from b)
+  message_captures : (from : NodeId) (b : Body) → NotGlance b → After n m (by_message n m from b)
   message_captures from (body.Update ask) one = update_captures n m AtOnce ask
   message_captures from (body.Sync ask) one = update_captures n m WhenSynced ask
   message_captures from (body.Read ask) one = read_captures n m ask
@@ -256,7 +260,7 @@ module _ (n : ℕ) (m : MasterState) where
   message_captures from (body.ExpireClient client) one = expire_captures client
   message_captures from _ one = rests n m
 
-  serving_captures : (from : NodeId) (b : Body) → IsOfOne b → After n m (on_serving n m from b)
+  pub serving_captures : (from : NodeId) (b : Body) → NotGlance b → After n m (on_serving n m from b)
   unfolding on_serving
   serving_captures from b one = ends_captures (by_message n m from b) (message_captures from b one)
 
@@ -268,7 +272,7 @@ module _ (n : ℕ) (m : MasterState) where
   collect_captures Open = keeps_all m _ refl refl
   collect_captures (Switching s) = rests n m
 
-  ordered_captures : (order : Local) → After n m (serving_ordered n m order)
+  pub ordered_captures : (order : Local) → After n m (serving_ordered n m order)
   unfolding serving_ordered
   ordered_captures local.Sync = ends_captures (sync_in n m m.phase) (sync_captures m.phase)
   ordered_captures local.Collect = collect_captures m.phase
@@ -278,11 +282,3 @@ module _ (n : ℕ) (m : MasterState) where
 abbrev pub StageCaptures : MasterStage → MasterStage → Type 0
 StageCaptures (Serving m) (Serving k) = Captures m k
 StageCaptures _ _ = ⊤
-
--- any input of protocol 1 to a master
-pub input_captures : (n : ℕ) (m : MasterStage) (given : Input) → BringsOne given → StageCaptures m (master_input n m given).state
-unfolding on_master master_ordered
-input_captures n Fresh given one = tt
-input_captures n (Recovering s) given one = tt
-input_captures n (Serving m) (input.Local order) one = ordered_captures n m order
-input_captures n (Serving m) (input.Message x) one = serving_captures n m x.from x.body one

@@ -15,14 +15,12 @@ use Rattle.curp_facts.specs.Predecessors.{Predecessors}
 use Rattle.curp_law_kept.proofs.MastersMoves.{MasterStep}
 use Rattle.curp_law_kept.proofs.MastersReady.{step_follows}
 use Rattle.curp_law_kept.proofs.Moved.{adopted_back, sent_back}
-use Rattle.curp_law_linear.specs.Ordered.{CutsFollow, Ordered, CutsTimed}
+use Rattle.curp_law_linear.specs.Ordered.{CutsFollow}
 use Rattle.curp_law_linear.proofs.CutMarks.{cuts_marked}
 use Rattle.curp_law_linear.proofs.Cuts.{cuts_stay}
 use Rattle.curp_law_linear.proofs.ReadsLater.{EntryStays}
-use Rattle.curp_law_linear.specs.Refined.{Refines}
-use Rattle.curp_law_linear.proofs.CutsTimes.{timed_stay, NoneLives}
 use Rattle.curp_cmd.specs.declared.node.NodeKind.TheVariants as kind
-use Rattle.curp_law_linear.proofs.ReadsPassed.{NewerLists}
+use Rattle.curp_law_linear.proofs.ReadsPassed.{NewerLists, NoneLives}
 
 pub master_cuts : {w v : World} → Known w → Predecessors w → Known v → (n : ℕ) (from : NodeId) (heard : Option Body) (out : List Message) (m k : MasterStage) → MasterStep w v n from heard m k out
     → v.marks ≡ (if is_adopted w.manager (master_node n) then w.marks ++ master_marks (master_node n) m k else w.marks) → CutsFollow w → CutsFollow v
@@ -41,13 +39,9 @@ master_cuts {w} {v} known chain now n from heard out m k s marks follow =
     newer : NewerLists w v
     newer l was = inl (adopted_back w v out s.frame.sent (master_node n) s.frame.all (ap (λ (g : ManagerState). g.shape) s.frame.manager) s.frame.not_manager l was)
 
-pub master_timed : {w v : World} → Known w → Predecessors w → Ordered w → Known v → (n : ℕ) (from : NodeId) (heard : Option Body) (out : List Message) (m k : MasterStage) → MasterStep w v n from heard m k out
-    → v.marks ≡ (if is_adopted w.manager (master_node n) then w.marks ++ master_marks (master_node n) m k else w.marks) → Refines w v → CutsTimed v
-master_timed {w} {v} known chain ordered now n from heard out m k s marks r =
-    timed_stay known chain ordered now (step_follows known s) r lives (cuts_marked w v (master_node n) m k (is_adopted w.manager (master_node n)) marks)
+-- a master says nothing that a witness says
+pub master_lives : {w v : World} → (n : ℕ) (from : NodeId) (heard : Option Body) (out : List Message) (m k : MasterStage) → MasterStep w v n from heard m k out → NoneLives w v
+master_lives {w} {v} n from heard out m k s node to x a is frozen live sent = sent_back w v out s.frame.sent (master_node n) s.frame.all _ sent (λ same. kinds (sym is.its_kind ∙ ap (λ (z : NodeId). z.kind) same))
   where
-    lives : NoneLives w v
-    lives node to x a is frozen live sent = sent_back w v out s.frame.sent (master_node n) s.frame.all _ sent (λ same. kinds (sym is.its_kind ∙ ap (λ (z : NodeId). z.kind) same))
-      where
-        kinds : kind.Witness ≡ kind.Master → ⊥
-        kinds e = cc
+    kinds : kind.Witness ≡ kind.Master → ⊥
+    kinds e = cc

@@ -18,7 +18,6 @@ use Rattle.curp_law_linear.specs.Ordered.{AdoptedOk, CaptureOk, MigrationsRise, 
 use Rattle.curp_law_logs.specs.Gives.{GivesFit}
 use Rattle.curp_law_names.proofs.Lists.{at_mapped, place}
 use Rattle.curp_law_routes.proofs.Steps.{nothing_sent}
-use Rattle.curp_law_runs.proofs.ByOne.{by_one_opening}
 
 module _ (h : Header) where
   -- a master of the opening
@@ -66,13 +65,12 @@ module _ (h : Header) where
     cuts_follow = cuts_follow_opening h;
     cuts_timed = λ part i m at order sent. absurd (nothing_sent h _ sent);
     commands = λ i id command at. absurd cc;
-    by_one = by_one_opening h its.protocol;
-    no_quicks = tt;
     logs = logs_first;
-    numbered_looks = record { made = λ k number long m at is. absurd cc; once = λ j k number long other m o at to is its same. absurd cc };
+    numbered_looks = record { made = λ k number m at is. absurd cc; once = λ j k number m o at to is its same. absurd cc };
     worths = λ node v sent. absurd (nothing_sent h _ sent);
+    quicks = λ node q sent. absurd (nothing_sent h _ sent);
     captures = λ node m is. subst (Each (CaptureOk (opening h) node m)) (no_captures node m is) tt;
-    reached = record { completed = λ k number long m at is done. absurd cc; older = λ k number long m c at is now part low. absurd cc };
+    reached = record { completed = λ k number long m at is done. absurd cc; older = λ k number long m c at is now part low. absurd cc; quick = λ k number m at is. absurd cc };
     stored = λ k number long m c at is now part done. absurd cc;
   }
     where

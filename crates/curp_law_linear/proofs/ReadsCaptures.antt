@@ -39,13 +39,14 @@ use Rattle.curp_msg.specs.declared.machine.Local.TheVariants as local
 use Rattle.curp_msg.specs.declared.message.Message.{Message}
 use Rattle.curp_range.specs.Spans.{is_covered}
 use Rattle.curp_model.specs.Log.{LastGive, LastTake}
-use Rattle.curp_model.specs.Master.{Acknowledged, AtOnce, Captured, Deny, Execute, HoldBack, MasterState, Open, Phase, Switch, Switching, Tell, TellAgain, Verdict, WhenSynced, Wish, adopted_in, all_have, append_to, begins_round, between, by_message, by_read_check, captures_read, carries_out, collect_in, collects, executes, from_backup, give_after, goes_on, holds_back, is_clean, is_open, is_ready, last_round, marked_free, moved_entry, next_round, on_appended, on_collected, on_expire, on_read, on_serving, on_stored, on_update, prepare_in, prepares, push_take, pushed, raised, read_command, read_of, read_refusal, serving_ordered, settle, state_of, stored_on, sync_in, synced, synced_replies, synced_reply, take_after, told_again, treat, treated, treats, unless_it_ends, value_of, verdict}
+use Rattle.curp_model.specs.Master.{Acknowledged, AtOnce, Captured, Deny, Execute, HoldBack, MasterState, Open, Phase, Switch, Switching, Tell, TellAgain, Verdict, WhenSynced, Wish, adopted_in, all_have, append_to, begins_round, between, by_message, by_read_check, captures_read, carries_out, collect_in, collects, executes, from_backup, give_after, goes_on, holds_back, is_clean, is_open, is_ready, last_round, marked_free, moved_entry, next_round, on_appended, on_collected, on_expire, on_read, on_serving, on_stored, on_update, prepare_in, prepares, push_take, pushed, raised, read_command, read_of, read_refusal, serving_ordered, settle, state_of, stored_on, sync_in, synced, synced_replies, synced_reply, take_after, told_again, treat, treated, treats, unless_it_ends, value_of, verdict, answers_with}
 use Rattle.curp_model.specs.Ranges.{owns_all}
 use Rattle.curp_model.specs.Table.{check, is_gone}
 use Rattle.curp_model.specs.declared.Check.{Check}
 use Rattle.curp_model.specs.declared.Check.TheVariants.{Expired, Known, New, Stale}
-use Rattle.curp_facts.specs.ByOne.{IsOfOne}
 use Rattle.curp_facts.specs.Facts.{IsAmong}
+use Rattle.curp_law_linear.proofs.MastersCaptures.{NotGlance}
+use Rattle.curp_cmd.specs.declared.command.RequestId.{RequestId}
 use Rattle.curp_law_names.proofs.Lists.{each_among, filter_among}
 
 -- ---- what an input does
@@ -88,9 +89,10 @@ pub record ValueOf (m k : MasterState) (v : Worth) : Type 0 where
   pub its_number : v.capture ≡ c.number
   pub its_answer : v.answer ≡ c.answer
 
--- of a message, if it is a value
+-- of a message, if it is a value. No read is answered at once
 abbrev pub SaysValue : MasterState → MasterState → Body → Type 0
 SaysValue m k (body.Worth v) = ValueOf m k v
+SaysValue m k (body.Quick q) = ⊥
 SaysValue m k _ = ⊤
 
 -- what an input does to a serving master's captures
@@ -104,10 +106,12 @@ pub record ReadsMove (m : MasterState) (from : NodeId) (heard : Option Body) (r 
 -- the message isn't a value
 abbrev NoValue : Body → Type 0
 NoValue (body.Worth v) = ⊥
+NoValue (body.Quick q) = ⊥
 NoValue _ = ⊤
 
 no_value : (m k : MasterState) (b : Body) → NoValue b → SaysValue m k b
 no_value m k (body.Worth v) none = absurd none
+no_value m k (body.Quick q) none = absurd none
 no_value m k _ none = tt
 
 each_image : {A B : Type 0} (P : B → Type 0) (f : A → B) → ((x : A) → P (f x)) → (xs : List A) → Each P (map f xs)
@@ -188,8 +192,11 @@ module _ (n : ℕ) (m : MasterState) (from : NodeId) (heard : Option Body) where
     values = Each-weaker (λ (x : Message). NoValue x.body) (λ (x : Message). SaysValue m k x.body) (λ x y. no_value m k x.body y) out none;
   }
 
-  rests : Goes (quiet m)
+  pub rests : Goes (quiet m)
   rests = plain m [] itself tt
+
+  pub refused_reads : (id : RequestId) (why : Refusal) → Goes (answers_with n m id why)
+  refused_reads id why = plain m _ itself (tt, tt)
 
   no_appends : (k : MasterState) → Each (λ (x : Message). NoValue x.body) (begins_round n k).messages
   no_appends k = each_image (λ (x : Message). NoValue x.body) (append_to n (next_round k)) (λ b. tt) (stored_on (next_round k))
@@ -225,7 +232,7 @@ module _ (n : ℕ) (m : MasterState) (from : NodeId) (heard : Option Body) where
   -- ---- reads
 
   -- a read that isn't refused is of hashes that are owned
-  unrefused : (ask : Ask) → read_refusal m ask ≡ None → owns_all (state_of m).owned (hashes ask.request.command) ≡ true
+  pub unrefused : (ask : Ask) → read_refusal m ask ≡ None → owns_all (state_of m).owned (hashes ask.request.command) ≡ true
   unrefused ask = go (not (ask.epoch == m.epoch)) (not (is_open m.phase)) (by_read_check (check (state_of m).table ask.request.id)) (not (ask.version == m.version)) (owns_all (state_of m).owned (hashes ask.request.command))
     where
       go : (e p : Bool) (c : Option Refusal) (u : Bool) (o : Bool) → first_there (
@@ -242,7 +249,7 @@ module _ (n : ℕ) (m : MasterState) (from : NodeId) (heard : Option Body) where
       go false false None false true is = refl
       go false false None false false is = absurd cc
 
-  captured : (r : Request) (key : List ℕ) → r.command ≡ Get key → owns_all (state_of m).owned (hashes r.command) ≡ true → Goes (captures_read n m r key)
+  pub captured : (r : Request) (key : List ℕ) → r.command ≡ Get key → owns_all (state_of m).owned (hashes r.command) ≡ true → Goes (captures_read n m r key)
   captured r key its owned =
       let c : Captured = record { number = m.captured + 1; id = r.id; command = r.command; answer = Found (store.get (state_of m).store key); length = length m.log; round = m.round + 1 } in
       let k : MasterState = record m { captures = m.captures ++ c ∷ []; captured = m.captured + 1 } in
@@ -406,7 +413,7 @@ module _ (n : ℕ) (m : MasterState) (from : NodeId) (heard : Option Body) where
   ends_moves : (r : Moved MasterState) → Goes r → Goes (unless_it_ends m r)
   ends_moves r g = cond_both (rises_past last_round m.round r.state.round || rises_past last_round m.captured r.state.captured) _ _ Goes (λ y. rests) (λ y. g)
 
-  message_moves : (b : Body) → IsOfOne b → heard ≡ Some b → Goes (by_message n m from b)
+  message_moves : (b : Body) → NotGlance b → heard ≡ Some b → Goes (by_message n m from b)
   message_moves (body.Update ask) one is = update_moves AtOnce ask
   message_moves (body.Sync ask) one is = update_moves WhenSynced ask
   message_moves (body.Read ask) one is = read_moves ask
@@ -420,8 +427,8 @@ module _ (n : ℕ) (m : MasterState) (from : NodeId) (heard : Option Body) where
   message_moves (body.ExpireClient client) one is = expire_moves client
   message_moves _ one is = rests
 
-  -- a message of protocol 1 that comes to a serving master
-  pub serving_reads : (b : Body) → IsOfOne b → heard ≡ Some b → Goes (on_serving n m from b)
+  -- a message that comes to a serving master and is no glance
+  pub serving_reads : (b : Body) → NotGlance b → heard ≡ Some b → Goes (on_serving n m from b)
   unfolding on_serving
   serving_reads b one is = ends_moves (by_message n m from b) (message_moves b one is)
 

@@ -7,10 +7,10 @@ use Rattle.curp_base.proofs.Lists.{Each-at, at_append_cases, at_one}
 use Rattle.curp_cmd.specs.declared.command.Request.{Request}
 use Rattle.curp_cmd.specs.declared.node.NodeId.{NodeId}
 use Rattle.curp_model.specs.Marks as mark
-use Rattle.curp_model.specs.Marks.{Cut, Looked, Mark, Place, adoptions, cut_mark, executed, has_completed, is_dropped, is_past, is_update_mark, replayed_marks}
+use Rattle.curp_model.specs.Marks.{Cut, Looked, Mark, Place, adoptions, cut_mark, executed, has_completed, is_dropped, is_past, is_update_mark, replayed_marks, is_capture}
 use Rattle.curp_model.specs.World.{World}
-use Rattle.curp_law_linear.proofs.ReadsLater.{LooksWere}
-use Rattle.curp_law_linear.proofs.ReadsMarks.{no_look}
+use Rattle.curp_law_linear.proofs.ReadsLater.{ReadsWere}
+use Rattle.curp_law_linear.proofs.ReadsMarks.{no_capture}
 
 -- what stands in a filtered list stood before, at a place that tells its place now
 pub record Filtered {A : Type 0} (q : A → Bool) (xs : List A) (k : ℕ) (x : A) : Type 0 where
@@ -76,34 +76,31 @@ abbrev pub Stays : ℕ → ℕ → List Mark → ℕ → Mark → Type 0
 Stays part cut marks k m = Filtered (λ (x : Mark). not (is_dropped part cut x)) marks k m
 
 module _ (w v : World) (node : NodeId) (part epoch cut : ℕ) (rs : List Request) (same : v.marks ≡ mark.adopted node part epoch cut rs w.marks) where
-  pub look_stays : (k number long : ℕ) (m : Mark) → At v.marks k m → m.place ≡ Looked number long → Stays part cut w.marks k m
-  look_stays k number long m at look =
+  pub read_stays : (k number : ℕ) (m : Mark) → At v.marks k m → is_capture number m.place ≡ true → Stays part cut w.marks k m
+  read_stays k number m at is =
       let left : List Mark = filter (λ (x : Mark). not (is_dropped part cut x)) w.marks in
       let own : Mark = cut_mark node part epoch (adoptions part w.marks + 1) cut in
       let more = replayed_more node part epoch cut rs (left ++ own ∷ []) in
       elim (at_append_cases (left ++ own ∷ []) more.more k m (subst (λ (ms : List Mark). At ms k m) (same ∙ more.is) at)) [
         | inl old ↦ elim (at_append_cases left (own ∷ []) k m old) [
           | inl here ↦ filtered (λ (x : Mark). not (is_dropped part cut x)) w.marks k m here
-          | inr its ↦ absurd (no_cut m.place look (sym (ap (λ (x : Mark). x.place) (at_one own its.0 m its.2).1)))
+          | inr its ↦ absurd (no_cut (sym (ap (λ (x : Mark). x.place) (at_one own its.0 m its.2).1)))
         ]
-        | inr new ↦ absurd (no_look m.place number long (Each-at (λ (x : Mark). is_update_mark x.place ≡ true) more.more more.ops new.0 m new.2) look)
+        | inr new ↦ absurd (no_capture m.place number (Each-at (λ (x : Mark). is_update_mark x.place ≡ true) more.more more.ops new.0 m new.2) is)
       ]
     where
-      no_cut : (x : Place) → x ≡ Looked number long → x ≡ Cut (adoptions part w.marks + 1) cut → ⊥
-      no_cut x is e = apart (sym is ∙ e)
-        where
-          apart : {a b c d : ℕ} → Looked a b ≡ Cut c d → ⊥
-          apart e = cc
+      no_cut : m.place ≡ Cut (adoptions part w.marks + 1) cut → ⊥
+      no_cut e = let bad : false ≡ true = sym (ap (is_capture number) e) ∙ is in cc
 
   -- each was there before, no two at one place
-  pub looks_adopted : LooksWere w v
+  pub looks_adopted : ReadsWere w v
   looks_adopted = record {
-    was = λ k number long m at look.
-        let f = look_stays k number long m at look in
-        record { place = f.place; old = m; stands = f.stands; its_master = refl; its_part = refl; its_epoch = refl; its_place = refl; completed = λ e. inl e };
-    apart = λ j k number long other m o a b p q e.
-        let f = look_stays j number long m a p in
-        let g = look_stays k number other o b q in
+    was = λ k number m at is.
+        let f = read_stays k number m at is in
+        record { place = f.place; old = m; stands = f.stands; its_master = refl; its_part = refl; its_epoch = refl; its_id = refl; its_place = refl; completed = λ e. inl e };
+    apart = λ j k number m o a b p q e.
+        let f = read_stays j number m a p in
+        let g = read_stays k number o b q in
         f.rank ∙ ap (λ (i : ℕ). length (filter (λ (x : Mark). not (is_dropped part cut x)) (take i w.marks))) e ∙ sym g.rank;
   }
 

@@ -29,12 +29,11 @@ use Rattle.curp_law_linear.specs.Ordered.{Ordered}
 use Rattle.curp_law_linear.specs.Refined.{Refines}
 use Rattle.curp_law_linear.proofs.ReadsLater.{ReadsOk}
 use Rattle.curp_law_linear.specs.Refined.{NoAdoption}
-use Rattle.curp_law_linear.proofs.ReadsPassed.{NoneLate}
+use Rattle.curp_law_linear.proofs.ReadsPassed.{NoneLate, NoneLives}
 use Rattle.curp_law_linear.proofs.ReadsQuiet.{frame_reads, looks_same, none_late, none_lives}
 use Rattle.curp_law_names.proofs.Lists.{among_each}
 use Rattle.curp_facts.specs.Predecessors.{Predecessors}
 use Rattle.curp_law_line.specs.OfWorld.{cuts}
-use Rattle.curp_law_linear.proofs.CutsTimes.{NoneLives}
 use Rattle.curp_model.specs.declared.Mode.TheVariants as mode
 use Rattle.curp_model.specs.declared.Mode.{Mode}
 use Rattle.curp_law_stays.proofs.Words.{Follows, one_state}

@@ -35,11 +35,11 @@ use Rattle.curp_law_kept.proofs.Moved.{sent_back}
 use Rattle.curp_law_line.specs.Moves.{Adopts, Move, IsDropped}
 use Rattle.curp_law_linear.specs.Ordered.{CaptureOk, CutsFollow, IsStored, Ordered, StoredFrom, CutsTimed}
 use Rattle.curp_law_linear.specs.Refined.{Refines}
-use Rattle.curp_law_linear.proofs.ReadsDropped.{Stays, kept_short, look_stays, looks_adopted}
-use Rattle.curp_law_linear.proofs.ReadsLater.{EntryStays, LooksStand, ReadsOk, reads_later}
+use Rattle.curp_law_linear.proofs.ReadsDropped.{Stays, kept_short, looks_adopted, read_stays}
+use Rattle.curp_law_linear.proofs.ReadsLater.{EntryStays, LooksStand, ReadsOk, reads_later, looked_capture}
 use Rattle.curp_law_linear.specs.Refined.{NoAdoption}
 use Rattle.curp_law_linear.proofs.ReadsMoves.{NoneDrops, none_drops}
-use Rattle.curp_law_linear.proofs.ReadsPassed.{NewerLists, NoneLate, passed_later}
+use Rattle.curp_law_linear.proofs.ReadsPassed.{NewerLists, NoneLate, passed_later, NoneLives}
 use Rattle.curp_law_linear.proofs.ReadsQuiet.{looks_same}
 use Rattle.curp_law_linear.proofs.ReadsStored.{stored_stays}
 use Rattle.curp_law_logs.proofs.Replayed.{replay_prefix}
@@ -49,7 +49,8 @@ use Rattle.curp_law_pairs.proofs.Lists.{order_first}
 use Rattle.curp_facts.specs.Migrated.{AllStored}
 use Rattle.curp_law_linear.proofs.Cuts.{cuts_stay}
 use Rattle.curp_law_line.specs.OfWorld.{cuts, entries_at, log_of, logged_entries}
-use Rattle.curp_law_linear.proofs.CutsTimes.{NoneLives, timed_stay}
+use Rattle.curp_law_linear.proofs.CutsTimes.{timed_stay}
+use Rattle.curp_msg.specs.declared.body.Quick.{Quick as QuickValue}
 use Rattle.curp_law_stays.proofs.Words.{Follows, one_state, sent_later}
 
 -- the manager has said more, and no other node has moved; new nodes are fresh
@@ -86,6 +87,11 @@ module _ {w v : World} (now : Known v) {out : List Message} (f : ManagerSaid w v
       let of : IsOf v kind.Master node = (fits now (says node (client_node x.id.client) (body.Worth x)) sent).sender in
       sent_back w v out f.sent manager_node f.all _ sent (another node (inl of.0))
 
+  quick_was : (node : NodeId) (q : QuickValue) → WasSent v (says node (client_node q.id.client) (body.Quick q)) → WasSent w (says node (client_node q.id.client) (body.Quick q))
+  quick_was node q sent =
+      let of : IsOf v kind.Master node = (fits now (says node (client_node q.id.client) (body.Quick q)) sent).sender in
+      sent_back w v out f.sent manager_node f.all _ sent (another node (inl of.0))
+
   -- a step that adopts no recovery: each entry has the epoch and the master that it had
   pub manager_reads : Known w → Predecessors w → Predecessors v → (ordered : Ordered w) → Follows w v → (r : Refines w v) → Each NoAdoption r.moves → v.marks ≡ w.marks
       → ((c : PartConfig) → IsAdoptedNow v c → EntryStays w c) → NewerLists w v → ReadsOk v
@@ -97,6 +103,8 @@ module _ {w v : World} (now : Known v) {out : List Message} (f : ManagerSaid w v
     newer = newer;
     late = late;
     keeps = λ part long stored. none_drops r.moves none part long;
+    lives = lives;
+    quicks = quick_was;
     worths = worth_was;
     masters = λ node m is. inl (f.masters node m is);
     waits = λ node m is c ok. inl (none_drops r.moves none m.part c.length);
@@ -178,7 +186,7 @@ module _ {w v : World} (known : Known w) (now : Known v) (chain : Predecessors w
 
   -- what the looks of the partition that stay saw is in what stays
   stay_short : (k number long : ℕ) (m : Mark) → At v.marks k m → m.place ≡ Looked number long → m.part ≡ d.a.order.part → long ≤ d.p.cut
-  stay_short k number long m at look part = go m.completed refl (look_stays w v d.a.master d.a.order.part d.a.order.epoch d.p.cut (op_requests (drop d.p.cut d.p.log)) d.marks k number long m at look)
+  stay_short k number long m at look part = go m.completed refl (read_stays w v d.a.master d.a.order.part d.a.order.epoch d.p.cut (op_requests (drop d.p.cut d.p.log)) d.marks k number m at (looked_capture number long m.place look))
     where
       go : (b : Bool) → m.completed ≡ b → Stays d.a.order.part d.p.cut w.marks k m → long ≤ d.p.cut
       go true e h = within_cut m.part long (sym part) (λ c here same. ordered.stored h.place number long m c h.stands look here same (inl e))
@@ -306,6 +314,8 @@ module _ {w v : World} (known : Known w) (now : Known v) (chain : Predecessors w
     newer = newer;
     late = late now f;
     keeps = λ part long stored. none_dropped r.moves d.moves part long (λ same. within_cut part long same stored);
+    lives = lives now f;
+    quicks = quick_was now f;
     worths = worth_was now f;
     masters = λ node m is. inl (f.masters node m is);
     waits = λ node m is c ok. waiting node m is c ok;

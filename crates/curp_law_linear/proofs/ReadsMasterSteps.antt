@@ -1,31 +1,28 @@
 -- A step of any master keeps what is kept of reads.
-use Rattle.std.proofs.Common.{◌≡◌, inl, inr, ℕ, Bool, true, false, if◌then◌else◌, List, [], ◌++◌, append-nil, refl, ap, sym, ◌∙◌, subst, Option, Some, None}
+use Rattle.std.proofs.Common.{◌≡◌, inl, inr, ℕ, Bool, true, false, if◌then◌else◌, List, [], ◌++◌, append-nil, refl, ap, sym, ◌∙◌, subst, Option, Some}
 use Rattle.curp_base.specs.Words.{At, Each, numbered}
 use Rattle.curp_cmd.specs.Node.{client_node, master_node}
 use Rattle.curp_cmd.specs.declared.node.NodeId.{NodeId}
 use Rattle.curp_cmd.specs.declared.node.NodeKind.TheVariants as kind
-use Rattle.curp_msg.specs.Moved.{Moved, says, sends}
+use Rattle.curp_msg.specs.Moved.{says, sends}
 use Rattle.curp_msg.specs.declared.body.Body.{Body}
 use Rattle.curp_msg.specs.declared.body.Body.TheVariants as body
 use Rattle.curp_msg.specs.declared.body.Worth.{Worth}
-use Rattle.curp_msg.specs.declared.machine.Input.{Input}
-use Rattle.curp_msg.specs.declared.machine.Input.TheVariants as input
 use Rattle.curp_msg.specs.declared.message.Message.{Message}
 use Rattle.curp_model.specs.Manager.{ManagerState}
 use Rattle.curp_model.specs.Marks.{Mark}
-use Rattle.curp_model.specs.Master.{MasterState, on_serving, serving_ordered}
-use Rattle.curp_model.specs.Recovery as recovery
-use Rattle.curp_model.specs.Recovery.{Fresh, MasterStage, Recovering, Serving, master_input}
+use Rattle.curp_model.specs.Master.{MasterState}
+use Rattle.curp_model.specs.Recovery.{Fresh, MasterStage, Recovering, Serving}
 use Rattle.curp_model.specs.World.{World, is_adopted, master_marks}
 use Rattle.curp_facts.specs.Facts.{IsAmong}
 use Rattle.curp_law_kept.proofs.Apart.{either_node}
 use Rattle.curp_facts.specs.Known.{Known}
-use Rattle.curp_law_kept.proofs.MastersMoves.{MasterStep, heard_in, speaker}
+use Rattle.curp_law_kept.proofs.MastersMoves.{MasterStep}
 use Rattle.curp_law_kept.proofs.MastersReady.{step_follows}
 use Rattle.curp_law_kept.proofs.Moved.{adopted_back, sent_back, sent_cases}
 use Rattle.curp_law_linear.specs.Ordered.{CutsFollow, Ordered, CutsTimed}
 use Rattle.curp_law_linear.specs.Refined.{Refines}
-use Rattle.curp_law_linear.proofs.ReadsCaptures.{ReadsMove, ordered_reads, serving_reads}
+use Rattle.curp_law_linear.proofs.ReadsCaptures.{ReadsMove}
 use Rattle.curp_law_linear.proofs.ReadsLater.{ReadsOk, reads_later}
 use Rattle.curp_law_linear.proofs.ReadsMasters.{serving_step_reads}
 use Rattle.curp_law_linear.specs.Refined.{NoAdoption}
@@ -35,30 +32,9 @@ use Rattle.curp_law_masters.specs.Moves.{IsSaidBy, RecoverySays}
 use Rattle.curp_law_masters.specs.Stages.{FreshSays}
 use Rattle.curp_law_names.proofs.Lists.{among_each}
 use Rattle.curp_facts.specs.Predecessors.{Predecessors}
-use Rattle.curp_law_runs.proofs.ByOne.{BringsOne}
+use Rattle.curp_law_linear.proofs.MastersCuts.{master_lives}
+use Rattle.curp_msg.specs.declared.body.Quick.{Quick as QuickValue}
 use Rattle.curp_law_stays.proofs.Words.{one_state}
-
--- ---- what an input does with captures
-
--- an input of protocol 1 to a serving master, by what comes
-pub input_reads : {w : World} (known : Known w) (n : ℕ) (m : MasterStage) (given : Input) → BringsOne given → (x y : MasterState) → m ≡ Serving x → (master_input n m given).state ≡ Serving y
-    → ReadsMove x (speaker known n given) (heard_in known n given) (sends y (master_input n m given).messages)
-unfolding recovery.on_master recovery.master_ordered
-input_reads known n (Serving z) given one x y was is = go given one (same was) is
-  where
-    same : {a b : MasterState} → Serving a ≡ Serving b → a ≡ b
-    same e = cc
-
-    at : (from : NodeId) (heard : Option Body) (r : Moved MasterState) → ReadsMove z from heard r → z ≡ x → Serving r.state ≡ Serving y → ReadsMove x from heard (sends y r.messages)
-    at from heard r k before after =
-        subst (λ (a : MasterState). ReadsMove a from heard (sends y r.messages)) before
-        (subst (λ (b : MasterState). ReadsMove z from heard (sends b r.messages)) (same after) (record { captures = k.captures; rounds = k.rounds; values = k.values }))
-
-    go : (given : Input) → BringsOne given → z ≡ x → (master_input n (Serving z) given).state ≡ Serving y → ReadsMove x (speaker known n given) (heard_in known n given) (sends y (master_input n (Serving z) given).messages)
-    go (input.Local order) one before after = at (master_node n) None (serving_ordered n z order) (ordered_reads n z (master_node n) None order) before after
-    go (input.Message m) one before after = at m.from (Some m.body) (on_serving n z m.from m.body) (serving_reads n z m.from (Some m.body) m.body one refl) before after
-input_reads known n Fresh given one x y was is = absurd cc
-input_reads known n (Recovering s) given one x y was is = absurd cc
 
 -- ---- a master that doesn't serve yet
 
@@ -70,11 +46,14 @@ unmarked false marks later e = e
 module _ {w v : World} (known : Known w) (now : Known v) (chain : Predecessors w) (later : Predecessors v) (ordered : Ordered w) (r : Refines w v) (none : Each NoAdoption r.moves)
     {n : ℕ} {from : NodeId} {heard : Option Body} {out : List Message} where
   module _ {m k : MasterStage} (s : MasterStep w v n from heard m k out) where
+    quick_none : (Say : NodeId → Body → Type 0) → ((to : NodeId) (q : QuickValue) → Say to (body.Quick q) → ⊥) → Each (IsSaidBy n Say) out → (node to : NodeId) (q : QuickValue) → IsAmong (says node to (body.Quick q)) out → ⊥
+    quick_none Say never all node to q a = never to q (among_each (IsSaidBy n Say) out all _ a).says_so
+
     said_none : (Say : NodeId → Body → Type 0) → ((to : NodeId) (x : Worth) → Say to (body.Worth x) → ⊥) → Each (IsSaidBy n Say) out → (node to : NodeId) (x : Worth) → IsAmong (says node to (body.Worth x)) out → ⊥
     said_none Say never all node to x a = never to x (among_each (IsSaidBy n Say) out all _ a).says_so
 
-    idle : CutsFollow v → CutsTimed v → v.marks ≡ w.marks → ((node to : NodeId) (x : Worth) → IsAmong (says node to (body.Worth x)) out → ⊥) → ((y : MasterState) → k ≡ Serving y → y.captures ≡ []) → ReadsOk v
-    idle cuts_follow cuts_timed marks silent own = reads_later known chain ordered (step_follows known s) now later r (record {
+    idle : CutsFollow v → CutsTimed v → v.marks ≡ w.marks → ((node to : NodeId) (x : Worth) → IsAmong (says node to (body.Worth x)) out → ⊥) → ((node to : NodeId) (q : QuickValue) → IsAmong (says node to (body.Quick q)) out → ⊥) → ((y : MasterState) → k ≡ Serving y → y.captures ≡ []) → ReadsOk v
+    idle cuts_follow cuts_timed marks silent quickless own = reads_later known chain ordered (step_follows known s) now later r (record {
       cuts_follow = cuts_follow;
       cuts_timed = cuts_timed;
       looks = looks_same marks;
@@ -88,6 +67,11 @@ module _ {w v : World} (known : Known w) (now : Known v) (chain : Predecessors w
       newer = λ l was. inl (adopted_back w v out s.frame.sent (master_node n) s.frame.all (ap (λ (g : ManagerState). g.shape) s.frame.manager) s.frame.not_manager l was);
       late = λ node to b a long is below stored sent. sent_back w v out s.frame.sent (master_node n) s.frame.all _ sent (λ same. kinds (sym is.its_kind ∙ ap (λ (z : NodeId). z.kind) same));
       keeps = λ part long stored. none_drops r.moves none part long;
+      lives = master_lives n from heard out m k s;
+      quicks = λ node q sent. elim (sent_cases w v out s.frame.sent _ sent) [
+        | inl was ↦ was
+        | inr new ↦ absurd (quickless node (client_node q.id.client) q new)
+      ];
       worths = λ node x sent. elim (sent_cases w v out s.frame.sent _ sent) [
         | inl was ↦ was
         | inr new ↦ absurd (silent node (client_node x.id.client) x new)
@@ -108,10 +92,10 @@ module _ {w v : World} (known : Known w) (now : Known v) (chain : Predecessors w
   pub master_reads : (m k : MasterStage) → MasterStep w v n from heard m k out → v.marks ≡ (if is_adopted w.manager (master_node n) then w.marks ++ master_marks (master_node n) m k else w.marks)
       → ((x y : MasterState) → m ≡ Serving x → k ≡ Serving y → ReadsMove x from heard (sends y out)) → CutsFollow v → CutsTimed v → ReadsOk v
   master_reads (Serving x) (Serving y) s marks reads cuts_follow cuts_timed = serving_step_reads known now chain later ordered s (reads x y refl refl) r none marks cuts_follow cuts_timed
-  master_reads Fresh Fresh s marks reads cuts_follow cuts_timed = idle s cuts_follow cuts_timed (unmarked (is_adopted w.manager (master_node n)) w.marks v.marks marks) (said_none s (FreshSays w) (λ to x e. e) s.move) (λ y e. absurd cc)
-  master_reads Fresh (Recovering t) s marks reads cuts_follow cuts_timed = idle s cuts_follow cuts_timed (unmarked (is_adopted w.manager (master_node n)) w.marks v.marks marks) (said_none s (RecoverySays w t) (λ to x e. e) s.move.move.says) (λ y e. absurd cc)
-  master_reads (Recovering a) (Recovering t) s marks reads cuts_follow cuts_timed = idle s cuts_follow cuts_timed (unmarked (is_adopted w.manager (master_node n)) w.marks v.marks marks) (said_none s (RecoverySays w t) (λ to x e. e) s.move.says) (λ y e. absurd cc)
-  master_reads (Recovering a) (Serving y) s marks reads cuts_follow cuts_timed = idle s cuts_follow cuts_timed (unmarked (is_adopted w.manager (master_node n)) w.marks v.marks marks) (λ node to x among. nothing s.move.silent among) (λ z e. empty e s.move.begins.captures)
+  master_reads Fresh Fresh s marks reads cuts_follow cuts_timed = idle s cuts_follow cuts_timed (unmarked (is_adopted w.manager (master_node n)) w.marks v.marks marks) (said_none s (FreshSays w) (λ to x e. e) s.move) (quick_none s (FreshSays w) (λ to q e. e) s.move) (λ y e. absurd cc)
+  master_reads Fresh (Recovering t) s marks reads cuts_follow cuts_timed = idle s cuts_follow cuts_timed (unmarked (is_adopted w.manager (master_node n)) w.marks v.marks marks) (said_none s (RecoverySays w t) (λ to x e. e) s.move.move.says) (quick_none s (RecoverySays w t) (λ to q e. e) s.move.move.says) (λ y e. absurd cc)
+  master_reads (Recovering a) (Recovering t) s marks reads cuts_follow cuts_timed = idle s cuts_follow cuts_timed (unmarked (is_adopted w.manager (master_node n)) w.marks v.marks marks) (said_none s (RecoverySays w t) (λ to x e. e) s.move.says) (quick_none s (RecoverySays w t) (λ to q e. e) s.move.says) (λ y e. absurd cc)
+  master_reads (Recovering a) (Serving y) s marks reads cuts_follow cuts_timed = idle s cuts_follow cuts_timed (unmarked (is_adopted w.manager (master_node n)) w.marks v.marks marks) (λ node to x among. nothing s.move.silent among) (λ node to q among. nothing s.move.silent among) (λ z e. empty e s.move.begins.captures)
     where
       nothing : {x : Message} → out ≡ [] → IsAmong x out → ⊥
       nothing {x} silent among = let at : At [] among.place x = subst (λ (xs : List Message). At xs among.place x) silent among.stands in cc

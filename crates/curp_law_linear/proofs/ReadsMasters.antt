@@ -1,5 +1,5 @@
 -- A step of a serving master keeps what is kept of reads.
-use Rattle.std.proofs.Common.{◌≡◌, ◌≢◌, ◌⊎◌, inl, inr, ℕ, ◌+◌, ◌<◌, ◌≤◌, Bool, true, false, cond, if◌then◌else◌, List, [], ◌∷◌, ◌++◌, length, refl, ap, sym, ◌∙◌, subst, arith, Option, Some}
+use Rattle.std.proofs.Common.{◌≡◌, ◌≢◌, ◌⊎◌, inl, inr, ℕ, ◌+◌, ◌<◌, ◌≤◌, Bool, true, false, cond, if◌then◌else◌, List, [], ◌∷◌, ◌++◌, length, refl, ap, sym, ◌∙◌, subst, arith, Option, Some, ◌==◌}
 use Rattle.curp_base.specs.Words.{At, Each, numbered}
 use Rattle.curp_base.proofs.Lists.{Each-append, Each-weaker, at_append_cases, at_one, at_push, prefix_length}
 use Rattle.curp_cmd.specs.Node.{client_node, master_node, same_node}
@@ -15,7 +15,7 @@ use Rattle.curp_msg.specs.declared.body.Worth.{Worth}
 use Rattle.curp_msg.specs.declared.config.PartConfig.{PartConfig}
 use Rattle.curp_msg.specs.declared.message.Message.{Message}
 use Rattle.curp_model.specs.Manager.{ManagerState}
-use Rattle.curp_model.specs.Marks.{Looked, Mark}
+use Rattle.curp_model.specs.Marks.{Looked, Mark, is_capture, Quick}
 use Rattle.curp_model.specs.Master.{Acknowledged, Captured, MasterState, from_backup}
 use Rattle.curp_model.specs.Named.{IsMaster}
 use Rattle.curp_model.specs.Recovery.{Serving}
@@ -32,11 +32,11 @@ use Rattle.curp_law_kept.proofs.MastersHeard.{one_log}
 use Rattle.curp_law_kept.proofs.MastersMoves.{MasterStep}
 use Rattle.curp_law_kept.proofs.MastersReady.{step_follows}
 use Rattle.curp_law_kept.proofs.Moved.{adopted_back, sent_back, sent_cases}
-use Rattle.curp_law_linear.specs.Ordered.{CaptureOk, CutsFollow, LooksNumbered, LooksReached, Ordered, WorthOk, CutsTimed}
+use Rattle.curp_law_linear.specs.Ordered.{CaptureOk, CutsFollow, LooksNumbered, LooksReached, Ordered, WorthOk, CutsTimed, QuickOk}
 use Rattle.curp_law_linear.specs.Refined.{Refines}
 use Rattle.curp_law_linear.proofs.ReadsAdopted.{later_entry, new_look, own_entry}
 use Rattle.curp_law_linear.proofs.ReadsCaptures.{CapturesMove, CapturesRead, Fewer, HeardStored, OneMore, ReadsMove, SaysValue, ValueOf}
-use Rattle.curp_law_linear.proofs.ReadsLater.{EntryStays, LookWas, ReadsOk, completed_later, made_later, older_later}
+use Rattle.curp_law_linear.proofs.ReadsLater.{EntryStays, ReadWas, ReadsOk, completed_later, made_later, older_later, looked_capture, quick_capture, quick_reached}
 use Rattle.curp_law_linear.proofs.ReadsMarks.{MarksMove, NoLooks, OneLook, marks_move, pushed_one}
 use Rattle.curp_law_linear.specs.Refined.{NoAdoption}
 use Rattle.curp_law_linear.proofs.ReadsMoves.{none_drops, worth_later}
@@ -46,6 +46,10 @@ use Rattle.curp_law_linear.proofs.ReadsStored.{looks_stored}
 use Rattle.curp_law_masters.specs.Moves.{IsSaidBy, ServingMove, ServingSays, WorthSays}
 use Rattle.curp_law_names.proofs.Lists.{among_each}
 use Rattle.curp_facts.specs.Predecessors.{Predecessors}
+use Rattle.curp_law_linear.proofs.QuickLater.{quick_later}
+use Rattle.curp_msg.specs.declared.body.Quick.{Quick as QuickValue}
+use Rattle.curp_law_linear.proofs.MastersCuts.{master_lives}
+use Rattle.std.proofs.lemmas.Bool.{eqb-true}
 use Rattle.curp_law_stays.proofs.Words.{Follows, adopted_later, one_state, serving_later}
 
 module _ {w v : World} (known : Known w) (now : Known v) (chain : Predecessors w) (later : Predecessors v) (ordered : Ordered w) {n : ℕ} {from : NodeId} {heard : Option Body} {x y : MasterState} {out : List Message}
@@ -179,6 +183,13 @@ module _ {w v : World} (known : Known w) (now : Known v) (chain : Predecessors w
         subst (λ (z : NodeId). WorthOk v z v') (sym said_now.sender) (new_worth v' value said_now.says_so)
   ]
 
+  -- a Quick that was sent was sent before
+  quicks : (other : NodeId) (q : QuickValue) → WasSent v (says other (client_node q.id.client) (body.Quick q)) → QuickOk v other q
+  quicks other q sent = elim (sent_cases w v out s.frame.sent _ sent) [
+    | inl was ↦ quick_later ordered follows r (master_lives n from heard out (Serving x) (Serving y) s) other q (ordered.quicks other q was)
+    | inr new ↦ absurd (among_each (λ (m : Message). SaysValue x y m.body) out reads.values _ new)
+  ]
+
   -- ---- marks
 
   module _ (marks : v.marks ≡ (if is_adopted w.manager node then w.marks ++ pushed_marks node x y else w.marks)) where
@@ -191,38 +202,36 @@ module _ {w v : World} (known : Known w) (now : Known v) (chain : Predecessors w
       is : m ≡ capture_mark node y.part y.epoch c
       its_number : number ≡ x.captured + 1
 
-    look_cases : (k number long : ℕ) (m : Mark) → At v.marks k m → m.place ≡ Looked number long → At w.marks k m ⊎ NewMark k number m
-    look_cases k number long m at look = go (marks_move w node x y before.captures reads.captures (is_adopted w.manager node) w.marks v.marks marks)
+    look_cases : (k number : ℕ) (m : Mark) → At v.marks k m → is_capture number m.place ≡ true → At w.marks k m ⊎ NewMark k number m
+    look_cases k number m at cap = go (marks_move w node x y before.captures reads.captures (is_adopted w.manager node) w.marks v.marks marks)
       where
-        numbers : {a b i j : ℕ} → Looked a i ≡ Looked b j → b ≡ a
-        numbers e = cc
-
         go : MarksMove node x y (is_adopted w.manager node) w.marks v.marks → At w.marks k m ⊎ NewMark k number m
         go (NoLooks more is nothing) = elim (at_append_cases w.marks more k m (subst (λ (ms : List Mark). At ms k m) is at)) [
           | inl old ↦ inl old
-          | inr new ↦ absurd (nothing new.0 number long m new.2 look)
+          | inr new ↦ absurd (nothing new.0 number m new.2 cap)
         ]
         go (OneLook c adopted is next more read) = elim (at_append_cases w.marks (capture_mark node y.part y.epoch c ∷ []) k m (subst (λ (ms : List Mark). At ms k m) is at)) [
           | inl old ↦ inl old
           | inr new ↦
               let one = at_one (capture_mark node y.part y.epoch c) new.0 m new.2 in
+              let number_is : (c.number == number) ≡ true = ap (λ (z : Mark). is_capture number z.place) one.1 ∙ cap in
               inr (record {
                 place = omega (arith, new.1, one.0);
                 c = c;
                 adopted = adopted;
                 next = next;
                 is = sym one.1;
-                its_number = sym (numbers (sym look ∙ ap (λ (z : Mark). z.place) (sym one.1))) ∙ read.number;
+                its_number = sym (eqb-true c.number number number_is) ∙ read.number;
               })
         ]
 
-    abbrev old_look : (k long : ℕ) (m : Mark) → At w.marks k m → LookWas w v long m
-    old_look k long m at = record { place = k; old = m; stands = at; its_master = refl; its_part = refl; its_epoch = refl; its_place = refl; completed = λ e. inl e }
+    abbrev old_look : (k : ℕ) (m : Mark) → At w.marks k m → ReadWas w v m
+    old_look k m at = record { place = k; old = m; stands = at; its_master = refl; its_part = refl; its_epoch = refl; its_id = refl; its_place = refl; completed = λ e. inl e }
 
-    -- no earlier look of the master has the new number
-    not_before : (k number long : ℕ) (m : Mark) → At w.marks k m → m.place ≡ Looked number long → m.master ≡ node → number ≡ x.captured + 1 → ⊥
-    not_before k number long m at look master is =
-        let h = ordered.numbered_looks.made k number long m at look in
+    -- no earlier read of the master has the new number
+    not_before : (k number : ℕ) (m : Mark) → At w.marks k m → is_capture number m.place ≡ true → m.master ≡ node → number ≡ x.captured + 1 → ⊥
+    not_before k number m at cap master is =
+        let h = ordered.numbered_looks.made k number m at cap in
         let one : Serving h.0 ≡ Serving x = one_state _ (Serving h.0) (Serving x) (subst (λ (z : NodeId). numbered w.masters z.number ≡ Some (Serving h.0)) master h.1.its_state) s.was.its_state in
         omega (arith, h.2, is, captured one)
       where
@@ -231,8 +240,8 @@ module _ {w v : World} (known : Known w) (now : Known v) (chain : Predecessors w
 
     numbered_now : LooksNumbered v
     numbered_now = record {
-      made = λ k number long m at look. elim (look_cases k number long m at look) [
-        | inl old ↦ made_later follows ordered.numbered_looks number long m look (old_look k long m old)
+      made = λ k number m at cap. elim (look_cases k number m at cap) [
+        | inl old ↦ made_later follows ordered.numbered_looks number m cap (old_look k m old)
         | inr new ↦ (
           y,
           subst (λ (z : NodeId). IsMaster v z (Serving y)) (ap (λ (z : Mark). z.master) (sym new.is)) s.is,
@@ -241,13 +250,13 @@ module _ {w v : World} (known : Known w) (now : Known v) (chain : Predecessors w
           ap (λ (z : Mark). z.epoch) (sym new.is),
         )
       ];
-      once = λ j k number long other m o at there look too same. elim (look_cases j number long m at look) [
-        | inl old ↦ elim (look_cases k number other o there too) [
-          | inl older ↦ ordered.numbered_looks.once j k number long other m o old older look too same
-          | inr new ↦ absurd (not_before j number long m old look (same ∙ ap (λ (z : Mark). z.master) new.is) new.its_number)
+      once = λ j k number m o at there cap too same. elim (look_cases j number m at cap) [
+        | inl old ↦ elim (look_cases k number o there too) [
+          | inl older ↦ ordered.numbered_looks.once j k number m o old older cap too same
+          | inr new ↦ absurd (not_before j number m old cap (same ∙ ap (λ (z : Mark). z.master) new.is) new.its_number)
         ]
-        | inr new ↦ elim (look_cases k number other o there too) [
-          | inl older ↦ absurd (not_before k number other o older too (sym same ∙ ap (λ (z : Mark). z.master) new.is) new.its_number)
+        | inr new ↦ elim (look_cases k number o there too) [
+          | inl older ↦ absurd (not_before k number o older too (sym same ∙ ap (λ (z : Mark). z.master) new.is) new.its_number)
           | inr newer_one ↦ new.place ∙ sym newer_one.place
         ]
       ];
@@ -255,22 +264,29 @@ module _ {w v : World} (known : Known w) (now : Known v) (chain : Predecessors w
 
     reached_now : LooksReached v
     reached_now = record {
-      completed = λ k number long m at look completed. elim (look_cases k number long m at look) [
-        | inl old ↦ completed_later follows ordered.reached number long m look completed (old_look k long m old)
+      completed = λ k number long m at look completed. elim (look_cases k number m at (looked_capture number long m.place look)) [
+        | inl old ↦ completed_later follows ordered.reached number long m look completed (old_look k m old)
         | inr new ↦ absurd (uncompleted (sym (ap (λ (z : Mark). z.completed) new.is) ∙ completed))
       ];
-      older = λ k number long m c at look here part earlier. elim (look_cases k number long m at look) [
-        | inl old ↦ older_later follows ordered.reached number long m look (old_look k long m old) c part earlier (entry_stays c here)
+      older = λ k number long m c at look here part earlier. elim (look_cases k number m at (looked_capture number long m.place look)) [
+        | inl old ↦ older_later follows ordered.reached number long m look (old_look k m old) c part earlier (entry_stays c here)
         | inr new ↦
             let own = own_entry known node x s.was new.adopted in
             let same_part : c.part ≡ own.entry.part = part ∙ ap (λ (z : Mark). z.part) new.is ∙ goes.part ∙ sym own.its_part in
             let one : c ≡ own.entry = one_state _ c own.entry (subst (λ (p : ℕ). numbered w.manager.config.parts p ≡ Some c) same_part (entry_stays c here).now) own.now in
             absurd (omega (arith, earlier, ap (λ (z : PartConfig). z.epoch) one, own.its_epoch, goes.epoch, ap (λ (z : Mark). z.epoch) new.is))
       ];
+      quick = λ k number m at is. elim (look_cases k number m at (quick_capture number m.place is)) [
+        | inl old ↦ quick_reached follows ordered r number m is (old_look k m old)
+        | inr new ↦ absurd (unlike (sym (ap (λ (z : Mark). z.place) new.is) ∙ is))
+      ];
     }
       where
         uncompleted : false ≡ true → ⊥
         uncompleted e = cc
+
+        unlike : {a b c : ℕ} → Looked a b ≡ Quick c → ⊥
+        unlike e = cc
 
     -- ---- captures
 
@@ -331,6 +347,7 @@ module _ {w v : World} (known : Known w) (now : Known v) (chain : Predecessors w
       cuts_timed = cuts_timed;
       numbered_looks = numbered_now;
       worths = worths;
+      quicks = quicks;
       captures = captures;
       reached = reached_now;
       stored = looks_stored now later reached_now;

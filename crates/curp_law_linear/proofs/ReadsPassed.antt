@@ -1,5 +1,5 @@
 -- A capture that waits is that of a look, or was passed by, one step later too.
-use Rattle.std.proofs.Common.{◌≡◌, ◌⊎◌, inl, inr, ℕ, ◌<◌, ◌≤◌, List, length, refl, ap, sym, ◌∙◌, subst, arith, Option, Some, None}
+use Rattle.std.proofs.Common.{◌≡◌, ◌⊎◌, inl, inr, ℕ, ◌<◌, ◌≤◌, List, length, refl, ap, sym, ◌∙◌, subst, arith, Option, Some, None, true}
 use Rattle.std.proofs.lemmas.Bool.{cases_lt}
 use Rattle.curp_cmd.specs.declared.entry.Entry.{Entry}
 use Rattle.curp_cmd.specs.declared.node.NodeId.{NodeId}
@@ -9,7 +9,7 @@ use Rattle.curp_msg.specs.declared.body.Appended.{Appended}
 use Rattle.curp_msg.specs.declared.body.Body.TheVariants as body
 use Rattle.curp_model.specs.Backup.{BackupState}
 use Rattle.curp_model.specs.Master.{Captured, MasterState, from_backup}
-use Rattle.curp_model.specs.Named.{IsBackup}
+use Rattle.curp_model.specs.Named.{IsBackup, IsWitness}
 use Rattle.curp_model.specs.World.{World}
 use Rattle.curp_facts.specs.Facts.{ByRecovery, Lists, WasAdopted, WasSent, lists_of_order}
 use Rattle.curp_facts.specs.Growth.{BackupGrows}
@@ -21,6 +21,9 @@ use Rattle.curp_law_linear.specs.Ordered.{CaptureOk, Ordered}
 use Rattle.curp_law_linear.specs.Refined.{Refines}
 use Rattle.curp_law_linear.proofs.ReadsMoves.{NoneDrops, look_later}
 use Rattle.curp_facts.specs.Names.{OrderOk}
+use Rattle.curp_model.specs.Witness.{WitnessState}
+use Rattle.curp_msg.specs.declared.body.Probed.{Probed}
+use Rattle.curp_model.specs.declared.Mode.TheVariants as mode
 use Rattle.curp_law_stays.proofs.Words.{Follows, adopted_later, backup_later, sent_later}
 
 -- lists that are adopted now are of no earlier epoch than those of their partition that were
@@ -31,6 +34,11 @@ NewerLists w v = (l : Lists) → WasAdopted v l → WasAdopted w l ⊎ ((k : Lis
 abbrev pub NoneLate : World → World → Type 0
 NoneLate w v = (node to : NodeId) (b : BackupState) (a : Appended) (long : ℕ) → IsBackup w node b → a.epoch < b.fence → a.answer ≡ Stored long
     → WasSent v (says node to (body.Appended a)) → WasSent w (says node to (body.Appended a))
+
+-- a frozen witness says no more that it is live
+abbrev pub NoneLives : World → World → Type 0
+NoneLives w v = (node to : NodeId) (x : WitnessState) (a : Probed) → IsWitness w node x → x.mode ≡ mode.Frozen → a.live ≡ true
+    → WasSent v (says node to (body.Probed a)) → WasSent w (says node to (body.Probed a))
 
 -- what a master knows of the backup is not of so late a round
 abbrev pub KnowsNoLater : MasterState → Captured → NodeId → Type 0

@@ -58,7 +58,7 @@ module _ {w : World} (known : Known w) where
     serves = known.inv.masters node (Serving m) is
 
     -- no ready list of a master that is open has a larger version
-    open_last : m.phase ≡ Open → (l : Lists) → IsReady w l → l.master ≡ node → l.version ≤ m.version
+    pub open_last : m.phase ≡ Open → (l : Lists) → IsReady w l → l.master ≡ node → l.version ≤ m.version
     open_last is_open l told master = elim told.told [
       | inl one ↦ let low = (known.names.given (lists_of_master node m) serves.adopted.given).version.0 in omega (arith, one, low)
       | inr other ↦ elim other [

@@ -13,11 +13,9 @@ use Rattle.curp_law_linear.specs.Ordered.{Ordered}
 use Rattle.curp_law_linear.proofs.Always.{KeepsOrder, backup_keeps_order, client_keeps_order, master_keeps_order, ordered_after, rest_keeps_order, stay_keeps_order, witness_keeps_order}
 use Rattle.curp_law_linear.proofs.Commands.{commands_step}
 use Rattle.curp_law_linear.proofs.ManagersKeep.{manager_keeps_order}
-use Rattle.curp_law_linear.proofs.NoQuicks.{no_quicks_step}
 use Rattle.curp_law_linear.proofs.Opened.{ordered_opening}
 use Rattle.curp_law_names.proofs.Later.{Later}
 use Rattle.curp_law_names.proofs.Runs.{step_goes}
-use Rattle.curp_law_runs.proofs.ByOne.{by_one_step}
 use Rattle.curp_law_routes.proofs.Always.{Moving, migrated_now, moving_opening, moving_step}
 
 -- what holds in every run, beside what nodes and messages keep
@@ -51,8 +49,7 @@ step_keeps_order w known o x its =
 orderly_step : (w : World) → Known w → (x : Step) → IsStep x → Orderly w → Orderly (step w x).world
 orderly_step w known x its o = record {
   moving = moving_step w known x its o.moving;
-  ordered = ordered_after o.ordered (commands_step (step_case w known x its) o.ordered.commands) (by_one_step w known x its o.ordered.by_one)
-      (no_quicks_step o.ordered.by_one (step_case w known x its) o.ordered.no_quicks) (step_keeps_order w known o x its);
+  ordered = ordered_after o.ordered (commands_step (step_case w known x its) o.ordered.commands) (step_keeps_order w known o x its);
 }
 
 -- and so each run

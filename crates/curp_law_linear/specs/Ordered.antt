@@ -1,5 +1,5 @@
--- What a world keeps of the order: the facts of the small machine, of the adopted logs, and of reads, which are those of protocol 1.
-use Rattle.std.specs.Prelude.{◌≡◌, ◌≤◌, ◌<◌, ◌⊎◌, ℕ, true, false, List, length, Option, Some, None, suc}
+-- What a world keeps of the order: the facts of the small machine, of the adopted logs, and of reads.
+use Rattle.std.specs.Prelude.{◌≡◌, ◌≤◌, ◌<◌, ◌⊎◌, ℕ, true, List, length, Option, Some, None, suc}
 use Rattle.curp_base.specs.Words.{At, Each}
 use Rattle.curp_cmd.specs.Node.{client_node, manager_node}
 use Rattle.curp_cmd.specs.declared.command.Command.{Command}
@@ -10,23 +10,26 @@ use Rattle.curp_cmd.specs.declared.node.NodeId.{NodeId}
 use Rattle.curp_msg.specs.Moved.{says}
 use Rattle.curp_msg.specs.declared.body.Body.TheVariants as body
 use Rattle.curp_msg.specs.declared.body.Probed.{Probed}
+use Rattle.curp_msg.specs.declared.body.Quick.{Quick as QuickValue}
 use Rattle.curp_msg.specs.declared.body.Recover.{Recover}
 use Rattle.curp_msg.specs.declared.body.Worth.{Worth}
 use Rattle.curp_msg.specs.declared.config.PartConfig.{PartConfig}
+use Rattle.curp_msg.specs.declared.machine.Capture.{Capture}
 use Rattle.curp_order.specs.declared.Event.TheVariants.{Invoke}
 use Rattle.curp_model.specs.Log.{log_opening}
-use Rattle.curp_model.specs.Marks.{Cut, Looked, Mark, is_quick}
+use Rattle.curp_model.specs.Marks.{Cut, Looked, Mark, Quick, is_capture}
 use Rattle.curp_model.specs.Master.{Captured, MasterState}
 use Rattle.curp_model.specs.Backup.{BackupState}
-use Rattle.curp_model.specs.Named.{IsBackup, IsMaster}
+use Rattle.curp_model.specs.Named.{IsBackup, IsMaster, IsWitness}
 use Rattle.curp_model.specs.Recovery.{Serving}
+use Rattle.curp_model.specs.Witness.{WitnessState}
 use Rattle.curp_model.specs.World.{World}
-use Rattle.curp_facts.specs.ByOne.{ByOne}
-use Rattle.curp_facts.specs.Facts.{HasLog, IsAdoptedNow, Lists, Logged, WasAdopted, WasSent, hi_of, lo_of}
+use Rattle.curp_model.specs.declared.Mode.TheVariants.{Frozen}
+use Rattle.curp_facts.specs.Facts.{HasLog, IsAdoptedNow, IsAmong, Lists, Logged, WasAdopted, WasSent, hi_of, lo_of}
 use Rattle.curp_facts.specs.Kept.{AdoptedLog, PassedBy, lists_of_master}
 use Rattle.curp_facts.specs.Reach.{Reach}
 use Rattle.curp_cmd.specs.Store.{NamesKey}
-use Rattle.curp_law_line.specs.Line.{CutEarly, LineOk, LookGives, WasInvoked}
+use Rattle.curp_law_line.specs.Line.{CutEarly, LineOk, LookGives, QuickEarly, QuickGives, QuickLow, WasInvoked}
 use Rattle.curp_law_line.specs.OfWorld.{Reign, cut_length, cuts, line_of, log_of, reigns}
 use Rattle.curp_law_logs.specs.Gives.{GivesFit}
 use Rattle.curp_facts.specs.Migrated.{AllStored}
@@ -49,20 +52,13 @@ pub record AdoptedOk (w : World) (c : PartConfig) (l : AdoptedLog w c) : Type 0 
 
 -- ---- reads
 
--- The mark of a look is that of a capture which its master has made, of its own partition and epoch, and of no other look of
--- that master
+-- The mark of a look, or of a read that was answered at once, is that of a capture which its master has made, of its own
+-- partition and epoch, and of no other mark of that master
 pub record LooksNumbered (w : World) : Type 0 where
-  pub made : (k number long : ℕ) (m : Mark) → At w.marks k m → m.place ≡ Looked number long
+  pub made : (k number : ℕ) (m : Mark) → At w.marks k m → is_capture number m.place ≡ true
       → (x : MasterState) × IsMaster w m.master (Serving x) × (number ≤ x.captured) × (x.part ≡ m.part) × (x.epoch ≡ m.epoch)
-  pub once : (j k number long other : ℕ) (m o : Mark) → At w.marks j m → At w.marks k o → m.place ≡ Looked number long → o.place ≡ Looked number other
+  pub once : (j k number : ℕ) (m o : Mark) → At w.marks j m → At w.marks k o → is_capture number m.place ≡ true → is_capture number o.place ≡ true
       → m.master ≡ o.master → j ≡ k
-
--- no mark is that of a read that was answered at once
-abbrev pub NotQuick : Mark → Type 0
-NotQuick m = is_quick m.place ≡ false
-
-abbrev pub NoQuicks : List Mark → Type 0
-NoQuicks marks = Each NotQuick marks
 
 -- a master's log has so many entries, and so has each backup of each ready list of it, from a version on
 pub record IsStored (w : World) (node : NodeId) (version long : ℕ) : Type 0 where
@@ -101,12 +97,49 @@ pub record StoredFrom (w : World) (node : NodeId) (part long : ℕ) : Type 0 whe
   pub its_part : lists.part ≡ part
   pub stored : IsStored w node lists.version long
 
+-- what is uncompleted before a quick mark, on its hashes and of its partition, is stored by some master
+pub record IsLow (w : World) (number : ℕ) (m : Mark) : Type 0 where
+  pub long : ℕ
+  pub other : NodeId
+  pub low : QuickLow w.marks (record { master = m.master; epoch = m.epoch; number = number }) m.part long m.id
+  pub stored : StoredFrom w other m.part long
+
 -- What a completed look saw is stored by its master, from some adopted lists on. What a look of an epoch before the present one
--- saw is stored by the present master, on each of its ready lists
+-- saw is stored by the present master, on each of its ready lists. What is uncompleted before a read that was answered at once,
+-- on its hashes and of its partition, is stored
 pub record LooksReached (w : World) : Type 0 where
   pub completed : (k number long : ℕ) (m : Mark) → At w.marks k m → m.place ≡ Looked number long → m.completed ≡ true → StoredFrom w m.master m.part long
   pub older : (k number long : ℕ) (m : Mark) (c : PartConfig) → At w.marks k m → m.place ≡ Looked number long → IsAdoptedNow w c → c.part ≡ m.part
       → m.epoch < c.epoch → IsStored w c.master 0 long
+  pub quick : (k number : ℕ) (m : Mark) → At w.marks k m → m.place ≡ Quick number → IsLow w number m
+
+-- ---- reads that are answered at once
+
+-- the capture of a read that was answered at once
+abbrev pub capture_of : NodeId → QuickValue → Capture
+capture_of node q = record { master = node; epoch = q.epoch; number = q.capture }
+
+-- A witness of the lists is frozen. Had it said Live of the read, the read was invoked before what is flagged behind its mark
+-- completed
+pub record Gated (w : World) (lists : Lists) (node : NodeId) (q : QuickValue) : Type 0 where
+  pub witness : NodeId
+  pub named : IsAmong witness lists.witnesses
+  pub x : WitnessState
+  pub is : IsWitness w witness x
+  pub frozen : x.mode ≡ Frozen
+  pub opens : WasSent w (says witness (client_node q.id.client) (body.Probed (record { id = q.id; epoch = q.epoch; live = true })))
+      → QuickEarly (line_of w) (capture_of node q) lists.part q.id q.answer
+
+-- A read that was answered at once: its mark is kept and gives its answer; and it was invoked before what is flagged behind the
+-- mark completed, unless a witness stands in the way
+pub record QuickOk (w : World) (node : NodeId) (q : QuickValue) : Type 0 where
+  pub lists : Lists
+  pub adopted : WasAdopted w lists
+  pub its_master : lists.master ≡ node
+  pub its_epoch : lists.epoch ≡ q.epoch
+  pub its_version : lists.version ≡ q.version
+  pub gives : QuickGives w.marks (capture_of node q) lists.part q.id q.answer
+  pub time : QuickEarly (line_of w) (capture_of node q) lists.part q.id q.answer ⊎ Gated w lists node q
 
 -- ---- adoptions
 
@@ -154,12 +187,11 @@ pub record Ordered (w : World) : Type 0 where
   pub line : LineOk (line_of w)
   pub cuts_follow : CutsFollow w
   pub cuts_timed : CutsTimed w
-  pub by_one : ByOne w
-  pub no_quicks : NoQuicks w.marks
   pub commands : (i : ℕ) (id : RequestId) (command : Command) → At w.history i (Invoke id command) → NamesKey command
   pub logs : (c : PartConfig) (l : AdoptedLog w c) → AdoptedOk w c l
   pub numbered_looks : LooksNumbered w
   pub worths : (node : NodeId) (v : Worth) → WasSent w (says node (client_node v.id.client) (body.Worth v)) → WorthOk w node v
+  pub quicks : (node : NodeId) (q : QuickValue) → WasSent w (says node (client_node q.id.client) (body.Quick q)) → QuickOk w node q
   pub captures : (node : NodeId) (m : MasterState) → IsMaster w node (Serving m) → Each (CaptureOk w node m) m.captures
   pub reached : LooksReached w
   pub stored : LooksStored w

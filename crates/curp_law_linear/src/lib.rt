@@ -6,8 +6,8 @@
 //! Each step of the world is told as moves of the machine of `curp_law_line` in `specs/Refined.antt`, and what a world
 //! keeps of the order and of reads in `specs/Ordered.antt`. `proofs/Masters*` have what a master pushes and captures,
 //! `Managers*` and `Adopt*` migrations and adoptions, `Cuts*` and `Left.antt` marks of adoptions and superseded logs,
-//! `Reads*` looks, captures and values, `NoQuicks.antt` that by protocol 1 no read is answered at once, `Always.antt`
-//! and `Runs.antt` the induction, `Kept*` and `Statements.antt` what the laws say of a world.
+//! `Reads*` looks, captures and values, `Quick*` reads that are answered at once, `Always.antt` and `Runs.antt` the
+//! induction, `Kept*` and `Statements.antt` what the laws say of a world.
 #![tactic(auto)]
 
 ghost use Rattle.std.specs.Prelude.{List};
