@@ -35,13 +35,13 @@ use Rattle.curp_msg.specs.declared.body.Reply.{Reply}
 use Rattle.curp_msg.specs.declared.body.Worth.{Worth}
 use Rattle.curp_msg.specs.declared.config.PartConfig.{PartConfig}
 use Rattle.curp_order.specs.Order.{answers, store_after}
-use Rattle.curp_order.specs.declared.Event.TheVariants.{Complete}
+use Rattle.curp_order.specs.declared.Event.TheVariants.{Complete, Invoke}
 use Rattle.curp_range.specs.Spans.{Owns, is_in}
 use Rattle.curp_model.specs.declared.Check.{Check}
 use Rattle.curp_model.specs.declared.Mode.TheVariants as mode
 use Rattle.curp_model.specs.declared.Check.TheVariants.{Expired, Stale, Known, New}
 use Rattle.curp_model.specs.Backup.{BackupState}
-use Rattle.curp_facts.specs.Facts.{AdoptedBefore, Completable, HasLog, IsAdoptedNow, IsAmong, IsGiven, Lists, Logged, PairsGood, SaidOk, WasAdopted, WasOrdered, WasSent, hi_of, lists_of_part, lo_of, reply_message}
+use Rattle.curp_facts.specs.Facts.{AdoptedBefore, Completable, HasLog, IsAdoptedNow, IsAmong, IsGiven, Lists, Logged, PairsGood, SaidOk, ToldWithin, WasAdopted, WasOrdered, WasSent, hi_of, lists_of_part, lo_of, reply_message}
 use Rattle.curp_facts.specs.Names.{Agree, GivenOk, Top}
 use Rattle.curp_model.specs.Laws.{clash}
 use Rattle.curp_model.specs.Log.{IsLog, IsDone, LogState, entry_touches, meaning}
@@ -55,6 +55,10 @@ use Rattle.curp_model.specs.Named.{IsBackup, IsMaster, IsWitness}
 use Rattle.curp_model.specs.Recovery.{Recovering, RecoveryState, Replayed, Serving, Storing, Waiting, replay}
 use Rattle.curp_model.specs.Table.{check}
 use Rattle.curp_model.specs.Witness.{WitnessState, frozen_requests}
+use Rattle.curp_msg.specs.declared.body.Quick.{Quick}
+use Rattle.curp_msg.specs.declared.body.Probed.{Probed}
+use Rattle.curp_cmd.specs.declared.command.Command.TheVariants.{Get}
+use Rattle.curp_model.specs.Marks as marking
 use Rattle.curp_model.specs.World.{World, messages, order}
 
 -- ---- lists and names
@@ -378,6 +382,54 @@ pub record PassedBy (w : World) (l : Lists) (m : MasterState) (c : Captured) : T
   pub fenced : l.epoch < b.fence
   pub passed : (length b.log < c.length) ⊎ NeverSoLate w l m c order.backup
 
+-- the quick mark of that master's capture is kept, and one thread at that mark gives the answer
+pub record QuickMarked (w : World) (master : NodeId) (part : ℕ) (q : Quick) : Type 0 where
+  pub place : ℕ
+  pub mark : Mark
+  pub stands : At w.marks place mark
+  pub its_master : mark.master ≡ master
+  pub its_part : mark.part ≡ part
+  pub its_epoch : mark.epoch ≡ q.epoch
+  pub its_id : mark.id ≡ q.id
+  pub is_quick : mark.place ≡ marking.Quick q.capture
+  pub gives : (applied (store_after nothing (shown (take place w.marks))) mark.command).answer ≡ q.answer
+
+-- each read that was answered at once has its mark
+abbrev pub QuicksMarked : World → Type 0
+QuicksMarked w = (l : Lists) → IsGiven w l → (q : Quick) → WasSent w (says l.master (client_node q.id.client) (body.Quick q))
+    → QuickMarked w l.master l.part q
+
+-- All entries of its master's log that touched the key of a read as it was answered at once are in the log of each backup of each
+-- adopted list of its master, from that version on
+pub record QuickStored (w : World) (place : ℕ) (l : Lists) (q : Quick) : Type 0 where
+  pub event : ℕ
+  pub key : List ℕ
+  pub invoked : At w.history event (Invoke q.id (Get key))
+  pub its : Logged
+  pub its_log : HasLog w l.master its
+  pub long : ℕ
+  pub low : long ≤ length its.log
+  pub then_long : ToldWithin w l.master place its.log long
+  pub stored : (k : ℕ) (e : Entry) → k < long → At its.log k e → entry_touches e (hash_of key) ≡ true
+      → (later : Lists) → WasAdopted w later → later.master ≡ l.master → q.version ≤ later.version
+      → Each (λ node. (b : BackupState) → IsBackup w node b → At b.log k e) later.backups
+
+-- so it is with each
+abbrev pub QuicksStored : World → Type 0
+QuicksStored w = (place : ℕ) (l : Lists) → IsGiven w l → (q : Quick)
+    → At (messages w) place (says l.master (client_node q.id.client) (body.Quick q))
+    → QuickStored w place l q
+
+-- a recovery by that order is adopted
+abbrev pub adopted_by : Recover → Body
+adopted_by order = body.Adopted (record { part = order.part; epoch = order.epoch; version = order.version })
+
+-- a witness that an adopted recovery named has said Live only before that recovery was adopted
+abbrev pub LivesEarly : World → Type 0
+LivesEarly w = (l : Lists) → WasAdopted w l → (order : Recover) → WasSent w (says manager_node l.master (body.Recover order))
+    → (i j : ℕ) (to : NodeId) (a : Probed) → At (messages w) i (says order.witness to (body.Probed a)) → a.live ≡ true
+    → At (messages w) j (says manager_node l.master (adopted_by order)) → i < j
+
 -- each capture that waits is marked or passed by
 abbrev pub CapturesOk : World → Type 0
 CapturesOk w = (l : Lists) → IsGiven w l → (m : MasterState) → IsMaster w l.master (Serving m)
@@ -425,3 +477,6 @@ pub record Kept (w : World) : Type 0 where
   pub values : ValuesMarked w
   pub captures : CapturesOk w
   pub late : LateRepliesAgree w
+  pub quick : QuicksMarked w
+  pub seen : QuicksStored w
+  pub lives : LivesEarly w

@@ -3,18 +3,16 @@ use Rattle.std.specs.Prelude.{◌≡◌, ◌≤◌, List, ⊤}
 use Rattle.curp_base.specs.Words.{Each}
 use Rattle.curp_cmd.specs.Store.{NamesKey}
 use Rattle.curp_msg.specs.declared.script.Header.{Header}
-use Rattle.curp_msg.specs.declared.script.Protocol.TheVariants.{One}
 use Rattle.curp_msg.specs.declared.script.Step.{Step}
 use Rattle.curp_msg.specs.declared.script.Step.TheVariants.{Invoke}
 
--- each number of the header is in the range that the format of scripts gives it, and reads are done by protocol 1
+-- each number of the header is in the range that the format of scripts gives it
 pub record IsHeader (h : Header) : Type 0 where
   pub clients : (1 ≤ h.clients) × (h.clients ≤ 64)
   pub f : (1 ≤ h.f) × (h.f ≤ 5)
   pub parts : (1 ≤ h.parts) × (h.parts ≤ 16)
   pub sets : (1 ≤ h.sets) × (h.sets ≤ 1024)
   pub ways : (1 ≤ h.ways) × (h.ways ≤ 16)
-  pub protocol : h.protocol ≡ One
 
 -- the command that a step invokes, if it does, is a value of its type
 abbrev pub IsStep : Step → Type 0

@@ -1,6 +1,5 @@
 -- What the witness held that an adoption replays from; and the looks, and the logs that were recovered before, that stay.
-use Rattle.std.proofs.Common.{◌≡◌, ℕ, ◌≤◌, ◌==◌, ◌&&◌, true, length, ap, sym, ◌∙◌, subst, arith, inl, false, ◌<◌}
-use Rattle.std.proofs.lemmas.Bool.Decides.{nat_tests}
+use Rattle.std.proofs.Common.{◌≡◌, ℕ, ◌≤◌, ◌==◌, ◌&&◌, true, length, ap, sym, ◌∙◌, subst, arith, inl, false, ◌<◌, refl}
 use Rattle.std.specs.List.{IsDistinct}
 use Rattle.curp_base.specs.Words.{At}
 use Rattle.curp_base.proofs.Lists.{Each-at, at_some, at_same}
@@ -25,6 +24,7 @@ use Rattle.curp_law_logs.proofs.Frozen.{frozen_apart, kept_held}
 use Rattle.curp_law_linear.specs.Ordered.{Ordered, IsLow}
 use Rattle.curp_law_linear.proofs.AdoptRecovery.{Recovery}
 use Rattle.curp_law_linear.proofs.ReadsLater.{quick_capture}
+use Rattle.std.proofs.lemmas.Bool.{eq-eqb}
 use Rattle.curp_law_linear.proofs.ReadsStored.{stored_now}
 
 module _ {w : World} (known : Known w) (c : PartConfig) (a : Attempted) (o : Recovery w c a) where
@@ -64,10 +64,7 @@ cuts_short {w} known chain ordered c a o k m number long at part place =
     omega (arith, stored, ap cut_length place)
   where
     is_own : (m : Mark) → m.place ≡ Cut number long → cuts_part m.part m ≡ true
-    is_own m is = ap (λ (p : Place). is_cut p && (m.part == m.part)) is ∙ self m.part
-      where
-        self : (n : ℕ) → (n == n) ≡ true
-        self n = grind (arith, nat_tests)
+    is_own m is = ap (λ (p : Place). is_cut p && (m.part == m.part)) is ∙ eq-eqb m.part m.part refl
 
 -- (g) and what is uncompleted before a quick mark, on one of its hashes, stays
 pub quicks_short : {w : World} → Known w → Predecessors w → Ordered w → (c : PartConfig) (a : Attempted) (o : Recovery w c a) (j k i number h : ℕ) (m u : Mark) → At w.marks j m → m.place ≡ Quick number

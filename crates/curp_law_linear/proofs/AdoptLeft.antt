@@ -1,7 +1,6 @@
 -- The superseded logs after an adoption: the log that the partition had is one more, and the others stay.
 use Rattle.std.proofs.Common.{◌≡◌, inl, inr, ◌≤◌, ◌+◌, ◌==◌, ◌&&◌, if◌then◌else◌, ℕ, zero, suc, Bool, true, false, List, [], ◌∷◌, ◌++◌, drop, length, length-append, slice_get, take, refl, ap, ap₂, sym, ◌∙◌, subst, arith, Option, Some, None}
-use Rattle.std.proofs.lemmas.Bool.{cases_eq, cases_lt, eqb-true}
-use Rattle.std.proofs.lemmas.Bool.Decides.{nat_tests}
+use Rattle.std.proofs.lemmas.Bool.{cases_eq, cases_lt, eqb-true, eq-eqb}
 use Rattle.curp_base.specs.Words.{At, numbered}
 use Rattle.curp_base.proofs.Lists.{at_append, at_push, at_some}
 use Rattle.curp_cmd.specs.declared.entry.Entry.{Entry}
@@ -36,9 +35,6 @@ pub left_front : (p : Part) (front back : List Entry) → front ++ back ≡ p.lo
 left_front p front back is =
     ap₂ (λ (xs ys : List Entry). record { front = record p { log = xs }; back = ys }) (ap (take (length front)) (sym is) ∙ take_front front back) (ap (drop (length front)) (sym is) ∙ drop_front front back)
 
-self : (n : ℕ) → (n == n) ≡ true
-self n = grind (arith, nat_tests)
-
 not_same : (m n : ℕ) → (m ≡ n → ⊥) → (m == n) ≡ false
 not_same m n apart = go (m == n) refl
   where
@@ -58,7 +54,7 @@ module _ (w v : World) (shape : v.manager.shape ≡ w.manager.shape) (grown : (n
 
   left_is : (n : ℕ) → left_of v c.part n ≡ left_by v c.part (numbered (reigns c.part more) n) (numbered more n)
   left_is n =
-      let is : cuts c.part v.marks ≡ more = cuts_are c.part ∙ ap (λ (b : Bool). if b then cs ++ own ∷ [] else cs) (self c.part) in
+      let is : cuts c.part v.marks ≡ more = cuts_are c.part ∙ ap (λ (b : Bool). if b then cs ++ own ∷ [] else cs) (eq-eqb c.part c.part refl) in
       ap (λ (xs : List Mark). left_by v c.part (numbered (reigns c.part xs) n) (numbered xs n)) is
 
   -- what is split alike
@@ -90,7 +86,7 @@ module _ (w v : World) (shape : v.manager.shape ≡ w.manager.shape) (grown : (n
       | inl same ↦
           let r : At (reigns c.part cs) i (reign_in (lists_of_part c)) = subst (λ (k : ℕ). At (reigns c.part cs) k (reign_in (lists_of_part c))) (sym same) last in
           left_is (suc i) ∙ ap₂ (left_by v c.part) (reign_was i (reign_in (lists_of_part c)) r) (at_push cs own i same) ∙ by_both (reign_in (lists_of_part c)) own
-          ∙ ap (λ (b : Bool). if b then left_at (part_of w c) (cut_length own.place) else left_of w c.part (suc i)) (sym (ap (λ (k : ℕ). k == length cs + 1) (count same) ∙ self (length cs + 1)))
+          ∙ ap (λ (b : Bool). if b then left_at (part_of w c) (cut_length own.place) else left_of w c.part (suc i)) (sym (ap (λ (k : ℕ). k == length cs + 1) (count same) ∙ eq-eqb (length cs + 1) (length cs + 1) refl))
       | inr other ↦
           let past : length cs + 1 ≤ i = omega (arith, ge, other) in
           old (suc i) (λ e. omega (arith, e, past))
@@ -110,4 +106,4 @@ module _ (w v : World) (shape : v.manager.shape ≡ w.manager.shape) (grown : (n
       go false is = left_stays w v shape p n (cuts_are p ∙ ap (λ (b : Bool). if b then cuts p w.marks ++ own ∷ [] else cuts p w.marks) (not_same c.part p (λ e. other (sym e)))) (λ r m h. grown r.master)
         where
           other : p ≡ c.part → ⊥
-          other e = let bad : false ≡ true = sym is ∙ ap (λ (q : ℕ). q == c.part) e ∙ self c.part in cc
+          other e = let bad : false ≡ true = sym is ∙ ap (λ (q : ℕ). q == c.part) e ∙ eq-eqb c.part c.part refl in cc

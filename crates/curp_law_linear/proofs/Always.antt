@@ -243,7 +243,7 @@ module _ {w : World} (known : Known w) (chain : Predecessors w) (routes : Routes
           refines = r.its;
           logs = master_logs known chain routes migrated ordered migrated_now n (speaker known n given) (heard_in known n given) out m k step;
           reads = master_reads known now chain chain_now ordered r.its r.quiet m k step its reads
-              (master_cuts known chain now n (speaker known n given) (heard_in known n given) out m k step its ordered.cuts_follow)
+              (master_cuts n (speaker known n given) (heard_in known n given) out m k step known chain now its ordered.cuts_follow)
               (timed_stay known chain ordered now (step_follows known step) r.its (master_lives n (speaker known n given) (heard_in known n given) out m k step) (cuts_marked w v (master_node n) m k (is_adopted w.manager (master_node n)) its));
         }
     by_input (Quickly x y is_x is_y a same) =

@@ -1,7 +1,6 @@
 -- An adoption of a recovery is one more among those of its partition, and brings the partition another master.
 use Rattle.std.proofs.Common.{◌≡◌, inl, inr, ◌⊎◌, ◌<◌, ◌≤◌, ◌+◌, ◌==◌, if◌then◌else◌, ℕ, suc, Bool, true, false, List, [], ◌∷◌, ◌++◌, drop, length, map, refl, ap, ap₂, sym, ◌∙◌, subst, arith}
-use Rattle.std.proofs.lemmas.Bool.{eqb-true}
-use Rattle.std.proofs.lemmas.Bool.Decides.{nat_tests}
+use Rattle.std.proofs.lemmas.Bool.{eqb-true, eq-eqb}
 use Rattle.std.proofs.lemmas.List.{length-map}
 use Rattle.curp_base.specs.Words.{At}
 use Rattle.curp_base.proofs.Lists.{at_append, at_push, at_push_cases, at_same, at_within}
@@ -174,7 +173,4 @@ module _ {w v : World} (known : Known w) (chain : Predecessors w) (now : Known v
     where
       go : (b : Bool) → (part == q) ≡ b → PartCuts v q (if b then cuts q w.marks ++ own ∷ [] else cuts q w.marks)
       go true is = subst (λ (p : ℕ). PartCuts v p (cuts p w.marks ++ own ∷ [])) (eqb-true part q is) part_adopted
-      go false is = part_other q (λ same. absurd (let bad : false ≡ true = sym is ∙ ap (λ (p : ℕ). part == p) (sym same) ∙ self part in cc))
-        where
-          self : (n : ℕ) → (n == n) ≡ true
-          self n = grind (arith, nat_tests)
+      go false is = part_other q (λ same. absurd (let bad : false ≡ true = sym is ∙ ap (λ (p : ℕ). part == p) (sym same) ∙ eq-eqb part part refl in cc))

@@ -4,7 +4,7 @@ use Rattle.curp_msg.specs.declared.script.Header.{Header}
 use Rattle.curp_msg.specs.declared.script.Step.{Step}
 use Rattle.curp_order.specs.Order.{IsHistory, IsOrder}
 use Rattle.curp_model.specs.World.{order, step, world}
-use Rattle.curp_facts.specs.Kept.{Kept, LateRepliesAgree, ValuesMarked}
+use Rattle.curp_facts.specs.Kept.{Kept, LateRepliesAgree, ValuesMarked, QuicksMarked}
 use Rattle.curp_facts.specs.Run.{IsRun, IsStep}
 use Rattle.curp_law_line.specs.Line.{StandsIn}
 use Rattle.curp_law_linear.specs.Grows.{completed_in_order}
@@ -14,6 +14,7 @@ use Rattle.curp_law_linear.proofs.KeptWorld.{kept_of_world}
 use Rattle.curp_law_linear.proofs.Runs.{orderly_all, step_keeps_order}
 use Rattle.curp_law_linear.proofs.Statements as statements
 use Rattle.curp_law_routes.proofs.Always.{migrated_now}
+use Rattle.curp_law_linear.proofs.KeptQuicks.{quicks_kept}
 use Rattle.curp_law_runs.proofs.Facts.{facts_all, pairs_all}
 
 module _ (h : Header) (steps : List Step) (is : IsRun h steps) where
@@ -31,6 +32,9 @@ module _ (h : Header) (steps : List Step) (is : IsRun h steps) where
   pub values_all : ValuesMarked (world h steps)
   values_all = let all = orderly_all h steps is in values_kept all.0 all.1.ordered
 
+  pub quicks_all : QuicksMarked (world h steps)
+  quicks_all = let all = orderly_all h steps is in quicks_kept all.0 all.1.ordered
+
   pub grows_all : (s : Step) → IsStep s → StandsIn (completed_in_order (world h steps)) (completed_in_order (step (world h steps) s).world)
   grows_all s its =
       let all = orderly_all h steps is in
@@ -40,4 +44,4 @@ module _ (h : Header) (steps : List Step) (is : IsRun h steps) where
   kept_all =
       let all = orderly_all h steps is in
       kept_of_world all.0 all.1.moving.chain all.1.moving.routes (migrated_now (world h steps) all.0 all.1.moving) all.1.ordered (serves_all h steps)
-      (pairs_all h steps is) (facts_all h steps is)
+      (pairs_all h steps is) (facts_all h steps is) all.1.lives

@@ -1,8 +1,7 @@
 -- The superseded logs of a world after a step: they stay where their masters' logs do, and one is longer where its master has
 -- pushed.
-use Rattle.std.proofs.Common.{◌≡◌, ◌⊎◌, inl, inr, ◌≤◌, ◌==◌, ◌&&◌, if◌then◌else◌, ℕ, Bool, true, false, List, ◌++◌, length, refl, ap, ap₂, sym, ◌∙◌, subst, arith, Option, Some, None}
-use Rattle.std.proofs.lemmas.Bool.{eqb-true}
-use Rattle.std.proofs.lemmas.Bool.Decides.{nat_tests}
+use Rattle.std.proofs.Common.{◌≡◌, ◌⊎◌, inl, inr, ◌≤◌, ◌==◌, ◌&&◌, if◌then◌else◌, ℕ, Bool, true, false, List, ◌++◌, length, refl, ap, ap₂, sym, ◌∙◌, Option, Some, None}
+use Rattle.std.proofs.lemmas.Bool.{eqb-true, eq-eqb}
 use Rattle.std.proofs.lemmas.List.{drop-append-le, take-append-le}
 use Rattle.curp_base.specs.Words.{numbered}
 use Rattle.curp_cmd.specs.declared.entry.Entry.{Entry}
@@ -66,15 +65,9 @@ module _ (w v : World) (shape : v.manager.shape ≡ w.manager.shape) where
 
       apart : (p == part) && (n == number) ≡ false → left_of v p n ≡ left_of w p n
       apart other = left_stays p n (same p) (λ s o h. elim (others p n s o h) [
-        | inl both ↦ absurd (let bad : false ≡ true = sym other ∙ ap₂ (λ (a b : Bool). a && b) (eqb both.0) (eqb both.1) in cc)
+        | inl both ↦ absurd (let bad : false ≡ true = sym other ∙ ap₂ (λ (a b : Bool). a && b) (eq-eqb p part both.0) (eq-eqb n number both.1) in cc)
         | inr stays ↦ stays
       ])
-        where
-          eqb : {a b : ℕ} → a ≡ b → (a == b) ≡ true
-          eqb {a} {b} e = subst (λ (c : ℕ). (c == b) ≡ true) (sym e) (self b)
-            where
-              self : (n : ℕ) → (n == n) ≡ true
-              self n = grind (arith, nat_tests)
 
       go : (a b : Bool) → (p == part) ≡ a → (n == number) ≡ b → left_of v p n ≡ (if a && b then record (left_of w part number) { back = (left_of w part number).back ++ more } else left_of w p n)
       go true true is its_number = ap₂ (left_of v) (eqb-true p part is) (eqb-true n number its_number) ∙ one

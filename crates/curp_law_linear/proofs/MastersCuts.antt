@@ -20,28 +20,35 @@ use Rattle.curp_law_linear.proofs.CutMarks.{cuts_marked}
 use Rattle.curp_law_linear.proofs.Cuts.{cuts_stay}
 use Rattle.curp_law_linear.proofs.ReadsLater.{EntryStays}
 use Rattle.curp_cmd.specs.declared.node.NodeKind.TheVariants as kind
-use Rattle.curp_law_linear.proofs.ReadsPassed.{NewerLists, NoneLives}
+use Rattle.curp_law_linear.proofs.ReadsPassed.{NewerLists, NoneLives, NoneLate}
 
-pub master_cuts : {w v : World} → Known w → Predecessors w → Known v → (n : ℕ) (from : NodeId) (heard : Option Body) (out : List Message) (m k : MasterStage) → MasterStep w v n from heard m k out
-    → v.marks ≡ (if is_adopted w.manager (master_node n) then w.marks ++ master_marks (master_node n) m k else w.marks) → CutsFollow w → CutsFollow v
-master_cuts {w} {v} known chain now n from heard out m k s marks follow =
-    cuts_stay known chain now (step_follows known s) entries newer (cuts_marked w v (master_node n) m k (is_adopted w.manager (master_node n)) marks) follow
-  where
-    entries : (c : PartConfig) → IsAdoptedNow v c → EntryStays w c
-    entries c here = record {
-      entry = c;
-      now = subst (λ (g : ManagerState). numbered g.config.parts c.part ≡ Some c) s.frame.manager here;
-      its_part = refl;
-      its_epoch = refl;
-      its_master = refl;
-    }
+module _ {w v : World} (n : ℕ) (from : NodeId) (heard : Option Body) (out : List Message) (m k : MasterStage) (s : MasterStep w v n from heard m k out) where
+  -- no entry changes, no lists are adopted
+  abbrev pub master_entries : (c : PartConfig) → IsAdoptedNow v c → EntryStays w c
+  master_entries c here = record {
+    entry = c;
+    now = subst (λ (g : ManagerState). numbered g.config.parts c.part ≡ Some c) s.frame.manager here;
+    its_part = refl;
+    its_epoch = refl;
+    its_master = refl;
+  }
 
-    newer : NewerLists w v
-    newer l was = inl (adopted_back w v out s.frame.sent (master_node n) s.frame.all (ap (λ (g : ManagerState). g.shape) s.frame.manager) s.frame.not_manager l was)
+  pub master_newer : NewerLists w v
+  master_newer l was = inl (adopted_back w v out s.frame.sent (master_node n) s.frame.all (ap (λ (g : ManagerState). g.shape) s.frame.manager) s.frame.not_manager l was)
 
--- a master says nothing that a witness says
-pub master_lives : {w v : World} → (n : ℕ) (from : NodeId) (heard : Option Body) (out : List Message) (m k : MasterStage) → MasterStep w v n from heard m k out → NoneLives w v
-master_lives {w} {v} n from heard out m k s node to x a is frozen live sent = sent_back w v out s.frame.sent (master_node n) s.frame.all _ sent (λ same. kinds (sym is.its_kind ∙ ap (λ (z : NodeId). z.kind) same))
-  where
-    kinds : kind.Witness ≡ kind.Master → ⊥
-    kinds e = cc
+  -- and nothing is said that a backup or a witness says
+  pub master_late : NoneLate w v
+  master_late node to b a long is below stored sent = sent_back w v out s.frame.sent (master_node n) s.frame.all _ sent (λ same. kinds (sym is.its_kind ∙ ap (λ (z : NodeId). z.kind) same))
+    where
+      kinds : kind.Backup ≡ kind.Master → ⊥
+      kinds e = cc
+
+  pub master_lives : NoneLives w v
+  master_lives node to x a is frozen live sent = sent_back w v out s.frame.sent (master_node n) s.frame.all _ sent (λ same. kinds (sym is.its_kind ∙ ap (λ (z : NodeId). z.kind) same))
+    where
+      kinds : kind.Witness ≡ kind.Master → ⊥
+      kinds e = cc
+
+  pub master_cuts : Known w → Predecessors w → Known v → v.marks ≡ (if is_adopted w.manager (master_node n) then w.marks ++ master_marks (master_node n) m k else w.marks) → CutsFollow w → CutsFollow v
+  master_cuts known chain now marks follow =
+      cuts_stay known chain now (step_follows known s) master_entries master_newer (cuts_marked w v (master_node n) m k (is_adopted w.manager (master_node n)) marks) follow

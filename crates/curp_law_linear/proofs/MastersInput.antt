@@ -25,6 +25,7 @@ use Rattle.curp_base.proofs.Lists.{Each-weaker}
 use Rattle.std.proofs.Math.Seq.{drop-length}
 use Rattle.curp_model.specs.Recovery as recovery
 use Rattle.curp_msg.specs.declared.machine.Input.TheVariants as input
+use Rattle.std.proofs.lemmas.Bool.{eq-eqb}
 use Rattle.std.proofs.lemmas.Bool.Decides.{nat_tests}
 
 pub data StageInput (n : ℕ) (given : Input) (from : NodeId) (heard : Option Body) (m k : MasterStage) (out : List Message) : Type 0 where
@@ -41,13 +42,10 @@ glance_is n m b k out a = ap₂ (λ (x : Body) (z : MasterState). glance_in x m 
     same e = cc
 
     passes : (c r : ℕ) → (nat_lt c (c + 1) && (r == r)) ≡ true
-    passes c r = ap₂ (λ (a b : Bool). a && b) (below c) (self r)
+    passes c r = ap₂ (λ (a b : Bool). a && b) (below c) (eq-eqb r r refl)
       where
         below : (c : ℕ) → nat_lt c (c + 1) ≡ true
         below c = grind (arith, nat_tests)
-
-        self : (r : ℕ) → (r == r) ≡ true
-        self r = grind (arith, nat_tests)
 
 -- a message to one that serves
 message_input : (n : ℕ) (m : MasterState) (x : Message) (r : Moved MasterState) → ServingMoves n m x.from (Some x.body) r → StageInput n (input.Message x) x.from (Some x.body) (Serving m) (Serving r.state) r.messages

@@ -8,7 +8,7 @@ use Rattle.curp_law_linear.specs.Ordered.{CutsFollow}
 use Rattle.curp_law_line.specs.OfWorld.{Reign, reigns, cuts, reign_of, cut_length, line_of}
 use Rattle.curp_base.proofs.Lists.{at_within, at_map, at_same}
 use Rattle.std.proofs.lemmas.List.{length-map}
-use Rattle.std.proofs.lemmas.Bool.{cases_lt}
+use Rattle.std.proofs.lemmas.Bool.{cases_lt, eq-eqb}
 use Rattle.curp_law_line.specs.Moves.{put_before}
 use Rattle.curp_law_line.specs.Line.{LineOk, CutAt}
 use Rattle.curp_law_line.proofs.QuickBegins.{late_at_end, late_by_number, late_place}
@@ -97,10 +97,7 @@ module _ {w : World} (known : Known w) (follow : CutsFollow w) (part i : ℕ) (r
 
       -- it is the mark of that number
       own : cuts_part part c.mark ≡ true
-      own = ap₂ (λ (x : Place) (p : ℕ). is_cut x && (p == part)) c.is_cut c.its_part ∙ self part
-        where
-          self : (n : ℕ) → (n == n) ≡ true
-          self n = grind (arith, nat_tests)
+      own = ap₂ (λ (x : Place) (p : ℕ). is_cut x && (p == part)) c.is_cut c.its_part ∙ eq-eqb part part refl
 
       among : (j : ℕ) × At cs j c.mark
       among = in_filter (cuts_part part) w.marks c.mark (c.place, c.stands) own

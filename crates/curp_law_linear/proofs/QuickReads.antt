@@ -21,12 +21,10 @@ use Rattle.curp_law_linear.specs.Refined.{Refines, RefinesQuiet}
 use Rattle.curp_law_stays.proofs.Words.{Follows, one_state, adopted_later}
 use Rattle.curp_law_kept.proofs.MastersReady.{step_follows}
 use Rattle.curp_facts.specs.Nodes.{ServingOk}
-use Rattle.curp_law_linear.proofs.ReadsPassed.{NewerLists, NoneLate, capture_later}
-use Rattle.curp_law_kept.proofs.Moved.{adopted_back, sent_back, sent_cases}
-use Rattle.curp_model.specs.Manager.{ManagerState}
-use Rattle.curp_msg.specs.declared.config.PartConfig.{PartConfig}
-use Rattle.curp_facts.specs.Facts.{IsAdoptedNow, WasSent}
-use Rattle.curp_law_linear.proofs.ReadsLater.{EntryStays, ReadWas, ReadsOk, made_later, completed_later, older_later, quick_reached}
+use Rattle.curp_law_linear.proofs.ReadsPassed.{capture_later}
+use Rattle.curp_law_kept.proofs.Moved.{sent_cases}
+use Rattle.curp_facts.specs.Facts.{WasSent}
+use Rattle.curp_law_linear.proofs.ReadsLater.{ReadWas, ReadsOk, made_later, completed_later, older_later, quick_reached}
 use Rattle.curp_base.specs.Words.{numbered, At, Each}
 use Rattle.curp_law_line.specs.OfWorld.{cuts}
 use Rattle.std.proofs.lemmas.Bool.{eqb-true}
@@ -36,13 +34,12 @@ use Rattle.curp_base.proofs.Lists.{at_one, Each-weaker}
 use Rattle.curp_law_linear.proofs.ReadsMoves.{NoneDrops, none_drops, worth_later}
 use Rattle.curp_msg.specs.declared.body.Worth.{Worth}
 use Rattle.curp_law_linear.proofs.QuickLater.{quick_later}
-use Rattle.curp_law_linear.proofs.MastersCuts.{master_lives}
+use Rattle.curp_law_linear.proofs.MastersCuts.{master_lives, master_entries, master_newer, master_late}
 use Rattle.curp_law_kept.proofs.Apart.{either_node}
 use Rattle.curp_law_linear.proofs.Cuts.{cuts_stay}
 use Rattle.curp_law_linear.proofs.CutsTimes.{timed_stay}
 use Rattle.curp_law_linear.proofs.ReadsStored.{looks_stored}
 use Rattle.curp_msg.specs.declared.body.Body.TheVariants as body
-use Rattle.curp_cmd.specs.declared.node.NodeKind.TheVariants as kind
 
 -- an item stands at one place now
 was_same : (c k l j : ℕ) → Was c k j → Was c l j → k ≡ l
@@ -77,24 +74,6 @@ module _ {w v : World} (known : Known w) (chain : Predecessors w) (ordered : Ord
 
   of_state : {A : Type 0} (f : MasterState → A) → f y ≡ f (record x { captured = x.captured + 1 })
   of_state f = ap f a.state
-
-  newer : NewerLists w v
-  newer l was = inl (adopted_back w v out step.frame.sent node step.frame.all (ap (λ (g : ManagerState). g.shape) step.frame.manager) step.frame.not_manager l was)
-
-  late : NoneLate w v
-  late other to b k long is below stored sent = sent_back w v out step.frame.sent node step.frame.all _ sent (λ same. kinds (sym is.its_kind ∙ ap (λ (z : NodeId). z.kind) same))
-    where
-      kinds : kind.Backup ≡ kind.Master → ⊥
-      kinds e = cc
-
-  entries : (c : PartConfig) → IsAdoptedNow v c → EntryStays w c
-  entries c here = record {
-    entry = c;
-    now = subst (λ (g : ManagerState). numbered g.config.parts c.part ≡ Some c) step.frame.manager here;
-    its_part = refl;
-    its_epoch = refl;
-    its_master = refl;
-  }
 
   -- ---- marks
 
@@ -167,7 +146,7 @@ module _ {w v : World} (known : Known w) (chain : Predecessors w) (ordered : Ord
       | inr its ↦ absurd (not_look m its.0 look)
     ];
     older = λ k number long m c at look here part earlier. elim (mark_cases k m at) [
-      | inl o ↦ older_later follows ordered.reached number long m look (old o.0 m o.2) c part earlier (entries c here)
+      | inl o ↦ older_later follows ordered.reached number long m look (old o.0 m o.2) c part earlier (master_entries n from heard out (Serving x) (Serving y) step c here)
       | inr its ↦ absurd (not_look m its.0 look)
     ];
     quick = λ k number m at is. elim (mark_cases k m at) [
@@ -227,7 +206,7 @@ module _ {w v : World} (known : Known w) (chain : Predecessors w) (ordered : Ord
 
   own_captures : Each (CaptureOk v node y) y.captures
   own_captures = subst (Each (CaptureOk v node y)) (sym (of_state (λ (z : MasterState). z.captures)))
-      (Each-weaker (CaptureOk w node x) (CaptureOk v node y) (λ c ok. capture_later known follows ordered r newer late node x y (of_state (λ (z : MasterState). z.part)) (of_state (λ (z : MasterState). z.epoch)) c
+      (Each-weaker (CaptureOk w node x) (CaptureOk v node y) (λ c ok. capture_later known follows ordered r (master_newer n from heard out (Serving x) (Serving y) step) (master_late n from heard out (Serving x) (Serving y) step) node x y (of_state (λ (z : MasterState). z.part)) (of_state (λ (z : MasterState). z.epoch)) c
       (λ b low never. subst (λ (acks : List Acknowledged). (from_backup acks b).round < c.round) (sym (of_state (λ (z : MasterState). z.acknowledged))) low) ok (none_drop x.part c.length))
       x.captures (ordered.captures node x step.was))
 
@@ -239,7 +218,7 @@ module _ {w v : World} (known : Known w) (chain : Predecessors w) (ordered : Ord
     | inr apart ↦
         let was = step.others other (Serving m) apart is in
         Each-weaker (CaptureOk w other m) (CaptureOk v other m)
-        (λ c ok. capture_later known follows ordered r newer late other m m refl refl c (λ b low never. low) ok (none_drop m.part c.length)) m.captures (ordered.captures other m was)
+        (λ c ok. capture_later known follows ordered r (master_newer n from heard out (Serving x) (Serving y) step) (master_late n from heard out (Serving x) (Serving y) step) other m m refl refl c (λ b low never. low) ok (none_drop m.part c.length)) m.captures (ordered.captures other m was)
   ]
     where
       states : {b c : MasterState} → Serving b ≡ Serving c → b ≡ c
@@ -252,7 +231,7 @@ module _ {w v : World} (known : Known w) (chain : Predecessors w) (ordered : Ord
 
   pub quick_reads : ReadsOk v
   quick_reads = record {
-    cuts_follow = cuts_stay known chain now follows entries newer cuts_same ordered.cuts_follow;
+    cuts_follow = cuts_stay known chain now follows (master_entries n from heard out (Serving x) (Serving y) step) (master_newer n from heard out (Serving x) (Serving y) step) cuts_same ordered.cuts_follow;
     cuts_timed = timed_stay known chain ordered now follows r (master_lives n from heard out (Serving x) (Serving y) step) cuts_same;
     numbered_looks = numbered_now;
     worths = worths;

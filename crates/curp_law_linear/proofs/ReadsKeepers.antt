@@ -16,7 +16,7 @@ use Rattle.curp_model.specs.Backup.{BackupState, backup_input}
 use Rattle.curp_model.specs.Named.{IsBackup, IsWitness}
 use Rattle.curp_model.specs.Witness.{WitnessState, witness_input, is_live}
 use Rattle.curp_model.specs.World.{World}
-use Rattle.curp_facts.specs.Growth.{BackupGrows, WitnessGrows, Dropped}
+use Rattle.curp_facts.specs.Growth.{BackupGrows, WitnessGrows, Dropped, Grows}
 use Rattle.curp_law_keepers.specs.BackupEffect.{AppendAnswerSays, AppendedSays, BackupSays}
 use Rattle.curp_law_keepers.specs.WitnessEffect.{WitnessSays, ProbedSays}
 use Rattle.curp_law_keepers.proofs.Backups.{backup_effect}
@@ -36,7 +36,26 @@ use Rattle.curp_facts.specs.Predecessors.{Predecessors}
 use Rattle.curp_law_line.specs.OfWorld.{cuts}
 use Rattle.curp_model.specs.declared.Mode.TheVariants as mode
 use Rattle.curp_model.specs.declared.Mode.{Mode}
+use Rattle.curp_facts.specs.Facts.{IsAmong}
+use Rattle.curp_msg.specs.declared.body.Probed.{Probed}
 use Rattle.curp_law_stays.proofs.Words.{Follows, one_state}
+
+-- a witness that is frozen stays so, and says no Live
+pub frozen_silent : {w v : World} → (n : ℕ) (x : WitnessState) (given : Input) → numbered v.witnesses n ≡ Some (witness_input n x given).state → Grows w v
+    → (node to : NodeId) (y : WitnessState) (a : Probed) → IsWitness w node y → y.mode ≡ mode.Frozen → a.live ≡ true → IsAmong (says node to (body.Probed a)) (witness_input n x given).messages → ⊥
+frozen_silent {w} {v} n x given is grows node to y a here frozen live new =
+    let k = among_each (WitnessSays n given (witness_input n x given).state) (witness_input n x given).messages (witness_effect n x given).says (says node to (body.Probed a)) new in
+    let p : ProbedSays given (witness_input n x given).state to a = k.says_so in
+    not_live (witness_input n x given).state.mode (witness_input n x given).state.epoch a.epoch (stays k.sender) (sym p.live ∙ live)
+  where
+    stays : node ≡ witness_node n → (witness_input n x given).state.mode ≡ mode.Frozen
+    stays same = go (grows.witnesses n y (subst (λ (m : NodeId). numbered w.witnesses m.number ≡ Some y) same here.its_state))
+      where
+        go : (z : WitnessState) × (numbered v.witnesses n ≡ Some z) × WitnessGrows (Dropped v n y) y z → (witness_input n x given).state.mode ≡ mode.Frozen
+        go o = ap (λ (z : WitnessState). z.mode) (one_state _ (witness_input n x given).state o.0 is o.1 ∙ o.2.frozen frozen) ∙ frozen
+
+    not_live : (m : Mode) (own : Option ℕ) (epoch : ℕ) → m ≡ mode.Frozen → is_live m own epoch ≡ true → ⊥
+    not_live m own epoch frozen live = let bad : false ≡ true = sym (ap (λ (z : Mode). is_live z own epoch) frozen) ∙ live in cc
 
 module _ {w v : World} (known : Known w) (now : Known v) (chain : Predecessors w) (later : Predecessors v) (ordered : Ordered w) (marks : v.marks ≡ w.marks)
     (r : Refines w v) (none : Each NoAdoption r.moves) where
@@ -62,23 +81,10 @@ module _ {w v : World} (known : Known w) (now : Known v) (chain : Predecessors w
           kinds : kind.Manager ≡ kind.Witness → ⊥
           kinds e = cc
 
-      -- one that is frozen stays so, and isn't live
-      stays_frozen : (node : NodeId) (y : WitnessState) → node ≡ witness_node n → IsWitness w node y → y.mode ≡ mode.Frozen → (witness_input n x given).state.mode ≡ mode.Frozen
-      stays_frozen node y same here frozen = go (moved.grows.witnesses n y (subst (λ (m : NodeId). numbered w.witnesses m.number ≡ Some y) same here.its_state))
-        where
-          go : (z : WitnessState) × (numbered v.witnesses n ≡ Some z) × WitnessGrows (Dropped v n y) y z → (witness_input n x given).state.mode ≡ mode.Frozen
-          go o = ap (λ (z : WitnessState). z.mode) (one_state _ (witness_input n x given).state o.0 is o.1 ∙ o.2.frozen frozen) ∙ frozen
-
-      not_live : (m : Mode) (own : Option ℕ) (epoch : ℕ) → m ≡ mode.Frozen → is_live m own epoch ≡ true → ⊥
-      not_live m own epoch frozen live = let bad : false ≡ true = sym (ap (λ (z : Mode). is_live z own epoch) frozen) ∙ live in cc
-
       lives : NoneLives w v
       lives node to y a here frozen live sent = elim (sent_cases w v (witness_input n x given).messages moved.sent _ sent) [
         | inl before ↦ before
-        | inr new ↦
-            let k = among_each (WitnessSays n given (witness_input n x given).state) (witness_input n x given).messages (witness_effect n x given).says (says node to (body.Probed a)) new in
-            let p : ProbedSays given (witness_input n x given).state to a = k.says_so in
-            absurd (not_live (witness_input n x given).state.mode (witness_input n x given).state.epoch a.epoch (stays_frozen node y k.sender here frozen) (sym p.live ∙ live))
+        | inr new ↦ absurd (frozen_silent n x given is moved.grows node to y a here frozen live new)
       ]
 
   -- an input to a backup: one that is fenced above an epoch stores nothing of that epoch

@@ -1,5 +1,5 @@
 -- What a world keeps of reads, after a step in which no master moves.
-use Rattle.std.proofs.Common.{◌≡◌, ◌⊎◌, inl, inr, ℕ, ◌<◌, ◌≤◌, true, refl, sym, ◌∙◌, subst, arith, [], ap, ap₂, ◌==◌}
+use Rattle.std.proofs.Common.{◌≡◌, ◌⊎◌, inl, inr, ℕ, ◌<◌, ◌≤◌, true, refl, sym, ◌∙◌, subst, arith, [], ap, ap₂}
 use Rattle.curp_base.specs.Words.{At, Each}
 use Rattle.curp_base.proofs.Lists.{Each-weaker}
 use Rattle.curp_cmd.specs.Node.{client_node}
@@ -28,7 +28,7 @@ use Rattle.curp_cmd.specs.declared.command.RequestId.{RequestId}
 use Rattle.curp_law_line.specs.Line.{QuickLow}
 use Rattle.curp_law_linear.proofs.QuickLater.{low_later, quick_later}
 use Rattle.curp_msg.specs.declared.body.Quick.{Quick as QuickValue}
-use Rattle.std.proofs.lemmas.Bool.Decides.{nat_tests}
+use Rattle.std.proofs.lemmas.Bool.{eq-eqb}
 use Rattle.curp_law_stays.proofs.Words.{Follows, serving_later}
 
 -- what is kept of reads
@@ -61,14 +61,11 @@ pub record ReadsWere (w v : World) : Type 0 where
       → (was j number m a p).place ≡ (was k number o b q).place → j ≡ k
 
 -- looks and quick marks are of captures
-same_number : (n : ℕ) → (n == n) ≡ true
-same_number n = grind (arith, nat_tests)
-
 pub looked_capture : (number long : ℕ) (x : Place) → x ≡ Looked number long → is_capture number x ≡ true
-looked_capture number long x is = ap (is_capture number) is ∙ same_number number
+looked_capture number long x is = ap (is_capture number) is ∙ eq-eqb number number refl
 
 pub quick_capture : (number : ℕ) (x : Place) → x ≡ Quick number → is_capture number x ≡ true
-quick_capture number x is = ap (is_capture number) is ∙ same_number number
+quick_capture number x is = ap (is_capture number) is ∙ eq-eqb number number refl
 
 -- an entry has the part, the epoch and the master of one that was there before
 pub record EntryStays (w : World) (c : PartConfig) : Type 0 where

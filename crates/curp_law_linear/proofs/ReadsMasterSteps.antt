@@ -1,15 +1,13 @@
 -- A step of any master keeps what is kept of reads.
-use Rattle.std.proofs.Common.{◌≡◌, inl, inr, ℕ, Bool, true, false, if◌then◌else◌, List, [], ◌++◌, append-nil, refl, ap, sym, ◌∙◌, subst, Option, Some}
+use Rattle.std.proofs.Common.{◌≡◌, inl, inr, ℕ, Bool, true, false, if◌then◌else◌, List, [], ◌++◌, append-nil, refl, ◌∙◌, subst, Option, Some}
 use Rattle.curp_base.specs.Words.{At, Each, numbered}
 use Rattle.curp_cmd.specs.Node.{client_node, master_node}
 use Rattle.curp_cmd.specs.declared.node.NodeId.{NodeId}
-use Rattle.curp_cmd.specs.declared.node.NodeKind.TheVariants as kind
 use Rattle.curp_msg.specs.Moved.{says, sends}
 use Rattle.curp_msg.specs.declared.body.Body.{Body}
 use Rattle.curp_msg.specs.declared.body.Body.TheVariants as body
 use Rattle.curp_msg.specs.declared.body.Worth.{Worth}
 use Rattle.curp_msg.specs.declared.message.Message.{Message}
-use Rattle.curp_model.specs.Manager.{ManagerState}
 use Rattle.curp_model.specs.Marks.{Mark}
 use Rattle.curp_model.specs.Master.{MasterState}
 use Rattle.curp_model.specs.Recovery.{Fresh, MasterStage, Recovering, Serving}
@@ -19,7 +17,7 @@ use Rattle.curp_law_kept.proofs.Apart.{either_node}
 use Rattle.curp_facts.specs.Known.{Known}
 use Rattle.curp_law_kept.proofs.MastersMoves.{MasterStep}
 use Rattle.curp_law_kept.proofs.MastersReady.{step_follows}
-use Rattle.curp_law_kept.proofs.Moved.{adopted_back, sent_back, sent_cases}
+use Rattle.curp_law_kept.proofs.Moved.{sent_cases}
 use Rattle.curp_law_linear.specs.Ordered.{CutsFollow, Ordered, CutsTimed}
 use Rattle.curp_law_linear.specs.Refined.{Refines}
 use Rattle.curp_law_linear.proofs.ReadsCaptures.{ReadsMove}
@@ -32,7 +30,7 @@ use Rattle.curp_law_masters.specs.Moves.{IsSaidBy, RecoverySays}
 use Rattle.curp_law_masters.specs.Stages.{FreshSays}
 use Rattle.curp_law_names.proofs.Lists.{among_each}
 use Rattle.curp_facts.specs.Predecessors.{Predecessors}
-use Rattle.curp_law_linear.proofs.MastersCuts.{master_lives}
+use Rattle.curp_law_linear.proofs.MastersCuts.{master_lives, master_entries, master_newer, master_late}
 use Rattle.curp_msg.specs.declared.body.Quick.{Quick as QuickValue}
 use Rattle.curp_law_stays.proofs.Words.{one_state}
 
@@ -57,15 +55,9 @@ module _ {w v : World} (known : Known w) (now : Known v) (chain : Predecessors w
       cuts_follow = cuts_follow;
       cuts_timed = cuts_timed;
       looks = looks_same marks;
-      entries = λ c here. inl (record {
-        entry = c;
-        now = subst (λ (g : ManagerState). numbered g.config.parts c.part ≡ Some c) s.frame.manager here;
-        its_part = refl;
-        its_epoch = refl;
-        its_master = refl;
-      });
-      newer = λ l was. inl (adopted_back w v out s.frame.sent (master_node n) s.frame.all (ap (λ (g : ManagerState). g.shape) s.frame.manager) s.frame.not_manager l was);
-      late = λ node to b a long is below stored sent. sent_back w v out s.frame.sent (master_node n) s.frame.all _ sent (λ same. kinds (sym is.its_kind ∙ ap (λ (z : NodeId). z.kind) same));
+      entries = λ c here. inl (master_entries n from heard out m k s c here);
+      newer = master_newer n from heard out m k s;
+      late = master_late n from heard out m k s;
       keeps = λ part long stored. none_drops r.moves none part long;
       lives = master_lives n from heard out m k s;
       quicks = λ node q sent. elim (sent_cases w v out s.frame.sent _ sent) [
@@ -82,9 +74,6 @@ module _ {w v : World} (known : Known w) (now : Known v) (chain : Predecessors w
       ];
       waits = λ node y is c ok. inl (none_drops r.moves none y.part c.length);
     })
-      where
-        kinds : kind.Backup ≡ kind.Master → ⊥
-        kinds e = cc
 
   -- ---- all together
 

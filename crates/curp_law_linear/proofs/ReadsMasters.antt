@@ -14,7 +14,6 @@ use Rattle.curp_msg.specs.declared.body.Body.TheVariants as body
 use Rattle.curp_msg.specs.declared.body.Worth.{Worth}
 use Rattle.curp_msg.specs.declared.config.PartConfig.{PartConfig}
 use Rattle.curp_msg.specs.declared.message.Message.{Message}
-use Rattle.curp_model.specs.Manager.{ManagerState}
 use Rattle.curp_model.specs.Marks.{Looked, Mark, is_capture, Quick}
 use Rattle.curp_model.specs.Master.{Acknowledged, Captured, MasterState, from_backup}
 use Rattle.curp_model.specs.Named.{IsMaster}
@@ -31,7 +30,7 @@ use Rattle.curp_law_kept.proofs.Known.{fits, said}
 use Rattle.curp_law_kept.proofs.MastersHeard.{one_log}
 use Rattle.curp_law_kept.proofs.MastersMoves.{MasterStep}
 use Rattle.curp_law_kept.proofs.MastersReady.{step_follows}
-use Rattle.curp_law_kept.proofs.Moved.{adopted_back, sent_back, sent_cases}
+use Rattle.curp_law_kept.proofs.Moved.{sent_back, sent_cases}
 use Rattle.curp_law_linear.specs.Ordered.{CaptureOk, CutsFollow, LooksNumbered, LooksReached, Ordered, WorthOk, CutsTimed, QuickOk}
 use Rattle.curp_law_linear.specs.Refined.{Refines}
 use Rattle.curp_law_linear.proofs.ReadsAdopted.{later_entry, new_look, own_entry}
@@ -48,7 +47,7 @@ use Rattle.curp_law_names.proofs.Lists.{among_each}
 use Rattle.curp_facts.specs.Predecessors.{Predecessors}
 use Rattle.curp_law_linear.proofs.QuickLater.{quick_later}
 use Rattle.curp_msg.specs.declared.body.Quick.{Quick as QuickValue}
-use Rattle.curp_law_linear.proofs.MastersCuts.{master_lives}
+use Rattle.curp_law_linear.proofs.MastersCuts.{master_lives, master_entries, master_newer, master_late}
 use Rattle.std.proofs.lemmas.Bool.{eqb-true}
 use Rattle.curp_law_stays.proofs.Words.{Follows, adopted_later, one_state, serving_later}
 
@@ -89,19 +88,13 @@ module _ {w v : World} (known : Known w) (now : Known v) (chain : Predecessors w
       kinds e = cc
 
   newer : NewerLists w v
-  newer l was = inl (adopted_back w v out s.frame.sent node s.frame.all (ap (λ (g : ManagerState). g.shape) s.frame.manager) s.frame.not_manager l was)
+  newer = master_newer n from heard out (Serving x) (Serving y) s
 
   late : NoneLate w v
-  late other to b a long is below stored sent = said_before other to (body.Appended a) (another other is.its_kind) sent
+  late = master_late n from heard out (Serving x) (Serving y) s
 
   abbrev entry_stays : (c : PartConfig) → IsAdoptedNow v c → EntryStays w c
-  entry_stays c here = record {
-    entry = c;
-    now = subst (λ (g : ManagerState). numbered g.config.parts c.part ≡ Some c) s.frame.manager here;
-    its_part = refl;
-    its_epoch = refl;
-    its_master = refl;
-  }
+  entry_stays c here = master_entries n from heard out (Serving x) (Serving y) s c here
 
   -- ---- rounds
 

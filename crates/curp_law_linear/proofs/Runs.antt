@@ -16,12 +16,15 @@ use Rattle.curp_law_linear.proofs.ManagersKeep.{manager_keeps_order}
 use Rattle.curp_law_linear.proofs.Opened.{ordered_opening}
 use Rattle.curp_law_names.proofs.Later.{Later}
 use Rattle.curp_law_names.proofs.Runs.{step_goes}
+use Rattle.curp_facts.specs.Kept.{LivesEarly}
+use Rattle.curp_law_linear.proofs.LivesEarly.{lives_step, lives_opening}
 use Rattle.curp_law_routes.proofs.Always.{Moving, migrated_now, moving_opening, moving_step}
 
 -- what holds in every run, beside what nodes and messages keep
 pub record Orderly (w : World) : Type 0 where
   pub moving : Moving w
   pub ordered : Ordered w
+  pub lives : LivesEarly w
 
 module _ {w v : World} (known : Known w) (m : Moving w) (ordered : Ordered w) (grows : Grows w v) (later : Later w v) (now : Known v) (n : Moving v) where
   -- what a step does keeps what is kept of the order
@@ -50,8 +53,9 @@ orderly_step : (w : World) → Known w → (x : Step) → IsStep x → Orderly w
 orderly_step w known x its o = record {
   moving = moving_step w known x its o.moving;
   ordered = ordered_after o.ordered (commands_step (step_case w known x its) o.ordered.commands) (step_keeps_order w known o x its);
+  lives = lives_step known o.moving.chain (known_step w known x) (step_grows w x) (step_goes w (record { names = known.names; nodes = known.nodes }) x).later (step_case w known x its) o.lives;
 }
 
 -- and so each run
 pub orderly_all : (h : Header) (steps : List Step) → IsRun h steps → Known (world h steps) × Orderly (world h steps)
-orderly_all h steps is = along Orderly orderly_step h steps is (record { moving = moving_opening h; ordered = ordered_opening h is.header })
+orderly_all h steps is = along Orderly orderly_step h steps is (record { moving = moving_opening h; ordered = ordered_opening h is.header; lives = lives_opening h })

@@ -57,8 +57,8 @@ pub record AdoptedOk (w : World) (c : PartConfig) (l : AdoptedLog w c) : Type 0 
 pub record LooksNumbered (w : World) : Type 0 where
   pub made : (k number : ℕ) (m : Mark) → At w.marks k m → is_capture number m.place ≡ true
       → (x : MasterState) × IsMaster w m.master (Serving x) × (number ≤ x.captured) × (x.part ≡ m.part) × (x.epoch ≡ m.epoch)
-  pub once : (j k number : ℕ) (m o : Mark) → At w.marks j m → At w.marks k o → is_capture number m.place ≡ true → is_capture number o.place ≡ true
-      → m.master ≡ o.master → j ≡ k
+  pub once : (j k number : ℕ) (m o : Mark) → At w.marks j m → At w.marks k o → is_capture number m.place ≡ true
+      → is_capture number o.place ≡ true → m.master ≡ o.master → j ≡ k
 
 -- a master's log has so many entries, and so has each backup of each ready list of it, from a version on
 pub record IsStored (w : World) (node : NodeId) (version long : ℕ) : Type 0 where
@@ -127,7 +127,8 @@ pub record Gated (w : World) (lists : Lists) (node : NodeId) (q : QuickValue) : 
   pub x : WitnessState
   pub is : IsWitness w witness x
   pub frozen : x.mode ≡ Frozen
-  pub opens : WasSent w (says witness (client_node q.id.client) (body.Probed (record { id = q.id; epoch = q.epoch; live = true })))
+  pub opens : WasSent w (says witness (client_node q.id.client)
+      (body.Probed (record { id = q.id; epoch = q.epoch; live = true })))
       → QuickEarly (line_of w) (capture_of node q) lists.part q.id q.answer
 
 -- A read that was answered at once: its mark is kept and gives its answer; and it was invoked before what is flagged behind the
@@ -162,12 +163,14 @@ pub record PartCuts (w : World) (part : ℕ) (cs : List Mark) : Type 0 where
   pub adopted : (i : ℕ) (r : Reign) → 1 ≤ part → part ≤ w.manager.shape.parts → At (reigns part cs) i r → ReignOk w part r
   pub rise : (i j : ℕ) (r s : Reign) → i < j → At (reigns part cs) i r → At (reigns part cs) j s → r.epoch < s.epoch
   pub there : (l : Lists) → WasAdopted w l → l.part ≡ part → (i : ℕ) × At (reigns part cs) i (reign_in l)
-  pub low : (i : ℕ) (r : Reign) (m : Mark) → At (reigns part cs) i r → At cs i m → cut_length m.place ≤ length (log_of w part r.master).log
+  pub low : (i : ℕ) (r : Reign) (m : Mark) → At (reigns part cs) i r → At cs i m
+      → cut_length m.place ≤ length (log_of w part r.master).log
   pub stored : (i : ℕ) (m : Mark) → At cs i m → StoredFrom w m.master part (cut_length m.place)
   -- each has the next number
   pub counted : (i : ℕ) (m : Mark) → At cs i m → m.place ≡ Cut (suc i) (cut_length m.place)
   -- what was recovered is the log of the backup that its order named
-  pub recovered : (i : ℕ) (m : Mark) → At cs i m → (order : Recover) → WasSent w (says manager_node m.master (body.Recover order)) → (b : BackupState) → IsBackup w order.backup b
+  pub recovered : (i : ℕ) (m : Mark) → At cs i m → (order : Recover)
+      → WasSent w (says manager_node m.master (body.Recover order)) → (b : BackupState) → IsBackup w order.backup b
       → cut_length m.place ≡ length b.log
 
 -- so it is with each partition
@@ -177,7 +180,8 @@ CutsFollow w = (part : ℕ) → PartCuts w part (cuts part w.marks)
 -- What the witness that a recovery's order named has called live was invoked before what is flagged behind the adoption's mark
 -- completed
 abbrev pub CutsTimed : World → Type 0
-CutsTimed w = (part i : ℕ) (m : Mark) → At (cuts part w.marks) i m → (order : Recover) → WasSent w (says manager_node m.master (body.Recover order))
+CutsTimed w = (part i : ℕ) (m : Mark) → At (cuts part w.marks) i m → (order : Recover)
+    → WasSent w (says manager_node m.master (body.Recover order))
     → (to : NodeId) (a : Probed) → WasSent w (says order.witness to (body.Probed a)) → a.live ≡ true
     → (c : Command) × WasInvoked w.history a.id c × CutEarly (line_of w) part (suc i) a.id c
 
@@ -191,7 +195,8 @@ pub record Ordered (w : World) : Type 0 where
   pub logs : (c : PartConfig) (l : AdoptedLog w c) → AdoptedOk w c l
   pub numbered_looks : LooksNumbered w
   pub worths : (node : NodeId) (v : Worth) → WasSent w (says node (client_node v.id.client) (body.Worth v)) → WorthOk w node v
-  pub quicks : (node : NodeId) (q : QuickValue) → WasSent w (says node (client_node q.id.client) (body.Quick q)) → QuickOk w node q
+  pub quicks : (node : NodeId) (q : QuickValue) → WasSent w (says node (client_node q.id.client) (body.Quick q))
+      → QuickOk w node q
   pub captures : (node : NodeId) (m : MasterState) → IsMaster w node (Serving m) → Each (CaptureOk w node m) m.captures
   pub reached : LooksReached w
   pub stored : LooksStored w

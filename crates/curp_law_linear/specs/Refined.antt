@@ -32,4 +32,5 @@ pub record RefinesQuiet (w v : World) : Type 0 where
 -- any request is early at the mark of what is adopted
 abbrev pub EarlyAfter : World → World → Option Attempted → Type 0
 EarlyAfter w v None = ⊤
-EarlyAfter w v (Some a) = (id : RequestId) (c : Command) → CutEarly (line_of v) a.order.part (adoptions a.order.part w.marks + 1) id c
+EarlyAfter w v (Some a) = (id : RequestId) (c : Command)
+    → CutEarly (line_of v) a.order.part (adoptions a.order.part w.marks + 1) id c

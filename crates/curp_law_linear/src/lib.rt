@@ -11,7 +11,7 @@
 #![tactic(auto)]
 
 ghost use Rattle.std.specs.Prelude.{List};
-ghost use Rattle.curp_facts.specs.Kept.{Kept, LateRepliesAgree, ValuesMarked};
+ghost use Rattle.curp_facts.specs.Kept.{Kept, LateRepliesAgree, QuicksMarked, ValuesMarked};
 ghost use Rattle.curp_facts.specs.Run.{IsRun, IsStep};
 ghost use Rattle.curp_law_line.specs.Line.{StandsIn};
 ghost use Rattle.curp_law_linear.specs.Grows.{completed_in_order};
@@ -32,10 +32,12 @@ pub fn order_stands()
 {}
 
 /// What a client may still complete with, by messages under way, agrees with the order: each such update stands in it
-/// with that answer, and of each value that was sent the mark is kept, and one thread gives that value there.
+/// with that answer; of each value that was sent, and of each read that was answered at once, the mark is kept, and one
+/// thread gives that answer there.
 pub fn late_replies_agree()
     ensures update { (h : Header) (steps : List Step) → IsRun h steps → LateRepliesAgree (world h steps) }
     ensures value { (h : Header) (steps : List Step) → IsRun h steps → ValuesMarked (world h steps) }
+    ensures quick { (h : Header) (steps : List Step) → IsRun h steps → QuicksMarked (world h steps) }
 {}
 
 /// The completed requests of the order before a step stand, in that order, among those after it.
@@ -46,7 +48,9 @@ pub fn order_grows()
 
 /// All that is kept: good pairs and the facts of logs and nodes; each hash is owned once or on its way; the stores of
 /// the partitions together are that of one thread over the order; each value that was sent has its mark, and each
-/// capture that waits has its mark or was passed by; late replies agree with the order.
+/// capture that waits has its mark or was passed by; late replies agree with the order; each read that was answered at
+/// once has its mark, and what it saw is stored; and a witness that an adopted recovery named has called itself live
+/// only before.
 pub fn kept_stands()
     ensures kept { (h : Header) (steps : List Step) → IsRun h steps → Kept (world h steps) }
 {}

@@ -6,7 +6,6 @@ use Rattle.curp_base.proofs.Lists.{Each-append, Each-at, Each-from_at, Each-weak
 use Rattle.curp_base.proofs.Numbered.{numbered_replicate}
 use Rattle.curp_cmd.specs.Node.{witness_node}
 use Rattle.curp_cmd.specs.declared.command.Answer.{Answer}
-use Rattle.curp_cmd.specs.declared.command.Request.{Request}
 use Rattle.curp_cmd.specs.declared.command.RequestId.{RequestId}
 use Rattle.curp_cmd.specs.declared.node.NodeId.{NodeId}
 use Rattle.curp_cmd.specs.declared.node.NodeKind.TheVariants as kind
@@ -16,7 +15,6 @@ use Rattle.curp_msg.specs.declared.body.Body.TheVariants as body
 use Rattle.curp_msg.specs.declared.body.Probe.{Probe}
 use Rattle.curp_msg.specs.declared.body.Probed.{Probed}
 use Rattle.curp_msg.specs.declared.body.Quick.{Quick}
-use Rattle.curp_msg.specs.declared.machine.Completed.{Completed}
 use Rattle.curp_msg.specs.declared.machine.Input.{Input}
 use Rattle.curp_msg.specs.declared.machine.Input.TheVariants as input
 use Rattle.curp_msg.specs.declared.message.Message.{Message}
@@ -31,12 +29,11 @@ use Rattle.curp_model.specs.Recovery.{Fresh, MasterStage, Recovering, RecoverySt
 use Rattle.curp_model.specs.Witness.{WitnessState, witness_input}
 use Rattle.curp_model.specs.World.{World, messages, opening, opening_client, step, world}
 use Rattle.curp_facts.specs.ByOne.{ByOne, IsOfOne}
-use Rattle.curp_facts.specs.Facts.{EntryWas, WasSent}
-use Rattle.curp_facts.specs.Nodes.{MayCome, ValueWasSent, WasRead}
+use Rattle.curp_facts.specs.Facts.{WasSent}
+use Rattle.curp_facts.specs.Nodes.{ValueWasSent, WasRead}
 use Rattle.curp_facts.specs.Run.{IsRun, IsStep}
 use Rattle.curp_law_growth.specs.Deeds.{IsFor}
 use Rattle.curp_law_keepers.specs.BackupEffect.{BackupAnswers, BackupSays}
-use Rattle.curp_law_keepers.specs.ClientEffect.{ByValue, ReadCompletes}
 use Rattle.curp_law_keepers.specs.WitnessEffect.{WitnessAnswers, WitnessSays}
 use Rattle.curp_law_keepers.proofs.Backups.{backup_effect}
 use Rattle.curp_law_keepers.proofs.Witnesses.{witness_effect}
@@ -78,13 +75,6 @@ module _ {w : World} (by_one : ByOne w) where
   only_by_value id a read = elim read [
     | inl value ↦ value
     | inr seen ↦ absurd (sent_by_one _ seen.sent)
-  ]
-
-  -- and so what completes one is a value
-  pub by_value : (n : ℕ) (r : Request) (done : Completed) → ReadCompletes (MayCome w n) (EntryWas w) r done → ByValue (MayCome w n) done.id done.answer done.by
-  by_value n r done read = elim read.evidence [
-    | inl value ↦ value
-    | inr quick ↦ absurd (sent_by_one _ quick.came)
   ]
 
   -- a message that comes is of protocol 1

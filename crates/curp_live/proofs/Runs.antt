@@ -28,7 +28,6 @@ is_header plan is = record {
   parts = is.parts;
   sets = is.sets;
   ways = is.ways;
-  protocol = refl;
 }
 
 module _ (h : Header) (j : Journals) (are : AreAllAnew h j) where

@@ -3,7 +3,7 @@ use Rattle.std.proofs.Common.{◌≡◌, ◌&&◌, if◌then◌else◌, Bool, tr
 use Rattle.std.proofs.lemmas.Bool.Decides.{nat_tests}
 use Rattle.curp_base.proofs.Lists.{Each-append}
 use Rattle.curp_script.specs.Built.{is_built}
-use Rattle.curp_script.specs.Headers.{bad_field, is_second, is_within}
+use Rattle.curp_script.specs.Headers.{bad_field, is_within}
 use Rattle.curp_script.specs.declared.error.FieldName.TheVariants as field
 use Rattle.curp_msg.specs.declared.script.Header.{Header}
 use Rattle.curp_msg.specs.declared.script.Step.{Step}
@@ -11,10 +11,7 @@ use Rattle.curp_facts.specs.Run.{IsHeader, IsRun, IsStep}
 use Rattle.curp_law_line.specs.Line.{StandsIn}
 use Rattle.curp_law_line.proofs.Growing.{stands_self}
 use Rattle.curp_law_linear.specs.Grows.{completed_in_order}
-use Rattle.curp_msg.specs.declared.script.Protocol.{Protocol}
-use Rattle.curp_msg.specs.declared.script.Protocol.TheVariants.{One, Two}
 use Rattle.curp_script.specs.declared.error.FieldName.{FieldName}
-use Rattle.curp_script.specs.declared.error.Word.TheVariants as word
 use Rattle.curp_model.specs.World.{World, step, run, opening, world}
 use Rattle.curp_world.specs.Reached.{Reached}
 
@@ -56,12 +53,6 @@ none_behind false name rest e = (refl, e)
 within : (low high n : ℕ) → not (is_within low high n) ≡ false → (low ≤ n) × (n ≤ high)
 within low high n e = (grind (arith, nat_tests), grind (arith, nat_tests))
 
--- the second protocol isn't built
-first_protocol : (p : Protocol) → (is_second p && not (is_built word.Protocol)) ≡ false → p ≡ One
-unfolding is_built
-first_protocol One e = refl
-first_protocol Two e = absurd cc
-
 -- a header without a bad field has its numbers in their ranges
 pub in_order : (h : Header) → bad_field h ≡ None → IsHeader h
 unfolding is_built
@@ -79,7 +70,6 @@ in_order h none =
       parts = within 1 16 h.parts parts.0;
       sets = within 1 1024 h.sets sets.0;
       ways = within 1 16 h.ways ways.0;
-      protocol = first_protocol h.protocol protocol.0;
     }
 
 -- no step leads to the opening
