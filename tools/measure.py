@@ -3,8 +3,9 @@
 
     tools/measure.py CURP       CURP is the program, as `rt run` in crates/curp leaves it in crates/curp/out/curp
 
-Times are of one run each, of the whole process, in seconds; memory is the most that the process had. They are of the
-machine that runs this. Counts (of round trips, of records) are the same on every machine.
+Times are of one run each, of the whole process, in seconds; memory is the most that the process had, and 16 MB at
+least, which this program has itself. They are of the machine that runs this. Counts (of round trips, of records) are
+the same on every machine.
 """
 
 import os
@@ -12,8 +13,9 @@ import random
 import subprocess
 import sys
 import tempfile
+import time
 from html import escape
-from math import exp
+from math import exp, floor, log10
 from pathlib import Path
 
 TOP = Path(__file__).resolve().parent.parent
@@ -25,19 +27,29 @@ COLOURS = ["#1a5fb4", "#b03030", "#2e7d32", "#8e44ad", "#c77700"]
 # ---- running the program
 
 
-def timed(curp, words, given=""):
-    """Runs the program on words and an input: how long it took, its memory in bytes, and what it wrote."""
-    with tempfile.TemporaryFile("w+") as source, tempfile.TemporaryFile("w+") as sink:
-        source.write(given)
-        source.seek(0)
-        started = os.times().elapsed
-        child = subprocess.Popen([curp, *words], stdin=source, stdout=sink)
-        _, status, used = os.wait4(child.pid, 0)
-        took = os.times().elapsed - started
-        if status:
-            sys.exit(f"{curp} {' '.join(words)} ended with {status}")
-        sink.seek(0)
-        return took, used.ru_maxrss * 1024, sink.read()
+def timed(curp, words, given=None):
+    """Runs the program on words and an input: how long it took, its memory in bytes, and the file of what it wrote.
+
+    Nothing of it is kept here, since a process begins with the memory of the one that started it as its most."""
+    sink = tempfile.TemporaryFile("w+")
+    if given:
+        given.seek(0)
+    started = time.perf_counter()
+    child = subprocess.Popen([curp, *words], stdin=given or subprocess.DEVNULL, stdout=sink)
+    _, status, used = os.wait4(child.pid, 0)
+    took = time.perf_counter() - started
+    if status:
+        sys.exit(f"{curp} {' '.join(words)} ended with {status}")
+    sink.seek(0)
+    return took, used.ru_maxrss * 1024, sink
+
+
+def script_of(lines):
+    """A file with these lines."""
+    script = tempfile.TemporaryFile("w+")
+    script.writelines(f"{line}\n" for line in lines)
+    script.flush()
+    return script
 
 
 class Play:
@@ -88,27 +100,36 @@ def by_plan(curp, name, values, steps, **options):
     for value in values:
         plan = {"steps": steps, **options, name: value}
         words = ["make", *(word for key, number in plan.items() for word in (f"--{key}", str(number)))]
-        _, _, script = timed(curp, words)
+        script = timed(curp, words)[2]
         took, memory, text = timed(curp, ["play"], script)
-        messages = sum(line.startswith("m") for line in text.splitlines())
+        messages = sum(line.startswith("m") for line in text)
         rows.append((value, messages, took, memory))
     return rows
 
 
-def recovery(curp, updates):
-    """A master with so many updates in its log is recovered: what the steps of the recovery send, and what they take."""
-    lines = ['{"clients":1,"f":1,"fast":false,"parts":1,"protocol":1,"sets":64,"ways":4}']
+def puts(updates):
+    """The lines of a script in which a client that isn't fast puts so many keys, one after the other."""
+    yield '{"clients":1,"f":1,"fast":false,"parts":1,"protocol":1,"sets":64,"ways":4}'
     for number in range(updates):
-        lines.append(f'{{"client":1,"cmd":["put","{number:08x}","31"],"do":"invoke"}}')
-        lines += [f'{{"do":"deliver","msg":{4 * number + place}}}' for place in (1, 2, 3, 4)]
-    first = 4 * updates
-    before = timed(curp, ["play"], "\n".join(lines) + "\n")[0]
-    lines.append('{"backup":1,"do":"recover","part":1,"witness":1}')
-    # install, recover; fence, freeze; log, frozen; append; stored; recovered; adopted
-    lines += [f'{{"do":"deliver","msg":{first + place}}}' for place in (1, 3, 4, 5, 6, 7, 8, 9, 10, 11)]
-    took, memory, text = timed(curp, ["play"], "\n".join(lines) + "\n")
-    adopted = any(" adopted " in line for line in text.splitlines())
-    return updates, adopted, before, max(took - before, 0), memory
+        yield f'{{"client":1,"cmd":["put","{number:08x}","31"],"do":"invoke"}}'
+        yield from (f'{{"do":"deliver","msg":{4 * number + place}}}' for place in (1, 2, 3, 4))
+
+
+def recovered(updates):
+    """The same, and then the master is recovered: install, recover; fence, freeze; log, frozen; append; stored;
+    recovered; adopted."""
+    yield from puts(updates)
+    yield '{"backup":1,"do":"recover","part":1,"witness":1}'
+    yield from (f'{{"do":"deliver","msg":{4 * updates + place}}}' for place in (1, 3, 4, 5, 6, 7, 8, 9, 10, 11))
+
+
+def recovery(curp, updates):
+    """A master with so many updates in its log is recovered: what that takes, beside what comes before."""
+    before = timed(curp, ["play"], script_of(puts(updates)))[0]
+    took, memory, text = timed(curp, ["play"], script_of(recovered(updates)))
+    if not any(" adopted " in line for line in text):
+        sys.exit("a recovery wasn't adopted")
+    return updates, before, max(took - before, 0), memory
 
 
 def one_round_trips(curp, keys, sets, ways, updates=400, clients=8, seed=1):
@@ -181,27 +202,36 @@ def size(number):
 
 
 def table(head, rows):
-    return "\n".join(["| " + " | ".join(head) + " |", "|" + "---|" * len(head)] + ["| " + " | ".join(map(str, row)) + " |" for row in rows])
+    whole = [head, ["---"] * len(head), *rows]
+    return "\n".join("| " + " | ".join(map(str, row)) + " |" for row in whole)
 
 
-def plot(name, title, across, up, lines):
-    """Draws lines of points, each with its name, and writes the picture."""
+def above(number):
+    """The next round number."""
+    power = 10 ** floor(log10(number))
+    return next(power * step for step in (1, 2, 2.5, 5, 10) if power * step >= number)
+
+
+def plot(name, title, across, up, lines, names=None):
+    """Draws lines of points, each with its name, and writes the picture. The places across have numbers, or names."""
     width, height, left, top, right, bottom = 640, 360, 70, 40, 150, 50
     points = [point for _, line in lines for point in line]
-    most_x, most_y = max(x for x, _ in points), max(y for _, y in points) * 1.05 or 1
+    most_x, most_y = max(x for x, _ in points), above(max(y for _, y in points))
     place = lambda x, y: (left + x / most_x * (width - left - right), height - bottom - y / most_y * (height - top - bottom))
     style = "text { font: 12px sans-serif; fill: #222 } .axis { stroke: #888 } .grid { stroke: #ddd }"
     parts = [f'<svg xmlns="http://www.w3.org/2000/svg" width="{width}" height="{height}" viewBox="0 0 {width} {height}">']
     parts += [f"<style>{style}</style>", f'<rect width="{width}" height="{height}" fill="#fff"/>']
     parts.append(f'<text x="{left}" y="22" font-weight="bold">{escape(title)}</text>')
+    for x, told in enumerate(names) if names else ((most_x * tick / 4, f"{most_x * tick / 4:g}") for tick in range(5)):
+        parts.append(f'<text x="{place(x, 0)[0]:.1f}" y="{height - bottom + 18}" text-anchor="middle">{told}</text>')
     for tick in range(6):
-        x, y = most_x * tick / 5, most_y * tick / 5
-        px, py = place(x, 0)[0], place(0, y)[1]
+        y = most_y * tick / 5
+        py = place(0, y)[1]
         parts.append(f'<line x1="{left}" y1="{py:.1f}" x2="{width - right}" y2="{py:.1f}" class="grid"/>')
-        parts.append(f'<text x="{left - 8}" y="{py + 4:.1f}" text-anchor="end">{y:.3g}</text>')
-        parts.append(f'<text x="{px:.1f}" y="{height - bottom + 18}" text-anchor="middle">{x:.3g}</text>')
+        parts.append(f'<text x="{left - 8}" y="{py + 4:.1f}" text-anchor="end">{y:g}</text>')
     parts.append(f'<text x="{(left + width - right) / 2}" y="{height - 10}" text-anchor="middle">{escape(across)}</text>')
-    parts.append(f'<text x="16" y="{height / 2}" text-anchor="middle" transform="rotate(-90 16 {height / 2})">{escape(up)}</text>')
+    turned = f'transform="rotate(-90 16 {height / 2})"'
+    parts.append(f'<text x="16" y="{height / 2}" text-anchor="middle" {turned}>{escape(up)}</text>')
     for number, (told, line) in enumerate(lines):
         colour = COLOURS[number % len(COLOURS)]
         path = " ".join(f"{x:.1f},{y:.1f}" for x, y in (place(*point) for point in line))
@@ -222,10 +252,11 @@ def plan_part(curp):
     show = lambda rows: [(value, messages, f"{took:.2f}", size(memory)) for value, messages, took, memory in rows]
     return [
         "## Playing a made script",
-        "Scripts of `curp make` with its own numbers but for the one that a table names; `curp play` reads each and writes its text.",
+        "Scripts of `curp make` with its own numbers but for the one that a table names; `curp play` reads each and "
+        "writes its text.",
         table(["`--steps`", *head], show(steps)),
-        plot("steps", "Time of a made script", "steps", "seconds", [("play", [(value, took) for value, _, took, _ in steps])]),
-        plot("memory", "Memory of a made script", "steps", "MB", [("play", [(value, memory / 1e6) for value, _, _, memory in steps])]),
+        plot("steps", "Time of a made script", "steps", "seconds", [("play", [(row[0], row[2]) for row in steps])]),
+        plot("memory", "Memory of a made script", "steps", "MB", [("play", [(row[0], row[3] / 1e6) for row in steps])]),
         "With 20,000 steps, by partitions and by backups:",
         table(["`--parts`", *head], show(parts)),
         table(["`--f`", *head], show(copies)),
@@ -233,13 +264,13 @@ def plan_part(curp):
 
 
 def recovery_part(curp):
-    rows = [recovery(curp, updates) for updates in (100, 500, 1000, 2000, 4000)]
-    told = [(n, f"{before:.2f}", f"{took:.3f}", size(memory)) for n, _, before, took, memory in rows]
-    if not all(row[1] for row in rows):
-        sys.exit("a recovery wasn't adopted")
+    rows = [recovery(curp, updates) for updates in (1000, 4000, 16000, 36000)]
+    told = [(n, f"{before:.2f}", f"{took:.3f}", size(memory)) for n, before, took, memory in rows]
     return [
         "## A recovery",
-        "One client that isn't fast puts so many keys, each on the backup before the next; then the master is recovered. The time of the recovery is that of its 11 steps alone. It grows with the log, which the backup sends whole and the fresh backup gets whole.",
+        "One client that isn't fast puts so many keys, each on the backup before the next; then the master is recovered. "
+        "The time of the recovery is that of its 11 steps alone. It grows with the log, which the backup sends whole and "
+        "the fresh backup gets whole.",
         table(["updates in the log", "seconds before it", "seconds of the recovery", "memory"], told),
     ]
 
@@ -250,18 +281,23 @@ def round_trip_part(curp):
     shares = {(sets, ways): [one_round_trips(curp, k, sets, ways) for k in keys] for sets, ways in shapes}
     rows = [(f"{sets} x {ways}", *(f"{100 * share:.0f} %" for share in line)) for (sets, ways), line in shares.items()]
     places = list(range(len(keys)))
-    lines = [(f"{sets} sets of {ways}", list(zip(places, [100 * share for share in line]))) for (sets, ways), line in shares.items()]
+    lines = [
+        (f"{sets} sets of {ways}", [(place, 100 * share) for place, share in zip(places, line)])
+        for (sets, ways), line in shares.items()
+    ]
     return [
         "## Updates in one round trip",
-        "Eight clients put random keys of so many, 400 updates in all; every message comes, in turn; each eight updates are under way together, and after each 50 there is a round and a collection. The share of updates that complete with no synced reply, by the shape of witnesses (sets x slots of a set) and the number of keys:",
+        "Eight clients put random keys of so many, 400 updates in all; every message comes, in turn; each eight updates "
+        "are under way together, and after each 50 there is a round and a collection. The share of updates that complete "
+        "with no synced reply, by the shape of witnesses (sets x slots of a set) and the number of keys:",
         table(["sets x ways", *(f"{k} keys" for k in keys)], rows),
-        plot("round-trips", "Updates that complete in one round trip", "number of keys: 1, 4, 16, 64, 256, 1024, 4096", "percent", lines),
+        plot("round-trips", "Updates that complete in one round trip", "keys", "percent", lines, keys),
     ]
 
 
 def full_set_part(curp):
     shapes = [(sets, ways) for ways in (1, 2, 4, 8) for sets in (16, 64, 256)]
-    runs = 10
+    runs = 40
     rows = []
     for sets, ways in shapes:
         found = [first_full_set(curp, sets, ways, seed) for seed in range(runs)]
@@ -270,7 +306,9 @@ def full_set_part(curp):
     lines = [(f"{w} slots", [(s, mean) for s, v, mean, *_ in rows if v == w]) for w in (1, 2, 4, 8)]
     return [
         "## Records until the first full set",
-        f"How many records of random keys a witness takes before the first that finds its set full, in {runs} runs, and what chance alone gives on average: balls that fall at random into bins. FNV-1a spreads the keys over the sets as chance does. (The CURP paper has such a figure for its witnesses.)",
+        f"How many records of random keys a witness takes before the first that finds its set full, in {runs} runs, and "
+        "what chance alone gives on average: balls that fall at random into bins. FNV-1a spreads the keys over the sets as "
+        "chance does. (The CURP paper has such a figure for its witnesses.)",
         table(["sets", "slots of a set", "on average", "least", "most", "by chance"], told),
         plot("full-sets", "Records until the first full set", "sets", "records", lines),
     ]
@@ -282,7 +320,9 @@ def main():
     curp = str(Path(sys.argv[1]).resolve())
     parts = [
         "# Measured",
-        "What the program costs, and how often an update takes one round trip. `tools/measure.py crates/curp/out/curp` makes this page and its pictures; the times are of one run on one machine, and the counts are the same on every machine.",
+        "What the program costs, and how often an update takes one round trip. `tools/measure.py crates/curp/out/curp` "
+        "makes this page and its pictures; the times are of one run on one machine, and the counts are the same on every "
+        "machine. Memory below 17 MB isn't told apart.",
     ]
     parts += plan_part(curp) + recovery_part(curp) + round_trip_part(curp) + full_set_part(curp)
     PAGE.write_text("\n\n".join(parts) + "\n", encoding="utf-8")
