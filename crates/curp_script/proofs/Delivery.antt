@@ -1,5 +1,5 @@
 -- A delivery, as it is printed, read.
-use Rattle.std.proofs.Common.{◌≡◌, ◌&&◌, zero, suc, Bool, false, nat_lt, IsAscii, None, IfSome, length, take, drop, bytes_eq, take-append-drop, ap₂, ◌-◌, Option, option_and_then, ◌<◌, ◌^◌, ◌∙◌, ◌++◌, ℕ, List, [], ◌∷◌, codes, decimal, true, Some, IsUtf8, refl, sym, ap, arith}
+use Rattle.std.proofs.Common.{◌≡◌, ◌&&◌, zero, suc, Bool, false, nat_lt, IsAscii, None, IfSome, length, take, drop, bytes_eq, take-append-drop, ap₂, ◌-◌, Option, option_and_then, ◌<◌, ◌^◌, ◌∙◌, ◌++◌, ℕ, List, [], ◌∷◌, codes, decimal, true, Some, Ok, IsUtf8, refl, sym, ap, arith}
 use Rattle.std.proofs.lemmas.Bool.Decides.{nat_tests}
 use Rattle.std.proofs.lemmas.Slice.Eq.{bytes_eq-Decides}
 use Rattle.std.proofs.lemmas.Fmt.{IsAscii-decimal}
@@ -15,14 +15,12 @@ use Rattle.serde_json.specs.Data.{Data, unsigned}
 use Rattle.serde_json.specs.Read.{read, of_json, number_of, max_depth}
 use Rattle.serde_json.proofs.Numbers.{number_of-decimal}
 use Rattle.curp_msg.specs.declared.script.Step.TheVariants.{Deliver}
-use Rattle.curp_script.specs.declared.error.Word.TheVariants as word
 use Rattle.curp_script.specs.Digits.{whole_of}
 use Rattle.curp_script.specs.Grammar.{step_of, step_in}
 use Rattle.curp_script.specs.Headers.{is_within}
-use Rattle.curp_script.specs.Printed.{step_data, checked, ReadsBack}
+use Rattle.curp_script.specs.Printed.{step_data, ReadsBack}
 use Rattle.curp_script.proofs.Counting.{decimal-whole_of}
 use Rattle.curp_script.proofs.Lines.{read_as-printed}
-use Rattle.curp_script.proofs.ReadBack.{needs}
 
 -- the line of a delivery of a message with these digits
 abbrev pub delivery : List ℕ → List ℕ
@@ -79,13 +77,13 @@ utf8 n small =
 deliver_reads : (n : ℕ) → n < 2 ^ 64 → ReadsBack (Deliver n)
 deliver_reads n small =
     let fits : is_within 0 (2 ^ 64 - 1) n ≡ true = grind (arith, nat_tests) in
-    needs word.Deliver [] _ (Deliver n) (rw fits refl)
+    rw fits refl
 
-step_in-delivery : (n : ℕ) → n < 2 ^ 64 → step_in (delivery (decimal n)) ≡ checked (Deliver n)
+step_in-delivery : (n : ℕ) → n < 2 ^ 64 → step_in (delivery (decimal n)) ≡ Ok (Deliver n)
 step_in-delivery n small = read_as-printed step_of (delivery (decimal n)) (step_data (Deliver n)) refl (utf8 n small) (read-delivery n small) ∙ deliver_reads n small
 
 -- where digits write a number, a line of these digits is the delivery of it
-pub reads_delivery : (line digits : List ℕ) (message : Option ℕ) → line ≡ delivery digits → message ≡ whole_of digits → IfSome message (λ n. step_in line ≡ checked (Deliver n))
+pub reads_delivery : (line digits : List ℕ) (message : Option ℕ) → line ≡ delivery digits → message ≡ whole_of digits → IfSome message (λ n. step_in line ≡ Ok (Deliver n))
 reads_delivery line digits None is whole = tt
 reads_delivery line digits (Some n) is whole =
     let printed = decimal-whole_of digits n whole in

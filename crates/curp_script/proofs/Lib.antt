@@ -1,4 +1,3 @@
-pub mod AllBuilt
 mod Behind
 mod Counting
 mod Delivery

@@ -1,10 +1,9 @@
 -- What is printed reads as what it was printed for.
-use Rattle.std.proofs.Common.{◌≡◌, ◌≤◌, ◌<◌, ◌+◌, ◌-◌, ◌*◌, ◌==◌, ◌≢◌, ◌/◌, ◌%◌, ◌^◌, ◌↔◌, ◌++◌, ◌∙◌, ℕ, List, [], ◌∷◌, length, flat_map, Bool, true, false, Some, None, Result, Ok, Err, option_and_then, if◌then◌else◌, All, decimal, refl, ap, arith, append_assoc}
+use Rattle.std.proofs.Common.{◌≡◌, ◌≤◌, ◌<◌, ◌+◌, ◌-◌, ◌*◌, ◌==◌, ◌≢◌, ◌/◌, ◌%◌, ◌^◌, ◌↔◌, ◌++◌, ◌∙◌, ℕ, List, [], ◌∷◌, length, flat_map, true, false, Some, None, option_and_then, if◌then◌else◌, All, decimal, refl, ap, arith, append_assoc}
 use Rattle.std.proofs.lemmas.Bool.Decides.{nat_tests}
 use Rattle.std.proofs.lemmas.List.{flat_map_more}
 use Rattle.std.proofs.lemmas.List.Elements.{All-head, All-tail, All-from_recursion}
 use Rattle.std.proofs.lemmas.Nat.{from_be_bytes-to_be_bytes_8}
-use Rattle.std.specs.Prelude.{⊤}
 use Rattle.std.specs.Fmt.{digit_glyph}
 use Rattle.std.specs.Int.{w64, to_be_bytes, from_be_bytes}
 use Rattle.serde_json.specs.Data.{Data}
@@ -17,15 +16,10 @@ use Rattle.curp_cmd.specs.declared.node.NodeId.{NodeId}
 use Rattle.curp_cmd.specs.declared.node.NodeKind.{NodeKind}
 use Rattle.curp_cmd.specs.declared.node.NodeKind.TheVariants.{Manager, Client, Master, Backup, Witness}
 use Rattle.curp_script.specs.Digits.{digit_of, by_twos, byte_of, bytes_of, at_least, at_most, hash_of, counted, hex}
-use Rattle.curp_script.specs.Grammar.{◌>>=◌, built, number_within, key_in, value_in, pair_in, multi_put, listed}
-use Rattle.curp_script.specs.Built.{is_built}
+use Rattle.curp_script.specs.Grammar.{number_within, key_in, value_in, pair_in, multi_put, listed}
 use Rattle.curp_script.specs.Headers.{is_within}
-use Rattle.curp_script.specs.Printed.{command_parts, command_words, bytes_data, pair_data, count, if_built, CommandReadsBack, ReadsBack}
-use Rattle.curp_script.specs.declared.error.Word.{Word}
-use Rattle.curp_script.specs.declared.error.Word.TheVariants as word
+use Rattle.curp_script.specs.Printed.{command_parts, bytes_data, pair_data, count, CommandReadsBack, ReadsBack}
 use Rattle.curp_msg.specs.declared.script.Step.TheVariants.{Invoke, Migrate, Stop}
-use Rattle.curp_script.specs.declared.error.LineError.{LineError}
-use Rattle.curp_script.specs.declared.error.LineError.TheVariants.{Later}
 use Rattle.curp_script.specs.Nodes.{node_of, node_text, numbered_text}
 use Rattle.curp_script.proofs.Counting.{whole_of-decimal}
 
@@ -118,28 +112,6 @@ pairs_more printed before pairs p is =
 
 -- ---- steps
 
-abbrev pub done : Result ⊤ LineError
-done = Ok tt
-
--- a form that a line needs comes before what else it needs
-pub needs : {A : Type 0} (w : Word) (ws : List Word) (after : Result A LineError) (value : A) → after ≡ if_built ws value
-    → (built w >>= λ _. after) ≡ if_built (w ∷ ws) value
-needs {A} w ws after value is = chosen (is_built w)
-  where
-    chosen : (b : Bool) → ((if b then done else Err (Later w)) >>= λ _. after) ≡ (if b then if_built ws value else Err (Later w))
-    chosen true = is
-    chosen false = refl
-
--- what is made of a value needs what the value does
-needs_too : {A B : Type 0} (ws : List Word) (value : A) (f : A → B) → ((if_built ws value >>= λ x. Ok (f x)) >>= λ y. Ok y) ≡ if_built ws (f value)
-needs_too [] value f = refl
-needs_too {A} {B} (w ∷ ws) value f = chosen (is_built w) (needs_too ws value f)
-  where
-    chosen : (b : Bool) → ((if_built ws value >>= λ x. Ok (f x)) >>= λ y. Ok y) ≡ if_built ws (f value)
-        → (((if b then if_built ws value else Err (Later w)) >>= λ x. Ok (f x)) >>= λ y. Ok y) ≡ (if b then if_built ws (f value) else Err (Later w))
-    chosen true is = is
-    chosen false is = refl
-
 index_within : (n : ℕ) → n < 2 ^ 32 → number_within 0 (2 ^ 32 - 1) (count n) ≡ Some n
 index_within n small =
     let fits : is_within 0 (2 ^ 32 - 1) n ≡ true = grind (arith, nat_tests) in
@@ -150,13 +122,10 @@ listed-items_of [] = refl
 listed-items_of (d ∷ ds) = ap (λ (more : List Data). d ∷ more) (listed-items_of ds)
 
 pub invoke_reads : (client : ℕ) (command : Command) → client < 2 ^ 32 → CommandReadsBack command → ReadsBack (Invoke client command)
-invoke_reads client command small reads =
-    needs word.Invoke (command_words command) _ (Invoke client command)
-    (rw (index_within client small, listed-items_of (command_parts command), reads) (needs_too (command_words command) command (λ c. Invoke client c)))
+invoke_reads client command small reads = rw (index_within client small, listed-items_of (command_parts command), reads) refl
 
 pub stop_reads : (node : NodeId) → node.number < 2 ^ 32 → (node.number ≡ 0) ↔ (node.kind ≡ Manager) → ReadsBack (Stop node)
-stop_reads node small names = needs word.Stop [] _ (Stop node) (rw (node_of-text node small names) refl)
+stop_reads node small names = rw (node_of-text node small names) refl
 
 pub migrate_reads : (lo hi to : ℕ) → lo < 2 ^ 64 → hi < 2 ^ 64 → to < 2 ^ 32 → ReadsBack (Migrate lo hi to)
-migrate_reads lo hi to lo_small hi_small to_small =
-    needs word.Migrate [] _ (Migrate lo hi to) (rw (hash_of-bytes lo lo_small, hash_of-bytes hi hi_small, index_within to to_small) refl)
+migrate_reads lo hi to lo_small hi_small to_small = rw (hash_of-bytes lo lo_small, hash_of-bytes hi hi_small, index_within to to_small) refl

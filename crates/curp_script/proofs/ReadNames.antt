@@ -13,15 +13,14 @@ use Rattle.curp_msg.specs.declared.script.Step.{Step}
 use Rattle.curp_msg.specs.declared.script.Step.TheVariants.{Invoke}
 use Rattle.curp_script.specs.declared.error.FieldName.TheVariants as field
 use Rattle.curp_script.specs.declared.error.LineError.TheVariants.{BadField}
-use Rattle.curp_script.specs.declared.error.Word.TheVariants as word
 use Rattle.curp_script.specs.declared.kind.Kind.{Kind}
 use Rattle.curp_script.specs.declared.kind.Kind.TheVariants as kind
 use Rattle.curp_script.specs.declared.kind.Verb.{Verb}
 use Rattle.curp_script.specs.declared.kind.Verb.TheVariants as verb
 use Rattle.curp_script.specs.Digits.{by_twos, hash_of}
-use Rattle.curp_script.specs.Grammar.{built, built_where, command_at, command_by, command_of, cond_put_of, expected_in, field_as, index_at, key_alone, key_in, listed, multi_put, no_other, number_at, object_in, one_pair, pair_in, read_as, step_by, step_in, step_of, text_as, value_in, values_of}
+use Rattle.curp_script.specs.Grammar.{command_at, command_by, command_of, cond_put_of, expected_in, field_as, index_at, key_alone, key_in, listed, multi_put, no_other, number_at, object_in, one_pair, pair_in, read_as, step_by, step_in, step_of, text_as, value_in, values_of}
 use Rattle.curp_script.specs.Headers.{is_within}
-use Rattle.curp_script.specs.Kinds.{is_get, kind_of, names_of, verb_of, word_of}
+use Rattle.curp_script.specs.Kinds.{kind_of, names_of, verb_of}
 use Rattle.curp_script.specs.Nodes.{keeper_of, node_of}
 use Rattle.curp_script.proofs.Behind.{behind, of_ok, or_error, some_behind, some_map}
 
@@ -61,7 +60,7 @@ command_named : (items : List Data) → IfOk (command_of items) NamesKey
 command_named [] = tt
 command_named (first ∷ parts) =
     behind NamesKey (ok_or (option_and_then verb_of (as_str first)) (BadField field.Cmd)) _
-    (λ v _. behind NamesKey (built_where (is_get v) word.Get) _ (λ _ _. or_error NamesKey (command_by v parts) _ (by_verb v parts)))
+    (λ v _. or_error NamesKey (command_by v parts) _ (by_verb v parts))
 
 -- ---- steps
 
@@ -86,8 +85,8 @@ values_named kind.Stop d = behind IsNamed (text_as node_of field.Node d) _ (λ _
 
 object_named : (d : Data) → IfOk (step_of d) IsNamed
 object_named d =
-    behind IsNamed (text_as kind_of field.Do d) (λ k. step_by k d) (λ k _. behind IsNamed (built (word_of k)) _ (λ _ _. behind IsNamed (values_of k d) _
-    (λ step read. behind IsNamed (no_other (names_of k) d) _ (λ _ _. of_ok IsNamed (values_of k d) step read (values_named k d)))))
+    behind IsNamed (text_as kind_of field.Do d) (λ k. step_by k d) (λ k _. behind IsNamed (values_of k d) _
+    (λ step read. behind IsNamed (no_other (names_of k) d) _ (λ _ _. of_ok IsNamed (values_of k d) step read (values_named k d))))
 
 -- a step that was read names keys, if it invokes
 pub read_names : (line : List ℕ) → IfOk (step_in line) IsNamed

@@ -18,17 +18,14 @@ use Rattle.curp_script.specs.declared.kind.Kind.{Kind}
 use Rattle.curp_script.specs.declared.kind.Kind.TheVariants as kind
 use Rattle.curp_script.specs.declared.kind.Verb.{Verb}
 use Rattle.curp_script.specs.declared.kind.Verb.TheVariants as verb
-use Rattle.curp_script.specs.declared.error.Word.{Word}
-use Rattle.curp_script.specs.declared.error.Word.TheVariants as word
 use Rattle.curp_script.specs.declared.error.FieldName.{FieldName}
 use Rattle.curp_script.specs.declared.error.FieldName.TheVariants as field
 use Rattle.curp_script.specs.declared.error.LineError.{LineError}
-use Rattle.curp_script.specs.declared.error.LineError.TheVariants.{BadJson, BadField, Later}
-use Rattle.curp_script.specs.Built.{is_built}
+use Rattle.curp_script.specs.declared.error.LineError.TheVariants.{BadJson, BadField}
 use Rattle.curp_script.specs.Digits.{by_twos, bytes_of, at_most, at_least, hash_of}
 use Rattle.curp_script.specs.Headers.{is_within}
 use Rattle.curp_script.specs.Text.{field_text}
-use Rattle.curp_script.specs.Kinds.{header_names, kind_of, word_of, names_of, verb_of, is_get}
+use Rattle.curp_script.specs.Kinds.{header_names, kind_of, names_of, verb_of}
 use Rattle.curp_script.specs.Nodes.{keeper_of, node_of}
 
 -- the ? of the logic: the second step, if the first gave a value
@@ -74,14 +71,6 @@ text_as form name d = ok_or (option_and_then form (option_and_then as_str (get (
 abbrev pub no_other : List FieldName → Data → Result ⊤ LineError
 no_other names d = if has_only names (unwrap_or (as_object d) no_members) then Ok tt else Err (BadField field.Other)
 
--- a form of the grammar that is needed must be built
-abbrev pub built_where : Bool → Word → Result ⊤ LineError
-built_where needed w = if needed && not (is_built w) then Err (Later w) else Ok tt
-
--- a form of the grammar, which must be built
-abbrev pub built : Word → Result ⊤ LineError
-built w = if is_built w then Ok tt else Err (Later w)
-
 -- a whole number from low to high
 abbrev pub number_within : ℕ → ℕ → Data → Option ℕ
 number_within low high d =
@@ -101,34 +90,19 @@ bytes_within least most d = option_and_then (at_least least) (option_and_then (a
 
 -- ---- the header
 
--- true only where that is built
-abbrev pub fast_at : Data → Result Bool LineError
-fast_at d = do
-  fast ← field_as as_bool field.Fast d
-  _ ← built_where fast word.Fast
-  Ok fast
-
--- more than one partition only where that is built
-abbrev pub parts_at : Data → Result ℕ LineError
-parts_at d = do
-  parts ← number_at field.Parts 1 16 d
-  _ ← built_where (nat_lt 1 parts) word.Parts
-  Ok parts
-
--- the second protocol only where that is built
+-- the protocol of reads, by its number
 abbrev pub protocol_at : Data → Result Protocol LineError
 protocol_at d = do
-  protocol ← number_at field.Protocol 1 2 d
-  _ ← built_where (nat_lt 1 protocol) word.Protocol
-  Ok (if nat_lt 1 protocol then Two else One)
+  number ← number_at field.Protocol 1 2 d
+  Ok (if nat_lt 1 number then Two else One)
 
 -- the header that an object is
 abbrev pub header_of : Data → Result Header LineError
 header_of d = do
   clients ← number_at field.Clients 1 64 d
   f ← number_at field.F 1 5 d
-  fast ← fast_at d
-  parts ← parts_at d
+  fast ← field_as as_bool field.Fast d
+  parts ← number_at field.Parts 1 16 d
   protocol ← protocol_at d
   sets ← number_at field.Sets 1 1024 d
   ways ← number_at field.Ways 1 16 d
@@ -188,7 +162,6 @@ abbrev pub command_of : List Data → Result Command LineError
 command_of [] = Err (BadField field.Cmd)
 command_of (first ∷ parts) = do
   verb ← ok_or (option_and_then verb_of (as_str first)) (BadField field.Cmd)
-  _ ← built_where (is_get verb) word.Get
   ok_or (command_by verb parts) (BadField field.Cmd)
 
 -- the items of an array
@@ -249,10 +222,9 @@ values_of kind.Stop d = do
   node ← text_as node_of field.Node d
   Ok (Stop node)
 
--- the step that an object is: its kind must be built, and no name stands there but those of the kind
+-- the step of a kind that an object is: no name stands there but those of the kind
 abbrev pub step_by : Kind → Data → Result Step LineError
 step_by kind d = do
-  _ ← built (word_of kind)
   step ← values_of kind d
   _ ← no_other (names_of kind) d
   Ok step

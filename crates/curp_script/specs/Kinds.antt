@@ -1,9 +1,6 @@
 -- The kinds of step with the names in a line of each, and the kinds of command: what reading and printing share.
-use Rattle.std.specs.Prelude.{ℕ, codes, Bool, true, false, List, [], ◌∷◌, Option, find}
+use Rattle.std.specs.Prelude.{ℕ, codes, List, [], ◌∷◌, Option, find}
 use Rattle.std.specs.Str.{bytes_eq}
-use Rattle.curp_script.specs.Text.{word_text}
-use Rattle.curp_script.specs.declared.error.Word.{Word}
-use Rattle.curp_script.specs.declared.error.Word.TheVariants as word
 use Rattle.curp_script.specs.declared.error.FieldName.{FieldName}
 use Rattle.curp_script.specs.declared.error.FieldName.TheVariants as field
 use Rattle.curp_script.specs.declared.kind.Kind.{Kind}
@@ -23,24 +20,20 @@ kinds =
     kind.Invoke ∷ kind.Deliver ∷ kind.Retry ∷ kind.Fetch ∷ kind.Sync ∷ kind.Collect
     ∷ kind.Recover ∷ kind.Replace ∷ kind.Migrate ∷ kind.Nudge ∷ kind.Expire ∷ kind.Stop ∷ []
 
--- the form of the grammar that a kind of step is
-abbrev pub word_of : Kind → Word
-word_of kind.Invoke = word.Invoke
-word_of kind.Deliver = word.Deliver
-word_of kind.Retry = word.Retry
-word_of kind.Fetch = word.Fetch
-word_of kind.Sync = word.Sync
-word_of kind.Collect = word.Collect
-word_of kind.Recover = word.Recover
-word_of kind.Replace = word.Replace
-word_of kind.Migrate = word.Migrate
-word_of kind.Nudge = word.Nudge
-word_of kind.Expire = word.Expire
-word_of kind.Stop = word.Stop
-
 -- what a line of this kind has under do
 abbrev pub kind_text : Kind → List ℕ
-kind_text k = word_text (word_of k)
+kind_text kind.Invoke = codes "invoke"
+kind_text kind.Deliver = codes "deliver"
+kind_text kind.Retry = codes "retry"
+kind_text kind.Fetch = codes "fetch"
+kind_text kind.Sync = codes "sync"
+kind_text kind.Collect = codes "collect"
+kind_text kind.Recover = codes "recover"
+kind_text kind.Replace = codes "replace"
+kind_text kind.Migrate = codes "migrate"
+kind_text kind.Nudge = codes "nudge"
+kind_text kind.Expire = codes "expire"
+kind_text kind.Stop = codes "stop"
 
 -- the kind that a text names
 abbrev pub kind_of : List ℕ → Option Kind
@@ -80,8 +73,3 @@ verb_text verb.Multi = codes "multi"
 -- the kind of command that a text names
 abbrev pub verb_of : List ℕ → Option Verb
 verb_of text = find (λ v. bytes_eq text (verb_text v)) verbs
-
--- the one command that is built on its own
-abbrev pub is_get : Verb → Bool
-is_get verb.Get = true
-is_get _ = false

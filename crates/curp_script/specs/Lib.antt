@@ -1,4 +1,3 @@
-pub mod Built
 pub mod Digits
 pub mod Grammar
 pub mod Headers

@@ -1,5 +1,5 @@
 -- What is printed for a header and a step, and what reading it gives.
-use Rattle.std.specs.Prelude.{◌≡◌, ◌↔◌, ◌++◌, ℕ, nat_lt, if◌then◌else◌, Bool, List, [], ◌∷◌, flat_map, Option, Some, None, Result, Ok, Err, ⊤}
+use Rattle.std.specs.Prelude.{◌≡◌, ◌↔◌, ℕ, List, [], ◌∷◌, flat_map, Option, Some, None, Ok, ⊤}
 use Rattle.std.specs.Int.{w64, to_be_bytes}
 use Rattle.serde_json.specs.Data.{Data, null, boolean, number, string, array, object, unsigned, Members, no_members, put}
 use Rattle.serde_json.specs.View.{items_of}
@@ -15,15 +15,9 @@ use Rattle.curp_msg.specs.declared.script.Step.TheVariants.{Invoke, Deliver, Ret
 use Rattle.curp_script.specs.declared.kind.Kind.{Kind}
 use Rattle.curp_script.specs.declared.kind.Kind.TheVariants as kind
 use Rattle.curp_script.specs.declared.kind.Verb.TheVariants as verb
-use Rattle.curp_script.specs.declared.error.Word.{Word}
-use Rattle.curp_script.specs.declared.error.Word.TheVariants as word
 use Rattle.curp_script.specs.declared.error.FieldName.{FieldName}
-use Rattle.curp_script.specs.declared.error.LineError.{LineError}
-use Rattle.curp_script.specs.declared.error.LineError.TheVariants.{Later}
-use Rattle.curp_script.specs.Built.{is_built}
 use Rattle.curp_script.specs.Digits.{hex}
 use Rattle.curp_script.specs.Grammar.{step_of, command_of}
-use Rattle.curp_script.specs.Headers.{is_second}
 use Rattle.curp_script.specs.Kinds.{header_names, kind_text, names_of, verb_text}
 use Rattle.curp_script.specs.Nodes.{keeper_text, node_text}
 use Rattle.curp_script.specs.Text.{field_text}
@@ -109,52 +103,10 @@ abbrev pub NamesNode : Step → Type 0
 NamesNode (Stop id) = (id.number ≡ 0) ↔ (id.kind ≡ node.Manager)
 NamesNode _ = ⊤
 
--- a value that needs these forms of the grammar, or the first of them that isn't built
-abbrev pub if_built : {A : Type 0} → List Word → A → Result A LineError
-if_built [] value = Ok value
-if_built (w ∷ ws) value = if is_built w then if_built ws value else Err (Later w)
-
--- a form that is needed, if it is
-abbrev pub word_where : Bool → Word → List Word
-word_where needed w = if needed then w ∷ [] else []
-
--- the forms that a header needs, in the order in which they are read
-abbrev pub header_words : Header → List Word
-header_words h =
-    word_where h.fast word.Fast ++ word_where (nat_lt 1 h.parts) word.Parts ++ word_where (is_second h.protocol) word.Protocol
-
--- the forms that a command needs
-abbrev pub command_words : Command → List Word
-command_words (Get key) = word.Get ∷ []
-command_words _ = []
-
--- the forms that a step needs, in the order in which they are read
-abbrev pub step_words : Step → List Word
-step_words (Invoke client command) = word.Invoke ∷ command_words command
-step_words (Deliver message) = word.Deliver ∷ []
-step_words (Retry client seq) = word.Retry ∷ []
-step_words (Fetch client) = word.Fetch ∷ []
-step_words (Sync master) = word.Sync ∷ []
-step_words (Collect master) = word.Collect ∷ []
-step_words (Recover part backup witness) = word.Recover ∷ []
-step_words (Replace keeper part place) = word.Replace ∷ []
-step_words (Migrate lo hi to) = word.Migrate ∷ []
-step_words Nudge = word.Nudge ∷ []
-step_words (Expire client) = word.Expire ∷ []
-step_words (Stop id) = word.Stop ∷ []
-
--- a header as it is read where all that it needs is built
-abbrev pub checked_header : Header → Result Header LineError
-checked_header h = if_built (header_words h) h
-
--- a step as it is read where all that it needs is built
-abbrev pub checked : Step → Result Step LineError
-checked step = if_built (step_words step) step
-
--- what is printed for a step is read as it is checked
+-- what is printed for a step is read as that step
 abbrev pub ReadsBack : Step → Type 0
-ReadsBack step = step_of (step_data step) ≡ checked step
+ReadsBack step = step_of (step_data step) ≡ Ok step
 
--- what is printed for a command is read as the command, where it is built
+-- what is printed for a command is read as that command
 abbrev pub CommandReadsBack : Command → Type 0
-CommandReadsBack command = command_of (command_parts command) ≡ if_built (command_words command) command
+CommandReadsBack command = command_of (command_parts command) ≡ Ok command

@@ -1,6 +1,5 @@
 ghost use Rattle.std.specs.Prelude.{◌≡◌};
-ghost use Rattle.curp_script.specs.Built.{is_built};
-ghost use Rattle.curp_script.specs.Text.{field_text, word_text};
+ghost use Rattle.curp_script.specs.Text.{field_text};
 
 use std::fmt;
 
@@ -11,8 +10,6 @@ pub enum LineError {
     BadJson,
     /// The name is absent, or its value is of another type or out of its range.
     BadField { name: FieldName },
-    /// The line has a form of the grammar that isn't built yet.
-    Later { word: Word },
     /// There was no memory to read it.
     NoMemory,
 }
@@ -43,31 +40,6 @@ pub enum FieldName {
     To,
     Ways,
     Witness,
-}
-
-/// A form of the grammar that is built on its own: a value of the header, a command, or a kind of step.
-#[derive(Clone, Copy, Debug, PartialEq, Eq)]
-pub enum Word {
-    /// The header's `fast` is true.
-    Fast,
-    /// The header's `parts` is more than 1.
-    Parts,
-    /// The header's `protocol` is 2.
-    Protocol,
-    /// The command `get`.
-    Get,
-    Invoke,
-    Deliver,
-    Retry,
-    Fetch,
-    Sync,
-    Collect,
-    Recover,
-    Replace,
-    Migrate,
-    Nudge,
-    Expire,
-    Stop,
 }
 
 impl FieldName {
@@ -103,41 +75,6 @@ impl FieldName {
     }
 }
 
-impl Word {
-    /// Whether scripts may have this form: the one list of what is built. A line that has another form is refused with
-    /// `Later`.
-    #[tactic(auto, unfolding(crate::specs::Built::is_built))]
-    pub fn is_built(self) -> bool
-        ensures { result ≡ is_built self }
-    {
-        !matches!(self, Word::Protocol)
-    }
-
-    /// The word as lines have it.
-    pub fn as_str(self) -> &'static str
-        ensures { result.now ≡ word_text self }
-    {
-        match self {
-            Word::Fast => "fast",
-            Word::Parts => "parts",
-            Word::Protocol => "protocol",
-            Word::Get => "get",
-            Word::Invoke => "invoke",
-            Word::Deliver => "deliver",
-            Word::Retry => "retry",
-            Word::Fetch => "fetch",
-            Word::Sync => "sync",
-            Word::Collect => "collect",
-            Word::Recover => "recover",
-            Word::Replace => "replace",
-            Word::Migrate => "migrate",
-            Word::Nudge => "nudge",
-            Word::Expire => "expire",
-            Word::Stop => "stop",
-        }
-    }
-}
-
 impl fmt::Display for LineError {
     ghost use Rattle.std.specs.Prelude.{Some};
     ghost use Rattle.curp_script.specs.Text.{reason_text};
@@ -148,7 +85,6 @@ impl fmt::Display for LineError {
         match self {
             LineError::BadJson => f.write_str("bad json"),
             LineError::BadField { name } => write!(f, "bad field {name}"),
-            LineError::Later { word } => write!(f, "not built yet: {word}"),
             LineError::NoMemory => f.write_str("out of memory"),
         }
     }
@@ -159,17 +95,6 @@ impl fmt::Display for FieldName {
     ghost use Rattle.curp_script.specs.Text.{field_text};
 
     ghost output = { λ name. Some (field_text name) };
-
-    fn fmt<W: fmt::Write>(&self, f: &mut fmt::Formatter<W>) -> fmt::Result {
-        f.write_str(self.as_str())
-    }
-}
-
-impl fmt::Display for Word {
-    ghost use Rattle.std.specs.Prelude.{Some};
-    ghost use Rattle.curp_script.specs.Text.{word_text};
-
-    ghost output = { λ word. Some (word_text word) };
 
     fn fmt<W: fmt::Write>(&self, f: &mut fmt::Formatter<W>) -> fmt::Result {
         f.write_str(self.as_str())

@@ -1,8 +1,8 @@
 // The kinds of step with the names in a line of each, and the kinds of command: what reading and printing share.
 ghost use Rattle.std.specs.Prelude.{◌≡◌};
-ghost use Rattle.curp_script.specs.Kinds.{kind_of, word_of, names_of, verb_of, is_get};
+ghost use Rattle.curp_script.specs.Kinds.{kind_of, kind_text, names_of, verb_of};
 
-use crate::{FieldName, Word};
+use crate::FieldName;
 
 // The names of a header, in byte order.
 pub(crate) const HEADER_NAMES: [FieldName; 7] = [
@@ -53,22 +53,23 @@ impl Kind {
         }
     }
 
-    pub(crate) fn word(self) -> Word
-        ensures { result ≡ word_of self }
+    // What a line of this kind has under do.
+    pub(crate) fn as_str(self) -> &'static str
+        ensures { result.now ≡ kind_text self }
     {
         match self {
-            Kind::Invoke => Word::Invoke,
-            Kind::Deliver => Word::Deliver,
-            Kind::Retry => Word::Retry,
-            Kind::Fetch => Word::Fetch,
-            Kind::Sync => Word::Sync,
-            Kind::Collect => Word::Collect,
-            Kind::Recover => Word::Recover,
-            Kind::Replace => Word::Replace,
-            Kind::Migrate => Word::Migrate,
-            Kind::Nudge => Word::Nudge,
-            Kind::Expire => Word::Expire,
-            Kind::Stop => Word::Stop,
+            Kind::Invoke => "invoke",
+            Kind::Deliver => "deliver",
+            Kind::Retry => "retry",
+            Kind::Fetch => "fetch",
+            Kind::Sync => "sync",
+            Kind::Collect => "collect",
+            Kind::Recover => "recover",
+            Kind::Replace => "replace",
+            Kind::Migrate => "migrate",
+            Kind::Nudge => "nudge",
+            Kind::Expire => "expire",
+            Kind::Stop => "stop",
         }
     }
 
@@ -114,12 +115,6 @@ pub(crate) enum Verb {
 }
 
 impl Verb {
-    pub(crate) fn is_get(self) -> bool
-        ensures { result ≡ is_get self }
-    {
-        matches!(self, Verb::Get)
-    }
-
     pub(crate) fn from_text(text: &str) -> Option<Verb>
         ensures { result ≡ verb_of text.now }
     {

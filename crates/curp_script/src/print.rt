@@ -1,4 +1,4 @@
-ghost use Rattle.std.specs.Prelude.{◌≡◌, ◌≤◌, ◌+◌, length, map, vec_len, IfOk, OnOk};
+ghost use Rattle.std.specs.Prelude.{◌≡◌, ◌≤◌, ◌+◌, length, map, vec_len, IfOk, Ok, OnOk};
 ghost use Rattle.serde_json.specs.Data.{object, string};
 ghost use Rattle.serde_json.specs.View.{view};
 ghost use Rattle.serde_json.specs.Written.{compact_text};
@@ -7,7 +7,7 @@ ghost use Rattle.curp_script.specs.Headers.{InRange};
 ghost use Rattle.curp_script.specs.Kinds.{names_of};
 ghost use Rattle.curp_script.specs.Nodes.{keeper_text};
 ghost use Rattle.curp_script.specs.Printed.{count, protocol_number, header_data, step_data, kind_line, with_values};
-ghost use Rattle.curp_script.specs.Printed.{NamesNode, ReadsBack, checked_header, checked};
+ghost use Rattle.curp_script.specs.Printed.{NamesNode, ReadsBack};
 
 mod command;
 mod shown;
@@ -25,7 +25,7 @@ use std::alloc::Global;
 pub fn print_header(alloc: Global, header: &Header) -> Result<Vec<u8>, NoMemory>
     requires in_range { InRange header.now }
     ensures text { IfOk result (λ line. line.items ≡ compact_text (header_data header.now)) }
-    ensures reads_back { IfOk result (λ line. header_in line.items ≡ checked_header header.now) }
+    ensures reads_back { IfOk result (λ line. header_in line.items ≡ Ok header.now) }
 {
     header_json(alloc, header)?.to_vec(alloc)
 }
@@ -34,7 +34,7 @@ pub fn print_header(alloc: Global, header: &Header) -> Result<Vec<u8>, NoMemory>
 pub fn print_line(alloc: Global, step: &Step) -> Result<Vec<u8>, NoMemory>
     requires names_node { NamesNode step.now }
     ensures text { IfOk result (λ line. line.items ≡ compact_text (step_data step.now)) }
-    ensures reads_back { IfOk result (λ line. step_in line.items ≡ checked step.now) }
+    ensures reads_back { IfOk result (λ line. step_in line.items ≡ Ok step.now) }
 {
     step_json(alloc, step)?.to_vec(alloc)
 }
@@ -42,7 +42,7 @@ pub fn print_line(alloc: Global, step: &Step) -> Result<Vec<u8>, NoMemory>
 fn header_json(alloc: Global, header: &Header) -> Result<Json, NoMemory>
     requires { InRange header.now }
     ensures data { IfOk result (λ json. view json ≡ header_data header.now) }
-    ensures reads { header_of (header_data header.now) ≡ checked_header header.now }
+    ensures reads { header_of (header_data header.now) ≡ Ok header.now }
 {
     let values = vec![in alloc;
         Json::from(header.clients),
@@ -152,7 +152,7 @@ fn kind_line(alloc: Global, kind: Kind, values: Vec<Json>) -> Result<Json, NoMem
     ensures { IfOk result (λ json. view json ≡ kind_line kind (map view values.items)) }
 {
     let mut values = values;
-    values.insert(0, text(alloc, kind.word().as_str())?)?;
+    values.insert(0, text(alloc, kind.as_str())?)?;
     object(alloc, kind.names(), values)
 }
 

@@ -1,8 +1,7 @@
-ghost use Rattle.std.specs.Prelude.{◌≡◌, ◌≢◌, ◌≤◌, ◌&&◌, not, false, Err, IfOk};
-ghost use Rattle.curp_script.specs.Built.{is_built};
+ghost use Rattle.std.specs.Prelude.{◌≡◌, ◌≢◌, Err, IfOk};
 ghost use Rattle.curp_script.specs.Values.{value_data};
-ghost use Rattle.curp_script.specs.Grammar.{header_in, step_in, header_of, fast_at, parts_at, protocol_at};
-ghost use Rattle.curp_script.specs.Headers.{bad_field, is_second, most_parts};
+ghost use Rattle.curp_script.specs.Grammar.{header_in, step_in, header_of, protocol_at};
+ghost use Rattle.curp_script.specs.Headers.{bad_field};
 
 mod command;
 mod delivery;
@@ -14,9 +13,9 @@ mod steps;
 mod words;
 
 use crate::kind::HEADER_NAMES;
-use crate::{FieldName, Header, LineError, Protocol, Step, Word};
+use crate::{FieldName, Header, LineError, Protocol, Step};
 use delivery::printed_delivery;
-use fields::{built, built_where, flag_at, no_other, number_at};
+use fields::{flag_at, no_other, number_at};
 use json::{Scratch, Value as Json};
 use object::parse_object;
 use std::alloc::Global;
@@ -53,7 +52,6 @@ impl LineReader {
         ensures reads { result ≢ Err LineError.NoMemory → result ≡ step_in line.now }
     {
         if let Some(message) = printed_delivery(line) {
-            built(Word::Deliver)?;
             return Ok(Step::Deliver { message });
         }
         let object = parse_object(self.alloc, &mut self.scratch, line)?;
@@ -67,8 +65,8 @@ fn header_of(object: &Json<'_>) -> Result<Header, LineError>
 {
     let clients = number_at(object, FieldName::Clients, 1, 64)?;
     let f = number_at(object, FieldName::F, 1, 5)?;
-    let fast = fast_at(object)?;
-    let parts = parts_at(object)?;
+    let fast = flag_at(object, FieldName::Fast)?;
+    let parts = number_at(object, FieldName::Parts, 1, 16)?;
     let protocol = protocol_at(object)?;
     let sets = number_at(object, FieldName::Sets, 1, 1024)?;
     let ways = number_at(object, FieldName::Ways, 1, 16)?;
@@ -77,36 +75,20 @@ fn header_of(object: &Json<'_>) -> Result<Header, LineError>
         clients: clients as u32,
         f: f as u32,
         fast,
-        parts,
+        parts: parts as u32,
         protocol,
         sets: sets as u32,
         ways: ways as u32,
     })
 }
 
-fn fast_at(object: &Json<'_>) -> Result<bool, LineError>
-    ensures value { result ≡ fast_at (value_data object.now) }
-    ensures built { IfOk result (λ fast. (fast && not (is_built Word.Fast)) ≡ false) }
-{
-    let fast = flag_at(object, FieldName::Fast)?;
-    built_where(fast, Word::Fast)?;
-    Ok(fast)
-}
-
-fn parts_at(object: &Json<'_>) -> Result<u32, LineError>
-    ensures value { result ≡ parts_at (value_data object.now) }
-    ensures within { IfOk result (λ parts. (1 ≤ parts) × (parts ≤ most_parts)) }
-{
-    let parts = number_at(object, FieldName::Parts, 1, 16)?;
-    built_where(parts > 1, Word::Parts)?;
-    Ok(parts as u32)
-}
-
 fn protocol_at(object: &Json<'_>) -> Result<Protocol, LineError>
-    ensures value { result ≡ protocol_at (value_data object.now) }
-    ensures built { IfOk result (λ protocol. (is_second protocol && not (is_built Word.Protocol)) ≡ false) }
+    ensures { result ≡ protocol_at (value_data object.now) }
 {
-    let second = number_at(object, FieldName::Protocol, 1, 2)? > 1;
-    built_where(second, Word::Protocol)?;
-    Ok(if second { Protocol::Two } else { Protocol::One })
+    let number = number_at(object, FieldName::Protocol, 1, 2)?;
+    Ok(if number > 1 {
+        Protocol::Two
+    } else {
+        Protocol::One
+    })
 }

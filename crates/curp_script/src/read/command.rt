@@ -5,10 +5,9 @@ ghost use Rattle.curp_script.specs.Grammar.{command_at, command_of, command_by, 
 ghost use Rattle.curp_script.specs.Grammar.{key_in, value_in, expected_in, pair_in, key_alone, one_pair};
 
 use super::digits::decode;
-use super::fields::built_where;
 use super::object::{is_null, items_in, text_in, value_at};
 use crate::kind::Verb;
-use crate::{FieldName, LineError, Word};
+use crate::{FieldName, LineError};
 use curp_cmd::{Command, Key, Value};
 use json::Value as Json;
 
@@ -32,7 +31,6 @@ fn command_of(items: &[Json<'_>]) -> Result<Command, LineError>
     };
     let verb = text_in(word).and_then(Verb::from_text);
     let verb = verb.ok_or(BAD_COMMAND)?;
-    built_where(verb.is_get(), Word::Get)?;
     match command_by(verb, parts) {
         Some(command) => Ok(command),
         None => Err(BAD_COMMAND),

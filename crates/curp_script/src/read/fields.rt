@@ -1,8 +1,7 @@
-ghost use Rattle.std.specs.Prelude.{◌≡◌, ◌≤◌, ◌&&◌, not, false, IfOk, OnOk};
+ghost use Rattle.std.specs.Prelude.{◌≡◌, ◌≤◌, IfOk};
 ghost use Rattle.serde_json.specs.Find.{as_bool, as_array};
-ghost use Rattle.curp_script.specs.Built.{is_built};
 ghost use Rattle.curp_script.specs.Digits.{hash_of};
-ghost use Rattle.curp_script.specs.Grammar.{built, built_where, field_as, index_at, no_other, number_at, text_as};
+ghost use Rattle.curp_script.specs.Grammar.{field_as, index_at, no_other, number_at, text_as};
 ghost use Rattle.curp_script.specs.Kinds.{kind_of};
 ghost use Rattle.curp_script.specs.Nodes.{keeper_of, node_of};
 ghost use Rattle.curp_script.specs.Values.{value_data, values_data};
@@ -10,7 +9,7 @@ ghost use Rattle.curp_script.specs.Values.{value_data, values_data};
 use super::object::{flag_in, has_only, number_in, text_in, value_at};
 use super::words::{hash_of, keeper_of, node_of};
 use crate::kind::Kind;
-use crate::{FieldName, LineError, Word};
+use crate::{FieldName, LineError};
 use curp_cmd::{Keeper, NodeId};
 use json::Value as Json;
 
@@ -87,21 +86,4 @@ pub(crate) fn no_other(object: &Json<'_>, names: &[FieldName]) -> Result<(), Lin
     Err(LineError::BadField {
         name: FieldName::Other,
     })
-}
-
-// A form of the grammar that is needed must be built.
-pub(crate) fn built_where(needed: bool, word: Word) -> Result<(), LineError>
-    ensures value { result ≡ built_where needed word }
-    ensures built { OnOk result ((needed && not (is_built word)) ≡ false) }
-{
-    if needed && !word.is_built() {
-        return Err(LineError::Later { word });
-    }
-    Ok(())
-}
-
-pub(crate) fn built(word: Word) -> Result<(), LineError>
-    ensures { result ≡ built word }
-{
-    built_where(true, word)
 }

@@ -3,7 +3,7 @@ ghost use Rattle.curp_script.specs.Grammar.{step_of, values_of};
 ghost use Rattle.curp_script.specs.Values.{value_data};
 
 use super::command::command_at;
-use super::fields::{built, hash_at, index_at, keeper_at, kind_at, no_other, node_at, number_at};
+use super::fields::{hash_at, index_at, keeper_at, kind_at, no_other, node_at, number_at};
 use crate::kind::Kind;
 use crate::{FieldName, LineError, Step};
 use json::Value as Json;
@@ -12,7 +12,6 @@ pub(crate) fn step_of(object: &Json<'_>) -> Result<Step, LineError>
     ensures { result ≡ step_of (value_data object.now) }
 {
     let kind = kind_at(object)?;
-    built(kind.word())?;
     let step = values_of(kind, object)?;
     no_other(object, kind.names())?;
     Ok(step)
