@@ -1,5 +1,5 @@
 -- The line of a header.
-use Rattle.std.proofs.Common.{◌≡◌, ◌≤◌, ◌<◌, ◌^◌, ◌∙◌, ℕ, Bool, true, false, nat_lt, Some, Ok, length, refl, arith}
+use Rattle.std.proofs.Common.{◌≡◌, ◌≤◌, ◌<◌, ◌^◌, ◌∙◌, ℕ, true, Some, Ok, length, refl, arith}
 use Rattle.std.proofs.lemmas.Bool.Decides.{nat_tests}
 use Rattle.serde_json.proofs.Numbers.{number_of-decimal}
 use Rattle.serde_json.specs.Read.{of_json}
@@ -7,41 +7,33 @@ use Rattle.serde_json.specs.Written.{compact_text, outline}
 use Rattle.curp_msg.specs.declared.script.Header.{Header}
 use Rattle.curp_msg.specs.declared.script.Protocol.{Protocol}
 use Rattle.curp_msg.specs.declared.script.Protocol.TheVariants.{One, Two}
-use Rattle.curp_script.specs.Built.{is_built}
-use Rattle.curp_script.specs.Grammar.{built_where, header_in, header_of, number_within}
+use Rattle.curp_script.specs.Grammar.{header_in, header_of, number_within, protocol_at}
 use Rattle.curp_script.specs.Headers.{InRange, is_within}
-use Rattle.curp_script.specs.Printed.{checked_header, count, header_data, protocol_number}
+use Rattle.curp_script.specs.Printed.{count, header_data, protocol_number}
 use Rattle.curp_script.specs.Script.{line_limit}
-use Rattle.curp_script.specs.declared.error.Word.TheVariants as word
-use Rattle.curp_script.proofs.AllBuilt.{built_header}
 use Rattle.curp_law_print.proofs.Bytes.{are_shown}
 use Rattle.curp_law_print.proofs.Data.{IsPlain, short, shown}
 use Rattle.curp_law_print.proofs.Reading.{reads_as}
-
-fast_is_built : (fast : Bool) → built_where fast word.Fast ≡ Ok tt
-unfolding is_built
-fast_is_built true = refl
-fast_is_built false = refl
-
-parts_are_built : (many : Bool) → built_where many word.Parts ≡ Ok tt
-unfolding is_built
-parts_are_built true = refl
-parts_are_built false = refl
 
 count_read : (low high n : ℕ) → (low ≤ n) × (n ≤ high) → number_within low high (count n) ≡ Some n
 count_read low high n range =
     let fits : is_within low high n ≡ true = grind (arith, nat_tests, range) in
     rw fits refl
 
-header_read : (h : Header) → InRange h → checked_header h ≡ Ok h → header_of (header_data h) ≡ Ok h
-header_read h range built =
+protocol_read : (h : Header) → protocol_at (header_data h) ≡ Ok h.protocol
+protocol_read h = by h.protocol
+  where
+    by : (protocol : Protocol) → protocol_at (header_data (record h { protocol = protocol })) ≡ Ok protocol
+    by One = refl
+    by Two = refl
+
+header_read : (h : Header) → InRange h → header_of (header_data h) ≡ Ok h
+header_read h range =
     rw (
-      built_header h built,
+      protocol_read h,
       count_read 1 64 h.clients range.clients,
       count_read 1 5 h.f range.f,
-      fast_is_built h.fast,
       count_read 1 16 h.parts range.parts,
-      parts_are_built (nat_lt 1 h.parts),
       count_read 1 1024 h.sets range.sets,
       count_read 1 16 h.ways range.ways,
     ) refl
@@ -71,11 +63,11 @@ pub record IsHeaderLine (h : Header) : Type 0 where
   pub fits : length (compact_text (header_data h)) ≤ line_limit
   pub read : header_in (compact_text (header_data h)) ≡ Ok h
 
-pub header_is_line : (h : Header) → InRange h → checked_header h ≡ Ok h → IsHeaderLine h
-header_is_line h range built =
+pub header_is_line : (h : Header) → InRange h → IsHeaderLine h
+header_is_line h range =
     let plain = header_plain h range in
     record {
       all_shown = shown (header_data h) plain;
       fits = omega (arith, short (header_data h) plain);
-      read = reads_as header_of (header_data h) plain (omega arith) refl (header_written h range) ∙ header_read h range built;
+      read = reads_as header_of (header_data h) plain (omega arith) refl (header_written h range) ∙ header_read h range;
     }

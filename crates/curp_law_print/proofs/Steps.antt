@@ -19,16 +19,13 @@ use Rattle.curp_cmd.specs.declared.node.NodeKind.TheVariants as node
 use Rattle.curp_msg.specs.declared.script.Step.{Step}
 use Rattle.curp_msg.specs.declared.script.Step.TheVariants.{Collect, Deliver, Expire, Fetch, Invoke, Migrate, Nudge, Recover, Replace, Retry, Stop, Sync}
 use Rattle.curp_script.proofs.Lines.{step_depth, step_is_object}
-use Rattle.curp_script.proofs.ReadBack.{PairReads, invoke_reads, key_in-bytes, migrate_reads, multi_reads, needs, stop_reads, value_in-bytes}
-use Rattle.curp_script.specs.Built.{is_built}
+use Rattle.curp_script.proofs.ReadBack.{PairReads, invoke_reads, key_in-bytes, migrate_reads, multi_reads, stop_reads, value_in-bytes}
 use Rattle.curp_script.specs.Digits.{hex}
 use Rattle.curp_script.specs.Grammar.{key_in, number_within, step_of, value_in}
 use Rattle.curp_script.specs.Headers.{is_within}
 use Rattle.curp_script.specs.Nodes.{keeper_of, keeper_text, numbered_text}
 use Rattle.curp_script.specs.Printed.{CommandReadsBack, NamesNode, ReadsBack, bytes_data, command_parts, count, pair_data, step_data}
 use Rattle.curp_script.specs.Script.{line_limit}
-use Rattle.curp_script.specs.declared.error.Word.TheVariants as word
-use Rattle.curp_script.proofs.AllBuilt.{step_is_built}
 use Rattle.curp_law_print.proofs.Bytes.{are_clear, decimal_clear, decimal_short, hash_small, hex_clear, hex_length}
 use Rattle.curp_law_print.proofs.Data.{IsPlain, ItemsArePlain, items_weight, short, shown, weight}
 use Rattle.curp_law_print.proofs.Lines.{IsLine}
@@ -167,7 +164,6 @@ pairs_read [] each = tt
 pairs_read (p ∷ pairs) each = ((key_reads p.0 each.0.0, value_reads p.1 each.0.1), pairs_read pairs each.1)
 
 command_reads : (command : Command) → CommandInRange command → CommandReadsBack command
-unfolding is_built
 command_reads (Get key) range = rw (key_reads key range) refl
 command_reads (Put key value) range = rw (key_reads key range.0, value_reads value range.1) refl
 command_reads (Delete key) range = rw (key_reads key range) refl
@@ -193,20 +189,18 @@ keeper_reads keeper.Witness = refl
 
 step_reads : (step : Step) → NamesNode step → StepInRange step → ReadsBack step
 step_reads (Invoke client command) names range = invoke_reads client command range.0 (command_reads command range.1)
-step_reads (Deliver message) names range = needs word.Deliver [] _ (Deliver message) (rw (count_within (2 ^ 64 - 1) message (omega (arith, range))) refl)
-step_reads (Retry client seq) names range = needs word.Retry [] _ (Retry client seq) (rw (index_within client range.0, index_within seq range.1) refl)
-step_reads (Fetch client) names range = needs word.Fetch [] _ (Fetch client) (rw (index_within client range) refl)
-step_reads (Sync master) names range = needs word.Sync [] _ (Sync master) (rw (index_within master range) refl)
-step_reads (Collect master) names range = needs word.Collect [] _ (Collect master) (rw (index_within master range) refl)
+step_reads (Deliver message) names range = rw (count_within (2 ^ 64 - 1) message (omega (arith, range))) refl
+step_reads (Retry client seq) names range = rw (index_within client range.0, index_within seq range.1) refl
+step_reads (Fetch client) names range = rw (index_within client range) refl
+step_reads (Sync master) names range = rw (index_within master range) refl
+step_reads (Collect master) names range = rw (index_within master range) refl
 step_reads (Recover part backup witness) names range =
-    needs word.Recover [] _ (Recover part backup witness)
-    (rw (index_within backup range.1, index_within part range.0, index_within witness range.2) refl)
+    rw (index_within backup range.1, index_within part range.0, index_within witness range.2) refl
 step_reads (Replace keeper part place) names range =
-    needs word.Replace [] _ (Replace keeper part place)
-    (rw (keeper_reads keeper, index_within part range.0, index_within place range.1) refl)
+    rw (keeper_reads keeper, index_within part range.0, index_within place range.1) refl
 step_reads (Migrate lo hi to) names range = migrate_reads lo hi to range.0 range.1 range.2
-step_reads Nudge names range = needs word.Nudge [] _ Nudge refl
-step_reads (Expire client) names range = needs word.Expire [] _ (Expire client) (rw (index_within client range) refl)
+step_reads Nudge names range = refl
+step_reads (Expire client) names range = rw (index_within client range) refl
 step_reads (Stop id) names range = stop_reads id range names
 
 -- ---- so it is a line
@@ -217,7 +211,7 @@ step_is_line step names range =
     record {
       all_shown = shown (step_data step) plain;
       fits = omega (arith, short (step_data step) plain, step_weight step range);
-      read = reads_as step_of (step_data step) plain (step_depth step) (step_is_object step) (step_written step range) ∙ step_reads step names range ∙ step_is_built step;
+      read = reads_as step_of (step_data step) plain (step_depth step) (step_is_object step) (step_written step range) ∙ step_reads step names range;
     }
 
 pub steps_are_lines : (steps : List Step) → Each NamesNode steps → Each StepInRange steps → Each IsLine steps

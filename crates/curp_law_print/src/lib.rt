@@ -4,23 +4,23 @@
 
 mod ranges;
 
-ghost use Rattle.std.specs.Prelude.{◌≡◌, ◌≤◌, List, length, Some, Ok};
+ghost use Rattle.std.specs.Prelude.{◌≡◌, ◌≤◌, List, length, Some};
 ghost use Rattle.curp_base.specs.Words.{Each};
 ghost use Rattle.curp_io.specs.Text.{lines_of};
 ghost use Rattle.curp_msg.specs.declared.script.Header.{Header};
 ghost use Rattle.curp_msg.specs.declared.script.Step.{Step};
 ghost use Rattle.curp_script.specs.Headers.{InRange};
-ghost use Rattle.curp_script.specs.Printed.{NamesNode, checked_header};
+ghost use Rattle.curp_script.specs.Printed.{NamesNode};
 ghost use Rattle.curp_script.specs.Script.{Whole, script_of, step_limit};
 ghost use Rattle.curp_law_print.specs.Ranges.{StepInRange};
 ghost use Rattle.curp_script.specs.Texts.{script_lines};
 
 pub use ranges::step_is_in_range;
 
-/// The lines that are printed for a header and steps are read as that header and those steps, to their end, where all
-/// that the header needs is built. Each value is in its range, as the types have it.
+/// The lines that are printed for a header and steps are read as that header and those steps, to their end. Each value
+/// is in its range, as the types have it.
 pub fn printed_scripts_are_read()
-    ensures { (h : Header) (ss : List Step) → InRange h → checked_header h ≡ Ok h
+    ensures { (h : Header) (ss : List Step) → InRange h
         → Each NamesNode ss → Each StepInRange ss → length ss ≤ step_limit
         → script_of (lines_of (script_lines h ss))
         ≡ record { header = Some h; body = record { steps = ss; ending = Whole } } }

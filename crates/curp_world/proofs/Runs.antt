@@ -2,7 +2,6 @@
 use Rattle.std.proofs.Common.{◌≡◌, ◌&&◌, if◌then◌else◌, Bool, true, false, not, Option, Some, None, ◌≤◌, arith, ℕ, List, [], ◌∷◌, ◌++◌, Result, Ok, Err, OnOk, OnErr, refl, ap, sym, ◌∙◌, subst}
 use Rattle.std.proofs.lemmas.Bool.Decides.{nat_tests}
 use Rattle.curp_base.proofs.Lists.{Each-append}
-use Rattle.curp_script.specs.Built.{is_built}
 use Rattle.curp_script.specs.Headers.{bad_field, is_within}
 use Rattle.curp_script.specs.declared.error.FieldName.TheVariants as field
 use Rattle.curp_msg.specs.declared.script.Header.{Header}
@@ -55,14 +54,11 @@ within low high n e = (grind (arith, nat_tests), grind (arith, nat_tests))
 
 -- a header without a bad field has its numbers in their ranges
 pub in_order : (h : Header) → bad_field h ≡ None → IsHeader h
-unfolding is_built
 in_order h none =
     let clients = none_behind _ field.Clients _ none in
     let f = none_behind _ field.F _ clients.1 in
-    let fast = none_behind _ field.Fast _ f.1 in
-    let parts = none_behind _ field.Parts _ fast.1 in
-    let protocol = none_behind _ field.Protocol _ parts.1 in
-    let sets = none_behind _ field.Sets _ protocol.1 in
+    let parts = none_behind _ field.Parts _ f.1 in
+    let sets = none_behind _ field.Sets _ parts.1 in
     let ways = none_behind _ field.Ways _ sets.1 in
     record {
       clients = within 1 64 h.clients clients.0;
