@@ -21,6 +21,7 @@ same_plan f g same = rw (
   same.values (codes "ways") refl,
   same.values (codes "clients") refl,
   same.values (codes "parts") refl,
+  same.values (codes "protocol") refl,
   same.values (codes "steps") refl,
   same.values (codes "recoveries") refl,
 ) refl
@@ -33,6 +34,7 @@ same_live_plan f g same = rw (
   same.values (codes "ways") refl,
   same.values (codes "clients") refl,
   same.values (codes "parts") refl,
+  same.values (codes "protocol") refl,
   same.values (codes "commands") refl,
   same.values (codes "recoveries") refl,
 ) refl

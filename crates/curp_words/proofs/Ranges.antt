@@ -3,6 +3,7 @@ use Rattle.std.proofs.Common.{◌≡◌, ◌≤◌, ◌&&◌, ◌^◌, ◌-◌, 
 use Rattle.std.specs.Prelude.{option_and_then, option_map, ⊤}
 use Rattle.clap.proofs.WalkLemmas.{both}
 use Rattle.clap.specs.Walk.{Text}
+use Rattle.curp_msg.specs.declared.script.Protocol.{Protocol}
 use Rattle.curp_words.specs.Numbers.{number_of, number_within, within}
 use Rattle.curp_words.specs.Plan.{IsLivePlan, IsPlan, fits}
 use Rattle.curp_words.specs.Words.{Given, Options, given_by, is_text, live_in, live_options, live_order_by, live_plan_by, make_in, make_options, order_by, order_with, output_by, plan_by, value_of}
@@ -37,43 +38,47 @@ number_in_range least most default (Some text) low high = go (number_of text)
     go None = tt
     go (Some n) = in_range least most n
 
--- the plan of eight numbers, if there is each
-abbrev plan_from : {Plan : Type 0} → (ℕ → ℕ → ℕ → ℕ → ℕ → ℕ → ℕ → ℕ → Plan) → (a b c d e f g h : Option ℕ) → Option Plan
-plan_from plan a b c d e f g h =
+-- the plan of eight numbers and a protocol, if there is each
+abbrev plan_from : {Plan : Type 0} → (ℕ → ℕ → ℕ → ℕ → ℕ → ℕ → Protocol → ℕ → ℕ → Plan) → (a b c d e f : Option ℕ) → Option Protocol → (g h : Option ℕ) → Option Plan
+plan_from plan a b c d e f p g h =
     option_and_then (λ number. option_and_then (λ replicas. option_and_then (λ sets. option_and_then (λ ways. option_and_then (λ clients.
-    option_and_then (λ parts. option_and_then (λ work. option_and_then (λ recoveries. Some (plan number replicas sets ways clients parts work recoveries))
-    h) g) f) e) d) c) b) a
+    option_and_then (λ parts. option_and_then (λ protocol. option_and_then (λ work. option_and_then (λ recoveries.
+    Some (plan number replicas sets ways clients parts protocol work recoveries))
+    h) g) p) f) e) d) c) b) a
 
 -- it is so where each number is so
-from_fits : {Plan : Type 0} (plan : ℕ → ℕ → ℕ → ℕ → ℕ → ℕ → ℕ → ℕ → Plan) (P : Plan → Type 0) (A B C D E F G H : ℕ → Type 0)
-    → ((a b c d e f g h : ℕ) → A a → B b → C c → D d → E e → F f → G g → H h → P (plan a b c d e f g h))
-    → (a b c d e f g h : Option ℕ)
+from_fits : {Plan : Type 0} (plan : ℕ → ℕ → ℕ → ℕ → ℕ → ℕ → Protocol → ℕ → ℕ → Plan) (P : Plan → Type 0) (A B C D E F G H : ℕ → Type 0)
+    → ((a b c d e f : ℕ) (p : Protocol) (g h : ℕ) → A a → B b → C c → D d → E e → F f → G g → H h → P (plan a b c d e f p g h))
+    → (a b c d e f : Option ℕ) (p : Option Protocol) (g h : Option ℕ)
     → IfSomeIs a A → IfSomeIs b B → IfSomeIs c C → IfSomeIs d D → IfSomeIs e E → IfSomeIs f F → IfSomeIs g G → IfSomeIs h H
-    → IfSomeIs (plan_from plan a b c d e f g h) P
-from_fits plan P A B C D E F G H fit None b c d e f g h _ _ _ _ _ _ _ _ = tt
-from_fits plan P A B C D E F G H fit (Some a) None c d e f g h _ _ _ _ _ _ _ _ = tt
-from_fits plan P A B C D E F G H fit (Some a) (Some b) None d e f g h _ _ _ _ _ _ _ _ = tt
-from_fits plan P A B C D E F G H fit (Some a) (Some b) (Some c) None e f g h _ _ _ _ _ _ _ _ = tt
-from_fits plan P A B C D E F G H fit (Some a) (Some b) (Some c) (Some d) None f g h _ _ _ _ _ _ _ _ = tt
-from_fits plan P A B C D E F G H fit (Some a) (Some b) (Some c) (Some d) (Some e) None g h _ _ _ _ _ _ _ _ = tt
-from_fits plan P A B C D E F G H fit (Some a) (Some b) (Some c) (Some d) (Some e) (Some f) None h _ _ _ _ _ _ _ _ = tt
-from_fits plan P A B C D E F G H fit (Some a) (Some b) (Some c) (Some d) (Some e) (Some f) (Some g) None _ _ _ _ _ _ _ _ = tt
-from_fits plan P A B C D E F G H fit (Some a) (Some b) (Some c) (Some d) (Some e) (Some f) (Some g) (Some h) in_a in_b in_c in_d in_e in_f in_g in_h = fit a b c d e f g h in_a in_b in_c in_d in_e in_f in_g in_h
+    → IfSomeIs (plan_from plan a b c d e f p g h) P
+from_fits plan P A B C D E F G H fit None b c d e f p g h _ _ _ _ _ _ _ _ = tt
+from_fits plan P A B C D E F G H fit (Some a) None c d e f p g h _ _ _ _ _ _ _ _ = tt
+from_fits plan P A B C D E F G H fit (Some a) (Some b) None d e f p g h _ _ _ _ _ _ _ _ = tt
+from_fits plan P A B C D E F G H fit (Some a) (Some b) (Some c) None e f p g h _ _ _ _ _ _ _ _ = tt
+from_fits plan P A B C D E F G H fit (Some a) (Some b) (Some c) (Some d) None f p g h _ _ _ _ _ _ _ _ = tt
+from_fits plan P A B C D E F G H fit (Some a) (Some b) (Some c) (Some d) (Some e) None p g h _ _ _ _ _ _ _ _ = tt
+from_fits plan P A B C D E F G H fit (Some a) (Some b) (Some c) (Some d) (Some e) (Some f) None g h _ _ _ _ _ _ _ _ = tt
+from_fits plan P A B C D E F G H fit (Some a) (Some b) (Some c) (Some d) (Some e) (Some f) (Some p) None h _ _ _ _ _ _ _ _ = tt
+from_fits plan P A B C D E F G H fit (Some a) (Some b) (Some c) (Some d) (Some e) (Some f) (Some p) (Some g) None _ _ _ _ _ _ _ _ = tt
+from_fits plan P A B C D E F G H fit (Some a) (Some b) (Some c) (Some d) (Some e) (Some f) (Some p) (Some g) (Some h) in_a in_b in_c in_d in_e in_f in_g in_h =
+    fit a b c d e f p g h in_a in_b in_c in_d in_e in_f in_g in_h
 
 plan_fits : (value : Text → Option Text) → IfSomeIs (plan_by value) IsPlan
 plan_fits value =
-    from_fits (λ number f sets ways clients parts steps recoveries. record {
+    from_fits (λ number f sets ways clients parts protocol steps recoveries. record {
       number = number;
       f = f;
       sets = sets;
       ways = ways;
       clients = clients;
       parts = parts;
+      protocol = protocol;
       steps = steps;
       recoveries = recoveries;
     }) IsPlan
     (Within 0 (2 ^ 64 - 1)) (Within 1 5) (Within 1 1024) (Within 1 16) (Within 1 64) (Within 1 16) (Within 1 200000) (Within 0 64)
-    (λ _ _ _ _ _ _ _ recoveries in_number in_f in_sets in_ways in_clients in_parts in_steps in_recoveries. record {
+    (λ _ _ _ _ _ _ _ _ recoveries in_number in_f in_sets in_ways in_clients in_parts in_steps in_recoveries. record {
       number = in_number.1;
       f = in_f;
       sets = in_sets;
@@ -83,7 +88,7 @@ plan_fits value =
       steps = in_steps;
       recoveries = in_recoveries.1;
     })
-    _ _ _ _ _ _ _ _
+    _ _ _ _ _ _ _ _ _
     (number_in_range 0 (2 ^ 64 - 1) 1 (value (codes "number")) (omega arith) (omega arith))
     (number_in_range 1 5 3 (value (codes "f")) (omega arith) (omega arith))
     (number_in_range 1 1024 64 (value (codes "sets")) (omega arith) (omega arith))
@@ -95,18 +100,19 @@ plan_fits value =
 
 live_plan_fits : (value : Text → Option Text) → IfSomeIs (live_plan_by value) IsLivePlan
 live_plan_fits value =
-    from_fits (λ number f sets ways clients parts commands recoveries. record {
+    from_fits (λ number f sets ways clients parts protocol commands recoveries. record {
       number = number;
       f = f;
       sets = sets;
       ways = ways;
       clients = clients;
       parts = parts;
+      protocol = protocol;
       commands = commands;
       recoveries = recoveries;
     }) IsLivePlan
     (Within 0 (2 ^ 64 - 1)) (Within 1 5) (Within 1 1024) (Within 1 16) (Within 1 16) (Within 1 16) (Within 1 100) (Within 0 0)
-    (λ _ _ _ _ _ _ _ recoveries in_number in_f in_sets in_ways in_clients in_parts in_commands in_recoveries. record {
+    (λ _ _ _ _ _ _ _ _ recoveries in_number in_f in_sets in_ways in_clients in_parts in_commands in_recoveries. record {
       number = in_number.1;
       f = in_f;
       sets = in_sets;
@@ -116,7 +122,7 @@ live_plan_fits value =
       commands = in_commands;
       recoveries = let most : recoveries ≤ 0 = in_recoveries.1 in omega arith;
     })
-    _ _ _ _ _ _ _ _
+    _ _ _ _ _ _ _ _ _
     (number_in_range 0 (2 ^ 64 - 1) 1 (value (codes "number")) (omega arith) (omega arith))
     (number_in_range 1 5 3 (value (codes "f")) (omega arith) (omega arith))
     (number_in_range 1 1024 64 (value (codes "sets")) (omega arith) (omega arith))

@@ -1,5 +1,6 @@
 -- The plans of `make` and `live`.
 use Rattle.std.specs.Prelude.{◌≡◌, ◌≤◌, ◌^◌, ◌-◌, ⊤}
+use Rattle.curp_msg.specs.declared.script.Protocol.TheVariants.{One}
 use Rattle.curp_words.specs.declared.order.LivePlan.{LivePlan}
 use Rattle.curp_words.specs.declared.order.MakePlan.{MakePlan}
 use Rattle.curp_words.specs.declared.order.Order.{Order}
@@ -7,11 +8,11 @@ use Rattle.curp_words.specs.declared.order.Order.TheVariants.{Play, Make, Live}
 
 -- the plan of `make` with no option
 abbrev pub default_plan : MakePlan
-default_plan = record { number = 1; f = 3; sets = 64; ways = 4; clients = 8; parts = 2; steps = 4000; recoveries = 3 }
+default_plan = record { number = 1; f = 3; sets = 64; ways = 4; clients = 8; parts = 2; protocol = One; steps = 4000; recoveries = 3 }
 
 -- the plan of `live` with no option
 abbrev pub default_live_plan : LivePlan
-default_live_plan = record { number = 1; f = 3; sets = 64; ways = 4; clients = 8; parts = 2; commands = 50; recoveries = 0 }
+default_live_plan = record { number = 1; f = 3; sets = 64; ways = 4; clients = 8; parts = 2; protocol = One; commands = 50; recoveries = 0 }
 
 -- each number of a plan of `make` is in its range
 pub record IsPlan (plan : MakePlan) : Type 0 where

@@ -1,5 +1,5 @@
 -- What the words of the command line ask for.
-use Rattle.std.specs.Prelude.{◌^◌, ◌-◌, ◌&&◌, ◌||◌, Bool, true, false, not, List, [], ◌∷◌, codes, Option, Some, None, is_some, find}
+use Rattle.std.specs.Prelude.{ℕ, ◌^◌, ◌-◌, ◌&&◌, ◌||◌, nat_lt, Bool, true, false, not, List, [], ◌∷◌, codes, Option, Some, None, is_some, find}
 use Rattle.std.specs.Prelude.{if◌then◌else◌, option_and_then, option_map, unwrap_or}
 use Rattle.std.specs.List.{list_all, list_any}
 use Rattle.std.specs.Option.{option_or}
@@ -8,6 +8,8 @@ use Rattle.clap.specs.Lexer.{long_of, strip_byte}
 use Rattle.clap.specs.Walk.{Text}
 use Rattle.clap.specs.declared.error.kind.ErrorKind.{ErrorKind}
 use Rattle.clap.specs.declared.error.kind.ErrorKind.TheVariants as kind
+use Rattle.curp_msg.specs.declared.script.Protocol.{Protocol}
+use Rattle.curp_msg.specs.declared.script.Protocol.TheVariants.{One, Two}
 use Rattle.curp_words.specs.Numbers.{number_within}
 use Rattle.curp_words.specs.declared.order.LivePlan.{LivePlan}
 use Rattle.curp_words.specs.declared.order.MakePlan.{MakePlan}
@@ -28,16 +30,16 @@ pub record Options : Type 0 where
 -- the options of `make`
 abbrev pub make_options : Options
 make_options = record {
-  valued = codes "number" ∷ codes "f" ∷ codes "sets" ∷ codes "ways" ∷ codes "clients" ∷ codes "parts" ∷ codes "steps"
-      ∷ codes "recoveries" ∷ [];
+  valued = codes "number" ∷ codes "f" ∷ codes "sets" ∷ codes "ways" ∷ codes "clients" ∷ codes "parts" ∷ codes "protocol"
+      ∷ codes "steps" ∷ codes "recoveries" ∷ [];
   flags = codes "summary" ∷ [];
 }
 
 -- the options of `live`
 abbrev pub live_options : Options
 live_options = record {
-  valued = codes "number" ∷ codes "f" ∷ codes "sets" ∷ codes "ways" ∷ codes "clients" ∷ codes "parts" ∷ codes "commands"
-      ∷ codes "recoveries" ∷ [];
+  valued = codes "number" ∷ codes "f" ∷ codes "sets" ∷ codes "ways" ∷ codes "clients" ∷ codes "parts" ∷ codes "protocol"
+      ∷ codes "commands" ∷ codes "recoveries" ∷ [];
   flags = [];
 }
 
@@ -125,6 +127,14 @@ given_by options words =
 abbrev pub with : {X Y : Type 0} → Option X → (X → Option Y) → Option Y
 with x f = option_and_then f x
 
+-- the protocol of reads, by its number
+abbrev pub protocol_of : ℕ → Protocol
+protocol_of number = if nat_lt 1 number then Two else One
+
+-- the protocol, by the value of its option
+abbrev pub protocol_by : (Text → Option Text) → Option Protocol
+protocol_by value = option_map protocol_of (number_within 1 2 1 (value (codes "protocol")))
+
 -- the plan of `make`, by the values of the options: for each its least and its most number, and the one where it isn't
 -- given
 abbrev pub plan_by : (Text → Option Text) → Option MakePlan
@@ -135,6 +145,7 @@ plan_by value =
     with (number_within 1 16 4 (value (codes "ways"))) (λ ways.
     with (number_within 1 64 8 (value (codes "clients"))) (λ clients.
     with (number_within 1 16 2 (value (codes "parts"))) (λ parts.
+    with (protocol_by value) (λ protocol.
     with (number_within 1 200000 4000 (value (codes "steps"))) (λ steps.
     with (number_within 0 64 3 (value (codes "recoveries"))) (λ recoveries.
     Some (record {
@@ -144,9 +155,10 @@ plan_by value =
       ways = ways;
       clients = clients;
       parts = parts;
+      protocol = protocol;
       steps = steps;
       recoveries = recoveries;
-    })))))))))
+    }))))))))))
 
 -- the same for the plan of `live`
 abbrev pub live_plan_by : (Text → Option Text) → Option LivePlan
@@ -157,6 +169,7 @@ live_plan_by value =
     with (number_within 1 16 4 (value (codes "ways"))) (λ ways.
     with (number_within 1 16 8 (value (codes "clients"))) (λ clients.
     with (number_within 1 16 2 (value (codes "parts"))) (λ parts.
+    with (protocol_by value) (λ protocol.
     with (number_within 1 100 50 (value (codes "commands"))) (λ commands.
     with (number_within 0 0 0 (value (codes "recoveries"))) (λ recoveries.
     Some (record {
@@ -166,9 +179,10 @@ live_plan_by value =
       ways = ways;
       clients = clients;
       parts = parts;
+      protocol = protocol;
       commands = commands;
       recoveries = recoveries;
-    })))))))))
+    }))))))))))
 
 -- there is a text, and it is this one
 abbrev pub is_text : Text → Option Text → Bool

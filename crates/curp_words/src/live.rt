@@ -4,7 +4,7 @@ ghost use Rattle.clap.specs.Simple.{app_of};
 ghost use Rattle.curp_words.specs.Command.{live_app};
 ghost use Rattle.curp_words.specs.Words.{live_order_by, live_plan_by};
 
-use crate::options::{F, NUMBER, PARTS, SETS, WAYS, command_with};
+use crate::options::{F, NUMBER, PARTS, PROTOCOL, SETS, WAYS, command_with, read_protocol};
 use crate::order::{LivePlan, Order};
 use crate::setting::Setting;
 use clap::{ArgMatches, Command};
@@ -35,7 +35,9 @@ const RECOVERIES: Setting = Setting {
 pub(crate) fn live_command<'a>(alloc: Global) -> Result<Command<'a>, AllocError>
     ensures { IfOk result (λ command. app_of command ≡ live_app) }
 {
-    let settings = [NUMBER, F, SETS, WAYS, CLIENTS, PARTS, COMMANDS, RECOVERIES];
+    let settings = [
+        NUMBER, F, SETS, WAYS, CLIENTS, PARTS, PROTOCOL, COMMANDS, RECOVERIES,
+    ];
     command_with(alloc, &settings)
 }
 
@@ -59,6 +61,7 @@ fn live_plan(matches: &ArgMatches<'_>) -> Option<LivePlan>
         ways: WAYS.read_small(matches)?,
         clients: CLIENTS.read_small(matches)?,
         parts: PARTS.read_small(matches)?,
+        protocol: read_protocol(matches)?,
         commands: COMMANDS.read_small(matches)?,
         recoveries: RECOVERIES.read_small(matches)?,
     })

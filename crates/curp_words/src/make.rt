@@ -4,7 +4,7 @@ ghost use Rattle.clap.specs.Simple.{app_of};
 ghost use Rattle.curp_words.specs.Command.{make_app, valued_app};
 ghost use Rattle.curp_words.specs.Words.{make_options, order_by, output_by, plan_by};
 
-use crate::options::{F, NUMBER, PARTS, SETS, WAYS, command_with, flag};
+use crate::options::{F, NUMBER, PARTS, PROTOCOL, SETS, WAYS, command_with, flag, read_protocol};
 use crate::order::{MakePlan, Order, Output};
 use crate::setting::Setting;
 use clap::{ArgMatches, Command};
@@ -42,7 +42,9 @@ pub(crate) fn make_command<'a>(alloc: Global) -> Result<Command<'a>, AllocError>
 fn numbered_command<'a>(alloc: Global) -> Result<Command<'a>, AllocError>
     ensures { IfOk result (λ command. app_of command ≡ valued_app make_options.valued) }
 {
-    let settings = [NUMBER, F, SETS, WAYS, CLIENTS, PARTS, STEPS, RECOVERIES];
+    let settings = [
+        NUMBER, F, SETS, WAYS, CLIENTS, PARTS, PROTOCOL, STEPS, RECOVERIES,
+    ];
     command_with(alloc, &settings)
 }
 
@@ -66,6 +68,7 @@ fn make_plan(matches: &ArgMatches<'_>) -> Option<MakePlan>
         ways: WAYS.read_small(matches)?,
         clients: CLIENTS.read_small(matches)?,
         parts: PARTS.read_small(matches)?,
+        protocol: read_protocol(matches)?,
         steps: STEPS.read_small(matches)?,
         recoveries: RECOVERIES.read_small(matches)?,
     })

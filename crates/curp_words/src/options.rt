@@ -1,10 +1,13 @@
 ghost use Rattle.std.specs.Prelude.{◌≡◌, IfOk, false, map};
+ghost use Rattle.clap.specs.Matches.{first_value, found_of};
 ghost use Rattle.clap.specs.Simple.{app_of};
 ghost use Rattle.clap.specs.Walk.{rule_of};
 ghost use Rattle.curp_words.specs.Command.{bare_app, bare_rule, flag_rule, valued_app};
+ghost use Rattle.curp_words.specs.Words.{protocol_by};
 
 use crate::setting::Setting;
-use clap::{Arg, ArgAction, Command};
+use clap::{Arg, ArgAction, ArgMatches, Command};
+use curp_msg::Protocol;
 use std::alloc::{AllocError, Global};
 
 pub(crate) const NUMBER: Setting = Setting {
@@ -41,6 +44,25 @@ pub(crate) const PARTS: Setting = Setting {
     most: 16,
     default: 2,
 };
+
+pub(crate) const PROTOCOL: Setting = Setting {
+    name: "protocol",
+    least: 1,
+    most: 2,
+    default: 1,
+};
+
+/// The protocol that the words ask for, if what they give is the number of one.
+pub(crate) fn read_protocol(matches: &ArgMatches<'_>) -> Option<Protocol>
+    ensures { result ≡ protocol_by (first_value (found_of matches.now)) }
+{
+    let number = PROTOCOL.read(matches)?;
+    Some(if number > 1 {
+        Protocol::Two
+    } else {
+        Protocol::One
+    })
+}
 
 /// A parser of one word and of these options, for words without the program's name.
 pub(crate) fn command_with<'a>(

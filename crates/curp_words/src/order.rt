@@ -1,5 +1,6 @@
 ghost use Rattle.std.specs.Prelude.{◌≡◌};
 
+use curp_msg::Protocol;
 use std::alloc::AllocError;
 use thiserror::Error;
 
@@ -14,8 +15,8 @@ pub enum Order {
     Live(LivePlan),
 }
 
-/// From what a script is made: a number that everything in it follows from, the size of the world, and how much
-/// happens. Contracts see the range of each with `IsPlan`.
+/// From what a script is made: a number that everything in it follows from, the size of the world, how its reads are
+/// done, and how much happens. Contracts see the range of each number with `IsPlan`.
 #[derive(Clone, Copy, PartialEq, Eq)]
 pub struct MakePlan {
     pub number: u64,
@@ -24,12 +25,13 @@ pub struct MakePlan {
     pub ways: u32,
     pub clients: u32,
     pub parts: u32,
+    pub protocol: Protocol,
     pub steps: u32,
     pub recoveries: u32,
 }
 
-/// What runs on threads: a number that the commands of the clients follow from, the size of the world, and how much
-/// happens. Contracts see the range of each with `IsLivePlan`.
+/// What runs on threads: a number that the commands of the clients follow from, the size of the world, how its reads
+/// are done, and how much happens. Contracts see the range of each number with `IsLivePlan`.
 #[derive(Clone, Copy, PartialEq, Eq)]
 pub struct LivePlan {
     pub number: u64,
@@ -38,6 +40,7 @@ pub struct LivePlan {
     pub ways: u32,
     pub clients: u32,
     pub parts: u32,
+    pub protocol: Protocol,
     pub commands: u32,
     pub recoveries: u32,
 }
@@ -76,6 +79,7 @@ impl Default for MakePlan {
             ways: 4,
             clients: 8,
             parts: 2,
+            protocol: Protocol::One,
             steps: 4_000,
             recoveries: 3,
         }
@@ -96,6 +100,7 @@ impl Default for LivePlan {
             ways: 4,
             clients: 8,
             parts: 2,
+            protocol: Protocol::One,
             commands: 50,
             recoveries: 0,
         }
