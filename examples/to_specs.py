@@ -23,6 +23,7 @@ MADE = "-- Made by examples/to_specs.py"
 USES = {
     "Example": "use Rattle.curp_rows.specs.Example.{Example, lines}",
     "One": "use Rattle.curp_msg.specs.declared.script.Protocol.TheVariants.{One}",
+    "Two": "use Rattle.curp_msg.specs.declared.script.Protocol.TheVariants.{Two}",
     "command": "use Rattle.curp_cmd.specs.declared.command.Command.TheVariants as command",
     "keeper": "use Rattle.curp_cmd.specs.declared.node.Keeper.TheVariants as keeper",
     "step": "use Rattle.curp_msg.specs.declared.script.Step.TheVariants as step",
@@ -100,7 +101,7 @@ def step_term(line):
 def header_term(line):
     """A header, by its line."""
     header = json.loads(line)
-    fields = dict(header, fast=str(header["fast"]).lower(), protocol={1: "One"}[header["protocol"]])
+    fields = dict(header, fast=str(header["fast"]).lower(), protocol={1: "One", 2: "Two"}[header["protocol"]])
     return "record { " + "; ".join(f"{field} = {fields[field]}" for field in sorted(fields)) + " }"
 
 

@@ -20,7 +20,7 @@ from pathlib import Path
 
 EXAMPLES = Path(__file__).resolve().parent
 PICTURES = EXAMPLES.parent / "docs" / "pictures"
-DRAWN = ["one-put", "conflict", "recovery-replays"]
+DRAWN = ["one-put", "read-in-one-round-trip", "conflict", "recovery-replays"]
 KINDS = "CMBWG"
 COLUMN, LEFT, TOP, STEP, LINE = 150, 130, 50, 30, 15
 

@@ -5,7 +5,7 @@ use Rattle.std.specs.Prelude.{option_map}
 use Rattle.curp_base.specs.Cases.{first_case, first_there, only_if}
 use Rattle.curp_range.specs.Spans.{is_covered}
 use Rattle.curp_cmd.specs.Hash.{hashes}
-use Rattle.curp_cmd.specs.Node.{is_among, same_node, manager_node, master_node}
+use Rattle.curp_cmd.specs.Node.{is_among, same_node, manager_node, client_node, master_node}
 use Rattle.curp_cmd.specs.declared.command.Answer.{Answer}
 use Rattle.curp_cmd.specs.declared.command.Answer.TheVariants.{Found}
 use Rattle.curp_cmd.specs.declared.command.Command.{Command}
@@ -28,7 +28,7 @@ use Rattle.curp_msg.specs.declared.body.Body.TheVariants as body
 use Rattle.curp_msg.specs.declared.body.TakeOut.{TakeOut}
 use Rattle.curp_msg.specs.declared.message.Message.{Message}
 use Rattle.curp_model.specs.Log.{LastTake}
-use Rattle.curp_model.specs.Master.{MasterState, Captured, Phase, Open, Switching, Wish, AtOnce, WhenSynced, Verdict, Deny, Execute, is_open, state_of, synced, is_clean, stored_on, begins_round, reply, answers_with, by_epoch, by_phase, by_version, by_check, verdict, pushed, marked_free, executes, carries_out, on_update, by_read_check, read_refusal, read_of, read_command, on_read, synced_reply, is_ready, value_of, moved_entry, between, settle, raised, prepares, goes_on, on_appended, adopted_in, told_again, push_take, take_after, on_take, unless_it_ends, by_message, on_serving}
+use Rattle.curp_model.specs.Master.{MasterState, Captured, Phase, Open, Switching, Wish, AtOnce, WhenSynced, Verdict, Deny, Execute, is_open, state_of, synced, is_clean, stored_on, begins_round, reply, answers_with, by_epoch, by_phase, by_version, by_check, verdict, pushed, marked_free, executes, carries_out, on_update, by_read_check, read_refusal, read_of, read_command, on_read, glance_of, glance_command, on_glance, synced_reply, is_ready, value_of, moved_entry, between, settle, raised, prepares, goes_on, on_appended, adopted_in, told_again, push_take, take_after, on_take, unless_it_ends, by_message, on_serving}
 use Rattle.curp_model.specs.Ranges.{owns_all}
 use Rattle.curp_model.specs.Recovery as recovery
 use Rattle.curp_model.specs.Recovery.{RecoveryState, RecoveryPhase, Asking, Storing, Waiting, both_there, log_comes, fence_answered, on_recovering, on_master, MasterStage}
@@ -108,27 +108,58 @@ captures_value n m r value =
     } in
     begins_round n (record m { captures = m.captures ++ capture ∷ []; captured = m.captured + 1 })
 
-abbrev pub listed_read_of : ListedState → ℕ → MasterState → Request → List ℕ → Option Refusal → Moved MasterState
-listed_read_of s n m r key (Some why) = answers_with n m r.id why
-listed_read_of s n m r key None = captures_value n m r (value_in s.pairs key)
+-- a read that is answered at once has a value
+abbrev pub quick_value_of : ℕ → MasterState → Request → Option (List ℕ) → Message
+quick_value_of n m r value = says (master_node n) (client_node r.id.client)
+    (body.Quick (record { id = r.id; epoch = m.epoch; version = m.version; capture = m.captured + 1; answer = Found value }))
 
-same_read_of : (n : ℕ) (m : MasterState) (r : Request) (key : List ℕ) (why : Option Refusal) → read_of n m r key why ≡ listed_read_of (seen_state (state_of m)) n m r key why
+abbrev pub glances_value : ℕ → MasterState → Request → Option (List ℕ) → Moved MasterState
+glances_value n m r value =
+    if is_clean m r.command
+    then sends (record m { captured = m.captured + 1 }) (quick_value_of n m r value ∷ [])
+    else captures_value n m r value
+
+-- what a read gets that isn't refused, by its value
+abbrev pub Gets : Type 0
+Gets = ℕ → MasterState → Request → Option (List ℕ) → Moved MasterState
+
+abbrev pub listed_get_of : Gets → ListedState → ℕ → MasterState → Request → List ℕ → Option Refusal → Moved MasterState
+listed_get_of gets s n m r key (Some why) = answers_with n m r.id why
+listed_get_of gets s n m r key None = gets n m r (value_in s.pairs key)
+
+abbrev pub listed_get : Gets → ListedState → ℕ → MasterState → Ask → List ℕ → Moved MasterState
+listed_get gets s n m ask key = listed_get_of gets s n m ask.request key (read_refusal_by s m ask)
+
+abbrev pub listed_read : Gets → ℕ → MasterState → Ask → Command → Moved MasterState
+listed_read gets n m ask (Get key) = listed_get gets (listed_state m) n m ask key
+listed_read gets n m ask command = quiet m
+
+same_get : (gets : Gets) (n : ℕ) (m : MasterState) (ask : Ask) (key : List ℕ) → listed_get gets (seen_state (state_of m)) n m ask key ≡ listed_get gets (listed_state m) n m ask key
+same_get gets n m ask key = ap (λ (s : ListedState). listed_get gets s n m ask key) (same_state m)
+
+same_read_of : (n : ℕ) (m : MasterState) (r : Request) (key : List ℕ) (why : Option Refusal) → read_of n m r key why ≡ listed_get_of captures_value (seen_state (state_of m)) n m r key why
 same_read_of n m r key (Some why) = refl
 same_read_of n m r key None = ap (captures_value n m r) (store.get-entries (state_of m).store key)
 
-abbrev pub listed_read : ℕ → MasterState → Ask → Command → Moved MasterState
-listed_read n m ask (Get key) = listed_read_of (listed_state m) n m ask.request key (read_refusal_by (listed_state m) m ask)
-listed_read n m ask command = quiet m
-
-same_read_command : (n : ℕ) (m : MasterState) (ask : Ask) (command : Command) → read_command n m ask command ≡ listed_read n m ask command
-same_read_command n m ask (Get key) =
-    same_read_of n m ask.request key (read_refusal m ask)
-    ∙ ap (λ (s : ListedState). listed_read_of s n m ask.request key (read_refusal_by s m ask)) (same_state m)
+same_read_command : (n : ℕ) (m : MasterState) (ask : Ask) (command : Command) → read_command n m ask command ≡ listed_read captures_value n m ask command
+same_read_command n m ask (Get key) = same_read_of n m ask.request key (read_refusal m ask) ∙ same_get captures_value n m ask key
 same_read_command n m ask command = refl
 
-same_read : (n : ℕ) (m : MasterState) (ask : Ask) → on_read n m ask ≡ listed_read n m ask ask.request.command
+same_read : (n : ℕ) (m : MasterState) (ask : Ask) → on_read n m ask ≡ listed_read captures_value n m ask ask.request.command
 unfolding on_read
 same_read n m ask = same_read_command n m ask ask.request.command
+
+same_glance_of : (n : ℕ) (m : MasterState) (r : Request) (key : List ℕ) (why : Option Refusal) → glance_of n m r key why ≡ listed_get_of glances_value (seen_state (state_of m)) n m r key why
+same_glance_of n m r key (Some why) = refl
+same_glance_of n m r key None = ap (glances_value n m r) (store.get-entries (state_of m).store key)
+
+same_glance_command : (n : ℕ) (m : MasterState) (ask : Ask) (command : Command) → glance_command n m ask command ≡ listed_read glances_value n m ask command
+same_glance_command n m ask (Get key) = same_glance_of n m ask.request key (read_refusal m ask) ∙ same_get glances_value n m ask key
+same_glance_command n m ask command = refl
+
+same_glance : (n : ℕ) (m : MasterState) (ask : Ask) → on_glance n m ask ≡ listed_read glances_value n m ask ask.request.command
+unfolding on_glance
+same_glance n m ask = same_glance_command n m ask ask.request.command
 
 -- ---- settling
 
@@ -232,7 +263,8 @@ same_take_out n m t = ap (λ moved. if is_open m.phase then moved else quiet m) 
 abbrev pub listed_by_message : ℕ → MasterState → NodeId → Body → Moved MasterState
 listed_by_message n m from (body.Update ask) = listed_update n m AtOnce ask
 listed_by_message n m from (body.Sync ask) = listed_update n m WhenSynced ask
-listed_by_message n m from (body.Read ask) = listed_read n m ask ask.request.command
+listed_by_message n m from (body.Read ask) = listed_read captures_value n m ask ask.request.command
+listed_by_message n m from (body.Glance ask) = listed_read glances_value n m ask ask.request.command
 listed_by_message n m from (body.Appended a) = listed_appended n m from a.round a.answer
 listed_by_message n m from (body.Adopted a) = listed_adopted n m a.version m.phase
 listed_by_message n m from (body.TakeOut t) = listed_take_out n m t
@@ -242,6 +274,7 @@ same_by_message : (n : ℕ) (m : MasterState) (from : NodeId) (b : Body) → by_
 same_by_message n m from (body.Update ask) = same_update n m AtOnce ask
 same_by_message n m from (body.Sync ask) = same_update n m WhenSynced ask
 same_by_message n m from (body.Read ask) = same_read n m ask
+same_by_message n m from (body.Glance ask) = same_glance n m ask
 same_by_message n m from (body.Appended a) = same_appended n m from a.round a.answer
 same_by_message n m from (body.Adopted a) = same_adopted n m a.version m.phase
 same_by_message n m from (body.TakeOut t) = same_take_out n m t

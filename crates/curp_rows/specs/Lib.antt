@@ -8,6 +8,7 @@ pub mod FullSet
 pub mod FullSetAndSync
 pub mod GrowingRounds
 pub mod HeaderAlone
+pub mod LateReadAtASupersededMaster
 pub mod LateReplyOfASupersededMaster
 pub mod LongestKey
 pub mod MigrationThereAndBack
@@ -18,7 +19,10 @@ pub mod OnePut
 pub mod Overflow
 pub mod PackageHasFirstNumbers
 pub mod ReadAtASupersededMaster
+pub mod ReadAtAnIdleWitness
 pub mod ReadByARound
+pub mod ReadInOneRoundTrip
+pub mod ReadOfAnUnsyncedKey
 pub mod RecoveryGivesUpAReplacement
 pub mod RecoveryReplays
 pub mod ReplaceAWitness

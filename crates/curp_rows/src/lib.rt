@@ -1,7 +1,7 @@
 //! The worked examples, computed on the definitions. There is no code here: an example is a clause of a function with
 //! nothing in it, and says that the run of the script has the example's text, whole.
 //!
-//! The examples are from outside: 32 scripts, of updates, conflicts, reads, recoveries, replacements, migrations and
+//! The examples are from outside: 36 scripts, of updates, conflicts, reads, recoveries, replacements, migrations and
 //! refused steps. They stand in `examples`, each with its output, and `examples/to_specs.py` makes the specs of this
 //! crate of them. A clause for each says that the definitions of `curp_model` and `curp_text` give the script exactly
 //! the output. Of a longer script, which fills a world with messages, the first 576 of 914 steps are one more; its
@@ -24,6 +24,10 @@ ghost use Rattle.curp_rows.specs.FullSetAndSync.{full_set_and_sync};
 ghost use Rattle.curp_rows.specs.CollectionAndSuspects.{collection_and_suspects};
 ghost use Rattle.curp_rows.specs.ReadByARound.{read_by_a_round};
 ghost use Rattle.curp_rows.specs.ReadAtASupersededMaster.{read_at_a_superseded_master};
+ghost use Rattle.curp_rows.specs.ReadInOneRoundTrip.{read_in_one_round_trip};
+ghost use Rattle.curp_rows.specs.LateReadAtASupersededMaster.{late_read_at_a_superseded_master};
+ghost use Rattle.curp_rows.specs.ReadOfAnUnsyncedKey.{read_of_an_unsynced_key};
+ghost use Rattle.curp_rows.specs.ReadAtAnIdleWitness.{read_at_an_idle_witness};
 ghost use Rattle.curp_rows.specs.RecoveryReplays.{recovery_replays};
 ghost use Rattle.curp_rows.specs.RetryAfterRecovery.{retry_after_recovery};
 ghost use Rattle.curp_rows.specs.LateReplyOfASupersededMaster.{late_reply_of_a_superseded_master};
@@ -69,6 +73,15 @@ pub fn conflicts_run()
 pub fn reads_run()
     ensures read_by_a_round { Plays read_by_a_round }
     ensures read_at_a_superseded_master { Plays read_at_a_superseded_master }
+{}
+
+/// Reads that are asked in one round trip: completed so, also at a master that another one has followed, or else by a
+/// round of appends.
+pub fn quick_reads_run()
+    ensures read_in_one_round_trip { Plays read_in_one_round_trip }
+    ensures late_read_at_a_superseded_master { Plays late_read_at_a_superseded_master }
+    ensures read_of_an_unsynced_key { Plays read_of_an_unsynced_key }
+    ensures read_at_an_idle_witness { Plays read_at_an_idle_witness }
 {}
 
 /// Recoveries: what is replayed, what is retried, and what a master that another one has followed still says.

@@ -292,6 +292,86 @@ order 0
 {"client":1,"cmd":["put","616161616161616161616161616161616161616161616161616161616161616161","31"],"do":"invoke"}
 
 === status 3 curp: line 2: bad field cmd
+=== example late-read-at-a-superseded-master
+{"clients":2,"f":1,"fast":true,"parts":1,"protocol":2,"sets":16,"ways":4}
+{"client":1,"cmd":["get","61"],"do":"invoke"}
+{"do":"deliver","msg":2}
+{"backup":1,"do":"recover","part":1,"witness":1}
+{"do":"deliver","msg":6}
+{"do":"deliver","msg":7}
+{"do":"deliver","msg":8}
+{"do":"deliver","msg":9}
+{"do":"deliver","msg":10}
+{"do":"deliver","msg":4}
+{"do":"deliver","msg":11}
+{"do":"deliver","msg":12}
+{"do":"deliver","msg":13}
+{"do":"deliver","msg":14}
+{"do":"deliver","msg":5}
+{"client":2,"do":"fetch"}
+{"do":"deliver","msg":15}
+{"do":"deliver","msg":16}
+{"client":2,"cmd":["put","61","32"],"do":"invoke"}
+{"do":"deliver","msg":17}
+{"do":"deliver","msg":18}
+{"do":"deliver","msg":19}
+{"do":"deliver","msg":20}
+{"do":"deliver","msg":1}
+{"do":"deliver","msg":3}
+{"do":"deliver","msg":21}
+
+=== status 0
+s1 done
+m1 C1 M1 glance 1.1 f1 e1 v1 get 61
+m2 C1 W1 probe 1.1 e1
+s2 done
+m3 W1 C1 live 1.1 e1
+s3 done
+m4 G B2 install e2
+m5 G W2 start p1 e2
+m6 G M2 recover p1 e2 v2 B1 W1 B2 W2
+s4 done
+m7 M2 B1 fence e2
+m8 M2 W1 freeze e2
+s5 done
+m9 B1 M2 log e2 n0
+s6 done
+m10 W1 M2 frozen
+s7 done
+s8 done
+m11 M2 B2 append e2 b0 n0 r1
+s9 done
+s10 done
+m12 B2 M2 stored e2 l0 r1
+s11 done
+m13 M2 G recovered p1 e2
+s12 done
+m14 G M2 adopted p1 e2 v2
+s13 done
+s14 done
+s15 done
+m15 C2 G fetch
+s16 done
+m16 G C2 config s2 1=e2,v2,M2,B2,W2,0000000000000000-ffffffffffffffff
+s17 done
+s18 done
+m17 C2 M2 update 2.1 f1 e2 v2 put 61 32
+m18 C2 W2 record 2.1 f1 e2 put 61 32
+s19 done
+m19 M2 C2 reply 2.1 unsynced e2 v2 done
+s20 done
+m20 W2 C2 accepted 2.1 e2
+s21 done
+s22 done
+c 2.1 done
+s23 done
+m21 M1 C1 quick 1.1 e1 v1 r1 none
+s24 done
+s25 done
+c 1.1 none
+order 2
+1.1 get 61 -> none
+2.1 put 61 32 -> done
 === example late-reply-of-a-superseded-master
 {"clients":2,"f":1,"fast":true,"parts":1,"protocol":1,"sets":16,"ways":4}
 {"client":1,"cmd":["put","61","31"],"do":"invoke"}
@@ -857,6 +937,60 @@ order 3
 1.1 put 61 31 -> done
 2.1 put 61 32 -> done
 1.2 get 61 -> found 32
+=== example read-at-an-idle-witness
+{"clients":1,"f":1,"fast":true,"parts":1,"protocol":2,"sets":16,"ways":4}
+{"do":"replace","kind":"witness","part":1,"place":1}
+{"do":"deliver","msg":2}
+{"do":"deliver","msg":3}
+{"do":"deliver","msg":4}
+{"do":"deliver","msg":5}
+{"do":"deliver","msg":6}
+{"client":1,"do":"fetch"}
+{"do":"deliver","msg":7}
+{"do":"deliver","msg":8}
+{"client":1,"cmd":["get","61"],"do":"invoke"}
+{"do":"deliver","msg":10}
+{"do":"deliver","msg":11}
+{"do":"deliver","msg":12}
+{"do":"deliver","msg":13}
+{"do":"deliver","msg":14}
+{"do":"deliver","msg":15}
+
+=== status 0
+s1 done
+m1 G W2 start p1 e1
+m2 G M1 prepare v2 B1 W2
+s2 done
+m3 M1 B1 append e1 b0 n0 r1
+s3 done
+m4 B1 M1 stored e1 l0 r1
+s4 done
+m5 M1 G prepared v2
+s5 done
+m6 G M1 adopted p1 e1 v2
+s6 done
+s7 done
+m7 C1 G fetch
+s8 done
+m8 G C1 config s2 1=e1,v2,M1,B1,W2,0000000000000000-ffffffffffffffff
+s9 done
+s10 done
+m9 C1 M1 glance 1.1 f1 e1 v2 get 61
+m10 C1 W2 probe 1.1 e1
+s11 done
+m11 W2 C1 not-live 1.1 e1
+s12 done
+m12 C1 M1 read 1.1 f1 e1 v2 get 61
+s13 done
+m13 M1 B1 append e1 b0 n0 r2
+s14 done
+m14 B1 M1 stored e1 l0 r2
+s15 done
+m15 M1 C1 value 1.1 e1 r1 none
+s16 done
+c 1.1 none
+order 1
+1.1 get 61 -> none
 === example read-by-a-round
 {"clients":2,"f":1,"fast":true,"parts":1,"protocol":1,"sets":16,"ways":4}
 {"client":1,"cmd":["put","61","31"],"do":"invoke"}
@@ -881,6 +1015,57 @@ s5 done
 m6 B1 M1 stored e1 l1 r1
 s6 done
 m7 M1 C2 value 2.1 e1 r1 found 31
+s7 done
+c 2.1 found 31
+order 2
+1.1 put 61 31 -> done
+2.1 get 61 -> found 31
+=== example read-in-one-round-trip
+{"clients":1,"f":1,"fast":true,"parts":1,"protocol":2,"sets":16,"ways":4}
+{"client":1,"cmd":["get","61"],"do":"invoke"}
+{"do":"deliver","msg":1}
+{"do":"deliver","msg":2}
+{"do":"deliver","msg":3}
+{"do":"deliver","msg":4}
+
+=== status 0
+s1 done
+m1 C1 M1 glance 1.1 f1 e1 v1 get 61
+m2 C1 W1 probe 1.1 e1
+s2 done
+m3 M1 C1 quick 1.1 e1 v1 r1 none
+s3 done
+m4 W1 C1 live 1.1 e1
+s4 done
+s5 done
+c 1.1 none
+order 1
+1.1 get 61 -> none
+=== example read-of-an-unsynced-key
+{"clients":2,"f":1,"fast":true,"parts":1,"protocol":2,"sets":16,"ways":4}
+{"client":1,"cmd":["put","61","31"],"do":"invoke"}
+{"do":"deliver","msg":1}
+{"client":2,"cmd":["get","61"],"do":"invoke"}
+{"do":"deliver","msg":4}
+{"do":"deliver","msg":6}
+{"do":"deliver","msg":7}
+{"do":"deliver","msg":8}
+
+=== status 0
+s1 done
+m1 C1 M1 update 1.1 f1 e1 v1 put 61 31
+m2 C1 W1 record 1.1 f1 e1 put 61 31
+s2 done
+m3 M1 C1 reply 1.1 unsynced e1 v1 done
+s3 done
+m4 C2 M1 glance 2.1 f1 e1 v1 get 61
+m5 C2 W1 probe 2.1 e1
+s4 done
+m6 M1 B1 append e1 b0 n1 r1
+s5 done
+m7 B1 M1 stored e1 l1 r1
+s6 done
+m8 M1 C2 value 2.1 e1 r1 found 31
 s7 done
 c 2.1 found 31
 order 2
