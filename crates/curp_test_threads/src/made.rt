@@ -37,18 +37,45 @@ fn the_default_script_in_numbers(rt: HostRuntime) -> Result<(), Fail> {
     Ok(())
 }
 
-// The script that is made is played: it ends well, and what is printed has the summary's numbers.
+// Whether a summary has the numbers that can be counted in what is printed; both tell the order's length in one line.
+fn has_counts(alloc: Global, summary: &str, text: &str) -> Result<bool, NoMemory> {
+    for (name, front) in [("steps", "s"), ("messages", "m"), ("completed", "c ")] {
+        let told = format!(in alloc; "{name} {}", count(text, front))?;
+        if !summary.lines().any(|line| line == told.as_str()) {
+            return Ok(false);
+        }
+    }
+    let order = text.lines().find(|line| line.starts_with("order "));
+    Ok(order.is_some() && summary.lines().last() == order)
+}
+
+// What is printed for the script that these words make, if making and playing end well.
+fn printed(alloc: Global, words: &[&str]) -> Result<MemorySink, Fail> {
+    let (made, script) = made(alloc, words)?;
+    let (played, sink) = played(alloc, text_of(&script))?;
+    if made != Status::Ok || played != Status::Ok {
+        return Err(Fail::new("a script that isn't played to its end"));
+    }
+    Ok(sink)
+}
+
 #[test]
 fn the_default_script_is_played(rt: HostRuntime) -> Result<(), Fail> {
-    let (made, script) = made(rt.alloc(), &["make"])?;
-    assert!(rt; made == Status::Ok);
-    let (status, sink) = played(rt.alloc(), text_of(&script))?;
-    assert!(rt; status == Status::Ok);
+    let sink = printed(rt.alloc(), &["make"])?;
+    assert!(rt; has_counts(rt.alloc(), SUMMARY, text_of(&sink))?);
+    Ok(())
+}
+
+// Of the reads in the script some are answered at once, and complete by that.
+#[test]
+fn a_script_of_protocol_2_is_played(rt: HostRuntime) -> Result<(), Fail> {
+    let (told, summary) = made(rt.alloc(), &["make", "--protocol", "2", "--summary"])?;
+    assert!(rt; told == Status::Ok);
+    let sink = printed(rt.alloc(), &["make", "--protocol", "2"])?;
     let text = text_of(&sink);
-    assert!(rt; count(text, "s") == 4000);
-    assert!(rt; count(text, "m") == 3757);
-    assert!(rt; count(text, "c ") == 79);
-    assert!(rt; text.contains("\norder 114\n"));
+    assert!(rt; has_counts(rt.alloc(), text_of(&summary), text)?);
+    assert!(rt; text.contains(" quick "));
+    assert!(rt; text.contains(" live "));
     Ok(())
 }
 

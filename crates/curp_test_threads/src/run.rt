@@ -124,33 +124,45 @@ fn is_played_again(alloc: Global, text: &str) -> Result<bool, NoMemory> {
     }
 }
 
-const OF_FOUR: [&str; 9] = [
-    "live",
-    "--f",
-    "2",
-    "--clients",
-    "4",
-    "--parts",
-    "1",
-    "--recoveries",
-    "0",
-];
+fn of_four(protocol: &str) -> [&str; 11] {
+    [
+        "live",
+        "--f",
+        "2",
+        "--clients",
+        "4",
+        "--parts",
+        "1",
+        "--recoveries",
+        "0",
+        "--protocol",
+        protocol,
+    ]
+}
+
+// How many steps the gate hears of once the run has ended.
+fn later_steps(gate: &Counting) -> u64 {
+    let steps = gate.steps.load(Ordering::SeqCst);
+    for _ in 0..TURNS {
+        thread::yield_now();
+    }
+    gate.steps.load(Ordering::SeqCst).wrapping_sub(steps)
+}
 
 // Four clients with 50 commands each: all complete, the run was made once, and no node steps when it has ended.
 #[test]
 fn each_command_completes_in_one_run(rt: HostRuntime) -> Result<(), Fail> {
-    let gate = Counting::new();
-    let (status, sink) = ran(&rt, rt.alloc(), &OF_FOUR, &gate)?;
-    let steps = gate.steps.load(Ordering::SeqCst);
-    assert!(rt; status == Status::Ok);
-    let text = text_of(&sink);
-    assert!(rt; count(text, "c ") == 200);
-    assert!(rt; is_played_again(rt.alloc(), text)?);
-    assert!(rt; gate.beginnings.load(Ordering::SeqCst) == 1);
-    for _ in 0..TURNS {
-        thread::yield_now();
+    for protocol in ["1", "2"] {
+        let gate = Counting::new();
+        let (status, sink) = ran(&rt, rt.alloc(), &of_four(protocol), &gate)?;
+        let later = later_steps(&gate);
+        assert!(rt; status == Status::Ok);
+        let text = text_of(&sink);
+        assert!(rt; count(text, "c ") == 200);
+        assert!(rt; is_played_again(rt.alloc(), text)?);
+        assert!(rt; gate.beginnings.load(Ordering::SeqCst) == 1);
+        assert!(rt; later == 0);
     }
-    assert!(rt; gate.steps.load(Ordering::SeqCst) == steps);
     Ok(())
 }
 
@@ -166,14 +178,40 @@ fn a_master_and_a_witness_meet(rt: HostRuntime) -> Result<(), Fail> {
     Ok(())
 }
 
-const OF_SIXTEEN: [&str; 5] = ["live", "--clients", "16", "--commands", "10"];
+fn of_sixteen(protocol: &str) -> [&str; 7] {
+    [
+        "live",
+        "--clients",
+        "16",
+        "--commands",
+        "10",
+        "--protocol",
+        protocol,
+    ]
+}
+
+// Whether a run of sixteen clients ends well, and its script is played again.
+fn sixteen_end<R: Threads + Wait + Sync>(
+    rt: &R,
+    alloc: Global,
+    protocol: &str,
+) -> Result<bool, NoMemory> {
+    let (status, sink) = ran(rt, alloc, &of_sixteen(protocol), &OpenGate)?;
+    Ok(status == Status::Ok && is_played_again(alloc, text_of(&sink))?)
+}
 
 #[test]
 fn a_hundred_runs_of_sixteen_clients_end(rt: HostRuntime) -> Result<(), Fail> {
     for _ in 0..100 {
-        let (status, sink) = ran(&rt, rt.alloc(), &OF_SIXTEEN, &OpenGate)?;
-        assert!(rt; status == Status::Ok);
-        assert!(rt; is_played_again(rt.alloc(), text_of(&sink))?);
+        assert!(rt; sixteen_end(&rt, rt.alloc(), "1")?);
+    }
+    Ok(())
+}
+
+#[test]
+fn a_hundred_runs_of_sixteen_clients_end_in_protocol_2(rt: HostRuntime) -> Result<(), Fail> {
+    for _ in 0..100 {
+        assert!(rt; sixteen_end(&rt, rt.alloc(), "2")?);
     }
     Ok(())
 }
