@@ -1,7 +1,6 @@
 -- The header of a plan is in range.
 use Rattle.std.proofs.Common.{◌≡◌, ◌≤◌, ℕ, true, None, refl, arith}
 use Rattle.std.proofs.lemmas.Bool.Decides.{nat_tests}
-use Rattle.curp_script.specs.Built.{is_built}
 use Rattle.curp_script.specs.Headers.{bad_field, is_within}
 use Rattle.curp_words.specs.Plan.{IsPlan}
 use Rattle.curp_words.specs.declared.order.MakePlan.{MakePlan}
@@ -11,7 +10,6 @@ within : (low high n : ℕ) → low ≤ n → n ≤ high → is_within low high 
 within low high n above below = grind (arith, nat_tests)
 
 pub no_bad_field : (plan : MakePlan) → IsPlan plan → bad_field (header_of plan) ≡ None
-unfolding is_built
 no_bad_field plan is =
     let clients : is_within 1 64 plan.clients ≡ true = within 1 64 plan.clients is.clients.0 is.clients.1 in
     let f : is_within 1 5 plan.f ≡ true = within 1 5 plan.f is.f.0 is.f.1 in

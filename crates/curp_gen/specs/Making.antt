@@ -9,7 +9,6 @@ use Rattle.curp_model.specs.World.{World, Stepped, messages, opening, order, ste
 use Rattle.curp_msg.specs.declared.outcome.StepResult.{StepResult}
 use Rattle.curp_msg.specs.declared.outcome.StepResult.TheVariants.{Done}
 use Rattle.curp_msg.specs.declared.script.Header.{Header}
-use Rattle.curp_msg.specs.declared.script.Protocol.TheVariants.{One}
 use Rattle.curp_msg.specs.declared.script.Step.{Step}
 use Rattle.curp_msg.specs.declared.script.Step.TheVariants.{Collect, Deliver, Fetch, Invoke, Migrate, Nudge, Recover, Retry, Sync}
 use Rattle.curp_words.specs.Plan.{IsPlan}
@@ -49,7 +48,7 @@ header_of plan = record {
   f = plan.f;
   fast = true;
   parts = plan.parts;
-  protocol = One;
+  protocol = plan.protocol;
   sets = plan.sets;
   ways = plan.ways;
 }

@@ -1,15 +1,15 @@
-ghost use Rattle.std.specs.Prelude.{◌≡◌, ◌<◌, ◌≤◌, ◌-◌, ◌^◌, length, Ok, OnErr, OnOk, IfOk};
+ghost use Rattle.std.specs.Prelude.{◌≡◌, ◌<◌, ◌≤◌, ◌-◌, ◌^◌, length, OnErr, OnOk, IfOk};
 ghost use Rattle.curp_client.specs.Requests.{least_of};
 ghost use Rattle.curp_model.specs.World.{order};
 ghost use Rattle.curp_script.specs.Headers.{InRange};
-ghost use Rattle.curp_script.specs.Printed.{NamesNode, checked, checked_header};
+ghost use Rattle.curp_script.specs.Printed.{NamesNode};
 ghost use Rattle.curp_words.specs.Plan.{IsPlan};
 ghost use Rattle.curp_gen.specs.Making as making;
 
 use crate::draws::copy_of;
 use crate::summary::Summary;
 use curp_base::NoMemory;
-use curp_msg::{Header, Outcome, Protocol, Step, StepResult};
+use curp_msg::{Header, Outcome, Step, StepResult};
 use curp_words::MakePlan;
 use curp_world::{BeginError, World};
 use rand_pcg::Pcg32;
@@ -87,7 +87,6 @@ impl Maker {
     pub fn header(&self) -> Header
         ensures header { result ≡ making.header_of self.now.plan }
         ensures in_range { InRange result }
-        ensures reads_back { checked_header result ≡ Ok result }
     {
         header_of(&self.plan)
     }
@@ -97,7 +96,6 @@ impl Maker {
         requires { self.old.made < self.old.plan.steps }
         ensures step { IfOk result (λ step. step ≡ making.next_step self.old) }
         ensures names_node { IfOk result NamesNode }
-        ensures reads_back { IfOk result (λ step. checked step ≡ Ok step) }
         ensures state { OnOk result (self.new ≡ making.with_next self.old) }
         ensures err { OnErr result (self.new ≡ self.old) }
     {
@@ -235,7 +233,7 @@ fn header_of(plan: &MakePlan) -> Header
         f: plan.f,
         fast: true,
         parts: plan.parts,
-        protocol: Protocol::One,
+        protocol: plan.protocol,
         sets: plan.sets,
         ways: plan.ways,
     }

@@ -4,7 +4,6 @@ use Rattle.curp_base.specs.Words.{At}
 use Rattle.curp_cmd.specs.declared.command.Command.{Command}
 use Rattle.curp_msg.specs.Moved.{Node}
 use Rattle.curp_msg.specs.declared.script.Header.{Header}
-use Rattle.curp_msg.specs.declared.script.Protocol.TheVariants.{One}
 use Rattle.curp_journal.specs.Journal.{Log}
 use Rattle.curp_model.specs.Client.{ClientState}
 use Rattle.curp_turns.specs.Turns.{Journal}
@@ -20,7 +19,7 @@ live_header plan = record {
   f = plan.f;
   fast = true;
   parts = plan.parts;
-  protocol = One;
+  protocol = plan.protocol;
   sets = plan.sets;
   ways = plan.ways;
 }

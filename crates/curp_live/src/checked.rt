@@ -12,7 +12,7 @@ use curp_base::NoMemory;
 use curp_cmd::{Command, NodeId, NodeKind};
 use curp_gather::Journals;
 use curp_inv::{BackupNode, ClientNode, MasterNode, WitnessNode};
-use curp_msg::{Header, Protocol};
+use curp_msg::Header;
 use curp_seat::Kept;
 use curp_words::LivePlan;
 use std::alloc::Global;
@@ -26,7 +26,7 @@ pub(crate) fn header_of(plan: &LivePlan) -> Header
         f: plan.f,
         fast: true,
         parts: plan.parts,
-        protocol: Protocol::One,
+        protocol: plan.protocol,
         sets: plan.sets,
         ways: plan.ways,
     }

@@ -2,7 +2,7 @@
 use crate::played::{count, played, played_with_faults, text_of};
 use curp_base::NoMemory;
 use curp_play::Status;
-use curp_script::{FieldName, LineError, Word};
+use curp_script::{FieldName, LineError};
 use std::alloc::Global;
 use std::test::Fail;
 
@@ -271,13 +271,10 @@ fn bad(name: FieldName) -> LineError {
 
 #[test]
 fn headers_are_refused_by_their_first_fault(rt: HostRuntime) -> Result<(), Fail> {
-    let later = LineError::Later {
-        word: Word::Protocol,
-    };
     for (old, new, reason) in [
         ("\"f\":1", "\"f\":6", bad(FieldName::F)),
         ("\"parts\":1", "\"parts\":17", bad(FieldName::Parts)),
-        ("\"protocol\":1", "\"protocol\":2", later),
+        ("\"protocol\":1", "\"protocol\":3", bad(FieldName::Protocol)),
         ("}", "", LineError::BadJson),
         (HEADER, "", LineError::BadJson),
     ] {

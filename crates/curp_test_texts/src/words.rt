@@ -1,5 +1,6 @@
 // What no clause says: that there is an order where there is memory.
 use curp_base::NoMemory;
+use curp_msg::Protocol;
 use curp_words::{LivePlan, MakePlan, Order, Output, WordsError, blamed, read};
 use std::alloc::Global;
 use std::test::Fail;
@@ -66,6 +67,9 @@ make|--clients|0
 make|--clients|65
 make|--parts|0
 make|--parts|17
+make|--protocol|0
+make|--protocol|3
+make|--protocol|two
 make|--steps|0
 make|--steps|200001
 make|--recoveries|65
@@ -86,6 +90,7 @@ live|--ways|17
 live|--clients|0
 live|--clients|17
 live|--parts|17
+live|--protocol|3
 live|--commands|0
 live|--commands|101
 live|--recoveries|1
@@ -100,27 +105,30 @@ live|--number|18446744073709551616
 --summary";
 
 // Command lines of `make` and `live`, with the numbers of their plans and what is written.
-const TAKEN: &str = "make: 1 3 64 4 8 2 4000 3 Script
-make|--number|0: 0 3 64 4 8 2 4000 3 Script
-make|--number|18446744073709551615: 18446744073709551615 3 64 4 8 2 4000 3 Script
-make|--number|00000000000000000007: 7 3 64 4 8 2 4000 3 Script
-make|--f|1|--sets|1|--ways|1|--clients|1: 1 1 1 1 1 2 4000 3 Script
-make|--parts|1|--steps|1|--recoveries|0: 1 3 64 4 8 1 1 0 Script
-make|--f|5|--sets|1024|--ways|16|--clients|64: 1 5 1024 16 64 2 4000 3 Script
-make|--parts=16|--steps=200000|--recoveries=64: 1 3 64 4 8 16 200000 64 Script
-make|--summary: 1 3 64 4 8 2 4000 3 Summary
---summary|make: 1 3 64 4 8 2 4000 3 Summary
---f|2|make: 1 2 64 4 8 2 4000 3 Script
---f=2|make|--sets|8: 1 2 8 4 8 2 4000 3 Script
---sets=8|--summary|--f|2|make|--number=5: 5 2 8 4 8 2 4000 3 Summary
-make|--f|03: 1 3 64 4 8 2 4000 3 Script
-live: 1 3 64 4 8 2 50 0 Live
-live|--number|0|--f|1|--sets|1|--ways|1: 0 1 1 1 8 2 50 0 Live
-live|--clients|1|--parts|1|--commands|1|--recoveries|0: 1 3 64 4 1 1 1 0 Live
-live|--number|18446744073709551615: 18446744073709551615 3 64 4 8 2 50 0 Live
-live|--f|5|--sets|1024|--ways|16|--clients|16: 1 5 1024 16 16 2 50 0 Live
---parts=16|live|--commands=100: 1 3 64 4 8 16 100 0 Live
---commands|5|live: 1 3 64 4 8 2 5 0 Live";
+const TAKEN: &str = "make: 1 3 64 4 8 2 1 4000 3 Script
+make|--number|0: 0 3 64 4 8 2 1 4000 3 Script
+make|--number|18446744073709551615: 18446744073709551615 3 64 4 8 2 1 4000 3 Script
+make|--number|00000000000000000007: 7 3 64 4 8 2 1 4000 3 Script
+make|--f|1|--sets|1|--ways|1|--clients|1: 1 1 1 1 1 2 1 4000 3 Script
+make|--parts|1|--steps|1|--recoveries|0: 1 3 64 4 8 1 1 1 0 Script
+make|--f|5|--sets|1024|--ways|16|--clients|64: 1 5 1024 16 64 2 1 4000 3 Script
+make|--parts=16|--steps=200000|--recoveries=64: 1 3 64 4 8 16 1 200000 64 Script
+make|--summary: 1 3 64 4 8 2 1 4000 3 Summary
+--summary|make: 1 3 64 4 8 2 1 4000 3 Summary
+--f|2|make: 1 2 64 4 8 2 1 4000 3 Script
+--f=2|make|--sets|8: 1 2 8 4 8 2 1 4000 3 Script
+--sets=8|--summary|--f|2|make|--number=5: 5 2 8 4 8 2 1 4000 3 Summary
+make|--protocol|2: 1 3 64 4 8 2 2 4000 3 Script
+--protocol=1|make: 1 3 64 4 8 2 1 4000 3 Script
+make|--f|03: 1 3 64 4 8 2 1 4000 3 Script
+live: 1 3 64 4 8 2 1 50 0 Live
+live|--number|0|--f|1|--sets|1|--ways|1: 0 1 1 1 8 2 1 50 0 Live
+live|--clients|1|--parts|1|--commands|1|--recoveries|0: 1 3 64 4 1 1 1 1 0 Live
+live|--number|18446744073709551615: 18446744073709551615 3 64 4 8 2 1 50 0 Live
+live|--f|5|--sets|1024|--ways|16|--clients|16: 1 5 1024 16 16 2 1 50 0 Live
+--parts=16|live|--commands=100: 1 3 64 4 8 16 1 100 0 Live
+live|--protocol|2: 1 3 64 4 8 2 2 50 0 Live
+--commands|5|live: 1 3 64 4 8 2 1 5 0 Live";
 
 // The first word of a command line with which no line can begin; none where the line breaks off.
 const BLAMED: &str = "plya: 0
@@ -132,6 +140,8 @@ make|--summary|--: 2
 make|--steps: none
 --f=3: none
 live|--f: none
+live|--protocol: none
+make|--protocol|3: 2
 live|--recoveries: none
 --commands|5|--recoveries: none
 --recoveries|0|--commands: none
@@ -154,16 +164,24 @@ fn order_of(alloc: Global, line: &str) -> Result<Result<Order, WordsError>, NoMe
     Ok(read(alloc, &words))
 }
 
+fn number_of(protocol: Protocol) -> u32 {
+    match protocol {
+        Protocol::One => 1,
+        Protocol::Two => 2,
+    }
+}
+
 // The numbers of a plan, and what is written.
 fn made(alloc: Global, plan: &MakePlan, output: Output) -> Result<String, NoMemory> {
     format!(in alloc;
-        "{} {} {} {} {} {} {} {} {output:?}",
+        "{} {} {} {} {} {} {} {} {} {output:?}",
         plan.number,
         plan.f,
         plan.sets,
         plan.ways,
         plan.clients,
         plan.parts,
+        number_of(plan.protocol),
         plan.steps,
         plan.recoveries
     )
@@ -171,13 +189,14 @@ fn made(alloc: Global, plan: &MakePlan, output: Output) -> Result<String, NoMemo
 
 fn run(alloc: Global, plan: &LivePlan) -> Result<String, NoMemory> {
     format!(in alloc;
-        "{} {} {} {} {} {} {} {} Live",
+        "{} {} {} {} {} {} {} {} {} Live",
         plan.number,
         plan.f,
         plan.sets,
         plan.ways,
         plan.clients,
         plan.parts,
+        number_of(plan.protocol),
         plan.commands,
         plan.recoveries
     )

@@ -1,10 +1,9 @@
 // The steps of a run on threads.
-ghost use Rattle.std.specs.Prelude.{◌≡◌, ◌≤◌, length, map, IfOk, IfSome, Ok};
+ghost use Rattle.std.specs.Prelude.{◌≡◌, ◌≤◌, length, map, IfOk, IfSome};
 ghost use Rattle.curp_gather.specs.Journals.{AreOf, IsScriptOf, journals_of};
 ghost use Rattle.curp_live.specs.Live.{live_header};
 ghost use Rattle.curp_run.specs.Live.{Shows, work_of};
 ghost use Rattle.curp_script.specs.Headers.{InRange};
-ghost use Rattle.curp_script.specs.Printed.{checked_header};
 ghost use Rattle.curp_script.specs.Script.{step_limit};
 ghost use Rattle.curp_words.specs.Plan.{IsLivePlan};
 
@@ -13,7 +12,7 @@ use curp_cmd::Command;
 use curp_gather::{GatherError, Journals, gather};
 use curp_gen::workload;
 use curp_live::live;
-use curp_msg::{Header, Protocol, Step};
+use curp_msg::{Header, Step};
 use curp_seat::Gate;
 use curp_words::LivePlan;
 use std::alloc::{AllocError, Global};
@@ -87,14 +86,13 @@ pub(crate) fn header_of(plan: &LivePlan) -> Header
     requires { IsLivePlan plan.now }
     ensures header { result ≡ live_header plan.now }
     ensures in_range { InRange result }
-    ensures built { checked_header result ≡ Ok result }
 {
     Header {
         clients: plan.clients,
         f: plan.f,
         fast: true,
         parts: plan.parts,
-        protocol: Protocol::One,
+        protocol: plan.protocol,
         sets: plan.sets,
         ways: plan.ways,
     }

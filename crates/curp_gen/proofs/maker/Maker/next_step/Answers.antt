@@ -5,7 +5,6 @@ use Rattle.curp_model.specs.World.{step}
 use Rattle.curp_script.specs.Printed.{NamesNode}
 use Rattle.curp_gen.specs.Making.{Making, choice, is_recovery_due, plus_if, with_next}
 use Rattle.curp_gen.specs.declared.choice.Choice.{Choice}
-use Rattle.curp_script.proofs.AllBuilt.{step_is_built}
 use Rattle.curp_gen.proofs.Made.{plus_if_most, plus_if_within, recovery_room, state_is_next, step_is_next}
 use Rattle.curp_gen.proofs.Masters.{masters_stay}
 use Rattle.curp_gen.proofs.Named.{next_names_node}
@@ -72,6 +71,3 @@ returns-in-Ok-clause-state c =
     (c.plus_if-self-inside-in-Ok.ensures ∙ ap (λ (so : Bool). plus_if (not so) c.self.inside.refused) c.is_done.ensures)
     (c.plus_if-self-inside-in-Ok-2.ensures ∙ ap (λ (so : Bool). plus_if so c.self.inside.completed) completes) in
     next ∙ ap with_next view_is
-
-pub returns-in-Ok-clause-reads_back : goal.returns-in-Ok-clause-reads_back
-returns-in-Ok-clause-reads_back c = step_is_built c.choice-choice.result.step
