@@ -162,8 +162,8 @@ abbrev pub put_at : ℕ → ℕ → Mark → List Mark → List Mark
 put_at part number new [] = new ∷ []
 put_at part number new (m ∷ ms) = if cuts_at part number m then new ∷ m ∷ ms else m ∷ put_at part number new ms
 
--- A read that was answered at once is marked before the first adoption of its partition behind that of its master: at the end
--- where its master is adopted
+-- A read that was answered at once is marked before the first adoption of its partition behind that of its master, which is
+-- where one thread would have answered it so: a late one by a superseded master too. Where its master is adopted that is the end.
 abbrev pub with_quick : Mark → List Mark → List Mark
 with_quick m marks = put_at m.part (adoptions_to m.part m.epoch marks + 1) m marks
 
