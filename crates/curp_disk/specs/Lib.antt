@@ -1,0 +1,5 @@
+pub mod Calls
+pub mod Disk
+pub mod InMemory
+pub mod Media
+pub mod Moments
