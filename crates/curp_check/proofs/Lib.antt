@@ -1,0 +1,8 @@
+mod Finding
+mod Ids
+pub mod Items
+mod Short
+pub mod Stages
+mod Sweeps
+mod Tests
+pub mod Verdicts

@@ -1,0 +1,170 @@
+-- The clauses of an order by what is found, and the verdict by the clauses.
+use Rattle.std.proofs.Common.{◌≡◌, ◌↔◌, ◌<◌, ℕ, List, length, true, false, IsTrue, Option, Some, None, refl, sym, ap, ◌∙◌, subst, arith}
+use Rattle.curp_base.specs.Words.{At, Each}
+use Rattle.curp_base.proofs.Lists.{Each-at, Each-from_at, at_within, at_same}
+use Rattle.curp_cmd.specs.declared.command.Answer.{Answer}
+use Rattle.curp_cmd.specs.declared.command.RequestId.{RequestId}
+use Rattle.curp_order.specs.Order.{IsHistory, IsOrder, answers}
+use Rattle.curp_order.specs.declared.Event.{Event}
+use Rattle.curp_order.specs.declared.Event.TheVariants.{Invoke, Complete}
+use Rattle.curp_check.specs.Found.{AreInTime, Finder, FindsInvocations, FindsPlaces, IsAnswered, IsInvoked, IsPlaced, StandsTwice, invoked_by}
+use Rattle.curp_check.specs.Verdict.{AreInvoked, Asked, EachIsAnswered, EachIsInTime, EachStands, Holds, IsFirstBroken, IsVerdict, number_of}
+use Rattle.curp_check.specs.declared.verdict.Clause.{Clause}
+use Rattle.curp_check.specs.declared.verdict.Clause.TheVariants.{Invoked, Stands, Answered, InTime}
+use Rattle.curp_check.specs.declared.verdict.Verdict.{Verdict}
+use Rattle.curp_check.specs.declared.verdict.Verdict.TheVariants as verdict
+
+module _ (events : List Event) (order : List Asked) where
+  -- ---- the first clause
+
+  pub twice_breaks : StandsTwice order → AreInvoked events order → ⊥
+  twice_breaks t holds =
+      let same : t.first ≡ t.second = holds.once t.first t.second t.one t.other t.at_first t.at_second t.same in
+      omega (arith, t.apart, same)
+
+  pub invoked_from_each : (find : Finder) → FindsPlaces (length order) find order → Each (IsInvoked events) order → AreInvoked events order
+  invoked_from_each find f each = record {
+    invoked = λ k x at. Each-at (IsInvoked events) order each k x at;
+    once = λ j k x y at_x at_y same.
+        let first = f.each j x (at_within order j x at_x) at_x in
+        let second = f.each k y (at_within order k y at_y) at_y in
+        let both : Some j ≡ Some k = sym first ∙ ap find same ∙ second in
+        cc;
+  }
+
+  pub each_from_invoked : AreInvoked events order → Each (IsInvoked events) order
+  each_from_invoked holds = Each-from_at (IsInvoked events) order holds.invoked
+
+  -- ---- the others, where requests are found at their places
+
+  module _ (find : Finder) (f : FindsPlaces (length order) find order) where
+    -- a request of the order is found at its place
+    found_at : (k : ℕ) (x : Asked) (id : RequestId) → At order k x → x.0 ≡ id → find id ≡ Some k
+    found_at k x id at is = ap find (sym is) ∙ f.each k x (at_within order k x at) at
+
+    pub stand_from_each : Each (IsPlaced find) events → EachStands events order
+    stand_from_each each i id a at =
+        let placed = Each-at (IsPlaced find) events each i (Complete id a) at in
+        let there = f.there id placed.0 placed.1 in
+        (placed.0, there.1.0, there.1.1, there.1.2)
+
+    pub each_from_stand : EachStands events order → Each (IsPlaced find) events
+    each_from_stand holds = Each-from_at (IsPlaced find) events one
+      where
+        one : (i : ℕ) (e : Event) → At events i e → IsPlaced find e
+        one i (Invoke id c) at = tt
+        one i (Complete id a) at = let s = holds i id a at in (s.0, found_at s.0 s.1 id s.2 s.3)
+
+    pub answered_from_each : Each (IsAnswered find (answers order)) events → EachIsAnswered events order
+    answered_from_each each i id a at k x here is =
+        let said = Each-at (IsAnswered find (answers order)) events each i (Complete id a) at in
+        said k (found_at k x id here is)
+
+    pub each_from_answered : EachIsAnswered events order → Each (IsAnswered find (answers order)) events
+    each_from_answered holds = Each-from_at (IsAnswered find (answers order)) events one
+      where
+        one : (i : ℕ) (e : Event) → At events i e → IsAnswered find (answers order) e
+        one i (Invoke id c) at = tt
+        one i (Complete id a) at = λ k found.
+            let there = f.there id k found in
+            holds i id a at k there.1.0 there.1.1 there.1.2
+
+    pub in_time_from_found : AreInTime (length events) find events → EachIsInTime events order
+    in_time_from_found t i j earlier later a c before at_i at_j k l x y at_k is_k at_l is_l =
+        t i j earlier later a c before (at_within events j (Invoke later c) at_j) at_i at_j k l
+        (found_at k x earlier at_k is_k) (found_at l y later at_l is_l)
+
+    pub found_from_in_time : EachIsInTime events order → AreInTime (length events) find events
+    found_from_in_time holds i j earlier later a c before below at_i at_j k l found_k found_l =
+        let first = f.there earlier k found_k in
+        let second = f.there later l found_l in
+        holds i j earlier later a c before at_i at_j k l first.1.0 second.1.0 first.1.1 first.1.2 second.1.1 second.1.2
+
+  -- ---- the verdict
+
+  pub all_hold : (clause : Clause) → IsOrder events order → Holds events order clause
+  all_hold Invoked o = record { invoked = o.invoked; once = o.once }
+  all_hold Stands o = o.stands
+  all_hold Answered o = o.answered
+  all_hold InTime o = o.in_time
+
+  pub is_order : AreInvoked events order → EachStands events order → EachIsAnswered events order → EachIsInTime events order → IsOrder events order
+  is_order invoked stands answered in_time = record {
+    invoked = invoked.invoked;
+    once = invoked.once;
+    stands = stands;
+    answered = answered;
+    in_time = in_time;
+  }
+
+  pub first_broken : (AreInvoked events order → ⊥) → IsFirstBroken events order Invoked
+  first_broken broken = record { broken = broken; earlier = earlier }
+    where
+      earlier : (other : Clause) → number_of other < 1 → Holds events order other
+      earlier Invoked less = absurd (omega arith)
+      earlier Stands less = absurd (omega arith)
+      earlier Answered less = absurd (omega arith)
+      earlier InTime less = absurd (omega arith)
+
+  pub second_broken : AreInvoked events order → (EachStands events order → ⊥) → IsFirstBroken events order Stands
+  second_broken invoked broken = record { broken = broken; earlier = earlier }
+    where
+      earlier : (other : Clause) → number_of other < 2 → Holds events order other
+      earlier Invoked less = invoked
+      earlier Stands less = absurd (omega arith)
+      earlier Answered less = absurd (omega arith)
+      earlier InTime less = absurd (omega arith)
+
+  pub third_broken : AreInvoked events order → EachStands events order → (EachIsAnswered events order → ⊥) → IsFirstBroken events order Answered
+  third_broken invoked stands broken = record { broken = broken; earlier = earlier }
+    where
+      earlier : (other : Clause) → number_of other < 3 → Holds events order other
+      earlier Invoked less = invoked
+      earlier Stands less = stands
+      earlier Answered less = absurd (omega arith)
+      earlier InTime less = absurd (omega arith)
+
+  pub fourth_broken : AreInvoked events order → EachStands events order → EachIsAnswered events order → (EachIsInTime events order → ⊥) → IsFirstBroken events order InTime
+  fourth_broken invoked stands answered broken = record { broken = broken; earlier = earlier }
+    where
+      earlier : (other : Clause) → number_of other < 4 → Holds events order other
+      earlier Invoked less = invoked
+      earlier Stands less = stands
+      earlier Answered less = answered
+      earlier InTime less = absurd (omega arith)
+
+  -- of two clauses that are the first to fail neither comes before the other
+  no_lower : (a b : Clause) → IsFirstBroken events order a → IsFirstBroken events order b → number_of a < number_of b → ⊥
+  no_lower a b first second less = first.broken (second.earlier a less)
+
+  pub one_first : (a b : Clause) → IsFirstBroken events order a → IsFirstBroken events order b → a ≡ b
+  one_first Invoked Invoked f s = refl
+  one_first Stands Stands f s = refl
+  one_first Answered Answered f s = refl
+  one_first InTime InTime f s = refl
+  one_first Invoked Stands f s = absurd (no_lower Invoked Stands f s (omega arith))
+  one_first Invoked Answered f s = absurd (no_lower Invoked Answered f s (omega arith))
+  one_first Invoked InTime f s = absurd (no_lower Invoked InTime f s (omega arith))
+  one_first Stands Invoked f s = absurd (no_lower Invoked Stands s f (omega arith))
+  one_first Stands Answered f s = absurd (no_lower Stands Answered f s (omega arith))
+  one_first Stands InTime f s = absurd (no_lower Stands InTime f s (omega arith))
+  one_first Answered Invoked f s = absurd (no_lower Invoked Answered s f (omega arith))
+  one_first Answered Stands f s = absurd (no_lower Stands Answered s f (omega arith))
+  one_first Answered InTime f s = absurd (no_lower Answered InTime f s (omega arith))
+  one_first InTime Invoked f s = absurd (no_lower Invoked InTime s f (omega arith))
+  one_first InTime Stands f s = absurd (no_lower Stands InTime s f (omega arith))
+  one_first InTime Answered f s = absurd (no_lower Answered InTime s f (omega arith))
+
+  pub yes_exactly : (v : Verdict) → IsVerdict events order v → (v ≡ verdict.Yes) ↔ IsOrder events order
+  yes_exactly verdict.Yes is = (λ _. is, λ _. refl)
+  yes_exactly (verdict.No clause) is = (λ e. absurd cc, λ o. absurd (is.broken (all_hold clause o)))
+
+  pub no_exactly : (clause : Clause) (v : Verdict) → IsVerdict events order v → (v ≡ verdict.No clause) ↔ IsFirstBroken events order clause
+  no_exactly clause verdict.Yes is = (λ e. absurd cc, λ b. absurd (b.broken (all_hold clause is)))
+  no_exactly clause (verdict.No other) is = (
+    λ e. subst (λ (c : Clause). IsFirstBroken events order c) (same_clause other clause e) is,
+    λ b. ap (λ (c : Clause). verdict.No c) (one_first other clause is b),
+  )
+    where
+      same_clause : (a b : Clause) → verdict.No a ≡ verdict.No b → a ≡ b
+      same_clause a b e = cc

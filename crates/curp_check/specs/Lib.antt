@@ -1,0 +1,4 @@
+pub mod Claim
+pub mod Found
+pub mod Stages
+pub mod Verdict

@@ -1,0 +1,161 @@
+ghost use Rattle.std.specs.Prelude.{◌≡◌, ◌≢◌, ◌↔◌, ◌++◌, [], ◌∷◌, Some, Ok, Err, OnOk, OnErr, IfErr};
+ghost use Rattle.std.specs.BTreeMap.{Updates};
+ghost use Rattle.curp_cmd.specs.RequestId.{id_cmp};
+ghost use Rattle.curp_order.specs.Order.{IsHistory};
+ghost use Rattle.curp_order.specs.declared.Event as order;
+ghost use Rattle.curp_check.specs.Claim.{nothing_claimed, with_event, with_line};
+ghost use Rattle.curp_check.specs.Stages.{request_of, stage_after};
+
+use curp_base::NoMemory;
+use curp_cmd::{Command, RequestId};
+use curp_order::{Event, History};
+use curp_script::{EventLine, FieldName, LineError};
+use std::alloc::Global;
+use std::collections::BTreeMap;
+use std::marker::Model;
+
+/// How many lines a claim may have.
+pub const CLAIM_LIMIT: u64 = 400_000;
+
+/// How far a request is.
+#[derive(Clone, Copy)]
+pub(crate) enum Stage {
+    Invoked,
+    Completed,
+}
+
+/// A history, and the order that is claimed for it. Contracts see both.
+#[derive(Drop)]
+pub struct Claim {
+    history: History,
+    order: Vec<(RequestId, Command)>,
+    // How far each request of the history is.
+    stages: BTreeMap<RequestId, Stage>,
+}
+
+impl Model for Claim {
+    ghost use Rattle.std.specs.BTreeMap.{get};
+    ghost use Rattle.curp_cmd.specs.RequestId.{id_cmp};
+    ghost use Rattle.curp_check.specs.Claim.{Claimed};
+    ghost use Rattle.curp_check.specs.Stages.{IsFollowed};
+
+    ghost Value = { Claimed };
+
+    ghost view = { λ c. record { events = c.history.events; order = c.order.items } };
+
+    ghost invariant = { λ c. IsFollowed (get id_cmp c.stages) c.history.events };
+}
+
+impl Claim {
+    /// Nothing happened, and nothing is claimed. It takes no memory.
+    pub fn new(alloc: Global) -> Claim
+        ensures { result ≡ nothing_claimed }
+    {
+        Claim {
+            history: History::new(alloc),
+            order: Vec::new(alloc),
+            stages: BTreeMap::new(alloc),
+        }
+    }
+
+    /// Adds what a line says. An event behind the order is a bad `ev`, and one with which the events are no history is a
+    /// bad `id`. Where it is refused, nothing is changed.
+    pub fn add(&mut self, line: &EventLine) -> Result<(), LineError>
+        ensures added { OnOk result (with_line self.old line.now ≡ Ok self.new) }
+        ensures refused { IfErr result (λ reason. reason ≢ LineError.NoMemory → with_line self.old line.now ≡ Err reason) }
+        ensures err { OnErr result (self.new ≡ self.old) }
+        ensures bad_id { (e : order.Event) → line.now ≡ EventLine.Event e → self.old.order ≡ []
+            → (with_line self.old line.now ≡ Err (LineError.BadField FieldName.Id))
+            ↔ (IsHistory (self.old.events ++ e ∷ []) → ⊥) }
+    {
+        match line {
+            EventLine::Event(event) => self.add_event(event),
+            EventLine::Place { id, command } => {
+                match self.order.extend_from_slice(&[(*id, *command)]) {
+                    Ok(()) => Ok(()),
+                    Err(NoMemory) => Err(LineError::NoMemory),
+                }
+            }
+        }
+    }
+
+    /// The events, the newest last. They are a history.
+    pub fn history(&self) -> &[Event]
+        ensures events { result.now ≡ self.now.events }
+        ensures is_history { IsHistory self.now.events }
+    {
+        self.history.events()
+    }
+
+    /// The requests of the order.
+    pub fn order(&self) -> &[(RequestId, Command)]
+        ensures { result.now ≡ self.now.order }
+    {
+        &self.order
+    }
+}
+
+impl Claim {
+    fn add_event(&mut self, event: &Event) -> Result<(), LineError>
+        ensures added { OnOk result (with_event self.old event.now ≡ Ok self.new) }
+        ensures refused { IfErr result (λ reason.
+            reason ≢ LineError.NoMemory → with_event self.old event.now ≡ Err reason) }
+        ensures err { OnErr result (self.new ≡ self.old) }
+        ensures is_history { IsHistory self.old.events }
+    {
+        if !self.order.is_empty() {
+            return Err(LineError::BadField {
+                name: FieldName::Ev,
+            });
+        }
+        let id = request_of(event);
+        let Some(stage) = stage_after(event, self.stages.get(&id).copied()) else {
+            return Err(LineError::BadField {
+                name: FieldName::Id,
+            });
+        };
+        match push_event(&mut self.history, &mut self.stages, event, stage) {
+            Ok(()) => Ok(()),
+            Err(NoMemory) => Err(LineError::NoMemory),
+        }
+    }
+}
+
+fn push_event(
+    history: &mut History,
+    stages: &mut BTreeMap<RequestId, Stage>,
+    event: &Event,
+    stage: Stage,
+) -> Result<(), NoMemory>
+    ensures history { OnOk result (history.new.events ≡ history.old.events ++ event.now ∷ []) }
+    ensures stages { OnOk result (Updates id_cmp stages.old stages.new (request_of event.now) (Some stage)) }
+    ensures history_stays { OnErr result (history.new.events ≡ history.old.events) }
+    ensures stages_stay { OnErr result (stages.new.entries ≡ stages.old.entries) }
+{
+    history.reserve(2)?;
+    stages.insert(request_of(event), stage)?;
+    match event {
+        Event::Invoke { id, command } => history.record(Some((*id, *command)), None),
+        Event::Complete { id, answer } => history.record(None, Some((*id, *answer))),
+    }
+    Ok(())
+}
+
+fn request_of(event: &Event) -> RequestId
+    ensures { result ≡ request_of event.now }
+{
+    match event {
+        Event::Invoke { id, .. } | Event::Complete { id, .. } => *id,
+    }
+}
+
+// How far a request is by an event, where it was so far before, if the event may come then.
+fn stage_after(event: &Event, stage: Option<Stage>) -> Option<Stage>
+    ensures { result ≡ stage_after event.now stage }
+{
+    match (event, stage) {
+        (Event::Invoke { .. }, None) => Some(Stage::Invoked),
+        (Event::Complete { .. }, Some(Stage::Invoked)) => Some(Stage::Completed),
+        _ => None,
+    }
+}
