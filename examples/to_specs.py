@@ -166,7 +166,7 @@ def table_made():
     """The table of the tests of crates/curp_test_texts, as one text."""
     rows = "".join(row_of(script) for script in sorted(EXAMPLES.glob("*.script")))
     head = f"// Made by examples/{Path(__file__).name}: a row for each example. The line feed behind its script is none of it."
-    return f'{head}\npub(super) const ROWS: &str = r#"{rows}"#;\n'
+    return f'{head}\npub(crate) const ROWS: &str = r#"{rows}"#;\n'
 
 
 def main():
