@@ -1,10 +1,12 @@
 -- Lemmas on At, Each and IsPrefix.
-use Rattle.std.proofs.Common.{replicate, ◌≡◌, ◌≢◌, ◌⊎◌, inl, inr, ℕ, zero, suc, ◌+◌, ◌<◌, ◌≤◌, List, [], ◌∷◌, ◌++◌, length, set, get_or, take, drop, map, refl, ap, sym, ◌∙◌, subst, arith, add-one, append_assoc, append-nil, length-append, slice_get, Option, Some, None, Bor}
+use Rattle.std.specs.Prelude.{◌||◌, find, flat_map}
+use Rattle.std.proofs.Common.{Bool, true, false, cond, replicate, ◌≡◌, ◌≢◌, ◌⊎◌, inl, inr, ℕ, zero, suc, ◌+◌, ◌<◌, ◌≤◌, List, [], ◌∷◌, ◌++◌, length, set, get_or, take, drop, map, refl, ap, sym, ◌∙◌, subst, arith, add-one, append_assoc, append-nil, length-append, slice_get, Option, Some, None, Bor}
 use Rattle.std.proofs.lemmas.List.{map-append}
+use Rattle.std.specs.List.{filter, list_any}
 use Rattle.std.specs.Option.{option_copied}
 use Rattle.std.specs.Slice.{IsItemAt}
 use Rattle.std.proofs.lemmas.Option.{slice_get_within, slice_get-get_or, slice_get_past, slice_get_read}
-use Rattle.curp_base.specs.Words.{At, Each, IsPrefix}
+use Rattle.curp_base.specs.Words.{At, Each, IsPrefix, first_of}
 
 pub at_within : {A : Type 0} (xs : List A) (k : ℕ) (x : A) → At xs k x → k < length xs
 at_within xs k x h = slice_get_within xs k x h
@@ -188,3 +190,59 @@ drop_index xs k d h = drop_at xs k (get_or xs k d) (slice_get-get_or xs k d h)
 pub lent_item : {A : Type 0} (xs : List A) (k : ℕ) (r : Option (Bor A)) → IsItemAt xs k r → option_copied r ≡ slice_get xs k
 lent_item xs k None item = sym (slice_get_past xs k item.3)
 lent_item xs k (Some x) item = sym (slice_get_read xs (length xs) k x.now refl item.3.0 item.1)
+
+-- what stands in a list of what a function makes
+pub at_mapped : {A B : Type 0} (f : A → B) (xs : List A) (k : ℕ) (y : B) → At (map f xs) k y → (x : A) × At xs k x × (f x ≡ y)
+at_mapped f [] k y h = absurd cc
+at_mapped f (x ∷ xs) zero y h = (x, refl, cc)
+at_mapped f (x ∷ xs) (suc k) y h = at_mapped f xs k y h
+
+pub Each-filter : {A : Type 0} (P : A → Type 0) (p : A → Bool) (xs : List A) → Each P xs → Each P (filter p xs)
+Each-filter P p [] all = tt
+Each-filter P p (x ∷ xs) all = go (p x) (Each-filter P p xs all.1)
+  where
+    go : (b : Bool) → Each P (filter p xs) → Each P (cond b (x ∷ filter p xs) (filter p xs))
+    go true rest = (all.0, rest)
+    go false rest = rest
+
+pub take_suc : {A : Type 0} (xs : List A) (k : ℕ) (x : A) → At xs k x → take (suc k) xs ≡ take k xs ++ x ∷ []
+take_suc [] k x at = absurd cc
+take_suc (y ∷ xs) zero x at = let same : y ≡ x = cc in ap (λ z. z ∷ []) same
+take_suc (y ∷ xs) (suc k) x at = ap (λ w. y ∷ w) (take_suc xs k x at)
+
+-- one more
+pub take_one : {A : Type 0} (xs : List A) (k : ℕ) (x : A) → At xs k x → take (k + 1) xs ≡ take k xs ++ x ∷ []
+take_one xs k x at = ap (λ n. take n xs) (add-one k) ∙ take_suc xs k x at
+
+-- an item of a list makes an `any` true
+pub at_any : {A : Type 0} (p : A → Bool) (xs : List A) (k : ℕ) (x : A) → At xs k x → p x ≡ true → list_any p xs ≡ true
+at_any p [] k x at passes = absurd cc
+at_any p (y ∷ xs) zero x at passes = let same : y ≡ x = cc in let it : p y ≡ true = ap p same ∙ passes in cc
+at_any p (y ∷ xs) (suc k) x at passes = go (p y) (at_any p xs k x at passes)
+  where
+    go : (b : Bool) → list_any p xs ≡ true → (b || list_any p xs) ≡ true
+    go true e = refl
+    go false e = e
+
+-- what is made alike of each item
+pub map_alike : {A B : Type 0} (f g : A → B) → ((x : A) → f x ≡ g x) → (xs : List A) → map f xs ≡ map g xs
+map_alike f g e [] = refl
+map_alike f g e (x ∷ xs) = ap (λ y. y ∷ map f xs) (e x) ∙ ap (λ ys. g x ∷ ys) (map_alike f g e xs)
+
+-- what holds of each image
+pub Each-image : {A B : Type 0} (P : B → Type 0) (f : A → B) → ((x : A) → P (f x)) → (xs : List A) → Each P (map f xs)
+Each-image P f all [] = tt
+Each-image P f all (x ∷ xs) = (all x, Each-image P f all xs)
+
+pub Each-images : {A B : Type 0} (P : B → Type 0) (f : A → List B) → ((x : A) → Each P (f x)) → (xs : List A) → Each P (flat_map f xs)
+Each-images P f all [] = tt
+Each-images P f all (x ∷ xs) = Each-append P (f x) (flat_map f xs) (all x) (Each-images P f all xs)
+
+-- the first of those that pass is what a search finds
+pub first_is_found : {A : Type 0} (p : A → Bool) (xs : List A) → first_of (filter p xs) ≡ find p xs
+first_is_found p [] = refl
+first_is_found p (x ∷ xs) = go (p x) refl (first_is_found p xs)
+  where
+    go : (b : Bool) → p x ≡ b → first_of (filter p xs) ≡ find p xs → first_of (filter p (x ∷ xs)) ≡ find p (x ∷ xs)
+    go true e rest = rw e refl
+    go false e rest = rw e rest

@@ -1,9 +1,10 @@
 -- Lists that are numbered from 1, where one item is set, and what a filter and a flattening keep.
-use Rattle.std.proofs.Common.{◌≡◌, ◌≢◌, ◌⊎◌, inl, inr, ℕ, zero, suc, ◌+◌, ◌-◌, ◌<◌, ◌≤◌, Bool, true, List, [], ◌∷◌, ◌++◌, length, set, replicate, Some, refl, ap, sym, ◌∙◌, subst, arith, append-nil, append_assoc}
+use Rattle.std.proofs.Common.{◌≡◌, ◌≢◌, ◌⊎◌, inl, inr, ℕ, zero, suc, ◌+◌, ◌-◌, ◌<◌, ◌≤◌, Bool, true, List, [], ◌∷◌, ◌++◌, length, set, replicate, map, Some, refl, ap, sym, ◌∙◌, subst, arith, append-nil, append_assoc, add-one}
 use Rattle.std.specs.List.{filter, list_any}
 use Rattle.std.proofs.lemmas.Bool.{cases_Bool}
+use Rattle.std.proofs.lemmas.List.{map-append}
 use Rattle.curp_base.specs.Words.{At, numbered, numbers_from, all_of}
-use Rattle.curp_base.proofs.Lists.{at_within, at_set_cases, at_set_same, at_set_other, at_replicate}
+use Rattle.curp_base.proofs.Lists.{at_map, at_replicate, at_replicated, at_set_cases, at_set_other, at_set_same, at_some, at_within}
 
 -- one item has a number
 pub numbered_same : {A : Type 0} (xs : List A) (n : ℕ) (x y : A) → numbered xs n ≡ Some x → numbered xs n ≡ Some y → x ≡ y
@@ -14,7 +15,7 @@ pub place : {A : Type 0} (xs : List A) (n : ℕ) (x : A) → numbered xs n ≡ S
 place xs zero x h = absurd cc
 place xs (suc k) x h = (k, omega arith, h)
 
-at_place : {A : Type 0} (xs : List A) (k n : ℕ) (x : A) → n ≡ k + 1 → At xs k x → numbered xs n ≡ Some x
+pub at_place : {A : Type 0} (xs : List A) (k n : ℕ) (x : A) → n ≡ k + 1 → At xs k x → numbered xs n ≡ Some x
 at_place xs k zero x e h = absurd (omega arith)
 at_place xs k (suc n) x e h = let same : k ≡ n = omega arith in subst (λ (i : ℕ). At xs i x) same h
 
@@ -95,3 +96,30 @@ numbers_back first (suc count) (suc k) n h = let r = numbers_back (first + 1) co
 -- what has a number is one of as many
 pub number_within : {A : Type 0} (xs : List A) (n : ℕ) (x : A) → numbered xs n ≡ Some x → (1 ≤ n) × (n ≤ length xs)
 number_within xs n x h = let p = place xs n x h in let low = at_within xs p.0 x p.2 in (omega (arith, p.1), omega (arith, p.1, low))
+
+pub length-numbers : (first count : ℕ) → length (numbers_from first count) ≡ count
+length-numbers first zero = refl
+length-numbers first (suc count) = ap suc (length-numbers (first + 1) count)
+
+pub numbers_next : (n k : ℕ) → numbers_from n (suc k) ≡ numbers_from n k ++ (n + k) ∷ []
+numbers_next n zero = ap (λ m. m ∷ []) (omega arith)
+numbers_next n (suc k) =
+    let last : (n + 1) + k ≡ n + suc k = omega arith in
+    ap (λ (ms : List ℕ). n ∷ ms) (numbers_next (n + 1) k ∙ ap (λ (m : ℕ). numbers_from (n + 1) k ++ m ∷ []) last)
+
+pub named_more : {A : Type 0} (f : ℕ → A) (n k : ℕ) → map f (numbers_from n (k + 1)) ≡ map f (numbers_from n k) ++ f (n + k) ∷ []
+named_more f n k = ap (λ (count : ℕ). map f (numbers_from n count)) (add-one k) ∙ ap (map f) (numbers_next n k) ∙ map-append f (numbers_from n k) ((n + k) ∷ [])
+
+pub numbered_some : {A : Type 0} (xs : List A) (n : ℕ) → 1 ≤ n → n ≤ length xs → (x : A) × (numbered xs n ≡ Some x)
+numbered_some xs zero low high = absurd (omega arith)
+numbered_some xs (suc k) low high = at_some xs k (omega arith)
+
+pub numbered_replicated : {A : Type 0} (count : ℕ) (x : A) (n : ℕ) → 1 ≤ n → n ≤ count → numbered (replicate count x) n ≡ Some x
+numbered_replicated count x zero low high = absurd (omega arith)
+numbered_replicated count x (suc k) low high = at_replicated count x k (omega arith)
+
+pub made_numbered : {A : Type 0} (f : ℕ → A) (count n : ℕ) → 1 ≤ n → n ≤ count → numbered (map f (numbers_from 1 count)) n ≡ Some (f n)
+made_numbered f count zero low high = absurd (omega arith)
+made_numbered f count (suc k) low high =
+    let e : 1 + k ≡ suc k = omega arith in
+    subst (λ (m : ℕ). At (map f (numbers_from 1 count)) k (f m)) e (at_map f (numbers_from 1 count) k (1 + k) (numbers_at 1 count k (omega arith)))

@@ -1,17 +1,7 @@
 -- What numbers name, one more.
-use Rattle.std.proofs.Common.{◌≡◌, ℕ, zero, suc, ◌+◌, List, [], ◌∷◌, ◌++◌, map, ap, sym, ◌∙◌, arith, add-one}
-use Rattle.std.proofs.lemmas.List.{map-append}
+use Rattle.std.proofs.Common.{◌≡◌, ℕ, ◌+◌, List, [], ◌∷◌, ◌++◌, map, ap, sym, ◌∙◌}
 use Rattle.curp_base.specs.Words.{numbers_from}
-
-numbers_next : (n k : ℕ) → numbers_from n (suc k) ≡ numbers_from n k ++ (n + k) ∷ []
-numbers_next n zero = ap (λ m. m ∷ []) (omega arith)
-numbers_next n (suc k) =
-    let last : (n + 1) + k ≡ n + suc k = omega arith in
-    ap (λ (ms : List ℕ). n ∷ ms) (numbers_next (n + 1) k ∙ ap (λ (m : ℕ). numbers_from (n + 1) k ++ m ∷ []) last)
-
--- what numbers name, one more
-pub named_more : {A : Type 0} (f : ℕ → A) (n k : ℕ) → map f (numbers_from n (k + 1)) ≡ map f (numbers_from n k) ++ f (n + k) ∷ []
-named_more f n k = ap (λ (count : ℕ). map f (numbers_from n count)) (add-one k) ∙ ap (map f) (numbers_next n k) ∙ map-append f (numbers_from n k) ((n + k) ∷ [])
+use Rattle.curp_base.proofs.Numbered.{named_more}
 
 -- what the numbers from n on name, one more
 pub named_push : {A : Type 0} (f : ℕ → A) (n k : ℕ) (names pushed : List A) (name : A) → pushed ≡ names ++ name ∷ [] → names ≡ map f (numbers_from n k) → name ≡ f (n + k) → pushed ≡ map f (numbers_from n (k + 1))

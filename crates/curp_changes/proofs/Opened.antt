@@ -5,13 +5,8 @@ use mathlib.Core.HLevel.{is_prop→PathP}
 use Rattle.std.proofs.lemmas.Bool.Decides.{nat_tests}
 use Rattle.std.proofs.lemmas.Nat.{div_below, le-div}
 use Rattle.std.proofs.Math.Bridge.{le_prop}
-use Rattle.curp_model.specs.Ranges.{Range, opening_hi, opening_lo, opening_range, range_of, range_or_all}
-
-range_lo : (lo hi : ℕ) → nat_le lo hi ≡ true → (range_or_all (range_of lo hi)).lo ≡ lo
-range_lo lo hi t = grind (arith, nat_tests)
-
-range_hi : (lo hi : ℕ) → nat_le lo hi ≡ true → (range_or_all (range_of lo hi)).hi ≡ hi
-range_hi lo hi t = grind (arith, nat_tests)
+use Rattle.curp_model.specs.Ranges.{Range, opening_hi, opening_lo, opening_range}
+use Rattle.curp_model.proofs.OpeningRanges.{range_lo, range_hi}
 
 module _ (n p : ℕ) (one : 1 ≤ p) (last : p ≤ n) (fits : n < 2 ^ 32) where
   -- no range is empty

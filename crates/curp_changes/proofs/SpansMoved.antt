@@ -1,14 +1,11 @@
 -- Spans with a range, and without it.
 use Rattle.std.proofs.Common.{◌≡◌, ◌≤◌, ◌<◌, ◌+◌, ◌^◌, ℕ, Bool, true, false, ◌||◌, ◌&&◌, not, List, [], ◌∷◌, ◌++◌, take, length, get_or, refl, ap, sym, ◌∙◌}
+use Rattle.std.proofs.Math.Bool.{or-false, or-true}
 use Rattle.std.proofs.lemmas.List.{take_more}
 use Rattle.curp_range.proofs.Ascending.{owned-append}
 use Rattle.curp_range.specs.Spans.{Span, SpansAscend, Lacks, is_in, is_owned, without, with_range}
 use Rattle.curp_range.proofs.Places.{not_lacking}
 use Rattle.curp_range.proofs.Sets.{is_with_range, is_without}
-
-or_false : (a : Bool) → (a || false) ≡ a
-or_false true = refl
-or_false false = refl
 
 and_out : (a b : Bool) → ((a || b) && not b) ≡ (a && not b)
 and_out true true = refl
@@ -18,7 +15,7 @@ and_out false false = refl
 
 -- one span alone
 owned_one : (s : Span) (h : ℕ) → is_owned (s ∷ []) h ≡ is_in s.0 s.1 h
-owned_one s h = or_false (is_in s.0 s.1 h)
+owned_one s h = or-false (is_in s.0 s.1 h)
 
 -- one span more of those that are united with a range
 pub united_more : (spans : List Span) (k lo hi : ℕ) (s : Span) (old new : List Span) → k < length spans → s ≡ get_or spans k s
@@ -37,14 +34,10 @@ united_more spans k lo hi s old new within here so_far more h =
     turned false false true = refl
     turned false false false = refl
 
-or_true : (a : Bool) → (a || true) ≡ true
-or_true true = refl
-or_true false = refl
-
 -- what was put in lacks nothing of the range
 pub put_in_whole : (spans united : List Span) (lo hi : ℕ) → ((h : ℕ) → is_owned united h ≡ (is_owned spans h || is_in lo hi h)) → Lacks united lo hi → ⊥
 put_in_whole spans united lo hi is lacks =
-    not_lacking united lo hi (λ h inside. is h ∙ ap (λ (b : Bool). is_owned spans h || b) inside ∙ or_true (is_owned spans h)) lacks
+    not_lacking united lo hi (λ h inside. is h ∙ ap (λ (b : Bool). is_owned spans h || b) inside ∙ or-true (is_owned spans h)) lacks
 
 -- what is left once the range is taken out again
 pub left_without : (spans united left : List Span) (lo hi : ℕ) → SpansAscend spans → SpansAscend left → lo ≤ hi

@@ -1,17 +1,8 @@
 -- Where the first item of a list that passes a test stands, and the last item.
 use Rattle.std.proofs.Common.{◌≡◌, ℕ, zero, suc, ◌+◌, ◌-◌, ◌<◌, ◌≤◌, nat_lt, cond, Bool, true, false, List, [], ◌∷◌, length, slice_get, Some, None, refl, ap, sym, ◌∙◌, arith}
-use Rattle.std.specs.List.{filter, find, position, position_or_len}
+use Rattle.std.specs.List.{filter, position, position_or_len}
 use Rattle.std.proofs.lemmas.Bool.Decides.{nat_tests}
 use Rattle.curp_base.specs.Words.{first_of, last_of}
-
--- the first of those that pass is what a search finds
-pub first_is_found : {A : Type 0} (p : A → Bool) (xs : List A) → first_of (filter p xs) ≡ find p xs
-first_is_found p [] = refl
-first_is_found p (x ∷ xs) = go (p x) refl (first_is_found p xs)
-  where
-    go : (b : Bool) → p x ≡ b → first_of (filter p xs) ≡ find p xs → first_of (filter p (x ∷ xs)) ≡ find p (x ∷ xs)
-    go true e rest = rw e refl
-    go false e rest = rw e rest
 
 first_stands : {A : Type 0} (p : A → Bool) (xs : List A) → first_of (filter p xs) ≡ slice_get xs (position_or_len p xs)
 first_stands p [] = refl

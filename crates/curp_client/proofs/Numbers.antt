@@ -4,7 +4,7 @@ use Rattle.std.specs.List.{filter, position}
 use Rattle.std.specs.Option.{MatchOption}
 use Rattle.std.proofs.lemmas.Option.{slice_get-get_or}
 use Rattle.curp_base.specs.Words.{At, Each}
-use Rattle.curp_base.proofs.Lists.{Each-append, Each-at}
+use Rattle.curp_base.proofs.Lists.{Each-append, Each-at, Each-filter}
 use Rattle.curp_cmd.proofs.Ids.{same_id-true, same_id-self}
 use Rattle.curp_cmd.specs.RequestId.{same_id}
 use Rattle.curp_cmd.specs.declared.command.Request.{Request}
@@ -26,20 +26,12 @@ rise_pushed (q ∷ rest) p rise below =
 
 -- ---- one goes
 
-pub each_filter : {A : Type 0} (P : A → Type 0) (t : A → Bool) (xs : List A) → Each P xs → Each P (filter t xs)
-each_filter P t [] e = tt
-each_filter P t (x ∷ xs) e = go (t x) (each_filter P t xs e.1)
-  where
-    go : (b : Bool) → Each P (filter t xs) → Each P (cond b (x ∷ filter t xs) (filter t xs))
-    go true rest = (e.0, rest)
-    go false rest = rest
-
 rise_filter : (t : Pending → Bool) (xs : List Pending) → NumbersRise xs → NumbersRise (filter t xs)
 rise_filter t [] rise = tt
 rise_filter t (x ∷ xs) rise = go (t x) (rise_filter t xs rise.1)
   where
     go : (b : Bool) → NumbersRise (filter t xs) → NumbersRise (cond b (x ∷ filter t xs) (filter t xs))
-    go true rest = (each_filter (λ (q : Pending). x.request.id.seq < q.request.id.seq) t xs rise.0, rest)
+    go true rest = (Each-filter (λ (q : Pending). x.request.id.seq < q.request.id.seq) t xs rise.0, rest)
     go false rest = rest
 
 -- those that are left still rise

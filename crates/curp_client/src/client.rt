@@ -21,7 +21,7 @@ use std::alloc::Global;
 use std::marker::Model;
 
 /// How many requests may be pending.
-const MOST_PENDING: usize = 8;
+pub const MOST_PENDING: usize = 8;
 
 /// A client: it sends an update to the master and to all witnesses of the partition that owns its keys, and completes
 /// it by one synced reply, or by an unsynced one with the accepts of all witnesses (CURP). A read completes by a value,

@@ -13,5 +13,5 @@ mod pending;
 mod requests;
 mod sending;
 
-pub use client::Client;
+pub use client::{Client, MOST_PENDING};
 pub use error::{InvokeError, RetryError};

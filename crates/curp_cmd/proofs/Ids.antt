@@ -1,5 +1,5 @@
 -- The test of ids tells whether they are one.
-use Rattle.std.proofs.Common.{◌≡◌, ℕ, ◌==◌, true, arith}
+use Rattle.std.proofs.Common.{◌≡◌, ℕ, ◌==◌, Bool, true, false, refl, arith}
 use Rattle.std.proofs.lemmas.Bool.{and_from, and_parts}
 use Rattle.std.proofs.lemmas.Bool.Decides.{nat_tests}
 use Rattle.curp_cmd.specs.RequestId.{same_id}
@@ -17,3 +17,10 @@ same_id-self a = and_from _ _ (one a.client) (one a.seq)
   where
     one : (n : ℕ) → (n == n) ≡ true
     one n = grind (arith, nat_tests)
+
+pub apart_not_same : (a b : RequestId) → (a ≡ b → ⊥) → same_id a b ≡ false
+apart_not_same a b apart = go (same_id a b) refl
+  where
+    go : (t : Bool) → same_id a b ≡ t → t ≡ false
+    go true e = absurd (apart (same_id-true a b e))
+    go false e = refl

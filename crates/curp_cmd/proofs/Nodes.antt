@@ -1,5 +1,5 @@
 -- The test of names tells whether they are one.
-use Rattle.std.proofs.Common.{◌≡◌, Bool, true, false, eqb, refl, sym, ◌∙◌, subst}
+use Rattle.std.proofs.Common.{◌≡◌, ◌≢◌, ◌⊎◌, inl, inr, Bool, true, false, eqb, refl, sym, ◌∙◌, subst}
 use Rattle.std.proofs.lemmas.Bool.{and_parts, and_from, eqb-true, eq-eqb}
 use Rattle.curp_cmd.specs.declared.node.NodeId.{NodeId}
 use Rattle.curp_cmd.specs.declared.node.NodeKind.{NodeKind}
@@ -41,3 +41,18 @@ same_node_flips a b = go (same_node a b) (same_node b a) refl refl
     go true y e f = sym (one_way a b e) ∙ f
     go false true e f = sym e ∙ one_way b a f
     go false false e f = refl
+
+pub other_node : (a b : NodeId) → a ≢ b → same_node a b ≡ false
+other_node a b ne = go (same_node a b) refl
+  where
+    go : (c : Bool) → same_node a b ≡ c → c ≡ false
+    go true e = absurd (ne (same_node-true a b e))
+    go false e = refl
+
+-- two names are one or differ
+pub either_node : (a b : NodeId) → (a ≡ b) ⊎ (a ≢ b)
+either_node a b = go (same_node a b) refl
+  where
+    go : (t : Bool) → same_node a b ≡ t → (a ≡ b) ⊎ (a ≢ b)
+    go true e = inl (same_node-true a b e)
+    go false e = inr (λ same. let is : same_node a b ≡ true = subst (λ (x : NodeId). same_node a x ≡ true) same (same_node-self a) in absurd cc)

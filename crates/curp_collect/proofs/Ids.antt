@@ -1,40 +1,20 @@
 -- The order of ids, and what waits in it.
-use Rattle.std.proofs.Common.{◌≡◌, inl, inr, ℕ, zero, suc, ◌||◌, ◌&&◌, ◌<◌, Bool, true, false, cond, not, List, [], ◌∷◌, length, get_or, set, Result, Ok, Err, IfOk, IfErr, refl, ap, sym, ◌∙◌, subst, arith, add-one}
-use Rattle.std.specs.List.{filter, insert, list_any}
+use Rattle.std.proofs.Common.{◌≡◌, inl, inr, ℕ, zero, suc, ◌||◌, ◌<◌, Bool, true, false, cond, List, [], ◌∷◌, length, get_or, set, Result, Ok, Err, IfOk, IfErr, refl, ap, sym, ◌∙◌, subst, arith, add-one}
+use Rattle.std.specs.List.{filter, insert}
 use Rattle.std.specs.List.Sorted.{IsSearchInRange, IsBinarySearchResult, IsSortedBy}
-use Rattle.std.specs.Ordering.{is_lt, ordering_reverse}
-use Rattle.std.specs.declared.cmp.Ordering.TheVariants.{Less, Equal, Greater}
+use Rattle.std.specs.Ordering.{is_lt}
+use Rattle.std.specs.declared.cmp.Ordering.TheVariants.{Less}
 use Rattle.std.proofs.lemmas.Bool.{cases_lt}
-use Rattle.std.proofs.lemmas.Cmp.{tied_itself}
 use Rattle.std.proofs.lemmas.List.Sorted.{searchable_from_sorted}
 use Rattle.curp_base.specs.Words.{Each}
 use Rattle.curp_cmd.proofs.Ids.{same_id-self, same_id-true}
 use Rattle.curp_cmd.specs.RequestId.{id_cmp, same_id}
 use Rattle.curp_cmd.specs.declared.command.RequestId.{RequestId}
-use Rattle.curp_model.proofs.Tables.{ids_total, ids_same}
+use Rattle.curp_model.proofs.Tables.{ids_total, ids_same, greater_back, less_back, less_not_same}
 use Rattle.curp_collect.specs.Queue.{IdsAscend, IsIdAt, IsIdGap, waits_for}
 use Rattle.curp_collect.specs.declared.queue.Wait.{Wait}
 
 -- ---- two ids
-
-greater_back : (a b : RequestId) → id_cmp a b ≡ Less → id_cmp b a ≡ Greater
-greater_back a b e = ids_total.antisymm b a ∙ ap ordering_reverse e
-
-less_back : (a b : RequestId) → id_cmp a b ≡ Greater → id_cmp b a ≡ Less
-less_back a b e = ids_total.antisymm b a ∙ ap ordering_reverse e
-
-pub apart_not_same : (a b : RequestId) → (a ≡ b → ⊥) → same_id a b ≡ false
-apart_not_same a b apart = go (same_id a b) refl
-  where
-    go : (t : Bool) → same_id a b ≡ t → t ≡ false
-    go true e = absurd (apart (same_id-true a b e))
-    go false e = refl
-
-pub less_not_same : (a b : RequestId) → id_cmp a b ≡ Less → same_id a b ≡ false
-less_not_same a b e = apart_not_same a b (λ same.
-    let tied : id_cmp a b ≡ Equal = subst (λ (x : RequestId). id_cmp a x ≡ Equal) same (tied_itself ids_total a) in
-    let no : Less ≡ Equal = sym e ∙ tied in
-    absurd cc)
 
 pub same_flips : (a b : RequestId) → same_id a b ≡ same_id b a
 same_flips a b = go (same_id a b) (same_id b a) refl refl

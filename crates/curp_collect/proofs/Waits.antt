@@ -1,6 +1,6 @@
 -- The ids in their order, with their lengths, as ids come and leave.
-use Rattle.std.proofs.Common.{◌≡◌, ℕ, zero, suc, ◌||◌, ◌&&◌, ◌<◌, nat_le, max, Bool, true, false, cond, not, List, [], ◌∷◌, ◌++◌, length, map, get_or, set, refl, ap, sym, ◌∙◌, subst, arith}
-use Rattle.std.specs.List.{filter, insert, list_any}
+use Rattle.std.proofs.Common.{◌≡◌, ℕ, zero, suc, ◌||◌, ◌&&◌, nat_le, max, Bool, true, false, cond, not, List, [], ◌∷◌, ◌++◌, length, map, get_or, set, refl, ap, sym, ◌∙◌, subst, arith}
+use Rattle.std.specs.List.{filter, insert}
 use Rattle.std.specs.declared.cmp.Ordering.TheVariants.{Less}
 use Rattle.curp_base.specs.Words.{Each}
 use Rattle.curp_cmd.proofs.Ids.{same_id-self, same_id-true}
@@ -9,7 +9,8 @@ use Rattle.curp_cmd.specs.declared.command.RequestId.{RequestId}
 use Rattle.curp_model.specs.Master.{Queued, queued}
 use Rattle.curp_collect.specs.Queue.{Apart, IdsAscend, IsIdAt, IsIdGap, IsQueue, has_come, is_come_of, length_of, waiting_of, waits_for}
 use Rattle.curp_collect.specs.declared.queue.Wait.{Wait}
-use Rattle.curp_collect.proofs.Ids.{ascend_filter, ascend_insert, ascend_set, less_not_same, none_in_gap, other_before, same_flips, waits_at}
+use Rattle.curp_collect.proofs.Ids.{ascend_filter, ascend_insert, ascend_set, none_in_gap, other_before, same_flips, waits_at}
+use Rattle.curp_model.proofs.Tables.{less_not_same}
 
 later : (v : Wait) (ws : List Wait) (at : ℕ) (id : RequestId) → IsIdAt (v ∷ ws) id (suc at) → IsIdAt ws id at
 later v ws at id p = record { within = omega (arith, p.within); has_id = λ d. p.has_id d }

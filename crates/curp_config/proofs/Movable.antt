@@ -7,15 +7,10 @@ use Rattle.curp_msg.specs.declared.config.PartConfig.{PartConfig}
 use Rattle.curp_model.specs.Manager as model
 use Rattle.curp_model.specs.Ranges.{Range, range_of, range_or_all}
 use Rattle.curp_changes.proofs.Opened.{one_range}
+use Rattle.curp_model.proofs.OpeningRanges.{range_lo, range_hi}
 
 there : (lo hi : ℕ) → nat_le lo hi ≡ true → is_some (range_of lo hi) ≡ true
 there lo hi t = grind (arith, nat_tests)
-
-low : (lo hi : ℕ) → nat_le lo hi ≡ true → (range_or_all (range_of lo hi)).lo ≡ lo
-low lo hi t = grind (arith, nat_tests)
-
-high : (lo hi : ℕ) → nat_le lo hi ≡ true → (range_or_all (range_of lo hi)).hi ≡ hi
-high lo hi t = grind (arith, nat_tests)
 
 range_is : (o : Option Range) (r : Range) → is_some o ≡ true → (range_or_all o).lo ≡ r.lo → (range_or_all o).hi ≡ r.hi → o ≡ Some r
 range_is None r some lo hi = absurd cc
@@ -25,7 +20,7 @@ range_is (Some x) r some lo hi = ap Some (one_range x r lo hi)
 range_there : (lo hi : ℕ) (ordered : lo ≤ hi) → range_of lo hi ≡ Some (record { lo = lo; hi = hi; ordered = ordered })
 range_there lo hi ordered =
     let t : nat_le lo hi ≡ true = grind (arith, nat_tests) in
-    range_is (range_of lo hi) (record { lo = lo; hi = hi; ordered = ordered }) (there lo hi t) (low lo hi t) (high lo hi t)
+    range_is (range_of lo hi) (record { lo = lo; hi = hi; ordered = ordered }) (there lo hi t) (range_lo lo hi t) (range_hi lo hi t)
 
 -- no rule refuses the move
 pub move_there : (g : model.ManagerState) (lo hi to : ℕ) (ordered : lo ≤ hi) (owner target : PartConfig)

@@ -338,26 +338,34 @@ GiveStands migration log = (carried : Package) × IsAmong (Give migration carrie
 abbrev pub FromPart : World → NodeId → ((p : ℕ) → Type 0) → Type 0
 FromPart w from P = (l : Lists) → IsGiven w l → l.master ≡ from → P l.part
 
--- every fresh backup has the whole log as it was at Recovered: the replay over the backup and the witness that were named,
--- of which nothing changes any more
+-- What a recovery stands on: a backup that is fenced at its epoch, and a witness that is frozen. Nothing of them changes any more
+pub record Sources (w : World) (backup witness : NodeId) (epoch : ℕ) : Type 0 where
+  pub b : BackupState
+  pub its_backup : IsBackup w backup b
+  pub fenced : epoch ≤ b.fence
+  pub x : WitnessState
+  pub its_witness : IsWitness w witness x
+  pub frozen : x.mode ≡ mode.Frozen
+
+-- their replay: the log of the one, and what the other holds
+abbrev pub replay_of : {w : World} {backup witness : NodeId} {epoch : ℕ} → (lo hi : ℕ) → Sources w backup witness epoch → List Entry
+replay_of lo hi sources = replay lo hi sources.b.log (frozen_requests sources.x)
+
+-- every fresh backup has the whole log as it was at Recovered: the replay over the backup and the witness that were named
 pub record RecoveredOk (w : World) (from : NodeId) (epoch : ℕ) : Type 0 where
   pub order : Recover
   pub sent : WasSent w (says manager_node from (body.Recover order))
   pub its_epoch : order.epoch ≡ epoch
-  pub b : BackupState
-  pub its_backup : IsBackup w order.backup b
-  pub fenced : epoch ≤ b.fence
-  pub x : WitnessState
-  pub its_witness : IsWitness w order.witness x
-  pub frozen : x.mode ≡ mode.Frozen
-  pub on_all : Each (λ node. (f : BackupState) → IsBackup w node f → IsPrefix (replay order.lo order.hi b.log (frozen_requests x)) f.log) order.backups
+  pub sources : Sources w order.backup order.witness epoch
+  pub on_all : Each (λ node. (f : BackupState) → IsBackup w node f → IsPrefix (replay_of order.lo order.hi sources) f.log) order.backups
 
 -- an entry that may be pushed while a master switches
 abbrev pub IsOnlyExpire : Entry → Type 0
 IsOnlyExpire (Expire client) = ⊤
 IsOnlyExpire _ = ⊥
 
--- Prepared of a version was first sent at that place among the messages
+-- Prepared of a version was first sent at that place among the messages. The first, since a master that has said it says it
+-- again in each round that it begins while it switches, and may have pushed more by then, which its backups needn't have
 pub record FirstPrepared (w : World) (from : NodeId) (version place : ℕ) : Type 0 where
   pub prepared : At (messages w) place (says from manager_node (body.Prepared version))
   pub first : (k : ℕ) → At (messages w) k (says from manager_node (body.Prepared version)) → place ≤ k
@@ -485,17 +493,11 @@ pub record MessageOk (w : World) (m : Message) : Type 0 where
   pub addressee : IsNode w m.to
   pub says_so : BodyOk w m.from m.to m.body
 
--- a recovering master's log, once it has one, is the replay over the backup and the witness that its order named: the one is
--- fenced, the other frozen
+-- a recovering master's log, once it has one, is the replay over the backup and the witness that its order named
 pub record ReplayOk (w : World) (s : RecoveryState) (r : Replayed) : Type 0 where
-  pub b : BackupState
-  pub its_backup : IsBackup w s.order.backup b
-  pub fenced : s.order.epoch ≤ b.fence
-  pub x : WitnessState
-  pub its_witness : IsWitness w s.order.witness x
-  pub frozen : x.mode ≡ mode.Frozen
-  pub is : r.log ≡ replay s.order.lo s.order.hi b.log (frozen_requests x)
-  pub its_cut : r.cut ≡ length b.log
+  pub sources : Sources w s.order.backup s.order.witness s.order.epoch
+  pub is : r.log ≡ replay_of s.order.lo s.order.hi sources
+  pub its_cut : r.cut ≡ length sources.b.log
 
 -- what a recovery keeps, by its phase
 abbrev pub PhaseOk : World → RecoveryState → RecoveryPhase → Type 0

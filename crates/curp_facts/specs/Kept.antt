@@ -41,7 +41,7 @@ use Rattle.curp_model.specs.declared.Check.{Check}
 use Rattle.curp_model.specs.declared.Mode.TheVariants as mode
 use Rattle.curp_model.specs.declared.Check.TheVariants.{Expired, Stale, Known, New}
 use Rattle.curp_model.specs.Backup.{BackupState}
-use Rattle.curp_facts.specs.Facts.{AdoptedBefore, Completable, HasLog, IsAdoptedNow, IsAmong, IsGiven, Lists, Logged, PairsGood, SaidOk, ToldWithin, WasAdopted, WasOrdered, WasSent, hi_of, lists_of_part, lo_of, reply_message}
+use Rattle.curp_facts.specs.Facts.{AdoptedBefore, Completable, HasLog, IsAdoptedNow, IsAmong, IsGiven, Lists, Logged, PairsGood, SaidOk, ToldWithin, WasAdopted, WasOrdered, WasSent, hi_of, lists_of_part, lo_of, reply_message, Sources, replay_of}
 use Rattle.curp_facts.specs.Names.{Agree, GivenOk, Top}
 use Rattle.curp_model.specs.Laws.{clash}
 use Rattle.curp_model.specs.Log.{IsLog, IsDone, LogState, entry_touches, meaning}
@@ -52,7 +52,7 @@ use Rattle.curp_model.specs.Master.{MasterState, Captured, from_backup, has}
 use Rattle.curp_cmd.specs.Node.{is_among, client_node, manager_node}
 use Rattle.curp_msg.specs.Moved.{says}
 use Rattle.curp_model.specs.Named.{IsBackup, IsMaster, IsWitness}
-use Rattle.curp_model.specs.Recovery.{Recovering, RecoveryState, Replayed, Serving, Storing, Waiting, replay}
+use Rattle.curp_model.specs.Recovery.{Recovering, RecoveryState, Replayed, Serving, Storing, Waiting}
 use Rattle.curp_model.specs.Table.{check}
 use Rattle.curp_model.specs.Witness.{WitnessState, frozen_requests}
 use Rattle.curp_msg.specs.declared.body.Quick.{Quick}
@@ -276,14 +276,9 @@ pub record AdoptionOk (w : World) (l : Lists) : Type 0 where
   pub earlier : before.epoch < l.epoch
   pub node : NodeId
   pub named : IsAmong node before.backups
-  pub b : BackupState
-  pub its_backup : IsBackup w node b
-  pub fenced : l.epoch ≤ b.fence
   pub other : NodeId
   pub named_too : IsAmong other before.witnesses
-  pub x : WitnessState
-  pub its_witness : IsWitness w other x
-  pub frozen : x.mode ≡ mode.Frozen
+  pub sources : Sources w node other l.epoch
   pub last : (o : Lists) → WasAdopted w o → o.part ≡ l.part → o.epoch < l.epoch → o.version ≤ before.version
   pub order : Recover
   pub ordered : WasSent w (says manager_node l.master (body.Recover order))
@@ -292,8 +287,8 @@ pub record AdoptionOk (w : World) (l : Lists) : Type 0 where
   pub its_other : order.witness ≡ other
   pub its : Logged
   pub its_log : HasLog w l.master its
-  pub began : IsPrefix (replay (lo_of w l.part) (hi_of w l.part) b.log (frozen_requests x)) its.log
-  pub on_all : Each (λ fresh. (f : BackupState) → IsBackup w fresh f → IsPrefix (replay (lo_of w l.part) (hi_of w l.part) b.log (frozen_requests x)) f.log) l.backups
+  pub began : IsPrefix (replay_of (lo_of w l.part) (hi_of w l.part) sources) its.log
+  pub on_all : Each (λ fresh. (f : BackupState) → IsBackup w fresh f → IsPrefix (replay_of (lo_of w l.part) (hi_of w l.part) sources) f.log) l.backups
 
 -- each adopted recovery began so
 abbrev pub AdoptionsOk : World → Type 0

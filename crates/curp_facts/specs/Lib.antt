@@ -8,7 +8,6 @@ pub mod ClientNumbers
 pub mod Evidence
 pub mod Nodes
 pub mod Invariant
-pub mod Run
 pub mod ByOne
 pub mod Silence
 pub mod Marked

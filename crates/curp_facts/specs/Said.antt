@@ -29,11 +29,10 @@ use Rattle.curp_msg.specs.declared.body.Reply.{Reply}
 use Rattle.curp_msg.specs.declared.body.Worth.{Worth}
 use Rattle.curp_order.specs.declared.Event.TheVariants.{Invoke}
 use Rattle.curp_model.specs.Named.{IsWitness}
-use Rattle.curp_model.specs.Recovery.{replay}
-use Rattle.curp_model.specs.Witness.{WitnessState, frozen_requests, holds}
+use Rattle.curp_model.specs.Witness.{WitnessState, holds}
 use Rattle.curp_model.specs.World.{World}
 use Rattle.curp_facts.specs.Entries.{RequestOk, UpdateOk}
-use Rattle.curp_facts.specs.Facts.{AdoptedBefore, AppendOk, Collected, EntryWas, FenceReplyOk, FrozenOk, HasLog, IsAmong, IsGiven, Lists, Logged, PreparedOk, RecoveredOk, Speaks, StoredOk, WasAdopted, WasSent, WasTaken, IsMasterOf, WasOrdered}
+use Rattle.curp_facts.specs.Facts.{AdoptedBefore, AppendOk, Collected, EntryWas, FenceReplyOk, FrozenOk, HasLog, IsAmong, IsGiven, Lists, Logged, PreparedOk, RecoveredOk, replay_of, Speaks, StoredOk, WasAdopted, WasSent, WasTaken, IsMasterOf, WasOrdered}
 use Rattle.curp_facts.specs.Kept.{RefusalFirstOk}
 use Rattle.curp_facts.specs.Reach.{EarlySaid, GcSaid, IsReady, Reach, SyncedSaid, QuickSaid}
 use Rattle.curp_msg.specs.declared.body.Probed.{Probed}
@@ -144,7 +143,7 @@ pub record RecoveredSaid (w : World) (from : NodeId) (r : Recovered) : Type 0 wh
   pub holds : RecoveredOk w from r.epoch
   pub its_part : holds.order.part ≡ r.part
   pub front : List Entry
-  pub is_replay : front ≡ replay holds.order.lo holds.order.hi holds.b.log (frozen_requests holds.x)
+  pub is_replay : front ≡ replay_of holds.order.lo holds.order.hi holds.sources
   pub l : Logged
   pub its_log : HasLog w from l
   pub began : IsPrefix front l.log

@@ -1,8 +1,8 @@
 -- Journals of a header's nodes can be merged, and each is one that the node can have in the header's world.
-use Rattle.std.proofs.Common.{◌≡◌, ◌≢◌, ◌⊎◌, inl, inr, ℕ, zero, suc, ◌+◌, ◌*◌, ◌≤◌, Bool, false, List, [], ◌∷◌, ◌++◌, length, map, None, refl, ap, sym, ◌∙◌, subst, arith}
+use Rattle.std.proofs.Common.{◌≡◌, ◌≢◌, ◌⊎◌, inl, inr, ℕ, zero, suc, ◌+◌, ◌≤◌, Bool, false, List, [], ◌∷◌, ◌++◌, length, map, None, refl, ap, sym, ◌∙◌, subst, arith}
 use Rattle.std.proofs.lemmas.Bool.{cases_lt}
 use Rattle.curp_base.specs.Words.{At, Each}
-use Rattle.curp_base.proofs.Lists.{Each-append, Each-at, Each-map, Each-weaker, at_append_cases}
+use Rattle.curp_base.proofs.Lists.{Each-append, Each-at, Each-map, Each-weaker, at_append_cases, at_mapped}
 use Rattle.curp_cmd.specs.Node.{backup_node, client_node, manager_node, master_node, witness_node}
 use Rattle.curp_cmd.specs.declared.node.NodeId.{NodeId}
 use Rattle.curp_cmd.specs.declared.node.NodeKind.{NodeKind}
@@ -10,14 +10,14 @@ use Rattle.curp_cmd.specs.declared.node.NodeKind.TheVariants as kind
 use Rattle.curp_msg.specs.Moved.{Node}
 use Rattle.curp_msg.specs.declared.script.Header.{Header}
 use Rattle.curp_msg.specs.declared.script.Step.{Step}
-use Rattle.curp_model.specs.Backup.{BackupState, fresh_backup, installed_backup}
+use Rattle.curp_model.specs.Backup.{BackupState, fresh_backup}
 use Rattle.curp_model.specs.Client.{ClientState}
 use Rattle.curp_model.specs.Recovery.{Fresh, MasterStage}
-use Rattle.curp_model.specs.Witness.{WitnessState, fresh_witness, started_witness}
-use Rattle.curp_model.specs.World.{opening, opening_master, shape_of, weight_limit}
+use Rattle.curp_model.specs.Witness.{WitnessState, fresh_witness}
+use Rattle.curp_model.specs.World.{opening}
+use Rattle.curp_msg.specs.Limits.{weight_limit}
 use Rattle.curp_journal.specs.Journal.{IsJournal, Log, Stamped}
 use Rattle.curp_turns.specs.Turns.{AreApart, Journal, Placed}
-use Rattle.curp_law_names.proofs.Lists.{at_mapped}
 use Rattle.curp_law_weave.specs.NodeStates.{ABackup, AClient, AManager, AMaster, AWitness, NodeState, machine_of, opening_of, state_of}
 use Rattle.curp_law_weave.specs.Openings.{ComesAs, OpensAs}
 use Rattle.curp_law_weave.specs.Run.{IsJournalOf, Legal, RunOf, TakesFirst}
@@ -25,7 +25,7 @@ use Rattle.curp_law_weave.proofs.ByKind.{backup_journal, client_journal, manager
 use Rattle.curp_law_weave.proofs.Openings.{backup_comes, backup_opens, client_opens, manager_opens, master_comes, master_opens, witness_comes, witness_opens}
 use Rattle.curp_merge.specs.Merging.{AreJournals, Merged, weight_sent}
 use Rattle.curp_merge.proofs.Sums.{weight_of_turns}
-use Rattle.curp_inv.specs.Machines.{backup_machine, client_machine, manager_machine, master_machine, witness_machine}
+use Rattle.curp_nodes.specs.Machines.{backup_machine, client_machine, manager_machine, master_machine, witness_machine}
 use Rattle.curp_gather.specs.Journals.{AreOf, Begins, IsBackupJournal, IsClientJournal, IsMasterJournal, IsScriptOf, IsWitnessJournal, NodesAscend, journal_of, journals_of}
 use Rattle.curp_gather.specs.Replays.{AreReplayed, IsReplayed}
 use Rattle.curp_gather.specs.declared.journals.Journals.{Journals}
@@ -200,7 +200,7 @@ module _ (h : Header) (j : Journals) (are : AreOf h j) where
   of_client log is r =
       let n = log.opening.number in
       opens_so log (client_node n) (AClient log.opening.state) is.its_name
-      (rw is.begins (client_opens h n is.there.0 is.there.1)) (client_journal log.opening log.items (client_is log.opening log.items r.replay)) (not_manager (client_node n) (λ k. absurd cc))
+      (client_opens h n log.opening.state is.begins) (client_journal log.opening log.items (client_is log.opening log.items r.replay)) (not_manager (client_node n) (λ k. absurd cc))
 
   of_master : (log : Log (Node MasterStage)) → IsMasterJournal h log → IsReplayed master_machine log → IsJournalOf h (journal_of log)
   of_master log is r = go is.begins
@@ -208,9 +208,9 @@ module _ (h : Header) (j : Journals) (are : AreOf h j) where
       journal : IsJournal (machine_of (master_node log.opening.number)) (AMaster log.opening.state) log.items
       journal = master_journal log.opening log.items (master_is log.opening log.items r.replay)
 
-      go : Begins h.parts (opening_master (shape_of h)) Fresh log.opening log.items → IsJournalOf h (journal_of log)
+      go : Begins (opening h).masters Fresh log.opening log.items → IsJournalOf h (journal_of log)
       go (inl p) =
-          opens_so log (master_node log.opening.number) (AMaster log.opening.state) is.its_name (rw p.2 (master_opens h log.opening.number p.0 p.1)) journal (not_manager (master_node log.opening.number) (λ k. absurd cc))
+          opens_so log (master_node log.opening.number) (AMaster log.opening.state) is.its_name (master_opens h log.opening.number log.opening.state p) journal (not_manager (master_node log.opening.number) (λ k. absurd cc))
       go (inr p) = comes_so log (master_node log.opening.number) (AMaster log.opening.state) is.its_name (rw p.1 (master_comes h log.opening.number p.0)) journal p.2 (not_manager (master_node log.opening.number) (λ k. absurd cc))
 
   of_backup : (log : Log (Node BackupState)) → IsBackupJournal h log → IsReplayed backup_machine log → IsJournalOf h (journal_of log)
@@ -219,9 +219,9 @@ module _ (h : Header) (j : Journals) (are : AreOf h j) where
       journal : IsJournal (machine_of (backup_node log.opening.number)) (ABackup log.opening.state) log.items
       journal = backup_journal log.opening log.items (backup_is log.opening log.items r.replay)
 
-      go : Begins (h.parts * h.f) (λ _. installed_backup 1) fresh_backup log.opening log.items → IsJournalOf h (journal_of log)
+      go : Begins (opening h).backups fresh_backup log.opening log.items → IsJournalOf h (journal_of log)
       go (inl p) =
-          opens_so log (backup_node log.opening.number) (ABackup log.opening.state) is.its_name (rw p.2 (backup_opens h log.opening.number p.0 p.1)) journal (not_manager (backup_node log.opening.number) (λ k. absurd cc))
+          opens_so log (backup_node log.opening.number) (ABackup log.opening.state) is.its_name (backup_opens h log.opening.number log.opening.state p) journal (not_manager (backup_node log.opening.number) (λ k. absurd cc))
       go (inr p) = comes_so log (backup_node log.opening.number) (ABackup log.opening.state) is.its_name (rw p.1 (backup_comes h log.opening.number p.0)) journal p.2 (not_manager (backup_node log.opening.number) (λ k. absurd cc))
 
   of_witness : (log : Log (Node WitnessState)) → IsWitnessJournal h log → IsReplayed witness_machine log → IsJournalOf h (journal_of log)
@@ -230,9 +230,9 @@ module _ (h : Header) (j : Journals) (are : AreOf h j) where
       journal : IsJournal (machine_of (witness_node log.opening.number)) (AWitness log.opening.state) log.items
       journal = witness_journal log.opening log.items (witness_is log.opening log.items r.replay)
 
-      go : Begins (h.parts * h.f) (λ _. started_witness h.sets h.ways 1) (fresh_witness h.sets h.ways) log.opening log.items → IsJournalOf h (journal_of log)
+      go : Begins (opening h).witnesses (fresh_witness h.sets h.ways) log.opening log.items → IsJournalOf h (journal_of log)
       go (inl p) =
-          opens_so log (witness_node log.opening.number) (AWitness log.opening.state) is.its_name (rw p.2 (witness_opens h log.opening.number p.0 p.1)) journal (not_manager (witness_node log.opening.number) (λ k. absurd cc))
+          opens_so log (witness_node log.opening.number) (AWitness log.opening.state) is.its_name (witness_opens h log.opening.number log.opening.state p) journal (not_manager (witness_node log.opening.number) (λ k. absurd cc))
       go (inr p) = comes_so log (witness_node log.opening.number) (AWitness log.opening.state) is.its_name (rw p.1 (witness_comes h log.opening.number p.0)) journal p.2 (not_manager (witness_node log.opening.number) (λ k. absurd cc))
 
   -- two things that each has

@@ -1,19 +1,19 @@
 -- When journals are those of nodes that a header's world has (this project's own).
-use Rattle.std.specs.Prelude.{◌≡◌, ◌≤◌, ◌<◌, ◌*◌, ◌⊎◌, ℕ, false, List, ◌∷◌, ◌++◌, map}
-use Rattle.curp_base.specs.Words.{At, Each}
+use Rattle.std.specs.Prelude.{◌≡◌, ◌<◌, ◌⊎◌, ℕ, false, List, ◌∷◌, ◌++◌, length, map, Some}
+use Rattle.curp_base.specs.Words.{At, Each, numbered}
 use Rattle.curp_cmd.specs.Node.{backup_node, client_node, manager_node, master_node, witness_node}
 use Rattle.curp_msg.specs.Moved.{Node}
 use Rattle.curp_msg.specs.declared.script.Header.{Header}
 use Rattle.curp_msg.specs.declared.script.Step.{Step}
 use Rattle.curp_journal.specs.Journal.{Log}
 use Rattle.curp_journal.specs.declared.item.Item.{Item}
-use Rattle.curp_model.specs.Backup.{BackupState, fresh_backup, installed_backup}
+use Rattle.curp_model.specs.Backup.{BackupState, fresh_backup}
 use Rattle.curp_model.specs.Client.{ClientState}
-use Rattle.curp_model.specs.Manager.{ManagerState, opening_manager}
+use Rattle.curp_model.specs.Manager.{ManagerState}
 use Rattle.curp_model.specs.Recovery.{Fresh, MasterStage}
-use Rattle.curp_model.specs.Witness.{WitnessState, fresh_witness, started_witness}
-use Rattle.curp_model.specs.World.{opening_master, shape_of, opening_client}
-use Rattle.curp_facts.specs.Run.{IsHeader}
+use Rattle.curp_model.specs.Witness.{WitnessState, fresh_witness}
+use Rattle.curp_model.specs.World.{opening}
+use Rattle.curp_msg.specs.Script.{IsHeader}
 use Rattle.curp_turns.specs.Turns.{InOrder, Journal, Placed}
 use Rattle.curp_law_weave.specs.Run.{RunOf, TakesFirst}
 use Rattle.curp_merge.specs.Merging.{IsOwn, NameTaken}
@@ -34,39 +34,38 @@ journals_of j =
 
 -- ---- how nodes begin
 
--- a node of a kind begins so: one of the first so many is there before any step, in its state, and any other is fresh
+-- a node of a kind, of which these are there before any step: it begins as the one of its number among them, or it is fresh
 -- and takes a message first
-abbrev pub Begins : {S : Type 0} → ℕ → (ℕ → S) → S → Node S → List Item → Type 0
-Begins count there fresh node items =
-    ((1 ≤ node.number) × (node.number ≤ count) × (node.state ≡ there node.number))
-    ⊎ ((count < node.number) × (node.state ≡ fresh) × TakesFirst items)
+abbrev pub Begins : {S : Type 0} → List S → S → Node S → List Item → Type 0
+Begins there fresh node items =
+    (numbered there node.number ≡ Some node.state)
+    ⊎ ((length there < node.number) × (node.state ≡ fresh) × TakesFirst items)
 
 -- the manager begins as it is before any step, and never stops
 pub record IsManagerJournal (h : Header) (log : Log ManagerState) : Type 0 where
   pub its_name : log.id ≡ manager_node
-  pub begins : log.opening ≡ opening_manager (shape_of h)
+  pub begins : log.opening ≡ (opening h).manager
   pub runs : log.ended ≡ false
 
 -- a client is there before any step
 pub record IsClientJournal (h : Header) (log : Log (Node ClientState)) : Type 0 where
   pub its_name : log.id ≡ client_node log.opening.number
-  pub there : (1 ≤ log.opening.number) × (log.opening.number ≤ h.clients)
-  pub begins : log.opening.state ≡ opening_client h
+  pub begins : numbered (opening h).clients log.opening.number ≡ Some log.opening.state
 
 -- a master
 pub record IsMasterJournal (h : Header) (log : Log (Node MasterStage)) : Type 0 where
   pub its_name : log.id ≡ master_node log.opening.number
-  pub begins : Begins h.parts (opening_master (shape_of h)) Fresh log.opening log.items
+  pub begins : Begins (opening h).masters Fresh log.opening log.items
 
 -- a backup
 pub record IsBackupJournal (h : Header) (log : Log (Node BackupState)) : Type 0 where
   pub its_name : log.id ≡ backup_node log.opening.number
-  pub begins : Begins (h.parts * h.f) (λ _. installed_backup 1) fresh_backup log.opening log.items
+  pub begins : Begins (opening h).backups fresh_backup log.opening log.items
 
 -- a witness
 pub record IsWitnessJournal (h : Header) (log : Log (Node WitnessState)) : Type 0 where
   pub its_name : log.id ≡ witness_node log.opening.number
-  pub begins : Begins (h.parts * h.f) (λ _. started_witness h.sets h.ways 1) (fresh_witness h.sets h.ways) log.opening log.items
+  pub begins : Begins (opening h).witnesses (fresh_witness h.sets h.ways) log.opening log.items
 
 -- ---- all of them
 

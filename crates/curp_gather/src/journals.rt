@@ -1,4 +1,4 @@
-use curp_inv::{BackupNode, ClientNode, ManagerNode, MasterNode, WitnessNode};
+use curp_nodes::{BackupNode, ClientNode, ManagerNode, MasterNode, WitnessNode};
 use curp_seat::Kept;
 
 /// The journals of the nodes of a run; each list ascends by the nodes' numbers.

@@ -3,7 +3,7 @@ ghost use Rattle.curp_gather.specs.Journals.{AreOf, IsScriptOf, journals_of};
 ghost use Rattle.curp_merge.specs.Causes.{IsCause};
 ghost use Rattle.curp_merge.specs.Held.{AllHeld};
 ghost use Rattle.curp_merge.specs.Merging.{turn_count, weight_sent};
-ghost use Rattle.curp_model.specs.World.{weight_limit};
+ghost use Rattle.curp_msg.specs.Limits.{step_limit, weight_limit};
 
 use crate::Journals;
 use crate::lines::lines_of;
@@ -23,7 +23,7 @@ pub fn gather(
     ensures script { IfOk result (λ steps. IsScriptOf _header.now (journals_of journals.now) steps.items) }
     ensures counted { IfOk result (λ steps. length steps.items ≡ turn_count (journals_of journals.now)) }
     ensures held { IfOk result (λ steps. AllHeld (journals_of journals.now)) }
-    ensures few { IfOk result (λ steps. length steps.items ≤ 200000) }
+    ensures few { IfOk result (λ steps. length steps.items ≤ step_limit) }
     ensures light { IfOk result (λ steps. weight_sent (journals_of journals.now) ≤ weight_limit) }
     ensures cause { IfErr result (IsCause (journals_of journals.now)) }
 {

@@ -1,5 +1,5 @@
 -- No step takes a master away.
-use Rattle.std.proofs.Common.{◌≡◌, ◌≤◌, ◌+◌, ◌-◌, ℕ, zero, suc, List, length, Option, Some, None, refl, ap, ◌∙◌, arith, length-append}
+use Rattle.std.proofs.Common.{◌≡◌, ◌≤◌, ◌-◌, ℕ, List, length, Option, Some, None, ◌∙◌, arith, length-append}
 use Rattle.std.proofs.lemmas.List.{length-map, length-set}
 use Rattle.std.specs.Prelude.{replicate, slice_set}
 use Rattle.curp_cmd.specs.declared.node.NodeKind.{NodeKind}
@@ -16,6 +16,7 @@ use Rattle.curp_model.specs.Backup.{backup_input}
 use Rattle.curp_model.specs.Witness.{witness_input}
 use Rattle.curp_model.specs.Recovery.{Fresh, master_input}
 use Rattle.curp_model.specs.World.{World, Deed, Nothing, Gives, Stops, deed_of, effect, grown, moves_kind, moves_one, opening, opening_master, result_of, shape_of, step, steps_by, with_backup, with_client, with_master, with_witness}
+use Rattle.curp_base.proofs.Numbered.{length-numbers}
 
 grown_long : {S : Type 0} (nodes : List S) (fresh : S) (next : ℕ) → length nodes ≤ length (grown nodes fresh next)
 grown_long nodes fresh next = omega (arith, length-append nodes (replicate ((next - 1) - length nodes) fresh))
@@ -58,10 +59,6 @@ result_long w d (result.Refused number) = omega arith
 pub masters_stay : (w : World) (s : Step) → length w.masters ≤ length (step w s).world.masters
 unfolding step
 masters_stay w s = result_long w (deed_of w s) (result_of w s)
-
-length-numbers : (first count : ℕ) → length (numbers_from first count) ≡ count
-length-numbers first zero = refl
-length-numbers first (suc count) = ap suc (length-numbers (first + 1) count)
 
 -- at opening each partition has one
 pub opening_masters : (h : Header) → length (opening h).masters ≡ h.parts

@@ -1,6 +1,7 @@
 -- A made script, and what happened in it, as text.
-use Rattle.std.specs.Prelude.{ℕ, List, ◌++◌, codes}
+use Rattle.std.specs.Prelude.{ℕ, List, ◌++◌, Some, codes}
 use Rattle.std.specs.Fmt.{decimal}
+use Rattle.curp_script.specs.Script.{Script, Whole}
 use Rattle.curp_script.specs.Texts.{line_text, script_lines}
 use Rattle.curp_words.specs.declared.order.MakePlan.{MakePlan}
 use Rattle.curp_words.specs.declared.order.Output.{Output}
@@ -11,6 +12,10 @@ use Rattle.curp_gen.specs.declared.summary.Summary.{Summary}
 -- the script of a plan: its header, and its steps
 abbrev pub script_text : MakePlan → List ℕ
 script_text plan = script_lines (header_of plan) (made_steps plan)
+
+-- what reading it gives: it is read to its end
+abbrev pub made_script : MakePlan → Script
+made_script plan = record { header = Some (header_of plan); body = record { steps = made_steps plan; ending = Whole } }
 
 -- a number under its name
 abbrev pub count_text : List ℕ → ℕ → List ℕ

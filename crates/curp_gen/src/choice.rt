@@ -2,11 +2,9 @@
 use crate::commands::made_command;
 use crate::draws::{pick, pick_message, pick_to};
 use crate::maker::Maker;
+use curp_client::MOST_PENDING;
 use curp_msg::Step;
 use rand_pcg::Pcg32;
-
-/// How many requests of a client may be pending.
-const MOST_PENDING: usize = 8;
 
 /// How many hashes have the same first byte.
 const HASHES_OF_BYTE: u64 = 1 << 56;

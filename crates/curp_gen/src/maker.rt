@@ -1,7 +1,7 @@
 ghost use Rattle.std.specs.Prelude.{◌≡◌, ◌<◌, ◌≤◌, ◌-◌, ◌^◌, length, OnErr, OnOk, IfOk};
 ghost use Rattle.curp_client.specs.Requests.{least_of};
 ghost use Rattle.curp_model.specs.World.{order};
-ghost use Rattle.curp_script.specs.Headers.{InRange};
+ghost use Rattle.curp_msg.specs.Script.{IsHeader};
 ghost use Rattle.curp_script.specs.Printed.{NamesNode};
 ghost use Rattle.curp_words.specs.Plan.{IsPlan};
 ghost use Rattle.curp_gen.specs.Making as making;
@@ -9,11 +9,11 @@ ghost use Rattle.curp_gen.specs.Making as making;
 use crate::draws::copy_of;
 use crate::summary::Summary;
 use curp_base::NoMemory;
+use curp_cluster::Cluster;
 use curp_msg::{Header, Outcome, Step, StepResult};
 use curp_words::MakePlan;
-use curp_world::{BeginError, World};
 use rand_pcg::Pcg32;
-use std::alloc::{AllocError, Global};
+use std::alloc::Global;
 use std::marker::Model;
 
 /// The stream of words that scripts are made from.
@@ -24,7 +24,7 @@ const SCRIPT_STREAM: u64 = 54;
 #[derive(Drop)]
 pub struct Maker {
     plan: MakePlan,
-    world: World,
+    world: Cluster,
     words: Pcg32,
     cursor: u64,
     made: u32,
@@ -67,26 +67,22 @@ impl Maker {
         requires { IsPlan plan.now }
         ensures { IfOk result (λ maker. maker ≡ making.begun plan.now) }
     {
-        match World::begin(alloc, &header_of(plan)) {
-            Ok(world) => Ok(Maker {
-                plan: *plan,
-                world,
-                words: Pcg32::new(plan.number, SCRIPT_STREAM),
-                cursor: 1,
-                made: 0,
-                recoveries: 0,
-                refused: 0,
-                completed: 0,
-            }),
-            Err(BeginError::NoMemory) => Err(AllocError),
-            Err(BeginError::BadHeader { .. }) => unreachable!(),
-        }
+        Ok(Maker {
+            plan: *plan,
+            world: Cluster::new(alloc, &header_of(plan))?,
+            words: Pcg32::new(plan.number, SCRIPT_STREAM),
+            cursor: 1,
+            made: 0,
+            recoveries: 0,
+            refused: 0,
+            completed: 0,
+        })
     }
 
     /// The header of the script.
     pub fn header(&self) -> Header
         ensures header { result ≡ making.header_of self.now.plan }
-        ensures in_range { InRange result }
+        ensures in_range { IsHeader result }
     {
         header_of(&self.plan)
     }

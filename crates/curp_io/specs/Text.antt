@@ -1,5 +1,6 @@
 -- Lines of bytes.
 use Rattle.std.specs.Prelude.{◌≡◌, ◌≢◌, ℕ, ◌<◌, ◌≤◌, ◌==◌, List, [], ◌∷◌, length, if◌then◌else◌, Option, Some, None}
+use Rattle.curp_base.specs.Limits.{line_limit}
 use Rattle.curp_io.specs.Streams.{one_more}
 use Rattle.curp_io.specs.declared.lines.NextLine.{NextLine}
 use Rattle.curp_io.specs.declared.lines.NextLine.TheVariants as answer
@@ -40,12 +41,12 @@ pub record GivesLine (bytes line rest : List ℕ) : Type 0 where
   pub more : bytes ≢ []
   pub first : line ≡ line_of bytes
   pub left : rest ≡ rest_of bytes
-  pub short : length line ≤ 65536
+  pub short : length line ≤ line_limit
 
 -- the first line has this number and is longer than a line may be; all bytes are left
 pub record RefusesLine (number : ℕ) (bytes rest : List ℕ) (at : ℕ) : Type 0 where
   pub numbered : at ≡ one_more number
-  pub long : 65536 < length (line_of bytes)
+  pub long : line_limit < length (line_of bytes)
   pub left : rest ≡ bytes
 
 -- What an answer says of the bytes that were due, of the line and of the bytes that are now left, where this many

@@ -8,14 +8,15 @@
 //!   `repeats`: after a fault or a line that is too long it answers the same for ever.
 //! - `write_piece`, clause `bytes`: the whole piece was put, or a front of it after a refusal. `next_line` and
 //!   `write_piece` carry `cause` and `told`.
-//! - `MemorySource`, `MemorySink`: exact, also which calls fail. `SureSource`, `SureSink`: they never fail, since their
-//!   count of faults is always 0. `StdSource` and `StdSink` keep the traits' clauses over any reader and writer of std;
-//!   they tell bytes where these do. `verdict_of`, `put_of`: exact, which of std's errors is an interruption, want of
-//!   memory or a fault, and what a write's outcome is.
+//! - `MemorySource`, `MemorySink`: exact, also which calls fail, as a `Schedule` says (`turn`, exact). `SureSource`,
+//!   `SureSink`: they never fail, since their count of faults is always 0. `StdSource` and `StdSink` keep the traits'
+//!   clauses over any reader and writer of std; they tell bytes where these do. `verdict_of`, `put_of`: exact, which of
+//!   std's errors is an interruption, want of memory or a fault, and what a write's outcome is.
 #![tactic(auto)]
 
 mod lines;
 mod memory;
+mod schedule;
 mod sink;
 mod source;
 mod standard;
@@ -25,6 +26,7 @@ mod write;
 
 pub use lines::{Lines, NextLine};
 pub use memory::{MemorySink, MemorySource};
+pub use schedule::{Schedule, Turn};
 pub use sink::{Flushed, Put, Sink};
 pub use source::{Source, Taken};
 pub use standard::{StdSink, StdSource};

@@ -1,6 +1,6 @@
 ghost use Rattle.std.specs.Prelude.{◌≡◌, ◌≢◌, ◌≤◌, ◌++◌, [], true, None, Some, IfOk};
 ghost use Rattle.curp_io.specs.Streams.{Rose, SameCount};
-ghost use Rattle.curp_io.specs.Text.{IsNextLine, nothing_read, number_after, repeated};
+ghost use Rattle.curp_io.specs.Text.{IsNextLine, line_of, nothing_read, number_after, repeated};
 
 use crate::source::Source;
 use crate::window::{Found, Window};
@@ -74,6 +74,9 @@ impl Lines {
         ensures repeats { (answer : NextLine) → self.old.failed ≡ Some answer
             → (result ≡ answer) × (self.new ≡ self.old) × (source.new ≡ source.old) }
         ensures no_text { self.old.failed ≡ None → result ≢ NextLine.Line → self.new.line ≡ [] }
+        // A fault leaves less than a line read ahead.
+        ensures no_feed { self.old.failed ≡ None → result ≡ NextLine.ReadFault
+            → line_of self.new.ahead ≡ self.new.ahead }
         ensures tells { S.tells source.old ≡ true → S.tells source.new ≡ true }
         ensures cause { self.old.failed ≡ None → result ≡ NextLine.ReadFault
             → Rose (S.faults source.old) (S.faults source.new) }

@@ -141,6 +141,7 @@ impl Window {
         ensures bytes { S.tells source.old ≡ true
             → Finds (self.old.ahead ++ S.left source.old) result self.new.ahead (S.left source.new) }
         ensures line { self.old.line ≡ [] → self.new.line ≡ [] }
+        ensures no_feed { result ≡ Found.ReadFault → line_of self.new.ahead ≡ self.new.ahead }
         ensures tells { S.tells source.old ≡ true → S.tells source.new ≡ true }
         ensures cause { result ≡ Found.ReadFault → Rose (S.faults source.old) (S.faults source.new) }
         ensures told { result ≢ Found.ReadFault → SameCount (S.faults source.old) (S.faults source.new) }

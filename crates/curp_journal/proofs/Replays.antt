@@ -1,6 +1,7 @@
 -- Lemmas on the replay of a journal.
-use Rattle.std.proofs.Common.{◌≡◌, ◌≢◌, ℕ, zero, suc, ◌+◌, ◌<◌, List, [], ◌∷◌, ◌++◌, take, refl, ap, sym, ◌∙◌, arith, ◌≤◌, add-one}
+use Rattle.std.proofs.Common.{◌≡◌, ◌≢◌, ℕ, zero, suc, ◌+◌, ◌<◌, List, [], ◌∷◌, ◌++◌, take, refl, ap, sym, ◌∙◌, arith, ◌≤◌}
 use Rattle.curp_base.specs.Words.{At}
+use Rattle.curp_base.proofs.Lists.{Each-append, Each-at, take_one}
 use Rattle.curp_msg.specs.Moved.{Moved, Refuses, done_of, within}
 use Rattle.curp_msg.specs.declared.machine.Done.{Done}
 use Rattle.curp_msg.specs.declared.machine.Input.{Input}
@@ -8,28 +9,16 @@ use Rattle.curp_msg.specs.declared.machine.Input.TheVariants as input
 use Rattle.curp_msg.specs.declared.machine.Local.{Local}
 use Rattle.curp_msg.specs.declared.message.Message.{Message}
 use Rattle.curp_journal.specs.Given.{given, stamp_of}
-use Rattle.curp_journal.specs.Journal.{IsJournal, IsReplay, Stamped, after, last_stamp, made, next_stamp, refused, replayed}
+use Rattle.curp_journal.specs.Journal.{IsJournal, IsReplay, Stamped, after, last_stamp, made, next_stamp, replayed}
 use Rattle.curp_journal.specs.declared.arrived.Arrived.{Arrived}
 use Rattle.curp_journal.specs.declared.arrived.Arrived.TheVariants as arrived
 use Rattle.curp_journal.specs.declared.item.Item.{Item}
 
 -- ---- one item more
 
-pub refused-snoc : (items : List Item) (item : Item) → refused (items ++ item ∷ []) ≡ refused items + item.done.refused
-refused-snoc [] item = omega arith
-refused-snoc (first ∷ items) item = let e = refused-snoc items item in omega arith
-
 pub last_stamp-snoc : (last : ℕ) (items : List Item) (item : Item) → last_stamp last (items ++ item ∷ []) ≡ item.stamp
 last_stamp-snoc last [] item = refl
 last_stamp-snoc last (first ∷ items) item = last_stamp-snoc first.stamp items item
-
-take_next : {A : Type 0} (xs : List A) (t : ℕ) (x : A) → At xs t x → take (suc t) xs ≡ take t xs ++ x ∷ []
-take_next [] t x at = absurd cc
-take_next (y ∷ xs) zero x at = let same : y ≡ x = cc in ap (λ z. z ∷ []) same
-take_next (y ∷ xs) (suc t) x at = ap (λ zs. y ∷ zs) (take_next xs t x at)
-
-take_on : {A : Type 0} (xs : List A) (t : ℕ) (x : A) → At xs t x → take (t + 1) xs ≡ take t xs ++ x ∷ []
-take_on xs t x at = rw add-one (take_next xs t x at)
 
 module _ {N : Type 0} (machine : N → Input → Moved N) where
   pub after-snoc : (node : N) (items : List Item) (item : Item) → after machine node (items ++ item ∷ []) ≡ (machine (after machine node items) (given item.input)).state
@@ -43,7 +32,7 @@ module _ {N : Type 0} (machine : N → Input → Moved N) where
       ap (λ xs. made machine node last first.input ∷ xs) (replayed-snoc (machine node (given first.input)).state (next_stamp last first.input) items item)
 
   pub nothing_yet : (opening : N) → IsReplay machine opening [] opening 0
-  nothing_yet opening = record { node_is = refl; items_are = refl; none_refused = refl; last_is = refl }
+  nothing_yet opening = record { node_is = refl; items_are = refl; none_refused = tt; last_is = refl }
 
   -- one more item, made of its input
   pub one_more : (opening : N) (items : List Item) (node : N) (last : ℕ) (arrived : Arrived) → IsReplay machine opening items node last → (machine node (given arrived)).refused ≡ 0
@@ -51,7 +40,7 @@ module _ {N : Type 0} (machine : N → Input → Moved N) where
   one_more opening items node last arrived is taken = record {
     node_is = sym (after-snoc opening items (made machine node last arrived) ∙ ap (λ n. (machine n (given arrived)).state) (sym is.node_is));
     items_are = sym (replayed-snoc opening 0 items (made machine node last arrived) ∙ cc (is.node_is, is.items_are, is.last_is));
-    none_refused = refused-snoc items (made machine node last arrived) ∙ omega (arith, is.none_refused, taken);
+    none_refused = Each-append (λ (i : Item). i.done.refused ≡ 0) items (made machine node last arrived ∷ []) is.none_refused (taken, tt);
     last_is = sym (last_stamp-snoc 0 items (made machine node last arrived));
   }
 
@@ -103,7 +92,7 @@ module _ {N : Type 0} (machine : N → Input → Moved N) where
       ≡ replayed machine node 0 (take (t + 1) items)
   replays_on node items t item at =
       ap (λ n. replayed machine node 0 (take t items) ++ made machine n (last_stamp 0 (replayed machine node 0 (take t items))) item.input ∷ []) (after-replayed node 0 (take t items))
-      ∙ (sym (replayed-snoc node 0 (take t items) item) ∙ ap (replayed machine node 0) (sym (take_on items t item at)))
+      ∙ (sym (replayed-snoc node 0 (take t items) item) ∙ ap (replayed machine node 0) (sym (take_one items t item at)))
 
   -- the beginning of a journal is one
   pub replayed-take : (node : N) (last : ℕ) (items : List Item) (t : ℕ) → items ≡ replayed machine node last items → take t items ≡ replayed machine node last (take t items)
@@ -113,11 +102,6 @@ module _ {N : Type 0} (machine : N → Input → Moved N) where
       let head : first ≡ made machine node last first.input = cc in
       let tail : items ≡ replayed machine (machine node (given first.input)).state (next_stamp last first.input) items = cc in
       cc (head, replayed-take (machine node (given first.input)).state (next_stamp last first.input) items t tail)
-
-pub none_refused_at : (items : List Item) (t : ℕ) (item : Item) → refused items ≡ 0 → At items t item → item.done.refused ≡ 0
-none_refused_at [] t item none at = absurd cc
-none_refused_at (first ∷ items) zero item none at = let same : first ≡ item = cc in rw (sym same) (omega (arith, none))
-none_refused_at (first ∷ items) (suc t) item none at = none_refused_at items t item (omega (arith, none)) at
 
 -- ---- stamps rise
 
@@ -165,7 +149,7 @@ taken_again machine opening items t item is at =
     let front = replayed-take machine opening 0 items t is.items_are in
     let stamps = stamp_at 0 items t item (stamped machine opening 0 items is.items_are) at in
     let done = done_at machine opening 0 items t item is.items_are at in
-    let none = none_refused_at items t item is.none_refused at in
+    let none = Each-at (λ (i : Item). i.done.refused ≡ 0) items is.none_refused t item at in
     (rw (sym front) (sym stamps), rw (sym front) (ap (λ (d : Done). d.refused) (sym done) ∙ none))
 
 -- ---- the same journal of a node that has the state inside its own

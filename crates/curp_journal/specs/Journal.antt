@@ -1,6 +1,7 @@
 -- What a node's journal shows: replayed from the opening node, it gives the node, all outputs and rising stamps (this
 -- project's own).
 use Rattle.std.specs.Prelude.{◌≡◌, ℕ, ◌+◌, max, Bool, List, [], ◌∷◌, ⊤}
+use Rattle.curp_base.specs.Words.{Each}
 use Rattle.curp_cmd.specs.declared.node.NodeId.{NodeId}
 use Rattle.curp_msg.specs.Moved.{Moved, done_of}
 use Rattle.curp_msg.specs.declared.machine.Input.{Input}
@@ -35,11 +36,6 @@ replayed machine node last (item ∷ items) =
     made machine node last item.input
     ∷ replayed machine (machine node (given item.input)).state (next_stamp last item.input) items
 
--- the sum of the numbers by which items were refused
-abbrev pub refused : List Item → ℕ
-refused [] = 0
-refused (item ∷ items) = item.done.refused + refused items
-
 -- the last stamp of these items, where it is this one before them
 abbrev pub last_stamp : ℕ → List Item → ℕ
 last_stamp last [] = last
@@ -49,7 +45,7 @@ last_stamp last (item ∷ items) = last_stamp item.stamp items
 pub record IsReplay {N : Type 0} (machine : N → Input → Moved N) (opening : N) (items : List Item) (node : N) (last : ℕ) : Type 0 where
   pub node_is : node ≡ after machine opening items
   pub items_are : items ≡ replayed machine opening 0 items
-  pub none_refused : refused items ≡ 0
+  pub none_refused : Each (λ (item : Item). item.done.refused ≡ 0) items
   pub last_is : last ≡ last_stamp 0 items
 
 -- the items are what the machine makes of their inputs from the opening node on

@@ -8,7 +8,7 @@ use Rattle.curp_cmd.specs.declared.command.Answer.TheVariants.{Found}
 use Rattle.std.specs.List.{filter, flat_map}
 use Rattle.std.proofs.lemmas.Bool.{cond_both}
 use Rattle.curp_base.specs.Words.{Each}
-use Rattle.curp_base.proofs.Lists.{Each-append}
+use Rattle.curp_base.proofs.Lists.{Each-append, Each-image, Each-images}
 use Rattle.curp_cmd.specs.declared.command.Command.{Command}
 use Rattle.curp_cmd.specs.declared.command.Command.TheVariants.{Get}
 use Rattle.curp_cmd.specs.declared.command.Request.{Request}
@@ -42,15 +42,6 @@ abbrev pub PreparedBy : MasterState → MasterState → Body → Type 0
 PreparedBy m k (body.Prepared version) = (s : Switch) × (m.phase ≡ Switching s) × (s.version ≡ version) × ((s.prepared ≡ true) ⊎ (all_have k.acknowledged s.backups (length k.log) s.round ≡ true))
 PreparedBy m k _ = ⊤
 
--- what holds of each image
-pub each_map : {A B : Type 0} (P : B → Type 0) (f : A → B) → ((x : A) → P (f x)) → (xs : List A) → Each P (map f xs)
-each_map P f all [] = tt
-each_map P f all (x ∷ xs) = (all x, each_map P f all xs)
-
-each_flat : {A B : Type 0} (P : B → Type 0) (f : A → List B) → ((x : A) → Each P (f x)) → (xs : List A) → Each P (flat_map f xs)
-each_flat P f all [] = tt
-each_flat P f all (x ∷ xs) = Each-append P (f x) (flat_map f xs) (all x) (each_flat P f all xs)
-
 module _ (n : ℕ) (m : MasterState) where
   abbrev Says : MasterState → Message → Type 0
   Says k x = PreparedBy m k x.body
@@ -59,7 +50,7 @@ module _ (n : ℕ) (m : MasterState) where
   Ok r = Each (Says r.state) r.messages
 
   rounds : (k : MasterState) → Ok (begins_round n k)
-  rounds k = each_map (Says (next_round k)) (append_to n (next_round k)) (λ b. tt) (stored_on (next_round k))
+  rounds k = Each-image (Says (next_round k)) (append_to n (next_round k)) (λ b. tt) (stored_on (next_round k))
 
   holds_ok : (k : MasterState) (index : ℕ) → Ok (holds_back n k index)
   holds_ok k index = rounds (record k { held = insert_key nat_cmp k.held index })
@@ -134,9 +125,9 @@ module _ (n : ℕ) (m : MasterState) where
       let moves = flat_map (moved_entry n) (between k.settled (synced k) k.log) in
       Each-append (Says after) (replies ++ values) moves
       (Each-append (Says after) replies values
-      (each_flat (Says after) (λ (index : ℕ). synced_reply n k index (slice_get k.log index)) (λ (index : ℕ). reply_ok after k index (slice_get k.log index)) due)
-      (each_map (Says after) (value_of n k) (λ c. tt) (filter (is_ready k) k.captures)))
-      (each_flat (Says after) (moved_entry n) (entry_ok after) (between k.settled (synced k) k.log))
+      (Each-images (Says after) (λ (index : ℕ). synced_reply n k index (slice_get k.log index)) (λ (index : ℕ). reply_ok after k index (slice_get k.log index)) due)
+      (Each-image (Says after) (value_of n k) (λ c. tt) (filter (is_ready k) k.captures)))
+      (Each-images (Says after) (moved_entry n) (entry_ok after) (between k.settled (synced k) k.log))
 
   -- ---- the one place
 
@@ -221,18 +212,3 @@ module _ (n : ℕ) (m : MasterState) where
   pub prepared_says : (from : NodeId) (b : Body) → Each (λ (x : Message). PreparedBy m (on_serving n m from b).state x.body) (on_serving n m from b).messages
   unfolding on_serving
   prepared_says from b = ends_ok (by_message n m from b) (message_ok from b)
-
-  sync_ok : (at : Phase) → m.phase ≡ at → Ok (sync_in n m at)
-  sync_ok Open is = rounds m
-  sync_ok (Switching s) is = cond_both s.prepared _ _ Ok (λ y. ((s, is, refl, inl y), rounds m)) (λ y. rounds m)
-
-  collect_ok : (at : Phase) → Ok (collect_in n m at)
-  collect_ok Open = each_map (Says (collects n m).state) (λ (to : NodeId). says (master_node n) to (body.Gc (record { epoch = m.epoch; ids = map (λ (q : Queued). q.id) (filter (is_due m) m.queue) }))) (λ b. tt) m.witnesses
-  collect_ok (Switching s) = tt
-
-  -- and when on an order
-  pub prepared_ordered_says : (order : Local) → Each (λ (x : Message). PreparedBy m (serving_ordered n m order).state x.body) (serving_ordered n m order).messages
-  unfolding serving_ordered
-  prepared_ordered_says local.Sync = ends_ok (sync_in n m m.phase) (sync_ok m.phase refl)
-  prepared_ordered_says local.Collect = collect_ok m.phase
-  prepared_ordered_says _ = tt

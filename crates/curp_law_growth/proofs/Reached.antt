@@ -79,17 +79,3 @@ pub reached_steady : (h : Header) (steps : List Step) → Steady (world h steps)
 reached_steady h steps = run_steady steps (opening h) (opening_steady h)
 
 -- ---- so versions and epochs grow
-
--- a serving master's version never falls
-pub version_grows : (w v : World) → Grows w v → Steady w → (n : ℕ) (m k : MasterState) → numbered w.masters n ≡ Some (Serving m) → numbered v.masters n ≡ Some (Serving k) → m.version ≤ k.version
-version_grows w v g s n m k before after =
-    let o = g.masters n (Serving m) before in
-    let life : LifeGrows (Serving m) (Serving k) = subst (LifeGrows (Serving m)) (numbered_same v.masters n o.0 (Serving k) o.1 after) o.2.life in
-    life.version (s.above n m before)
-
--- a witness's epoch stays
-pub epoch_stays : (w v : World) → Grows w v → Steady w → (n : ℕ) (x y : WitnessState) → numbered w.witnesses n ≡ Some x → numbered v.witnesses n ≡ Some y → (e : ℕ) → x.epoch ≡ Some e → y.epoch ≡ Some e
-epoch_stays w v g s n x y before after e h =
-    let o = g.witnesses n x before in
-    let same : o.0 ≡ y = numbered_same v.witnesses n o.0 y o.1 after in
-    subst (λ (z : WitnessState). z.epoch ≡ Some e) same (o.2.epoch (s.idle n x before) e h)

@@ -23,7 +23,7 @@ use Rattle.curp_model.specs.Master.{last_round}
 use Rattle.curp_base.specs.Words.{rises_past}
 use Rattle.curp_msg.specs.Moved.{Moved, says}
 use Rattle.curp_model.specs.Recovery.{RecoveryState, RecoveryPhase, Asking, Storing, Waiting, Replayed, again_in, all_complete, append_answered, both_there, completed_by, fence_answered, log_comes, appends_whole, next_storing, replay, recovery_ordered, requests_come, stored_comes, with_complete}
-use Rattle.curp_law_growth.proofs.Prepared.{each_map}
+use Rattle.curp_base.proofs.Lists.{Each-image}
 
 -- it was waiting so before, or all fresh backups have the whole log
 abbrev pub RecoveredBy : Recover → RecoveryPhase → RecoveryState → Body → Type 0
@@ -41,7 +41,7 @@ module _ (n : ℕ) (o : Recover) where
   Ok p r = Each (Says p r.state) r.messages
 
   whole : (p : RecoveryPhase) (t : RecoveryState) (r : Replayed) (backups : List NodeId) → Each (Says p t) (appends_whole n o r backups)
-  whole p t r backups = each_map (Says p t) (λ (to : NodeId). says (master_node n) to (body.Append (record { epoch = o.epoch; base = 0; round = r.round; entries = r.log }))) (λ b. tt) backups
+  whole p t r backups = Each-image (Says p t) (λ (to : NodeId). says (master_node n) to (body.Append (record { epoch = o.epoch; base = 0; round = r.round; entries = r.log }))) (λ b. tt) backups
 
   both_ok : (p : RecoveryPhase) (l : Option (List Entry)) (r : Option (List Request)) → Ok p (both_there n o l r)
   both_ok p (Some log) (Some requests) =
@@ -56,13 +56,6 @@ module _ (n : ℕ) (o : Recover) where
   log_ok from entries (Storing r) = tt
   log_ok from entries (Waiting r) = tt
 
-  -- when it says that all is stored, as a witness's requests come
-  pub frozen_says : (from : NodeId) (rs : List Request) (p : RecoveryPhase) → Each (λ (x : Message). RecoveredBy o p (requests_come n (record { order = o; phase = p }) from rs p).state x.body) (requests_come n (record { order = o; phase = p }) from rs p).messages
-  frozen_says from rs (Asking log None) = cond_both (same_node from o.witness) _ _ (Ok (Asking log None)) (λ y. both_ok (Asking log None) log (Some rs)) (λ y. tt)
-  frozen_says from rs (Asking log (Some r)) = tt
-  frozen_says from rs (Storing r) = tt
-  frozen_says from rs (Waiting r) = tt
-
   completed_ok : (r x : Replayed) → Ok (Storing r) (completed_by n o x)
   completed_ok r x = cond_both (all_complete o x) _ _ (Ok (Storing r)) (λ y. ((x, refl, refl, inr y), tt)) (λ y. tt)
 
@@ -70,14 +63,6 @@ module _ (n : ℕ) (o : Recover) where
   stored_ok from long (Storing r) = cond_both (is_among from o.backups && nat_le (length r.log) long) _ _ (Ok (Storing r)) (λ y. completed_ok r (with_complete r from)) (λ y. tt)
   stored_ok from long (Asking log requests) = tt
   stored_ok from long (Waiting r) = tt
-
-  again_ok : (p : RecoveryPhase) → Ok p (again_in n (at o p) p)
-  again_ok (Asking None None) = (tt, (tt, tt))
-  again_ok (Asking None (Some r)) = (tt, tt)
-  again_ok (Asking (Some l) None) = (tt, tt)
-  again_ok (Asking (Some l) (Some r)) = tt
-  again_ok (Storing r) = cond_both (rises_past last_round r.round (r.round + 1)) _ _ (Ok (Storing r)) (λ y. tt) (λ y. whole (Storing r) (at o (Storing (next_storing r))) (next_storing r) (filter (λ (b : NodeId). not (is_among b r.complete)) o.backups))
-  again_ok (Waiting r) = ((r, refl, refl, inl refl), tt)
 
   -- as a backup's log comes
   pub fence_says : (p : RecoveryPhase) (from : NodeId) (a : FenceReply) → Each (λ (x : Message). RecoveredBy o p (fence_answered n (record { order = o; phase = p }) from a).state x.body) (fence_answered n (record { order = o; phase = p }) from a).messages
@@ -88,8 +73,3 @@ module _ (n : ℕ) (o : Recover) where
   pub append_says : (p : RecoveryPhase) (from : NodeId) (a : AppendAnswer) → Each (λ (x : Message). RecoveredBy o p (append_answered n (record { order = o; phase = p }) from a).state x.body) (append_answered n (record { order = o; phase = p }) from a).messages
   append_says p from (Stored long) = stored_ok from long p
   append_says p from _ = tt
-
-  -- on an order
-  pub again_says : (p : RecoveryPhase) (order : Local) → Each (λ (x : Message). RecoveredBy o p (recovery_ordered n (record { order = o; phase = p }) order).state x.body) (recovery_ordered n (record { order = o; phase = p }) order).messages
-  again_says p local.Sync = again_ok p
-  again_says p _ = tt

@@ -29,7 +29,7 @@ use Rattle.curp_facts.specs.Facts.{IsOnlyExpire}
 use Rattle.curp_facts.specs.Growth.{IsSilent}
 use Rattle.curp_model.specs.Master.{MasterState, Phase, Open, Switching, Switch, Wish, AtOnce, WhenSynced, Verdict, Deny, Execute, adopted_in, all_have, append_to, begins_round, by_message, carries_out, collect_in, give_after, goes_on, is_open, last_round, next_round, on_appended, on_collected, on_expire, on_read, on_serving, on_stored, on_update, prepare_in, prepares, raised, read_command, read_of, read_refusal, serving_ordered, settle, state_of, stored_on, sync_in, take_after, treats, unless_it_ends, verdict, glance_command, glance_of, on_glance}
 use Rattle.curp_model.specs.Table.{is_gone}
-use Rattle.curp_law_growth.proofs.Prepared.{each_map}
+use Rattle.curp_base.proofs.Lists.{Each-image}
 
 -- the message is neither a reply, a value, a collection nor of a migration
 abbrev pub Silent : Message → Type 0
@@ -52,7 +52,7 @@ module _ (n : ℕ) (m : MasterState) (s : Switch) (is : m.phase ≡ Switching s)
   rests = record { pushes = none; silent = λ t e. tt }
 
   rounds : (k : MasterState) → Each IsOnlyExpire (drop (length m.log) k.log) → IsLittle m (begins_round n k)
-  rounds k pushes = record { pushes = pushes; silent = λ t e. each_map Silent (append_to n (next_round k)) (λ b. tt) (stored_on (next_round k)) }
+  rounds k pushes = record { pushes = pushes; silent = λ t e. Each-image Silent (append_to n (next_round k)) (λ b. tt) (stored_on (next_round k)) }
 
   -- ---- requests are refused
 

@@ -1,5 +1,5 @@
 -- The effect of each input on a backup.
-use Rattle.std.proofs.Common.{◌≡◌, ℕ, ◌+◌, ◌-◌, ◌≤◌, ◌<◌, true, not, List, drop, length, nat_lt, length-append, length-drop, refl, ap, sym, ◌∙◌, subst, arith, Option, Some, None}
+use Rattle.std.proofs.Common.{◌≡◌, ℕ, ◌+◌, ◌-◌, ◌≤◌, ◌<◌, not, List, drop, length, nat_lt, length-append, length-drop, refl, ap, sym, ◌∙◌, subst, arith, Option, Some, None}
 use Rattle.std.proofs.lemmas.Bool.{cond_both, not-false}
 use Rattle.std.proofs.lemmas.Bool.Decides.{nat_tests}
 use Rattle.curp_base.specs.Words.{IsPrefix}
@@ -15,10 +15,7 @@ use Rattle.curp_msg.specs.declared.machine.Input.TheVariants as input
 use Rattle.curp_model.specs.Backup.{AfterAppend, AfterFence, BackupState, append, backup_input, fence, fresh_backup, install, installed_backup, installed_once, is_installed_at, longer, on_backup}
 use Rattle.curp_law_keepers.specs.BackupEffect.{AppendAnswerSays, BackupEffect, BackupMove, ByAppend, ByFence, ByInstall, FenceReplySays, InputSuitsBackup, BackupAtHome, Rests, SuitsBackup}
 use Rattle.curp_law_keepers.specs.Brought.{Brings}
-
-installed_at : (own : Option ℕ) (epoch : ℕ) → is_installed_at own epoch ≡ true → own ≡ Some epoch
-installed_at None epoch e = absurd cc
-installed_at (Some own) epoch e = let same : own ≡ epoch = grind (arith, nat_tests) in ap (λ (x : ℕ). Some x) same
+use Rattle.curp_model.proofs.Backups.{installed_at}
 
 -- entries that reach behind the log make it as long as they reach
 longer_reaches : (log : List Entry) (base : ℕ) (entries : List Entry) → base ≤ length log → base + length entries ≤ length (longer log base entries)
@@ -91,43 +88,6 @@ backup_effect n b (input.Message m) = by_message n b m.from m.to m.body
 -- ---- at home
 
 module _ (epoch : ℕ) (whole : List Entry) (given : Input) (b c : BackupState) (home : BackupAtHome epoch whole b) where
-  none_else : (e : ℕ) → b.installed ≡ Some e → b.installed ≡ None → ⊥
-  none_else e own none = cc
-
   -- what came suits the backup
   suited : (from : NodeId) (m : Body) → Brings given from m → InputSuitsBackup epoch whole given → SuitsBackup epoch whole m
   suited from m brings suits = subst (InputSuitsBackup epoch whole) brings.is suits
-
-  -- a backup at home stays there, where what it is given suits it
-  pub backup_home_kept : InputSuitsBackup epoch whole given → BackupMove given b c → BackupAtHome epoch whole c
-  backup_home_kept suits (Rests same) = subst (BackupAtHome epoch whole) (sym same) home
-  backup_home_kept suits (ByInstall i) = subst (BackupAtHome epoch whole) (sym i.after) (record {
-    own = λ e is. sym (cc (is)) ∙ suited i.from (body.Install i.epoch) i.came suits;
-    empty = λ none. absurd (cc (none));
-    front = home.front;
-  })
-  backup_home_kept suits (ByAppend a) = subst (BackupAtHome epoch whole) (sym a.after) (record {
-    own = home.own;
-    empty = λ none. absurd (none_else a.append.epoch a.own_epoch none);
-    front = overlap a.append.base (length b.log - a.append.base) b.log a.append.entries whole (omega (arith, a.no_gap)) home.front (suited a.from (body.Append a.append) a.came suits (home.own a.append.epoch a.own_epoch));
-  })
-  backup_home_kept suits (ByFence f) = subst (BackupAtHome epoch whole) (sym f.after) (record { own = home.own; empty = home.empty; front = home.front })
-
-  -- and one that is fenced above its home keeps its log
-  pub fenced_keeps : epoch < b.fence → BackupMove given b c → c.log ≡ b.log
-  fenced_keeps above (Rests same) = ap (λ (x : BackupState). x.log) same
-  fenced_keeps above (ByInstall i) = ap (λ (x : BackupState). x.log) i.after
-  fenced_keeps above (ByAppend a) = absurd (omega (arith, above, a.not_fenced, home.own a.append.epoch a.own_epoch))
-  fenced_keeps above (ByFence f) = ap (λ (x : BackupState). x.log) f.after
-
--- its master's log may grow
-pub backup_home_grows : (epoch : ℕ) (whole later : List Entry) (b : BackupState) → IsPrefix whole later → BackupAtHome epoch whole b → BackupAtHome epoch later b
-backup_home_grows epoch whole later b grows home = record { own = home.own; empty = home.empty; front = prefix_trans home.front grows }
-
--- a backup that was never installed is at home anywhere
-pub fresh_backup_home : (epoch : ℕ) (whole : List Entry) → BackupAtHome epoch whole fresh_backup
-fresh_backup_home epoch whole = record { own = λ e is. absurd cc; empty = λ none. refl; front = record { rest = whole; is = refl } }
-
--- and one that has nothing yet, in its epoch
-pub installed_backup_home : (epoch : ℕ) (whole : List Entry) → BackupAtHome epoch whole (installed_backup epoch)
-installed_backup_home epoch whole = record { own = λ e is. sym (cc (is)); empty = λ none. refl; front = record { rest = whole; is = refl } }

@@ -5,7 +5,7 @@ use Rattle.std.specs.Option.{ok_or}
 use Rattle.std.proofs.lemmas.Bool.{cond_both, not-false}
 use Rattle.curp_base.specs.Cases.{◌>>=◌, refuse_if}
 use Rattle.curp_base.specs.Words.{At, Each, last_of}
-use Rattle.curp_base.proofs.Lists.{Each-append, Each-at, Each-from_at, Each-map}
+use Rattle.curp_base.proofs.Lists.{Each-append, Each-at, Each-from_at, Each-map, Each-filter}
 use Rattle.curp_cmd.specs.Hash.{hashes}
 use Rattle.curp_cmd.specs.Node.{client_node}
 use Rattle.curp_cmd.specs.Store.{is_update}
@@ -40,13 +40,14 @@ use Rattle.curp_facts.specs.Evidence.{AcceptCame, EarlyCame, EvidenceOk, IsAttem
 use Rattle.curp_law_keepers.specs.ClientEffect.{ClientEffect, ClientSays, InputSuitsClient, MayComplete, SuitsClient, events_after}
 use Rattle.curp_facts.specs.ClientNumbers.{IsAsked, NumbersOk}
 use Rattle.curp_law_keepers.proofs.Evidence.{accepts_each, early_each, proved_ok, glimpses_each, seen_ok}
-use Rattle.curp_law_keepers.proofs.Lists.{each_filter, filter_at, first_at, last_at}
+use Rattle.curp_law_keepers.proofs.Lists.{first_at, last_at}
 use Rattle.curp_law_keepers.proofs.Numbers.{fresh_asked, history_completed, history_invoked, numbers_changed, numbers_completed, numbers_invoked, waiting}
 use Rattle.curp_law_keepers.proofs.PendingLists.{each_replaced, found}
 use Rattle.curp_msg.specs.declared.body.Quick.{Quick}
 use Rattle.curp_msg.specs.declared.body.Probed.{Probed}
 use Rattle.curp_msg.specs.declared.script.Protocol.{Protocol}
 use Rattle.curp_msg.specs.declared.script.Protocol.TheVariants.{One, Two}
+use Rattle.curp_base.proofs.Numbered.{filter_at}
 
 each_among : {A B : Type 0} (P : B → Type 0) (f : A → B) (xs : List A) → ((x : A) → IsAmong x xs → P (f x)) → Each P (map f xs)
 each_among {A} P f xs each = Each-map P f xs (Each-from_at (λ (x : A). P (f x)) xs (λ k x at. each x (record { place = k; stands = at })))
@@ -86,7 +87,7 @@ module _ (Came : NodeId → Body → Type 0) (Adopted : PartConfig → Type 0) (
   completing k p at id a by same ok = record {
     history = history_completed n events c numbers id a k p at same history;
     numbers = numbers_completed n events c numbers id a k p at same;
-    knows = record { config = knows.config; pending = each_filter (EvidenceOk Came Adopted) _ c.pending knows.pending };
+    knows = record { config = knows.config; pending = Each-filter (EvidenceOk Came Adopted) _ c.pending knows.pending };
     says = tt;
     completes = ok;
   }

@@ -1,8 +1,7 @@
 -- The evidence for pending requests, as it comes, and when it is enough.
-use Rattle.std.proofs.Common.{◌≡◌, ℕ, ◌==◌, ◌&&◌, true, List, [], ◌∷◌, ◌++◌, Some, ap, ◌∙◌, subst, arith, Option}
+use Rattle.std.proofs.Common.{◌≡◌, ℕ, ◌==◌, ◌&&◌, true, List, [], ◌∷◌, ◌++◌, Some, ap, ◌∙◌, subst, Option}
 use Rattle.std.specs.List.{list_any}
 use Rattle.std.proofs.lemmas.Bool.{and_parts, cond_both}
-use Rattle.std.proofs.lemmas.Bool.Decides.{nat_tests}
 use Rattle.curp_base.specs.Words.{Each}
 use Rattle.curp_base.proofs.Lists.{Each-append, Each-at}
 use Rattle.curp_cmd.specs.Node.{same_node}
@@ -12,11 +11,12 @@ use Rattle.curp_msg.specs.declared.body.Body.{Body}
 use Rattle.curp_msg.specs.declared.body.Body.TheVariants as body
 use Rattle.curp_msg.specs.declared.config.PartConfig.{PartConfig}
 use Rattle.curp_model.specs.Client.{Accept, Attempt, Early, Pending, all_accepted, has_accepted, is_told, proved_answer, proves, with_accept, with_early, Glimpse, all_live, is_glimpsed, is_seen, seen_glimpse, with_glimpse}
-use Rattle.curp_base.proofs.Numbered.{any_at}
+use Rattle.curp_base.proofs.Numbered.{any_at, filter_at}
 use Rattle.curp_facts.specs.Evidence.{AcceptCame, EarlyCame, EvidenceOk, IsAttempt, GlimpseCame, LiveCame}
 use Rattle.curp_law_keepers.specs.ClientEffect.{ByAccepts, ByQuick}
-use Rattle.curp_law_keepers.proofs.Lists.{each_by_all, filter_at, first_at}
+use Rattle.curp_law_keepers.proofs.Lists.{each_by_all, first_at}
 use Rattle.curp_msg.specs.declared.machine.Capture.{Capture}
+use Rattle.curp_cmd.proofs.Apart.{number_is}
 
 -- ---- evidence comes
 
@@ -34,9 +34,6 @@ glimpses_each P glimpses g all one = cond_both (list_any (is_glimpsed g) glimpse
 
 -- ---- evidence is enough
 
-numbers_same : (a b : ℕ) → (a == b) ≡ true → a ≡ b
-numbers_same a b e = grind (arith, nat_tests)
-
 -- an unsynced reply and an attempt whose witnesses have accepted
 record Proved (p : Pending) (e : Early) (a : Attempt) : Type 0 where
   master : e.master ≡ a.master
@@ -49,7 +46,7 @@ proved_by p e a t =
     let last = and_parts (same_node e.master a.master && (e.epoch == a.epoch) && (e.version == a.version)) (all_accepted p a) t in
     let two = and_parts (same_node e.master a.master && (e.epoch == a.epoch)) (e.version == a.version) last.0 in
     let one = and_parts (same_node e.master a.master) (e.epoch == a.epoch) two.0 in
-    record { master = same_node-true e.master a.master one.0; epoch = numbers_same e.epoch a.epoch one.1; version = numbers_same e.version a.version two.1; all = last.1 }
+    record { master = same_node-true e.master a.master one.0; epoch = number_is e.epoch a.epoch one.1; version = number_is e.version a.version two.1; all = last.1 }
 
 -- a Quick and an attempt whose witnesses have all said Live
 record Seen (p : Pending) (g : Glimpse) (a : Attempt) : Type 0 where
@@ -63,7 +60,7 @@ seen_by p g a t =
     let last = and_parts (same_node g.master a.master && (g.epoch == a.epoch) && (g.version == a.version)) (all_live p a) t in
     let two = and_parts (same_node g.master a.master && (g.epoch == a.epoch)) (g.version == a.version) last.0 in
     let one = and_parts (same_node g.master a.master) (g.epoch == a.epoch) two.0 in
-    record { master = same_node-true g.master a.master one.0; epoch = numbers_same g.epoch a.epoch one.1; version = numbers_same g.version a.version two.1; all = last.1 }
+    record { master = same_node-true g.master a.master one.0; epoch = number_is g.epoch a.epoch one.1; version = number_is g.version a.version two.1; all = last.1 }
 
 module _ (Came : NodeId → Body → Type 0) (Adopted : PartConfig → Type 0) (p : Pending) (ok : EvidenceOk Came Adopted p) where
   abbrev Accepts : ℕ → NodeId → Type 0
@@ -73,7 +70,7 @@ module _ (Came : NodeId → Body → Type 0) (Adopted : PartConfig → Type 0) (
   accepted epoch node e =
       let f = any_at (λ (a : Accept). (a.epoch == epoch) && same_node a.witness node) p.accepts e in
       let b = and_parts (f.1.epoch == epoch) (same_node f.1.witness node) f.3 in
-      subst (λ (k : ℕ). Accepts k node) (numbers_same f.1.epoch epoch b.0)
+      subst (λ (k : ℕ). Accepts k node) (number_is f.1.epoch epoch b.0)
       (subst (Accepts f.1.epoch) (same_node-true f.1.witness node b.1) (Each-at (AcceptCame Came p.request.id) p.accepts ok.accepts f.0 f.1 f.2))
 
   -- an early reply that is enough came, with the accepts of all witnesses
@@ -105,7 +102,7 @@ module _ (Came : NodeId → Body → Type 0) (Adopted : PartConfig → Type 0) (
   lived epoch node e =
       let f = any_at (λ (a : Accept). (a.epoch == epoch) && same_node a.witness node) p.lives e in
       let b = and_parts (f.1.epoch == epoch) (same_node f.1.witness node) f.3 in
-      subst (λ (k : ℕ). SaysLive k node) (numbers_same f.1.epoch epoch b.0)
+      subst (λ (k : ℕ). SaysLive k node) (number_is f.1.epoch epoch b.0)
       (subst (SaysLive f.1.epoch) (same_node-true f.1.witness node b.1) (Each-at (LiveCame Came p.request.id) p.lives ok.lives f.0 f.1 f.2))
 
   -- a Quick that is enough came, with Live of all witnesses

@@ -178,10 +178,6 @@ sorted_old (s ∷ xs) r q a = cond_both (nat_lt (least_hash r) (least_hash s)) _
     go zero h rest = record { place = zero; stands = h }
     go (suc k) h rest = later s (rest (record { place = k; stands = h }))
 
-sorted_new : (xs : List Request) (r : Request) → IsAmong r (sorted_in xs r)
-sorted_new [] r = record { place = zero; stands = refl }
-sorted_new (s ∷ xs) r = cond_both (nat_lt (least_hash r) (least_hash s)) _ _ (IsAmong r) (λ y. record { place = zero; stands = refl }) (λ n. later s (sorted_new xs r))
-
 sorted_from : (xs : List Request) (r q : Request) (k : ℕ) → At (sorted_in xs r) k q → IsAmong q xs ⊎ (r ≡ q)
 sorted_from [] r q k h = inr (at_one r k q h).1
 sorted_from (s ∷ xs) r q k h = cond_both (nat_lt (least_hash r) (least_hash s)) (r ∷ s ∷ xs) (s ∷ sorted_in xs r) (λ (ys : List Request). At ys k q → IsAmong q (s ∷ xs) ⊎ (r ≡ q)) (λ y. front k) (λ n. behind k (λ j. sorted_from xs r q j)) h
@@ -193,32 +189,3 @@ sorted_from (s ∷ xs) r q k h = cond_both (nat_lt (least_hash r) (least_hash s)
     behind : (k : ℕ) → ((j : ℕ) → At (sorted_in xs r) j q → IsAmong q xs ⊎ (r ≡ q)) → At (s ∷ sorted_in xs r) k q → IsAmong q (s ∷ xs) ⊎ (r ≡ q)
     behind zero rest h = inl (record { place = zero; stands = h })
     behind (suc k) rest h = elim (rest k h) [ inl a ↦ inl (later s a) | inr e ↦ inr e ]
-
-all_sorted_old : (rs done : List Request) (q : Request) → IsAmong q done → IsAmong q (fold sorted_in done rs)
-all_sorted_old [] done q a = a
-all_sorted_old (r ∷ rs) done q a = all_sorted_old rs (sorted_in done r) q (sorted_old done r q a)
-
-all_sorted_new : (rs done : List Request) (q : Request) (k : ℕ) → At rs k q → IsAmong q (fold sorted_in done rs)
-all_sorted_new [] done q k h = absurd cc
-all_sorted_new (r ∷ rs) done q zero h =
-    let same : r ≡ q = cc in
-    all_sorted_old rs (sorted_in done r) q (subst (λ (x : Request). IsAmong x (sorted_in done r)) same (sorted_new done r))
-all_sorted_new (r ∷ rs) done q (suc k) h = all_sorted_new rs (sorted_in done r) q k h
-
-all_sorted_from : (rs done : List Request) (q : Request) → IsAmong q (fold sorted_in done rs) → IsAmong q done ⊎ IsAmong q rs
-all_sorted_from [] done q a = inl a
-all_sorted_from (r ∷ rs) done q a = elim (all_sorted_from rs (sorted_in done r) q a) [
-  | inr b ↦ inr (later r b)
-  | inl b ↦ elim (sorted_from done r q b.place b.stands) [
-    | inl c ↦ inl c
-    | inr e ↦ inr (record { place = zero; stands = ap Some e })
-  ]
-]
-
--- a frozen witness tells all that it holds
-pub held_told : (w : WitnessState) (q : Request) → IsAmong q (held_requests w) → IsAmong q (frozen_requests w)
-held_told w q a = all_sorted_new (held_requests w) [] q a.place a.stands
-
--- and nothing else
-pub told_held : (w : WitnessState) (q : Request) → IsAmong q (frozen_requests w) → IsAmong q (held_requests w)
-told_held w q a = elim (all_sorted_from (held_requests w) [] q a) [ inl none ↦ absurd (cc (none.stands)) | inr held ↦ held ]

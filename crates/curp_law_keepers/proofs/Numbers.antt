@@ -15,8 +15,8 @@ use Rattle.curp_order.specs.declared.Event.TheVariants.{Invoke, Complete}
 use Rattle.curp_model.specs.Client.{ClientState, Pending, first_pending, next_id, next_request, with_pending, without_id}
 use Rattle.curp_facts.specs.ClientNumbers.{CompletedBelow, IsAsked, IsCompleted, IsEventOf, IsPending, IsWaiting, NumbersOk}
 use Rattle.curp_law_keepers.proofs.Histories.{asked_later, completed_history, completed_later, completed_now, completed_old, completion_old, invocation_old, invoked_history}
-use Rattle.curp_law_keepers.proofs.Lists.{filter_at}
 use Rattle.curp_law_keepers.proofs.PendingLists.{each_replaced, least_below, pending_replaced, pending_without, rise_pushed, rise_replaced, rise_without}
+use Rattle.curp_base.proofs.Numbered.{filter_at}
 
 module _ (n : ℕ) (events : List Event) (c : ClientState) (ok : NumbersOk n events c) where
   -- what is pending waits

@@ -3,13 +3,14 @@ use Rattle.std.proofs.Common.{◌≡◌, ℕ, zero, suc, ◌<◌, ◌≤◌, Boo
 use Rattle.std.specs.List.{filter}
 use Rattle.std.proofs.lemmas.Bool.{cond_both}
 use Rattle.curp_base.specs.Words.{At, Each}
-use Rattle.curp_base.proofs.Lists.{Each-append, at_map}
+use Rattle.curp_base.proofs.Lists.{Each-append, at_map, Each-filter}
 use Rattle.curp_cmd.specs.RequestId.{same_id}
 use Rattle.curp_cmd.specs.declared.command.RequestId.{RequestId}
 use Rattle.curp_cmd.proofs.Ids.{same_id-true}
 use Rattle.curp_model.specs.Client.{Pending, replaced, with_id, without_id}
 use Rattle.curp_facts.specs.ClientNumbers.{IsPending, NumbersRise}
-use Rattle.curp_law_keepers.proofs.Lists.{each_filter, filter_at, first_at}
+use Rattle.curp_law_keepers.proofs.Lists.{first_at}
+use Rattle.curp_base.proofs.Numbered.{filter_at}
 
 -- ---- one comes
 
@@ -26,7 +27,7 @@ rise_filter t [] rise = tt
 rise_filter t (x ∷ xs) rise = go (t x) (rise_filter t xs rise.1)
   where
     go : (b : Bool) → NumbersRise (filter t xs) → NumbersRise (cond b (x ∷ filter t xs) (filter t xs))
-    go true rest = (each_filter (λ (q : Pending). x.request.id.seq < q.request.id.seq) t xs rise.0, rest)
+    go true rest = (Each-filter (λ (q : Pending). x.request.id.seq < q.request.id.seq) t xs rise.0, rest)
     go false rest = rest
 
 -- those that are left still rise

@@ -31,7 +31,7 @@ use Rattle.curp_model.specs.Master.{last_round}
 use Rattle.curp_model.specs.Recovery.{MasterStage, Recovering, RecoveryState, RecoveryPhase, Asking, Storing, Waiting, Replayed, again_in, all_complete, append_answered, appends_whole, both_there, completed_by, fence_answered, log_comes, master_input, master_ordered, next_storing, on_fresh, on_master, on_recover, on_recovering, recovery_ordered, replay, requests_come, serves, stored_comes, turns_away, with_complete}
 use Rattle.curp_facts.specs.Facts.{IsAmong}
 use Rattle.curp_law_keepers.specs.RecoveryEffect.{InputCame, LogCame, PhaseCame, RecoveryEffect, RecoverySays, ReplayCame, RequestsCame, StageCame, StoredCame}
-use Rattle.curp_law_keepers.proofs.Lists.{filter_at}
+use Rattle.curp_base.proofs.Numbered.{filter_at}
 
 module _ (Came : NodeId → Body → Type 0) (n : ℕ) (o : Recover) where
   -- a move of the recovery itself
@@ -174,14 +174,3 @@ module _ (Came : NodeId → Body → Type 0) (n : ℕ) (o : Recover) where
   obeys : (p : RecoveryPhase) → PhaseCame Came o p → (order : Local) → Goes (recovery_ordered n (at p) order)
   obeys p ok local.Sync = again_goes p ok
   obeys p ok _ = rests p ok
-
--- what any input that came does to a recovering master
-pub recovery_effect : (Came : NodeId → Body → Type 0) (n : ℕ) (s : RecoveryState) → PhaseCame Came s.order s.phase → (given : Input) → InputCame Came given → RecoveryEffect Came n s.order (master_input n (Recovering s) given)
-unfolding on_master master_ordered
-recovery_effect Came n s ok (input.Local order) came = obeys Came n s.order s.phase ok order
-recovery_effect Came n s ok (input.Message m) came = hears Came n s.order s.phase ok m.from m.body came
-
--- a fresh master takes its order
-pub recovery_begins : (Came : NodeId → Body → Type 0) (n : ℕ) (o : Recover) → RecoveryEffect Came n o (on_fresh n (body.Recover o))
-unfolding on_recover
-recovery_begins Came n o = record { idle = refl; obeys = refl; stage = (refl, (tt, tt)); says = (record { sender = refl; says_so = (refl, refl) }, (record { sender = refl; says_so = (refl, refl) }, tt)) }

@@ -7,7 +7,7 @@ use Rattle.std.specs.FinMap.Entries.{by_order}
 use Rattle.std.proofs.lemmas.Bool.{cond_both, or_left, or_right}
 use Rattle.std.proofs.lemmas.Bool.Decides.{nat_tests}
 use Rattle.curp_base.specs.Words.{At, Each}
-use Rattle.curp_base.proofs.Lists.{Each-from_at, at_map}
+use Rattle.curp_base.proofs.Lists.{Each-from_at, at_map, at_mapped}
 use Rattle.curp_cmd.specs.RequestId.{id_cmp, same_id}
 use Rattle.curp_cmd.specs.declared.command.Request.{Request}
 use Rattle.curp_cmd.specs.declared.command.RequestId.{RequestId}
@@ -32,8 +32,8 @@ use Rattle.curp_facts.specs.Facts.{IsAmong}
 use Rattle.curp_law_keepers.specs.Brought.{Brings}
 use Rattle.curp_law_keepers.specs.WitnessEffect.{AcceptedSays, ByFreeze, ByStart, GcAnswerSays, HoldsApart, InputSuitsWitness, WitnessAtHome, Stays, SuitsWitness, WitnessAnswers, WitnessEffect, WitnessLife, held_requests}
 use Rattle.curp_law_keepers.proofs.HeldApart.{left_apart, left_from, new_apart, placed_apart, placed_from, suspects_ask}
-use Rattle.curp_law_keepers.proofs.Lists.{at_mapped, filter_at}
 use Rattle.curp_msg.specs.declared.body.Probe.{Probe}
+use Rattle.curp_base.proofs.Numbered.{filter_at}
 
 abbrev has_it : HeldRequest → HeldRequest → Bool
 has_it x y = same_id x.request.id y.request.id
@@ -280,62 +280,3 @@ module _ (n : ℕ) (epoch : ℕ) (Asked : Request → Type 0) (given : Input) (x
   -- what came suits the witness
   suited : (from : NodeId) (b : Body) → Brings given from b → SuitsWitness epoch Asked b
   suited from b brings = subst (InputSuitsWitness epoch Asked) brings.is suits
-
-  asked_still : (q : Request) → IsAmong q (held_requests y) → Asked q
-  asked_still q a = elim (e.held q a) [
-    | inl old ↦ home.asked q old
-    | inr new ↦ subst Asked new.its_request (suited new.from (body.Record new.recorded) new.came)
-  ]
-
-  by_life : WitnessLife given x y → WitnessAtHome epoch Asked y
-  by_life (Stays l) = record { own = λ k is. home.own k (sym l.epoch ∙ is); idle = λ is. l.epoch ∙ home.idle (sym l.mode ∙ is); started = λ is. l.epoch ∙ home.started (sym l.mode ∙ is); asked = asked_still; apart = e.apart home.apart }
-  by_life (ByStart s) =
-      let same : s.start.epoch ≡ epoch = suited s.from (body.Start s.start) s.came in
-      record {
-        own = λ k is. sym (some_same (sym s.epoch ∙ is)) ∙ same;
-        idle = λ is. absurd (serves_idle (sym s.serves ∙ is));
-        started = λ is. s.epoch ∙ ap Some same;
-        asked = asked_still;
-        apart = e.apart home.apart;
-      }
-    where
-      some_same : {a b : ℕ} → Some a ≡ Some b → a ≡ b
-      some_same i = cc
-
-      serves_idle : Normal ≡ Idle → ⊥
-      serves_idle i = cc
-  by_life (ByFreeze f) = record {
-    own = λ k is. home.own k (sym f.epoch ∙ is);
-    idle = λ is. absurd (frozen_idle (sym f.stands ∙ is));
-    started = λ is. absurd (frozen_serves (sym f.stands ∙ is));
-    asked = asked_still;
-    apart = e.apart home.apart;
-  }
-    where
-      frozen_idle : Frozen ≡ Idle → ⊥
-      frozen_idle i = cc
-
-      frozen_serves : Frozen ≡ Normal → ⊥
-      frozen_serves i = cc
-
-  -- a witness at home stays there, where what it is given suits it
-  pub witness_home_kept : WitnessAtHome epoch Asked y
-  witness_home_kept = by_life e.life
-
--- one that accepts is at the epoch of the accept
-pub accepted_epoch : (epoch : ℕ) (Asked : Request → Type 0) (given : Input) (y : WitnessState) (to : NodeId) (a : Accepted) → WitnessAtHome epoch Asked y → AcceptedSays given y to a → a.epoch ≡ epoch
-accepted_epoch epoch Asked given y to a home says = sym (says.own epoch (home.started says.serves))
-
--- one that was never started is at home anywhere
-pub fresh_witness_home : (epoch sets ways : ℕ) (Asked : Request → Type 0) → WitnessAtHome epoch Asked (fresh_witness sets ways)
-unfolding IsDistinct
-fresh_witness_home epoch sets ways Asked = record { own = λ k is. absurd cc; idle = λ is. refl; started = λ is. absurd cc; asked = λ q a. absurd (cc (a.stands)); apart = tt }
-
--- and one that holds nothing yet, in its epoch
-pub started_witness_home : (epoch sets ways : ℕ) (Asked : Request → Type 0) → WitnessAtHome epoch Asked (started_witness sets ways epoch)
-unfolding IsDistinct
-started_witness_home epoch sets ways Asked = record { own = λ k is. sym (cc (is)); idle = λ is. absurd cc; started = λ is. refl; asked = λ q a. absurd (cc (a.stands)); apart = tt }
-
--- what was asked for stays so
-pub witness_home_grows : (epoch : ℕ) (Asked AskedLater : Request → Type 0) (x : WitnessState) → ((q : Request) → Asked q → AskedLater q) → WitnessAtHome epoch Asked x → WitnessAtHome epoch AskedLater x
-witness_home_grows epoch Asked AskedLater x f home = record { own = home.own; idle = home.idle; started = home.started; asked = λ q a. f q (home.asked q a); apart = home.apart }

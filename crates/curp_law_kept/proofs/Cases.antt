@@ -24,7 +24,7 @@ use Rattle.curp_model.specs.Recovery.{MasterStage, master_input}
 use Rattle.curp_model.specs.Witness.{WitnessState, witness_input}
 use Rattle.curp_model.specs.World.{World, delivery, deed_of, effect, events_of, invocation_of, kept, messages, moves_kind, moves_one, result_of, step, steps_by, with_backup, with_client, with_manager, with_master, with_witness}
 use Rattle.curp_facts.specs.Facts.{WasSent}
-use Rattle.curp_facts.specs.Run.{IsStep}
+use Rattle.curp_msg.specs.Script.{IsStep}
 use Rattle.curp_cmd.specs.Store.{NamesKey}
 use Rattle.curp_law_growth.specs.Deeds.{IsFor}
 use Rattle.curp_law_growth.proofs.Deeds.{done_taken}

@@ -43,9 +43,6 @@ pub record ClientMoved (w v : World) (n : ℕ) (given : Input) (c : ClientState)
   pub witnesses : v.witnesses ≡ w.witnesses
 
 module _ {w v : World} (known : Known w) (n : ℕ) (given : Input) (c : ClientState) (moved : ClientMoved w v n given c) where
-  not_of : (k : NodeKind) → kind.Client ≢ k → (client_node n).kind ≢ k
-  not_of k other e = other e
-
   not_manager : manager_node ≢ client_node n
   not_manager e = kinds (ap (λ (x : NodeId). x.kind) e)
     where

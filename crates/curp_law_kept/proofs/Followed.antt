@@ -18,7 +18,7 @@ use Rattle.curp_model.specs.Recovery.{MasterStage, master_input}
 use Rattle.curp_model.specs.Witness.{witness_input}
 use Rattle.curp_model.specs.World.{World, kept, messages, step, with_master}
 use Rattle.curp_facts.specs.Growth.{Grows}
-use Rattle.curp_facts.specs.Run.{IsStep}
+use Rattle.curp_msg.specs.Script.{IsStep}
 use Rattle.curp_law_growth.specs.Deeds.{IsFor}
 use Rattle.curp_base.proofs.Numbered.{numbered_set_same}
 use Rattle.curp_law_growth.proofs.Worlds.{step_grows}
@@ -39,10 +39,10 @@ use Rattle.curp_law_kept.proofs.Steps.{known_step}
 use Rattle.curp_law_kept.proofs.Worlds.{other_item, same_history}
 use Rattle.curp_facts.specs.Names.{Names}
 use Rattle.curp_law_names.proofs.Later.{Later}
-use Rattle.curp_law_names.proofs.Lists.{all_of-kept}
 use Rattle.curp_law_names.proofs.Runs.{step_goes}
 use Rattle.curp_law_names.proofs.Steps.{moved_messages}
 use Rattle.curp_law_stays.proofs.Words.{Follows}
+use Rattle.curp_model.proofs.Batches.{all_of-kept}
 
 apart : {node : NodeId} → (kind.Manager ≡ node.kind → ⊥) → manager_node ≢ node
 apart other e = other (ap (λ (x : NodeId). x.kind) e)

@@ -41,10 +41,6 @@ pub record KeeperMoved (w v : World) (mover : NodeId) (out : List Message) : Typ
   pub clients : v.clients ≡ w.clients
   pub history : v.history ≡ w.history
 
--- a node of one kind has another name than one of another kind
-kinds_apart : {a b : NodeId} → a.kind ≢ b.kind → a ≢ b
-kinds_apart other same = other (ap (λ (x : NodeId). x.kind) same)
-
 -- the names of nodes of one kind differ by their numbers
 named_apart : {node : NodeId} {k : NodeKind} {n : ℕ} → node.kind ≡ k → node.number ≡ n → node ≡ record { kind = k; number = n }
 named_apart {node} {k} {n} p q = ap (λ (x : NodeKind). record { kind = x; number = node.number }) p ∙ ap (λ (x : ℕ). record { kind = k; number = x }) q

@@ -38,13 +38,14 @@ use Rattle.curp_law_kept.proofs.Moved.{messages_say, says_no_more, sent_now}
 use Rattle.curp_facts.specs.Names.{IsOf, Names}
 use Rattle.curp_facts.specs.Fits.{sender_kind}
 use Rattle.curp_law_names.proofs.Later.{Later}
-use Rattle.curp_law_names.proofs.Lists.{among_each, number_within, place as place_of}
+use Rattle.curp_law_names.proofs.Lists.{among_each}
 use Rattle.curp_law_names.proofs.Steps.{manager_moved, moved_messages}
 use Rattle.curp_law_stays.proofs.Entries.{ordered_later}
 use Rattle.curp_law_stays.proofs.Masters.{master_ok_later}
 use Rattle.curp_law_stays.proofs.Nodes.{backup_ok_later, completed_by_later, read_later, witness_ok_later}
 use Rattle.curp_law_stays.proofs.Said.{says_later}
 use Rattle.curp_law_stays.proofs.Words.{Follows, given_later, ready_later, sent_later}
+use Rattle.curp_base.proofs.Numbered.{number_within, place as place_of}
 
 -- what stands among grown nodes was there, or is fresh and wasn't
 grown_cases : {S : Type 0} (xs : List S) (fresh : S) (next n : ℕ) (x : S) → numbered (grown xs fresh next) n ≡ Some x → (numbered xs n ≡ Some x) ⊎ ((fresh ≡ x) × (length xs < n))
@@ -77,10 +78,6 @@ fresh_backup_ok v l = record { installed = λ e some. absurd (no_epoch some); em
 fresh_witness_ok : (v : World) (sets ways : ℕ) → WitnessOk v (fresh_witness sets ways)
 unfolding IsDistinct
 fresh_witness_ok v sets ways = record { started = λ normal. absurd cc; held = tt; apart = tt }
-
--- what is given to the manager is no order to invoke
-pub nothing_invoked : (w : World) (to : NodeId) (given : Input) → to ≡ manager_node → events_of w (Gives to given) ≡ []
-nothing_invoked w to given is = subst (λ (node : NodeId). events_of w (Gives node given) ≡ []) (sym is) refl
 
 module _ {w : World} (known : Known w) (given : Input) (for : IsFor w manager_node given) (adopted : Option Attempted) (events : List Event) (none : events ≡ []) where
   abbrev r : Moved ManagerState

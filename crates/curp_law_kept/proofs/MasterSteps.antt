@@ -19,7 +19,6 @@ use Rattle.curp_facts.specs.Invariant.{Invariant}
 use Rattle.curp_facts.specs.Nodes.{BackupOk, MasterOk, StartedAt, WitnessOk}
 use Rattle.curp_facts.specs.Said.{Says}
 use Rattle.curp_law_growth.specs.Deeds.{IsFor}
-use Rattle.curp_law_kept.proofs.Apart.{either_node}
 use Rattle.curp_facts.specs.Known.{Known}
 use Rattle.curp_law_kept.proofs.Known.{Frame, all_say, clients_stay, completed_stays, given_before, history_stays, present_stays, moving_stays, reads_stay}
 use Rattle.curp_law_kept.proofs.MastersKept.{master_keeps}
@@ -31,6 +30,7 @@ use Rattle.curp_law_names.proofs.Later.{Later}
 use Rattle.curp_law_stays.proofs.Masters.{master_ok_later}
 use Rattle.curp_law_stays.proofs.Nodes.{backup_ok_later, witness_ok_later}
 use Rattle.curp_law_stays.proofs.Words.{Follows, one_state}
+use Rattle.curp_cmd.proofs.Nodes.{either_node}
 
 module _ {w v : World} (known : Known w) where
   -- ---- all together

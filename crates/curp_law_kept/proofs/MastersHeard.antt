@@ -1,7 +1,7 @@
 -- What a message that comes to a master has to say follows from what it says.
 use Rattle.std.proofs.Common.{◌≡◌, inl, inr, ℕ, zero, suc, ◌+◌, ◌<◌, ◌≤◌, List, [], ◌++◌, length, refl, ap, sym, ◌∙◌, subst, arith, Some}
 use Rattle.curp_base.specs.Words.{At, Each, IsPrefix, numbers_from}
-use Rattle.curp_base.proofs.Lists.{Each-at, Each-from_at, prefix_at, prefix_length}
+use Rattle.curp_base.proofs.Lists.{Each-at, Each-from_at, prefix_at, prefix_length, at_mapped}
 use Rattle.curp_cmd.specs.Node.{manager_node, master_node}
 use Rattle.curp_cmd.specs.declared.command.Request.{Request}
 use Rattle.curp_cmd.specs.declared.entry.Entry.{Entry}
@@ -42,7 +42,6 @@ use Rattle.curp_law_logs.proofs.Frozen.{kept_held}
 use Rattle.curp_law_logs.proofs.Logs.{log_prefix}
 use Rattle.curp_law_masters.specs.Moves.{Hears, HearsAnswer, HearsLog, HearsStored, HearsSuspects, RecoveryHears}
 use Rattle.curp_facts.specs.Names.{OrderOk, PrepareOk}
-use Rattle.curp_law_names.proofs.Lists.{at_mapped}
 
 -- a master has one log
 pub one_log : (w : World) (node : NodeId) (x y : Logged) → HasLog w node x → HasLog w node y → x ≡ y

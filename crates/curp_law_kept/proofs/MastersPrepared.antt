@@ -25,12 +25,13 @@ use Rattle.curp_facts.specs.Known.{Known}
 use Rattle.curp_law_kept.proofs.Known.{said}
 use Rattle.curp_law_kept.proofs.MastersHeard.{backup_front, one_log, serving_log}
 use Rattle.curp_law_kept.proofs.MastersMoves.{MasterStep}
-use Rattle.curp_law_kept.proofs.MastersReady.{next_given, no_switch, one_switch, step_follows}
+use Rattle.curp_law_kept.proofs.MastersReady.{next_given, no_switch, step_follows}
 use Rattle.curp_law_kept.proofs.Moved.{at_back, sent_now}
 use Rattle.curp_law_masters.specs.Moves.{AppendSays, Begins, HasAcknowledged, IsSaidBy, ListsMove, Prepares, PreparedSays, ServingMove, ServingSays, Stays, TakesUp}
 use Rattle.curp_law_masters.proofs.Synced.{acknowledged_many}
 use Rattle.curp_law_stays.proofs.Prepared.{prepared_later}
 use Rattle.curp_law_stays.proofs.Words.{Follows, given_later, message_at, one_state}
+use Rattle.curp_law_masters.proofs.Acknowledging.{one_switch}
 
 -- ---- lists
 

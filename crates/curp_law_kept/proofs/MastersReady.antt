@@ -31,10 +31,7 @@ use Rattle.curp_law_masters.proofs.Among.{each_tested, found_among}
 use Rattle.curp_law_masters.proofs.Synced.{acknowledged_many}
 use Rattle.curp_law_names.proofs.Lists.{among_each}
 use Rattle.curp_law_stays.proofs.Words.{Follows, one_state}
-
--- the switch of a phase is one
-pub one_switch : (p : Phase) (s t : Switch) → p ≡ Switching s → p ≡ Switching t → s ≡ t
-one_switch p s t a b = cc
+use Rattle.curp_law_masters.proofs.Acknowledging.{one_switch}
 
 -- who is open doesn't switch
 pub no_switch : {p : Phase} {s : Switch} → p ≡ Open → p ≡ Switching s → ⊥

@@ -124,27 +124,31 @@ module _ {w v : World} (known : Known w) {n : ℕ} {from : NodeId} {heard : Opti
             subst (λ (z : Lists). Each (HasMany v (length r.log)) z.backups) (sym same) many
 
     recovered_says : (x : Recovered) → x.part ≡ t.order.part → x.epoch ≡ t.order.epoch → RecoveredSaid v (master_node n) x
-    recovered_says x part epoch = record {
-      holds = record {
-        order = t.order;
-        sent = ok.ordered;
-        its_epoch = sym epoch;
-        b = replayed.replayed.b;
-        its_backup = record { its_kind = replayed.replayed.its_backup.its_kind; its_state = subst (λ (bs : List BackupState). numbered bs t.order.backup.number ≡ Some replayed.replayed.b) (sym s.backups) replayed.replayed.its_backup.its_state };
-        fenced = omega (arith, epoch, replayed.replayed.fenced);
-        x = replayed.replayed.x;
-        its_witness = record { its_kind = replayed.replayed.its_witness.its_kind; its_state = subst (λ (xs : List WitnessState). numbered xs t.order.witness.number ≡ Some replayed.replayed.x) (sym s.witnesses) replayed.replayed.its_witness.its_state };
-        frozen = replayed.replayed.frozen;
-        on_all = subst (λ (es : List Entry). Each (λ node. (b : BackupState) → IsBackup v node b → IsPrefix es b.log) t.order.backups) replayed.replayed.is fronts;
-      };
-      its_part = sym part;
-      front = r.log;
-      is_replay = replayed.replayed.is;
-      l = record { log = r.log; round = r.round };
-      its_log = its_log;
-      began = prefix_self r.log;
-      reach = reach;
-    }
+    recovered_says x part epoch =
+        let from = replayed.replayed.sources in
+        record {
+          holds = record {
+            order = t.order;
+            sent = ok.ordered;
+            its_epoch = sym epoch;
+            sources = record {
+              b = from.b;
+              its_backup = record { its_kind = from.its_backup.its_kind; its_state = subst (λ (bs : List BackupState). numbered bs t.order.backup.number ≡ Some from.b) (sym s.backups) from.its_backup.its_state };
+              fenced = omega (arith, epoch, from.fenced);
+              x = from.x;
+              its_witness = record { its_kind = from.its_witness.its_kind; its_state = subst (λ (xs : List WitnessState). numbered xs t.order.witness.number ≡ Some from.x) (sym s.witnesses) from.its_witness.its_state };
+              frozen = from.frozen;
+            };
+            on_all = subst (λ (es : List Entry). Each (λ node. (b : BackupState) → IsBackup v node b → IsPrefix es b.log) t.order.backups) replayed.replayed.is fronts;
+          };
+          its_part = sym part;
+          front = r.log;
+          is_replay = replayed.replayed.is;
+          l = record { log = r.log; round = r.round };
+          its_log = its_log;
+          began = prefix_self r.log;
+          reach = reach;
+        }
 
   recovered_by : (x : Recovered) → RecoverySays w t manager_node (body.Recovered x) → RecoveredSaid v (master_node n) x
   recovered_by x k = go t.phase refl stage k.3

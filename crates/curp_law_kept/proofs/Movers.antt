@@ -23,8 +23,8 @@ use Rattle.curp_law_kept.proofs.Cases.{ByBackup, ByClient, ByManager, ByMaster, 
 use Rattle.curp_law_kept.proofs.Clients.{client_messages}
 use Rattle.curp_facts.specs.Known.{Known}
 use Rattle.curp_law_kept.proofs.MastersMoves.{heard_in, input_moves, speaker, stage_from}
-use Rattle.curp_law_names.proofs.Lists.{all_of-kept}
 use Rattle.curp_law_names.proofs.Steps.{manager_moved}
+use Rattle.curp_model.proofs.Batches.{all_of-kept}
 
 -- one node that isn't the manager has said this more
 pub record OtherSpoke (w v : World) : Type 0 where

@@ -3,7 +3,7 @@ use Rattle.std.proofs.Common.{replicate, ◌≡◌, inl, ℕ, zero, suc, ◌*◌
 use Rattle.std.specs.List.{IsDistinct}
 use Rattle.std.proofs.lemmas.List.{length-replicate}
 use Rattle.curp_base.specs.Words.{At, Each, numbered, numbers_from}
-use Rattle.curp_base.proofs.Lists.{at_map, at_replicate, at_replicated, Each-map}
+use Rattle.curp_base.proofs.Lists.{at_map, at_replicate, at_replicated, Each-map, at_mapped}
 use Rattle.curp_cmd.specs.Node.{master_node}
 use Rattle.curp_cmd.specs.declared.node.NodeId.{NodeId}
 use Rattle.curp_cmd.specs.declared.node.NodeKind.{NodeKind}
@@ -23,11 +23,12 @@ use Rattle.curp_facts.specs.Facts.{AtOpening, ByRecovery, ByReplacement, EntryWa
 use Rattle.curp_facts.specs.Invariant.{Invariant, MovingOk, PresentOk}
 use Rattle.curp_facts.specs.Nodes.{BackupOk, ClientOk, MasterOk, StartedAt, WitnessOk}
 use Rattle.curp_facts.specs.Reach.{HasStored}
-use Rattle.curp_facts.specs.Run.{IsHeader}
+use Rattle.curp_msg.specs.Script.{IsHeader}
 use Rattle.curp_law_keepers.proofs.ClientLater.{fresh_knows, fresh_numbers, no_history}
 use Rattle.curp_facts.specs.Names.{IsOf}
-use Rattle.curp_law_names.proofs.Lists.{among_each, at_mapped, each_among, numbers_back, place as place_of}
+use Rattle.curp_law_names.proofs.Lists.{among_each, each_among}
 use Rattle.curp_law_names.proofs.Opened.{opening_names}
+use Rattle.curp_base.proofs.Numbered.{numbers_back, place as place_of}
 
 master_named : (node : NodeId) (n : ℕ) → node.kind ≡ kind.Master → n ≡ node.number → master_node n ≡ node
 master_named node n its_kind number = ap master_node number ∙ ap (λ (k : NodeKind). record { kind = k; number = node.number }) (sym its_kind)

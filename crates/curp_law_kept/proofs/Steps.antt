@@ -27,7 +27,7 @@ use Rattle.curp_model.specs.Witness.{WitnessState, witness_input}
 use Rattle.curp_model.specs.World.{World, deed_of, delivery, effect, events_of, invocation_of, kept, messages, moves_kind, moves_one, opening, result_of, run, step, steps_by, with_client, with_backup, with_master, with_witness, world}
 use Rattle.curp_facts.specs.Growth.{Grows}
 use Rattle.curp_facts.specs.Invariant.{Invariant}
-use Rattle.curp_facts.specs.Run.{IsHeader, IsRun, IsStep}
+use Rattle.curp_msg.specs.Script.{IsHeader, IsRun, IsStep}
 use Rattle.curp_law_growth.specs.Deeds.{IsFor}
 use Rattle.curp_law_growth.proofs.Deeds.{done_taken}
 use Rattle.curp_facts.specs.Facts.{WasSent}
@@ -43,10 +43,10 @@ use Rattle.curp_law_kept.proofs.Opened.{opening_keeps}
 use Rattle.curp_law_kept.proofs.Worlds.{backup_world, client_world, other_item, same_history, witness_world}
 use Rattle.curp_facts.specs.Names.{Names}
 use Rattle.curp_law_names.proofs.Later.{Later}
-use Rattle.curp_law_names.proofs.Lists.{all_of-kept}
 use Rattle.curp_law_names.proofs.Opened.{opening_names, opening_nodes}
 use Rattle.curp_law_names.proofs.Others.{Both}
 use Rattle.curp_law_names.proofs.Runs.{step_goes}
+use Rattle.curp_model.proofs.Batches.{all_of-kept}
 
 -- an order to invoke comes to clients alone
 abbrev pub Suits : NodeKind → Input → Type 0

@@ -20,7 +20,7 @@ use Rattle.curp_law_kept.proofs.ClientSteps.{client_step}
 use Rattle.curp_law_kept.proofs.KeeperSteps.{backup_step, witness_step}
 use Rattle.curp_facts.specs.Known.{Known}
 use Rattle.curp_law_names.proofs.Later.{Later}
-use Rattle.curp_law_names.proofs.Lists.{all_of-kept}
+use Rattle.curp_model.proofs.Batches.{all_of-kept}
 
 -- where nothing is invoked and nothing completes, the history stays
 pub same_history : (history events : List Event) (done : Option Completed) → events ≡ [] → done ≡ None → (history ++ events) ++ completion done ≡ history

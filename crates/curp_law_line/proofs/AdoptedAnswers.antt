@@ -22,11 +22,13 @@ use Rattle.curp_law_line.specs.Moves.{ops}
 use Rattle.curp_law_line.proofs.AdoptedMarks.{asked_all}
 use Rattle.curp_law_line.proofs.AdoptedOrder.{after_line, again_distinct, again_once, at_goes, at_hash, at_stays, completed_done, cut_at, cut_line, done_completed, gone_by_test, kept_done, no_give, no_take, replayed_goes, replayed_held, test_gone, was_distinct, was_distinct_on}
 use Rattle.curp_law_line.proofs.Adopting.{Adopting, again, cut_part, done, gone, is_gone, keeps_on, new_part, not_done, order_now, order_was, parts_now, replayed}
-use Rattle.curp_law_line.proofs.Hashes.{came_append, came_stays, key_touches}
+use Rattle.curp_law_line.proofs.Hashes.{key_touches}
 use Rattle.curp_law_line.proofs.Lists.{Distinct, distinct_filter, distinct_places, from_filter, in_cases, in_filter, in_left, in_right, only_one}
 use Rattle.curp_base.proofs.Numbered.{numbered_set_cases}
 use Rattle.curp_law_line.proofs.Orders.{Split, answered_is, answered_there, distinct_append, front_at, front_of, same_fronts, split_in}
-use Rattle.curp_law_line.proofs.Requests.{asked_all_in, asked_of_in, first_on, in_asked_all, op_in_ops}
+use Rattle.curp_law_line.proofs.Requests.{asked_all_in, asked_of_in, first_on, in_asked_all}
+use Rattle.curp_model.proofs.Replays.{op_in_ops}
+use Rattle.curp_law_logs.proofs.Behind.{came_from_append, came_kept}
 
 module _ (it : Adopting) where
   -- ---- no request stands twice
@@ -109,7 +111,7 @@ module _ (it : Adopting) where
           let X : List Asked = here.past ++ behind h it.move.stays in
           let line : on h (order_now it) ≡ X ++ x ∷ [] = after_line it h X (cut_line it h here none (no_take it h own)) ∙ ap (λ w. X ++ w) (again_alone h x (on_it h t)) in
           let front : on h is.front ≡ X = front_at h (order_now it) X [] x t (now_distinct_on h) line is in
-          let came_P : (other : List ℕ) → came h other it.move.p.log ≡ came h other it.move.stays = λ other. ap (came h other) it.fits.is ∙ came_append h other None it.move.stays it.move.goes ∙ came_stays h other (came h other it.move.stays) it.move.goes none in
+          let came_P : (other : List ℕ) → came h other it.move.p.log ≡ came h other it.move.stays = λ other. ap (came h other) it.fits.is ∙ came_from_append h other None it.move.stays it.move.goes ∙ came_kept h other (came h other it.move.stays) it.move.goes none in
           it.pure.value_local key is.front ∙ ap (value key) front ∙ sym (it.ground.its_value h own key refl here.past (λ other same. here.values other same ∙ came_P other))
 
   -- an op that stood elsewhere doesn't go

@@ -1,5 +1,6 @@
 -- An adoption keeps the order's equation, at its own partition and at others.
 use Rattle.std.proofs.Common.{◌≡◌, ◌≢◌, ℕ, ◌||◌, ◌&&◌, inl, inr, ◌⊎◌, Bool, true, false, cond, List, [], ◌++◌, Option, Some, None, refl, ap, sym, ◌∙◌, subst, append-nil, append_assoc}
+use Rattle.std.proofs.Math.Bool.{or-false}
 use Rattle.std.specs.List.{list_any}
 use Rattle.std.proofs.lemmas.Bool.{and_from, and_parts, cases_Bool, cases_eq, or_cases, or_left, or_parts, or_right}
 use Rattle.std.proofs.lemmas.List.Folds.{list_any-append}
@@ -12,13 +13,14 @@ use Rattle.curp_law_line.specs.Hashes.{HashOk, HashesOk, Part, given_on, has_tak
 use Rattle.curp_law_line.specs.Moves.{ops}
 use Rattle.curp_law_line.proofs.AdoptedOrder.{after_line, at_hash, cut_line, gone_on, line_is, no_give, no_take, own_after, owns_new, replayed_on, take_new, take_where}
 use Rattle.curp_law_line.proofs.Adopting.{Adopting, again, cut_part, gone, new_part, order_now, order_was, parts_now, replayed}
-use Rattle.curp_law_line.proofs.Hashes.{behind_append, came_append, came_stays, no_onward}
+use Rattle.curp_law_line.proofs.Hashes.{no_onward}
 use Rattle.curp_law_line.proofs.Known.{stays_known}
 use Rattle.curp_law_line.proofs.Lines.{has_moving, onward_given, split_append}
-use Rattle.curp_law_line.proofs.Lists.{empty_list, or_false, some_or_none}
+use Rattle.curp_law_line.proofs.Lists.{empty_list, some_or_none}
 use Rattle.curp_base.proofs.Numbered.{numbered_set_cases, numbered_set_other}
 use Rattle.curp_law_line.proofs.Orders.{behind_asked}
 use Rattle.curp_law_line.proofs.Requests.{asked_of_ops, ops_any}
+use Rattle.curp_law_logs.proofs.Behind.{behind_from_append, came_from_append, came_kept}
 
 module _ (it : Adopting) where
   -- ---- the equation afterwards
@@ -42,11 +44,11 @@ module _ (it : Adopting) where
 
   -- what stands behind the last give is what stayed there, and what is replayed
   pub behind_new : (h : ℕ) → behind h (new_part it).log ≡ behind h it.move.stays ++ on h (again it)
-  behind_new h = behind_append h [] it.move.stays (ops (replayed it)) ∙ behind_asked h (behind h it.move.stays) (ops (replayed it)) (no_new_give h) ∙ ap (λ w. behind h it.move.stays ++ on h w) (asked_of_ops (replayed it))
+  behind_new h = behind_from_append h [] it.move.stays (ops (replayed it)) ∙ behind_asked h (behind h it.move.stays) (ops (replayed it)) (no_new_give h) ∙ ap (λ w. behind h it.move.stays ++ on h w) (asked_of_ops (replayed it))
 
   -- the gives afterwards are those that stay
   pub give_new : (number : ℕ) → list_any (is_give number) (new_part it).log ≡ list_any (is_give number) it.move.stays
-  give_new number = list_any-append (is_give number) it.move.stays (ops (replayed it)) ∙ ap (λ (b : Bool). list_any (is_give number) it.move.stays || b) (ops_any (is_give number) (λ r. refl) (replayed it)) ∙ or_false _
+  give_new number = list_any-append (is_give number) it.move.stays (ops (replayed it)) ∙ ap (λ (b : Bool). list_any (is_give number) it.move.stays || b) (ops_any (is_give number) (λ r. refl) (replayed it)) ∙ or-false _
 
   -- a give of the log stays or goes
   pub give_old : (number : ℕ) → list_any (is_give number) it.move.p.log ≡ (list_any (is_give number) it.move.stays || list_any (is_give number) it.move.goes)
@@ -177,7 +179,7 @@ module _ (it : Adopting) where
   -- what came with the last give stays
   pub came_same : (h : ℕ) (key : List ℕ) → NoGive h it.move.goes → came h key (new_part it).log ≡ came h key it.move.p.log
   came_same h key none =
-      came_append h key None it.move.stays (ops (replayed it)) ∙ came_stays h key (came h key it.move.stays) (ops (replayed it)) (no_new_give h) ∙ sym (ap (came h key) it.fits.is ∙ came_append h key None it.move.stays it.move.goes ∙ came_stays h key (came h key it.move.stays) it.move.goes none)
+      came_from_append h key None it.move.stays (ops (replayed it)) ∙ came_kept h key (came h key it.move.stays) (ops (replayed it)) (no_new_give h) ∙ sym (ap (came h key) it.fits.is ∙ came_from_append h key None it.move.stays it.move.goes ∙ came_kept h key (came h key it.move.stays) it.move.goes none)
 
   -- the equation at its own partition
   pub own_hash : (h : ℕ) → holds it.line.moving (new_part it) h ≡ true → HashOk it.line.moving (parts_now it) (order_now it) (new_part it) h

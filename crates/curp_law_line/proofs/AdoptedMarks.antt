@@ -147,13 +147,6 @@ fresh_no_flag master part epoch cut rs marks k m h = elim (fresh_mark_at master 
   | inr n ↦ ap (λ (y : Mark). y.completed) n.3
 ]
 
--- nor a quick mark
-pub fresh_no_quick : (master : NodeId) (part epoch cut : ℕ) (rs : List Request) (marks : List Mark) (k : ℕ) (m : Mark) → At (fresh_of master part epoch cut rs marks) k m → (number : ℕ) → m.place ≡ Quick number → ⊥
-fresh_no_quick master part epoch cut rs marks k m h number look = elim (fresh_mark_at master part epoch cut rs marks k m h) [
-  | inl c ↦ let e : Cut (adoptions part marks + 1) cut ≡ Quick number = ap (λ (y : Mark). y.place) c.1 ∙ look in cc
-  | inr n ↦ let e : Executed (cut + n.0) ≡ Quick number = sym (ap (λ (y : Mark). y.place) n.3) ∙ look in cc
-]
-
 -- a filter of marks, as one of the order
 pub filter_updates : (q : Mark → Bool) (keep : Asked → Bool) (marks : List Mark) → ((m : Mark) → In m marks → is_update_mark m.place ≡ true → q m ≡ keep (asked m)) → updates (filter q marks) ≡ filter keep (updates marks)
 filter_updates q keep [] f = refl

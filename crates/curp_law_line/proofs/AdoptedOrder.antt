@@ -1,5 +1,6 @@
 -- An adoption at one hash: the order is what stood before the cut, and behind it first what goes and then what is replayed.
 use Rattle.std.proofs.Common.{◌≡◌, ℕ, ◌+◌, ◌||◌, ◌&&◌, inl, inr, ◌⊎◌, Bool, true, false, not, List, [], ◌++◌, length, Option, Some, None, refl, ap, sym, ◌∙◌, subst, arith, append-nil, append_assoc}
+use Rattle.std.proofs.Math.Bool.{or-false}
 use Rattle.std.specs.List.{IsDistinct, filter, list_any}
 use Rattle.std.proofs.lemmas.Bool.{and_from, and_parts, cases_Bool, or_cases, or_right}
 use Rattle.std.proofs.lemmas.List.Elements.{filter-append}
@@ -30,14 +31,16 @@ use Rattle.curp_law_line.specs.Moves.{ops}
 use Rattle.curp_law_line.proofs.AdoptedMarks.{stays}
 use Rattle.curp_law_line.proofs.Adopting.{Adopting, Fronts, again, cut_part, done, gone, is_done, is_gone, keeps_on, new_part, not_done, order_now, order_was, parts_now, replayed}
 use Rattle.curp_law_line.proofs.Entries.{take_ungiven}
-use Rattle.curp_law_line.proofs.Hashes.{behind_append, behind_in, no_onward, on_append, update_mark, update_no_cut, update_place}
+use Rattle.curp_law_line.proofs.Hashes.{behind_in, no_onward, update_mark, update_no_cut, update_place}
 use Rattle.curp_law_line.proofs.Lines.{has_moving}
-use Rattle.curp_law_line.proofs.Lists.{Distinct, distinct_filter, distinct_from, filter_alike, filter_full, filter_swap, from_filter, in_any, in_cases, in_filter, in_left, in_none, or_false, same_id-alike, some_or_none}
+use Rattle.curp_law_line.proofs.Lists.{Distinct, distinct_filter, distinct_from, filter_alike, filter_full, filter_swap, from_filter, in_any, in_cases, in_filter, in_left, in_none, same_id-alike, some_or_none}
 use Rattle.curp_base.proofs.Numbered.{any_at, filter_at, numbered_set_same}
 use Rattle.curp_law_line.proofs.Ops.{one_command}
 use Rattle.curp_law_line.proofs.Orders.{behind_asked, core, distinct_split}
 use Rattle.curp_law_line.proofs.Requests.{asked_all_in, asked_of_in, distinct_asked_all, distinct_asked_of, in_asked_all, one_on, ops_any, owned_ops}
 use Rattle.curp_law_line.proofs.Takes.{onward_ungiven}
+use Rattle.curp_law_logs.proofs.Values.{on_append}
+use Rattle.curp_law_logs.proofs.Behind.{behind_from_append}
 
 module _ (it : Adopting) where
   -- ---- what goes
@@ -180,7 +183,7 @@ module _ (it : Adopting) where
       go : (mv : Option Migration) → has_take mv h (new_part it).log ≡ has_take mv h it.move.stays
       go None = refl
       go (Some m) =
-          ap (λ (b : Bool). is_in m.range.lo m.range.hi h && b) (list_any-append (is_take m.number) it.move.stays (ops (replayed it)) ∙ ap (λ (b : Bool). list_any (is_take m.number) it.move.stays || b) (ops_any (is_take m.number) (λ r. refl) (replayed it)) ∙ or_false (list_any (is_take m.number) it.move.stays))
+          ap (λ (b : Bool). is_in m.range.lo m.range.hi h && b) (list_any-append (is_take m.number) it.move.stays (ops (replayed it)) ∙ ap (λ (b : Bool). list_any (is_take m.number) it.move.stays || b) (ops_any (is_take m.number) (λ r. refl) (replayed it)) ∙ or-false (list_any (is_take m.number) it.move.stays))
 
   -- what is replayed changes nothing of what is owned
   pub owns_new : (h : ℕ) → owns (new_part it) h ≡ owns (cut_part it.move) h
@@ -198,7 +201,7 @@ module _ (it : Adopting) where
 
   -- what stands behind the last give: what stays of it, and what goes
   pub line_is : (h : ℕ) → NoGive h it.move.goes → behind h it.move.p.log ≡ behind h it.move.stays ++ on h (gone it)
-  line_is h none = ap (behind h) it.fits.is ∙ behind_append h [] it.move.stays it.move.goes ∙ behind_asked h (behind h it.move.stays) it.move.goes none
+  line_is h none = ap (behind h) it.fits.is ∙ behind_from_append h [] it.move.stays it.move.goes ∙ behind_asked h (behind h it.move.stays) it.move.goes none
 
   -- the equation before the adoption
   pub at_hash : (h : ℕ) → holds it.line.moving it.move.p h ≡ true → HashOk it.line.moving it.line.parts (order_was it) it.move.p h
@@ -307,7 +310,7 @@ module _ (it : Adopting) where
           ]
 
       behind_front : (x : Asked) → In x (on h (gone it)) → keeps_on it x ≡ done it x.0
-      behind_front x m = let f = from_filter (λ (z : Asked). touches z.1 h) (gone it) x m in ap (λ (b : Bool). done it x.0 || not b) (test_gone x f.0) ∙ or_false (done it x.0)
+      behind_front x m = let f = from_filter (λ (z : Asked). touches z.1 h) (gone it) x m in ap (λ (b : Bool). done it x.0 || not b) (test_gone x f.0) ∙ or-false (done it x.0)
 
       kept_part : on h (filter (keeps_on it) (order_was it)) ≡ X ++ filter (is_done it) (on h (gone it))
       kept_part =

@@ -1,5 +1,6 @@
 -- Who owns a hash after an adoption; and what is replayed is answered as it would be alone.
 use Rattle.std.proofs.Common.{◌≡◌, ◌≢◌, ℕ, ◌+◌, ◌||◌, inl, inr, ◌⊎◌, Bool, true, false, List, [], ◌∷◌, ◌++◌, take, length, Option, Some, refl, ap, sym, ◌∙◌, subst, arith}
+use Rattle.std.proofs.Math.Bool.{or-false}
 use Rattle.std.specs.List.{AllByRecursion, IsDistinct, list_any}
 use Rattle.std.proofs.lemmas.Bool.{and_from, and_parts, cases_Bool, eq-eqb, or_cases, or_left, or_right}
 use Rattle.std.proofs.lemmas.List.Folds.{list_any-append}
@@ -24,7 +25,7 @@ use Rattle.curp_law_line.specs.Moves.{Adopt, AdoptFits, OnlyMoving, ops, relogge
 use Rattle.curp_law_line.proofs.Entries.{take_entry}
 use Rattle.curp_law_line.proofs.Given.{TakesOnce}
 use Rattle.curp_law_line.proofs.Lines.{has_moving}
-use Rattle.curp_law_line.proofs.Lists.{in_any, or_false, some_same}
+use Rattle.curp_law_line.proofs.Lists.{in_any, some_same}
 use Rattle.curp_base.proofs.Numbered.{any_at, numbered_set_cases}
 use Rattle.curp_law_line.proofs.Requests.{ops_any, owned_ops}
 use Rattle.curp_law_line.proofs.Spans.{owned_after, takes}
@@ -50,7 +51,7 @@ module _ (s : Line) (ok : Owned s.moving s.parts) (o : Adopt) (fits : AdoptFits 
   after = relogged s.parts o.part o.p (o.stays ++ ops (replayed_of o))
 
   any_new : (q : Entry → Bool) → ((r : Request) → q (Op r 0) ≡ false) → list_any q new.log ≡ list_any q P
-  any_new q none = list_any-append q P (ops Q) ∙ ap (λ (b : Bool). list_any q P || b) (ops_any q none Q) ∙ or_false _
+  any_new q none = list_any-append q P (ops Q) ∙ ap (λ (b : Bool). list_any q P || b) (ops_any q none Q) ∙ or-false _
 
   any_old : (q : Entry → Bool) → list_any q p.log ≡ (list_any q P || list_any q T)
   any_old q = ap (list_any q) fits.is ∙ list_any-append q P T

@@ -18,10 +18,10 @@ use Rattle.curp_law_logs.specs.Hashes.{Asked, In, NoGive, behind, behind_from, c
 use Rattle.curp_law_line.specs.Hashes.{HashOk, Part, has_take, holds, is_take, onward, owns, state_of}
 use Rattle.curp_law_line.specs.Line.{Line, OrderOk}
 use Rattle.curp_law_line.proofs.Given.{LogValue}
-use Rattle.curp_law_line.proofs.Hashes.{behind_append, came_append, came_stays}
 use Rattle.curp_law_line.proofs.Lists.{in_any, in_head, in_right}
 use Rattle.curp_law_line.proofs.Takes.{onward_ungiven}
 use Rattle.curp_law_line.specs.Moves.{IsCarried}
+use Rattle.curp_law_logs.proofs.Behind.{behind_from_append, came_from_append, came_kept}
 
 -- what a package has of a key of its range
 pub packed_value : (s : LogState) (lo hi : ℕ) (ordered : lo ≤ hi) (key : List ℕ) → is_in lo hi (hash_of key) ≡ true → find (slice_cmp nat_cmp) key (package_of s lo hi ordered).pairs ≡ store.get s.store key
@@ -67,11 +67,11 @@ module _ (s : Line) (ok : OrderOk s) (m : Migration) (in_work : s.moving ≡ Som
   at_source = ok.hashes m.source way.source way.its_source h source_holds
 
   source_behind : behind h way.source.log ≡ behind h way.before
-  source_behind = ap (behind h) way.taken ∙ behind_append h [] way.before (Take m.number carried ∷ way.after) ∙ quiet_behind h (behind h way.before) way.after (way.quiet h inside)
+  source_behind = ap (behind h) way.taken ∙ behind_from_append h [] way.before (Take m.number carried ∷ way.after) ∙ quiet_behind h (behind h way.before) way.after (way.quiet h inside)
 
   source_came : (key : List ℕ) → came h key way.source.log ≡ came h key way.before
   source_came key =
-      ap (came h key) way.taken ∙ came_append h key None way.before (Take m.number carried ∷ way.after) ∙ came_stays h key (came h key way.before) way.after (quiet_gives h way.after (way.quiet h inside))
+      ap (came h key) way.taken ∙ came_from_append h key None way.before (Take m.number carried ∷ way.after) ∙ came_kept h key (came h key way.before) way.after (quiet_gives h way.after (way.quiet h inside))
 
   -- the order at the hash is what the source has before its take
   pub carried_line : on h (updates s.marks) ≡ at_source.past ++ behind h way.before

@@ -3,7 +3,7 @@ use Rattle.std.proofs.Common.{◌≡◌, ◌⊎◌, ◌||◌, ◌&&◌, ℕ, zer
 use Rattle.std.specs.List.{filter}
 use Rattle.std.proofs.lemmas.Bool.{and_from, and_parts, cases_Bool, or_right}
 use Rattle.curp_base.specs.Words.{At, Each, numbered}
-use Rattle.curp_base.proofs.Lists.{Each-at, at_append, at_map, at_push, at_push_cases, at_same, at_within}
+use Rattle.curp_base.proofs.Lists.{Each-at, at_append, at_map, at_push, at_push_cases, at_same, at_within, at_mapped}
 use Rattle.curp_cmd.specs.RequestId.{same_id}
 use Rattle.curp_cmd.specs.Store.{is_update}
 use Rattle.curp_cmd.specs.declared.command.Answer.{Answer}
@@ -22,7 +22,7 @@ use Rattle.curp_law_line.specs.Line.{Answered, AnswersOk, DistinctOk, EarlyAt, F
 use Rattle.curp_law_line.specs.Moves.{CompleteFits, FlagFits, completing, flagging}
 use Rattle.curp_law_line.proofs.Hashes.{timed_no_cut, update_mark, update_no_cut, update_timed}
 use Rattle.curp_law_line.proofs.Invocations.{completed_grows, invoked_grows}
-use Rattle.curp_law_line.proofs.Lists.{Distinct, distinct_from, in_filter, in_map, same_id-alike}
+use Rattle.curp_law_line.proofs.Lists.{Distinct, distinct_from, in_filter, same_id-alike}
 use Rattle.curp_law_line.proofs.Ops.{one_command}
 
 -- what a completion flags is no adoption's mark
@@ -83,7 +83,7 @@ pub record Flagging (c : Completed) (old : List Mark) (k : ℕ) (m : Mark) : Typ
 -- each mark afterwards was one before
 pub flagging_at : (c : Completed) (marks : List Mark) (k : ℕ) (m : Mark) → At (flagged c marks) k m → Flagging c marks k m
 flagging_at c marks k m h =
-    let w = in_map (λ (o : Mark). cond (is_flagged c c.by o) (record o { completed = true }) o) marks k m h in
+    let w = at_mapped (λ (o : Mark). cond (is_flagged c c.by o) (record o { completed = true }) o) marks k m h in
     elim (cases_Bool (is_flagged c c.by w.0)) [
       | inl y ↦ subst (Flagging c marks k) (sym (ap (λ (b : Bool). cond b (record w.0 { completed = true }) w.0) y) ∙ w.2)
           (record { was = w.0; stood = w.1; id = refl; command = refl; place = refl; part = refl; flag = inl (y, refl) })

@@ -12,9 +12,10 @@ use Rattle.curp_law_logs.specs.Hashes.{Asked, asked, behind, updates}
 use Rattle.curp_law_line.specs.Hashes.{HashOk, HashesOk, Part, holds, is_give, is_take, onward}
 use Rattle.curp_law_line.specs.Line.{AnswersOk, DistinctOk, InTimeOk, InvokedOk, KindsOk, Line, MarkedOk, OrderOk, ReadsOk, WasInvoked}
 use Rattle.curp_law_line.specs.Moves.{Look, LookFits, PushExpire, PushExpireFits, expire_pushed, looking, pushed, quickly}
-use Rattle.curp_law_line.proofs.Hashes.{any_push, behind_append, came_append, has_take_push, owned_expire, updates_append}
+use Rattle.curp_law_line.proofs.Hashes.{any_push, has_take_push, owned_expire, updates_append}
 use Rattle.curp_law_line.proofs.Lines.{known_push, onward_log, onward_same}
 use Rattle.curp_law_line.proofs.Pushes as pushes
+use Rattle.curp_law_logs.proofs.Behind.{behind_from_append, came_from_append}
 
 module _ (s : Line) (ok : OrderOk s) (o : PushExpire) (fits : PushExpireFits s o) where
   abbrev p : Part
@@ -33,7 +34,7 @@ module _ (s : Line) (ok : OrderOk s) (o : PushExpire) (fits : PushExpireFits s o
   no_op r a is = absurd cc
 
   behind_same : (h : ℕ) → behind h longer.log ≡ behind h p.log
-  behind_same h = behind_append h [] p.log (e ∷ [])
+  behind_same h = behind_from_append h [] p.log (e ∷ [])
 
   onward_alike : (h : ℕ) (log : List Entry) → onward s.moving after log h ≡ onward s.moving s.parts log h
   onward_alike h log = onward_same s.parts o.part p e fits.here h (behind_same h) (λ number. any_push (is_give number) p.log e refl) s.moving log
@@ -49,7 +50,7 @@ module _ (s : Line) (ok : OrderOk s) (o : PushExpire) (fits : PushExpireFits s o
       record {
         past = here.past;
         alike = here.alike ∙ (λ i. here.past ++ (sym (behind_same h) i ++ sym more i));
-        values = λ key k. here.values key k ∙ sym (came_append h key None p.log (e ∷ []));
+        values = λ key k. here.values key k ∙ sym (came_from_append h key None p.log (e ∷ []));
         known = λ y m. known_push p.lo p.hi h p.log e y.0 (here.known y m);
       }
 

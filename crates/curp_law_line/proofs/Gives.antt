@@ -22,12 +22,13 @@ use Rattle.curp_law_line.specs.Line.{Line, OrderOk}
 use Rattle.curp_law_line.specs.Moves.{PushGive, PushGiveFits, give_pushed, pushed}
 use Rattle.curp_law_line.proofs.Carried.{at_source, carried_line, carried_value, quiet_gives}
 use Rattle.curp_law_line.proofs.Given.{LogValue, Pure}
-use Rattle.curp_law_line.proofs.Hashes.{behind_append, behind_in, came_append}
+use Rattle.curp_law_line.proofs.Hashes.{behind_in}
 use Rattle.curp_law_line.proofs.Lines.{known_push, split_push}
 use Rattle.curp_law_line.proofs.Lists.{in_any, in_cases, in_head, in_none, in_right}
 use Rattle.curp_law_line.proofs.Pushes as pushes
 use Rattle.curp_law_line.proofs.Spans.{owned_give}
 use Rattle.curp_law_line.proofs.Takes.{onward_ungiven}
+use Rattle.curp_law_logs.proofs.Behind.{behind_from_append, came_from_append}
 
 module _ (pure : Pure) (s : Line) (ok : OrderOk s) (o : PushGive) (fits : PushGiveFits s o) (its_value : LogValue (record fits.way.source { log = fits.way.before })) where
   abbrev p : Part
@@ -59,10 +60,10 @@ module _ (pure : Pure) (s : Line) (ok : OrderOk s) (o : PushGive) (fits : PushGi
 
   -- the give's range at the target
   behind_now : (h : ℕ) → behind h longer.log ≡ (if is_in o.m.range.lo o.m.range.hi h then [] else behind h p.log)
-  behind_now h = behind_append h [] p.log (e ∷ []) ∙ ap (λ (b : Bool). cond b [] (behind h p.log)) (brought_is h)
+  behind_now h = behind_from_append h [] p.log (e ∷ []) ∙ ap (λ (b : Bool). cond b [] (behind h p.log)) (brought_is h)
 
   came_now : (h : ℕ) (key : List ℕ) → came h key longer.log ≡ (if is_in o.m.range.lo o.m.range.hi h then find (slice_cmp nat_cmp) key o.brought.pairs else came h key p.log)
-  came_now h key = came_append h key None p.log (e ∷ []) ∙ ap (λ (b : Bool). cond b (find (slice_cmp nat_cmp) key o.brought.pairs) (came h key p.log)) (brought_is h)
+  came_now h key = came_from_append h key None p.log (e ∷ []) ∙ ap (λ (b : Bool). cond b (find (slice_cmp nat_cmp) key o.brought.pairs) (came h key p.log)) (brought_is h)
 
   gives_now : list_any (is_give o.m.number) longer.log ≡ true
   gives_now = in_any (is_give o.m.number) longer.log e (in_right p.log (e ∷ []) e (in_head e [])) (eq-eqb o.m.number o.m.number refl)

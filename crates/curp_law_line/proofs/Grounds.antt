@@ -23,13 +23,14 @@ use Rattle.curp_law_line.specs.Moves.{Adopt, AdoptFits, OnlyMoving, ops, relogge
 use Rattle.curp_law_line.proofs.Adopting.{AdoptGround, cut_part}
 use Rattle.curp_law_line.proofs.Entries.{give_entry, give_of, take_of}
 use Rattle.curp_law_line.proofs.Given.{GivesOnce, LogValue}
-use Rattle.curp_law_line.proofs.Hashes.{behind_append, on_append}
 use Rattle.curp_law_line.proofs.Lists.{empty_list, from_filter, in_any, some_same}
 use Rattle.curp_base.proofs.Numbered.{any_at, filter_at, numbered_set_same}
 use Rattle.curp_law_line.proofs.Orders.{asked_of, behind_asked}
 use Rattle.curp_law_line.proofs.Owning.{op_owned, owns_touched}
 use Rattle.curp_law_line.proofs.Requests.{asked_of_in, owned_ops}
 use Rattle.curp_law_line.proofs.Spans.{owned_after, owned_before, takes}
+use Rattle.curp_law_logs.proofs.Values.{on_append}
+use Rattle.curp_law_logs.proofs.Behind.{behind_from_append}
 
 asked_of_append : (xs ys : List Entry) → asked_of (xs ++ ys) ≡ asked_of xs ++ asked_of ys
 asked_of_append [] ys = refl
@@ -171,7 +172,7 @@ module _ (s : Line) (below : Owned s.moving s.parts) (o : Adopt) (fits : AdoptFi
       let own : owns (cut_part o) h ≡ true = owned_before p.lo p.hi h P (take a.0 T) (owned_there a.0 h a.1 a.2 b.1 t) none in
       let bad : true ≡ false = sym own ∙ fits.unowned h g in absurd cc) in
       let left : behind h p.log ≡ on h (asked_of back) =
-      ap (behind h) (fits.is ∙ ap (λ w. P ++ w) cut ∙ sym (append_assoc P (take k T) (e ∷ back))) ∙ behind_append h [] (P ++ take k T) (e ∷ back)
+      ap (behind h) (fits.is ∙ ap (λ w. P ++ w) cut ∙ sym (append_assoc P (take k T) (e ∷ back))) ∙ behind_from_append h [] (P ++ take k T) (e ∷ back)
       ∙ ap (λ (b : Bool). behind_from h (if b then [] else behind h (P ++ take k T)) back) w.5 ∙ behind_asked h [] back none_back in
       let right : on h (asked_of T) ≡ on h (asked_of back) =
       ap (λ (es : List Entry). on h (asked_of es)) cut ∙ ap (on h) (asked_of_append (take k T) (e ∷ back)) ∙ on_append h (asked_of (take k T)) (asked_of back) ∙ ap (λ w. w ++ on h (asked_of back)) front_free in

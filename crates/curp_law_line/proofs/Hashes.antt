@@ -1,10 +1,7 @@
 -- The order and the logs at one hash, as they grow at their ends.
-use Rattle.std.proofs.Common.{◌≡◌, ◌==◌, ◌||◌, ◌&&◌, ◌⊎◌, if◌then◌else◌, ℕ, suc, inl, inr, Bool, true, false, not, cond, List, [], ◌∷◌, ◌++◌, map, Option, Some, None, refl, ap, sym, ◌∙◌, append-nil}
-use Rattle.std.specs.Cmp.Lexicographic.{slice_cmp}
-use Rattle.std.specs.FinMap.Entries.{find}
+use Rattle.std.proofs.Common.{◌≡◌, ◌==◌, ◌||◌, ◌&&◌, ◌⊎◌, ℕ, suc, inl, inr, Bool, true, false, not, cond, List, [], ◌∷◌, ◌++◌, map, Option, Some, None, refl, ap, sym, ◌∙◌, append-nil}
 use Rattle.std.specs.List.{filter, list_any}
-use Rattle.std.specs.Ordering.{nat_cmp}
-use Rattle.std.proofs.lemmas.Bool.{cases_Bool, eq-eqb, or_left}
+use Rattle.std.proofs.lemmas.Bool.{eq-eqb, or_left}
 use Rattle.std.proofs.lemmas.List.{map-append}
 use Rattle.std.proofs.lemmas.List.Elements.{filter-append}
 use Rattle.std.proofs.lemmas.List.Folds.{list_any-append}
@@ -20,13 +17,12 @@ use Rattle.curp_model.specs.Log.{LogState, after_entry, meaning}
 use Rattle.curp_model.specs.Manager.{Migration}
 use Rattle.curp_model.specs.Marks.{Cut, Executed, Looked, Mark, Place, Quick, in_turn, is_cut, is_update_mark}
 use Rattle.curp_model.proofs.Logs.{meaning_append}
-use Rattle.curp_law_logs.specs.Hashes.{Asked, In, NoGive, asked, behind, behind_from, came, came_from, gives, on, updates}
+use Rattle.curp_law_logs.specs.Hashes.{Asked, In, asked, behind, behind_from, came, on, updates}
 use Rattle.curp_law_line.specs.Hashes.{Part, given_on, has_take, is_take, onward}
-use Rattle.curp_law_line.proofs.Lists.{in_cases, in_cons, in_map, in_none, or_none}
+use Rattle.curp_law_line.proofs.Lists.{in_cases, in_cons, in_none, or_none}
 use Rattle.curp_base.proofs.Numbered.{filter_at}
-
-pub on_append : (h : ℕ) (xs ys : List Asked) → on h (xs ++ ys) ≡ on h xs ++ on h ys
-on_append h xs ys = filter-append _ xs ys
+use Rattle.curp_base.proofs.Lists.{at_mapped}
+use Rattle.curp_law_logs.proofs.Behind.{behind_from_append, came_from_append}
 
 pub on_none : (h : ℕ) (x : Asked) → touches x.1 h ≡ false → on h (x ∷ []) ≡ []
 on_none h x t = ap (λ (b : Bool). cond b (x ∷ []) []) t
@@ -38,7 +34,7 @@ updates_append xs ys = ap (map asked) (filter-append (λ (m : Mark). is_update_m
 -- the mark of an update of the order
 pub update_mark : (marks : List Mark) (k : ℕ) (x : Asked) → At (updates marks) k x → (m : Mark) × (j : ℕ) × At marks j m × (is_update_mark m.place ≡ true) × (asked m ≡ x)
 update_mark marks k x h =
-    let m = in_map asked (filter (λ (m : Mark). is_update_mark m.place) marks) k x h in
+    let m = at_mapped asked (filter (λ (m : Mark). is_update_mark m.place) marks) k x h in
     let f = filter_at (λ (m : Mark). is_update_mark m.place) marks k m.0 m.1 in
     (m.0, f.0, f.1, f.2, m.2)
 
@@ -77,33 +73,6 @@ timed_no_cut (Looked c l) b e = refl
 timed_no_cut (Quick c) b e = refl
 timed_no_cut (Cut n l) true e = refl
 timed_no_cut (Cut n l) false e = absurd cc
-
--- what stands behind the last give of a longer log
-pub behind_append : (h : ℕ) (kept : List Asked) (xs ys : List Entry) → behind_from h kept (xs ++ ys) ≡ behind_from h (behind_from h kept xs) ys
-behind_append h kept [] ys = refl
-behind_append h kept (Op r acknowledged ∷ xs) ys = behind_append h (if touches r.command h then kept ++ (r.id, r.command) ∷ [] else kept) xs ys
-behind_append h kept (Take migration taken ∷ xs) ys = behind_append h kept xs ys
-behind_append h kept (Give migration given ∷ xs) ys = behind_append h (if is_in given.lo given.hi h then [] else kept) xs ys
-behind_append h kept (Expire client ∷ xs) ys = behind_append h kept xs ys
-
--- what came with the last give of a longer log
-pub came_append : (h : ℕ) (key : List ℕ) (before : Option (List ℕ)) (xs ys : List Entry) → came_from h key before (xs ++ ys) ≡ came_from h key (came_from h key before xs) ys
-came_append h key before [] ys = refl
-came_append h key before (Op r acknowledged ∷ xs) ys = came_append h key before xs ys
-came_append h key before (Take migration taken ∷ xs) ys = came_append h key before xs ys
-came_append h key before (Give migration given ∷ xs) ys = came_append h key (if is_in given.lo given.hi h then find (slice_cmp nat_cmp) key given.pairs else before) xs ys
-came_append h key before (Expire client ∷ xs) ys = came_append h key before xs ys
-
--- where no give covers the hash, what came stays
-pub came_stays : (h : ℕ) (key : List ℕ) (before : Option (List ℕ)) (es : List Entry) → NoGive h es → came_from h key before es ≡ before
-came_stays h key before [] none = refl
-came_stays h key before (Op r acknowledged ∷ es) none = came_stays h key before es none
-came_stays h key before (Take migration taken ∷ es) none = came_stays h key before es none
-came_stays h key before (Give migration given ∷ es) none = elim (cases_Bool (is_in given.lo given.hi h)) [
-  | inl y ↦ absurd (let c : (true || list_any (gives h) es) ≡ false = rw y at none in cc)
-  | inr n ↦ ap (λ (b : Bool). came_from h key (cond b (find (slice_cmp nat_cmp) key given.pairs) before) es) n ∙ came_stays h key before es (rw n at none)
-]
-came_stays h key before (Expire client ∷ es) none = came_stays h key before es none
 
 -- what stands behind is an op of the log
 pub record OpIn (x : Asked) (es : List Entry) : Type 0 where
@@ -150,7 +119,7 @@ behind_in h kept (Expire client ∷ es) x m = later x kept _ es (behind_in h kep
 
 -- one more op
 pub behind_op : (h : ℕ) (log : List Entry) (r : Request) (a : ℕ) → behind h (log ++ Op r a ∷ []) ≡ behind h log ++ on h ((r.id, r.command) ∷ [])
-behind_op h log r a = behind_append h [] log (Op r a ∷ []) ∙ go (touches r.command h)
+behind_op h log r a = behind_from_append h [] log (Op r a ∷ []) ∙ go (touches r.command h)
   where
     go : (b : Bool) → cond b (behind h log ++ (r.id, r.command) ∷ []) (behind h log) ≡ behind h log ++ cond b ((r.id, r.command) ∷ []) []
     go true = refl
@@ -158,7 +127,7 @@ behind_op h log r a = behind_append h [] log (Op r a ∷ []) ∙ go (touches r.c
 
 -- one more op brings nothing
 pub came_op : (h : ℕ) (key : List ℕ) (log : List Entry) (r : Request) (a : ℕ) → came h key (log ++ Op r a ∷ []) ≡ came h key log
-came_op h key log r a = came_append h key None log (Op r a ∷ [])
+came_op h key log r a = came_from_append h key None log (Op r a ∷ [])
 
 -- one more entry that doesn't pass
 pub any_push : (p : Entry → Bool) (log : List Entry) (e : Entry) → p e ≡ false → list_any p (log ++ e ∷ []) ≡ list_any p log

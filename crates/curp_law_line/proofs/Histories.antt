@@ -2,10 +2,8 @@
 use Rattle.std.proofs.Common.{◌≡◌, ◌||◌, ◌<◌, ◌&&◌, cond, inl, inr, ℕ, suc, Bool, true, false, List, ◌∷◌, ◌++◌, take, drop, map, length, Some, refl, ap, sym, ◌∙◌, subst, arith, not}
 use Rattle.std.specs.List.{filter}
 use Rattle.std.proofs.lemmas.Bool.{cases_Bool, cases_eq, cases_lt, or_left, or_right}
-use Rattle.std.proofs.lemmas.List.{map-append}
-use Rattle.std.proofs.lemmas.List.Elements.{filter-append}
 use Rattle.curp_base.specs.Words.{At, numbered}
-use Rattle.curp_base.proofs.Lists.{at_append_right, at_same}
+use Rattle.curp_base.proofs.Lists.{at_append_right, at_same, at_mapped}
 use Rattle.curp_cmd.specs.Store.{applied, is_update, nothing}
 use Rattle.curp_cmd.specs.declared.command.Answer.{Answer}
 use Rattle.curp_cmd.specs.declared.command.Command.{Command}
@@ -21,14 +19,12 @@ use Rattle.curp_law_line.specs.Line.{Answered, Line, LineOk, WasInvoked, answer_
 use Rattle.curp_law_line.proofs.AdoptedMarks.{filter_order}
 use Rattle.curp_law_line.proofs.Completions.{marks_once}
 use Rattle.curp_law_line.proofs.Hashes.{flagged_no_cut, update_mark, update_no_cut, update_place, update_timed, updates_append}
-use Rattle.curp_law_line.proofs.Lists.{distinct_from, in_map, take_split}
+use Rattle.curp_law_line.proofs.Lists.{distinct_from, take_split}
 use Rattle.curp_base.proofs.Numbered.{filter_at}
 use Rattle.curp_law_line.proofs.Ops.{one_command}
 use Rattle.curp_law_line.proofs.Orders.{answer_there}
 use Rattle.curp_law_line.proofs.Shown.{by_updates}
-
-shown_append : (xs ys : List Mark) → shown (xs ++ ys) ≡ shown xs ++ shown ys
-shown_append xs ys = ap (map asked) (filter-append is_shown xs ys) ∙ map-append asked _ _
+use Rattle.curp_model.proofs.Marks.{shown_append}
 
 -- what one thread gives a mark that is shown
 shown_answer : (marks : List Mark) (j : ℕ) (m : Mark) → At marks j m → is_shown m ≡ true → (k : ℕ) × At (shown marks) k (asked m) × At (answers (shown marks)) k (answer_at marks j m.command)
@@ -82,15 +78,15 @@ module _ (s : Line) (ok : LineOk s) where
   -- the mark of a request of the order
   abbrev shown_mark : (k : ℕ) (x : Asked) → At order k x → (w : ShownMark s.marks x.0) × (asked w.m ≡ x)
   shown_mark k x h =
-      let m = in_map asked (filter is_shown s.marks) k x h in
+      let m = at_mapped asked (filter is_shown s.marks) k x h in
       let f = filter_at is_shown s.marks k m.0 m.1 in
       (record { place = f.0; m = m.0; stands = f.1; shows = f.2; its_id = ap (λ (y : Asked). y.0) m.2 }, m.2)
 
   -- of two requests of the order the marks stand in its order
   in_order : (l k : ℕ) (x y : Asked) → At order l x → At order k y → l < k → (w : ShownMark s.marks x.0) × (v : ShownMark s.marks y.0) × (w.place < v.place)
   in_order l k x y hl hk lt =
-      let a = in_map asked (filter is_shown s.marks) l x hl in
-      let b = in_map asked (filter is_shown s.marks) k y hk in
+      let a = at_mapped asked (filter is_shown s.marks) l x hl in
+      let b = at_mapped asked (filter is_shown s.marks) k y hk in
       let fa = filter_at is_shown s.marks l a.0 a.1 in
       let fb = filter_at is_shown s.marks k b.0 b.1 in
       let f = filter_order is_shown s.marks l k a.0 b.0 a.1 b.1 lt in (
@@ -180,12 +176,6 @@ module _ (s : Line) (ok : LineOk s) where
       let x : Asked = (done.request.id, done.request.command) in
       let w = answered_mark x a (subst (Answered (updates s.marks) x) done.its_answer (ok.order.answered n p done.index done.request done.acknowledged hn done.stands)) in
       subst (λ (i : RequestId). ShowsAnswer s.marks i a) done.its_id (shows_mark done.request.id a w.0 w.1)
-
-  -- the order has one answer of a request
-  pub one_answer : (id : RequestId) (a b : Answer) → ShowsAnswer s.marks id a → ShowsAnswer s.marks id b → a ≡ b
-  one_answer id a b w v =
-      let same : w.place ≡ v.place = order_once w.place v.place w.x v.x w.stands v.stands (w.its_id ∙ sym v.its_id) in
-      at_same (answers (shown s.marks)) v.place a b (subst (λ (k : ℕ). At (answers (shown s.marks)) k a) same w.answer) v.answer
 
   -- ---- the order
 

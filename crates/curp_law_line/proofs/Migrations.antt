@@ -1,5 +1,6 @@
 -- A migration begins, its take, its give, and its end.
-use Rattle.std.proofs.Common.{◌≡◌, ℕ, ◌&&◌, inl, inr, Bool, true, false, [], ◌++◌, Option, Some, None, refl, ap, sym, ◌∙◌}
+use Rattle.std.proofs.Common.{◌≡◌, ℕ, ◌&&◌, inl, inr, Bool, true, false, [], ◌++◌, Option, Some, None, ap, sym, ◌∙◌}
+use Rattle.std.proofs.Math.Bool.{and-false}
 use Rattle.std.proofs.lemmas.Bool.{cases_Bool, or_cases, or_left}
 use Rattle.curp_base.specs.Words.{numbered}
 use Rattle.curp_range.specs.Spans.{is_in}
@@ -30,15 +31,11 @@ rehashed s ok moving hashes = record {
   in_time = ok.in_time;
 }
 
-and_none : (b : Bool) → (b && false) ≡ false
-and_none true = refl
-and_none false = refl
-
 -- ---- the beginning and the end
 
 module _ (s : Line) (ok : OrderOk s) (m : Migration) (fits : MigrateFits s m) where
   untaken : (n : ℕ) (p : Part) (h : ℕ) → numbered s.parts n ≡ Some p → has_take (Some m) h p.log ≡ false
-  untaken n p h here = ap (λ (b : Bool). is_in m.range.lo m.range.hi h && b) (fits.untaken n p here) ∙ and_none _
+  untaken n p h here = ap (λ (b : Bool). is_in m.range.lo m.range.hi h && b) (fits.untaken n p here) ∙ and-false _
 
   migrate_hashes : HashesOk (Some m) s.parts (updates s.marks)
   migrate_hashes n p here h held =

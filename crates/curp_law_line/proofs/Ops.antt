@@ -26,12 +26,13 @@ use Rattle.curp_law_line.specs.Hashes.{HashOk, HashesOk, Part, has_take, holds, 
 use Rattle.curp_law_line.specs.Line.{Answered, AnswersOk, DistinctOk, FlagsOk, InTimeOk, InvokedOk, IsCompleted, KindsOk, Line, MarkedOk, OnceOk, OneFlagOk, OpAt, OrderOk, Owned, ReadsOk, StandingOk, UnflaggedOk, WaitingOk, WasInvoked}
 use Rattle.curp_law_line.specs.Moves.{PushOp, PushOpFits, op_pushed, pushed}
 use Rattle.curp_law_line.proofs.Given.{LogsValue, Pure}
-use Rattle.curp_law_line.proofs.Hashes.{any_push, behind_in, behind_op, came_op, has_take_push, no_onward, on_append, on_none, owned_op, update_mark, update_no_cut, updates_append}
+use Rattle.curp_law_line.proofs.Hashes.{any_push, behind_in, behind_op, came_op, has_take_push, no_onward, on_none, owned_op, update_mark, update_no_cut, updates_append}
 use Rattle.curp_law_line.proofs.Lines.{has_moving, known_push, onward_given, onward_log, onward_same}
 use Rattle.curp_law_line.proofs.Lists.{in_cases, in_filter, in_none}
 use Rattle.curp_law_line.proofs.OwnedValues.{at_own, no_take, owned_answer}
 use Rattle.curp_law_line.proofs.Pushes.{answered_grows}
 use Rattle.curp_law_line.proofs.Pushes as pushes
+use Rattle.curp_law_logs.proofs.Values.{on_append}
 
 -- one id is invoked with one command
 pub one_command : (h : List Event) → IsHistory h → (id other : RequestId) (c d : Command) → id ≡ other → WasInvoked h id c → WasInvoked h other d → c ≡ d

@@ -16,8 +16,9 @@ use Rattle.curp_order.proofs.Laws.{answers_append, length-answers}
 use Rattle.curp_law_logs.specs.Hashes.{Asked, In, NoGive, behind_from, on, value}
 use Rattle.curp_law_line.specs.Line.{Answered}
 use Rattle.curp_law_line.proofs.Given.{Pure}
-use Rattle.curp_law_line.proofs.Hashes.{key_touches, on_append}
+use Rattle.curp_law_line.proofs.Hashes.{key_touches}
 use Rattle.curp_law_line.proofs.Lists.{Distinct, distinct_filter, empty_list, from_filter, in_cons, in_filter, in_head, in_none, in_right, in_tail, only_one, some_or_none}
+use Rattle.curp_law_logs.proofs.Values.{on_append}
 
 -- the ops of entries, as requests of the order
 abbrev pub asked_of : List Entry → List Asked
@@ -59,10 +60,6 @@ distinct_append (x ∷ xs) ys d e f = (
   Each-append _ xs ys d.0 (Each-from_at _ ys (λ k y h same. f x y (in_head x xs) (k, h) same)),
   distinct_append xs ys d.1 e (λ y z my mz. f y z (in_tail y x xs my) mz),
 )
-
-pub distinct_right : (xs ys : List Asked) → Distinct (xs ++ ys) → Distinct ys
-distinct_right [] ys d = d
-distinct_right (x ∷ xs) ys d = distinct_right xs ys d.1
 
 -- one item cuts a list in one way
 pub cut_once : (f g b c : List Asked) (x : Asked) → f ++ x ∷ b ≡ g ++ x ∷ c → Distinct (f ++ x ∷ b) → f ≡ g

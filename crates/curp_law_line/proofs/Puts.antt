@@ -126,13 +126,6 @@ was_same c k l j i (inl v) (inr w) e = absurd (omega (arith, e, v.0, v.1, w.0, w
 was_same c k l j i (inr v) (inl w) e = absurd (omega (arith, e, v.0, v.1, w.0, w.1))
 was_same c k l j i (inr v) (inr w) e = omega (arith, e, v.1, w.1)
 
--- the other way too
-pub was_order_now : (c k l j i : ℕ) → Was c k j → Was c l i → j < i → k < l
-was_order_now c k l j i (inl v) (inl w) lt = omega (arith, lt, v.1, w.1)
-was_order_now c k l j i (inl v) (inr w) lt = omega (arith, lt, v.0, v.1, w.0, w.1)
-was_order_now c k l j i (inr v) (inl w) lt = absurd (omega (arith, lt, v.0, v.1, w.0, w.1))
-was_order_now c k l j i (inr v) (inr w) lt = omega (arith, lt, v.1, w.1)
-
 -- what stood before the place still does, and what stood behind it
 pub was_low : (c k j : ℕ) → Was c k j → k < c → j < c
 was_low c k j (inl v) lt = omega (arith, v.1, lt)

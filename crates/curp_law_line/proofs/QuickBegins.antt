@@ -45,9 +45,6 @@ module _ (pure : Pure) (second : Second) (s : Line) (o : Look) (fits : LookFits 
   abbrev quick_mark : Mark
   quick_mark = quick o.node o.part o.epoch o.capture o.id o.command
 
-  abbrev quick_by : Capture
-  quick_by = record { master = o.node; epoch = o.epoch; number = o.capture }
-
   -- a quick mark gives what the log gives
   pub quick_reads : QuickGives (quickly s o).marks (record { master = o.node; epoch = o.epoch; number = o.capture }) o.part o.id (answer_after o.p.lo o.p.hi o.p.log o.command)
   quick_reads = record {
@@ -137,19 +134,6 @@ module _ (pure : Pure) (s : Line) (o : Late) (fits : LateFits s o) (ok : LineOk 
 
   abbrev late_all : List Mark
   late_all = put_before o.place (quick o.node o.part o.epoch o.capture o.id o.command) s.marks
-
-  kinds_before : (k : ℕ) (m : Mark) → At (take o.place s.marks) k m → At s.marks k m
-  kinds_before k m h = (at_take_from o.place s.marks k m h)
-    where
-      at_take_from : (n : ℕ) (xs : List Mark) (k : ℕ) (x : Mark) → At (take n xs) k x → At xs k x
-      at_take_from n [] k x h = absurd (none n h)
-        where
-          none : (n : ℕ) → At (take n []) k x → ⊥
-          none zero h = cc
-          none (suc n) h = cc
-      at_take_from zero (y ∷ xs) k x h = absurd cc
-      at_take_from (suc n) (y ∷ xs) zero x h = h
-      at_take_from (suc n) (y ∷ xs) (suc k) x h = at_take_from n xs k x h
 
   value_there : (key : List ℕ) → touches o.command (hash_of key) ≡ true → store.get (store_after nothing (updates (take o.place s.marks))) key ≡ store.get (state_of old_log.front).store key
   value_there key t =

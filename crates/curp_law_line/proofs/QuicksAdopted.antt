@@ -21,7 +21,7 @@ use Rattle.curp_law_line.proofs.AdoptedMarks.{adopted_is, filter_order, flagged_
 use Rattle.curp_law_line.proofs.Adopting.{cut_part}
 use Rattle.curp_law_line.proofs.Carried.{quiet_behind, quiet_gives}
 use Rattle.curp_law_line.proofs.Given.{LogValue, LogsOk, Pure}
-use Rattle.curp_law_line.proofs.Hashes.{behind_append, came_append, came_stays, update_place}
+use Rattle.curp_law_line.proofs.Hashes.{update_place}
 use Rattle.curp_law_line.proofs.Lists.{filter_within, in_any, in_filter, none_narrower}
 use Rattle.curp_law_line.proofs.Looks.{filter_on, stays_away, stays_low}
 use Rattle.curp_law_line.proofs.OwnedValues.{at_own, owned_value}
@@ -30,6 +30,7 @@ use Rattle.curp_law_line.proofs.QuicksKept.{quick_cut, quick_more}
 use Rattle.curp_law_line.proofs.Spans.{owned_after, takes}
 use Rattle.curp_law_line.proofs.ToldTakes.{told_behind}
 use Rattle.curp_law_line.proofs.Values.{filter_back}
+use Rattle.curp_law_logs.proofs.Behind.{behind_from_append, came_from_append, came_kept}
 
 -- ---- what stays
 
@@ -187,8 +188,8 @@ module _ (pure : Pure) (s : Line) (order : OrderOk s) (below : Owned s.moving s.
       let line = at_own s order below o.part o.p fits.here h own in
       let whole : LogValue o.p = logs.values o.part o.p fits.here o.p.log [] (append-nil o.p.log) in
       let front : LogValue (cut_part o) = logs.values o.part o.p fits.here o.stays o.goes (sym fits.is) in
-      let came_same : (other : List ℕ) → came h other o.p.log ≡ came h other o.stays = λ other. ap (came h other) fits.is ∙ came_append h other _ o.stays o.goes ∙ came_stays h other _ o.goes (quiet_gives h o.goes firm.quiet) in
-      let behind_same : behind h o.p.log ≡ behind h o.stays = ap (behind h) fits.is ∙ behind_append h [] o.stays o.goes ∙ quiet_behind h (behind h o.stays) o.goes firm.quiet in
+      let came_same : (other : List ℕ) → came h other o.p.log ≡ came h other o.stays = λ other. ap (came h other) fits.is ∙ came_from_append h other _ o.stays o.goes ∙ came_kept h other _ o.goes (quiet_gives h o.goes firm.quiet) in
+      let behind_same : behind h o.p.log ≡ behind h o.stays = ap (behind h) fits.is ∙ behind_from_append h [] o.stays o.goes ∙ quiet_behind h (behind h o.stays) o.goes firm.quiet in
       pure.value_local key (updates kept) ∙ ap (value key) (same_on h firm) ∙ sym (pure.value_local key (updates s.marks))
       ∙ owned_value s order below o.part o.p fits.here pure whole key own
       ∙ whole h own key refl line.past line.values

@@ -120,12 +120,6 @@ pub ops_any : (p : Entry → Bool) → ((r : Request) → p (Op r 0) ≡ false) 
 ops_any p none [] = refl
 ops_any p none (r ∷ rs) = rw (none r) (ops_any p none rs)
 
--- a replayed op is of its request
-pub op_in_ops : (rs : List Request) (j : ℕ) (q : Request) (a : ℕ) → At (ops rs) j (Op q a) → At rs j q
-op_in_ops [] j q a h = absurd cc
-op_in_ops (r ∷ rs) zero q a h = let same : r ≡ q = cc in ap (λ (x : Request). Some x) same
-op_in_ops (r ∷ rs) (suc j) q a h = op_in_ops rs j q a h
-
 -- what replayed ops stand for
 pub asked_of_ops : (rs : List Request) → asked_of (ops rs) ≡ asked_all rs
 asked_of_ops [] = refl

@@ -4,22 +4,12 @@ use Rattle.std.specs.List.{filter}
 use Rattle.curp_base.proofs.Lists.{at_take}
 use Rattle.curp_cmd.specs.Store.{Contents, applied, is_update, nothing}
 use Rattle.curp_cmd.specs.declared.command.Command.{Command}
-use Rattle.curp_cmd.specs.declared.command.Command.TheVariants.{Append, CondPut, Delete, Get, Incr, Multi, Put}
 use Rattle.curp_order.specs.Order.{store_after}
 use Rattle.curp_model.specs.Marks.{Mark, is_shown, is_update_mark, shown}
 use Rattle.curp_law_logs.specs.Hashes.{In, asked, updates}
 use Rattle.curp_law_line.specs.Line.{KindsOk, answer_at}
 use Rattle.curp_law_line.proofs.Lists.{in_head, in_tail}
-
-read_only : (s : Contents) (command : Command) → is_update command ≡ false → (applied s command).after ≡ s
-unfolding applied
-read_only s (Get key) e = refl
-read_only s (Put key value) e = absurd cc
-read_only s (Delete key) e = absurd cc
-read_only s (Incr key) e = absurd cc
-read_only s (Append key more) e = absurd cc
-read_only s (CondPut key expected value) e = absurd cc
-read_only s (Multi pairs) e = absurd cc
+use Rattle.curp_law_logs.proofs.Values.{read_only}
 
 -- the store over all that is shown is that over the updates
 pub shown_store : (s : Contents) (marks : List Mark) → ((m : Mark) → In m marks → is_update m.command ≡ is_update_mark m.place) → store_after s (shown marks) ≡ store_after s (updates marks)

@@ -4,7 +4,7 @@ use Rattle.std.specs.List.{list_any}
 use Rattle.std.proofs.lemmas.Bool.{and_from, and_parts, cases_Bool, or_cases, or_left, or_parts, or_right}
 use Rattle.std.proofs.lemmas.Bool.Decides.{nat_tests}
 use Rattle.curp_range.specs.Spans.{Span, is_in, is_owned, part_above, part_below, with_range, without}
-use Rattle.curp_range.proofs.Ascending.{in_range, owned-append, range_bounds}
+use Rattle.curp_range.proofs.Ascending.{in_range, range_bounds}
 use Rattle.curp_cmd.specs.declared.entry.Entry.{Entry}
 use Rattle.curp_cmd.specs.declared.entry.Entry.TheVariants.{Expire, Give, Op, Take}
 use Rattle.curp_cmd.specs.declared.migration.Package.{Package}
@@ -12,6 +12,7 @@ use Rattle.curp_model.specs.Log.{LogState, after_entries, after_entry, meaning}
 use Rattle.curp_model.proofs.Logs.{meaning_append}
 use Rattle.curp_law_logs.specs.Hashes.{NoGive}
 use Rattle.curp_law_line.specs.Hashes.{Part, owns}
+use Rattle.curp_law_logs.proofs.Ranges.{owned_without}
 
 outside : (lo hi h : ℕ) → is_in lo hi h ≡ false → (h < lo) ⊎ (hi < h)
 outside lo hi h e = go (nat_le lo h) (nat_le h hi) refl refl e
@@ -73,22 +74,6 @@ and_over true b true = refl
 and_over true true false = refl
 and_over true false false = refl
 and_over false b c = refl
-
-span_without : (s : Span) (lo hi h : ℕ) → is_owned (part_below s lo ++ part_above s hi) h ≡ (is_in s.0 s.1 h && not (is_in lo hi h))
-span_without s lo hi h = go (nat_lt s.0 lo) (nat_lt hi s.1) refl refl
-  where
-    go : (p q : Bool) → nat_lt s.0 lo ≡ p → nat_lt hi s.1 ≡ q
-        → is_owned (cond p ((s.0, min s.1 (lo - 1)) ∷ []) [] ++ cond q ((max s.0 (hi + 1), s.1) ∷ []) []) h ≡ (is_in s.0 s.1 h && not (is_in lo hi h))
-    go true true e f = grind (arith, nat_tests)
-    go true false e f = grind (arith, nat_tests)
-    go false true e f = grind (arith, nat_tests)
-    go false false e f = grind (arith, nat_tests)
-
--- what is owned without a range was owned, and lies off the range
-pub owned_without : (spans : List Span) (lo hi h : ℕ) → is_owned (without spans lo hi) h ≡ (is_owned spans h && not (is_in lo hi h))
-owned_without [] lo hi h = refl
-owned_without (s ∷ spans) lo hi h =
-    rw (owned-append (part_below s lo ++ part_above s hi) (without spans lo hi) h, span_without s lo hi h, owned_without spans lo hi h) (and_over (is_in s.0 s.1 h) (is_owned spans h) (not (is_in lo hi h)))
 
 -- so it was there
 pub without_owned : (spans : List Span) (lo hi h : ℕ) → is_owned (without spans lo hi) h ≡ true → is_owned spans h ≡ true

@@ -17,9 +17,10 @@ use Rattle.curp_law_line.specs.Hashes.{HashOk, HashesOk, Part, given_on, has_tak
 use Rattle.curp_law_line.specs.Line.{Line, OrderOk, Ungiven}
 use Rattle.curp_law_line.specs.Moves.{PushTake, PushTakeFits, pushed, take_pushed, taken_by}
 use Rattle.curp_law_line.proofs.Spans.{without_owned}
-use Rattle.curp_law_line.proofs.Hashes.{any_push, behind_append, came_append}
+use Rattle.curp_law_line.proofs.Hashes.{any_push}
 use Rattle.curp_law_line.proofs.Lines.{known_push}
 use Rattle.curp_law_line.proofs.Pushes as pushes
+use Rattle.curp_law_logs.proofs.Behind.{behind_from_append, came_from_append}
 
 -- what a take leaves
 pub owned_take : (lo hi : ℕ) (log : List Entry) (number : ℕ) (k : Package) → (meaning lo hi (log ++ Take number k ∷ [])).owned ≡ without (meaning lo hi log).owned k.lo k.hi
@@ -88,8 +89,8 @@ module _ (s : Line) (ok : OrderOk s) (o : PushTake) (fits : PushTakeFits s o) wh
           let here = before o.part p fits.here h (or_left _ _ (owned_before h held)) in
           record {
             past = here.past;
-            alike = here.alike ∙ (λ i. here.past ++ (sym (behind_append h [] p.log (e ∷ [])) i ++ (onward_ungiven o.m s.parts p.log h fits.ungiven ∙ sym (onward_ungiven o.m after longer.log h still_ungiven)) i));
-            values = λ key k. here.values key k ∙ sym (came_append h key None p.log (e ∷ []));
+            alike = here.alike ∙ (λ i. here.past ++ (sym (behind_from_append h [] p.log (e ∷ [])) i ++ (onward_ungiven o.m s.parts p.log h fits.ungiven ∙ sym (onward_ungiven o.m after longer.log h still_ungiven)) i));
+            values = λ key k. here.values key k ∙ sym (came_from_append h key None p.log (e ∷ []));
             known = λ y m. known_push p.lo p.hi h p.log e y.0 (here.known y m);
           }
 

@@ -1,5 +1,6 @@
 -- Takes in adopted logs were told, or are of the migration in work; so an op elsewhere on an owned hash has a told take behind it.
 use Rattle.std.proofs.Common.{◌≡◌, ◌≢◌, ◌⊎◌, inl, inr, ℕ, zero, ◌<◌, ◌+◌, suc, ◌||◌, Bool, true, false, Option, Some, None, List, [], ◌∷◌, ◌++◌, take, drop, refl, ap, sym, ◌∙◌, subst, arith}
+use Rattle.std.proofs.Math.Bool.{or-false}
 use Rattle.std.specs.List.{list_any}
 use Rattle.std.proofs.lemmas.Bool.{and_from, cases_Bool, eq-eqb, or_parts}
 use Rattle.std.proofs.lemmas.List.{take-append-drop}
@@ -20,7 +21,7 @@ use Rattle.curp_law_line.specs.Line.{IsMoving, Line, Owned, TakesOk, ToldTake, U
 use Rattle.curp_law_line.specs.Moves.{Adopt, AdoptFits, GivenFits, MigrateFits, PushGive, PushGiveFits, PushTake, PushTakeFits, ops, pushed, relogged, replayed_of, taken_by}
 use Rattle.curp_law_line.proofs.Entries.{take_of}
 use Rattle.curp_law_line.proofs.Hashes.{any_push}
-use Rattle.curp_law_line.proofs.Lists.{in_any, or_false, some_same}
+use Rattle.curp_law_line.proofs.Lists.{in_any, some_same}
 use Rattle.curp_base.proofs.Numbered.{any_at, numbered_set_cases}
 use Rattle.curp_law_line.proofs.Owning.{op_owned}
 use Rattle.curp_law_line.proofs.Pushes as pushes
@@ -137,7 +138,7 @@ takes_adopt s o fits ok n q i number k hn hi = elim (numbered_set_cases s.parts 
       | inr is ↦
           let all : (list_any (is_give number) o.stays || list_any (is_give number) o.goes) ≡ false = sym (list_any-append (is_give number) o.stays o.goes) ∙ ap (list_any (is_give number)) (sym fits.is) ∙ none o.part o.p fits.here in
           subst (λ (x : Part). list_any (is_give number) x.log ≡ false) is.1
-          (list_any-append (is_give number) o.stays (ops (replayed_of o)) ∙ ap (λ (b : Bool). list_any (is_give number) o.stays || b) (ops_any (is_give number) (λ r. refl) (replayed_of o)) ∙ or_false _ ∙ (or_parts _ _ all).0)
+          (list_any-append (is_give number) o.stays (ops (replayed_of o)) ∙ ap (λ (b : Bool). list_any (is_give number) o.stays || b) (ops_any (is_give number) (λ r. refl) (replayed_of o)) ∙ or-false _ ∙ (or_parts _ _ all).0)
     ]
 
     stays : IsAmong number s.told ⊎ IsMoving s.parts s.moving number k → IsAmong number s.told ⊎ IsMoving (relogged s.parts o.part o.p (o.stays ++ ops (replayed_of o))) s.moving number k

@@ -184,27 +184,6 @@ module _ (pure : Pure) (s : Line) (kinds : KindsOk s.marks) (looks : LooksOk s.p
   pub values_adopt : (history : List Event) → CutsOpen s.marks → ValuesOk s.marks history → ValuesOk (adopting s o).marks history
   values_adopt history plain ok = subst (λ (l : List Mark). ValuesOk l history) (sym adopted_marks) (values_kept history plain ok)
 
-  -- a quick mark stays, with its value
-  pub quick_adopt : (by : Capture) (part : ℕ) (id : RequestId) (a : Answer) → QuickGives s.marks by part id a → QuickGives (adopting s o).marks by part id a
-  quick_adopt by part id a w =
-      let st : stays o.part (length o.stays) w.mark ≡ true = (λ i. not (((w.mark.part == o.part) && not w.mark.completed) && is_past (length o.stays) (w.is_quick i))) ∙ never ((w.mark.part == o.part) && not w.mark.completed) in
-      let f = filter_on (stays o.part (length o.stays)) s.marks w.place w.mark w.stands st in
-      subst (λ (l : List Mark). QuickGives l by part id a) (sym adopted_marks) (record {
-        place = f.0;
-        mark = w.mark;
-        stands = at_append kept fresh f.0 w.mark f.1;
-        its_master = w.its_master;
-        its_epoch = w.its_epoch;
-        its_part = w.its_part;
-        its_id = w.its_id;
-        is_quick = w.is_quick;
-        gives = quick_kept w.place f.0 by.number w.mark w.stands w.is_quick f.1 f.2 ∙ w.gives;
-      })
-    where
-      never : (b : Bool) → not (b && false) ≡ true
-      never true = refl
-      never false = refl
-
   -- a look of the partition is dropped where it is longer than what stays, and else keeps its value
   pub look_adopt : (by : Capture) (part long : ℕ) (id : RequestId) (a : Answer) → LookGives s.marks by part long id a → LookGives (adopting s o).marks by part long id a ⊎ ((o.part ≡ part) × (length o.stays < long))
   look_adopt by part long id a w = elim (cases_Bool (stays o.part (length o.stays) w.mark)) [

@@ -9,7 +9,7 @@ use Rattle.curp_msg.specs.Moved.{Moved}
 use Rattle.curp_msg.specs.declared.config.PartConfig.{PartConfig}
 use Rattle.curp_order.specs.declared.Event.{Event}
 use Rattle.curp_model.specs.Manager.{Attempted, ManagerState, Shape, recovered_part}
-use Rattle.curp_model.specs.Marks.{Mark, Quick, adoptions, cut_mark, is_quick}
+use Rattle.curp_model.specs.Marks.{Mark, adoptions, cut_mark}
 use Rattle.curp_model.specs.Marks as mark
 use Rattle.curp_model.specs.Recovery.{MasterStage, RecoveryPhase}
 use Rattle.curp_model.specs.Witness.{frozen_requests}
@@ -31,7 +31,7 @@ use Rattle.curp_law_linear.proofs.AdoptRecovery.{Recovery}
 use Rattle.curp_law_linear.proofs.CutMarks.{cuts_adopted}
 use Rattle.curp_law_linear.proofs.Cuts.{last_reign}
 use Rattle.curp_law_linear.proofs.Managers.{moved_line, moved_marks}
-use Rattle.curp_law_linear.proofs.ManagersLine.{entries_grown, map_alike, seat, seated, seated_grown, seated_parts}
+use Rattle.curp_law_linear.proofs.ManagersLine.{entries_grown, seat, seated, seated_grown, seated_parts}
 use Rattle.curp_law_linear.proofs.Parts.{entry_part}
 use Rattle.curp_facts.specs.Names.{Names}
 use Rattle.curp_law_names.proofs.Later.{Later}
@@ -39,6 +39,7 @@ use Rattle.curp_law_names.proofs.Steps.{manager_moved}
 use Rattle.curp_facts.specs.Predecessors.{Predecessors}
 use Rattle.curp_facts.specs.Migrated.{Migrated}
 use Rattle.curp_facts.specs.Routes.{Routes}
+use Rattle.curp_base.proofs.Lists.{map_alike}
 
 -- what is made of items, one of which was replaced
 map_set : {A B : Type 0} (f : A → B) (xs : List A) (i : ℕ) (y : A) → map f (set xs i y) ≡ set (map f xs) i (f y)

@@ -1,6 +1,6 @@
 -- A completed op that an adoption lets go was answered early by the present master, so the witness holds it and it is replayed; and
 -- nothing that goes before it touches its hashes.
-use Rattle.std.proofs.Common.{◌≡◌, ◌≢◌, ◌⊎◌, inl, inr, ℕ, zero, suc, ◌+◌, ◌<◌, ◌≤◌, Bool, true, false, List, [], ◌∷◌, ◌++◌, length, take, refl, ap, sym, ◌∙◌, subst, arith, Some}
+use Rattle.std.proofs.Common.{◌≡◌, ◌≢◌, ◌⊎◌, inl, inr, ℕ, ◌+◌, ◌<◌, ◌≤◌, Bool, true, false, List, ◌++◌, length, take, refl, sym, ◌∙◌, subst, arith}
 use Rattle.std.specs.Bool.{⊤}
 use Rattle.std.specs.List.{list_any}
 use Rattle.std.proofs.lemmas.Bool.{cases_eq, cases_lt}
@@ -23,7 +23,7 @@ use Rattle.curp_model.specs.Named.{IsBackup}
 use Rattle.curp_model.specs.Recovery.{Serving, replay, replays}
 use Rattle.curp_model.specs.Witness.{frozen_requests}
 use Rattle.curp_model.specs.World.{World}
-use Rattle.curp_model.proofs.Replays.{kept, ops, replay_is}
+use Rattle.curp_model.proofs.Replays.{kept, ops, replay_is, op_in_ops}
 use Rattle.curp_facts.specs.Entries.{UpdateOk}
 use Rattle.curp_facts.specs.Facts.{Completable, HasLog, IsAmong, IsAnswered, IsWitnessed, Lists, Logged, hi_of, lists_of_part, lo_of}
 use Rattle.curp_facts.specs.Kept.{AdoptedLog}
@@ -54,12 +54,6 @@ use Rattle.curp_law_pairs.proofs.Words.{one_log}
 use Rattle.curp_facts.specs.Migrated.{AllStored, Migrated, OpStored}
 use Rattle.curp_facts.specs.Routes.{Routes}
 use Rattle.curp_law_linear.proofs.Found.{none_any}
-
--- the op at the place of a list of ops
-op_request : (rs : List Request) (j : ℕ) (q : Request) (acknowledged : ℕ) → At (ops rs) j (Op q acknowledged) → At rs j q
-op_request [] j q acknowledged at = absurd cc
-op_request (r ∷ rs) zero q acknowledged at = let same : r ≡ q = cc in ap Some same
-op_request (r ∷ rs) (suc j) q acknowledged at = op_request rs j q acknowledged at
 
 -- an op's request
 one_op : {r s : Request} {a b : ℕ} → Op r a ≡ Op s b → r ≡ s
@@ -292,7 +286,7 @@ module _ {w : World} (known : Known w) (chain : Predecessors w) (routes : Routes
               = subst (λ (es : List Entry). At es d.index (Op d.request d.acknowledged)) (replay_is lo hi (frozen_requests o.x) o.b.log (held_apart known c a o)) d.stands in
               elim (at_append_cases o.b.log (ops (kept lo hi o.b.log (frozen_requests o.x))) d.index (Op d.request d.acknowledged) stands) [
                 | inl old ↦ absurd (not_kept d.index d.request d.acknowledged old d.its_id)
-                | inr new ↦ is_kept new.0 d.request (op_request (kept lo hi o.b.log (frozen_requests o.x)) new.0 d.request d.acknowledged new.2) d.its_id
+                | inr new ↦ is_kept new.0 d.request (op_in_ops (kept lo hi o.b.log (frozen_requests o.x)) new.0 d.request d.acknowledged new.2) d.its_id
               ]
 
     -- (d) where it is completed, it is replayed, and nothing that goes before it touches its hashes

@@ -4,7 +4,7 @@ use Rattle.std.specs.List.{list_any}
 use Rattle.std.proofs.Math.Seq.{take-append-add}
 use Rattle.curp_range.specs.Spans.{is_owned}
 use Rattle.curp_base.specs.Words.{At, IsPrefix, numbered}
-use Rattle.curp_base.proofs.Lists.{at_append_cases, at_append_right, at_one, at_take, prefix_back}
+use Rattle.curp_base.proofs.Lists.{at_append_cases, at_append_right, at_one, at_take, prefix_back, at_any}
 use Rattle.curp_cmd.specs.Node.{manager_node}
 use Rattle.curp_cmd.specs.declared.entry.Entry.{Entry}
 use Rattle.curp_cmd.specs.declared.entry.Entry.TheVariants.{Op, Take, Give, Expire}
@@ -35,13 +35,15 @@ use Rattle.curp_law_logs.specs.Gives.{GiveFits, GivesFit}
 use Rattle.curp_law_logs.specs.Hashes.{gives}
 use Rattle.curp_law_linear.specs.Ordered.{Ordered}
 use Rattle.curp_law_linear.proofs.AdoptRecovery.{Recovery}
-use Rattle.curp_law_linear.proofs.ManagersMoves.{adopted_entry, adopted_ok, self_number}
+use Rattle.curp_law_linear.proofs.ManagersMoves.{adopted_entry, adopted_ok}
 use Rattle.curp_law_linear.proofs.Parts.{adopted_or_none, part_entry, part_log}
 use Rattle.curp_facts.specs.Names.{IsOf}
 use Rattle.curp_law_pairs.proofs.Words.{one_log}
 use Rattle.curp_facts.specs.Migrated.{AllStored, Migrated, OnlyInWork, TakeStored}
 use Rattle.curp_facts.specs.Routes.{Routes, order_of}
-use Rattle.curp_law_linear.proofs.Found.{at_any, give_is, none_any, take_is}
+use Rattle.curp_law_linear.proofs.Found.{none_any}
+use Rattle.curp_cmd.proofs.Apart.{same_number}
+use Rattle.curp_law_line.proofs.Entries.{give_entry, take_entry}
 
 -- ---- words
 
@@ -124,7 +126,7 @@ module _ {w : World} (known : Known w) where
 
       -- where a take goes, no log has the give
       ungiven : (l : AdoptedLog w c) (k number : ℕ) (taken : Package) → At l.its.log (length o.b.log + k) (Take number taken) → Ungiven (line_of w).parts number
-      ungiven l k number taken at n q here = none_any (is_give number) q.log (λ i e stands is. none n q here i e stands (give_is number e is))
+      ungiven l k number taken at n q here = none_any (is_give number) q.log (λ i e stands is. none n q here i e stands (give_entry number e is))
         where
           by_log : (d : PartConfig) (j : AdoptedLog w d) (i : ℕ) (brought : Package) → At j.its.log i (Give number brought) → ⊥
           by_log d j i brought stands =
@@ -225,13 +227,13 @@ module _ {w : World} (known : Known w) where
           by_taken from t sent same =
               let g : TakeStored w t.migration t.package = migrated.told from t sent in
               let e = any_at (is_take number) (part_of w c).log any in
-              let it = take_is number e.1 e.3 in
+              let it = take_entry number e.1 e.3 in
               let l = adopted_at e.0 (Take number it.0) (subst (At (part_of w c).log e.0) it.1 e.2) in
               let taken : At g.its.its.log g.index (Take number t.package) = subst (λ (n : ℕ). At g.its.its.log g.index (Take n t.package)) same g.stands in
               let here : g.source ≡ c = one_source c g.source l.0 g.its e.0 g.index number it.0 t.package l.1 taken in
               let low = stored_stays g.source here (g.index + 1) g.stored in
               let in_log : At (part_of w c).log g.index (Take number t.package) = subst (λ (es : List Entry). At es g.index (Take number t.package)) (one_adopted c g.source here l.0 g.its ∙ sym (part_log known c l.0)) taken in
-              at_any (is_take number) o.b.log g.index (Take number t.package) (prefix_back front g.index (Take number t.package) (omega (arith, low)) in_log) (self_number number)
+              at_any (is_take number) o.b.log g.index (Take number t.package) (prefix_back front g.index (Take number t.package) (omega (arith, low)) in_log) (same_number number)
 
           at_manager : (node : NodeId) → IsOf w kind.Manager node → node ≡ manager_node
           at_manager node of = ap (λ (k : NodeKind). record { kind = k; number = node.number }) of.0 ∙ ap (λ (n : ℕ). record { kind = kind.Manager; number = n }) of.1

@@ -78,14 +78,14 @@ module _ {w : World} (known : Known w) where
           r = r;
           is = is;
           phase = phase;
-          b = re.b;
-          its_backup = subst (λ (q : Recover). IsBackup w q.backup re.b) order re.its_backup;
-          x = re.x;
-          its_witness = subst (λ (q : Recover). IsWitness w q.witness re.x) order re.its_witness;
+          b = re.sources.b;
+          its_backup = subst (λ (q : Recover). IsBackup w q.backup re.sources.b) order re.sources.its_backup;
+          x = re.sources.x;
+          its_witness = subst (λ (q : Recover). IsWitness w q.witness re.sources.x) order re.sources.its_witness;
           log = re.is
-              ∙ ap (λ (q : Recover). replay q.lo q.hi re.b.log (frozen_requests re.x)) order
-              ∙ ap (λ (lo : ℕ). replay lo a.order.hi re.b.log (frozen_requests re.x)) lo_is
-              ∙ ap (λ (hi : ℕ). replay (lo_of w o.c.part) hi re.b.log (frozen_requests re.x)) hi_is;
+              ∙ ap (λ (q : Recover). replay q.lo q.hi re.sources.b.log (frozen_requests re.sources.x)) order
+              ∙ ap (λ (lo : ℕ). replay lo a.order.hi re.sources.b.log (frozen_requests re.sources.x)) lo_is
+              ∙ ap (λ (hi : ℕ). replay (lo_of w o.c.part) hi re.sources.b.log (frozen_requests re.sources.x)) hi_is;
           cut = re.its_cut;
         }
 

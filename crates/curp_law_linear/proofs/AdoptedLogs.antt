@@ -1,5 +1,5 @@
 -- Each adopted master has a log: those of the opening serve from the beginning on, and others have recovered.
-use Rattle.std.proofs.Common.{◌≡◌, ◌≤◌, ◌<◌, inl, inr, ℕ, zero, suc, ◌+◌, List, [], ◌∷◌, refl, ap, sym, subst, arith, Some}
+use Rattle.std.proofs.Common.{◌≡◌, ◌≤◌, inl, inr, zero, suc, List, [], ◌∷◌, refl, sym, subst, arith, Some}
 use Rattle.std.proofs.lemmas.Bool.{cases_lt}
 use Rattle.curp_base.specs.Words.{At, numbered, numbers_from}
 use Rattle.curp_base.proofs.Lists.{at_map}
@@ -21,18 +21,13 @@ use Rattle.curp_law_linear.specs.Serves.{OpeningServes}
 use Rattle.curp_facts.specs.Names.{GivenOk, Top}
 use Rattle.curp_facts.specs.Predecessors.{Predecessors}
 use Rattle.curp_law_pairs.proofs.Adoptions.{adoptions_ok}
-
-at_numbers : (first count k : ℕ) → k < count → At (numbers_from first count) k (first + k)
-at_numbers first zero k low = absurd (omega (arith, low))
-at_numbers first (suc count) zero low = ap (λ (n : ℕ). Some n) (omega arith)
-at_numbers first (suc count) (suc k) low =
-    subst (At (numbers_from (first + 1) count) k) (omega arith) (at_numbers (first + 1) count k (omega (arith, low)))
+use Rattle.curp_base.proofs.Numbered.{numbers_at}
 
 -- they serve at opening
 pub serves_opening : (h : Header) → OpeningServes (opening h)
 unfolding opening
 serves_opening h zero one last = absurd (omega (arith, one))
-serves_opening h (suc k) one last = (_, at_map (opening_master (shape_of h)) (numbers_from 1 h.parts) k (suc k) (subst (At (numbers_from 1 h.parts) k) (omega arith) (at_numbers 1 h.parts k (omega (arith, last)))))
+serves_opening h (suc k) one last = (_, at_map (opening_master (shape_of h)) (numbers_from 1 h.parts) k (suc k) (subst (At (numbers_from 1 h.parts) k) (omega arith) (numbers_at 1 h.parts k (omega (arith, last)))))
 
 -- and serve on for good
 pub serves_later : {w v : World} → Grows w v → OpeningServes w → OpeningServes v

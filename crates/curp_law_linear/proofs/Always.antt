@@ -50,7 +50,6 @@ use Rattle.curp_law_linear.proofs.ReadsMasterSteps.{master_reads}
 use Rattle.curp_law_linear.proofs.ReadsQuiet.{client_reads, frame_reads, looks_same, none_late, none_lives}
 use Rattle.curp_law_logs.specs.Gives.{GivesFit}
 use Rattle.curp_law_names.proofs.Later.{Later}
-use Rattle.curp_law_names.proofs.Lists.{all_of-kept}
 use Rattle.curp_facts.specs.Predecessors.{Predecessors}
 use Rattle.curp_facts.specs.Migrated.{Migrated}
 use Rattle.curp_law_linear.proofs.MastersInput.{StageInput, Slow, Quickly, stage_input, nothing_pushed}
@@ -61,6 +60,7 @@ use Rattle.curp_law_kept.proofs.MastersReady.{step_follows}
 use Rattle.curp_msg.specs.declared.message.Message.{Message}
 use Rattle.curp_model.specs.Master.{MasterState}
 use Rattle.curp_facts.specs.Routes.{Routes}
+use Rattle.curp_model.proofs.Batches.{all_of-kept}
 
 -- what a step owes, but for the commands
 pub record KeepsOrder (w v : World) : Type 0 where

@@ -44,11 +44,11 @@ use Rattle.curp_law_linear.proofs.Parts.{line_logs}
 use Rattle.curp_law_linear.specs.Refined.{RefinesQuiet}
 use Rattle.curp_law_linear.proofs.Quiet.{line_is, no_move, tell_nothing}
 use Rattle.curp_law_linear.proofs.Same.{SameLogs}
-use Rattle.curp_law_names.proofs.Lists.{all_of-kept}
 use Rattle.curp_facts.specs.Predecessors.{Predecessors}
 use Rattle.curp_facts.specs.Migrated.{Migrated}
 use Rattle.curp_law_linear.proofs.CutMarks.{cuts_after}
 use Rattle.curp_facts.specs.Reach.{QuickSaid}
+use Rattle.curp_model.proofs.Batches.{all_of-kept}
 
 -- ---- an order completes nothing
 

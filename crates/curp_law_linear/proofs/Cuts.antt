@@ -88,20 +88,20 @@ module _ {w v : World} (known : Known w) (chain : Predecessors w) (now : Known v
       let a : AdoptionOk w c.its.lists = c.ok in
       let told : WasSent w (says manager_node m.master (body.Recover a.order)) = subst (λ (node : NodeId). WasSent w (says manager_node node (body.Recover a.order))) c.its.its_master a.ordered in
       let same : order ≡ a.order = now.names.one_order m.master order a.order sent (sent_later s told) in
-      let was : IsBackup w a.order.backup a.b = subst (λ (node : NodeId). IsBackup w node a.b) (sym a.its_node) a.its_backup in
-      let o = backup_later s a.order.backup a.b was in
+      let was : IsBackup w a.order.backup a.sources.b = subst (λ (node : NodeId). IsBackup w node a.sources.b) (sym a.its_node) a.sources.its_backup in
+      let o = backup_later s a.order.backup a.sources.b was in
       let one : b ≡ o.0 = one_backup b o.0 (subst (λ (r : Recover). IsBackup v r.backup b) same is) o.1 in
-      f.recovered i m at a.order told a.b was ∙ ap (λ (es : List Entry). length es) (sym (kept a o.0 o.2)) ∙ ap (λ (x : BackupState). length x.log) (sym one)
+      f.recovered i m at a.order told a.sources.b was ∙ ap (λ (es : List Entry). length es) (sym (kept a o.0 o.2)) ∙ ap (λ (x : BackupState). length x.log) (sym one)
     where
-      kept : {l : Lists} → (a : AdoptionOk w l) → (b : BackupState) → BackupGrows a.b b → b.log ≡ a.b.log
-      kept {l} a b grows = go a.b.installed refl
+      kept : {l : Lists} → (a : AdoptionOk w l) → (b : BackupState) → BackupGrows a.sources.b b → b.log ≡ a.sources.b.log
+      kept {l} a b grows = go a.sources.b.installed refl
         where
-          at_home : BackupOk w a.before a.b
-          at_home = known.inv.backups a.before a.was.given a.node a.named a.b a.its_backup
+          at_home : BackupOk w a.before a.sources.b
+          at_home = known.inv.backups a.before a.was.given a.node a.named a.sources.b a.sources.its_backup
 
-          go : (o : Option ℕ) → a.b.installed ≡ o → b.log ≡ a.b.log
+          go : (o : Option ℕ) → a.sources.b.installed ≡ o → b.log ≡ a.sources.b.log
           go None is = grows.absent is
-          go (Some e) is = grows.fenced e is (omega (arith, at_home.installed e is, a.earlier, a.fenced))
+          go (Some e) is = grows.fenced e is (omega (arith, at_home.installed e is, a.earlier, a.sources.fenced))
 
   -- what they tell stays, with those who are adopted now among them
   pub part_later : (part : ℕ) (cs : List Mark) → PartCuts w part cs → ((l : Lists) → WasAdopted v l → l.part ≡ part → (i : ℕ) × At (reigns part cs) i (reign_in l)) → PartCuts v part cs

@@ -43,8 +43,8 @@ module _ {w v : World} (known : Known w) (chain : Predecessors w) (ordered : Ord
       let k : AdoptionOk w c.its.lists = c.ok in
       let told : WasSent w (says manager_node m.master (body.Recover k.order)) = subst (λ (node : NodeId). WasSent w (says manager_node node (body.Recover k.order))) c.its.its_master k.ordered in
       let same : order ≡ k.order = now.names.one_order m.master order k.order sent (sent_later s told) in
-      let frozen : IsWitness w k.order.witness k.x = subst (λ (node : NodeId). IsWitness w node k.x) (sym k.its_other) k.its_witness in
-      let was = lives k.order.witness to k.x a frozen k.frozen is (subst (λ (o : Recover). WasSent v (says o.witness to (body.Probed a))) same live) in
+      let frozen : IsWitness w k.order.witness k.sources.x = subst (λ (node : NodeId). IsWitness w node k.sources.x) (sym k.its_other) k.sources.its_witness in
+      let was = lives k.order.witness to k.sources.x a frozen k.sources.frozen is (subst (λ (o : Recover). WasSent v (says o.witness to (body.Probed a))) same live) in
       let t = ordered.cuts_timed part i m at k.order told to a was is in
       (t.0, invoked_on a.id t.0 t.1, subst (λ (l : Line). CutEarly l part (suc i) a.id t.0) r.leads (cut_early_on r.moves (line_of w) r.fit ordered.line part (suc i) a.id t.0 t.1 t.2))
 

@@ -20,7 +20,7 @@ use Rattle.curp_law_line.specs.OfWorld.{told_by}
 use Rattle.curp_law_linear.specs.Refined.{RefinesQuiet}
 use Rattle.curp_law_linear.proofs.Quiet.{no_move, tell_nothing}
 use Rattle.curp_law_linear.proofs.CutMarks.{cuts_after}
-use Rattle.curp_law_names.proofs.Lists.{all_of-kept}
+use Rattle.curp_model.proofs.Batches.{all_of-kept}
 
 -- ---- what they tell of
 
@@ -73,7 +73,3 @@ module _ {w v : World} where
   pub rest_refines : RestsIn w v → RefinesQuiet w v
   rest_refines r = subst (RefinesQuiet w) (sym r.is) (no_move [] (record { sent = all_of-kept w.sent []; tells_nothing = refl; manager = refl; masters = refl; cuts_same = λ part. refl }) refl
       (same_history w.history [] None refl refl))
-
-  -- nothing changes
-  pub stay_refines : v ≡ w → RefinesQuiet w v
-  stay_refines is = subst (RefinesQuiet w) (sym is) (no_move [] (record { sent = sym (append-nil (messages w)); tells_nothing = refl; manager = refl; masters = refl; cuts_same = λ part. refl }) refl refl)

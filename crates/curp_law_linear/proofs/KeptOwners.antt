@@ -3,7 +3,7 @@ use Rattle.std.proofs.Common.{◌≡◌, ◌⊎◌, inl, inr, ℕ, zero, suc, �
 use Rattle.std.specs.List.{list_any}
 use Rattle.std.proofs.lemmas.Bool.{cases_Bool, or_left}
 use Rattle.curp_base.specs.Words.{At}
-use Rattle.curp_base.proofs.Lists.{Each-at, at_drop, at_within}
+use Rattle.curp_base.proofs.Lists.{Each-at, at_drop, at_within, take_one}
 use Rattle.curp_range.specs.Spans.{is_in, is_owned}
 use Rattle.curp_cmd.specs.declared.entry.Entry.{Entry}
 use Rattle.curp_cmd.specs.declared.entry.Entry.TheVariants.{Give, Take}
@@ -19,7 +19,7 @@ use Rattle.curp_facts.specs.Said.{StoredEntry}
 use Rattle.curp_facts.specs.Known.{Known}
 use Rattle.curp_law_line.specs.Hashes.{is_give}
 use Rattle.curp_law_line.specs.OfWorld.{part_of}
-use Rattle.curp_law_line.proofs.Entries.{take_of}
+use Rattle.curp_law_line.proofs.Entries.{take_of, give_entry}
 use Rattle.curp_law_line.proofs.Lists.{in_any}
 use Rattle.curp_base.proofs.Numbered.{any_at}
 use Rattle.curp_law_line.proofs.Spans.{owned_after, takes, with_range_has}
@@ -28,17 +28,15 @@ use Rattle.curp_law_linear.specs.Serves.{OpeningServes}
 use Rattle.curp_law_linear.proofs.AdoptMigrations.{moving_give, moving_take}
 use Rattle.curp_law_linear.proofs.AdoptedLogs.{adopted_log}
 use Rattle.curp_law_linear.proofs.MastersRise.{adopted_ok, take_given}
-use Rattle.curp_law_linear.proofs.ManagersMoves.{self_number}
 use Rattle.curp_law_trip.proofs.OpeningOwners.{opening_owner}
 use Rattle.curp_law_linear.proofs.Parts.{entry_part, part_log}
-use Rattle.curp_law_logs.proofs.Logs.{take_one}
 use Rattle.curp_facts.specs.Predecessors.{Predecessors}
 use Rattle.curp_facts.specs.Migrated.{Migrated, TakeStored}
 use Rattle.curp_facts.specs.Routes.{IsDone, IsGiveOf, IsMoving, Routes}
 use Rattle.curp_facts.specs.Stored.{StoredNow}
 use Rattle.curp_law_routes.proofs.Migrated.{one_stored, work_or_done}
 use Rattle.curp_law_routes.proofs.Stored.{entry_of, front_at, one_adopted, stored_now}
-use Rattle.curp_law_linear.proofs.Found.{give_is}
+use Rattle.curp_cmd.proofs.Apart.{same_number}
 
 -- behind a give its range is owned
 given_owned : (lo hi : ℕ) (front : List Entry) (number : ℕ) (given : Package) (h : ℕ) → is_in given.lo given.hi h ≡ true → is_owned (meaning lo hi (front ++ Give number given ∷ [])).owned h ≡ true
@@ -102,7 +100,7 @@ module _ {w : World} (known : Known w) (chain : Predecessors w) (routes : Routes
     by_work moving = elim (cases_Bool (list_any (is_give number) k.its.log)) [
       | inl found ↦
           let a = any_at (is_give number) k.its.log found in
-          let g = give_is number a.1 a.3 in
+          let g = give_entry number a.1 a.3 in
           by_give d.0 k a.0 g.0 (subst (At k.its.log a.0) g.1 a.2)
       | inr none ↦ inr (record {
         migration = moving.0;
@@ -116,7 +114,7 @@ module _ {w : World} (known : Known w) (chain : Predecessors w) (routes : Routes
             let there : At x.its.log among.place (Give number p) = subst (λ (n : ℕ). At x.its.log among.place (Give n p)) moving.2 among.stands in
             let same : x.its ≡ k.its = one_adopted known.names e d.0 x k (moving_give known routes moving.0 moving.1 e x among.place number p there moving.2 ∙ sym d.2) in
             let found : list_any (is_give number) k.its.log ≡ true
-            = in_any (is_give number) k.its.log (Give number p) (among.place, subst (λ (y : Logged). At y.log among.place (Give number p)) same there) (self_number number) in
+            = in_any (is_give number) k.its.log (Give number p) (among.place, subst (λ (y : Logged). At y.log among.place (Give number p)) same there) (same_number number) in
             let bad : true ≡ false = sym found ∙ none in
             cc;
       })

@@ -31,7 +31,7 @@ use Rattle.curp_law_logs.proofs.Packages.{take_package}
 use Rattle.curp_facts.specs.Predecessors.{Predecessors}
 use Rattle.curp_facts.specs.Migrated.{Migrated}
 use Rattle.curp_facts.specs.Routes.{InWork, Routes}
-use Rattle.curp_law_linear.proofs.Found.{give_is}
+use Rattle.curp_law_line.proofs.Entries.{give_entry}
 
 module _ {w : World} (known : Known w) (chain : Predecessors w) (routes : Routes w) (migrated : Migrated w) (ordered : Ordered w) where
   -- the package of a hash on its way is one that the machine carries
@@ -66,7 +66,7 @@ module _ {w : World} (known : Known w) (chain : Predecessors w) (routes : Routes
       quiet = λ k inside. quiet_behind known chain routes migrated ordered o.source o.source_log o.taken.place o.migration.number o.carried o.taken.stands its.last k (within k inside);
       ungiven = λ n q here. false_from_ne_true (list_any (is_give o.migration.number) q.log) (λ found.
           let a = any_at (is_give o.migration.number) q.log found in
-          let g = give_is o.migration.number a.1 a.3 in
+          let g = give_entry o.migration.number a.1 a.3 in
           let x = standing known chain routes migrated ordered n q a.0 a.1 here a.2 in
           o.nowhere x.0 x.1 g.0 (record { place = a.0; stands = subst (At x.1.its.log a.0) g.1 x.3 }));
     }

@@ -17,7 +17,7 @@ use Rattle.curp_cmd.specs.Node.{manager_node, client_node, backup_node, witness_
 use Rattle.curp_facts.specs.Names.{OrderOk, AdoptedOk, IsOf}
 use Rattle.curp_facts.specs.Kept.{AdoptionOk, LivesEarly, adopted_by}
 use Rattle.curp_law_pairs.proofs.Adoptions.{adoptions_ok}
-use Rattle.curp_law_names.proofs.Lists.{among_each, all_of-kept}
+use Rattle.curp_law_names.proofs.Lists.{among_each}
 use Rattle.curp_facts.specs.Growth.{Grows}
 use Rattle.curp_model.specs.Client.{client_input}
 use Rattle.curp_model.specs.Backup.{backup_input}
@@ -40,6 +40,7 @@ use Rattle.curp_msg.specs.declared.body.Body.TheVariants as body
 use Rattle.curp_cmd.specs.declared.node.NodeKind.TheVariants as kind
 use Rattle.curp_model.specs.declared.Mode.TheVariants as mode
 use Rattle.std.proofs.Common.{◌≡◌, ap, sym, ◌∙◌, subst, arith, true, ℕ, List, length, inl, inr, ◌⊎◌, ◌<◌, ◌++◌, ◌+◌, []}
+use Rattle.curp_model.proofs.Batches.{all_of-kept}
 
 -- ---- one node has said more
 
@@ -89,8 +90,8 @@ module _ {w v : World} (known : Known w) (chain : Predecessors w) (now : Known v
                 (subst (λ (z : Recover). At (messages w) j (says manager_node o.0.master (adopted_by z))) (sym same)
                 (subst (λ (z : NodeId). At (messages w) j (says manager_node z (adopted_by order))) (sym o.2) old))
             | inr new ↦
-                let frozen : IsWitness w order.witness k.x = subst (λ (z : Recover). IsWitness w z.witness k.x) same (subst (λ (z : NodeId). IsWitness w z k.x) (sym k.its_other) k.its_witness) in
-                absurd (silent order.witness to k.x a frozen k.frozen live (record { place = new.0; stands = new.2 }))
+                let frozen : IsWitness w order.witness k.sources.x = subst (λ (z : Recover). IsWitness w z.witness k.sources.x) same (subst (λ (z : NodeId). IsWitness w z k.sources.x) (sym k.its_other) k.sources.its_witness) in
+                absurd (silent order.witness to k.sources.x a frozen k.sources.frozen live (record { place = new.0; stands = new.2 }))
           ]
       | inr next ↦ elim (cases i (says order.witness to (body.Probed a)) at) [
         | inl was ↦ omega (arith, at_within (messages w) i (says order.witness to (body.Probed a)) was, next.1)

@@ -5,7 +5,6 @@ use Rattle.std.specs.Option.{ok_or, option_and_then}
 use Rattle.std.proofs.lemmas.Bool.{cond_both, eqb-true}
 use Rattle.curp_base.specs.Cases.{◌>>=◌, only_if, refuse_if}
 use Rattle.curp_base.specs.Words.{At, numbered, rises_past}
-use Rattle.curp_base.proofs.Ends.{never_rises}
 use Rattle.curp_cmd.specs.Node.{manager_node}
 use Rattle.curp_cmd.specs.declared.node.NodeId.{NodeId}
 use Rattle.curp_msg.specs.Moved.{Moved, quiet, says, unless_refused}
@@ -18,7 +17,7 @@ use Rattle.curp_msg.specs.declared.machine.Input.{Input}
 use Rattle.curp_msg.specs.declared.machine.Input.TheVariants as input
 use Rattle.curp_msg.specs.declared.machine.Local.{Local}
 use Rattle.curp_msg.specs.declared.machine.Local.TheVariants as local
-use Rattle.curp_model.specs.Manager.{Attempted, Doing, ManagerState, Migration, NewLists, Next, Recovering, Replacing, Steady, adopted_at, adoption, adopts, attempt_at, counter_ends, expire, expires, client_for, given_in, gives, heard, last_number, lists_in_work, manager_input, manager_ordered, migrate, migrates, moved_part, nudge, on_given, on_manager, on_prepared, on_recovered, on_taken, owner_of_range, owns_range, part_at, prepared_in, recover, recovered_in, recovered_part, recovers, recovery_for, replace, replacement_for, replaces, taken_in, tells_again, told, unless_numbers_end, version_adopted, version_in_work}
+use Rattle.curp_model.specs.Manager.{Attempted, Doing, ManagerState, Migration, NewLists, Recovering, Replacing, Steady, adopted_at, adoption, adopts, attempt_at, counter_ends, expire, expires, client_for, given_in, gives, heard, last_number, lists_in_work, manager_input, manager_ordered, migrate, migrates, moved_part, nudge, on_given, on_manager, on_prepared, on_recovered, on_taken, owner_of_range, owns_range, part_at, prepared_in, recover, recovered_in, recovered_part, recovers, recovery_for, replace, replacement_for, replaces, taken_in, tells_again, told, unless_numbers_end, version_adopted, version_in_work}
 use Rattle.curp_model.specs.Ranges.{Range, range_of}
 use Rattle.curp_model.specs.World.{World}
 use Rattle.curp_facts.specs.Facts.{IsAdoptedNow, IsAmong, WasSent, lists_of_part}
@@ -27,7 +26,9 @@ use Rattle.curp_law_line.specs.OfWorld.{moving_of}
 use Rattle.curp_law_linear.proofs.ManagersLine.{seat}
 use Rattle.curp_facts.specs.Names.{Names, RecoveringOk}
 use Rattle.curp_law_names.proofs.Keeps.{entry_now, entry_numbered, numbered_now}
-use Rattle.curp_law_names.proofs.Lists.{at_mapped, there_among}
+use Rattle.curp_law_names.proofs.Lists.{there_among}
+use Rattle.curp_base.proofs.Lists.{at_mapped}
+use Rattle.curp_model.proofs.Managers.{counters_stay}
 
 -- a recovery of the present entry is adopted, as a master says that it is recovered
 pub record Recovers (w : World) (a : Attempted) : Type 0 where
@@ -63,14 +64,6 @@ same_seat xs (suc k) c d at same = let less : suc k - 1 ≡ k = omega arith in s
     go [] k at = absurd cc
     go (x ∷ xs) zero at = ap (λ (s : ℕ × NodeId). s ∷ map seat xs) (same ∙ ap seat (sym (one at)))
     go (x ∷ xs) (suc k) at = ap (λ ss. seat x ∷ ss) (go xs k at)
-
--- numbers that stay end nowhere
-numbers_stay : (n : Next) → counter_ends n n ≡ false
-numbers_stay n = all_false (never_rises last_number n.epoch n.epoch refl) (never_rises last_number n.version n.version refl) (never_rises last_number n.master n.master refl)
-    (never_rises last_number n.backup n.backup refl) (never_rises last_number n.witness n.witness refl) (never_rises last_number n.migration n.migration refl)
-  where
-    all_false : {a b c d e f : Bool} → a ≡ false → b ≡ false → c ≡ false → d ≡ false → e ≡ false → f ≡ false → (a || b || c || d || e || f) ≡ false
-    all_false p q r s t u = cc
 
 module _ {w : World} (names : Names w) where
   rests : Leads w w.manager None
@@ -215,7 +208,7 @@ module _ {w : World} (names : Names w) where
         both true e = cc
         both false e = cc
     renewed a o part false =
-        let test : (counter_ends w.manager.next w.manager.next || false) ≡ false = either (counter_ends w.manager.next w.manager.next) (numbers_stay w.manager.next) in
+        let test : (counter_ends w.manager.next w.manager.next || false) ≡ false = either (counter_ends w.manager.next w.manager.next) (counters_stay w.manager.next) in
         subst (λ (b : Bool). Leads w (if b then quiet w.manager else adopts w.manager r.part (recovered_part o.c a)).state (Some a)) (sym test)
         (Renews a o (ap (λ (p : ℕ). set w.manager.config.parts (p - 1) (recovered_part o.c a)) (sym part)) refl)
       where

@@ -2,7 +2,7 @@
 -- was told.
 use Rattle.std.proofs.Common.{◌≡◌, inl, inr, ℕ, zero, suc, ◌-◌, List, [], ◌∷◌, ◌++◌, append-nil, map, flat_map, length, replicate, slice_get, refl, ap, sym, ◌∙◌, subst, Option, Some, None}
 use Rattle.curp_base.specs.Words.{Each, numbered}
-use Rattle.curp_base.proofs.Lists.{at_append, at_append_cases, at_replicate}
+use Rattle.curp_base.proofs.Lists.{at_append, at_append_cases, at_replicate, map_alike}
 use Rattle.curp_cmd.specs.declared.node.NodeId.{NodeId}
 use Rattle.curp_msg.specs.Moved.{says}
 use Rattle.curp_msg.specs.declared.body.Body.{Body}
@@ -52,11 +52,6 @@ entries_grown ms next (suc k) = go (slice_get ms k) (slice_get (grown ms Fresh n
 of_shown : {A B C : Type 0} (f : B → C) (s : A → B) (xs : List A) → map (λ (x : A). f (s x)) xs ≡ map f (map s xs)
 of_shown f s [] = refl
 of_shown f s (x ∷ xs) = ap (λ ys. f (s x) ∷ ys) (of_shown f s xs)
-
--- what is made alike of each item
-pub map_alike : {A B : Type 0} (f g : A → B) → ((x : A) → f x ≡ g x) → (xs : List A) → map f xs ≡ map g xs
-map_alike f g e [] = refl
-map_alike f g e (x ∷ xs) = ap (λ y. y ∷ map f xs) (e x) ∙ ap (λ ys. g x ∷ ys) (map_alike f g e xs)
 
 -- the partition of a seat
 abbrev pub seated : Shape → List MasterStage → ℕ × NodeId → Part

@@ -1,9 +1,8 @@
 -- A migration begins, or is done: the moves of the machine.
 use Rattle.std.proofs.Common.{◌≡◌, ◌≢◌, inl, inr, ℕ, zero, suc, ◌+◌, ◌<◌, ◌≤◌, ◌==◌, true, List, [], refl, ap, sym, ◌∙◌, subst, arith, Some, None}
 use Rattle.std.proofs.lemmas.Bool.{eqb-true}
-use Rattle.std.proofs.lemmas.Bool.Decides.{nat_tests}
 use Rattle.curp_base.specs.Words.{At, numbered}
-use Rattle.curp_base.proofs.Lists.{Each-at, at_some, at_within}
+use Rattle.curp_base.proofs.Lists.{Each-at, at_some, at_within, at_any}
 use Rattle.curp_cmd.specs.Node.{manager_node}
 use Rattle.curp_cmd.specs.declared.entry.Entry.{Entry}
 use Rattle.curp_cmd.specs.declared.entry.Entry.TheVariants.{Op, Take, Give, Expire}
@@ -34,7 +33,8 @@ use Rattle.curp_law_pairs.proofs.Along.{entry_along}
 use Rattle.curp_law_pairs.proofs.Logs.{log_ok}
 use Rattle.curp_facts.specs.Migrated.{AllStored, Migrated, TakeStored}
 use Rattle.curp_facts.specs.Routes.{InWork, Routes, order_of}
-use Rattle.curp_law_linear.proofs.Found.{at_any, none_any}
+use Rattle.curp_law_linear.proofs.Found.{none_any}
+use Rattle.curp_cmd.proofs.Apart.{same_number}
 
 -- ---- words
 
@@ -50,9 +50,6 @@ give_number_is number (Op r acknowledged) is = absurd cc
 give_number_is number (Take migration taken) is = absurd cc
 give_number_is number (Give migration given) is = ap Some (eqb-true migration number is)
 give_number_is number (Expire client) is = absurd cc
-
-pub self_number : (n : ℕ) → (n == n) ≡ true
-self_number n = grind (arith, nat_tests)
 
 module _ {w : World} (known : Known w) where
   -- the entry of the configuration of each partition
@@ -148,11 +145,11 @@ module _ {w : World} (known : Known w) where
                 source = part_of w t.source;
                 its_source = subst (λ (n : ℕ). numbered (line_of w).parts n ≡ Some (part_of w t.source)) source (entry_part known t.source t.its.now);
                 taken = at_any (is_take k.number) (part_of w t.source).log t.index (Take number brought) (subst (λ (es : List Entry). At es t.index (Take number brought)) (sym (part_log known t.source t.its)) t.stands)
-                    (subst (λ (n : ℕ). (number == n) ≡ true) (same ∙ sym same_numbers.0) (self_number number));
+                    (subst (λ (n : ℕ). (number == n) ≡ true) (same ∙ sym same_numbers.0) (same_number number));
                 target = part_of w c;
                 its_target = subst (λ (n : ℕ). numbered (line_of w).parts n ≡ Some (part_of w c)) target (entry_part known c l.now);
                 given = at_any (is_give k.number) (part_of w c).log i (Give number brought) (subst (λ (es : List Entry). At es i (Give number brought)) (sym (part_log known c l)) at)
-                    (subst (λ (n : ℕ). (number == n) ≡ true) (same ∙ sym same_numbers.0) (self_number number));
+                    (subst (λ (n : ℕ). (number == n) ≡ true) (same ∙ sym same_numbers.0) (same_number number));
               }
 
           go : StoredEntry w from (IsGiveFrom m.number) → GivenFits (line_of w) k

@@ -23,7 +23,6 @@ use Rattle.curp_facts.specs.Facts.{IsAdoptedNow, Lists, WasAdopted, hi_of, lists
 use Rattle.curp_facts.specs.Growth.{MasterGrows, ServesOn}
 use Rattle.curp_facts.specs.Kept.{AdoptedLog, lists_of_master}
 use Rattle.curp_facts.specs.Nodes.{CapturedOk, ServingOk}
-use Rattle.curp_law_kept.proofs.Apart.{either_node}
 use Rattle.curp_facts.specs.Known.{Known}
 use Rattle.curp_facts.specs.Names.{IsOf}
 use Rattle.curp_law_kept.proofs.MastersMoves.{MasterStep}
@@ -52,6 +51,7 @@ use Rattle.curp_law_logs.specs.Gives.{GivesFit}
 use Rattle.curp_facts.specs.Predecessors.{Predecessors}
 use Rattle.curp_facts.specs.Migrated.{Migrated}
 use Rattle.curp_facts.specs.Routes.{Routes}
+use Rattle.curp_cmd.proofs.Nodes.{either_node}
 
 -- the log of an adopted master that serves
 abbrev pub serving_log : {w : World} (c : PartConfig) (node : NodeId) (m : MasterState) → IsAdoptedNow w c → c.master ≡ node → IsMaster w node (Serving m) → AdoptedLog w c

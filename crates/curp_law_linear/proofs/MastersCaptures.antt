@@ -50,11 +50,6 @@ pub record IsCapture (m : MasterState) (c : Captured) : Type 0 where
   pub answer : c.answer ≡ Found (store.get (state_of m).store key)
   pub owned : owns_all (state_of m).owned (hashes c.command) ≡ true
 
--- the answer is the one that the log gives to its command
-pub capture_answers : (m : MasterState) (c : Captured) → IsCapture m c → c.answer ≡ answer_after m.lo m.hi m.log c.command
-unfolding applied
-capture_answers m c is = is.answer ∙ ap (answer_after m.lo m.hi m.log) (sym is.gets)
-
 -- it gives up captures alone
 pub record TakesNone (m k : MasterState) : Type 0 where
   pub stood : (c : Captured) → IsAmong c k.captures → IsAmong c m.captures

@@ -14,7 +14,6 @@ use Rattle.curp_model.specs.Recovery.{Fresh, MasterStage, Recovering, RecoverySt
 use Rattle.curp_model.specs.World.{World}
 use Rattle.curp_facts.specs.Facts.{IsAdoptedNow, Logged, hi_of, lists_of_part, lo_of, node_log}
 use Rattle.curp_facts.specs.Kept.{AdoptedLog}
-use Rattle.curp_law_kept.proofs.Apart.{either_node}
 use Rattle.curp_facts.specs.Known.{Known}
 use Rattle.curp_law_kept.proofs.MastersMoves.{MasterStep}
 use Rattle.curp_law_line.proofs.Lists.{some_same}
@@ -25,6 +24,7 @@ use Rattle.curp_law_logs.specs.Gives.{GivesFit}
 use Rattle.curp_facts.specs.Predecessors.{Predecessors}
 use Rattle.curp_facts.specs.Migrated.{Migrated}
 use Rattle.curp_facts.specs.Routes.{Routes}
+use Rattle.curp_cmd.proofs.Nodes.{either_node}
 
 module _ {w v : World} (known : Known w) (chain : Predecessors w) (routes : Routes w) (migrated : Migrated w) (ordered : Ordered w) (moved : Migrated v)
     (n : ℕ) (from : NodeId) (heard : Option Body) (out : List Message) where

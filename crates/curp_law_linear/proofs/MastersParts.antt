@@ -22,7 +22,7 @@ use Rattle.curp_law_line.specs.OfWorld.{entries_at, line_of, logged_entries, par
 use Rattle.curp_base.proofs.Numbered.{any_at}
 use Rattle.curp_facts.specs.Names.{IsOf}
 use Rattle.curp_law_names.proofs.Homes.{master_there}
-use Rattle.curp_law_linear.proofs.Found.{at_any}
+use Rattle.curp_base.proofs.Lists.{at_any}
 
 map_same : {A B : Type 0} (f g : A → B) (xs : List A) → ((k : ℕ) (x : A) → At xs k x → f x ≡ g x) → map f xs ≡ map g xs
 map_same f g [] same = refl

@@ -3,9 +3,8 @@
 use Rattle.std.proofs.Common.{◌≡◌, ◌≢◌, ◌⊎◌, inl, inr, ℕ, ◌+◌, ◌<◌, ◌≤◌, ◌==◌, true, false, List, [], length, take, refl, ap, sym, ◌∙◌, ap₂, subst, subst₂, arith, Option, Some, None}
 use Rattle.std.specs.List.{list_any}
 use Rattle.std.proofs.lemmas.Bool.{and_from, cases_lt, cases_order, false_from_ne_true}
-use Rattle.std.proofs.lemmas.Bool.Decides.{nat_tests}
 use Rattle.curp_base.specs.Words.{At, IsPrefix, numbered}
-use Rattle.curp_base.proofs.Lists.{Each-at, at_append_right, at_take, at_within, prefix_at, prefix_back}
+use Rattle.curp_base.proofs.Lists.{Each-at, at_append_right, at_take, at_within, prefix_at, prefix_back, at_any}
 use Rattle.curp_range.specs.Spans.{Span, is_in, is_owned}
 use Rattle.curp_cmd.specs.Node.{manager_node}
 use Rattle.curp_cmd.specs.declared.entry.Entry.{Entry}
@@ -44,10 +43,8 @@ use Rattle.curp_law_pairs.proofs.Logs.{log_ok}
 use Rattle.curp_law_pairs.proofs.Words.{one_log}
 use Rattle.curp_facts.specs.Migrated.{Migrated, TakeStored}
 use Rattle.curp_facts.specs.Routes.{IsDone, IsGiveOf, IsMoving, Routes, order_of}
-use Rattle.curp_law_linear.proofs.Found.{at_any, found_give}
-
-same_number : (n : ℕ) → (n == n) ≡ true
-same_number n = grind (arith, nat_tests)
+use Rattle.curp_law_linear.proofs.Found.{found_give}
+use Rattle.curp_cmd.proofs.Apart.{same_number}
 
 module _ {w : World} (known : Known w) (chain : Predecessors w) (routes : Routes w) (migrated : Migrated w) (ordered : Ordered w) where
   -- ---- adopted logs

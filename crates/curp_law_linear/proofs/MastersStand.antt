@@ -43,7 +43,8 @@ module _ {w : World} (known : Known w) (chain : Predecessors w) (n : ℕ) where
 
   -- a replay is the same as long as the order is
   replay_same : (s t : RecoveryState) → t.order ≡ s.order → (r q : Replayed) → ReplayOk w s r → ReplayOk w t q → q.log ≡ r.log
-  replay_same s t same r q a b = go s.order t.order same a.b b.b a.x b.x a.its_backup b.its_backup a.its_witness b.its_witness a.is b.is
+  replay_same s t same r q a b =
+      go s.order t.order same a.sources.b b.sources.b a.sources.x b.sources.x a.sources.its_backup b.sources.its_backup a.sources.its_witness b.sources.its_witness a.is b.is
     where
       go : (o p : Recover) → p ≡ o → (b c : BackupState) (x y : WitnessState) → IsBackup w o.backup b → IsBackup w p.backup c → IsWitness w o.witness x → IsWitness w p.witness y
           → r.log ≡ replay o.lo o.hi b.log (frozen_requests x) → q.log ≡ replay p.lo p.hi c.log (frozen_requests y) → q.log ≡ r.log

@@ -3,7 +3,7 @@ use Rattle.std.proofs.Common.{◌≡◌, ℕ, zero, suc, ◌+◌, true, List, []
 use Rattle.std.specs.List.{list_any}
 use Rattle.std.proofs.lemmas.Bool.Decides.{nat_tests}
 use Rattle.curp_base.specs.Words.{At, Each, numbered}
-use Rattle.curp_base.proofs.Lists.{Each-at, Each-weaker, at_append_cases, at_append_right}
+use Rattle.curp_base.proofs.Lists.{Each-at, Each-weaker, at_append_cases, at_append_right, at_any}
 use Rattle.curp_cmd.specs.Node.{manager_node}
 use Rattle.curp_cmd.specs.declared.entry.Entry.{Entry}
 use Rattle.curp_cmd.specs.declared.entry.Entry.TheVariants.{Take}
@@ -28,7 +28,6 @@ use Rattle.curp_law_linear.proofs.Parts.{numbered_mapped}
 use Rattle.curp_law_masters.specs.Moves.{IsSaidBy, RecoverySays, ServingSays}
 use Rattle.curp_law_masters.specs.Stages.{FreshSays}
 use Rattle.curp_facts.specs.Migrated.{Migrated, TakeStored}
-use Rattle.curp_law_linear.proofs.Found.{at_any}
 
 -- the take of the migration stands in a partition
 pub record TakeStands (parts : List Part) (number : ℕ) : Type 0 where

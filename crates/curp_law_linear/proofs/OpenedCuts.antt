@@ -1,7 +1,7 @@
 -- At the opening no partition was adopted anew: each has its first master.
 use Rattle.std.proofs.Common.{◌≡◌, ◌≤◌, inl, ℕ, ◌-◌, [], refl, ap, sym, ◌∙◌, subst, arith}
 use Rattle.curp_base.specs.Words.{At, numbers_from}
-use Rattle.curp_base.proofs.Lists.{at_map, at_one}
+use Rattle.curp_base.proofs.Lists.{at_map, at_one, at_mapped}
 use Rattle.curp_base.proofs.Numbered.{numbers_at}
 use Rattle.curp_cmd.specs.Node.{master_node}
 use Rattle.curp_msg.specs.declared.config.PartConfig.{PartConfig}
@@ -12,7 +12,6 @@ use Rattle.curp_model.specs.World.{opening, shape_of}
 use Rattle.curp_facts.specs.Facts.{AtOpening, ByRecovery, ByReplacement, IsGiven, Lists, lists_of_part}
 use Rattle.curp_law_line.specs.OfWorld.{Reign, reigns}
 use Rattle.curp_law_linear.specs.Ordered.{CutsFollow, PartCuts, ReignOk, reign_in}
-use Rattle.curp_law_names.proofs.Lists.{at_mapped}
 use Rattle.curp_law_routes.proofs.Steps.{nothing_sent}
 
 module _ (h : Header) where

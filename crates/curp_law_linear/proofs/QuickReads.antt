@@ -35,11 +35,11 @@ use Rattle.curp_law_linear.proofs.ReadsMoves.{NoneDrops, none_drops, worth_later
 use Rattle.curp_msg.specs.declared.body.Worth.{Worth}
 use Rattle.curp_law_linear.proofs.QuickLater.{quick_later}
 use Rattle.curp_law_linear.proofs.MastersCuts.{master_lives, master_entries, master_newer, master_late}
-use Rattle.curp_law_kept.proofs.Apart.{either_node}
 use Rattle.curp_law_linear.proofs.Cuts.{cuts_stay}
 use Rattle.curp_law_linear.proofs.CutsTimes.{timed_stay}
 use Rattle.curp_law_linear.proofs.ReadsStored.{looks_stored}
 use Rattle.curp_msg.specs.declared.body.Body.TheVariants as body
+use Rattle.curp_cmd.proofs.Nodes.{either_node}
 
 -- an item stands at one place now
 was_same : (c k l j : ℕ) → Was c k j → Was c l j → k ≡ l

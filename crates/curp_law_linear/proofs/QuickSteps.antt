@@ -29,7 +29,6 @@ use Rattle.curp_cmd.specs.Store.{applied}
 use Rattle.curp_model.specs.Log.{answer_after, entry_touches, meaning}
 use Rattle.curp_law_line.proofs.Puts.{put_filter}
 use Rattle.curp_law_linear.proofs.MastersParts.{own_log_after, own_log_before, parts_stay, other_part, other_master}
-use Rattle.curp_law_kept.proofs.Apart.{either_node}
 use Rattle.curp_model.specs.Manager.{ManagerState}
 use Rattle.curp_model.specs.Ranges.{opening_range}
 use Rattle.curp_law_linear.proofs.Same.{flat_append}
@@ -83,6 +82,7 @@ use Rattle.curp_msg.specs.declared.body.Body.TheVariants as body
 use Rattle.curp_cmd.specs.declared.node.NodeKind.TheVariants as kind
 use Rattle.std.specs.FinMap as store
 use Rattle.curp_law_kept.proofs.Known.{said}
+use Rattle.curp_cmd.proofs.Nodes.{either_node}
 
 -- what an answer at once does with the marks and the machine, and what is known of the read then
 pub record QuickStep (w v : World) (lists : Lists) (node : NodeId) (q : QuickValue) (mark : Mark) : Type 0 where
@@ -328,8 +328,8 @@ module _ {w v : World} (known : Known w) (chain : Predecessors w) (ordered : Ord
       synced_low =
           let k = adopted.ok in
           let named : IsAmong k.node x.backups = subst (λ (l : Lists). IsAmong k.node l.backups) from_own k.named in
-          let many = among_each (HasMany w (synced x)) x.backups (synced_many w x before.acknowledged (synced x) (omega arith)) k.node named k.b k.its_backup in
-          let is = (follow x.part).recovered i m here k.order order_sent k.b (subst (λ (z : NodeId). IsBackup w z k.b) (sym k.its_node) k.its_backup) in
+          let many = among_each (HasMany w (synced x)) x.backups (synced_many w x before.acknowledged (synced x) (omega arith)) k.node named k.sources.b k.sources.its_backup in
+          let is = (follow x.part).recovered i m here k.order order_sent k.sources.b (subst (λ (z : NodeId). IsBackup w z k.sources.b) (sym k.its_node) k.sources.its_backup) in
           omega (arith, many, is)
 
       superseded : Superseded w x.part (i + 1) (reign_in own) m
@@ -389,13 +389,13 @@ module _ {w v : World} (known : Known w) (chain : Predecessors w) (ordered : Ord
       gated : Gated v own node quick_of
       gated =
           let k = adopted.ok in
-          let o = witness_later follows k.other k.x k.its_witness in
+          let o = witness_later follows k.other k.sources.x k.sources.its_witness in
           record {
             witness = k.other;
             named = subst (λ (l : Lists). IsAmong k.other l.witnesses) from_own k.named_too;
             x = o.0;
             is = o.1;
-            frozen = ap (λ (z : WitnessState). z.mode) (o.2.frozen k.frozen) ∙ k.frozen;
+            frozen = ap (λ (z : WitnessState). z.mode) (o.2.frozen k.sources.frozen) ∙ k.sources.frozen;
             opens = λ live. opens live;
           }
         where
@@ -405,7 +405,7 @@ module _ {w v : World} (known : Known w) (chain : Predecessors w) (ordered : Ord
           opens : WasSent v (says adopted.ok.other (client_node r.id.client) (body.Probed probed)) → QuickEarly (line_of v) by x.part r.id quick_of.answer
           opens live =
               let k = adopted.ok in
-              let was : WasSent w (says k.other (client_node r.id.client) (body.Probed probed)) = master_lives n from heard out (Serving x) (Serving y) step k.other (client_node r.id.client) k.x probed k.its_witness k.frozen refl live in
+              let was : WasSent w (says k.other (client_node r.id.client) (body.Probed probed)) = master_lives n from heard out (Serving x) (Serving y) step k.other (client_node r.id.client) k.sources.x probed k.sources.its_witness k.sources.frozen refl live in
               let t = ordered.cuts_timed x.part i m here k.order order_sent (client_node r.id.client) probed (subst (λ (z : NodeId). WasSent w (says z (client_node r.id.client) (body.Probed probed))) (sym k.its_other) was) refl in
               let once = ordered.line.order.history.invoked_once t.1.event was_invoked.event r.id t.0 r.command t.1.stands was_invoked.stands in
               let same : t.0 ≡ r.command = commands (at_same w.history was_invoked.event (Invoke r.id t.0) (Invoke r.id r.command) (subst (λ (j : ℕ). At w.history j (Invoke r.id t.0)) once t.1.stands) was_invoked.stands) in

@@ -36,7 +36,7 @@ use Rattle.curp_law_linear.specs.Ordered.{Ordered}
 use Rattle.curp_law_linear.proofs.Parts.{entry_part, line_logs, part_log}
 use Rattle.curp_law_linear.proofs.ReadsCaptures.{CapturesRead}
 use Rattle.curp_law_logs.proofs.Ranges.{owns_touched}
-use Rattle.curp_law_names.proofs.Lists.{at_place}
+use Rattle.curp_base.proofs.Numbered.{at_place}
 
 -- a master that some entry names
 found_entry : (node : NodeId) (cs : List PartConfig) → list_any (λ (c : PartConfig). same_node c.master node) cs ≡ true → (k : ℕ) × (c : PartConfig) × At cs k c × (c.master ≡ node)

@@ -14,7 +14,6 @@ use Rattle.curp_msg.specs.declared.message.Message.{Message}
 use Rattle.curp_order.specs.declared.Event.{Event}
 use Rattle.curp_model.specs.Manager.{Attempted, ManagerState, Recovering, adopted_message, adoption, manager_input, recovered_part}
 use Rattle.curp_model.specs.Marks as mark
-use Rattle.curp_model.specs.Marks.{Mark}
 use Rattle.curp_model.specs.Named.{IsMaster, IsBackup}
 use Rattle.curp_model.specs.Recovery as recovery
 use Rattle.curp_model.specs.Recovery.{Asking, Fresh, MasterStage, RecoveryPhase, RecoveryState, Replayed, Serving, Storing, Waiting}
@@ -24,7 +23,7 @@ use Rattle.curp_facts.specs.Kept.{lists_of_master}
 use Rattle.curp_facts.specs.Nodes.{IsWaiting, MasterOk}
 use Rattle.curp_facts.specs.Said.{RecoveredSaid}
 use Rattle.curp_law_growth.specs.Deeds.{IsFor}
-use Rattle.curp_base.proofs.Numbered.{numbered_set_cases, numbered_set_same}
+use Rattle.curp_base.proofs.Numbered.{numbered_set_cases, numbered_set_same, place}
 use Rattle.curp_law_kept.specs.ManagerEffect.{ManagerEffect, Uttered}
 use Rattle.curp_facts.specs.Known.{Known}
 use Rattle.curp_law_kept.proofs.Known.{said}
@@ -37,7 +36,6 @@ use Rattle.curp_law_linear.proofs.ReadsManager.{AdoptsRecovery, AdoptsThat, Mana
 use Rattle.curp_law_linear.proofs.ReadsManagerLists.{manager_said, new_entry}
 use Rattle.curp_law_linear.proofs.ReadsManagerSteps.{was_heard}
 use Rattle.curp_facts.specs.Names.{RecoveringOk}
-use Rattle.curp_law_names.proofs.Lists.{place}
 use Rattle.curp_law_names.proofs.Steps.{manager_moved, moved_messages}
 use Rattle.curp_facts.specs.Predecessors.{Predecessors}
 use Rattle.curp_law_pairs.proofs.Uttered.{manager_adopts}
@@ -181,8 +179,8 @@ module _ {w : World} (known : Known w) (given : Input) (adopted : Option Attempt
       replayed : ReplayOk w its.s its.p
       replayed = cut_replay known now chain later ordered s r more its
 
-      here : IsBackup v a.order.backup replayed.b
-      here = more.backups a.order.backup replayed.b (cut_backup known now chain later ordered s r more its)
+      here : IsBackup v a.order.backup replayed.sources.b
+      here = more.backups a.order.backup replayed.sources.b (cut_backup known now chain later ordered s r more its)
 
       within : its.p.cut ≤ length (log_of w a.order.part its.before.master).log
       within = cut_within known now chain later ordered s r more its
@@ -191,7 +189,7 @@ module _ {w : World} (known : Known w) (given : Input) (adopted : Option Attempt
       stored = cut_stored known now chain later ordered s r more its
 
       follow : CutsFollow v
-      follow = cuts_follow_adopted known chain now s r its ordered.cuts_follow within stored replayed.b here replayed.its_cut
+      follow = cuts_follow_adopted known chain now s r its ordered.cuts_follow within stored replayed.sources.b here replayed.its_cut
 
       timed : CutsTimed v
-      timed = timed_more known chain ordered now s r (lives now more) a.order.part (cuts_cases known chain now s r its ordered.cuts_follow within stored replayed.b here replayed.its_cut) early
+      timed = timed_more known chain ordered now s r (lives now more) a.order.part (cuts_cases known chain now s r its ordered.cuts_follow within stored replayed.sources.b here replayed.its_cut) early

@@ -8,7 +8,7 @@ use Rattle.std.specs.Ordering.{nat_cmp}
 use Rattle.std.proofs.lemmas.Bool.{cases_lt, cond_both}
 use Rattle.curp_base.specs.Cases.{first_there, only_if}
 use Rattle.curp_base.specs.Words.{Each, rises_past}
-use Rattle.curp_base.proofs.Lists.{Each-append, Each-weaker}
+use Rattle.curp_base.proofs.Lists.{Each-append, Each-weaker, Each-image, Each-images}
 use Rattle.curp_cmd.specs.Hash.{hashes}
 use Rattle.curp_cmd.specs.Node.{is_among, same_node}
 use Rattle.curp_cmd.specs.declared.command.Answer.TheVariants.{Found}
@@ -114,14 +114,6 @@ no_value m k (body.Worth v) none = absurd none
 no_value m k (body.Quick q) none = absurd none
 no_value m k _ none = tt
 
-each_image : {A B : Type 0} (P : B → Type 0) (f : A → B) → ((x : A) → P (f x)) → (xs : List A) → Each P (map f xs)
-each_image P f all [] = tt
-each_image P f all (x ∷ xs) = (all x, each_image P f all xs)
-
-each_images : {A B : Type 0} (P : B → Type 0) (f : A → List B) → ((x : A) → Each P (f x)) → (xs : List A) → Each P (flat_map f xs)
-each_images P f all [] = tt
-each_images P f all (x ∷ xs) = Each-append P (f x) (flat_map f xs) (all x) (each_images P f all xs)
-
 -- the round of another backup stays, and that of this one is the larger of the two
 raised_round : (acks : List Acknowledged) (backup : NodeId) (long round : ℕ) (b : NodeId)
     → ((from_backup (raised acks backup long round) b).round ≤ (from_backup acks b).round) ⊎ ((b ≡ backup) × ((from_backup (raised acks backup long round) b).round ≤ round))
@@ -199,7 +191,7 @@ module _ (n : ℕ) (m : MasterState) (from : NodeId) (heard : Option Body) where
   refused_reads id why = plain m _ itself (tt, tt)
 
   no_appends : (k : MasterState) → Each (λ (x : Message). NoValue x.body) (begins_round n k).messages
-  no_appends k = each_image (λ (x : Message). NoValue x.body) (append_to n (next_round k)) (λ b. tt) (stored_on (next_round k))
+  no_appends k = Each-image (λ (x : Message). NoValue x.body) (append_to n (next_round k)) (λ b. tt) (stored_on (next_round k))
 
   rounds : (k : MasterState) → Same k → Goes (begins_round n k)
   rounds k s = plain (next_round k) (begins_round n k).messages (record { captures = s.captures; captured = s.captured; acknowledged = s.acknowledged }) (no_appends k)
@@ -314,9 +306,9 @@ module _ (n : ℕ) (m : MasterState) (from : NodeId) (heard : Option Body) where
       rounds = known;
       values = Each-append Value (synced_replies n k due ++ map (value_of n k) (filter (is_ready k) k.captures)) (flat_map (moved_entry n) (between k.settled (synced k) k.log))
           (Each-append Value (synced_replies n k due) (map (value_of n k) (filter (is_ready k) k.captures))
-          (silent (synced_replies n k due) (each_images (λ (x : Message). NoValue x.body) (λ index. synced_reply n k index (slice_get k.log index)) (λ index. synced_silent k index (slice_get k.log index)) due))
+          (silent (synced_replies n k due) (Each-images (λ (x : Message). NoValue x.body) (λ index. synced_reply n k index (slice_get k.log index)) (λ index. synced_silent k index (slice_get k.log index)) due))
           (values k.captures (λ c a. waited c a)))
-          (silent (flat_map (moved_entry n) (between k.settled (synced k) k.log)) (each_images (λ (x : Message). NoValue x.body) (moved_entry n) entry_silent (between k.settled (synced k) k.log)));
+          (silent (flat_map (moved_entry n) (between k.settled (synced k) k.log)) (Each-images (λ (x : Message). NoValue x.body) (moved_entry n) entry_silent (between k.settled (synced k) k.log)));
     }
 
     settles : k.captured ≡ m.captured → RoundMoves m from heard k → Goes (settle n k)
@@ -438,7 +430,7 @@ module _ (n : ℕ) (m : MasterState) (from : NodeId) (heard : Option Body) where
       (λ y. plain (next_round m) _ (record { captures = refl; captured = refl; acknowledged = refl }) (tt, no_appends m)) (λ y. rounds m itself)
 
   collect_moves : (at : Phase) → Goes (collect_in n m at)
-  collect_moves Open = plain _ (collects n m).messages (record { captures = refl; captured = refl; acknowledged = refl }) (each_image (λ (x : Message). NoValue x.body) _ (λ to. tt) m.witnesses)
+  collect_moves Open = plain _ (collects n m).messages (record { captures = refl; captured = refl; acknowledged = refl }) (Each-image (λ (x : Message). NoValue x.body) _ (λ to. tt) m.witnesses)
   collect_moves (Switching t) = rests
 
   -- and an order

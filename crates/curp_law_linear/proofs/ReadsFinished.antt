@@ -4,7 +4,6 @@ use Rattle.std.specs.Option.{option_and_then}
 use Rattle.std.proofs.lemmas.Bool.Decides.{nat_tests}
 use Rattle.curp_base.specs.Cases.{only_if}
 use Rattle.curp_base.specs.Words.{numbered, rises_past}
-use Rattle.curp_base.proofs.Ends.{never_rises}
 use Rattle.curp_cmd.specs.Node.{manager_node}
 use Rattle.curp_cmd.specs.declared.node.NodeId.{NodeId}
 use Rattle.curp_msg.specs.Moved.{Moved, quiet, says}
@@ -15,18 +14,11 @@ use Rattle.curp_msg.specs.declared.config.PartConfig.{PartConfig}
 use Rattle.curp_msg.specs.declared.machine.Input.{Input}
 use Rattle.curp_msg.specs.declared.machine.Input.TheVariants as input
 use Rattle.curp_model.specs.Manager as manager
-use Rattle.curp_model.specs.Manager.{Attempted, Doing, ManagerState, Next, Recovering, Replacing, Steady, adopted_by, adoption, adopts, attempt_at, counter_ends, finished, last_number, manager_input, on_manager, part_at, recovered_in, recovered_part, unless_numbers_end}
+use Rattle.curp_model.specs.Manager.{Attempted, Doing, ManagerState, Recovering, Replacing, Steady, adopted_by, adoption, adopts, attempt_at, counter_ends, finished, last_number, manager_input, on_manager, part_at, recovered_in, recovered_part, unless_numbers_end}
 use Rattle.curp_model.specs.World.{World}
 use Rattle.curp_facts.specs.Facts.{WasSent}
 use Rattle.curp_law_growth.specs.Deeds.{IsFor}
-
--- no counter rises where none changes
-never_ends : (n : Next) → counter_ends n n ≡ false
-never_ends n = either (either (either (either (either (never_rises last_number n.epoch n.epoch refl) (never_rises last_number n.version n.version refl)) (never_rises last_number n.master n.master refl))
-    (never_rises last_number n.backup n.backup refl)) (never_rises last_number n.witness n.witness refl)) (never_rises last_number n.migration n.migration refl)
-  where
-    either : {a b : Bool} → a ≡ false → b ≡ false → (a || b) ≡ false
-    either p q = cc
+use Rattle.curp_model.proofs.Managers.{counters_stay}
 
 -- the attempt was told to be finished, over the entry of its partition, which it replaces
 pub record Finished (w : World) (a : Attempted) (after : Moved ManagerState) : Type 0 where
@@ -83,7 +75,7 @@ module _ (w : World) (a : Attempted) where
             its_epoch = t.1;
             is = ap (λ (x : Option Attempted). unless_numbers_end g (recovered_in g r x (part_at g r.part))) done
                 ∙ ap (λ (x : Option PartConfig). unless_numbers_end g (recovered_in g r (Some a) x)) is
-                ∙ through (adopts g r.part (recovered_part c a)) (counter_ends g.next g.next || rises_past last_number g.config.serial (g.config.serial + 1)) (neither (never_ends g.next) low);
+                ∙ through (adopts g r.part (recovered_part c a)) (counter_ends g.next g.next || rises_past last_number g.config.serial (g.config.serial + 1)) (neither (counters_stay g.next) low);
           }
         where
           neither : {x y : Bool} → x ≡ false → y ≡ false → (x || y) ≡ false

@@ -26,7 +26,7 @@ use Rattle.curp_model.specs.World.{World, messages, op_requests}
 use Rattle.curp_facts.specs.Facts.{ByRecovery, IsAdoptedNow, Lists, ReplayOk, WasAdopted, WasSent, lists_of_order, lists_of_part, phase_log}
 use Rattle.curp_facts.specs.Kept.{PassedBy, lists_of_master}
 use Rattle.curp_facts.specs.Nodes as nodes
-use Rattle.curp_facts.specs.Nodes.{ReplayedOk, StageOk}
+use Rattle.curp_facts.specs.Nodes.{StageOk}
 use Rattle.curp_facts.specs.Reach.{HasMany, HasStored, Reach}
 use Rattle.curp_facts.specs.Known.{Known}
 use Rattle.curp_law_kept.proofs.Known.{fits}
@@ -156,13 +156,13 @@ module _ {w v : World} (known : Known w) (now : Known v) (chain : Predecessors w
   pub cut_replay : ReplayOk w d.s d.p
   cut_replay = replayed.0.replayed
 
-  pub cut_backup : IsBackup w d.a.order.backup cut_replay.b
-  cut_backup = subst (λ (o : Recover). IsBackup w o.backup cut_replay.b) same_order cut_replay.its_backup
+  pub cut_backup : IsBackup w d.a.order.backup cut_replay.sources.b
+  cut_backup = subst (λ (o : Recover). IsBackup w o.backup cut_replay.sources.b) same_order cut_replay.sources.its_backup
 
   -- what each backup of the present list has is no longer than what stays
   within_cut : (part long : ℕ) → d.a.order.part ≡ part → ((c : PartConfig) → IsAdoptedNow w c → c.part ≡ part → AllStored w c long) → long ≤ d.p.cut
   within_cut part long same stored =
-      let low = stored d.before d.was_now (sym d.ok.its_part ∙ same) d.a.order.backup d.ok.its_backup cut_replay.b cut_backup in
+      let low = stored d.before d.was_now (sym d.ok.its_part ∙ same) d.a.order.backup d.ok.its_backup cut_replay.sources.b cut_backup in
       omega (arith, low, cut_replay.its_cut)
 
   -- no move drops what is no longer than that
@@ -206,7 +206,7 @@ module _ {w v : World} (known : Known w) (now : Known v) (chain : Predecessors w
 
       within : long ≤ length d.p.log
       within =
-          let front = prefix_length (replay_prefix d.s.order.lo d.s.order.hi (frozen_requests cut_replay.x) cut_replay.b.log) in
+          let front = prefix_length (replay_prefix d.s.order.lo d.s.order.hi (frozen_requests cut_replay.sources.x) cut_replay.sources.b.log) in
           omega (arith, short, cut_replay.its_cut, front, ap (λ (es : List Entry). length es) cut_replay.is)
 
       many : Each (HasMany w long) d.a.order.backups
@@ -234,7 +234,7 @@ module _ {w v : World} (known : Known w) (now : Known v) (chain : Predecessors w
 
   -- what was recovered is a beginning of the present log
   pub cut_within : d.p.cut ≤ length (log_of w d.a.order.part d.before.master).log
-  cut_within = elim (known.inv.backups (lists_of_part d.before) (known.names.top d.before d.was_now).was.given d.a.order.backup d.ok.its_backup cut_replay.b cut_backup).follows [
+  cut_within = elim (known.inv.backups (lists_of_part d.before) (known.names.top d.before d.was_now).was.given d.a.order.backup d.ok.its_backup cut_replay.sources.b cut_backup).follows [
     | inl none ↦ omega (arith, cut_replay.its_cut, ap (λ (es : List Entry). length es) none)
     | inr g ↦
         let is : (log_of w d.a.order.part d.before.master).log ≡ g.its.log = ap entries_at g.its_log.is.its_state ∙ ap logged_entries g.its_log.its_log in
@@ -286,9 +286,9 @@ module _ {w v : World} (known : Known w) (now : Known v) (chain : Predecessors w
           ];
           order = d.a.order;
           ordered = subst (λ (z : NodeId). WasSent v (says manager_node z (body.Recover d.a.order))) (sym d.its_master) (sent_later s d.ok.sent);
-          b = cut_replay.b;
-          is = f.backups d.a.order.backup cut_replay.b cut_backup;
-          fenced = omega (arith, cut_replay.fenced, ap (λ (o : Recover). o.epoch) same_order, d.ok.later, same);
+          b = cut_replay.sources.b;
+          is = f.backups d.a.order.backup cut_replay.sources.b cut_backup;
+          fenced = omega (arith, cut_replay.sources.fenced, ap (λ (o : Recover). o.epoch) same_order, d.ok.later, same);
           passed = inl (omega (arith, cut_replay.its_cut, long));
         }
 

@@ -13,7 +13,6 @@ use Rattle.curp_model.specs.Master.{MasterState}
 use Rattle.curp_model.specs.Recovery.{Fresh, MasterStage, Recovering, Serving}
 use Rattle.curp_model.specs.World.{World, is_adopted, master_marks}
 use Rattle.curp_facts.specs.Facts.{IsAmong}
-use Rattle.curp_law_kept.proofs.Apart.{either_node}
 use Rattle.curp_facts.specs.Known.{Known}
 use Rattle.curp_law_kept.proofs.MastersMoves.{MasterStep}
 use Rattle.curp_law_kept.proofs.MastersReady.{step_follows}
@@ -33,6 +32,7 @@ use Rattle.curp_facts.specs.Predecessors.{Predecessors}
 use Rattle.curp_law_linear.proofs.MastersCuts.{master_lives, master_entries, master_newer, master_late}
 use Rattle.curp_msg.specs.declared.body.Quick.{Quick as QuickValue}
 use Rattle.curp_law_stays.proofs.Words.{one_state}
+use Rattle.curp_cmd.proofs.Nodes.{either_node}
 
 -- ---- a master that doesn't serve yet
 

@@ -24,7 +24,6 @@ use Rattle.curp_facts.specs.Growth.{MasterGrows, ServesOn}
 use Rattle.curp_facts.specs.Kept.{NeverSoLate, lists_of_master}
 use Rattle.curp_facts.specs.Nodes.{AcknowledgedOk, CapturedOk, ServingOk}
 use Rattle.curp_facts.specs.Said.{AppendHolds, AppendSaid, AppendedSaid}
-use Rattle.curp_law_kept.proofs.Apart.{either_node}
 use Rattle.curp_facts.specs.Known.{Known}
 use Rattle.curp_law_kept.proofs.Known.{fits, said}
 use Rattle.curp_law_kept.proofs.MastersHeard.{one_log}
@@ -50,6 +49,7 @@ use Rattle.curp_msg.specs.declared.body.Quick.{Quick as QuickValue}
 use Rattle.curp_law_linear.proofs.MastersCuts.{master_lives, master_entries, master_newer, master_late}
 use Rattle.std.proofs.lemmas.Bool.{eqb-true}
 use Rattle.curp_law_stays.proofs.Words.{Follows, adopted_later, one_state, serving_later}
+use Rattle.curp_cmd.proofs.Nodes.{either_node}
 
 module _ {w v : World} (known : Known w) (now : Known v) (chain : Predecessors w) (later : Predecessors v) (ordered : Ordered w) {n : ℕ} {from : NodeId} {heard : Option Body} {x y : MasterState} {out : List Message}
     (s : MasterStep w v n from heard (Serving x) (Serving y) out) (reads : ReadsMove x from heard (sends y out)) (r : Refines w v) (none : Each NoAdoption r.moves) where

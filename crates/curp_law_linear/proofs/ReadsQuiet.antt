@@ -1,7 +1,7 @@
 -- A step of a client, a backup or a witness keeps what is kept of reads.
 use Rattle.std.proofs.Common.{◌≡◌, ◌≢◌, ◌⊎◌, inl, inr, ℕ, ◌&&◌, Bool, true, false, if◌then◌else◌, List, refl, ap, sym, ◌∙◌, subst, Option, Some, None}
 use Rattle.curp_base.specs.Words.{At, Each, numbered}
-use Rattle.curp_base.proofs.Lists.{at_same}
+use Rattle.curp_base.proofs.Lists.{at_same, at_mapped}
 use Rattle.curp_cmd.specs.Node.{client_node}
 use Rattle.curp_cmd.specs.RequestId.{same_id}
 use Rattle.curp_cmd.specs.declared.node.NodeId.{NodeId}
@@ -39,7 +39,6 @@ use Rattle.curp_law_linear.proofs.ReadsMoves.{none_drops}
 use Rattle.curp_law_linear.proofs.ReadsPassed.{NewerLists, NoneLate, NoneLives}
 use Rattle.curp_law_linear.proofs.ReadsStored.{from_stays}
 use Rattle.curp_facts.specs.Names.{IsOf}
-use Rattle.curp_law_names.proofs.Lists.{at_mapped}
 use Rattle.curp_facts.specs.Predecessors.{Predecessors}
 use Rattle.curp_law_linear.proofs.CutMarks.{cuts_after, hit_capture}
 use Rattle.curp_law_linear.proofs.Cuts.{cuts_stay}

@@ -10,7 +10,7 @@ use Rattle.curp_cmd.specs.declared.node.NodeId.{NodeId}
 use Rattle.curp_msg.specs.Moved.{says}
 use Rattle.curp_msg.specs.declared.body.Body.TheVariants as body
 use Rattle.curp_msg.specs.declared.body.Recover.{Recover}
-use Rattle.curp_model.specs.Master.{Captured, MasterState, Open, Phase, Switch, Switching, from_backup, is_ready}
+use Rattle.curp_model.specs.Master.{Captured, MasterState, Open, from_backup, is_ready}
 use Rattle.curp_model.specs.Named.{IsBackup, IsMaster}
 use Rattle.curp_model.specs.Recovery.{Serving}
 use Rattle.curp_model.specs.World.{World}
@@ -28,6 +28,7 @@ use Rattle.curp_law_names.proofs.Lists.{among_each}
 use Rattle.curp_facts.specs.Predecessors.{Predecessor, Predecessors}
 use Rattle.curp_law_pairs.proofs.Adoptions.{adoptions_ok}
 use Rattle.curp_law_pairs.proofs.Lists.{order_first, ready}
+use Rattle.curp_law_kept.proofs.MastersReady.{no_switch}
 
 -- a backup has acknowledged so many entries, and so late a round
 pub record HasRound (m : MasterState) (long round : ℕ) (node : NodeId) : Type 0 where
@@ -49,9 +50,6 @@ ready_rounds m c all = each_tested (HasRound m c.length c.round) (λ b. nat_le c
         let late = t.1 in
         record { many = grind (arith, nat_tests); late = grind (arith, nat_tests) }
 
-not_open : {p : Phase} {s : Switch} → p ≡ Open → p ≡ Switching s → ⊥
-not_open a b = cc
-
 module _ {w : World} (known : Known w) where
   module _ (node : NodeId) (m : MasterState) (is : IsMaster w node (Serving m)) where
     serves : ServingOk w node m
@@ -64,7 +62,7 @@ module _ {w : World} (known : Known w) where
       | inr other ↦ elim other [
         | inl sent ↦ elim (serves.prepared l.version (subst (λ (z : NodeId). WasSent w (says z manager_node (body.Prepared l.version))) master sent)) [
           | inl low ↦ low
-          | inr p ↦ absurd (not_open is_open p.1)
+          | inr p ↦ absurd (no_switch is_open p.1)
         ]
         | inr r ↦
             let low = order_first known.names (lists_of_master node m) serves.adopted.given r.order (subst (λ (z : NodeId). WasSent w (says manager_node z (body.Recover r.order))) master r.ordered) in
@@ -182,8 +180,8 @@ module _ {w : World} (known : Known w) where
               first = f.first;
               order = a.order;
               ordered = a.ordered;
-              b = a.b;
-              is = subst (λ (z : NodeId). IsBackup w z a.b) (sym a.its_node) a.its_backup;
-              fenced = omega (arith, f.above, a.fenced);
+              b = a.sources.b;
+              is = subst (λ (z : NodeId). IsBackup w z a.sources.b) (sym a.its_node) a.sources.its_backup;
+              fenced = omega (arith, f.above, a.sources.fenced);
               passed = inr (never a.order.backup);
             }

@@ -4,7 +4,7 @@ use Rattle.curp_msg.specs.declared.script.Header.{Header}
 use Rattle.curp_msg.specs.declared.script.Step.{Step}
 use Rattle.curp_model.specs.World.{World, step, world}
 use Rattle.curp_facts.specs.Growth.{Grows}
-use Rattle.curp_facts.specs.Run.{IsRun, IsStep}
+use Rattle.curp_msg.specs.Script.{IsRun, IsStep}
 use Rattle.curp_law_growth.proofs.Worlds.{step_grows}
 use Rattle.curp_law_kept.proofs.Cases.{StepCase, ByBackup, ByClient, ByManager, ByMaster, ByWitness, Rests, Stays, step_case}
 use Rattle.curp_facts.specs.Known.{Known}

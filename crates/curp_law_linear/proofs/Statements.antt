@@ -30,10 +30,6 @@ late_replies {w} known chain migrated ordered part id a can =
     let d = completable_done known chain migrated ordered part id a can in
     shows_done (line_of w) ordered.line d.0 d.1 id a d.2 d.3
 
--- the completed requests of the order are those that the machine of the order has
-pub completed_of_world : (w : World) → completed_in_order w ≡ completed_order (line_of w)
-completed_of_world w = refl
-
 -- through a step that is moves of the machine they stay in their order
 pub order_grows : {w v : World} → Known w → Ordered w → Refines w v → StandsIn (completed_in_order w) (completed_in_order v)
 order_grows {w} {v} known ordered r =

@@ -3,7 +3,7 @@ use Rattle.std.proofs.Common.{◌≡◌, ℕ, suc, ◌+◌, ◌<◌, ◌&&◌, B
 use Rattle.std.specs.List.{list_any}
 use Rattle.std.proofs.lemmas.Bool.{false_from_ne_true}
 use Rattle.curp_base.specs.Words.{At}
-use Rattle.curp_base.proofs.Lists.{Each-at, at_drop, at_take}
+use Rattle.curp_base.proofs.Lists.{Each-at, at_drop, at_take, take_one}
 use Rattle.curp_range.specs.Spans.{Span, is_in, is_owned}
 use Rattle.curp_cmd.specs.declared.entry.Entry.{Entry}
 use Rattle.curp_cmd.specs.declared.entry.Entry.TheVariants.{Op, Take, Give, Expire}
@@ -20,7 +20,7 @@ use Rattle.curp_law_linear.specs.Ordered.{Ordered, moved_number}
 use Rattle.curp_law_linear.proofs.MastersRise.{adopted_ok, give_given, take_given}
 use Rattle.curp_law_logs.specs.Migrations.{MovesNothing, give_number, take_number}
 use Rattle.curp_law_logs.proofs.LogValues.{untouched}
-use Rattle.curp_law_logs.proofs.Logs.{op_owned, take_one}
+use Rattle.curp_law_logs.proofs.Logs.{op_owned}
 use Rattle.curp_law_logs.proofs.Migrations.{owned_more}
 use Rattle.curp_law_logs.proofs.Packages.{take_covered}
 use Rattle.curp_law_logs.proofs.Ranges.{covered_owns}

@@ -12,7 +12,7 @@
 
 ghost use Rattle.std.specs.Prelude.{List};
 ghost use Rattle.curp_facts.specs.Kept.{Kept, LateRepliesAgree, QuicksMarked, ValuesMarked};
-ghost use Rattle.curp_facts.specs.Run.{IsRun, IsStep};
+ghost use Rattle.curp_msg.specs.Script.{IsRun, IsStep};
 ghost use Rattle.curp_law_line.specs.Line.{StandsIn};
 ghost use Rattle.curp_law_linear.specs.Grows.{completed_in_order};
 ghost use Rattle.curp_model.specs.World.{order, step, world};

@@ -136,13 +136,3 @@ sorted_distinct rs apart = folded_apart rs [] apart tt (from_none rs)
 -- no two that it tells clash, where no two that it held do
 pub frozen_apart : (w : WitnessState) → IsDistinct clash (map (λ (x : HeldRequest). x.request) w.held) → IsDistinct clash (frozen_requests w)
 frozen_apart w apart = sorted_distinct (map (λ (x : HeldRequest). x.request) w.held) apart
-
--- two at different places don't clash
-pub apart_at : (rs : List Request) (j k : ℕ) (r s : Request) → IsDistinct clash rs → At rs j r → At rs k s → j ≢ k → clash r s ≡ false
-apart_at [] j k r s apart at_r at_s ne = absurd cc
-apart_at (x ∷ rs) zero zero r s apart at_r at_s ne = absurd (ne refl)
-apart_at (x ∷ rs) zero (suc k) r s apart at_r at_s ne =
-    let same : x ≡ r = cc in subst (λ (y : Request). clash y s ≡ false) same (all_at (λ y. clash x y ≡ false) rs (first_apart x rs apart) k s at_s)
-apart_at (x ∷ rs) (suc j) zero r s apart at_r at_s ne =
-    let same : x ≡ s = cc in clash_flips r s ∙ subst (λ (y : Request). clash y r ≡ false) same (all_at (λ y. clash x y ≡ false) rs (first_apart x rs apart) j r at_r)
-apart_at (x ∷ rs) (suc j) (suc k) r s apart at_r at_s ne = apart_at rs j k r s (rest_apart x rs apart) at_r at_s (λ e. ne (ap suc e))

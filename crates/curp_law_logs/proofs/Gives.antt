@@ -47,10 +47,6 @@ no_gives_fit (Expire client ∷ es) s k none = no_gives_fit es (after_entry s k 
 pub gives_fit_more : (lo hi : ℕ) (log more : List Entry) → GivesFit (log_opening lo hi) 0 log → NoGives more → GivesFit (log_opening lo hi) 0 (log ++ more)
 gives_fit_more lo hi log more fits none = gives_fit_append log more (log_opening lo hi) 0 (length log) (omega arith) fits (no_gives_fit more (meaning lo hi log) (length log) none)
 
--- and with a give that fits
-pub gives_fit_give : (lo hi : ℕ) (log : List Entry) (migration : ℕ) (p : Package) → GivesFit (log_opening lo hi) 0 log → GiveFits (meaning lo hi log) p → GivesFit (log_opening lo hi) 0 (log ++ Give migration p ∷ [])
-gives_fit_give lo hi log migration p fits here = gives_fit_append log (Give migration p ∷ []) (log_opening lo hi) 0 (length log) (omega arith) fits (here, tt)
-
 -- the pairs of gives that fit lie in their ranges
 pub gives_within : (es : List Entry) (s : LogState) (k : ℕ) → GivesFit s k es → GivesWithin es
 gives_within [] s k fits i migration p at = absurd cc

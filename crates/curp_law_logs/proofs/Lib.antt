@@ -20,4 +20,3 @@ pub mod Owned
 pub mod Migrations
 pub mod Taken
 pub mod Shown
-pub mod OpeningRanges

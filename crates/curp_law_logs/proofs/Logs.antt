@@ -1,9 +1,9 @@
 -- Logs as they grow: what fits at each place, and what stays known.
-use Rattle.std.proofs.Common.{◌≡◌, inl, inr, ◌≤◌, ◌<◌, ◌&&◌, ℕ, zero, suc, ◌+◌, Bool, true, false, List, [], ◌∷◌, ◌++◌, length, take, drop, refl, ap, sym, ◌∙◌, subst, arith, add-one}
+use Rattle.std.proofs.Common.{◌≡◌, inl, inr, ◌≤◌, ◌<◌, ◌&&◌, ℕ, zero, suc, ◌+◌, Bool, true, false, List, [], ◌∷◌, ◌++◌, length, take, drop, refl, ap, sym, ◌∙◌, subst, arith}
 use Rattle.std.proofs.lemmas.Bool.{and_parts, and_from, cases_order}
 use Rattle.std.proofs.lemmas.List.{take-append-drop, take-append-le}
 use Rattle.curp_base.specs.Words.{At, IsPrefix}
-use Rattle.curp_base.proofs.Lists.{drop_at}
+use Rattle.curp_base.proofs.Lists.{drop_at, take_one}
 use Rattle.curp_cmd.specs.declared.command.Request.{Request}
 use Rattle.curp_cmd.specs.declared.command.RequestId.{RequestId}
 use Rattle.curp_cmd.specs.declared.entry.Entry.{Entry}
@@ -36,15 +36,6 @@ prefix_takes (suc m) zero xs l = absurd (omega arith)
 prefix_takes (suc m) (suc n) [] l = record { rest = []; is = refl }
 prefix_takes (suc m) (suc n) (x ∷ xs) l = let p = prefix_takes m n xs (omega arith) in record { rest = p.rest; is = ap (λ w. x ∷ w) p.is }
 
-take_suc : {A : Type 0} (xs : List A) (k : ℕ) (x : A) → At xs k x → take (suc k) xs ≡ take k xs ++ x ∷ []
-take_suc [] k x at = absurd cc
-take_suc (y ∷ xs) zero x at = let same : y ≡ x = cc in ap (λ z. z ∷ []) same
-take_suc (y ∷ xs) (suc k) x at = ap (λ w. y ∷ w) (take_suc xs k x at)
-
--- one more
-pub take_one : {A : Type 0} (xs : List A) (k : ℕ) (x : A) → At xs k x → take (k + 1) xs ≡ take k xs ++ x ∷ []
-take_one xs k x at = ap (λ n. take n xs) (add-one k) ∙ take_suc xs k x at
-
 -- ---- what fits
 
 pub fit_parts : (xs ys : List Entry) (s : LogState) (k n : ℕ) → n ≡ k + length xs → all_fit s k (xs ++ ys) ≡ (all_fit s k xs && all_fit (after_entries s k xs) n ys)
@@ -71,9 +62,6 @@ log_back lo hi xs ys fits = (log_parts lo hi xs ys fits).1
 -- and so is each list that it begins with
 pub log_prefix : (lo hi : ℕ) (xs ys : List Entry) → IsPrefix xs ys → IsLog lo hi ys → IsLog lo hi xs
 log_prefix lo hi xs ys p fits = log_front lo hi xs p.rest (subst (IsLog lo hi) (sym p.is) fits)
-
-pub log_take : (lo hi n : ℕ) (log : List Entry) → IsLog lo hi log → IsLog lo hi (take n log)
-log_take lo hi n log fits = log_prefix lo hi (take n log) log (prefix_take n log) fits
 
 -- and what fits behind a log makes a longer one
 pub log_more : (lo hi : ℕ) (xs ys : List Entry) → IsLog lo hi xs → all_fit (meaning lo hi xs) (length xs) ys ≡ true → IsLog lo hi (xs ++ ys)
@@ -153,10 +141,6 @@ give_old lo hi log i n migration p id at l carries =
 
     here : check (after_entry (meaning lo hi (take i log)) (length (take i log)) (Give migration p)).table id ≡ New → ⊥
     here new = given_new (meaning lo hi (take i log)) (length (take i log)) migration p id carries new
-
--- so an id that a give brings is no op's behind it
-pub brought_no_op : (lo hi : ℕ) (log : List Entry) (i j migration : ℕ) (p : Package) (r : Request) (acknowledged : ℕ) → IsLog lo hi log → At log i (Give migration p) → i < j → At log j (Op r acknowledged) → Carries p.table r.id → ⊥
-brought_no_op lo hi log i j migration p r acknowledged fits give l op carries = give_old lo hi log i j migration p r.id give l carries (op_new lo hi log j r acknowledged fits op)
 
 -- and what a log knew isn't new behind a give of its table
 pub packed_known : (lo hi : ℕ) (before : List Entry) (id : RequestId) → NotNew lo hi before id → (l h : ℕ) (log : List Entry) (number : ℕ) (k : Package) → k.table ≡ packed (meaning lo hi before).table

@@ -107,10 +107,6 @@ numbers_push number log e ascend above i j m n x y l at_i at_j is_m is_n = elim 
   ]
 ]
 
--- or an entry that has none
-pub numbers_other : (number : Entry → Option ℕ) (log : List Entry) (e : Entry) → number e ≡ None → NumbersAscend number log → NumbersAscend number (log ++ e ∷ [])
-numbers_other number log e none ascend = numbers_push number log e ascend (λ n is i m d at its. absurd (let bad : None ≡ Some n = sym none ∙ is in cc))
-
 -- a number stands once
 pub numbers_once : (number : Entry → Option ℕ) (log : List Entry) → NumbersAscend number log → (i j m : ℕ) (d e : Entry) → At log i d → At log j e → number d ≡ Some m → number e ≡ Some m → i ≡ j
 numbers_once number log ascend i j m d e at_i at_j is_d is_e = elim (cases_order i j) [

@@ -2,8 +2,7 @@
 use Rattle.std.proofs.Common.{◌≡◌, ◌||◌, ℕ, suc, ◌+◌, Bool, true, false, cond, List, [], ◌∷◌, ◌++◌, length, map, take, drop, refl, ap, sym, ◌∙◌, subst, arith}
 use Rattle.std.specs.FinMap as finite
 use Rattle.std.specs.List.{filter}
-use Rattle.std.proofs.lemmas.List.{map-append, take-append-drop}
-use Rattle.std.proofs.lemmas.List.Elements.{filter-append}
+use Rattle.std.proofs.lemmas.List.{take-append-drop}
 use Rattle.curp_base.specs.Words.{At}
 use Rattle.curp_base.proofs.Lists.{at_append_right, drop_at}
 use Rattle.curp_cmd.specs.Hash.{hash_of}
@@ -14,6 +13,7 @@ use Rattle.curp_order.specs.Order.{answers, store_after}
 use Rattle.curp_model.specs.Marks.{Mark, is_shown, is_update_mark, shown}
 use Rattle.curp_law_logs.specs.Hashes.{Asked, asked, on, updates, value}
 use Rattle.curp_law_logs.proofs.Values.{answer_middle, updates_only, value_local}
+use Rattle.curp_model.proofs.Marks.{shown_append}
 
 -- marks of ops are of updates, and those of captures are of reads
 abbrev pub MarksRight : List Mark → Type 0
@@ -39,30 +39,17 @@ shown_updates (m ∷ marks) right = go m.completed (is_update_mark m.place) (is_
 pub store_shown : (s : Contents) (marks : List Mark) → MarksRight marks → store_after s (shown marks) ≡ store_after s (updates marks)
 store_shown s marks right = sym (updates_only s (shown marks)) ∙ ap (store_after s) (shown_updates marks right)
 
--- so a value comes from the updates that are marked on its hash
-pub value_shown : (key : List ℕ) (marks : List Mark) → MarksRight marks → value key (shown marks) ≡ value key (on (hash_of key) (updates marks))
-value_shown key marks right = ap (λ (s : Contents). finite.get s key) (store_shown nothing marks right) ∙ value_local key (updates marks)
-
 -- and an answer from the updates that are marked
 pub answer_shown : (c : Command) (marks : List Mark) → MarksRight marks → (applied (store_after nothing (shown marks)) c).answer ≡ (applied (store_after nothing (updates marks)) c).answer
 answer_shown c marks right = ap (λ (s : Contents). (applied s c).answer) (store_shown nothing marks right)
 
 -- ---- the place of a mark in the order
 
-pub shown_append : (xs ys : List Mark) → shown (xs ++ ys) ≡ shown xs ++ shown ys
-shown_append xs ys = ap (map asked) (filter-append is_shown xs ys) ∙ map-append asked (filter is_shown xs) (filter is_shown ys)
-
 -- what is shown before a mark and behind it
 pub shown_split : (marks : List Mark) (j : ℕ) (m : Mark) → At marks j m → is_shown m ≡ true → shown marks ≡ shown (take j marks) ++ asked m ∷ shown (drop (j + 1) marks)
 shown_split marks j m at is =
     ap shown (sym (ap (λ (w : List Mark). take j marks ++ w) (sym (drop_at marks j m at)) ∙ take-append-drop j marks)) ∙ shown_append (take j marks) (m ∷ drop (j + 1) marks)
     ∙ ap (λ (b : Bool). shown (take j marks) ++ map asked (cond b (m ∷ filter is_shown (drop (j + 1) marks)) (filter is_shown (drop (j + 1) marks)))) is
-
--- a shown mark stands in the order where the shown marks before it end
-pub shown_at : (marks : List Mark) (j : ℕ) (m : Mark) → At marks j m → is_shown m ≡ true → At (shown marks) (length (shown (take j marks))) (asked m)
-shown_at marks j m at is =
-    subst (λ (os : List Asked). At os (length (shown (take j marks))) (asked m)) (sym (shown_split marks j m at is))
-    (at_append_right (shown (take j marks)) (asked m ∷ shown (drop (j + 1) marks)) 0 (length (shown (take j marks))) (asked m) (omega arith) refl)
 
 -- and its answer there is that behind the updates that are marked before it
 pub shown_answer : (marks : List Mark) (j : ℕ) (m : Mark) → At marks j m → is_shown m ≡ true → MarksRight (take j marks)

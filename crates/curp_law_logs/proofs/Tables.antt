@@ -1,11 +1,10 @@
 -- What a reply table knows of a request, through each change, and through a migration.
-use Rattle.std.proofs.Common.{◌≡◌, ◌⊎◌, inl, inr, ◌≤◌, ◌<◌, ℕ, zero, suc, ◌==◌, ◌||◌, max, not, nat_le, nat_lt, Bool, true, false, cond, if◌then◌else◌, List, [], ◌∷◌, fold, map, Option, Some, None, unwrap_or, refl, ap, sym, ◌∙◌, subst, arith}
+use Rattle.std.proofs.Common.{◌≡◌, inl, inr, ◌≤◌, ◌<◌, ℕ, zero, suc, ◌==◌, ◌||◌, not, nat_le, nat_lt, Bool, true, false, cond, if◌then◌else◌, List, [], ◌∷◌, fold, map, Option, Some, None, unwrap_or, refl, ap, sym, ◌∙◌, subst, arith}
 use Rattle.std.specs.Bool.{⊤}
 use Rattle.std.specs.BTreeSet.{insert_key}
-use Rattle.std.specs.Cmp.{nat_cmp_total}
 use Rattle.std.specs.FinMap.{nat_cmp-IsAntisymmetric}
-use Rattle.std.specs.FinMap.Entries.{find, find-put, find-where_key}
-use Rattle.std.specs.List.{filter, list_any}
+use Rattle.std.specs.FinMap.Entries.{find}
+use Rattle.std.specs.List.{list_any}
 use Rattle.std.specs.Option.{IsSomeAnd}
 use Rattle.std.specs.Ordering.{nat_cmp, eq_by_cmp, is_eq, match_ordering}
 use Rattle.std.specs.declared.cmp.Ordering.{Ordering}
@@ -21,8 +20,8 @@ use Rattle.curp_cmd.specs.declared.command.RequestId.{RequestId}
 use Rattle.curp_cmd.specs.declared.migration.TablePart.{TablePart}
 use Rattle.curp_model.specs.declared.Check.TheVariants.{Expired, Stale, New}
 use Rattle.curp_facts.specs.Facts.{IsAmong}
-use Rattle.curp_model.specs.Table.{Noted, Table, check, known, is_gone, first_number, is_of_use, note, note_once, raise_first, packed, merge}
-use Rattle.curp_model.proofs.Tables.{ids_total, ids_same, Has, has_note, has_only, has_merge, not_new, first_rises, kept_before}
+use Rattle.curp_model.specs.Table.{Noted, Table, check, known, is_gone, first_number, is_of_use, note_once, raise_first, packed, merge}
+use Rattle.curp_model.proofs.Tables.{ids_total, ids_same, Has, has_note, has_only, has_merge, not_new, first_rises, kept_before, first_raised}
 use Rattle.curp_law_logs.specs.Standing.{Carries}
 
 -- ---- numbers put in their places
@@ -66,7 +65,7 @@ Any n = ⊤
 abbrev pub Seen : Table → RequestId → Type 0
 Seen t id = Has t id Any
 
-some_any : (o : Option Noted) → (known o ≡ New → ⊥) → IsSomeAnd o Any
+pub some_any : (o : Option Noted) → (known o ≡ New → ⊥) → IsSomeAnd o Any
 some_any None old = old refl
 some_any (Some n) old = tt
 
@@ -164,12 +163,6 @@ firsts_rise : (es firsts : List (ℕ × ℕ)) (q : ℕ) → unwrap_or (find nat_
 firsts_rise [] firsts q = omega arith
 firsts_rise (e ∷ es) firsts q = omega (arith, first_rises firsts e.0 e.1 q, firsts_rise es (raise_first firsts e.0 e.1) q)
 
-own_first : (firsts : List (ℕ × ℕ)) (q n : ℕ) → n ≤ unwrap_or (find nat_cmp q (raise_first firsts q n)) 0
-own_first firsts q zero = omega arith
-own_first firsts q (suc n) =
-    subst (λ (o : Option ℕ). suc n ≤ unwrap_or o 0) (sym (find-put nat_cmp nat_cmp_total q q (max (suc n) (unwrap_or (find nat_cmp q firsts) 0)) firsts))
-    (subst (λ (b : Bool). suc n ≤ unwrap_or (cond b (Some (max (suc n) (unwrap_or (find nat_cmp q firsts) 0))) (find nat_cmp q firsts)) 0) (sym (ap is_eq (tied_itself nat_cmp_total q))) (omega arith))
-
 firsts_raised : (es firsts : List (ℕ × ℕ)) (q : ℕ) → unwrap_or (find nat_cmp q es) 0 ≤ unwrap_or (find nat_cmp q (raised_all firsts es)) 0
 firsts_raised [] firsts q = omega arith
 firsts_raised (e ∷ es) firsts q = go (eq_by_cmp nat_cmp q e.0) refl (firsts_raised es (raise_first firsts e.0 e.1) q)
@@ -178,7 +171,7 @@ firsts_raised (e ∷ es) firsts q = go (eq_by_cmp nat_cmp q e.0) refl (firsts_ra
         → unwrap_or (cond b (Some e.1) (find nat_cmp q es)) 0 ≤ unwrap_or (find nat_cmp q (raised_all (raise_first firsts e.0 e.1) es)) 0
     go true same ih =
         let is : q ≡ e.0 = tells_apart nat_cmp-IsAntisymmetric q e.0 same in
-        let own : e.1 ≤ unwrap_or (find nat_cmp q (raise_first firsts e.0 e.1)) 0 = subst (λ (x : ℕ). e.1 ≤ unwrap_or (find nat_cmp q (raise_first firsts x e.1)) 0) is (own_first firsts q e.1) in
+        let own : e.1 ≤ unwrap_or (find nat_cmp q (raise_first firsts e.0 e.1)) 0 = subst (λ (x : ℕ). e.1 ≤ unwrap_or (find nat_cmp q (raise_first firsts x e.1)) 0) is (first_raised firsts q e.1) in
         omega (arith, own, firsts_rise es (raise_first firsts e.0 e.1) q)
     go false same ih = ih
 
@@ -209,11 +202,3 @@ merge_known t part index id carries =
             (brought_seen index part.records t id r.0 r.1.place r.1.stands)
       ]
     ]))
-
--- what a table knew is known where its package is given
-pub given_known : (t source : Table) (index : ℕ) (id : RequestId) → (check source id ≡ New → ⊥) → check (merge t (packed source) index) id ≡ New → ⊥
-given_known t source index id old = merge_known t (packed source) index id (packed_carries source id old)
-
--- and so is what the table knew that it is given to
-pub merge_old : (t : Table) (part : TablePart) (index : ℕ) (id : RequestId) → (check t id ≡ New → ⊥) → check (merge t part index) id ≡ New → ⊥
-merge_old t part index id old = seen_old (merge t part index) id (has_merge id Any t part index (seen_from t id old))

@@ -1,18 +1,12 @@
 -- What holds of each item of a list that is made of another one.
 use Rattle.std.proofs.Common.{◌≡◌, ◌||◌, suc, Bool, true, false, List, [], ◌∷◌, refl}
-use Rattle.std.specs.List.{filter, list_any, list_all}
+use Rattle.std.specs.List.{list_any, list_all}
 use Rattle.std.proofs.lemmas.Bool.{and_parts}
 use Rattle.curp_base.specs.Words.{Each}
-use Rattle.curp_base.proofs.Lists.{Each-weaker}
 use Rattle.curp_cmd.specs.Node.{is_among, same_node}
 use Rattle.curp_cmd.specs.declared.node.NodeId.{NodeId}
 use Rattle.curp_cmd.proofs.Nodes.{same_node-true}
 use Rattle.curp_facts.specs.Facts.{IsAmong}
-use Rattle.curp_law_masters.proofs.Lists.{each_filtered}
-
--- those that pass a test
-pub each_left : {A : Type 0} (P : A → Type 0) (test : A → Bool) (xs : List A) → Each P xs → Each P (filter test xs)
-each_left {A} P test xs all = Each-weaker (λ (x : A). P x × (test x ≡ true)) P (λ x y. y.0) (filter test xs) (each_filtered P test xs all)
 
 -- what a test finds of all
 pub each_tested : {A : Type 0} (P : A → Type 0) (p : A → Bool) (xs : List A) → ((x : A) → p x ≡ true → P x) → list_all p xs ≡ true → Each P xs

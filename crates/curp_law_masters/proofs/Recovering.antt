@@ -3,7 +3,7 @@ use Rattle.std.proofs.Common.{◌≡◌, ◌≤◌, ◌&&◌, ℕ, ◌+◌, true
 use Rattle.std.specs.List.{filter}
 use Rattle.std.proofs.lemmas.Bool.{and_parts, cond_both, leb-true}
 use Rattle.curp_base.specs.Words.{Each, rises_past}
-use Rattle.curp_base.proofs.Lists.{Each-append, Each-at}
+use Rattle.curp_base.proofs.Lists.{Each-append, Each-at, Each-filter}
 use Rattle.curp_cmd.specs.Node.{is_among, same_node}
 use Rattle.curp_cmd.specs.Store.{is_update}
 use Rattle.curp_cmd.specs.declared.command.Request.{Request}
@@ -34,7 +34,7 @@ use Rattle.curp_facts.specs.Nodes.{AcknowledgedOk, CameLog, CameRequests, IsWait
 use Rattle.curp_facts.specs.Reach.{HasStored}
 use Rattle.curp_law_masters.specs.Moves.{HearsLog, HearsStored, IsSaidBy, RecoveryHears, RecoveryMove, RecoverySays}
 use Rattle.curp_law_masters.specs.Stages.{BeginningOk, FreshSays}
-use Rattle.curp_law_masters.proofs.Among.{each_left, each_tested, found_among}
+use Rattle.curp_law_masters.proofs.Among.{each_tested, found_among}
 use Rattle.curp_law_masters.proofs.Lists.{each_among}
 use Rattle.curp_law_masters.proofs.Replays.{replay_ok}
 
@@ -44,25 +44,12 @@ at o p = record { order = o; phase = p }
 
 -- ---- what is kept from one phase to another
 
-came_log : (w : World) (o : Recover) (p q : RecoveryPhase) (l : Option (List Entry)) → CameLog w (at o p) l → CameLog w (at o q) l
-came_log w o p q None c = tt
-came_log w o p q (Some entries) c = c
-
 came_requests : (w : World) (o : Recover) (p q : RecoveryPhase) (r : Option (List Request)) → CameRequests w (at o p) r → CameRequests w (at o q) r
 came_requests w o p q None c = tt
 came_requests w o p q (Some requests) c = c
 
 replayed_kept : (w : World) (o : Recover) (p q : RecoveryPhase) (r x : Replayed) → x.log ≡ r.log → x.cut ≡ r.cut → ReplayOk w (at o p) r → ReplayOk w (at o q) x
-replayed_kept w o p q r x same cut ok = record {
-  b = ok.b;
-  its_backup = ok.its_backup;
-  fenced = ok.fenced;
-  x = ok.x;
-  its_witness = ok.its_witness;
-  frozen = ok.frozen;
-  is = same ∙ ok.is;
-  its_cut = cut ∙ ok.its_cut;
-}
+replayed_kept w o p q r x same cut ok = record { sources = ok.sources; is = same ∙ ok.is; its_cut = cut ∙ ok.its_cut }
 
 -- the same replay in another phase, with another round
 rephased : (w : World) (o : Recover) (p q : RecoveryPhase) (r : Replayed) (round : ℕ) → ReplayedOk w (at o p) r → ReplayedOk w (at o q) (record r { round = round })
@@ -84,12 +71,7 @@ replay_begins : (w : World) (o : Recover) (p q : RecoveryPhase) (log : List Entr
     → ReplayedOk w (at o q) (record { log = replay o.lo o.hi log requests; cut = length log; round = 1; complete = [] })
 replay_begins w o p q log requests lo hi came asked = record {
   replayed = record {
-    b = came.0.b;
-    its_backup = came.0.is;
-    fenced = came.0.fenced;
-    x = asked.0.x;
-    its_witness = asked.0.is;
-    frozen = asked.0.frozen;
+    sources = record { b = came.0.b; its_backup = came.0.is; fenced = came.0.fenced; x = asked.0.x; its_witness = asked.0.is; frozen = asked.0.frozen };
     is = ap (λ (l : List Entry). replay o.lo o.hi l requests) (sym came.0.its_log) ∙ ap (replay o.lo o.hi came.0.b.log) (sym asked.0.its_requests);
     its_cut = ap length (sym came.0.its_log);
   };
@@ -185,7 +167,7 @@ module _ (w : World) (n : ℕ) (o : Recover) where
       tells p p (unanswered_log n o log ++ unanswered_requests n o requests) (λ x. x) ok (Each-append (Says p) (unanswered_log n o log) (unanswered_requests n o requests) (unanswered_logs p log) (unanswered_asked p requests))
   again_goes (Storing r) ok = cond_both (rises_past last_round r.round (r.round + 1)) _ _ (Goes (Storing r)) (λ y. stays (Storing r) (Storing r) (λ x. x) ok)
       (λ y. tells (Storing r) (Storing (next_storing r)) _ (λ x. x) (rephased w o (Storing r) (Storing (next_storing r)) r (r.round + 1) ok)
-      (whole (next_storing r) (filter (λ b. not (is_among b r.complete)) o.backups) (each_left (λ b. IsAmong b o.backups) (λ b. not (is_among b r.complete)) o.backups (each_among (λ b. IsAmong b o.backups) o.backups (λ b m. m)))))
+      (whole (next_storing r) (filter (λ b. not (is_among b r.complete)) o.backups) (Each-filter (λ b. IsAmong b o.backups) (λ b. not (is_among b r.complete)) o.backups (each_among (λ b. IsAmong b o.backups) o.backups (λ b m. m)))))
   again_goes (Waiting r) ok = tells (Waiting r) (Waiting r) (recovered_message n o) (λ x. x) ok (recovered r)
 
   ordered_goes : (p : RecoveryPhase) (order : Local) → StageOk w (at o p) p → Goes p (recovery_ordered n (at o p) order)

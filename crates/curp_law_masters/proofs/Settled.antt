@@ -3,7 +3,7 @@ use Rattle.std.proofs.Common.{◌≡◌, ◌<◌, ℕ, ◌-◌, true, not, List,
 use Rattle.std.specs.List.{filter, flat_map}
 use Rattle.std.proofs.lemmas.Bool.{ltb-true}
 use Rattle.curp_base.specs.Words.{At, Each}
-use Rattle.curp_base.proofs.Lists.{Each-append, Each-at, Each-map, Each-weaker, at_drop, at_take, prefix_self}
+use Rattle.curp_base.proofs.Lists.{Each-append, Each-at, Each-map, Each-weaker, at_drop, at_take, prefix_self, Each-filter}
 use Rattle.curp_cmd.specs.declared.entry.Entry.{Entry}
 use Rattle.curp_cmd.specs.declared.entry.Entry.TheVariants.{Op, Take, Give, Expire}
 use Rattle.curp_msg.specs.declared.body.Body.TheVariants as body
@@ -14,7 +14,6 @@ use Rattle.curp_facts.specs.Entries.{EntryOk}
 use Rattle.curp_facts.specs.Facts.{WasOrdered}
 use Rattle.curp_facts.specs.Nodes.{CapturedOk, IsOpAt}
 use Rattle.curp_law_masters.specs.Moves.{IsSaidBy, ServingSays}
-use Rattle.curp_law_masters.proofs.Among.{each_left}
 use Rattle.curp_law_masters.proofs.Lists.{each_among, each_filtered}
 use Rattle.curp_law_masters.proofs.Parts.{Grown, Parts, acknowledgements_grow, captures_grow, free_grows, queued_grow}
 use Rattle.curp_law_masters.proofs.Serving.{AllSaid}
@@ -44,9 +43,9 @@ module _ (w : World) (part n : ℕ) (k : MasterState) (p : Parts w part k) (serv
     log = p.log;
     acknowledged = acknowledgements_grow w k (settled_state k) grown k.acknowledged p.acknowledged;
     free = λ index has_it. free_grows w k (settled_state k) grown index (p.free index has_it);
-    held = each_left (IsOpAt k.log) (λ index. not (nat_lt index (synced k))) k.held p.held;
+    held = Each-filter (IsOpAt k.log) (λ index. not (nat_lt index (synced k))) k.held p.held;
     queue = queued_grow w k (settled_state k) grown k.queue p.queue;
-    captures = captures_grow w k (settled_state k) grown _ (each_left (CapturedOk w k) (λ c. not (is_ready k c)) k.captures p.captures);
+    captures = captures_grow w k (settled_state k) grown _ (Each-filter (CapturedOk w k) (λ c. not (is_ready k c)) k.captures p.captures);
   }
 
   -- what it says then
@@ -120,4 +119,4 @@ module _ (w : World) (part n : ℕ) (k : MasterState) (p : Parts w part k) (serv
       let values : List Captured = filter (is_ready k) k.captures in
       Each-append Said (synced_replies n k due ++ map (value_of n k) values) (flat_map (moved_entry n) (between k.settled (synced k) k.log))
       (Each-append Said (synced_replies n k due) (map (value_of n k) values) (replies_said due low)
-      (Each-map Said (value_of n k) values (Each-weaker (CapturedOk w k) (λ c. Said (value_of n k c)) value_said values (each_left (CapturedOk w k) (is_ready k) k.captures p.captures)))) (all_moved_said its)
+      (Each-map Said (value_of n k) values (Each-weaker (CapturedOk w k) (λ c. Said (value_of n k c)) value_said values (Each-filter (CapturedOk w k) (is_ready k) k.captures p.captures)))) (all_moved_said its)

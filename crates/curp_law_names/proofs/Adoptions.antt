@@ -12,10 +12,11 @@ use Rattle.curp_facts.specs.Facts.{IsAdoptedNow, IsGiven, Lists, WasAdopted, lis
 use Rattle.curp_facts.specs.Names.{DoingOk, IsClientNumber, IsToldOf, RecoveredFrom, Names, Top}
 use Rattle.curp_law_names.proofs.Keeps.{chain_adopted, entry_numbered, links_adopted, names_moved, numbered_now, told_adopted, top_adopted, top_stays}
 use Rattle.curp_law_names.proofs.Later.{Later, client_later, doing_later, moving_later, given_later}
-use Rattle.curp_law_names.proofs.Lists.{number_within, numbered_set_cases}
+use Rattle.curp_law_names.proofs.Lists.{numbered_set_cases}
 use Rattle.curp_law_names.proofs.Moves.{Adoption, Move}
 use Rattle.curp_law_names.proofs.Quiet.{Good}
 use Rattle.curp_law_names.proofs.Steps.{Rises, manager_moved, moved_later, moved_messages, moved_move, moved_numbers, sent_now}
+use Rattle.curp_base.proofs.Numbered.{number_within}
 
 module _ {w : World} (n : Names w) (p : ℕ) (now new : PartConfig)
     (here : numbered w.manager.config.parts p ≡ Some now)

@@ -5,7 +5,7 @@ use Rattle.std.specs.Option.{ok_or}
 use Rattle.std.proofs.lemmas.Bool.{cond_both}
 use Rattle.curp_base.specs.Cases.{◌>>=◌, refuse_if}
 use Rattle.curp_base.specs.Words.{Each, last_of}
-use Rattle.curp_base.proofs.Lists.{Each-append, Each-map}
+use Rattle.curp_base.proofs.Lists.{Each-append, Each-map, Each-filter}
 use Rattle.curp_cmd.specs.Hash.{hashes}
 use Rattle.curp_cmd.specs.Node.{client_node, manager_node}
 use Rattle.curp_cmd.specs.RequestId.{same_id}
@@ -36,7 +36,7 @@ use Rattle.curp_model.specs.World.{World}
 use Rattle.curp_facts.specs.Facts.{AttemptWas, WasAdopted, WasSent, lists_of_part}
 use Rattle.curp_facts.specs.Names.{ConfigurationOk, GivenOk, IsOf, Names}
 use Rattle.curp_facts.specs.Fits.{ClientFits, MessageFits, PendingFits, sender_kind}
-use Rattle.curp_law_names.proofs.Keepers.{AllSaid, Said, each_filter}
+use Rattle.curp_law_names.proofs.Keepers.{AllSaid, Said}
 use Rattle.curp_law_names.proofs.Lists.{among_each, each_among, filter_among, first_among, last_among}
 use Rattle.curp_msg.specs.declared.script.Protocol.{Protocol}
 use Rattle.curp_msg.specs.declared.script.Protocol.TheVariants.{One, Two}
@@ -151,7 +151,7 @@ module _ (w : World) (n : Names w) (k : ℕ) (me : IsNodeOf w kind.Client k) whe
     -- ---- deliveries
 
     completes_goes : (id : RequestId) (a : Answer) (by : Option Capture) → Goes (completes_with c id a by)
-    completes_goes id a by = (record { config = ok.config; pending = each_filter (PendingFits w k) _ c.pending ok.pending }, tt)
+    completes_goes id a by = (record { config = ok.config; pending = Each-filter (PendingFits w k) _ c.pending ok.pending }, tt)
 
     evidence_goes : (p : Pending) → PendingFits w k p → Goes (with_evidence c p)
     evidence_goes p one = by_proof (proved_answer p)

@@ -1,8 +1,8 @@
 -- Homes of backups and witnesses, nodes by their names, and the order of each master that recovered.
-use Rattle.std.proofs.Common.{◌≡◌, ◌≤◌, ◌<◌, inl, inr, ℕ, zero, suc, List, length, refl, sym, ◌∙◌, ap, subst, arith, Some}
+use Rattle.std.proofs.Common.{◌≡◌, ◌≤◌, ◌<◌, inl, inr, ℕ, zero, suc, refl, sym, ◌∙◌, ap, subst, arith}
 use Rattle.std.proofs.lemmas.Bool.{cases_eq}
-use Rattle.curp_base.specs.Words.{numbered, numbers_from}
-use Rattle.curp_base.proofs.Lists.{at_some}
+use Rattle.curp_base.specs.Words.{numbers_from}
+use Rattle.curp_base.proofs.Lists.{at_mapped}
 use Rattle.curp_cmd.specs.Node.{manager_node}
 use Rattle.curp_cmd.specs.declared.node.NodeId.{NodeId}
 use Rattle.curp_cmd.specs.declared.node.NodeKind.TheVariants as kind
@@ -20,73 +20,17 @@ use Rattle.curp_model.specs.Witness.{WitnessState}
 use Rattle.curp_model.specs.World.{World}
 use Rattle.curp_facts.specs.Facts.{AtOpening, ByRecovery, ByReplacement, IsAmong, IsGiven, Lists, WasAdopted, WasSent, lists_of_order, lists_of_prepare}
 use Rattle.curp_facts.specs.Names.{IsOf, Names, OrderOk, PrepareOk}
-use Rattle.curp_law_names.proofs.Lists.{among_each, at_mapped}
+use Rattle.curp_law_names.proofs.Lists.{among_each}
+use Rattle.curp_base.proofs.Numbered.{numbered_some}
 
 -- ---- nodes by their names
 
-numbered_some : {A : Type 0} (xs : List A) (n : ℕ) → 1 ≤ n → n ≤ length xs → (x : A) × (numbered xs n ≡ Some x)
-numbered_some xs zero low high = absurd (omega arith)
-numbered_some xs (suc k) low high = at_some xs k (omega arith)
-
 module _ (w : World) where
-  -- a backup of the world has a state
-  pub backup_there : (node : NodeId) → IsOf w kind.Backup node → (b : BackupState) × IsBackup w node b
-  backup_there node of = let x = numbered_some w.backups node.number of.1.0 of.1.1 in (x.0, record { its_kind = of.0; its_state = x.1 })
-
-  pub witness_there : (node : NodeId) → IsOf w kind.Witness node → (x : WitnessState) × IsWitness w node x
-  witness_there node of = let x = numbered_some w.witnesses node.number of.1.0 of.1.1 in (x.0, record { its_kind = of.0; its_state = x.1 })
-
   pub master_there : (node : NodeId) → IsOf w kind.Master node → (m : MasterStage) × IsMaster w node m
   master_there node of = let x = numbered_some w.masters node.number of.1.0 of.1.1 in (x.0, record { its_kind = of.0; its_state = x.1 })
 
 module _ {w : World} (n : Names w) where
-  -- the backups of given lists have states
-  pub backups_there : (l : Lists) → IsGiven w l → (node : NodeId) → IsAmong node l.backups → (b : BackupState) × IsBackup w node b
-  backups_there l given node a = backup_there w node (among_each (IsOf w kind.Backup) l.backups (n.given l given).backups node a)
-
-  pub witnesses_there : (l : Lists) → IsGiven w l → (node : NodeId) → IsAmong node l.witnesses → (x : WitnessState) × IsWitness w node x
-  witnesses_there l given node a = witness_there w node (among_each (IsOf w kind.Witness) l.witnesses (n.given l given).witnesses node a)
-
   -- ---- homes
-
-  -- two given lists with a backup in common have one partition, one epoch and one master
-  pub backup_home : (l k : Lists) → IsGiven w l → IsGiven w k → (node : NodeId) → IsAmong node l.backups → IsAmong node k.backups → (l.part ≡ k.part) × (l.epoch ≡ k.epoch) × (l.master ≡ k.master)
-  backup_home l k gl gk node a b =
-      let agree = n.agree l k gl gk in
-      let master = agree.by_backup node a b in
-      ((agree.by_master master).0, (agree.by_master master).1, master)
-
-  pub witness_home : (l k : Lists) → IsGiven w l → IsGiven w k → (node : NodeId) → IsAmong node l.witnesses → IsAmong node k.witnesses → (l.part ≡ k.part) × (l.epoch ≡ k.epoch) × (l.master ≡ k.master)
-  witness_home l k gl gk node a b =
-      let agree = n.agree l k gl gk in
-      let master = agree.by_witness node a b in
-      ((agree.by_master master).0, (agree.by_master master).1, master)
-
-  -- a backup is installed at the epoch of its home
-  pub installed_home : (l : Lists) → IsGiven w l → (node : NodeId) → IsAmong node l.backups → (epoch : ℕ) → WasSent w (says manager_node node (body.Install epoch)) → epoch ≡ l.epoch
-  installed_home l given node a epoch sent =
-      let ok = n.manager_says node (body.Install epoch) sent in
-      ok.its_epoch ∙ (backup_home ok.lists l ok.given given node ok.named a).1
-
-  -- a witness is started for the partition and the epoch of its home
-  pub started_home : (l : Lists) → IsGiven w l → (node : NodeId) → IsAmong node l.witnesses → (s : Start) → WasSent w (says manager_node node (body.Start s)) → (s.part ≡ l.part) × (s.epoch ≡ l.epoch)
-  started_home l given node a s sent =
-      let ok = n.manager_says node (body.Start s) sent in
-      let home = witness_home ok.lists l ok.given given node ok.named a in
-      (ok.its_part ∙ home.0, ok.its_epoch ∙ home.1)
-
-  -- the backup that an order names is at home in the order's partition, in a smaller epoch
-  pub ordered_backup_home : (node : NodeId) (o : Recover) → WasSent w (says manager_node node (body.Recover o)) → (l : Lists) → IsGiven w l → IsAmong o.backup l.backups → (l.part ≡ o.part) × (l.epoch < o.epoch)
-  ordered_backup_home node o sent l given a =
-      let ok : OrderOk w node o = n.manager_says node (body.Recover o) sent in
-      let home = backup_home l ok.before given ok.was.given o.backup a ok.its_backup in
-      (home.0 ∙ ok.its_part, omega (arith, home.1, ok.earlier))
-
-  pub ordered_witness_home : (node : NodeId) (o : Recover) → WasSent w (says manager_node node (body.Recover o)) → (l : Lists) → IsGiven w l → IsAmong o.witness l.witnesses → (l.part ≡ o.part) × (l.epoch < o.epoch)
-  ordered_witness_home node o sent l given a =
-      let ok : OrderOk w node o = n.manager_says node (body.Recover o) sent in
-      let home = witness_home l ok.before given ok.was.given o.witness a ok.its_witness in
-      (home.0 ∙ ok.its_part, omega (arith, home.1, ok.earlier))
 
   -- ---- the order of a master
 

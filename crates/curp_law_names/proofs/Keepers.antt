@@ -1,13 +1,12 @@
 -- What backups and witnesses say fits, from themselves.
-use Rattle.std.proofs.Common.{◌≡◌, ℕ, ◌-◌, ◌==◌, nat_lt, not, Bool, List, [], ◌∷◌, length, map, fold, Option, Some, None, refl, subst}
+use Rattle.std.proofs.Common.{◌≡◌, ℕ, ◌-◌, ◌==◌, nat_lt, not, List, [], ◌∷◌, length, map, fold, Option, Some, None, refl, subst}
 use Rattle.std.specs.Prelude.{⊤}
-use Rattle.std.specs.List.{filter}
 use Rattle.std.specs.FinMap.Entries.{by_order}
 use Rattle.std.specs.declared.cmp.Ordering.{Ordering}
 use Rattle.std.specs.declared.cmp.Ordering.TheVariants.{Less, Equal, Greater}
 use Rattle.std.proofs.lemmas.Bool.{cond_both}
 use Rattle.curp_base.specs.Words.{Each}
-use Rattle.curp_base.proofs.Lists.{Each-append, Each-drop}
+use Rattle.curp_base.proofs.Lists.{Each-append, Each-drop, Each-filter}
 use Rattle.curp_cmd.specs.Node.{backup_node, client_node, witness_node}
 use Rattle.curp_cmd.specs.RequestId.{id_cmp}
 use Rattle.curp_cmd.specs.declared.command.Request.{Request}
@@ -46,10 +45,6 @@ AllSaid w me out = Each (Said w me) out
 abbrev pub InputFits : World → Input → Type 0
 InputFits w (input.Local order) = ⊤
 InputFits w (input.Message m) = MessageFits w m
-
-pub each_filter : {A : Type 0} (P : A → Type 0) (p : A → Bool) (xs : List A) → Each P xs → Each P (filter p xs)
-each_filter P p [] all = tt
-each_filter P p (x ∷ xs) all = cond_both (p x) _ _ (Each P) (λ y. (all.0, each_filter P p xs all.1)) (λ y. each_filter P p xs all.1)
 
 module _ (w : World) where
   -- ---- backups
@@ -145,10 +140,10 @@ module _ (w : World) where
     hold_fits epoch r asked = turned_fits r asked (turned_away x.mode (stranger_to epoch x.epoch))
 
     collect_fits : (ids : List RequestId) → WitnessFits w (collect x ids)
-    collect_fits ids = survivors_fit _ (each_filter HeldFits _ x.held ok)
+    collect_fits ids = survivors_fit _ (Each-filter HeldFits _ x.held ok)
 
     collected_fits : (m : Mode) (ids : List RequestId) → WitnessFits w (collected_in m x ids).state × SuspectsAsked w (collected_in m x ids).answer
-    collected_fits Normal ids = (collect_fits ids, requests_fit _ (each_filter HeldFits _ (collect x ids).held (collect_fits ids)))
+    collected_fits Normal ids = (collect_fits ids, requests_fit _ (Each-filter HeldFits _ (collect x ids).held (collect_fits ids)))
     collected_fits Frozen ids = (ok, tt)
     collected_fits Idle ids = (ok, tt)
 

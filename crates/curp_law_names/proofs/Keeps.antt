@@ -7,8 +7,8 @@ use Rattle.curp_model.specs.World.{World}
 use Rattle.curp_facts.specs.Facts.{IsAdoptedNow, IsAmong, IsGiven, Lists, WasAdopted, lists_of_part}
 use Rattle.curp_facts.specs.Names.{DoingOk, IsClientNumber, IsToldOf, MovingOk, NextAfter, RecoveredFrom, Names, NumbersOk, ShapeOk, Top}
 use Rattle.curp_law_names.proofs.Later.{adopted_later, link_later, told_later}
-use Rattle.curp_law_names.proofs.Lists.{at_place, place}
 use Rattle.curp_law_names.proofs.Moves.{Adoption, Fresh, FreshOk, IsNewlyAdopted, Move, adopted_back, agree_kept, given_kept, one_order_kept, says_kept, versions_kept}
+use Rattle.curp_base.proofs.Numbered.{place, at_place}
 
 -- what a move has to show besides
 pub record Holds (v : World) : Type 0 where

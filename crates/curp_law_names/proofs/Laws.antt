@@ -11,7 +11,7 @@ use Rattle.curp_msg.specs.declared.script.Header.{Header}
 use Rattle.curp_msg.specs.declared.script.Step.{Step}
 use Rattle.curp_model.specs.Named.{IsNode, IsNodeOf}
 use Rattle.curp_model.specs.World.{World, messages, world}
-use Rattle.curp_facts.specs.Run.{IsRun}
+use Rattle.curp_msg.specs.Script.{IsRun}
 use Rattle.curp_facts.specs.Names.{IsOf}
 use Rattle.curp_facts.specs.Fits.{BodyFits, GoesHome, IsBetweenNodes, MessageFits, Nodes, addressee_kind, sender_kind}
 use Rattle.curp_law_names.proofs.Runs.{always}

@@ -1,25 +1,15 @@
 -- Lists that are numbered from 1, what is among lists, and lists whose items differ.
-use Rattle.std.proofs.Common.{◌≡◌, ◌≢◌, ◌⊎◌, inl, inr, ℕ, zero, suc, ◌+◌, ◌-◌, ◌<◌, ◌≤◌, Bool, List, [], ◌∷◌, ◌++◌, length, map, set, refl, ap, sym, ◌∙◌, subst, arith, append-nil, append_assoc, Option, Some, None}
+use Rattle.std.proofs.Common.{◌≡◌, ◌≢◌, ◌⊎◌, inl, inr, ℕ, zero, suc, ◌+◌, ◌-◌, ◌≤◌, Bool, List, [], ◌∷◌, ◌++◌, length, set, refl, ap, sym, ◌∙◌, subst, arith, Option, Some, None}
 use Rattle.std.specs.List.{filter}
 use Rattle.std.proofs.lemmas.Bool.{cases_Bool}
 use Rattle.curp_base.specs.Cases.{first_there}
-use Rattle.curp_base.specs.Words.{At, Each, all_of, first_of, last_of, numbered, numbers_from}
-use Rattle.curp_base.proofs.Lists.{at_append_right, at_within, at_set_cases, Each-at, Each-from_at}
-use Rattle.curp_msg.specs.declared.message.Message.{Message}
-use Rattle.curp_model.specs.World.{with_batch}
+use Rattle.curp_base.specs.Words.{At, Each, first_of, last_of, numbered}
+use Rattle.curp_base.proofs.Lists.{at_append_right, at_set_cases, Each-at, Each-from_at}
 use Rattle.curp_facts.specs.Facts.{IsAmong}
 use Rattle.curp_facts.specs.Names.{AllDiffer}
+use Rattle.curp_base.proofs.Numbered.{place, at_place}
 
 -- ---- numbers from 1
-
--- an item that has a number stands one place before it
-pub place : {A : Type 0} (xs : List A) (n : ℕ) (x : A) → numbered xs n ≡ Some x → (k : ℕ) × (n ≡ k + 1) × At xs k x
-place xs zero x h = absurd cc
-place xs (suc k) x h = (k, omega arith, h)
-
-pub at_place : {A : Type 0} (xs : List A) (k n : ℕ) (x : A) → n ≡ k + 1 → At xs k x → numbered xs n ≡ Some x
-at_place xs k zero x e h = absurd (omega arith)
-at_place xs k (suc n) x e h = let same : k ≡ n = omega arith in subst (λ (i : ℕ). At xs i x) same h
 
 -- after one item was set, another stands as before, and that one is the new one
 pub numbered_set_cases : {A : Type 0} (xs : List A) (n : ℕ) (y : A) → 1 ≤ n → (m : ℕ) (x : A) → numbered (set xs (n - 1) y) m ≡ Some x
@@ -30,26 +20,6 @@ numbered_set_cases {A} xs n y low m x h =
       | inl o ↦ inl (omega (arith, q.1, o.0), at_place xs q.0 m x q.1 o.1)
       | inr o ↦ inr (omega (arith, q.1, o.0), o.1)
     ]
-
--- what has a number is one of as many
-pub number_within : {A : Type 0} (xs : List A) (n : ℕ) (x : A) → numbered xs n ≡ Some x → (1 ≤ n) × (n ≤ length xs)
-number_within xs n x h = let p = place xs n x h in let low = at_within xs p.0 x p.2 in (omega (arith, p.1), omega (arith, p.1, low))
-
--- what stands among numbers from one on
-pub numbers_back : (first count k n : ℕ) → At (numbers_from first count) k n → (n ≡ first + k) × (k < count)
-numbers_back first zero k n h = absurd cc
-numbers_back first (suc count) zero n h = let e : first ≡ n = cc in (omega (arith, e), omega arith)
-numbers_back first (suc count) (suc k) n h = let r = numbers_back (first + 1) count k n h in (omega (arith, r.0), omega (arith, r.1))
-
-pub length-numbers : (first count : ℕ) → length (numbers_from first count) ≡ count
-length-numbers first zero = refl
-length-numbers first (suc count) = ap suc (length-numbers (first + 1) count)
-
--- what stands in a list of what a function makes
-pub at_mapped : {A B : Type 0} (f : A → B) (xs : List A) (k : ℕ) (y : B) → At (map f xs) k y → (x : A) × At xs k x × (f x ≡ y)
-at_mapped f [] k y h = absurd cc
-at_mapped f (x ∷ xs) zero y h = (x, refl, cc)
-at_mapped f (x ∷ xs) (suc k) y h = at_mapped f xs k y h
 
 -- ---- what is among lists
 
@@ -105,16 +75,6 @@ set_differs xs i y fresh differ a b x ha hb = elim (at_set_cases xs i y a x ha) 
 ]
 
 -- ---- messages
-
--- one more list comes behind all
-all_of-push : {A : Type 0} (lists : List (List A)) (xs : List A) → all_of (lists ++ xs ∷ []) ≡ all_of lists ++ xs
-all_of-push [] xs = append-nil xs
-all_of-push (ys ∷ rest) xs = ap (λ l. ys ++ l) (all_of-push rest xs) ∙ sym (append_assoc ys (all_of rest) xs)
-
--- what a step sends comes behind all messages
-pub all_of-kept : (sent : List (List Message)) (out : List Message) → all_of (with_batch sent out) ≡ all_of sent ++ out
-all_of-kept sent [] = sym (append-nil (all_of sent))
-all_of-kept sent (m ∷ more) = all_of-push sent (m ∷ more)
 
 -- the first item that is there is among them
 pub there_among : {A : Type 0} (xs : List (Option A)) (x : A) → first_there xs ≡ Some x → IsAmong (Some x) xs

@@ -32,11 +32,13 @@ use Rattle.curp_law_names.proofs.Clients.{Arrives, is_manager}
 use Rattle.curp_facts.specs.Names.{IsClientNumber, MovingOk, Names, RecoveringOk, ReplacingOk}
 use Rattle.curp_law_names.proofs.Adoptions.{adopts_good}
 use Rattle.curp_law_names.proofs.Keeps.{entry_now, entry_numbered, numbered_now}
-use Rattle.curp_law_names.proofs.Lists.{at_mapped, filter_among, first_among, place, there_among}
+use Rattle.curp_law_names.proofs.Lists.{filter_among, first_among, there_among}
 use Rattle.curp_law_names.proofs.Quiet.{Good, Stays, quietly, stays_beside, stays_self}
 use Rattle.curp_law_names.proofs.Recoveries.{recover_good, refused_good}
 use Rattle.curp_law_names.proofs.Replacements.{replace_good}
 use Rattle.curp_law_names.proofs.Says.{adopted_again, configuration_again, expire_again, nudge_again, serves_now}
+use Rattle.curp_base.proofs.Lists.{at_mapped}
+use Rattle.curp_base.proofs.Numbered.{place}
 
 -- ---- lists
 

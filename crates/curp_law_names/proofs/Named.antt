@@ -8,7 +8,9 @@ use Rattle.curp_model.specs.World.{World}
 use Rattle.curp_facts.specs.Facts.{IsAmong}
 use Rattle.curp_facts.specs.Names.{AllDiffer, IsOf}
 use Rattle.curp_law_names.proofs.Later.{Later, of_later}
-use Rattle.curp_law_names.proofs.Lists.{among_each, among_set, at_mapped, each_among, length-numbers, numbers_back, set_differs}
+use Rattle.curp_law_names.proofs.Lists.{among_each, among_set, each_among, set_differs}
+use Rattle.curp_base.proofs.Lists.{at_mapped}
+use Rattle.curp_base.proofs.Numbered.{numbers_back, length-numbers}
 
 -- ---- names in a row
 

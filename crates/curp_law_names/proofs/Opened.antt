@@ -3,7 +3,7 @@ use Rattle.std.proofs.Common.{◌≡◌, ◌≤◌, ◌<◌, inl, inr, ℕ, zero
 use Rattle.std.proofs.lemmas.Bool.{cases_lt, cases_eq}
 use Rattle.std.proofs.lemmas.List.{length-map, length-replicate}
 use Rattle.curp_base.specs.Words.{At, numbered, numbers_from}
-use Rattle.curp_base.proofs.Lists.{at_map, at_replicate}
+use Rattle.curp_base.proofs.Lists.{at_map, at_replicate, at_mapped}
 use Rattle.curp_cmd.specs.Node.{master_node}
 use Rattle.curp_cmd.specs.declared.node.NodeId.{NodeId}
 use Rattle.curp_cmd.specs.declared.node.NodeKind.TheVariants as kind
@@ -17,11 +17,12 @@ use Rattle.curp_model.specs.Recovery.{MasterStage}
 use Rattle.curp_model.specs.Witness.{WitnessState, started_witness}
 use Rattle.curp_model.specs.World.{World, messages, opening, opening_master, shape_of, opening_client}
 use Rattle.curp_facts.specs.Facts.{AtOpening, ByRecovery, ByReplacement, IsAdoptedNow, IsGiven, Lists, WasAdopted, lists_of_part}
-use Rattle.curp_facts.specs.Run.{IsHeader}
+use Rattle.curp_msg.specs.Script.{IsHeader}
 use Rattle.curp_facts.specs.Names.{Agree, ConfigurationOk, DoingOk, GivenOk, IsOf, Names, NumbersOk, Top}
 use Rattle.curp_facts.specs.Fits.{BackupFits, ClientFits, MasterFits, Nodes, WitnessFits}
-use Rattle.curp_law_names.proofs.Lists.{at_mapped, each_among, length-numbers, numbers_back, place}
+use Rattle.curp_law_names.proofs.Lists.{each_among}
 use Rattle.curp_law_names.proofs.Named.{in_row, row_differs, row_each, row_length}
+use Rattle.curp_base.proofs.Numbered.{place, numbers_back, length-numbers}
 
 -- ---- products
 

@@ -13,9 +13,10 @@ use Rattle.curp_facts.specs.Facts.{IsAdoptedNow, Lists, lists_of_part}
 use Rattle.curp_facts.specs.Names.{DoingOk, IsClientNumber, Names}
 use Rattle.curp_law_names.proofs.Keeps.{chain_stays, links_stay, names_moved, told_stays, top_stays}
 use Rattle.curp_law_names.proofs.Later.{Later, client_later, doing_later, moving_later}
-use Rattle.curp_law_names.proofs.Lists.{number_within, numbered_set_cases}
+use Rattle.curp_law_names.proofs.Lists.{numbered_set_cases}
 use Rattle.curp_law_names.proofs.Moves.{Fresh, FreshOk, IsNewlyAdopted, Move, Utters}
 use Rattle.curp_law_names.proofs.Steps.{Rises, manager_moved, moved_later, moved_move, moved_numbers}
+use Rattle.curp_base.proofs.Numbered.{number_within}
 
 -- numbers that rise together
 pub record NumbersRise (n k : Next) : Type 0 where

@@ -21,11 +21,13 @@ use Rattle.curp_facts.specs.Fits.{BackupFits, ClientFits, MasterFits, MessageFit
 use Rattle.curp_law_names.proofs.Fits.{backup_later, client_fits_later, master_later, message_later, witness_later}
 use Rattle.curp_law_names.proofs.Keepers.{AllSaid, Said}
 use Rattle.curp_law_names.proofs.Later.{Later, client_later, moving_later}
-use Rattle.curp_law_names.proofs.Lists.{all_of-kept, among_each, number_within, numbered_set_cases}
+use Rattle.curp_law_names.proofs.Lists.{among_each, numbered_set_cases}
 use Rattle.curp_law_names.proofs.Moves.{Move, Nothing}
 use Rattle.curp_law_names.proofs.Quiet.{names_stay}
 use Rattle.curp_law_names.proofs.Steps.{sent_cases, sent_later}
 use Rattle.curp_msg.specs.declared.machine.Input.{Input}
+use Rattle.curp_base.proofs.Numbered.{number_within}
+use Rattle.curp_model.proofs.Batches.{all_of-kept}
 
 -- shape and names, and who says what to whom
 pub record Both (w : World) : Type 0 where

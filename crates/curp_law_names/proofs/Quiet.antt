@@ -2,7 +2,7 @@
 use Rattle.std.proofs.Common.{◌≡◌, ℕ, ◌+◌, List, length, map, refl, sym, ◌∙◌, ap, subst, arith, Option, Some}
 use Rattle.std.proofs.lemmas.List.{length-map}
 use Rattle.curp_base.specs.Words.{At, Each, numbered}
-use Rattle.curp_base.proofs.Lists.{at_map, Each-weaker}
+use Rattle.curp_base.proofs.Lists.{at_map, Each-weaker, at_mapped}
 use Rattle.curp_cmd.specs.Node.{manager_node}
 use Rattle.curp_msg.specs.Moved.{Moved}
 use Rattle.curp_msg.specs.declared.config.PartConfig.{PartConfig}
@@ -14,9 +14,9 @@ use Rattle.curp_facts.specs.Facts.{IsAdoptedNow, Lists, lists_of_part}
 use Rattle.curp_facts.specs.Names.{DoingOk, IsClientNumber, ManagerSays, MovingOk, Names, NumbersOk, Top}
 use Rattle.curp_law_names.proofs.Keeps.{chain_stays, links_stay, names_moved, told_stays, top_stays}
 use Rattle.curp_law_names.proofs.Later.{Later, client_later, doing_later, moving_later, says_later}
-use Rattle.curp_law_names.proofs.Lists.{at_mapped, at_place, place}
 use Rattle.curp_law_names.proofs.Moves.{Move, Nothing, Repeats, Utters}
 use Rattle.curp_law_names.proofs.Steps.{Rises, manager_moved, moved_later, moved_move, moved_numbers}
+use Rattle.curp_base.proofs.Numbered.{place, at_place}
 
 -- a message is the manager's
 abbrev pub IsManagers : Message → Type 0

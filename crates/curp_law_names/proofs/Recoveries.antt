@@ -20,7 +20,8 @@ use Rattle.curp_facts.specs.Facts.{ByRecovery, IsAmong, IsGiven, Lists, WasSent,
 use Rattle.curp_facts.specs.Names.{Agree, GivenOk, IsOf, Names, OrderOk}
 use Rattle.curp_law_names.proofs.Keeps.{numbered_now}
 use Rattle.curp_law_names.proofs.Later.{Later, adopted_later}
-use Rattle.curp_law_names.proofs.Lists.{among_each, each_among, place as place_of}
+use Rattle.curp_base.proofs.Numbered.{place as place_of}
+use Rattle.curp_law_names.proofs.Lists.{among_each, each_among}
 use Rattle.curp_law_names.proofs.Moves.{FreshRecovery, Recovery, Utters}
 use Rattle.curp_law_names.proofs.Named.{in_row, row_differs, row_each, row_length}
 use Rattle.curp_law_names.proofs.Orders.{NumbersRise, ordered_keeps, orders_rises}

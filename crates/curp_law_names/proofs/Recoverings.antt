@@ -4,7 +4,7 @@ use Rattle.std.specs.Prelude.{⊤}
 use Rattle.std.specs.List.{filter}
 use Rattle.std.proofs.lemmas.Bool.{cond_both}
 use Rattle.curp_base.specs.Words.{Each, rises_past}
-use Rattle.curp_base.proofs.Lists.{Each-append, Each-map}
+use Rattle.curp_base.proofs.Lists.{Each-append, Each-map, Each-filter}
 use Rattle.curp_cmd.specs.Node.{is_among, manager_node, master_node, same_node}
 use Rattle.curp_cmd.specs.Store.{is_update}
 use Rattle.curp_cmd.specs.declared.command.Request.{Request}
@@ -35,7 +35,7 @@ use Rattle.curp_facts.specs.Facts.{ByRecovery, IsGiven, WasSent, lists_of_order}
 use Rattle.curp_facts.specs.Names.{IsOf, Names, OrderOk}
 use Rattle.curp_facts.specs.Fits.{BodyFits, EntryAsked, IsAsked, LogThere, MasterFits, PhaseFits, RecoveringFits, ReplyAsked, RequestsThere, sender_kind}
 use Rattle.curp_law_names.proofs.Clients.{Arrives, is_manager}
-use Rattle.curp_law_names.proofs.Keepers.{AllSaid, Said, each_filter}
+use Rattle.curp_law_names.proofs.Keepers.{AllSaid, Said}
 use Rattle.curp_law_names.proofs.Lists.{among_each, each_among}
 use Rattle.curp_law_names.proofs.Servings.{asked_by, master_said, refuse_said, serving_hears, serving_told}
 
@@ -129,7 +129,7 @@ module _ (w : World) (n : Names w) (k : ℕ) (me : IsNodeOf w kind.Master k) whe
     again_goes p (Asking log requests) ok its =
         (record { ordered = sent; phase = ok }, Each-append (Said w (master_node k)) (unanswered_log k o log) _ (unanswered_log_said log) (unanswered_requests_said requests))
     again_goes p (Storing r) ok its = cond_both (rises_past last_round r.round (r.round + 1)) _ _ Goes (λ y. (record { ordered = sent; phase = ok }, tt)) (λ y.
-        (record { ordered = sent; phase = its }, whole_said (next_storing r) its (filter (λ b. not (is_among b r.complete)) o.backups) (each_filter (IsOf w kind.Backup) _ o.backups (n.given _ given).backups)))
+        (record { ordered = sent; phase = its }, whole_said (next_storing r) its (filter (λ b. not (is_among b r.complete)) o.backups) (Each-filter (IsOf w kind.Backup) _ o.backups (n.given _ given).backups)))
     again_goes p (Waiting r) ok its = (record { ordered = sent; phase = ok }, recovered_said)
 
     -- it begins to serve by its order

@@ -21,7 +21,8 @@ use Rattle.curp_facts.specs.Facts.{ByReplacement, IsAmong, IsGiven, Lists, WasAd
 use Rattle.curp_facts.specs.Names.{Agree, GivenOk, IsOf, IsPlaced, Names, PrepareOk}
 use Rattle.curp_law_names.proofs.Keeps.{numbered_now}
 use Rattle.curp_law_names.proofs.Later.{Later, adopted_later, given_later, given_ok_later}
-use Rattle.curp_law_names.proofs.Lists.{among_each, place as place_of}
+use Rattle.curp_base.proofs.Numbered.{place as place_of}
+use Rattle.curp_law_names.proofs.Lists.{among_each}
 use Rattle.curp_law_names.proofs.Moves.{FreshReplacement, Replacement, Utters}
 use Rattle.curp_law_names.proofs.Named.{Renewed, renewed_self, renewed_set}
 use Rattle.curp_law_names.proofs.Orders.{NumbersRise, ordered_keeps, orders_rises}

@@ -27,14 +27,14 @@ use Rattle.curp_model.specs.Recovery.{Fresh, master_input}
 use Rattle.curp_model.specs.Witness.{fresh_witness, witness_input}
 use Rattle.curp_model.specs.World.{World, deed_of, delivery, effect, events_of, grown, kept, messages, moves_kind, moves_one, opening, result_of, run, step, steps_by, world}
 use Rattle.curp_facts.specs.Facts.{ByRecovery, IsAmong, WasSent, lists_of_order}
-use Rattle.curp_facts.specs.Run.{IsRun, IsStep}
+use Rattle.curp_msg.specs.Script.{IsRun, IsStep}
 use Rattle.curp_facts.specs.Names.{IsOf, IsAdoptedMaster, ManagerSays, Names}
 use Rattle.curp_facts.specs.Fits.{BackupFits, MasterFits, MessageFits, WitnessFits}
 use Rattle.curp_law_names.proofs.Clients.{Arrives, client_fits}
 use Rattle.curp_law_names.proofs.Fits.{backup_later, client_fits_later, master_later, message_later, witness_later}
 use Rattle.curp_law_names.proofs.Keepers.{InputFits, backup_fits, witness_fits}
 use Rattle.curp_law_names.proofs.Later.{Later, later_self, later_then}
-use Rattle.curp_law_names.proofs.Lists.{all_of-kept, among_each, each_among, number_within, place}
+use Rattle.curp_law_names.proofs.Lists.{among_each, each_among}
 use Rattle.curp_law_names.proofs.Managers.{manager_good}
 use Rattle.curp_law_names.proofs.Named.{named}
 use Rattle.curp_law_names.proofs.Opened.{opening_names, opening_nodes}
@@ -42,6 +42,8 @@ use Rattle.curp_law_names.proofs.Others.{Both, Goes, backup_keeps, client_keeps,
 use Rattle.curp_law_names.proofs.Quiet.{IsManagers}
 use Rattle.curp_law_names.proofs.Recoverings.{IsForMaster, master_fits}
 use Rattle.curp_law_names.proofs.Steps.{manager_moved, moved_messages, sent_now}
+use Rattle.curp_base.proofs.Numbered.{place, number_within}
+use Rattle.curp_model.proofs.Batches.{all_of-kept}
 
 -- ---- the manager's messages
 

@@ -6,7 +6,7 @@ use Rattle.std.specs.Ordering.{nat_cmp}
 use Rattle.std.specs.List.{filter}
 use Rattle.std.proofs.lemmas.Bool.{cond_both}
 use Rattle.curp_base.specs.Words.{Each}
-use Rattle.curp_base.proofs.Lists.{Each-append, Each-at, Each-drop, Each-map}
+use Rattle.curp_base.proofs.Lists.{Each-append, Each-at, Each-drop, Each-map, Each-filter}
 use Rattle.curp_cmd.specs.Hash.{hashes}
 use Rattle.curp_cmd.specs.Node.{client_node, is_among, manager_node, master_node}
 use Rattle.curp_cmd.specs.declared.command.Answer.{Answer}
@@ -47,7 +47,7 @@ use Rattle.curp_facts.specs.Kept.{lists_of_master}
 use Rattle.curp_facts.specs.Names.{IsOf, Names}
 use Rattle.curp_facts.specs.Fits.{BodyFits, EntryAsked, IsAsked, MessageFits, NextSent, ServesBy, ServingFits, SuspectsAsked, sender_kind}
 use Rattle.curp_law_names.proofs.Clients.{is_manager}
-use Rattle.curp_law_names.proofs.Keepers.{AllSaid, Said, each_filter}
+use Rattle.curp_law_names.proofs.Keepers.{AllSaid, Said}
 use Rattle.curp_law_names.proofs.Lists.{among_each, each_among}
 use Rattle.curp_law_names.proofs.Says.{each_flat}
 
@@ -88,7 +88,7 @@ module _ (w : World) (n : Names w) (k : ℕ) (me : IsNodeOf w kind.Master k) whe
 
     fresh_are : (p : Phase) → NextSent w its p → Each (IsOf w kind.Backup) (fresh_backups p m.backups)
     fresh_are Open next = tt
-    fresh_are (Switching s) next = each_filter (IsOf w kind.Backup) _ s.backups (n.given _ (ByReplacement its (list_of s) ok.given next)).backups
+    fresh_are (Switching s) next = Each-filter (IsOf w kind.Backup) _ s.backups (n.given _ (ByReplacement its (list_of s) ok.given next)).backups
 
     appends_said : AllSaid w (master_node k) (appends k m)
     appends_said = Each-map (Said w (master_node k)) (append_to k m) (stored_on m)
@@ -121,8 +121,8 @@ module _ (w : World) (n : Names w) (k : ℕ) (me : IsNodeOf w kind.Master k) whe
     settle_goes =
         let due : List ℕ = filter (λ index. nat_lt index (synced m)) m.held in
         let values : List Captured = filter (is_ready m) m.captures in
-        let reads : Each (λ (c : Captured). IsNodeOf w kind.Client c.id.client) values = each_filter _ (is_ready m) m.captures ok.reads in (
-          record { given = ok.given; next = ok.next; its_lo = ok.its_lo; its_hi = ok.its_hi; entries = ok.entries; reads = each_filter _ (λ c. not (is_ready m c)) m.captures ok.reads },
+        let reads : Each (λ (c : Captured). IsNodeOf w kind.Client c.id.client) values = Each-filter _ (is_ready m) m.captures ok.reads in (
+          record { given = ok.given; next = ok.next; its_lo = ok.its_lo; its_hi = ok.its_hi; entries = ok.entries; reads = Each-filter _ (λ c. not (is_ready m c)) m.captures ok.reads },
           Each-append (Said w (master_node k)) (synced_replies k m due ++ map (value_of k m) values) _
               (Each-append (Said w (master_node k)) (synced_replies k m due) _
               (each_flat (Said w (master_node k)) _ due (λ index a. synced_said index (slice_get m.log index) refl))

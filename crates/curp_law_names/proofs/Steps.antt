@@ -14,8 +14,9 @@ use Rattle.curp_model.specs.World.{World, grown, kept, messages, with_manager}
 use Rattle.curp_facts.specs.Facts.{IsAmong, WasSent}
 use Rattle.curp_facts.specs.Names.{Names, NumbersOk}
 use Rattle.curp_law_names.proofs.Later.{Later}
-use Rattle.curp_law_names.proofs.Lists.{all_of-kept, among_right}
+use Rattle.curp_law_names.proofs.Lists.{among_right}
 use Rattle.curp_law_names.proofs.Moves.{Fresh, Move, Utters}
+use Rattle.curp_model.proofs.Batches.{all_of-kept}
 
 -- ---- what was sent
 

@@ -36,13 +36,13 @@ module _ {w : World} (names : Names w) (inv : Invariant w) where
     its_part = ok.its_part
 
     abbrev replayed : List Entry
-    replayed = replay (lo_of w l.part) (hi_of w l.part) ok.holds.b.log (frozen_requests ok.holds.x)
+    replayed = replay (lo_of w l.part) (hi_of w l.part) ok.holds.sources.b.log (frozen_requests ok.holds.sources.x)
 
     front_is : ok.front ≡ replayed
     front_is =
         ok.is_replay
-        ∙ ap (λ (lo : ℕ). replay lo ok.holds.order.hi ok.holds.b.log (frozen_requests ok.holds.x)) (home.its_lo ∙ ap (lo_of w) its_part)
-        ∙ ap (λ (hi : ℕ). replay (lo_of w l.part) hi ok.holds.b.log (frozen_requests ok.holds.x)) (home.its_hi ∙ ap (hi_of w) its_part)
+        ∙ ap (λ (lo : ℕ). replay lo ok.holds.order.hi ok.holds.sources.b.log (frozen_requests ok.holds.sources.x)) (home.its_lo ∙ ap (lo_of w) its_part)
+        ∙ ap (λ (hi : ℕ). replay (lo_of w l.part) hi ok.holds.sources.b.log (frozen_requests ok.holds.sources.x)) (home.its_hi ∙ ap (hi_of w) its_part)
 
     on_backup : (node : NodeId) → IsAmong node l.backups → (f : BackupState) → IsBackup w node f → IsPrefix replayed f.log
     on_backup node named f is =
@@ -59,14 +59,16 @@ module _ {w : World} (names : Names w) (inv : Invariant w) where
       earlier = p.earlier;
       node = p.order.backup;
       named = p.its_backup;
-      b = ok.holds.b;
-      its_backup = subst (λ (o : Recover). IsBackup w o.backup ok.holds.b) same_order ok.holds.its_backup;
-      fenced = ok.holds.fenced;
       other = p.order.witness;
       named_too = p.its_witness;
-      x = ok.holds.x;
-      its_witness = subst (λ (o : Recover). IsWitness w o.witness ok.holds.x) same_order ok.holds.its_witness;
-      frozen = ok.holds.frozen;
+      sources = record {
+        b = ok.holds.sources.b;
+        its_backup = subst (λ (o : Recover). IsBackup w o.backup ok.holds.sources.b) same_order ok.holds.sources.its_backup;
+        fenced = ok.holds.sources.fenced;
+        x = ok.holds.sources.x;
+        its_witness = subst (λ (o : Recover). IsWitness w o.witness ok.holds.sources.x) same_order ok.holds.sources.its_witness;
+        frozen = ok.holds.sources.frozen;
+      };
       last = λ k is part earlier. p.last k is part earlier;
       order = p.order;
       ordered = p.ordered;

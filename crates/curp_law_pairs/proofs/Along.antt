@@ -48,9 +48,9 @@ module _ {w : World} (names : Names w) (inv : Invariant w) (chain : Predecessors
   along P lasting k first start l was part later = go (l.epoch + 1) l was part later (omega arith)
     where
       -- what holds of a replay that was adopted
-      adopted : (l : Lists) → (a : AdoptionOk w l) → P (replay (lo_of w l.part) (hi_of w l.part) a.b.log (frozen_requests a.x)) → HoldsOn w l P
+      adopted : (l : Lists) → (a : AdoptionOk w l) → P (replay (lo_of w l.part) (hi_of w l.part) a.sources.b.log (frozen_requests a.sources.x)) → HoldsOn w l P
       adopted l a p =
-          let replayed : List Entry = replay (lo_of w l.part) (hi_of w l.part) a.b.log (frozen_requests a.x) in
+          let replayed : List Entry = replay (lo_of w l.part) (hi_of w l.part) a.sources.b.log (frozen_requests a.sources.x) in
           record {
             its = a.its;
             its_log = a.its_log;
@@ -68,8 +68,8 @@ module _ {w : World} (names : Names w) (inv : Invariant w) (chain : Predecessors
           adopted l a (elim (cases_lt k.epoch a.before.epoch) [
             | inl above ↦
                 let o = go n a.before a.was (a.its_part ∙ part) above (omega (arith, a.earlier, low)) in
-                let stands : P a.b.log = Each-at (λ node. (b : BackupState) → IsBackup w node b → P b.log) a.before.backups o.on_all a.named.place a.node a.named.stands a.b a.its_backup in
-                lasting a.b.log _ (replay_prefix (lo_of w l.part) (hi_of w l.part) (frozen_requests a.x) a.b.log) stands
+                let stands : P a.sources.b.log = Each-at (λ node. (b : BackupState) → IsBackup w node b → P b.log) a.before.backups o.on_all a.named.place a.node a.named.stands a.sources.b a.sources.its_backup in
+                lasting a.sources.b.log _ (replay_prefix (lo_of w l.part) (hi_of w l.part) (frozen_requests a.sources.x) a.sources.b.log) stands
             | inr at_most ↦ elim (cases_lt a.before.epoch k.epoch) [
               | inl below ↦
                   let high = a.last k first (sym part) later in
@@ -78,8 +78,8 @@ module _ {w : World} (names : Names w) (inv : Invariant w) (chain : Predecessors
               | inr same ↦
                   let epoch : a.before.epoch ≡ k.epoch = omega (arith, at_most, same) in
                   let master : a.before.master ≡ k.master = (names.agree a.before k a.was.given first.given).by_epoch (a.its_part ∙ part) epoch in
-                  subst (λ (p : ℕ). P (replay (lo_of w p) (hi_of w p) a.b.log (frozen_requests a.x))) a.its_part
-                  (start a.before a.was master (λ o adopted its_part below. a.last o adopted (its_part ∙ a.its_part) (omega (arith, below, a.earlier))) a.node a.other a.named a.named_too a.b a.x a.its_backup a.its_witness)
+                  subst (λ (p : ℕ). P (replay (lo_of w p) (hi_of w p) a.sources.b.log (frozen_requests a.sources.x))) a.its_part
+                  (start a.before a.was master (λ o adopted its_part below. a.last o adopted (its_part ∙ a.its_part) (omega (arith, below, a.earlier))) a.node a.other a.named a.named_too a.sources.b a.sources.x a.sources.its_backup a.sources.its_witness)
             ]
           ])
 

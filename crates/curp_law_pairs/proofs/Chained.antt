@@ -9,7 +9,7 @@ use Rattle.curp_msg.specs.declared.script.Step.{Step}
 use Rattle.curp_model.specs.Manager.{adoption}
 use Rattle.curp_model.specs.World.{World, opening, step, world}
 use Rattle.curp_facts.specs.Facts.{WasSent}
-use Rattle.curp_facts.specs.Run.{IsRun, IsStep}
+use Rattle.curp_msg.specs.Script.{IsRun, IsStep}
 use Rattle.curp_law_growth.specs.Deeds.{IsFor}
 use Rattle.curp_law_kept.proofs.Cases.{step_case}
 use Rattle.curp_facts.specs.Known.{Known}
@@ -49,8 +49,3 @@ module _ (w : World) (known : Known w) where
       by_manager m =
           subst Predecessors (sym m.is)
           (manager_chain known.names known.inv chain m.given (heard m.given m.for) (adoption w.manager m.given) m.events (subst Names m.is names) (subst (Later w) m.is later))
-
--- all that is known, and from where adopted masters came, holds in every run
-pub chained : (h : Header) (xs : List Step) → IsRun h xs → Known (world h xs) × Predecessors (world h xs)
-unfolding opening
-chained h xs is = along Predecessors chain_step h xs is (chain_opening (opening h) refl)

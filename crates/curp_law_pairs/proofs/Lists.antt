@@ -14,9 +14,9 @@ use Rattle.curp_facts.specs.Invariant.{Invariant}
 use Rattle.curp_facts.specs.Reach.{IsReady}
 use Rattle.curp_facts.specs.Said.{AdoptedSaid}
 use Rattle.curp_facts.specs.Names.{Names, OrderOk, PrepareOk}
-use Rattle.curp_law_names.proofs.Lists.{at_mapped}
 use Rattle.curp_facts.specs.Predecessors.{Predecessors}
 use Rattle.curp_law_pairs.proofs.Words.{said}
+use Rattle.curp_base.proofs.Lists.{at_mapped}
 
 -- lists of the opening have the first epoch
 pub opening_epoch : (w : World) (k : ℕ) (c : PartConfig) → At (opening_config w.manager.shape).parts k c → c.epoch ≡ 1

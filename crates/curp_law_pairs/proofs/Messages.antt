@@ -1,5 +1,5 @@
 -- What each message says stays true.
-use Rattle.std.proofs.Common.{◌≡◌, ◌≤◌, ◌^◌, inl, inr, ℕ, ◌+◌, Bool, true, false, refl, ap, sym, ◌∙◌, subst, arith}
+use Rattle.std.proofs.Common.{◌≡◌, ◌≤◌, ◌^◌, inl, inr, ℕ, ◌+◌, Bool, true, false, refl, sym, ◌∙◌, subst, arith}
 use Rattle.curp_base.specs.Words.{At, Each}
 use Rattle.curp_base.proofs.Lists.{Each-at, Each-from_at}
 use Rattle.curp_cmd.specs.Node.{manager_node}
@@ -37,14 +37,11 @@ use Rattle.curp_law_pairs.proofs.Ranges.{config_ok}
 use Rattle.curp_law_pairs.proofs.Requests.{held_there}
 use Rattle.curp_law_pairs.proofs.Told.{is_server, package_ok, taken_on_adopted}
 use Rattle.curp_law_pairs.proofs.Words.{said}
+use Rattle.curp_law_names.proofs.Clients.{is_manager}
 
 -- a node of a kind is a node
 of_is_node : (w : World) (k : NodeKind) (node : NodeId) → IsOf w k node → IsNode w node
 of_is_node w k node of = subst (λ (x : NodeKind). IsNodeOf w x node.number) (sym of.0) of.1
-
--- the manager is one
-the_manager : (w : World) (node : NodeId) → IsOf w kind.Manager node → node ≡ manager_node
-the_manager w node of = ap (λ (k : NodeKind). record { kind = k; number = node.number }) of.0 ∙ ap (λ (n : ℕ). record { kind = kind.Manager; number = n }) of.1
 
 append_answer : (w : World) (from to : NodeId) (a : Appended) (answer : AppendAnswer) → AppendHolds w from to a answer → AppendAnswerOk w from to a answer
 append_answer w from to a (Stored long) ok = ok
@@ -110,7 +107,7 @@ module _ {w : World} (names : Names w) (inv : Invariant w) where
     body_ok place from to (body.Recovered r) at of ok = ok.holds
     body_ok place from to (body.Prepared version) at of ok = ok
     body_ok place from to (body.Configuration config) at of ok =
-        let manager : from ≡ manager_node = the_manager w from of in
+        let manager : from ≡ manager_node = is_manager w from of in
         let stands : At (messages w) place (says manager_node to (body.Configuration config)) = subst (λ (x : NodeId). At (messages w) place (says x to (body.Configuration config))) manager at in
         config_ok names few config ok (configs.told to config (record { place = place; stands = stands }))
     body_ok place from to _ at of ok = tt

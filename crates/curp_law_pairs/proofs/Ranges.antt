@@ -13,7 +13,7 @@ use Rattle.curp_model.specs.Ranges.{opening_range}
 use Rattle.curp_model.specs.World.{World}
 use Rattle.curp_facts.specs.Facts.{AtFirst, ConfigOk, EntryWas, HasRanges, IsAmong, Migrated, RangesAfter, WasMigrated, WasOrdered, ranges_at_first, ranges_moved}
 use Rattle.curp_facts.specs.Names.{Names}
-use Rattle.curp_law_logs.proofs.OpeningRanges.{last_fits, one_has}
+use Rattle.curp_model.proofs.OpeningRanges.{last_fits, one_has}
 use Rattle.curp_law_names.proofs.Lists.{among_each}
 
 -- what ascending spans own is below their end

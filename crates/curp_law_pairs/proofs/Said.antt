@@ -17,11 +17,11 @@ use Rattle.curp_facts.specs.Invariant.{Invariant}
 use Rattle.curp_facts.specs.Nodes.{MayCome, RecoveringOk, StageOk}
 use Rattle.curp_facts.specs.Names.{Names}
 use Rattle.curp_facts.specs.Fits.{Nodes}
-use Rattle.curp_law_names.proofs.Lists.{at_place}
 use Rattle.curp_law_pairs.specs.GivenStand.{GivenStand}
 use Rattle.curp_facts.specs.Predecessors.{Predecessors}
 use Rattle.curp_law_pairs.proofs.Messages.{messages_ok}
 use Rattle.curp_law_pairs.proofs.Ranges.{config_ok}
+use Rattle.curp_base.proofs.Numbered.{at_place}
 
 module _ {w : World} (names : Names w) (inv : Invariant w) where
   -- a recovery that has a log replayed it from the two that its order named

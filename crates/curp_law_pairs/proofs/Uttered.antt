@@ -6,7 +6,7 @@ use Rattle.std.proofs.lemmas.Bool.{cond_both}
 use Rattle.std.proofs.lemmas.Bool.Decides.{nat_tests}
 use Rattle.curp_base.specs.Cases.{only_if}
 use Rattle.curp_base.specs.Words.{At, Each, numbered, rises_past}
-use Rattle.curp_base.proofs.Lists.{Each-append, Each-weaker}
+use Rattle.curp_base.proofs.Lists.{Each-append, Each-weaker, at_mapped}
 use Rattle.curp_cmd.specs.Node.{manager_node}
 use Rattle.curp_cmd.specs.declared.node.Keeper.{Keeper}
 use Rattle.curp_cmd.specs.declared.node.Keeper.TheVariants as keeper
@@ -28,11 +28,12 @@ use Rattle.curp_model.specs.World.{World}
 use Rattle.curp_facts.specs.Facts.{IsAdoptedNow, IsAmong, WasSent, lists_of_part}
 use Rattle.curp_facts.specs.Names.{AdoptedOk, Names, RecoveringOk}
 use Rattle.curp_law_names.proofs.Keeps.{entry_now, entry_numbered, numbered_now}
-use Rattle.curp_law_names.proofs.Lists.{at_mapped, filter_among, first_among, place, there_among}
+use Rattle.curp_law_names.proofs.Lists.{filter_among, first_among, there_among}
 use Rattle.curp_law_names.proofs.Moves.{Nothing, Repeats}
 use Rattle.curp_law_names.proofs.Quiet.{Again, AllAgain}
 use Rattle.curp_law_names.proofs.Says.{adopted_again, nudge_again}
 use Rattle.curp_law_pairs.specs.Adopting.{Comes, FromRecovery, FromReplacement}
+use Rattle.curp_base.proofs.Numbered.{place}
 
 -- a word of adoption is of lists that were adopted
 abbrev pub IsOld : World → NodeId → Body → Type 0

@@ -8,9 +8,10 @@ use Rattle.curp_msg.specs.declared.script.Header.{Header}
 use Rattle.curp_msg.specs.declared.script.Protocol.{Protocol}
 use Rattle.curp_msg.specs.declared.script.Protocol.TheVariants.{One, Two}
 use Rattle.curp_script.specs.Grammar.{header_in, header_of, number_within, protocol_at}
-use Rattle.curp_script.specs.Headers.{InRange, is_within}
+use Rattle.curp_msg.specs.Script.{IsHeader}
+use Rattle.curp_script.specs.Headers.{is_within}
 use Rattle.curp_script.specs.Printed.{count, header_data, protocol_number}
-use Rattle.curp_script.specs.Script.{line_limit}
+use Rattle.curp_base.specs.Limits.{line_limit}
 use Rattle.curp_law_print.proofs.Bytes.{are_shown}
 use Rattle.curp_law_print.proofs.Data.{IsPlain, short, shown}
 use Rattle.curp_law_print.proofs.Reading.{reads_as}
@@ -27,7 +28,7 @@ protocol_read h = by h.protocol
     by One = refl
     by Two = refl
 
-header_read : (h : Header) → InRange h → header_of (header_data h) ≡ Ok h
+header_read : (h : Header) → IsHeader h → header_of (header_data h) ≡ Ok h
 header_read h range =
     rw (
       protocol_read h,
@@ -42,11 +43,11 @@ protocol_small : (protocol : Protocol) → protocol_number protocol < 2 ^ 64
 protocol_small One = omega arith
 protocol_small Two = omega arith
 
-header_plain : (h : Header) → InRange h → IsPlain (header_data h)
+header_plain : (h : Header) → IsHeader h → IsPlain (header_data h)
 header_plain h range =
     (refl, omega (arith, range.clients), (refl, omega (arith, range.f), (refl, tt, (refl, omega (arith, range.parts), (refl, protocol_small h.protocol, (refl, omega (arith, range.sets), (refl, omega (arith, range.ways), tt)))))))
 
-header_written : (h : Header) → InRange h → of_json (outline (header_data h)) ≡ Some (header_data h)
+header_written : (h : Header) → IsHeader h → of_json (outline (header_data h)) ≡ Some (header_data h)
 header_written h range =
     rw (
       number_of-decimal h.clients (omega (arith, range.clients)),
@@ -63,7 +64,7 @@ pub record IsHeaderLine (h : Header) : Type 0 where
   pub fits : length (compact_text (header_data h)) ≤ line_limit
   pub read : header_in (compact_text (header_data h)) ≡ Ok h
 
-pub header_is_line : (h : Header) → InRange h → IsHeaderLine h
+pub header_is_line : (h : Header) → IsHeader h → IsHeaderLine h
 header_is_line h range =
     let plain = header_plain h range in
     record {

@@ -1,5 +1,7 @@
 mod Bytes
+mod Claims
 mod Data
+mod Events
 mod Headers
 mod Lines
 mod Reading

@@ -1,5 +1,5 @@
 -- Lines, each with a line feed behind it, and the steps that they are.
-use Rattle.std.proofs.Common.{◌≡◌, ◌≤◌, ◌+◌, ◌-◌, ◌==◌, ◌++◌, ℕ, List, [], ◌∷◌, length, true, false, nat_lt, Some, Ok, refl, ap, ◌∙◌, arith, append_assoc}
+use Rattle.std.proofs.Common.{◌≡◌, ◌≤◌, ◌+◌, ◌-◌, ◌==◌, ◌++◌, nat_lt, ℕ, List, [], ◌∷◌, length, true, false, Some, Ok, refl, ap, ◌∙◌, arith, append_assoc}
 use Rattle.std.proofs.lemmas.Bool.{and_parts}
 use Rattle.std.proofs.lemmas.Bool.Decides.{nat_tests}
 use Rattle.serde_json.specs.Written.{compact_text}
@@ -9,7 +9,9 @@ use Rattle.curp_msg.specs.declared.script.Header.{Header}
 use Rattle.curp_msg.specs.declared.script.Step.{Step}
 use Rattle.curp_script.specs.Grammar.{step_in}
 use Rattle.curp_script.specs.Printed.{header_data, step_data}
-use Rattle.curp_script.specs.Script.{Whole, line_limit, script_of, step_limit, steps_in}
+use Rattle.curp_script.specs.Script.{Whole, script_of, steps_in}
+use Rattle.curp_base.specs.Limits.{line_limit}
+use Rattle.curp_msg.specs.Limits.{step_limit}
 use Rattle.curp_law_print.proofs.Bytes.{are_shown, is_shown}
 use Rattle.curp_law_print.proofs.Headers.{IsHeaderLine}
 use Rattle.curp_script.specs.Texts.{header_line, line_text, lines_text, script_lines}
@@ -22,7 +24,7 @@ first_line (byte ∷ bytes) rest all =
     let other : (byte == 10) ≡ false = grind (arith, nat_tests, parts.0) in
     rw (other, first_line bytes rest parts.1) refl
 
-line_first : (line rest : List ℕ) → are_shown line ≡ true → lines_of (line_text line ++ rest) ≡ line ∷ lines_of rest
+pub line_first : (line rest : List ℕ) → are_shown line ≡ true → lines_of (line_text line ++ rest) ≡ line ∷ lines_of rest
 line_first line rest all = ap lines_of (append_assoc line (10 ∷ []) rest) ∙ first_line line rest all
 
 -- a step's text is a line that is read as the step
@@ -31,7 +33,7 @@ pub record IsLine (step : Step) : Type 0 where
   pub fits : length (compact_text (step_data step)) ≤ line_limit
   pub read : step_in (compact_text (step_data step)) ≡ Ok step
 
-not_below : (n m : ℕ) → m ≤ n → nat_lt n m ≡ false
+pub not_below : (n m : ℕ) → m ≤ n → nat_lt n m ≡ false
 not_below n m most = grind (arith, nat_tests)
 
 steps_read : (n : ℕ) (steps : List Step) → Each IsLine steps → n + length steps ≤ step_limit + 2

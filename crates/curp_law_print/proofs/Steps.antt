@@ -25,7 +25,7 @@ use Rattle.curp_script.specs.Grammar.{key_in, number_within, step_of, value_in}
 use Rattle.curp_script.specs.Headers.{is_within}
 use Rattle.curp_script.specs.Nodes.{keeper_of, keeper_text, numbered_text}
 use Rattle.curp_script.specs.Printed.{CommandReadsBack, NamesNode, ReadsBack, bytes_data, command_parts, count, pair_data, step_data}
-use Rattle.curp_script.specs.Script.{line_limit}
+use Rattle.curp_base.specs.Limits.{line_limit}
 use Rattle.curp_law_print.proofs.Bytes.{are_clear, decimal_clear, decimal_short, hash_small, hex_clear, hex_length}
 use Rattle.curp_law_print.proofs.Data.{IsPlain, ItemsArePlain, items_weight, short, shown, weight}
 use Rattle.curp_law_print.proofs.Lines.{IsLine}
@@ -34,14 +34,14 @@ use Rattle.curp_law_print.specs.Ranges.{CommandInRange, IsIndex, IsKey, IsPair, 
 
 -- ---- the parts of a line are plain
 
-wide : (n : ℕ) → IsIndex n → n < 2 ^ 64
+pub wide : (n : ℕ) → IsIndex n → n < 2 ^ 64
 wide n index = omega (arith, index)
 
 pairs_plain : (pairs : List Pair) → Each IsPair pairs → ItemsArePlain (items_of (flat_map pair_data pairs))
 pairs_plain [] each = tt
 pairs_plain (p ∷ pairs) each = (hex_clear p.0 each.0.0.range, (hex_clear p.1 each.0.1.range, pairs_plain pairs each.1))
 
-command_plain : (command : Command) → CommandInRange command → ItemsArePlain (items_of (command_parts command))
+pub command_plain : (command : Command) → CommandInRange command → ItemsArePlain (items_of (command_parts command))
 command_plain (Get key) range = (refl, (hex_clear key range.range, tt))
 command_plain (Put key value) range = (refl, (hex_clear key range.0.range, (hex_clear value range.1.range, tt)))
 command_plain (Delete key) range = (refl, (hex_clear key range.range, tt))
@@ -88,7 +88,7 @@ pairs_weight [] each = omega arith
 pairs_weight (p ∷ pairs) each =
     omega (arith, hex_length p.0, hex_length p.1, each.0.0.most, each.0.1.most, pairs_weight pairs each.1)
 
-command_weight : (command : Command) → CommandInRange command → items_weight (items_of (command_parts command)) ≤ 2000
+pub command_weight : (command : Command) → CommandInRange command → items_weight (items_of (command_parts command)) ≤ 2000
 command_weight (Get key) range = omega (arith, hex_length key, range.most)
 command_weight (Put key value) range = omega (arith, hex_length key, hex_length value, range.0.most, range.1.most)
 command_weight (Delete key) range = omega (arith, hex_length key, range.most)
@@ -130,7 +130,7 @@ pairs_written : (pairs : List Pair) → of_items (items_outline (items_of (flat_
 pairs_written [] = refl
 pairs_written (p ∷ pairs) = rw (pairs_written pairs) refl
 
-command_written : (command : Command) → of_items (items_outline (items_of (command_parts command))) ≡ Some (items_of (command_parts command))
+pub command_written : (command : Command) → of_items (items_outline (items_of (command_parts command))) ≡ Some (items_of (command_parts command))
 command_written (CondPut key None value) = refl
 command_written (CondPut key (Some expected) value) = refl
 command_written (Multi pairs) = rw (pairs_written pairs) refl
@@ -156,14 +156,14 @@ step_written (Stop id) range = refl
 key_reads : (key : List ℕ) → IsKey key → key_in (bytes_data key) ≡ Some key
 key_reads key is = key_in-bytes key is.least is.most is.range
 
-value_reads : (value : List ℕ) → IsValue value → value_in (bytes_data value) ≡ Some value
+pub value_reads : (value : List ℕ) → IsValue value → value_in (bytes_data value) ≡ Some value
 value_reads value is = value_in-bytes value is.most is.range
 
 pairs_read : (pairs : List Pair) → Each IsPair pairs → AllByRecursion PairReads pairs
 pairs_read [] each = tt
 pairs_read (p ∷ pairs) each = ((key_reads p.0 each.0.0, value_reads p.1 each.0.1), pairs_read pairs each.1)
 
-command_reads : (command : Command) → CommandInRange command → CommandReadsBack command
+pub command_reads : (command : Command) → CommandInRange command → CommandReadsBack command
 command_reads (Get key) range = rw (key_reads key range) refl
 command_reads (Put key value) range = rw (key_reads key range.0, value_reads value range.1) refl
 command_reads (Delete key) range = rw (key_reads key range) refl

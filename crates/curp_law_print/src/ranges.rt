@@ -1,8 +1,10 @@
+ghost use Rattle.curp_law_print.specs.EventRanges.{AnswerInRange, AskedInRange, EventInRange, IdInRange};
 ghost use Rattle.curp_law_print.specs.Ranges.{ArePairs, CommandInRange, IsExpected, IsIndex, IsKey, IsLong, IsValue};
 ghost use Rattle.curp_law_print.specs.Ranges.{StepInRange};
 
-use curp_cmd::{Command, Key, Pairs, Value};
+use curp_cmd::{Answer, Command, Key, Pairs, RequestId, Value};
 use curp_msg::Step;
+use curp_order::Event;
 
 /// Each value of a step is in its range, as its type has it. The step is only looked at.
 pub fn step_is_in_range(step: &Step)
@@ -44,6 +46,42 @@ pub fn step_is_in_range(step: &Step)
         }
         Step::Nudge => {}
         Step::Stop { node } => index_is_in_range(node.number),
+    }
+}
+
+/// The same of an event.
+pub fn event_is_in_range(event: &Event)
+    ensures { EventInRange event.now }
+{
+    match event {
+        Event::Invoke { id, command } => asked_is_in_range(id, command),
+        Event::Complete { id, answer } => {
+            id_is_in_range(*id);
+            answer_is_in_range(answer);
+        }
+    }
+}
+
+/// The same of a request with its command.
+pub fn asked_is_in_range(id: &RequestId, command: &Command)
+    ensures { AskedInRange (id.now, command.now) }
+{
+    id_is_in_range(*id);
+    command_is_in_range(command);
+}
+
+fn id_is_in_range(_id: RequestId)
+    ensures { IdInRange _id }
+{}
+
+fn answer_is_in_range(answer: &Answer)
+    ensures { AnswerInRange answer.now }
+{
+    match answer {
+        Answer::Number(number) => long_is_in_range(*number),
+        Answer::Length(length) => index_is_in_range(*length),
+        Answer::Found(value) => expected_is_in_range(value),
+        _ => {}
     }
 }
 

@@ -24,7 +24,7 @@ use Rattle.curp_facts.specs.Configs.{Configs, PresentRanges}
 use Rattle.curp_facts.specs.Facts.{AtFirst, HasRanges, Migrated, WasMigrated, WasSent, ranges_moved}
 use Rattle.curp_facts.specs.Known.{Known}
 use Rattle.curp_facts.specs.Routes.{InWork, Routes, order_of}
-use Rattle.curp_facts.specs.Run.{IsStep}
+use Rattle.curp_msg.specs.Script.{IsStep}
 use Rattle.curp_law_growth.specs.Deeds.{IsFor}
 use Rattle.curp_law_kept.proofs.Cases as cases
 use Rattle.curp_law_kept.proofs.Known.{from_manager}

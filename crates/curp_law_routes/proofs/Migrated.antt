@@ -2,7 +2,7 @@
 use Rattle.std.proofs.Common.{◌≡◌, ◌⊎◌, inl, inr, ℕ, zero, suc, ◌+◌, ◌<◌, ◌≤◌, List, length, take, refl, ap, sym, ◌∙◌, subst, arith, Option, Some, None}
 use Rattle.std.proofs.lemmas.Bool.{cases_eq}
 use Rattle.curp_base.specs.Words.{At}
-use Rattle.curp_base.proofs.Lists.{Each-at, at_take, at_within}
+use Rattle.curp_base.proofs.Lists.{Each-at, at_take, at_within, at_mapped}
 use Rattle.curp_cmd.specs.Node.{manager_node}
 use Rattle.curp_cmd.specs.declared.command.Answer.{Answer}
 use Rattle.curp_cmd.specs.declared.command.RequestId.{RequestId}
@@ -31,7 +31,6 @@ use Rattle.curp_law_logs.proofs.Logs.{prefix_take}
 use Rattle.curp_law_logs.proofs.Standings.{stands_longer}
 use Rattle.curp_law_logs.proofs.Packages.{take_package}
 use Rattle.curp_facts.specs.Names.{Names}
-use Rattle.curp_law_names.proofs.Lists.{at_mapped}
 use Rattle.curp_facts.specs.Predecessors.{Predecessors}
 use Rattle.curp_law_pairs.proofs.Words.{said}
 use Rattle.curp_facts.specs.Before.{GivesBefore}

@@ -29,11 +29,13 @@ use Rattle.curp_facts.specs.Names.{IsOf}
 use Rattle.curp_facts.specs.Fits.{MessageFits}
 use Rattle.curp_law_names.proofs.Clients.{Arrives, client_fits, is_manager}
 use Rattle.curp_law_names.proofs.Keepers.{AllSaid, InputFits, Said, backup_fits, witness_fits}
-use Rattle.curp_law_names.proofs.Lists.{all_of-kept, among_each, number_within, place}
+use Rattle.curp_law_names.proofs.Lists.{among_each}
 use Rattle.curp_law_names.proofs.Named.{named}
 use Rattle.curp_law_names.proofs.Others.{Both}
 use Rattle.curp_law_names.proofs.Recoverings.{IsForMaster, master_fits}
 use Rattle.curp_law_routes.specs.Steps.{ByManager, ByOther, Moves}
+use Rattle.curp_base.proofs.Numbered.{place, number_within}
+use Rattle.curp_model.proofs.Batches.{all_of-kept}
 
 -- an input is for a node
 abbrev IsFor : NodeKind → ℕ → Input → Type 0

@@ -6,7 +6,7 @@ use Rattle.std.specs.Option.{ok_or}
 use Rattle.std.proofs.lemmas.Bool.{cond_both, eqb-true}
 use Rattle.curp_base.specs.Cases.{◌>>=◌, only_if, refuse_if}
 use Rattle.curp_base.specs.Words.{At, Each, first_of, numbered}
-use Rattle.curp_base.proofs.Lists.{Each-append, Each-at, Each-map}
+use Rattle.curp_base.proofs.Lists.{Each-append, Each-at, Each-map, at_mapped}
 use Rattle.curp_cmd.specs.Node.{manager_node}
 use Rattle.curp_cmd.specs.declared.entry.Entry.TheVariants.{Give}
 use Rattle.curp_cmd.specs.declared.migration.Package.{Package}
@@ -36,12 +36,13 @@ use Rattle.curp_facts.specs.Said.{GiveWasOrdered, IsGiveFrom, StoredEntry}
 use Rattle.curp_law_growth.specs.Deeds.{IsFor}
 use Rattle.curp_facts.specs.Names.{Names}
 use Rattle.curp_law_names.proofs.Keeps.{entry_now, entry_numbered}
-use Rattle.curp_law_names.proofs.Lists.{among_set, at_mapped, each_among, filter_among, first_among, number_within, place, there_among}
+use Rattle.curp_law_names.proofs.Lists.{among_set, each_among, filter_among, first_among, there_among}
 use Rattle.curp_law_names.proofs.Says.{each_flat}
 use Rattle.curp_law_pairs.proofs.Logs.{has_home}
 use Rattle.curp_law_pairs.proofs.Words.{said}
 use Rattle.curp_law_routes.specs.Orders.{AllMayOrder, KeepsRanges, MayOrder, Orders}
 use Rattle.curp_facts.specs.Routes.{IsDone, Routes}
+use Rattle.curp_base.proofs.Numbered.{place, number_within}
 
 -- what is found by a test passes it
 first_passes : {A : Type 0} (p : A → Bool) (xs : List A) (x : A) → first_of (filter p xs) ≡ Some x → p x ≡ true

@@ -21,12 +21,12 @@ use Rattle.curp_facts.specs.Said.{StoredEntry}
 use Rattle.curp_law_logs.proofs.Logs.{prefix_take}
 use Rattle.curp_facts.specs.Names.{Names}
 use Rattle.curp_law_names.proofs.Keeps.{numbered_now, entry_numbered}
-use Rattle.curp_law_names.proofs.Lists.{at_place}
 use Rattle.curp_facts.specs.Predecessors.{Predecessors}
 use Rattle.curp_law_pairs.proofs.Along.{reach_along}
 use Rattle.curp_law_pairs.proofs.Logs.{log_ok}
 use Rattle.curp_law_pairs.proofs.Words.{one_log}
 use Rattle.curp_facts.specs.Stored.{StoredNow}
+use Rattle.curp_base.proofs.Numbered.{at_place}
 
 module _ {w : World} (names : Names w) where
   -- a partition has one entry

@@ -3,7 +3,7 @@ use Rattle.std.proofs.Common.{◌≡◌, inl, inr, ℕ, List, [], ◌++◌, refl
 use Rattle.std.specs.Bool.{⊤}
 use Rattle.curp_base.specs.Words.{Each, numbered}
 use Rattle.curp_base.proofs.Lists.{Each-append, Each-at, Each-from_at, Each-weaker}
-use Rattle.curp_base.proofs.Numbered.{numbered_replicate}
+use Rattle.curp_base.proofs.Numbered.{numbered_replicate, number_within}
 use Rattle.curp_cmd.specs.Node.{witness_node}
 use Rattle.curp_cmd.specs.declared.command.Answer.{Answer}
 use Rattle.curp_cmd.specs.declared.command.RequestId.{RequestId}
@@ -31,7 +31,7 @@ use Rattle.curp_model.specs.World.{World, messages, opening, opening_client, ste
 use Rattle.curp_facts.specs.ByOne.{ByOne, IsOfOne}
 use Rattle.curp_facts.specs.Facts.{WasSent}
 use Rattle.curp_facts.specs.Nodes.{ValueWasSent, WasRead}
-use Rattle.curp_facts.specs.Run.{IsRun, IsStep}
+use Rattle.curp_msg.specs.Script.{IsRun, IsStep}
 use Rattle.curp_law_growth.specs.Deeds.{IsFor}
 use Rattle.curp_law_keepers.specs.BackupEffect.{BackupAnswers, BackupSays}
 use Rattle.curp_law_keepers.specs.WitnessEffect.{WitnessAnswers, WitnessSays}
@@ -47,9 +47,10 @@ use Rattle.curp_law_kept.proofs.Steps.{along, known_step}
 use Rattle.curp_law_masters.specs.Moves.{IsSaidBy, RecoverySays, ServingSays}
 use Rattle.curp_law_masters.specs.Stages.{FreshSays}
 use Rattle.curp_facts.specs.Fits.{sender_kind}
-use Rattle.curp_law_names.proofs.Lists.{all_of-kept, number_within, numbered_set_cases}
+use Rattle.curp_law_names.proofs.Lists.{numbered_set_cases}
 use Rattle.curp_law_names.proofs.Steps.{sent_now}
 use Rattle.curp_law_runs.proofs.ClientsByOne.{OfOne, client_by_one}
+use Rattle.curp_model.proofs.Batches.{all_of-kept}
 
 -- what isn't said by any of the other four bodies is of protocol 1
 none_of_four : (Says : Body → Type 0) → ((ask : Ask) → Says (body.Glance ask) → ⊥) → ((p : Probe) → Says (body.Probe p) → ⊥) → ((a : Probed) → Says (body.Probed a) → ⊥)

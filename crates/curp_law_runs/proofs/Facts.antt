@@ -9,9 +9,8 @@ use Rattle.curp_facts.specs.Facts.{IsAdoptedNow, PairsGood, lists_of_part}
 use Rattle.curp_facts.specs.Kept.{FactsKept, PartsHaveEntries}
 use Rattle.curp_facts.specs.Known.{Known}
 use Rattle.curp_facts.specs.Names.{Names}
-use Rattle.curp_facts.specs.Run.{IsRun}
+use Rattle.curp_msg.specs.Script.{IsRun}
 use Rattle.curp_law_logs.proofs.Frozen.{frozen_apart}
-use Rattle.curp_law_names.proofs.Lists.{at_place}
 use Rattle.curp_law_names.proofs.Runs.{always}
 use Rattle.curp_law_pairs.proofs.Adoptions.{adoptions_ok}
 use Rattle.curp_law_pairs.proofs.BackupsFollow.{backups_follow}
@@ -24,6 +23,7 @@ use Rattle.curp_law_pairs.proofs.Pairs as pairs
 use Rattle.curp_law_pairs.proofs.Said.{said_ok}
 use Rattle.curp_law_routes.proofs.Always.{Moving, moving_all}
 use Rattle.curp_law_routes.proofs.Told.{given_stand}
+use Rattle.curp_base.proofs.Numbered.{at_place}
 
 -- each partition has its entry
 parts_have_entries : {w : World} → Names w → PartsHaveEntries w

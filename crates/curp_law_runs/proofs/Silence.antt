@@ -20,7 +20,7 @@ use Rattle.curp_model.specs.Recovery.{MasterStage, Serving, master_input, master
 use Rattle.curp_model.specs.World.{World, kept, messages, step, with_master}
 use Rattle.curp_facts.specs.Facts.{IsOnlyExpire}
 use Rattle.curp_facts.specs.Growth.{IsSilent, PushesLittle}
-use Rattle.curp_facts.specs.Run.{IsStep}
+use Rattle.curp_msg.specs.Script.{IsStep}
 use Rattle.curp_facts.specs.Silence.{IsSilentIn, SwitchesOn}
 use Rattle.curp_law_growth.specs.Deeds.{IsFor}
 use Rattle.curp_law_keepers.specs.BackupEffect.{BackupSays}
@@ -36,7 +36,7 @@ use Rattle.curp_law_kept.proofs.Clients.{client_messages}
 use Rattle.curp_facts.specs.Known.{Known}
 use Rattle.curp_law_kept.proofs.ManagersDo.{manager_does}
 use Rattle.curp_law_kept.proofs.MastersMoves.{heard_in, input_moves, speaker, stage_from}
-use Rattle.curp_law_names.proofs.Lists.{all_of-kept}
+use Rattle.curp_model.proofs.Batches.{all_of-kept}
 
 -- what one master sends by an input that leaves it switching
 master_silent : (n : ℕ) (m : MasterState) (s : Switch) → m.phase ≡ Switching s → (given : Input) (k : MasterState) (t : Switch) → (master_input n (Serving m) given).state ≡ Serving k → k.phase ≡ Switching t

@@ -13,7 +13,7 @@ ghost use Rattle.curp_facts.specs.ByOne.{ByOne};
 ghost use Rattle.curp_facts.specs.Facts.{Completable, PairsGood};
 ghost use Rattle.curp_facts.specs.Kept.{FactsKept};
 ghost use Rattle.curp_facts.specs.Nodes.{ValueWasSent, WasRead};
-ghost use Rattle.curp_facts.specs.Run.{IsRun, IsStep};
+ghost use Rattle.curp_msg.specs.Script.{IsRun, IsStep};
 ghost use Rattle.curp_facts.specs.Silence.{IsSilentIn};
 ghost use Rattle.curp_facts.specs.Fits.{GoesHome, IsBetweenNodes};
 ghost use Rattle.curp_law_trip.specs.Trip.{BringsApart, WitnessesAreApart};

@@ -18,9 +18,10 @@ use Rattle.curp_msg.specs.declared.body.Appended.{Appended}
 use Rattle.curp_msg.specs.declared.body.Body.TheVariants as body
 use Rattle.curp_model.specs.Backup.{BackupState}
 use Rattle.curp_model.specs.Named.{IsBackup, IsWitness}
-use Rattle.curp_model.specs.Witness.{WitnessState}
+use Rattle.curp_model.specs.Recovery.{replay}
+use Rattle.curp_model.specs.Witness.{WitnessState, frozen_requests}
 use Rattle.curp_model.specs.World.{World}
-use Rattle.curp_facts.specs.Facts.{Collected, FenceReplyOk, FencedLogOk, FrozenOk, IsAmong, IsGiven, Lists, WasSent}
+use Rattle.curp_facts.specs.Facts.{Collected, FenceReplyOk, FencedLogOk, FrozenOk, IsAmong, IsGiven, Lists, WasSent, Sources, replay_of}
 use Rattle.curp_facts.specs.Growth.{BackupGrows, Dropped}
 use Rattle.curp_facts.specs.Nodes.{BackupOk}
 use Rattle.curp_facts.specs.Reach.{IsThere}
@@ -106,6 +107,26 @@ module _ {w v : World} (s : Follows w v) where
       go : (i : Option ℕ) → b.installed ≡ i → BackupGrows b (backup_later s node b was).0 → (backup_later s node b was).0.log ≡ b.log
       go None e g = g.absent e
       go (Some k) e g = let home : k ≡ l.epoch = (backups l given node named b was).installed k e in g.fenced k e (omega (arith, home, above))
+
+  -- what a recovery stands on stays as it is, and so does its replay
+  pub sources_later : BackupsOk w → (l : Lists) → IsGiven w l → (backup witness : NodeId) (epoch : ℕ) → IsAmong backup l.backups → l.epoch < epoch
+      → (sources : Sources w backup witness epoch)
+      → (later : Sources v backup witness epoch) × (later.b.log ≡ sources.b.log) × ((lo hi : ℕ) → replay_of lo hi later ≡ replay_of lo hi sources)
+  sources_later backups l given backup witness epoch named earlier sources =
+      let b = backup_later s backup sources.b sources.its_backup in
+      let x = witness_later s witness sources.x sources.its_witness in
+      let same : b.0.log ≡ sources.b.log = fenced_stays backups l given backup named sources.b b.0 sources.its_backup b.1 (omega (arith, earlier, sources.fenced)) in (
+        record {
+          b = b.0;
+          its_backup = b.1;
+          fenced = omega (arith, sources.fenced, b.2.fence);
+          x = sources.x;
+          its_witness = subst (λ (y : WitnessState). IsWitness v witness y) (x.2.frozen sources.frozen) x.1;
+          frozen = sources.frozen;
+        },
+        same,
+        λ lo hi. ap (λ (es : List Entry). replay lo hi es (frozen_requests sources.x)) same,
+      )
 
   pub fenced_later : BackupsOk w → (from : NodeId) (epoch : ℕ) (entries : List Entry) → FencedLogOk w from epoch entries → FencedLogOk v from epoch entries
   fenced_later backups from epoch entries ok =

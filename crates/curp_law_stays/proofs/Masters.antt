@@ -1,5 +1,5 @@
 -- What a master keeps that doesn't move stays so.
-use Rattle.std.proofs.Common.{◌≡◌, ℕ, List, length, sym, ◌∙◌, subst, arith, Option, Some, None}
+use Rattle.std.proofs.Common.{ℕ, List, length, ap, sym, ◌∙◌, Option, Some, None}
 use Rattle.curp_base.specs.Words.{Each}
 use Rattle.curp_base.proofs.Lists.{Each-weaker}
 use Rattle.curp_cmd.specs.Node.{manager_node}
@@ -10,9 +10,7 @@ use Rattle.curp_msg.specs.Moved.{says}
 use Rattle.curp_msg.specs.declared.body.Body.TheVariants as body
 use Rattle.curp_msg.specs.declared.body.Recovered.{Recovered}
 use Rattle.curp_model.specs.Master.{Acknowledged, Captured, MasterState, Switch}
-use Rattle.curp_model.specs.Named.{IsWitness}
-use Rattle.curp_model.specs.Recovery.{Asking, Fresh, MasterStage, Recovering, RecoveryPhase, RecoveryState, Replayed, Serving, Storing, Waiting, replay}
-use Rattle.curp_model.specs.Witness.{WitnessState, frozen_requests}
+use Rattle.curp_model.specs.Recovery.{Asking, Fresh, MasterStage, Recovering, RecoveryPhase, RecoveryState, Replayed, Serving, Storing, Waiting}
 use Rattle.curp_model.specs.World.{World}
 use Rattle.curp_facts.specs.Facts.{ReplayOk, WasSent}
 use Rattle.curp_facts.specs.Invariant.{Invariant}
@@ -20,8 +18,8 @@ use Rattle.curp_facts.specs.Nodes.{AcknowledgedOk, CameLog, CameRequests, Captur
 use Rattle.curp_facts.specs.Reach.{HasStored}
 use Rattle.curp_facts.specs.Names.{OrderOk}
 use Rattle.curp_law_stays.proofs.Entries.{log_ok_later, updates_later}
-use Rattle.curp_law_stays.proofs.Keepers.{fenced_later, fenced_stays, frozen_later}
-use Rattle.curp_law_stays.proofs.Words.{Follows, adopted_later, backup_later, event_at, hi_later, lo_later, sent_later, stored_later, witness_later}
+use Rattle.curp_law_stays.proofs.Keepers.{fenced_later, frozen_later, sources_later}
+use Rattle.curp_law_stays.proofs.Words.{Follows, adopted_later, event_at, hi_later, lo_later, sent_later, stored_later}
 
 -- the node has said neither Prepared nor Recovered for the first time
 pub record SaysNoMore (w v : World) (node : NodeId) : Type 0 where
@@ -70,18 +68,11 @@ module _ {w v : World} (s : Follows w v) where
 
   pub replay_later : Invariant w → (node : NodeId) (x : RecoveryState) (r : Replayed) → OrderOk w node x.order → ReplayOk w x r → ReplayOk v x r
   replay_later inv node x r home ok =
-      let b = backup_later s x.order.backup ok.b ok.its_backup in
-      let y = witness_later s x.order.witness ok.x ok.its_witness in
-      let same = fenced_stays s inv.backups home.before home.was.given x.order.backup home.its_backup ok.b b.0 ok.its_backup b.1 (omega (arith, home.earlier, ok.fenced)) in
+      let later = sources_later s inv.backups home.before home.was.given x.order.backup x.order.witness x.order.epoch home.its_backup home.earlier ok.sources in
       record {
-        b = b.0;
-        its_backup = b.1;
-        fenced = omega (arith, ok.fenced, b.2.fence);
-        x = ok.x;
-        its_witness = subst (λ (z : WitnessState). IsWitness v x.order.witness z) (y.2.frozen ok.frozen) y.1;
-        frozen = ok.frozen;
-        is = subst (λ (es : List Entry). r.log ≡ replay x.order.lo x.order.hi es (frozen_requests ok.x)) (sym same) ok.is;
-        its_cut = subst (λ (es : List Entry). r.cut ≡ length es) (sym same) ok.its_cut;
+        sources = later.0;
+        is = ok.is ∙ sym (later.2 x.order.lo x.order.hi);
+        its_cut = ok.its_cut ∙ ap length (sym later.1);
       }
 
   pub replayed_later : Invariant w → (node : NodeId) (x : RecoveryState) (r : Replayed) → OrderOk w node x.order → ReplayedOk w x r → ReplayedOk v x r

@@ -1,5 +1,5 @@
 -- What Prepared and Recovered say stays so.
-use Rattle.std.proofs.Common.{◌≡◌, inl, inr, ℕ, zero, suc, ◌<◌, ◌≤◌, Bool, true, false, List, [], ◌∷◌, ◌++◌, length, drop, take, nat_lt, refl, ap, sym, subst, arith, Some}
+use Rattle.std.proofs.Common.{◌≡◌, ◌∙◌, inl, inr, ℕ, zero, suc, ◌<◌, ◌≤◌, Bool, true, false, List, [], ◌∷◌, ◌++◌, length, drop, take, nat_lt, refl, ap, sym, subst, arith, Some}
 use Rattle.std.proofs.lemmas.Bool.Decides.{nat_tests}
 use Rattle.curp_base.specs.Words.{At, Each, IsPrefix}
 use Rattle.curp_base.proofs.Lists.{Each-append, prefix_back, prefix_trans, at_within, prefix_length}
@@ -11,19 +11,18 @@ use Rattle.curp_msg.specs.declared.body.Body.TheVariants as body
 use Rattle.curp_msg.specs.declared.body.Recovered.{Recovered}
 use Rattle.curp_model.specs.Backup.{BackupState}
 use Rattle.curp_model.specs.Master.{MasterState}
-use Rattle.curp_model.specs.Named.{IsBackup, IsMaster, IsWitness}
-use Rattle.curp_model.specs.Recovery.{Fresh, MasterStage, Recovering, Serving, replay}
-use Rattle.curp_model.specs.Witness.{WitnessState, frozen_requests}
+use Rattle.curp_model.specs.Named.{IsBackup, IsMaster}
+use Rattle.curp_model.specs.Recovery.{Fresh, MasterStage, Recovering, Serving}
 use Rattle.curp_model.specs.World.{World, messages}
-use Rattle.curp_facts.specs.Facts.{ByRecovery, FirstPrepared, HasLog, IsOnlyExpire, LengthAt, Logged, node_log, PreparedOk, RecoveredOk, WasSent, lists_of_order}
+use Rattle.curp_facts.specs.Facts.{ByRecovery, FirstPrepared, HasLog, IsOnlyExpire, LengthAt, Logged, node_log, PreparedOk, RecoveredOk, WasSent, lists_of_order, replay_of}
 use Rattle.curp_facts.specs.Growth.{MasterGrows}
 use Rattle.curp_facts.specs.Invariant.{Invariant}
 use Rattle.curp_facts.specs.Nodes.{MasterOk}
 use Rattle.curp_facts.specs.Said.{RecoveredSaid}
 use Rattle.curp_law_logs.proofs.Logs.{take_grows}
 use Rattle.curp_facts.specs.Names.{OrderOk}
-use Rattle.curp_law_stays.proofs.Keepers.{fenced_stays, fronts_later}
-use Rattle.curp_law_stays.proofs.Words.{Follows, backup_later, given_later, log_later, master_later, message_at, one_state, reach_later, sent_later, there, witness_later}
+use Rattle.curp_law_stays.proofs.Keepers.{fronts_later, sources_later}
+use Rattle.curp_law_stays.proofs.Words.{Follows, given_later, log_later, master_later, message_at, one_state, reach_later, sent_later, there}
 
 -- a list behind a prefix, from a place in the prefix on
 drop_prefix : {A : Type 0} (n : ℕ) (xs ys : List A) → IsPrefix xs ys → n ≤ length xs → drop n ys ≡ drop n xs ++ drop (length xs) ys
@@ -102,36 +101,27 @@ module _ {w v : World} (s : Follows w v) where
 
   abbrev pub recovered_later : Invariant w → (from : NodeId) (epoch : ℕ) → RecoveredOk w from epoch → RecoveredOk v from epoch
   recovered_later inv from epoch ok =
-      let b = backup_later s ok.order.backup ok.b ok.its_backup in
-      let x = witness_later s ok.order.witness ok.x ok.its_witness in
       let home : OrderOk w from ok.order = s.names.manager_says from (body.Recover ok.order) ok.sent in
-      let same : b.0.log ≡ ok.b.log = fenced_stays s inv.backups home.before home.was.given ok.order.backup home.its_backup ok.b b.0 ok.its_backup b.1 (omega (arith, home.earlier, ok.its_epoch, ok.fenced)) in
+      let later = sources_later s inv.backups home.before home.was.given ok.order.backup ok.order.witness epoch home.its_backup (omega (arith, home.earlier, ok.its_epoch)) ok.sources in
       record {
         order = ok.order;
         sent = sent_later s ok.sent;
         its_epoch = ok.its_epoch;
-        b = b.0;
-        its_backup = b.1;
-        fenced = omega (arith, ok.fenced, b.2.fence);
-        x = ok.x;
-        its_witness = subst (λ (y : WitnessState). IsWitness v ok.order.witness y) (x.2.frozen ok.frozen) x.1;
-        frozen = ok.frozen;
-        on_all = subst (λ (es : List Entry). Each (λ node. (f : BackupState) → IsBackup v node f → IsPrefix (replay ok.order.lo ok.order.hi es (frozen_requests ok.x)) f.log) ok.order.backups) (sym same)
-            (fronts_later s ok.order.backups (replay ok.order.lo ok.order.hi ok.b.log (frozen_requests ok.x)) (there s (lists_of_order from ok.order) (ByRecovery from ok.order ok.sent)) ok.on_all);
+        sources = later.0;
+        on_all = subst (λ (es : List Entry). Each (λ node. (f : BackupState) → IsBackup v node f → IsPrefix es f.log) ok.order.backups) (sym (later.2 ok.order.lo ok.order.hi))
+            (fronts_later s ok.order.backups (replay_of ok.order.lo ok.order.hi ok.sources) (there s (lists_of_order from ok.order) (ByRecovery from ok.order ok.sent)) ok.on_all);
       }
 
   pub recovered_said_later : Invariant w → (from : NodeId) (r : Recovered) → RecoveredSaid w from r → RecoveredSaid v from r
   recovered_said_later inv from r ok =
       let o = log_later s from ok.l ok.its_log in
-      let b = backup_later s ok.holds.order.backup ok.holds.b ok.holds.its_backup in
       let home : OrderOk w from ok.holds.order = s.names.manager_says from (body.Recover ok.holds.order) ok.holds.sent in
-      let same : b.0.log ≡ ok.holds.b.log = fenced_stays s inv.backups home.before home.was.given ok.holds.order.backup home.its_backup ok.holds.b b.0 ok.holds.its_backup b.1
-      (omega (arith, home.earlier, ok.holds.its_epoch, ok.holds.fenced)) in
+      let later = sources_later s inv.backups home.before home.was.given ok.holds.order.backup ok.holds.order.witness r.epoch home.its_backup (omega (arith, home.earlier, ok.holds.its_epoch)) ok.holds.sources in
       record {
         holds = recovered_later inv from r.epoch ok.holds;
         its_part = ok.its_part;
         front = ok.front;
-        is_replay = subst (λ (es : List Entry). ok.front ≡ replay ok.holds.order.lo ok.holds.order.hi es (frozen_requests ok.holds.x)) (sym same) ok.is_replay;
+        is_replay = ok.is_replay ∙ sym (later.2 ok.holds.order.lo ok.holds.order.hi);
         l = o.0;
         its_log = o.1;
         began = prefix_trans ok.began o.2;

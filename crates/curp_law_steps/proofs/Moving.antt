@@ -1,11 +1,10 @@
 -- A step moves no other node than the one that it gives something.
-use Rattle.std.proofs.Common.{◌≡◌, ◌≢◌, ℕ, zero, suc, ◌-◌, List, set, replicate, length, Option, Some, None, refl, ap, sym, subst, arith}
-use Rattle.curp_base.specs.Words.{At, numbered}
-use Rattle.curp_base.proofs.Lists.{at_append, at_set_other}
+use Rattle.std.proofs.Common.{◌≡◌, ◌≢◌, ℕ, zero, suc, ◌-◌, List, replicate, length, Option, Some, None, refl, ap, sym}
+use Rattle.curp_base.specs.Words.{numbered}
+use Rattle.curp_base.proofs.Lists.{at_append}
 use Rattle.curp_cmd.specs.declared.node.NodeId.{NodeId}
 use Rattle.curp_cmd.specs.declared.node.NodeKind.{NodeKind}
 use Rattle.curp_cmd.specs.declared.node.NodeKind.TheVariants.{Manager, Client, Master, Backup, Witness}
-use Rattle.curp_msg.specs.Moved.{Moved}
 use Rattle.curp_msg.specs.declared.machine.Input.{Input}
 use Rattle.curp_msg.specs.declared.outcome.StepResult.{StepResult}
 use Rattle.curp_msg.specs.declared.outcome.StepResult.TheVariants.{Done, NoMessage, NoNode, Gone, Full, Refused}
@@ -19,15 +18,9 @@ use Rattle.curp_model.specs.Recovery.{MasterStage, master_input}
 use Rattle.curp_model.specs.Witness.{WitnessState, witness_input}
 use Rattle.curp_model.specs.World.{World, Deed, Nothing, Gives, Stops, deed_of, delivery, effect, grown, messages, moves_kind, result_of, step, steps_by}
 use Rattle.curp_law_steps.specs.Named.{StopsNone}
+use Rattle.curp_base.proofs.Numbered.{numbered_set_other}
 
 -- ---- lists that are numbered from 1
-
-numbered_other : {A : Type 0} (xs : List A) (n : ℕ) (old new : A) → numbered xs n ≡ Some old → (m : ℕ) (x : A) → m ≢ n → numbered xs m ≡ Some x → numbered (set xs (n - 1) new) m ≡ Some x
-numbered_other xs zero old new here m x ne h = absurd cc
-numbered_other xs (suc k) old new here zero x ne h = absurd cc
-numbered_other {A} xs (suc k) old new here (suc j) x ne h =
-    let place : suc k - 1 ≡ k = omega arith in
-    subst (λ (i : ℕ). At (set xs i new) j x) (sym place) (at_set_other xs k j x new (λ e. ne (ap suc e)) h)
 
 numbered_grown : {A : Type 0} (xs : List A) (fresh : A) (next m : ℕ) (x : A) → numbered xs m ≡ Some x → numbered (grown xs fresh next) m ≡ Some x
 numbered_grown xs fresh next zero x h = absurd cc
@@ -70,7 +63,7 @@ module _ (w : World) where
   client_moves : (m : ℕ) (given : Input) (o : Option ClientState) → numbered w.clients m ≡ o → OnlyMoves (Gives (node Client m) given) w (moves_kind w Client m given).state
   client_moves m given None is = rw is (nothing_moves (Gives (node Client m) given))
   client_moves m given (Some c) is = rw is (record {
-    clients = λ n x ne h. numbered_other w.clients m c (client_input m c given).state is n x (other_number Client n m given ne) h;
+    clients = λ n x ne h. numbered_set_other w.clients m c (client_input m c given).state is n x (other_number Client n m given ne) h;
     masters = λ n x ne h. h;
     backups = λ n x ne h. h;
     witnesses = λ n x ne h. h;
@@ -82,7 +75,7 @@ module _ (w : World) where
   master_moves m given None is = rw is (nothing_moves (Gives (node Master m) given))
   master_moves m given (Some c) is = rw is (record {
     clients = λ n x ne h. h;
-    masters = λ n x ne h. numbered_other w.masters m c (master_input m c given).state is n x (other_number Master n m given ne) h;
+    masters = λ n x ne h. numbered_set_other w.masters m c (master_input m c given).state is n x (other_number Master n m given ne) h;
     backups = λ n x ne h. h;
     witnesses = λ n x ne h. h;
     manager = λ ne. refl;
@@ -94,7 +87,7 @@ module _ (w : World) where
   backup_moves m given (Some c) is = rw is (record {
     clients = λ n x ne h. h;
     masters = λ n x ne h. h;
-    backups = λ n x ne h. numbered_other w.backups m c (backup_input m c given).state is n x (other_number Backup n m given ne) h;
+    backups = λ n x ne h. numbered_set_other w.backups m c (backup_input m c given).state is n x (other_number Backup n m given ne) h;
     witnesses = λ n x ne h. h;
     manager = λ ne. refl;
     stopped = λ ne. refl;
@@ -106,7 +99,7 @@ module _ (w : World) where
     clients = λ n x ne h. h;
     masters = λ n x ne h. h;
     backups = λ n x ne h. h;
-    witnesses = λ n x ne h. numbered_other w.witnesses m c (witness_input m c given).state is n x (other_number Witness n m given ne) h;
+    witnesses = λ n x ne h. numbered_set_other w.witnesses m c (witness_input m c given).state is n x (other_number Witness n m given ne) h;
     manager = λ ne. refl;
     stopped = λ ne. refl;
   })

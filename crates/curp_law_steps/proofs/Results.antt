@@ -1,6 +1,5 @@
 -- The causes of a step's result, and a world that is full.
-use Rattle.std.proofs.Common.{◌≡◌, ◌≢◌, ◌↔◌, ◌⊎◌, inl, inr, ℕ, ◌<◌, ◌==◌, ltb, not, Bool, true, false, [], ◌∷◌, Option, Some, None, is_some, refl, ap, sym, ◌∙◌, subst, arith}
-use Rattle.std.proofs.lemmas.Bool.{ltb-false}
+use Rattle.std.proofs.Common.{◌≡◌, ◌≢◌, ◌↔◌, ◌⊎◌, inl, inr, ℕ, ◌<◌, ◌==◌, ltb, not, Bool, true, false, [], ◌∷◌, Option, Some, None, is_some, refl, ap, sym, ◌∙◌, arith}
 use Rattle.std.proofs.lemmas.Bool.Decides.{nat_tests}
 use Rattle.curp_base.specs.Cases.{first_case, only_if}
 use Rattle.curp_base.specs.Words.{numbered}
@@ -9,7 +8,8 @@ use Rattle.curp_msg.specs.declared.outcome.StepResult.{StepResult}
 use Rattle.curp_msg.specs.declared.outcome.StepResult.TheVariants.{Done, NoMessage, NoNode, Manager, Gone, Full, Refused}
 use Rattle.curp_msg.specs.declared.script.Step.{Step}
 use Rattle.curp_msg.specs.declared.script.Step.TheVariants as steps
-use Rattle.curp_model.specs.World.{World, deed_of, delivery, is_lost, is_too_much, messages, names_nobody, names_stopped, refusal, result_of, step, stops_manager, weight, weight_limit}
+use Rattle.curp_model.specs.World.{World, deed_of, delivery, is_lost, is_too_much, messages, names_nobody, names_stopped, refusal, result_of, step, stops_manager, weight}
+use Rattle.curp_msg.specs.Limits.{weight_limit}
 use Rattle.curp_law_steps.proofs.Moving.{its_result, undone}
 use Rattle.curp_model.specs.Causes.{IsLight, IsRunning, IsSent, IsThere, SparesManager}
 use Rattle.curp_law_steps.specs.Named.{StopsNone}

@@ -2,7 +2,7 @@
 //! function with nothing in it, and a caller has the law by the call.
 #![tactic(auto)]
 
-ghost use Rattle.std.specs.Prelude.{◌≡◌, ◌≢◌, ◌↔◌, ◌<◌, ℕ, true, Some};
+ghost use Rattle.std.specs.Prelude.{◌≡◌, ◌≢◌, ◌↔◌, ◌+◌, ◌<◌, ◌≤◌, ℕ, length, true, Some};
 ghost use Rattle.curp_base.specs.Words.{numbered};
 ghost use Rattle.curp_cmd.specs.declared.node.NodeKind.TheVariants.{Client, Master, Backup, Witness};
 ghost use Rattle.curp_cmd.specs.declared.node.NodeKind.TheVariants as kind;
@@ -12,7 +12,8 @@ ghost use Rattle.curp_model.specs.Causes.{IsLight, IsRunning, IsSent, IsThere, S
 ghost use Rattle.curp_model.specs.Client.{ClientState};
 ghost use Rattle.curp_model.specs.Recovery.{MasterStage};
 ghost use Rattle.curp_model.specs.Witness.{WitnessState};
-ghost use Rattle.curp_model.specs.World.{World, deed_of, is_lost, is_too_much, names_nobody, names_stopped, refusal, result_of, step, stops_manager, weight, weight_limit};
+ghost use Rattle.curp_model.specs.World.{World, deed_of, is_lost, is_too_much, names_nobody, names_stopped, refusal, result_of, step, stops_manager, weight};
+ghost use Rattle.curp_msg.specs.Limits.{weight_limit};
 ghost use Rattle.curp_msg.specs.declared.outcome.StepResult.TheVariants.{Done, NoMessage, NoNode, Manager, Gone, Full, Refused};
 ghost use Rattle.curp_msg.specs.declared.script.Step.{Step};
 
@@ -54,4 +55,9 @@ pub fn full_changes_nothing()
     ensures result { (w : World) (s : Step) → weight_limit < weight w → StopsNone s
         → (step w s).outcome.result ≢ NoMessage → (step w s).outcome.result ≢ NoNode → (step w s).outcome.result ≢ Gone
         → (step w s).outcome.result ≡ Full (weight w) }
+{}
+
+/// A step adds one event at most to what clients saw, in any world: what is invoked doesn't complete in that step.
+pub fn a_step_is_one_event()
+    ensures { (w : World) (s : Step) → length (step w s).world.history ≤ length w.history + 1 }
 {}

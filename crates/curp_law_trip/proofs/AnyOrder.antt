@@ -8,7 +8,7 @@ use Rattle.std.proofs.lemmas.List.Folds.{list_any-append}
 use Rattle.std.proofs.lemmas.Map.Keys.{IsDistinct-IsPermutation, IsDistinct-head, IsDistinct-tail, IsDistinct-cons}
 use Rattle.std.proofs.lemmas.Option.{slice_get-get_or, get_or_from_slice_get}
 use Rattle.curp_base.specs.Words.{At, first_of}
-use Rattle.curp_base.proofs.Lists.{at_within, at_map}
+use Rattle.curp_base.proofs.Lists.{at_within, at_map, at_mapped}
 use Rattle.curp_cmd.specs.Node.{same_node, master_node, witness_node}
 use Rattle.curp_cmd.specs.declared.node.NodeId.{NodeId}
 use Rattle.curp_cmd.specs.declared.node.NodeKind.TheVariants.{Master, Witness}
@@ -32,11 +32,6 @@ member : (xs ys : List Message) → IsPermutation xs ys → (j : ℕ) (m : Messa
 member xs ys p j m h =
     let c = Contains-permutation xs ys m p (j, at_within xs j m h, get_or_from_slice_get xs j m m h) in
     (c.0, slice_get-get_or ys c.0 m c.1 ∙ ap (λ (x : Message). Some x) c.2)
-
-at_mapped : {A B : Type 0} (f : A → B) (xs : List A) (k : ℕ) (y : B) → At (map f xs) k y → (x : A) × At xs k x × (f x ≡ y)
-at_mapped f [] k y h = absurd cc
-at_mapped f (x ∷ xs) zero y h = (x, refl, cc)
-at_mapped f (x ∷ xs) (suc k) y h = at_mapped f xs k y h
 
 -- ---- accepts that a client has
 

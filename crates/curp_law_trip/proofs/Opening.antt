@@ -1,5 +1,5 @@
 -- At the opening a client's first update meets nothing, and its first read.
-use Rattle.std.proofs.Common.{◌≡◌, ℕ, zero, suc, ◌+◌, ◌*◌, ◌<◌, ◌≤◌, ◌^◌, ◌-◌, ◌%◌, ◌==◌, Bool, true, false, cond, not, List, [], ◌∷◌, map, replicate, slice_get, Option, Some, None, refl, ap, sym, ◌∙◌, subst, arith, add-mul, le_refl, one-mul}
+use Rattle.std.proofs.Common.{◌≡◌, ℕ, zero, suc, ◌+◌, ◌*◌, ◌<◌, ◌≤◌, ◌^◌, ◌-◌, ◌%◌, ◌==◌, Bool, true, false, cond, not, List, [], ◌∷◌, map, replicate, Option, Some, None, refl, ap, sym, ◌∙◌, subst, arith, add-mul, le_refl, one-mul}
 use Rattle.std.specs.List.{filter, list_all}
 use Rattle.std.specs.Option.{ok_or}
 use Rattle.std.proofs.Math.Seq.{drop-nil}
@@ -8,7 +8,7 @@ use Rattle.std.proofs.lemmas.Bool.Decides.{nat_tests}
 use Rattle.std.proofs.lemmas.List.Sums.{length-filter, count_by-le-length}
 use Rattle.std.proofs.lemmas.Nat.{mul-le}
 use Rattle.curp_base.specs.Words.{Each, first_of, numbered, numbers_from}
-use Rattle.curp_base.proofs.Lists.{at_replicated, Each-from_at, Each-map}
+use Rattle.curp_base.proofs.Lists.{Each-from_at, Each-map}
 use Rattle.curp_cmd.proofs.Ascendings.{all_ascending}
 use Rattle.curp_cmd.specs.Hash.{hash_of, hashed_from, hashes, hashes_of, offset_basis}
 use Rattle.curp_cmd.specs.Node.{witness_node}
@@ -34,6 +34,7 @@ use Rattle.curp_law_trip.specs.Trip.{MasterServes, MeetsNothing, Reaches, Trip, 
 use Rattle.curp_law_trip.proofs.Apart.{apart_numbers}
 use Rattle.curp_law_trip.proofs.OpeningOwners.{opening_owner}
 use Rattle.curp_law_trip.proofs.Searches.{FirstFrom, first_number, no_number}
+use Rattle.curp_base.proofs.Numbered.{numbered_replicated, made_numbered}
 
 -- ---- hashes have 64 bits
 
@@ -59,27 +60,9 @@ owns_command command = all_ascending _ (hashes_of command) ∙ owns_keys (keys_o
 
 -- ---- numbered nodes
 
-numbered_replicated : {A : Type 0} (count : ℕ) (x : A) (n : ℕ) → 1 ≤ n → n ≤ count → numbered (replicate count x) n ≡ Some x
-numbered_replicated count x zero low high = absurd (omega arith)
-numbered_replicated count x (suc k) low high = at_replicated count x k (omega arith)
-
 each_number : (P : ℕ → Type 0) (first count : ℕ) → ((k : ℕ) → first ≤ k → k < first + count → P k) → Each P (numbers_from first count)
 each_number P first zero f = tt
 each_number P first (suc count) f = (f first (omega arith) (omega arith), each_number P (first + 1) count (λ k low high. f k (omega (arith, low)) (omega (arith, high))))
-
--- what has a number where each is made of its own
-numbered_made : {A : Type 0} (f : ℕ → A) (first count n : ℕ) → n < count → slice_get (map f (numbers_from first count)) n ≡ Some (f (first + n))
-numbered_made f first zero n low = absurd (omega arith)
-numbered_made f first (suc count) zero low = let same : first ≡ first + 0 = omega arith in ap (λ (k : ℕ). Some (f k)) same
-numbered_made f first (suc count) (suc n) low =
-    let same : first + 1 + n ≡ first + suc n = omega arith in
-    numbered_made f (first + 1) count n (omega (arith, low)) ∙ ap (λ (k : ℕ). Some (f k)) same
-
-made_numbered : {A : Type 0} (f : ℕ → A) (count n : ℕ) → 1 ≤ n → n ≤ count → numbered (map f (numbers_from 1 count)) n ≡ Some (f n)
-made_numbered f count zero low high = absurd (omega arith)
-made_numbered f count (suc k) low high =
-    let same : 1 + k ≡ suc k = omega arith in
-    numbered_made f 1 count k (omega (arith, high)) ∙ ap (λ (j : ℕ). Some (f j)) same
 
 -- the nodes of one partition are among those of all
 last_fits : (p parts f : ℕ) → 1 ≤ p → p ≤ parts → (p - 1) * f + f ≤ parts * f

@@ -6,12 +6,7 @@ use Rattle.std.proofs.lemmas.Nat.{le-div}
 use Rattle.curp_range.specs.Spans.{is_in}
 use Rattle.curp_range.proofs.Ascending.{in_range}
 use Rattle.curp_model.specs.Ranges.{opening_lo, opening_range, range_of, range_or_all}
-
-range_lo : (lo hi : ℕ) → nat_le lo hi ≡ true → (range_or_all (range_of lo hi)).lo ≡ lo
-range_lo lo hi t = grind (arith, nat_tests)
-
-range_hi : (lo hi : ℕ) → nat_le lo hi ≡ true → (range_or_all (range_of lo hi)).hi ≡ hi
-range_hi lo hi t = grind (arith, nat_tests)
+use Rattle.curp_model.proofs.OpeningRanges.{range_lo, range_hi}
 
 -- a hash between two ends lies in their range
 in_ends : (lo end h : ℕ) → lo ≤ h → h < end → is_in (range_or_all (range_of lo (end - 1))).lo (range_or_all (range_of lo (end - 1))).hi h ≡ true

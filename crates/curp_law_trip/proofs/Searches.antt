@@ -3,12 +3,12 @@ use Rattle.std.proofs.Common.{◌≡◌, ◌≢◌, inl, inr, ℕ, zero, suc, �
 use Rattle.std.specs.List.{filter, list_any}
 use Rattle.std.specs.Cmp.{IsTotalOrder}
 use Rattle.std.specs.FinMap.Entries.{below_all}
-use Rattle.std.specs.Ordering.{is_lt, ordering_reverse}
+use Rattle.std.specs.Ordering.{ordering_reverse}
 use Rattle.std.specs.declared.cmp.Ordering.{Ordering}
 use Rattle.std.specs.declared.cmp.Ordering.TheVariants.{Less, Equal, Greater}
 use Rattle.std.proofs.lemmas.Bool.{cases_Bool, cases_lt, or_left, or_right}
 use Rattle.curp_base.specs.Words.{At, Ascend, first_of, numbers_from}
-use Rattle.curp_base.proofs.Rising.{keyed}
+use Rattle.curp_base.proofs.Rising.{keyed, is_less}
 
 -- ---- some item passes
 
@@ -69,11 +69,6 @@ left false b h = absurd h
 right : (a b : Bool) → T (a && b) → T b
 right true b h = h
 right false b h = absurd h
-
-is_less : (r : Ordering) → T (is_lt r) → r ≡ Less
-is_less Less h = refl
-is_less Equal h = absurd h
-is_less Greater h = absurd h
 
 module _ {A K : Type 0} (R : K → K → Ordering) (o : IsTotalOrder R) (f : A → K) (p : A → Bool) where
   tied : (a : K) → R a a ≡ Equal

@@ -83,8 +83,8 @@ pub fn one_round_trip()
 pub fn one_round_trip_read()
     ensures sent { (t : Trip) (key : List ℕ) → ReadMeetsNothing t key → (invoked t).messages ≡ read_sendings t }
     ensures answered { (t : Trip) (key : List ℕ) → ReadMeetsNothing t key → from_glanced t ≡ quick_of t key ∷ [] }
-    ensures live { (t : Trip) (key : List ℕ) → ReadMeetsNothing t key → (k : ℕ) (w : Node WitnessState) → At t.witnesses k w
-        → from_probed t w ≡ live_of t w ∷ [] }
+    ensures live { (t : Trip) (key : List ℕ) → ReadMeetsNothing t key → (k : ℕ) (w : Node WitnessState)
+        → At t.witnesses k w → from_probed t w ≡ live_of t w ∷ [] }
     ensures completes { (t : Trip) (key : List ℕ) → ReadMeetsNothing t key
         → (order : List Message) → IsPermutation (read_answers t) order
         → CompletesAtLast t.client.number (invoked t).state order (read_completion_of t key) }

@@ -8,17 +8,8 @@ use Rattle.curp_base.proofs.Ends.{never_rises}
 use Rattle.curp_msg.specs.Moved.{Moved, refuses, unless_refused}
 use Rattle.curp_msg.specs.declared.machine.Input.TheVariants as input
 use Rattle.curp_msg.specs.declared.machine.Local.TheVariants as local
-use Rattle.curp_model.specs.Manager.{ManagerState, Next, counter_ends, expire, expires, last_number, manager_input, manager_ordered, unless_numbers_end}
-
-counters_stay : (n : Next) → counter_ends n n ≡ false
-counters_stay n = rw (
-  never_rises last_number n.epoch n.epoch refl,
-  never_rises last_number n.version n.version refl,
-  never_rises last_number n.master n.master refl,
-  never_rises last_number n.backup n.backup refl,
-  never_rises last_number n.witness n.witness refl,
-  never_rises last_number n.migration n.migration refl,
-) refl
+use Rattle.curp_model.specs.Manager.{ManagerState, expire, expires, last_number, manager_input, manager_ordered, unless_numbers_end}
+use Rattle.curp_model.proofs.Managers.{counters_stay}
 
 refusal_stands : (g : ManagerState) (number : ℕ) → unless_numbers_end g (refuses g number) ≡ refuses g number
 refusal_stands g number = rw (counters_stay g.next, never_rises last_number g.config.serial g.config.serial refl) refl

@@ -22,7 +22,8 @@ use Rattle.curp_model.specs.Backup.{BackupState, backup_input}
 use Rattle.curp_model.specs.Client.{ClientState, client_input}
 use Rattle.curp_model.specs.Recovery.{MasterStage, master_input}
 use Rattle.curp_model.specs.Witness.{WitnessState, witness_input}
-use Rattle.curp_model.specs.World.{Deed, Gives, Stepped, Stops, World, deed_of, delivery, effect, events_of, has_node, is_lost, is_stopped, is_too_much, kept, messages, moves, moves_kind, moves_one, names_nobody, result_of, step, steps_by, stops_manager, subject, weight, weight_limit}
+use Rattle.curp_model.specs.World.{Deed, Gives, Stepped, Stops, World, deed_of, delivery, effect, events_of, has_node, is_lost, is_stopped, is_too_much, kept, messages, moves, moves_kind, moves_one, names_nobody, result_of, step, steps_by, stops_manager, subject, weight}
+use Rattle.curp_msg.specs.Limits.{weight_limit}
 use Rattle.curp_model.proofs.Batches.{all_of-kept}
 use Rattle.curp_law_growth.specs.After.{After, ClientStays, ClientMoves, MasterStays, MasterMoves, MasterNew, BackupStays, BackupMoves, BackupNew, WitnessStays, WitnessMoves, WitnessNew}
 use Rattle.curp_law_growth.proofs.After.{step_after}
@@ -30,7 +31,6 @@ use Rattle.curp_law_steps.specs.Named.{StopsNone}
 use Rattle.curp_law_steps.proofs.Moving.{OnlyMoves, Spares, only_moves, stops_only_by_stop}
 use Rattle.curp_law_steps.proofs.Results.{done}
 use Rattle.curp_law_weave.specs.NodeStates.{ABackup, AClient, AManager, AMaster, AWitness, NodeState, fresh_state, machine_by, machine_of, state_by, state_of}
-use Rattle.curp_turns.specs.Legal.{deed_by}
 
 -- ---- options
 
@@ -44,22 +44,6 @@ unmapped wrap (Some x) e = absurd cc
 
 no_two : {A : Type 0} (o : Option A) (x : A) → o ≡ None → o ≡ Some x → ⊥
 no_two o x a b = cc
-
--- ---- what a step is to do
-
-pub deed_is : (w : World) (s : Step) → deed_of w s ≡ deed_by (messages w) s
-deed_is w (steps.Invoke n command) = refl
-deed_is w (steps.Deliver number) = refl
-deed_is w (steps.Retry n seq) = refl
-deed_is w (steps.Fetch n) = refl
-deed_is w (steps.Sync n) = refl
-deed_is w (steps.Collect n) = refl
-deed_is w (steps.Recover part backup witness) = refl
-deed_is w (steps.Replace keeper part place) = refl
-deed_is w (steps.Migrate lo hi to) = refl
-deed_is w steps.Nudge = refl
-deed_is w (steps.Expire n) = refl
-deed_is w (steps.Stop node) = refl
 
 module _ (w : World) (s : Step) where
   -- ---- a step that gives a node something

@@ -1,15 +1,13 @@
 -- What a run shows of what its journals hold.
-use Rattle.std.proofs.Common.{◌≡◌, ◌≢◌, ◌⊎◌, inl, inr, ℕ, zero, suc, ◌+◌, if◌then◌else◌, Bool, true, false, List, [], ◌∷◌, ◌++◌, length, map, slice_get, Option, Some, None, refl, ap, sym, ◌∙◌, subst, arith, append-nil, append_assoc}
-use Rattle.std.specs.Prelude.{⊤, option_to_list}
+use Rattle.std.proofs.Common.{◌≡◌, ◌≢◌, ℕ, zero, suc, ◌+◌, if◌then◌else◌, Bool, true, false, List, [], ◌∷◌, ◌++◌, length, map, Option, Some, None, refl, ap, sym, ◌∙◌, subst, arith}
+use Rattle.std.specs.Prelude.{option_to_list}
 use Rattle.curp_base.specs.Words.{At, Each, numbered}
 use Rattle.curp_base.proofs.Lists.{Each-at, at_append, at_append_right, at_map}
 use Rattle.curp_cmd.specs.Node.{client_node, manager_node, same_node}
-use Rattle.curp_cmd.specs.declared.command.Command.{Command}
 use Rattle.curp_cmd.specs.declared.command.RequestId.{RequestId}
 use Rattle.curp_cmd.specs.declared.node.NodeId.{NodeId}
 use Rattle.curp_cmd.proofs.Nodes.{same_node-self}
 use Rattle.curp_msg.specs.declared.machine.Completed.{Completed}
-use Rattle.curp_msg.specs.declared.machine.Input.{Input}
 use Rattle.curp_msg.specs.declared.machine.Input.TheVariants as input
 use Rattle.curp_msg.specs.declared.machine.Local.{Local}
 use Rattle.curp_msg.specs.declared.machine.Local.TheVariants as local
@@ -17,15 +15,16 @@ use Rattle.curp_msg.specs.declared.message.Message.{Message}
 use Rattle.curp_msg.specs.declared.script.Header.{Header}
 use Rattle.curp_msg.specs.declared.script.Step.{Step}
 use Rattle.curp_msg.specs.declared.script.Step.TheVariants as steps
-use Rattle.curp_model.specs.World.{Deed, Gives, Nothing, Stops, World, deed_of, delivery, messages, opening, step}
+use Rattle.curp_model.specs.World.{Gives, World, deed_of, delivery, messages, opening, order_in, order_of, step}
 use Rattle.curp_journal.specs.Given.{given}
+use Rattle.curp_journal.specs.Journal.{last_stamp}
 use Rattle.curp_journal.specs.declared.arrived.Arrived.{Arrived}
 use Rattle.curp_journal.specs.declared.arrived.Arrived.TheVariants as arrived
 use Rattle.curp_journal.specs.declared.item.Item.{Item}
-use Rattle.curp_turns.specs.Legal.{deed_by, deed_for}
+use Rattle.curp_turns.specs.Legal.{deed_for}
 use Rattle.curp_turns.specs.Turns.{Did, IsKnown, Journal, Placed, Quits, Turn, completed_by, of, turns_of}
 use Rattle.curp_turns.specs.Work.{IsCompletedIn, commands_among, invocations, invoked_by, invoked_in, ordered, orders_to, recoveries, recoveries_among, recoveries_in, recovery_by}
-use Rattle.curp_law_weave.specs.Run.{IsCompletedBy, IsMade, IsNoStop, RunOf, Runs, completions}
+use Rattle.curp_law_weave.specs.Run.{IsCompletedBy, IsNoStop, RunOf, Runs, completions}
 
 -- ---- orders
 
@@ -34,13 +33,13 @@ abbrev order_by : Arrived → List Local
 order_by (arrived.Local order stamp) = order ∷ []
 order_by (arrived.Message named) = []
 
-abbrev order_in : Turn → List Local
-order_in (Did item) = order_by item.input
-order_in Quits = []
+abbrev turn_order : Turn → List Local
+turn_order (Did item) = order_by item.input
+turn_order (Quits stamp) = []
 
 abbrev orders_in : List Turn → List Local
 orders_in [] = []
-orders_in (t ∷ ts) = order_in t ++ orders_in ts
+orders_in (t ∷ ts) = turn_order t ++ orders_in ts
 
 abbrev no_orders : List Local
 no_orders = []
@@ -49,33 +48,33 @@ chosen : (b : Bool) → (if b then no_orders else no_orders) ≡ no_orders
 chosen true = refl
 chosen false = refl
 
--- which message is delivered makes no difference to the orders
-none_delivered : (node : NodeId) (m : Option Message) → ordered node (delivery m) ≡ []
-none_delivered node None = refl
-none_delivered node (Some m) = refl
+-- which messages were sent makes no difference to the orders
+none_delivered : (m : Option Message) → order_in (delivery m) ≡ None
+none_delivered None = refl
+none_delivered (Some m) = refl
 
-same_orders : (node : NodeId) (w : World) (s : Step) → ordered node (deed_by [] s) ≡ ordered node (deed_of w s)
-same_orders node w (steps.Invoke n command) = refl
-same_orders node w (steps.Deliver number) = none_delivered node (numbered [] number) ∙ sym (none_delivered node (numbered (messages w) number))
-same_orders node w (steps.Retry n seq) = refl
-same_orders node w (steps.Fetch n) = refl
-same_orders node w (steps.Sync n) = refl
-same_orders node w (steps.Collect n) = refl
-same_orders node w (steps.Recover part backup witness) = refl
-same_orders node w (steps.Replace keeper part place) = refl
-same_orders node w (steps.Migrate lo hi to) = refl
-same_orders node w steps.Nudge = refl
-same_orders node w (steps.Expire n) = refl
-same_orders node w (steps.Stop id) = refl
+same_orders : (w : World) (s : Step) → order_of s ≡ order_in (deed_of w s)
+same_orders w (steps.Invoke n command) = refl
+same_orders w (steps.Deliver number) = none_delivered (numbered [] number) ∙ sym (none_delivered (numbered (messages w) number))
+same_orders w (steps.Retry n seq) = refl
+same_orders w (steps.Fetch n) = refl
+same_orders w (steps.Sync n) = refl
+same_orders w (steps.Collect n) = refl
+same_orders w (steps.Recover part backup witness) = refl
+same_orders w (steps.Replace keeper part place) = refl
+same_orders w (steps.Migrate lo hi to) = refl
+same_orders w steps.Nudge = refl
+same_orders w (steps.Expire n) = refl
+same_orders w (steps.Stop id) = refl
 
 -- what a turn's step orders
-turn_orders : (node at : NodeId) (turn : Turn) → ordered node (deed_for (record { node = at; turn = turn })) ≡ (if same_node at node then order_in turn else [])
+turn_orders : (node at : NodeId) (turn : Turn) → ordered node (order_in (deed_for (record { node = at; turn = turn }))) ≡ (if same_node at node then turn_order turn else [])
 turn_orders node at (Did item) = by item.input
   where
-    by : (a : Arrived) → ordered node (Gives at (given a)) ≡ (if same_node at node then order_by a else [])
+    by : (a : Arrived) → ordered node (order_in (Gives at (given a))) ≡ (if same_node at node then order_by a else [])
     by (arrived.Local order stamp) = refl
     by (arrived.Message named) = sym (chosen (same_node at node))
-turn_orders node at Quits = sym (chosen (same_node at node))
+turn_orders node at (Quits stamp) = sym (chosen (same_node at node))
 
 -- the orders of steps to a node are those of its turns
 runs_order : (node : NodeId) (w : World) (ss : List Step) (ps : List Placed) → Runs w ss ps → orders_to node ss ≡ orders_in (of node ps)
@@ -83,11 +82,12 @@ runs_order node w [] [] runs = refl
 runs_order node w [] (p ∷ ps) runs = absurd runs
 runs_order node w (s ∷ ss) [] runs = absurd runs
 runs_order node w (s ∷ ss) (p ∷ ps) runs =
-    let first : ordered node (deed_by [] s) ≡ (if same_node p.node node then order_in p.turn else []) = same_orders node w s ∙ (ap (ordered node) runs.0.deed ∙ turn_orders node p.node p.turn) in
+    let first : ordered node (order_of s) ≡ (if same_node p.node node then turn_order p.turn else []) =
+    ap (ordered node) (same_orders w s ∙ ap order_in runs.0.deed) ∙ turn_orders node p.node p.turn in
     let rest = runs_order node (step w s).world ss ps runs.1 in
     cc (first, rest, go (same_node p.node node) p.turn (of node ps))
   where
-    go : (b : Bool) (t : Turn) (ts : List Turn) → (if b then order_in t else []) ++ orders_in ts ≡ orders_in (if b then t ∷ ts else ts)
+    go : (b : Bool) (t : Turn) (ts : List Turn) → (if b then turn_order t else []) ++ orders_in ts ≡ orders_in (if b then t ∷ ts else ts)
     go true t ts = refl
     go false t ts = refl
 
@@ -97,10 +97,10 @@ abbrev orders_of_items : List Item → List Local
 orders_of_items [] = []
 orders_of_items (item ∷ items) = order_by item.input ++ orders_of_items items
 
-orders_of_turns : (items : List Item) (ended : Bool) → orders_in (map Did items ++ (if ended then Quits ∷ [] else [])) ≡ orders_of_items items
-orders_of_turns [] true = refl
-orders_of_turns [] false = refl
-orders_of_turns (item ∷ items) ended = ap (λ os. order_by item.input ++ os) (orders_of_turns items ended)
+orders_of_turns : (items : List Item) (last : ℕ) (ended : Bool) → orders_in (map Did items ++ (if ended then Quits last ∷ [] else [])) ≡ orders_of_items items
+orders_of_turns [] last true = refl
+orders_of_turns [] last false = refl
+orders_of_turns (item ∷ items) last ended = ap (λ os. order_by item.input ++ os) (orders_of_turns items last ended)
 
 commands-append : (xs ys : List Local) → commands_among (xs ++ ys) ≡ commands_among xs ++ commands_among ys
 commands-append [] ys = refl
@@ -192,14 +192,14 @@ runs_complete w (s ∷ ss) (q ∷ ps) (suc u) p c runs at is =
 -- ---- stops
 
 -- no turn of items is a stop
-no_quit : (items : List Item) (t : ℕ) → At (map Did items ++ []) t Quits → ⊥
-no_quit [] t at = absurd cc
-no_quit (item ∷ items) zero at = absurd cc
-no_quit (item ∷ items) (suc t) at = no_quit items t at
+no_quit : (items : List Item) (t stamp : ℕ) → At (map Did items ++ []) t (Quits stamp) → ⊥
+no_quit [] t stamp at = absurd cc
+no_quit (item ∷ items) zero stamp at = absurd cc
+no_quit (item ∷ items) (suc t) stamp at = no_quit items t stamp at
 
-by_deed : (w : World) (s : Step) (at : NodeId) (turn : Turn) → deed_of w s ≡ deed_for (record { node = at; turn = turn }) → turn ≢ Quits → IsNoStop s
+by_deed : (w : World) (s : Step) (at : NodeId) (turn : Turn) → deed_of w s ≡ deed_for (record { node = at; turn = turn }) → ((stamp : ℕ) → turn ≢ Quits stamp) → IsNoStop s
 by_deed w (steps.Stop id) at (Did item) deed other = absurd cc
-by_deed w (steps.Stop id) at Quits deed other = absurd (other refl)
+by_deed w (steps.Stop id) at (Quits stamp) deed other = absurd (other stamp refl)
 by_deed w (steps.Invoke n command) at turn deed other = tt
 by_deed w (steps.Deliver number) at turn deed other = tt
 by_deed w (steps.Retry n seq) at turn deed other = tt
@@ -212,7 +212,7 @@ by_deed w (steps.Migrate lo hi to) at turn deed other = tt
 by_deed w steps.Nudge at turn deed other = tt
 by_deed w (steps.Expire n) at turn deed other = tt
 
-never_stop : (w : World) (ss : List Step) (ps : List Placed) → Runs w ss ps → ((u : ℕ) (p : Placed) → At ps u p → p.turn ≢ Quits) → Each IsNoStop ss
+never_stop : (w : World) (ss : List Step) (ps : List Placed) → Runs w ss ps → ((u : ℕ) (p : Placed) → At ps u p → (stamp : ℕ) → p.turn ≢ Quits stamp) → Each IsNoStop ss
 never_stop w [] [] runs none = tt
 never_stop w [] (p ∷ ps) runs none = absurd runs
 never_stop w (s ∷ ss) [] runs none = absurd runs
@@ -223,7 +223,7 @@ never_stop w (s ∷ ss) (p ∷ ps) runs none =
 
 module _ (journals : List Journal) (h : Header) (ss : List Step) (placed : List Placed) (run : RunOf journals h ss placed) where
   orders_are : (k : ℕ) (j : Journal) → At journals k j → orders_to j.id ss ≡ orders_of_items j.items
-  orders_are k j at = runs_order j.id (opening h) ss placed run.runs ∙ (ap orders_in (run.turns.whole k j at) ∙ orders_of_turns j.items j.ended)
+  orders_are k j at = runs_order j.id (opening h) ss placed run.runs ∙ (ap orders_in (run.turns.whole k j at) ∙ orders_of_turns j.items (last_stamp 0 j.items) j.ended)
 
   pub invocations_are : (k n : ℕ) (j : Journal) → At journals k j → j.id ≡ client_node n → invocations n ss ≡ invoked_in j.items
   invocations_are k n j at name = ap (λ (node : NodeId). commands_among (orders_to node ss)) (sym name) ∙ (ap commands_among (orders_are k j at) ∙ items_invoked j.items)
@@ -241,11 +241,11 @@ module _ (journals : List Journal) (h : Header) (ss : List Step) (placed : List 
   pub none_stopped : ((k : ℕ) (j : Journal) → At journals k j → j.ended ≡ false) → Each IsNoStop ss
   none_stopped running = never_stop (opening h) ss placed run.runs other
     where
-      other : (u : ℕ) (p : Placed) → At placed u p → p.turn ≢ Quits
-      other u p at quits =
+      other : (u : ℕ) (p : Placed) → At placed u p → (stamp : ℕ) → p.turn ≢ Quits stamp
+      other u p at stamp quits =
           let known = Each-at (λ (q : Placed). IsKnown journals q.node) placed run.turns.known u p at in
           let j : Journal = known.journal in
           let t = placed_turn placed u p at in
           let whole : of p.node placed ≡ turns_of j = ap (λ (node : NodeId). of node placed) (sym known.its_name) ∙ run.turns.whole known.place j known.stands in
-          let here : At (turns_of j) t.0 Quits = subst (λ (x : Turn). At (turns_of j) t.0 x) quits (subst (λ (ts : List Turn). At ts t.0 p.turn) whole t.1) in
-          no_quit j.items t.0 (subst (λ (b : Bool). At (map Did j.items ++ (if b then Quits ∷ [] else [])) t.0 Quits) (running known.place j known.stands) here)
+          let here : At (turns_of j) t.0 (Quits stamp) = subst (λ (x : Turn). At (turns_of j) t.0 x) quits (subst (λ (ts : List Turn). At ts t.0 p.turn) whole t.1) in
+          no_quit j.items t.0 stamp (subst (λ (b : Bool). At (map Did j.items ++ (if b then Quits (last_stamp 0 j.items) ∷ [] else [])) t.0 (Quits stamp)) (running known.place j known.stands) here)

@@ -1,18 +1,18 @@
 -- Steps that are legal as lists are a run: each node is in the state that its turns so far lead to.
-use Rattle.std.proofs.Common.{◌≡◌, ◌≢◌, ◌⊎◌, inl, inr, ℕ, zero, suc, ◌+◌, ◌≤◌, ◌||◌, ltb, min, Bool, true, false, List, [], ◌∷◌, ◌++◌, length, map, Option, Some, None, is_some, refl, ap, sym, ◌∙◌, subst, arith, append_assoc, append-nil}
+use Rattle.std.proofs.Common.{◌≡◌, ◌≢◌, ◌⊎◌, inl, inr, ℕ, ◌+◌, ◌≤◌, ◌||◌, ltb, min, Bool, true, false, List, [], ◌∷◌, ◌++◌, length, map, Option, Some, None, is_some, refl, ap, sym, ◌∙◌, subst, arith, append_assoc, append-nil}
 use Rattle.std.specs.Prelude.{◌^◌, ◌-◌, option_map}
 use Rattle.std.proofs.lemmas.List.{map-append}
 use Rattle.std.proofs.lemmas.List.Sums.{fold-append}
 use Rattle.std.specs.List.{fold, list_any, sum}
 use Rattle.std.proofs.lemmas.Bool.Decides.{nat_tests}
 use Rattle.curp_base.specs.Words.{At, Each, first_of, numbered}
-use Rattle.curp_base.proofs.Lists.{Each-at, at_some}
-use Rattle.curp_base.proofs.Numbered.{place}
+use Rattle.curp_base.proofs.Lists.{Each-at}
+use Rattle.curp_base.proofs.Numbered.{place, numbered_some}
 use Rattle.curp_cmd.specs.Node.{client_node, manager_node, same_node}
 use Rattle.curp_cmd.specs.declared.node.NodeId.{NodeId}
 use Rattle.curp_cmd.specs.declared.node.NodeKind.{NodeKind}
 use Rattle.curp_cmd.specs.declared.node.NodeKind.TheVariants as kind
-use Rattle.curp_cmd.proofs.Nodes.{same_node-self, same_node-true}
+use Rattle.curp_cmd.proofs.Nodes.{same_node-true, either_node}
 use Rattle.curp_msg.specs.Moved.{done_of}
 use Rattle.curp_msg.specs.Weight.{weight_of}
 use Rattle.curp_msg.specs.declared.machine.Done.{Done}
@@ -27,36 +27,30 @@ use Rattle.curp_msg.specs.declared.script.Step.TheVariants as steps
 use Rattle.curp_model.specs.Client.{ClientState}
 use Rattle.curp_model.specs.Manager.{manager_input}
 use Rattle.curp_model.specs.Named.{IsNode, IsNodeOf}
-use Rattle.curp_model.specs.World.{Gives, Stepped, Stops, World, deed_of, delivery, effect, has_node, is_stopped, is_there, kept, messages, moves, opening, result_of, step, weight, weight_limit}
-use Rattle.curp_facts.specs.Run.{IsHeader}
+use Rattle.curp_model.specs.World.{Gives, Stepped, Stops, World, deed_by, deed_of, delivery, effect, has_node, is_stopped, is_there, kept, messages, moves, opening, result_of, step, weight}
+use Rattle.curp_msg.specs.Limits.{weight_limit}
+use Rattle.curp_msg.specs.Script.{IsHeader}
 use Rattle.curp_facts.specs.Fits.{IsBetweenNodes}
 use Rattle.curp_law_names.proofs.Laws.{only_sent_to_nodes}
 use Rattle.curp_law_names.proofs.Opened.{opening_names, opening_nodes}
 use Rattle.curp_law_names.proofs.Others.{Both}
 use Rattle.curp_law_names.proofs.Runs.{step_goes}
 use Rattle.curp_journal.specs.Given.{given}
-use Rattle.curp_journal.specs.Journal.{IsJournal, after}
+use Rattle.curp_journal.specs.Journal.{IsJournal, after, last_stamp}
 use Rattle.curp_journal.specs.declared.arrived.Arrived.{Arrived}
 use Rattle.curp_journal.specs.declared.arrived.Arrived.TheVariants as arrived
 use Rattle.curp_journal.specs.declared.item.Item.{Item}
-use Rattle.curp_journal.proofs.Replays.{after-snoc, done_at, none_refused_at}
+use Rattle.curp_journal.proofs.Replays.{after-snoc, done_at}
 use Rattle.curp_law_weave.specs.NodeStates.{ABackup, AClient, AManager, AMaster, AWitness, NodeState, fresh_state, machine_of, opening_of, state_by, state_of}
-use Rattle.curp_turns.specs.Legal.{LegalFrom, deed_by, deed_for}
+use Rattle.curp_turns.specs.Legal.{LegalFrom, deed_for}
 use Rattle.curp_turns.specs.Turns.{Did, IsKnown, Journal, Placed, Quits, Turn, of, said, turns_of}
 use Rattle.curp_turns.proofs.Turns.{of-append, of_first, of_here, of_there, said-append, said-snoc}
 use Rattle.curp_law_weave.specs.Run.{IsJournalOf, IsMade, IsMessage, Legal, RunOf, Runs, TakesFirst}
 use Rattle.curp_law_weave.proofs.Expiring.{expired_client}
-use Rattle.curp_law_weave.proofs.Moves.{Moves, deed_is, gives_done, manager_there, move_says, moved, stop_done, stop_is, stop_world}
+use Rattle.curp_law_weave.proofs.Moves.{Moves, gives_done, manager_there, move_says, moved, stop_done, stop_is, stop_world}
 use Rattle.curp_law_weave.proofs.Turns.{HasQuit, ending, item_next, items_in, items_in-did, items_in-quits, none_after, quit_more, quit_now}
 
 -- ---- names
-
-cases_node : (a b : NodeId) → (a ≡ b) ⊎ (a ≢ b)
-cases_node a b = go (same_node a b) refl
-  where
-    go : (c : Bool) → same_node a b ≡ c → (a ≡ b) ⊎ (a ≢ b)
-    go true e = inl (same_node-true a b e)
-    go false e = inr (λ same. let t = same_node-self a in let f : same_node a a ≡ false = subst (λ (n : NodeId). same_node a n ≡ false) (sym same) e in absurd (cc (t, f)))
 
 cases_option : {A : Type 0} (o : Option A) → (o ≡ None) ⊎ ((x : A) × (o ≡ Some x))
 cases_option None = inl refl
@@ -68,10 +62,6 @@ some_same o x y a b = cc
 none_some : {A : Type 0} (o : Option A) (x : A) → o ≡ None → o ≡ Some x → ⊥
 none_some o x a b = cc
 
-numbered_there : {A : Type 0} (xs : List A) (n : ℕ) → 1 ≤ n → n ≤ length xs → (x : A) × (numbered xs n ≡ Some x)
-numbered_there xs zero low high = absurd (omega arith)
-numbered_there xs (suc k) low high = at_some xs k (omega arith)
-
 -- ---- which nodes are there
 
 -- a node with a state
@@ -81,10 +71,10 @@ There w k = (x : NodeState) × (state_of w k ≡ Some x)
 module _ (w : World) where
   there_by : (a : NodeKind) (n : ℕ) → IsNodeOf w a n → (x : NodeState) × (state_by w a n ≡ Some x)
   there_by kind.Manager n is = (AManager w.manager, rw is refl)
-  there_by kind.Client n is = let c = numbered_there w.clients n is.0 is.1 in (AClient c.0, rw c.1 refl)
-  there_by kind.Master n is = let c = numbered_there w.masters n is.0 is.1 in (AMaster c.0, rw c.1 refl)
-  there_by kind.Backup n is = let c = numbered_there w.backups n is.0 is.1 in (ABackup c.0, rw c.1 refl)
-  there_by kind.Witness n is = let c = numbered_there w.witnesses n is.0 is.1 in (AWitness c.0, rw c.1 refl)
+  there_by kind.Client n is = let c = numbered_some w.clients n is.0 is.1 in (AClient c.0, rw c.1 refl)
+  there_by kind.Master n is = let c = numbered_some w.masters n is.0 is.1 in (AMaster c.0, rw c.1 refl)
+  there_by kind.Backup n is = let c = numbered_some w.backups n is.0 is.1 in (ABackup c.0, rw c.1 refl)
+  there_by kind.Witness n is = let c = numbered_some w.witnesses n is.0 is.1 in (AWitness c.0, rw c.1 refl)
 
   is_some_of : {A B : Type 0} (wrap : A → B) (o : Option A) (x : B) → option_map wrap o ≡ Some x → is_some o ≡ true
   is_some_of wrap None x e = absurd cc
@@ -133,7 +123,7 @@ module _ (w : World) where
       let what : g ≡ input.Local (local.Expire n) = cc in
       let free : (manager_input w.manager (input.Local (local.Expire n))).refused ≡ 0 = subst (λ (i : Input). (moves w manager_node i).refused ≡ 0) what (subst (λ (j : NodeId). (moves w j g).refused ≡ 0) to taken) in
       let range = expired_client w.manager n free in
-      let c = numbered_there w.clients n range.0 (omega (arith, range.1, both.names.numbers.clients)) in
+      let c = numbered_some w.clients n range.0 (omega (arith, range.1, both.names.numbers.clients)) in
       ap (λ (o : Option ClientState). is_some o) c.1
 
 -- ---- how it goes on
@@ -199,7 +189,7 @@ module _ (h : Header) where
       m = moved h w s k (given item.input) x woven.sets woven.ways deed made at
 
       still : (j : NodeId) → There w j → There v j
-      still j t = elim (cases_node j k) [
+      still j t = elim (either_node j k) [
         | inl same ↦ subst (There v) (sym same) ((machine_of k x (given item.input)).state, m.here)
         | inr other ↦ (t.0, m.there j other t.0 t.1)
       ]
@@ -231,12 +221,12 @@ module _ (h : Header) where
         sets = m.shape.sets ∙ woven.sets;
         ways = m.shape.ways ∙ woven.ways;
         stays = λ j t. still j (woven.stays j t);
-        nodes_are = λ j y now. elim (cases_node j k) [
+        nodes_are = λ j y now. elim (either_node j k) [
           | inl same ↦ rw same (here_is y (subst (λ (i : NodeId). state_of v i ≡ Some y) same now))
           | inr other ↦ there_is j y other now
         ];
         none_are = λ j none. elim (cases_option (state_of w j)) [
-          | inl never ↦ elim (cases_node j k) [
+          | inl never ↦ elim (either_node j k) [
             | inl same ↦ absurd (none_some (state_of w k) x (subst (λ (i : NodeId). state_of w i ≡ None) same never) at)
             | inr other ↦ of_there j before p (λ e. other (sym e)) ∙ woven.none_are j never
           ]
@@ -297,22 +287,22 @@ module _ (h : Header) where
       go true rest h = inl refl
       go false rest h = rest h
 
-  module _ (w : World) (before : List Placed) (woven : Woven h w before) (k : NodeId) (x : NodeState) (at : state_of w k ≡ Some x) (made : result_of w (steps.Stop k) ≡ result.Done) where
+  module _ (w : World) (before : List Placed) (woven : Woven h w before) (k : NodeId) (stamp : ℕ) (x : NodeState) (at : state_of w k ≡ Some x) (made : result_of w (steps.Stop k) ≡ result.Done) where
     abbrev pub stop : Placed
-    stop = record { node = k; turn = Quits }
+    stop = record { node = k; turn = Quits stamp }
 
     r : Rests w k (step w (steps.Stop k))
     r = rests w k made
 
     same_items : (j : NodeId) → items_in (of j (before ++ stop ∷ [])) ≡ items_in (of j before)
-    same_items j = elim (cases_node j k) [
-      | inl same ↦ rw same (ap items_in (of_here before stop) ∙ items_in-quits (of k before))
+    same_items j = elim (either_node j k) [
+      | inl same ↦ rw same (ap items_in (of_here before stop) ∙ items_in-quits (of k before) stamp)
       | inr other ↦ ap items_in (of_there j before stop (λ e. other (sym e)))
     ]
 
     now_stopped : (j : NodeId) → (is_stopped w j ≡ true) ⊎ (j ≡ k) → HasQuit (of j (before ++ stop ∷ []))
     now_stopped j (inl was) = rw (of-append j before (stop ∷ [])) (quit_more (of j before) (of j (stop ∷ [])) (woven.stopped_are j was))
-    now_stopped j (inr same) = rw same (subst HasQuit (sym (of_here before stop)) (quit_now (of k before)))
+    now_stopped j (inr same) = rw same (subst HasQuit (sym (of_here before stop)) (quit_now (of k before) stamp))
 
     pub woven_quits : Woven h (step w (steps.Stop k)).world (before ++ stop ∷ [])
     woven_quits = record {
@@ -321,7 +311,7 @@ module _ (h : Header) where
       ways = r.ways ∙ woven.ways;
       stays = λ j t. let z = woven.stays j t in (z.0, r.nodes j ∙ z.1);
       nodes_are = λ j y now. rw (same_items j) (woven.nodes_are j y (sym (r.nodes j) ∙ now));
-      none_are = λ j none. elim (cases_node j k) [
+      none_are = λ j none. elim (either_node j k) [
         | inl same ↦ absurd (none_some (state_of w k) x (subst (λ (i : NodeId). state_of w i ≡ None) same (sym (r.nodes j) ∙ none)) at)
         | inr other ↦ of_there j before stop (λ e. other (sym e)) ∙ woven.none_are j (sym (r.nodes j) ∙ none)
       ];
@@ -352,17 +342,17 @@ light_world w sent is low =
 
 -- ---- one turn
 
-first_same : (items : List Item) (item first : Item) (ended : Bool) (rest : List Turn) → Did item ∷ rest ≡ map Did items ++ ending ended → first_of items ≡ Some first → first ≡ item
-first_same [] item first true rest e is = absurd cc
-first_same [] item first false rest e is = absurd cc
-first_same (i ∷ items) item first ended rest e is = let a : i ≡ first = cc in let b : item ≡ i = cc in sym a ∙ sym b
+first_same : (items : List Item) (item first : Item) (last : ℕ) (ended : Bool) (rest : List Turn) → Did item ∷ rest ≡ map Did items ++ ending last ended → first_of items ≡ Some first → first ≡ item
+first_same [] item first last true rest e is = absurd cc
+first_same [] item first last false rest e is = absurd cc
+first_same (i ∷ items) item first last ended rest e is = let a : i ≡ first = cc in let b : item ≡ i = cc in sym a ∙ sym b
 
 module _ (h : Header) (w : World) (before : List Placed) (woven : Woven h w before) (s : Step) (k : NodeId) where
-  runs_on : (t : Turn) (rest : List Turn) (items : List Item) (ended : Bool) → of k before ++ t ∷ rest ≡ map Did items ++ ending ended → is_stopped w k ≡ false
-  runs_on t rest items ended turns = go (is_stopped w k) refl
+  runs_on : (t : Turn) (rest : List Turn) (items : List Item) (last : ℕ) (ended : Bool) → of k before ++ t ∷ rest ≡ map Did items ++ ending last ended → is_stopped w k ≡ false
+  runs_on t rest items last ended turns = go (is_stopped w k) refl
     where
       go : (b : Bool) → is_stopped w k ≡ b → b ≡ false
-      go true e = absurd (none_after (of k before) t rest items ended turns (woven.stopped_are k e))
+      go true e = absurd (none_after (of k before) t rest items last ended turns (woven.stopped_are k e))
       go false e = refl
 
   was_there : state_of w k ≡ None → state_of (opening h) k ≢ None → ⊥
@@ -371,63 +361,63 @@ module _ (h : Header) (w : World) (before : List Placed) (woven : Woven h w befo
     | inr some ↦ let z = woven.stays k some in none_some (state_of w k) z.0 none z.1
   ]
 
-  item_there : (item : Item) (rest : List Turn) (items : List Item) (ended : Bool) → deed_of w s ≡ Gives k (given item.input) → of k before ++ Did item ∷ rest ≡ map Did items ++ ending ended
+  item_there : (item : Item) (rest : List Turn) (items : List Item) (last : ℕ) (ended : Bool) → deed_of w s ≡ Gives k (given item.input) → of k before ++ Did item ∷ rest ≡ map Did items ++ ending last ended
       → (state_of (opening h) k ≢ None) ⊎ TakesFirst items → There w k
-  item_there item rest items ended deed turns begins = elim (cases_option (state_of w k)) [
+  item_there item rest items last ended deed turns begins = elim (cases_option (state_of w k)) [
     | inr there ↦ there
     | inl none ↦ elim begins [
       | inl opening ↦ absurd (was_there none opening)
       | inr takes ↦
-          let turns_are : Did item ∷ rest ≡ map Did items ++ ending ended = subst (λ (ts : List Turn). ts ++ Did item ∷ rest ≡ map Did items ++ ending ended) (woven.none_are k none) turns in
-          let same : takes.item ≡ item = first_same items item takes.item ended rest turns_are takes.first in
+          let turns_are : Did item ∷ rest ≡ map Did items ++ ending last ended = subst (λ (ts : List Turn). ts ++ Did item ∷ rest ≡ map Did items ++ ending last ended) (woven.none_are k none) turns in
+          let same : takes.item ≡ item = first_same items item takes.item last ended rest turns_are takes.first in
           message_there w woven.both k item.input s (subst (λ (i : Item). IsMessage i.input) same takes.message) deed
     ]
   ]
 
-  pub one_item : (item : Item) (rest : List Turn) (items : List Item) (ended : Bool) → deed_of w s ≡ Gives k (given item.input) → of k before ++ Did item ∷ rest ≡ map Did items ++ ending ended
+  pub one_item : (item : Item) (rest : List Turn) (items : List Item) (last : ℕ) (ended : Bool) → deed_of w s ≡ Gives k (given item.input) → of k before ++ Did item ∷ rest ≡ map Did items ++ ending last ended
       → (state_of (opening h) k ≢ None) ⊎ TakesFirst items → IsJournal (machine_of k) (opening_of h k) items → ltb weight_limit (weight w) ≡ false
       → IsMade w s (record { node = k; turn = Did item }) × Woven h (step w s).world (before ++ record { node = k; turn = Did item } ∷ [])
-  one_item item rest items ended deed turns begins journal light =
-      let there : There w k = item_there item rest items ended deed turns begins in
+  one_item item rest items last ended deed turns begins journal light =
+      let there : There w k = item_there item rest items last ended deed turns begins in
       let x : NodeState = there.0 in
-      let place = item_next (of k before) item rest items ended turns in
+      let place = item_next (of k before) item rest items last ended turns in
       let was : x ≡ after (machine_of k) (opening_of h k) (items_in (of k before)) = woven.nodes_are k x there.1 in
       let done : item.done ≡ done_of (machine_of k x (given item.input)) =
       done_at (machine_of k) (opening_of h k) 0 items (length (items_in (of k before))) item journal.items_are place.0
       ∙ (ap (λ is. done_of (machine_of k (after (machine_of k) (opening_of h k) is) (given item.input))) place.1 ∙ ap (λ z. done_of (machine_of k z (given item.input))) (sym was)) in
       let taken : (machine_of k x (given item.input)).refused ≡ 0 =
-      ap (λ (d : Done). d.refused) (sym done) ∙ none_refused_at items (length (items_in (of k before))) item journal.none_refused place.0 in
+      ap (λ (d : Done). d.refused) (sym done) ∙ Each-at (λ (i : Item). i.done.refused ≡ 0) items journal.none_refused (length (items_in (of k before))) item place.0 in
       let free : (moves w k (given item.input)).refused ≡ 0 = (move_says w k (given item.input) x there.1).refused ∙ taken in
-      let made : result_of w s ≡ result.Done = gives_done w s k (given item.input) deed (has w k x there.1) (expired_there w woven.both s k (given item.input) deed free) (runs_on (Did item) rest items ended turns) light free in
+      let made : result_of w s ≡ result.Done = gives_done w s k (given item.input) deed (has w k x there.1) (expired_there w woven.both s k (given item.input) deed free) (runs_on (Did item) rest items last ended turns) light free in
       (did h w before woven s k item x deed made there.1 done, woven_did h w before woven s k item x deed made there.1 done)
 
-  stop_there : (rest : List Turn) (items : List Item) (ended : Bool) → of k before ++ Quits ∷ rest ≡ map Did items ++ ending ended → (state_of (opening h) k ≢ None) ⊎ TakesFirst items → There w k
-  stop_there rest items ended turns begins = elim (cases_option (state_of w k)) [
+  stop_there : (stamp : ℕ) (rest : List Turn) (items : List Item) (last : ℕ) (ended : Bool) → of k before ++ Quits stamp ∷ rest ≡ map Did items ++ ending last ended → (state_of (opening h) k ≢ None) ⊎ TakesFirst items → There w k
+  stop_there stamp rest items last ended turns begins = elim (cases_option (state_of w k)) [
     | inr there ↦ there
     | inl none ↦ elim begins [
       | inl opening ↦ absurd (was_there none opening)
-      | inr takes ↦ absurd (no_stop_first items takes.item ended rest (subst (λ (ts : List Turn). ts ++ Quits ∷ rest ≡ map Did items ++ ending ended) (woven.none_are k none) turns) takes.first)
+      | inr takes ↦ absurd (no_stop_first items takes.item ended rest (subst (λ (ts : List Turn). ts ++ Quits stamp ∷ rest ≡ map Did items ++ ending last ended) (woven.none_are k none) turns) takes.first)
     ]
   ]
     where
-      no_stop_first : (is : List Item) (first : Item) (b : Bool) (ts : List Turn) → Quits ∷ ts ≡ map Did is ++ ending b → first_of is ≡ Some first → ⊥
+      no_stop_first : (is : List Item) (first : Item) (b : Bool) (ts : List Turn) → Quits stamp ∷ ts ≡ map Did is ++ ending last b → first_of is ≡ Some first → ⊥
       no_stop_first [] first b ts e f = absurd cc
       no_stop_first (i ∷ is) first b ts e f = absurd cc
 
-  pub one_stop : (rest : List Turn) (items : List Item) (ended : Bool) → deed_of w s ≡ Stops k → of k before ++ Quits ∷ rest ≡ map Did items ++ ending ended
+  pub one_stop : (stamp : ℕ) (rest : List Turn) (items : List Item) (last : ℕ) (ended : Bool) → deed_of w s ≡ Stops k → of k before ++ Quits stamp ∷ rest ≡ map Did items ++ ending last ended
       → (state_of (opening h) k ≢ None) ⊎ TakesFirst items → same_node k manager_node ≡ false
-      → IsMade w s (record { node = k; turn = Quits }) × Woven h (step w s).world (before ++ record { node = k; turn = Quits } ∷ [])
-  one_stop rest items ended deed turns begins other =
-      let there : There w k = stop_there rest items ended turns begins in
-      let made : result_of w (steps.Stop k) ≡ result.Done = stop_done w (steps.Stop k) k (has w k there.0 there.1) (runs_on Quits rest items ended turns) other in
-      subst (λ (t : Step). IsMade w t (record { node = k; turn = Quits }) × Woven h (step w t).world (before ++ record { node = k; turn = Quits } ∷ [])) (sym (stop_is w s k s deed))
-      (quits h w before woven k there.0 there.1 made, woven_quits h w before woven k there.0 there.1 made)
+      → IsMade w s (record { node = k; turn = Quits stamp }) × Woven h (step w s).world (before ++ record { node = k; turn = Quits stamp } ∷ [])
+  one_stop stamp rest items last ended deed turns begins other =
+      let there : There w k = stop_there stamp rest items last ended turns begins in
+      let made : result_of w (steps.Stop k) ≡ result.Done = stop_done w (steps.Stop k) k (has w k there.0 there.1) (runs_on (Quits stamp) rest items last ended turns) other in
+      subst (λ (t : Step). IsMade w t (record { node = k; turn = Quits stamp }) × Woven h (step w t).world (before ++ record { node = k; turn = Quits stamp } ∷ [])) (sym (stop_is w s k s deed))
+      (quits h w before woven k stamp there.0 there.1 made, woven_quits h w before woven k stamp there.0 there.1 made)
 
 -- a journal with a stop isn't the manager's
-not_manager : (k : NodeId) (before rest : List Turn) (items : List Item) (ended : Bool) → before ++ Quits ∷ rest ≡ map Did items ++ ending ended → (k ≡ manager_node → ended ≡ false) → same_node k manager_node ≡ false
-not_manager k before rest items ended turns stops = go (same_node k manager_node) refl
+not_manager : (k : NodeId) (stamp : ℕ) (before rest : List Turn) (items : List Item) (last : ℕ) (ended : Bool) → before ++ Quits stamp ∷ rest ≡ map Did items ++ ending last ended → (k ≡ manager_node → ended ≡ false) → same_node k manager_node ≡ false
+not_manager k stamp before rest items last ended turns stops = go (same_node k manager_node) refl
   where
-    no_stop : (ts : List Turn) (is : List Item) → ts ++ Quits ∷ rest ≡ map Did is ++ [] → ⊥
+    no_stop : (ts : List Turn) (is : List Item) → ts ++ Quits stamp ∷ rest ≡ map Did is ++ [] → ⊥
     no_stop [] [] e = absurd cc
     no_stop [] (i ∷ is) e = absurd cc
     no_stop (t ∷ ts) [] e = absurd cc
@@ -436,7 +426,7 @@ not_manager k before rest items ended turns stops = go (same_node k manager_node
     go : (b : Bool) → same_node k manager_node ≡ b → b ≡ false
     go true e =
         let none : ended ≡ false = stops (same_node-true k manager_node e) in
-        absurd (no_stop before items (subst (λ (b : Bool). before ++ Quits ∷ rest ≡ map Did items ++ ending b) none turns))
+        absurd (no_stop before items (subst (λ (b : Bool). before ++ Quits stamp ∷ rest ≡ map Did items ++ ending last b) none turns))
     go false e = refl
 
 -- ---- all turns
@@ -446,13 +436,13 @@ module _ (journals : List Journal) (h : Header) (are : (i : ℕ) (j : Journal) �
       → deed_of w s ≡ deed_for (record { node = k; turn = turn }) → of k before ++ turn ∷ rest ≡ turns_of j → ltb weight_limit (weight w) ≡ false
       → IsMade w s (record { node = k; turn = turn }) × Woven h (step w s).world (before ++ record { node = k; turn = turn } ∷ [])
   one w before s k (Did item) rest j woven is name deed turns light =
-      one_item h w before woven s k item rest j.items j.ended deed turns
+      one_item h w before woven s k item rest j.items (last_stamp 0 j.items) j.ended deed turns
       (subst (λ (n : NodeId). (state_of (opening h) n ≢ None) ⊎ TakesFirst j.items) name is.begins)
       (subst (λ (n : NodeId). IsJournal (machine_of n) (opening_of h n) j.items) name is.replay) light
-  one w before s k Quits rest j woven is name deed turns light =
-      one_stop h w before woven s k rest j.items j.ended deed turns
+  one w before s k (Quits stamp) rest j woven is name deed turns light =
+      one_stop h w before woven s k stamp rest j.items (last_stamp 0 j.items) j.ended deed turns
       (subst (λ (n : NodeId). (state_of (opening h) n ≢ None) ⊎ TakesFirst j.items) name is.begins)
-      (not_manager k (of k before) rest j.items j.ended turns (λ e. is.stops (name ∙ e)))
+      (not_manager k stamp (of k before) rest j.items (last_stamp 0 j.items) j.ended turns (λ e. is.stops (name ∙ e)))
 
   weave : (ss : List Step) (before ps : List Placed) (w : World) → Woven h w before → LegalFrom before ss ps → Each (λ (p : Placed). IsKnown journals p.node) ps
       → ((i : ℕ) (j : Journal) → At journals i j → of j.id (before ++ ps) ≡ turns_of j) → sum (map weight_of (said (before ++ ps))) ≤ weight_limit → Runs w ss ps
@@ -463,7 +453,7 @@ module _ (journals : List Journal) (h : Header) (are : (i : ℕ) (j : Journal) �
       let j : Journal = known.0.journal in
       let all : of p.node (before ++ p ∷ ps) ≡ turns_of j = subst (λ (n : NodeId). of n (before ++ p ∷ ps) ≡ turns_of j) known.0.its_name (whole known.0.place j known.0.stands) in
       let turns : of p.node before ++ p.turn ∷ of p.node ps ≡ turns_of j = sym (of-append p.node before (p ∷ ps) ∙ ap (λ ts. of p.node before ++ ts) (of_first p ps)) ∙ all in
-      let deed : deed_of w s ≡ deed_for p = deed_is w s ∙ (ap (λ ms. deed_by ms s) woven.messages_are ∙ legal.0) in
+      let deed : deed_of w s ≡ deed_for p = ap (λ ms. deed_by ms s) woven.messages_are ∙ legal.0 in
       let front = sum_front (said before) (said (p ∷ ps)) in
       let low : sum (map weight_of (said before)) ≤ weight_limit = omega (arith, front, subst (λ (ms : List Message). sum (map weight_of ms) ≤ weight_limit) (said-append before (p ∷ ps)) light) in
       let first = one w before s p.node p.turn (of p.node ps) j woven (are known.0.place j known.0.stands) known.0.its_name deed turns (light_world w (said before) woven.messages_are low) in

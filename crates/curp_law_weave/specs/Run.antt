@@ -1,5 +1,5 @@
 -- What it is that steps are a run of journals: one step for each thing that a journal holds (this project's own).
-use Rattle.std.specs.Prelude.{◌≡◌, ◌≢◌, ◌≤◌, ◌⊎◌, ℕ, false, List, [], ◌∷◌, ◌++◌, map, Option, Some, None, option_to_list, ⊤}
+use Rattle.std.specs.Prelude.{◌≡◌, ◌≢◌, ◌≤◌, ◌⊎◌, ℕ, false, List, [], ◌∷◌, ◌++◌, map, Some, None, option_to_list, ⊤}
 use Rattle.std.specs.List.{sum}
 use Rattle.curp_base.specs.Words.{At, first_of}
 use Rattle.curp_cmd.specs.Node.{manager_node}
@@ -10,8 +10,9 @@ use Rattle.curp_msg.specs.declared.outcome.StepResult.TheVariants.{Done}
 use Rattle.curp_msg.specs.declared.script.Header.{Header}
 use Rattle.curp_msg.specs.declared.script.Step.{Step}
 use Rattle.curp_msg.specs.declared.script.Step.TheVariants as steps
-use Rattle.curp_model.specs.World.{World, deed_of, messages, opening, step, weight_limit}
-use Rattle.curp_facts.specs.Run.{IsHeader}
+use Rattle.curp_model.specs.World.{World, deed_of, messages, opening, step}
+use Rattle.curp_msg.specs.Limits.{weight_limit}
+use Rattle.curp_msg.specs.Script.{IsHeader}
 use Rattle.curp_journal.specs.Journal.{IsJournal}
 use Rattle.curp_journal.specs.declared.arrived.Arrived.{Arrived}
 use Rattle.curp_journal.specs.declared.arrived.Arrived.TheVariants as arrived

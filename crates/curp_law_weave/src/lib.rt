@@ -10,8 +10,8 @@
 //!   a journal completes in the run.
 #![tactic(auto)]
 
-ghost use Rattle.std.specs.Prelude.{◌≡◌, ℕ, ◌*◌, ◌<◌, ◌≤◌, false, List};
-ghost use Rattle.curp_base.specs.Words.{At, Each};
+ghost use Rattle.std.specs.Prelude.{◌≡◌, ℕ, ◌<◌, false, List, Some, length};
+ghost use Rattle.curp_base.specs.Words.{At, Each, numbered};
 ghost use Rattle.curp_cmd.specs.Node.{backup_node, client_node, manager_node, master_node, witness_node};
 ghost use Rattle.curp_cmd.specs.declared.command.RequestId.{RequestId};
 ghost use Rattle.curp_journal.specs.Journal.{IsJournal};
@@ -19,12 +19,12 @@ ghost use Rattle.curp_journal.specs.declared.item.Item.{Item};
 ghost use Rattle.curp_law_weave.specs.NodeStates.{ABackup, AClient, AManager, AMaster, AWitness, machine_of};
 ghost use Rattle.curp_law_weave.specs.Openings.{ComesAs, OpensAs, numbered_machine};
 ghost use Rattle.curp_law_weave.specs.Run.{IsCompletedBy, IsNoStop, Legal, RunOf};
-ghost use Rattle.curp_model.specs.Backup.{BackupState, backup_input, fresh_backup, installed_backup};
+ghost use Rattle.curp_model.specs.Backup.{BackupState, backup_input, fresh_backup};
 ghost use Rattle.curp_model.specs.Client.{ClientState, client_input};
-ghost use Rattle.curp_model.specs.Manager.{ManagerState, manager_input, opening_manager};
+ghost use Rattle.curp_model.specs.Manager.{ManagerState, manager_input};
 ghost use Rattle.curp_model.specs.Recovery.{Fresh, MasterStage, master_input};
-ghost use Rattle.curp_model.specs.Witness.{WitnessState, fresh_witness, started_witness, witness_input};
-ghost use Rattle.curp_model.specs.World.{opening_master, shape_of, opening_client};
+ghost use Rattle.curp_model.specs.Witness.{WitnessState, fresh_witness, witness_input};
+ghost use Rattle.curp_model.specs.World.{opening};
 ghost use Rattle.curp_msg.specs.Moved.{Node};
 ghost use Rattle.curp_msg.specs.declared.script.Header.{Header};
 ghost use Rattle.curp_msg.specs.declared.script.Step.{Step};
@@ -37,21 +37,22 @@ pub fn legal_steps_are_a_run()
         → Legal journals h ss placed → RunOf journals h ss placed }
 {}
 
-/// Which nodes are there before any step, and how each begins.
+/// How a node begins: as the world of the header has it before any step, or fresh where it isn't there.
 pub fn nodes_begin_by_the_header()
-    ensures clients { (h : Header) (n : ℕ) → 1 ≤ n → n ≤ h.clients
-        → OpensAs h (client_node n) (AClient (opening_client h)) }
-    ensures manager { (h : Header) → OpensAs h manager_node (AManager (opening_manager (shape_of h))) }
-    ensures masters { (h : Header) (n : ℕ) → 1 ≤ n → n ≤ h.parts
-        → OpensAs h (master_node n) (AMaster (opening_master (shape_of h) n)) }
-    ensures backups { (h : Header) (n : ℕ) → 1 ≤ n → n ≤ h.parts * h.f
-        → OpensAs h (backup_node n) (ABackup (installed_backup 1)) }
-    ensures witnesses { (h : Header) (n : ℕ) → 1 ≤ n → n ≤ h.parts * h.f
-        → OpensAs h (witness_node n) (AWitness (started_witness h.sets h.ways 1)) }
-    ensures fresh_masters { (h : Header) (n : ℕ) → h.parts < n → ComesAs h (master_node n) (AMaster Fresh) }
-    ensures fresh_backups { (h : Header) (n : ℕ) → h.parts * h.f < n
+    ensures clients { (h : Header) (n : ℕ) (c : ClientState) → numbered (opening h).clients n ≡ Some c
+        → OpensAs h (client_node n) (AClient c) }
+    ensures manager { (h : Header) → OpensAs h manager_node (AManager (opening h).manager) }
+    ensures masters { (h : Header) (n : ℕ) (m : MasterStage) → numbered (opening h).masters n ≡ Some m
+        → OpensAs h (master_node n) (AMaster m) }
+    ensures backups { (h : Header) (n : ℕ) (b : BackupState) → numbered (opening h).backups n ≡ Some b
+        → OpensAs h (backup_node n) (ABackup b) }
+    ensures witnesses { (h : Header) (n : ℕ) (x : WitnessState) → numbered (opening h).witnesses n ≡ Some x
+        → OpensAs h (witness_node n) (AWitness x) }
+    ensures fresh_masters { (h : Header) (n : ℕ) → length (opening h).masters < n
+        → ComesAs h (master_node n) (AMaster Fresh) }
+    ensures fresh_backups { (h : Header) (n : ℕ) → length (opening h).backups < n
         → ComesAs h (backup_node n) (ABackup fresh_backup) }
-    ensures fresh_witnesses { (h : Header) (n : ℕ) → h.parts * h.f < n
+    ensures fresh_witnesses { (h : Header) (n : ℕ) → length (opening h).witnesses < n
         → ComesAs h (witness_node n) (AWitness (fresh_witness h.sets h.ways)) }
 {}
 

@@ -1,12 +1,13 @@
 -- The marks of requests between those of adoptions, as marks come, are flagged and are dropped.
 use Rattle.std.proofs.Common.{◌≡◌, ℕ, suc, ◌+◌, ◌<◌, ◌≤◌, ◌==◌, ◌&&◌, ◌||◌, nat_le, if◌then◌else◌, not, Bool, true, false, List, [], ◌∷◌, ◌++◌, length, map, Option, Some, None, refl, ap, sym, ◌∙◌, arith}
+use Rattle.std.proofs.Math.Bool.{and-false}
 use Rattle.std.proofs.lemmas.Bool.Decides.{nat_tests}
 use Rattle.std.proofs.lemmas.List.{append-nil, append_assoc, map-append}
 use Rattle.std.proofs.lemmas.List.Elements.{filter-append}
 use Rattle.std.proofs.lemmas.List.Folds.{list_any-append}
 use Rattle.std.specs.List.{filter, list_any, position_or_len}
 use Rattle.curp_base.specs.Words.{Each}
-use Rattle.curp_base.proofs.Lists.{Each-append, Each-from_at, Each-map, Each-weaker}
+use Rattle.curp_base.proofs.Lists.{Each-append, Each-from_at, Each-map, Each-weaker, Each-filter}
 use Rattle.curp_cmd.specs.RequestId.{same_id}
 use Rattle.curp_cmd.specs.declared.command.RequestId.{RequestId}
 use Rattle.curp_model.proofs.Clashes.{any_or}
@@ -21,14 +22,6 @@ use Rattle.curp_line.proofs.Ascending.{how_many_append, how_many_cons, one}
 use Rattle.curp_line.proofs.Kept.{completed_in_slots, marks_dropped, marks_flagged, marks_push}
 
 -- ---- what passes a test
-
-pub each_filter : {A : Type 0} (P : A → Type 0) (p : A → Bool) (xs : List A) → Each P xs → Each P (filter p xs)
-each_filter P p [] h = tt
-each_filter {A} P p (x ∷ xs) h = go (p x) (each_filter P p xs h.1)
-  where
-    go : (b : Bool) → Each P (filter p xs) → Each P (if b then x ∷ filter p xs else filter p xs)
-    go true rest = (h.0, rest)
-    go false rest = rest
 
 pub none_passes : {A : Type 0} (p : A → Bool) (xs : List A) → Each (λ x. p x ≡ false) xs → filter p xs ≡ []
 none_passes p [] h = refl
@@ -95,7 +88,7 @@ each_mark P (s ∷ slots) h = (h.0, each_mark P slots h.1)
 each_behind : (P : Mark → Type 0) (n : ℕ) (slots : List Slot) → Each (λ s. P s.mark) slots → Each P (marks_behind n slots)
 each_behind P n slots h =
     each_mark P (filter (λ (s : Slot). not s.dropped) (filter (λ (s : Slot). s.cuts_before == n) slots))
-    (each_filter (λ (s : Slot). P s.mark) (λ (s : Slot). not s.dropped) (filter (λ (s : Slot). s.cuts_before == n) slots) (each_filter (λ (s : Slot). P s.mark) (λ (s : Slot). s.cuts_before == n) slots h))
+    (Each-filter (λ (s : Slot). P s.mark) (λ (s : Slot). not s.dropped) (filter (λ (s : Slot). s.cuts_before == n) slots) (Each-filter (λ (s : Slot). P s.mark) (λ (s : Slot). s.cuts_before == n) slots h))
 
 no_cuts : (part number n : ℕ) (slots : List Slot) → AreOfRequests slots → Each (λ m. cuts_at part number m ≡ false) (marks_behind n slots)
 no_cuts part number n slots h =
@@ -177,10 +170,6 @@ module _ (f : Slot → Slot) (F : List Mark → List Mark) (same : (s : Slot) �
       ∙ ap (λ ms. F (marks_behind n slots) ++ mark_of c ∷ ms) (all_changed (suc n) cuts slots)
       ∙ sym (splits (marks_behind n slots) (mark_of c ∷ marks_from (suc n) cuts slots) ∙ ap (λ ms. F (marks_behind n slots) ++ ms) (cut c (marks_from (suc n) cuts slots)))
 
-and_none : (a : Bool) → (a && false) ≡ false
-and_none true = refl
-and_none false = refl
-
 flag_stands : (c : Completed) (s : Slot) → (flagged_slot c s).cuts_before ≡ s.cuts_before
 flag_stands c s = go (is_flagged c c.by s.mark)
   where
@@ -196,8 +185,8 @@ flag_same_place c s = go (is_flagged c c.by s.mark)
     go false = refl
 
 cut_not_flagged : (c : Completed) (by : Option Capture) (d : Cut) → is_flagged c by (mark_of d) ≡ false
-cut_not_flagged c None d = and_none _
-cut_not_flagged c (Some by) d = and_none _
+cut_not_flagged c None d = and-false _
+cut_not_flagged c (Some by) d = and-false _
 
 flag_cut : (c : Completed) (d : Cut) (xs : List Mark) → flagged c (mark_of d ∷ xs) ≡ mark_of d ∷ flagged c xs
 flag_cut c d xs = rw (cut_not_flagged c c.by d) refl
@@ -220,7 +209,7 @@ drop_same_place part cut s = go (is_dropped part cut s.mark)
     go false = refl
 
 drop_cut : (part cut : ℕ) (d : Cut) (xs : List Mark) → filter (λ (m : Mark). not (is_dropped part cut m)) (mark_of d ∷ xs) ≡ mark_of d ∷ filter (λ (m : Mark). not (is_dropped part cut m)) xs
-drop_cut part cut d xs = let stays : is_dropped part cut (mark_of d) ≡ false = and_none _ in rw stays refl
+drop_cut part cut d xs = let stays : is_dropped part cut (mark_of d) ≡ false = and-false _ in rw stays refl
 
 pub all_dropped : (part cut : ℕ) (cuts : List Cut) (slots : List Slot) → marks_from 0 cuts (map (dropped_slot part cut) slots) ≡ filter (λ (m : Mark). not (is_dropped part cut m)) (marks_from 0 cuts slots)
 all_dropped part cut =

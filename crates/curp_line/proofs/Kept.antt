@@ -1,5 +1,6 @@
 -- The marks that are kept, as slots come, are flagged and are dropped.
 use Rattle.std.proofs.Common.{◌≡◌, ℕ, ◌&&◌, ◌||◌, Bool, true, false, not, if◌then◌else◌, List, [], ◌∷◌, ◌++◌, length, take, drop, map, Option, Some, None, refl, ap}
+use Rattle.std.proofs.Math.Bool.{and-false}
 use Rattle.std.proofs.lemmas.List.{take_at}
 use Rattle.std.specs.List.{filter, list_any}
 use Rattle.curp_cmd.specs.RequestId.{same_id}
@@ -115,12 +116,8 @@ drops_keep_links part cut = record {
 
 -- ---- what is asked of the marks
 
-none_of_others : (a : Bool) → (a && false) ≡ false
-none_of_others true = refl
-none_of_others false = refl
-
 pub other_completes_none : (id : RequestId) (s : Slot) → is_of_request id s ≡ false → completes id s ≡ false
-other_completes_none id s e = rw e (none_of_others (is_completed s))
+other_completes_none id s e = rw e (and-false (is_completed s))
 
 any_kept : (id : RequestId) (s : Slot) (d : Bool) (ss : List Slot) → s.dropped ≡ d → has_completed (kept_marks ss) id ≡ list_any (completes id) ss
     → has_completed (kept_marks (s ∷ ss)) id ≡ list_any (completes id) (s ∷ ss)

@@ -4,7 +4,7 @@ use Rattle.std.specs.Bool.{⊤}
 use Rattle.std.proofs.lemmas.List.{take_all}
 use Rattle.std.specs.List.{list_any}
 use Rattle.curp_base.specs.Words.{At}
-use Rattle.curp_base.proofs.Lists.{at_take, at_within}
+use Rattle.curp_base.proofs.Lists.{at_take, at_within, at_any}
 use Rattle.curp_line.specs.Slots.{last_place, place_after}
 
 -- how far it is to behind a place, which is nowhere where there is none
@@ -110,15 +110,6 @@ any_not_at q [] k x h e = absurd cc
 any_not_at q (y ∷ xs) zero x h e = let same : x ≡ y = cc in rw (rw same at e) refl
 any_not_at q (y ∷ xs) (suc k) x h e = ap (λ b. q y || b) (any_not_at q xs k x h e)
 
-any_or : (a : Bool) → (a || true) ≡ true
-any_or true = refl
-any_or false = refl
-
-pub any_at : {A : Type 0} (q : A → Bool) (xs : List A) (k : ℕ) (x : A) → At xs k x → q x ≡ true → list_any q xs ≡ true
-any_at q [] k x h e = absurd cc
-any_at q (y ∷ xs) zero x h e = let same : x ≡ y = cc in rw (rw same at e) refl
-any_at q (y ∷ xs) (suc k) x h e = rw (any_at q xs k x h e) (any_or (q y))
-
 -- ---- what stands in a mapped list
 
 pub at_map_back : {A : Type 0} (f : A → A) (xs : List A) (k : ℕ) (y : A) → At (map f xs) k y → (x : A) × At xs k x × (f x ≡ y)
@@ -205,4 +196,4 @@ module _ {A : Type 0} (p : A → Bool) (earlier : A → Option ℕ) where
   walk_finds q xs next at d e place here =
       let x = place_is p xs next at e place in
       let read : get_or xs at d ≡ x.0 = at_read xs at x.0 d x.1 in
-      any_at q xs at x.0 x.1 (rw read at here)
+      at_any q xs at x.0 x.1 (rw read at here)

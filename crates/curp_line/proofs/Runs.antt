@@ -8,16 +8,17 @@ use Rattle.std.specs.List.{filter}
 use Rattle.std.specs.List.Sorted.{IsNonDecreasingBy, IsPermutation, IsStableByKey, ties}
 use Rattle.std.specs.Ordering.{is_lt, nat_cmp}
 use Rattle.curp_base.specs.Words.{Each}
-use Rattle.curp_base.proofs.Lists.{Each-map, Each-weaker}
-use Rattle.curp_model.specs.Marks.{Mark, is_shown, shown}
+use Rattle.curp_base.proofs.Lists.{Each-map, Each-weaker, Each-filter}
+use Rattle.curp_model.specs.Marks.{shown}
 use Rattle.curp_line.specs.Cuts.{mark_of}
 use Rattle.curp_line.specs.Slots.{StandsWithin, asked, in_runs, is_shown_slot, marks_behind, marks_from, shown_of}
 use Rattle.curp_line.specs.declared.cuts.Cut.{Cut}
 use Rattle.curp_line.specs.declared.slot.ShownMark.{ShownMark}
 use Rattle.curp_line.specs.declared.slot.Slot.{Slot}
 use Rattle.curp_line.proofs.Ascending.{each_read}
-use Rattle.curp_line.proofs.Between.{each_filter, none_passes}
+use Rattle.curp_line.proofs.Between.{none_passes}
 use Rattle.curp_line.proofs.Kept.{shown_in_slots}
+use Rattle.curp_model.proofs.Marks.{shown_append}
 
 each_from : {A : Type 0} (P : A → Type 0) (xs : List A) → ((k : ℕ) (d : A) → k < length xs → P (get_or xs k d)) → Each P xs
 each_from P [] h = tt
@@ -109,9 +110,6 @@ bounded_after key most xs ys moved h =
 
 -- ---- the order of the marks
 
-shown_append : (xs ys : List Mark) → shown (xs ++ ys) ≡ shown xs ++ shown ys
-shown_append xs ys = ap (map (λ (m : Mark). (m.id, m.command))) (filter-append is_shown xs ys) ∙ map-append (λ (m : Mark). (m.id, m.command)) (filter is_shown xs) (filter is_shown ys)
-
 asked_append : (xs ys : List Slot) → map asked (map shown_of (filter is_shown_slot (xs ++ ys))) ≡ map asked (map shown_of (filter is_shown_slot xs)) ++ map asked (map shown_of (filter is_shown_slot ys))
 asked_append xs ys =
     ap (λ (ss : List Slot). map asked (map shown_of ss)) (filter-append is_shown_slot xs ys)
@@ -133,4 +131,4 @@ shown_in_runs cuts slots = shown_from 0 cuts slots ∙ sym (ap (map asked) (runs
 pub shown_within : (cuts : ℕ) (slots : List Slot) → Each (StandsWithin cuts) slots → Each (λ s. s.cuts_before ≤ cuts) (map shown_of (filter is_shown_slot slots))
 shown_within cuts slots h =
     Each-map (λ (s : ShownMark). s.cuts_before ≤ cuts) shown_of (filter is_shown_slot slots)
-    (each_filter (λ (s : Slot). s.cuts_before ≤ cuts) is_shown_slot slots (Each-weaker (StandsWithin cuts) (λ (s : Slot). s.cuts_before ≤ cuts) (λ s w. w.within) slots h))
+    (Each-filter (λ (s : Slot). s.cuts_before ≤ cuts) is_shown_slot slots (Each-weaker (StandsWithin cuts) (λ (s : Slot). s.cuts_before ≤ cuts) (λ s w. w.within) slots h))

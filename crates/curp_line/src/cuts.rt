@@ -43,7 +43,8 @@ impl Model for Cuts {
 
     ghost view = { λ c. record {
       cuts = c.list.items;
-      spare = min (vec_capacity c.list - vec_len c.list) (min (spare c.places) (vec_capacity c.epochs - vec_len c.epochs));
+      spare = min (vec_capacity c.list - vec_len c.list)
+          (min (spare c.places) (vec_capacity c.epochs - vec_len c.epochs));
     } };
 
     ghost invariant = { λ c. AreFound
@@ -110,7 +111,8 @@ impl Cuts {
     /// The place of the partition's first adoption behind as many as it has up to that epoch, or behind all where there
     /// is none.
     pub fn place_behind(&self, part: u32, epoch: u32) -> usize
-        ensures { result ≡ position_or_len (is_cut_at part (how_many (is_cut_to part epoch) self.now.cuts)) self.now.cuts }
+        ensures { result
+            ≡ position_or_len (is_cut_at part (how_many (is_cut_to part epoch) self.now.cuts)) self.now.cuts }
     {
         let earlier = count_to(&self.epochs, part, epoch);
         let place = self.places.get(&(part, earlier)).copied();

@@ -172,7 +172,8 @@ impl Line {
 
     fn cut(&mut self, master: NodeId, part: u32, epoch: u32, length: u64)
         requires { 1 ≤ self.old.spare }
-        ensures marks { self.new.marks ≡ self.old.marks ++ cut_mark master part epoch (adoptions part self.old.marks + 1) length ∷ [] }
+        ensures marks { self.new.marks
+            ≡ self.old.marks ++ cut_mark master part epoch (adoptions part self.old.marks + 1) length ∷ [] }
         ensures spare { self.old.spare ≤ self.new.spare + 1 }
     {
         self.cuts.add(master, part, epoch, length);

@@ -1,9 +1,8 @@
 -- What journals of one kind are that were begun anew with the nodes of an opening.
-use Rattle.std.proofs.Common.{◌≡◌, ℕ, ◌+◌, ◌<◌, ◌≤◌, false, List, map, replicate, ap, sym, ◌∙◌, subst, arith}
-use Rattle.std.proofs.lemmas.List.{length-map}
-use Rattle.curp_base.specs.Words.{At, Each, numbers_from}
-use Rattle.curp_base.proofs.Lists.{Each-from_at, at_map, at_replicate, at_same, at_some, at_within}
-use Rattle.curp_base.proofs.Numbered.{numbers_back}
+use Rattle.std.proofs.Common.{◌≡◌, ℕ, ◌+◌, false, List, Some, ap, sym, ◌∙◌, subst, arith}
+use Rattle.curp_base.specs.Words.{At, Each, numbered}
+use Rattle.curp_base.proofs.Lists.{Each-from_at, at_map, at_some, at_within}
+use Rattle.curp_base.proofs.Numbered.{at_place}
 use Rattle.curp_cmd.specs.declared.node.NodeId.{NodeId}
 use Rattle.curp_cmd.specs.declared.node.NodeKind.{NodeKind}
 use Rattle.curp_msg.specs.Moved.{Node}
@@ -24,15 +23,6 @@ whole {N} id node log is = (subst (λ (name : NodeId). AllOwn name log.items) (s
 -- the node of a kind, by its number
 abbrev named : NodeKind → ℕ → NodeId
 named kind n = record { kind = kind; number = n }
-
--- one of so many numbers, as it is mapped
-mapped_at : {A : Type 0} (f : ℕ → A) (count k : ℕ) (x : A) → At (map f (numbers_from 1 count)) k x → (k < count) × (x ≡ f (k + 1))
-mapped_at {A} f count k x at =
-    let numbers = numbers_from 1 count in
-    let n = at_some numbers k (omega (arith, at_within (map f numbers) k x at, length-map numbers f)) in
-    let back = numbers_back 1 count k n.0 n.1 in
-    let same : n.0 ≡ k + 1 = omega (arith, back.0) in
-    (back.1, at_same (map f numbers) k x (f n.0) at (at_map f numbers k n.0 n.1) ∙ ap f same)
 
 module _ {S : Type 0} (kind : NodeKind) (nodes : List (Node S)) (logs : List (Log (Node S))) (are : AreAnew kind nodes logs) where
   -- a journal's node is the one of its place
@@ -57,20 +47,9 @@ module _ {S : Type 0} (kind : NodeKind) (nodes : List (Node S)) (logs : List (Lo
   pub rise : HasNumbers nodes → NodesAscend logs
   rise numbers i k a b at_a at_b less = omega (arith, number_at numbers i a at_a, number_at numbers k b at_b, less)
 
-  -- the state that it began in, where all begin in one
-  pub same_state : HasNumbers nodes → (n : ℕ) (x : S) → states nodes ≡ replicate n x → (k : ℕ) (log : Log (Node S)) → At logs k log
-      → (1 ≤ log.opening.number) × (log.opening.number ≤ n) × (log.opening.state ≡ x)
-  same_state numbers n x all k log at =
+  -- the state that it began in is that of its number
+  pub state_at : HasNumbers nodes → (all : List S) → states nodes ≡ all → (k : ℕ) (log : Log (Node S)) → At logs k log
+      → numbered all log.opening.number ≡ Some log.opening.state
+  state_at numbers all are_all k log at =
       let here = at_map (λ (node : Node S). node.state) nodes k log.opening (opened_at k log at).0 in
-      let one = at_replicate n x k log.opening.state (subst (λ (xs : List S). At xs k log.opening.state) all here) in
-      let number = number_at numbers k log at in
-      (omega (arith, number), omega (arith, number, one.0), sym one.1)
-
-  -- the state that it began in, where each has its own
-  pub own_state : HasNumbers nodes → (n : ℕ) (f : ℕ → S) → states nodes ≡ map f (numbers_from 1 n) → (k : ℕ) (log : Log (Node S)) → At logs k log
-      → (1 ≤ log.opening.number) × (log.opening.number ≤ n) × (log.opening.state ≡ f log.opening.number)
-  own_state numbers n f all k log at =
-      let here = at_map (λ (node : Node S). node.state) nodes k log.opening (opened_at k log at).0 in
-      let one = mapped_at f n k log.opening.state (subst (λ (xs : List S). At xs k log.opening.state) all here) in
-      let number = number_at numbers k log at in
-      (omega (arith, number), omega (arith, number, one.0), one.1 ∙ ap f (sym number))
+      at_place all k log.opening.number log.opening.state (number_at numbers k log at) (subst (λ (xs : List S). At xs k log.opening.state) are_all here)

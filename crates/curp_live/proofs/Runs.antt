@@ -1,15 +1,13 @@
 -- What was begun anew and did the work is a live run.
-use Rattle.std.proofs.Common.{◌≡◌, inl, ℕ, ◌*◌, false, List, map, refl, ◌∙◌, arith}
+use Rattle.std.proofs.Common.{◌≡◌, inl, ℕ, false, List, map, ◌∙◌, arith}
 use Rattle.curp_base.specs.Words.{At, Each}
 use Rattle.curp_base.proofs.Lists.{Each-append, Each-at, Each-from_at, Each-map}
 use Rattle.curp_cmd.specs.Node.{manager_node}
 use Rattle.curp_cmd.specs.declared.command.Command.{Command}
 use Rattle.curp_cmd.specs.declared.node.NodeKind.TheVariants as kind
 use Rattle.curp_msg.specs.declared.script.Header.{Header}
-use Rattle.curp_facts.specs.Run.{IsHeader}
-use Rattle.curp_model.specs.Backup.{installed_backup}
-use Rattle.curp_model.specs.Witness.{started_witness}
-use Rattle.curp_model.specs.World.{opening_master, shape_of, opening_client}
+use Rattle.curp_msg.specs.Script.{IsHeader}
+use Rattle.curp_model.specs.World.{opening}
 use Rattle.curp_turns.specs.Turns.{Journal}
 use Rattle.curp_turns.specs.Work.{recoveries_in}
 use Rattle.curp_gather.specs.Journals.{AreOf, IsBackupJournal, IsClientJournal, IsManagerJournal, IsMasterJournal, IsWitnessJournal, journal_of, journals_of}
@@ -18,7 +16,7 @@ use Rattle.curp_words.specs.Plan.{IsLivePlan}
 use Rattle.curp_words.specs.declared.order.LivePlan.{LivePlan}
 use Rattle.curp_live.specs.Live.{DidAll, DidInOrder, IsLiveRun, live_header}
 use Rattle.curp_live.specs.Opening.{AreAllAnew}
-use Rattle.curp_live.proofs.Begun.{IsWhole, all_whole, name_at, number_at, own_state, rise, same_state, whole}
+use Rattle.curp_live.proofs.Begun.{IsWhole, all_whole, name_at, number_at, rise, state_at, whole}
 
 -- a plan's header is one
 pub is_header : (plan : LivePlan) → IsLivePlan plan → IsHeader (live_header plan)
@@ -58,11 +56,9 @@ module _ (h : Header) (j : Journals) (are : AreAllAnew h j) where
   clients = Each-from_at (IsClientJournal h) j.clients.items (λ k log at.
       let nodes = are.nodes.clients.items in
       let numbers = are.opening.client_numbers in
-      let state = same_state kind.Client nodes j.clients.items are.clients numbers h.clients (opening_client h) are.opening.clients k log at in
       record {
         its_name = name_at kind.Client nodes j.clients.items are.clients numbers k log at;
-        there = (state.0, state.1);
-        begins = state.2;
+        begins = state_at kind.Client nodes j.clients.items are.clients numbers (opening h).clients are.opening.clients k log at;
       })
 
   masters : Each (IsMasterJournal h) j.masters.items
@@ -71,7 +67,7 @@ module _ (h : Header) (j : Journals) (are : AreAllAnew h j) where
       let numbers = are.opening.master_numbers in
       record {
         its_name = name_at kind.Master nodes j.masters.items are.masters numbers k log at;
-        begins = inl (own_state kind.Master nodes j.masters.items are.masters numbers h.parts (opening_master (shape_of h)) are.opening.masters k log at);
+        begins = inl (state_at kind.Master nodes j.masters.items are.masters numbers (opening h).masters are.opening.masters k log at);
       })
 
   backups : Each (IsBackupJournal h) j.backups.items
@@ -80,7 +76,7 @@ module _ (h : Header) (j : Journals) (are : AreAllAnew h j) where
       let numbers = are.opening.backup_numbers in
       record {
         its_name = name_at kind.Backup nodes j.backups.items are.backups numbers k log at;
-        begins = inl (same_state kind.Backup nodes j.backups.items are.backups numbers (h.parts * h.f) (installed_backup 1) are.opening.backups k log at);
+        begins = inl (state_at kind.Backup nodes j.backups.items are.backups numbers (opening h).backups are.opening.backups k log at);
       })
 
   witnesses : Each (IsWitnessJournal h) j.witnesses.items
@@ -89,7 +85,7 @@ module _ (h : Header) (j : Journals) (are : AreAllAnew h j) where
       let numbers = are.opening.witness_numbers in
       record {
         its_name = name_at kind.Witness nodes j.witnesses.items are.witnesses numbers k log at;
-        begins = inl (same_state kind.Witness nodes j.witnesses.items are.witnesses numbers (h.parts * h.f) (started_witness h.sets h.ways 1) are.opening.witnesses k log at);
+        begins = inl (state_at kind.Witness nodes j.witnesses.items are.witnesses numbers (opening h).witnesses are.opening.witnesses k log at);
       })
 
   pub are_of : IsHeader h → AreOf h j

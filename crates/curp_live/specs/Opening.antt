@@ -1,6 +1,6 @@
 -- The nodes that a run begins with, and the journals of such nodes (this project's own).
-use Rattle.std.specs.Prelude.{◌≡◌, ◌*◌, ◌+◌, ℕ, false, List, length, map, replicate}
-use Rattle.curp_base.specs.Words.{At, numbers_from}
+use Rattle.std.specs.Prelude.{◌≡◌, ◌+◌, ℕ, false, List, length, map}
+use Rattle.curp_base.specs.Words.{At}
 use Rattle.curp_cmd.specs.Node.{manager_node}
 use Rattle.curp_cmd.specs.declared.node.NodeId.{NodeId}
 use Rattle.curp_cmd.specs.declared.node.NodeKind.{NodeKind}
@@ -9,10 +9,7 @@ use Rattle.curp_msg.specs.declared.machine.Done.{Done}
 use Rattle.curp_msg.specs.declared.script.Header.{Header}
 use Rattle.curp_journal.specs.Journal.{Log}
 use Rattle.curp_journal.specs.declared.item.Item.{Item}
-use Rattle.curp_model.specs.Backup.{installed_backup}
-use Rattle.curp_model.specs.Manager.{opening_manager}
-use Rattle.curp_model.specs.Witness.{started_witness}
-use Rattle.curp_model.specs.World.{opening_master, shape_of, opening_client}
+use Rattle.curp_model.specs.World.{opening}
 use Rattle.curp_merge.specs.Merging.{IsOwn}
 use Rattle.curp_opening.specs.Nodes.{HasNumbers, states}
 use Rattle.curp_gather.specs.declared.journals.Journals.{Journals}
@@ -20,11 +17,11 @@ use Rattle.curp_live.specs.declared.nodes.Nodes.{Nodes}
 
 -- the nodes of a header's world before any step
 pub record IsOpening (h : Header) (nodes : Nodes) : Type 0 where
-  pub manager : nodes.manager ≡ opening_manager (shape_of h)
-  pub clients : states nodes.clients.items ≡ replicate h.clients (opening_client h)
-  pub masters : states nodes.masters.items ≡ map (opening_master (shape_of h)) (numbers_from 1 h.parts)
-  pub backups : states nodes.backups.items ≡ replicate (h.parts * h.f) (installed_backup 1)
-  pub witnesses : states nodes.witnesses.items ≡ replicate (h.parts * h.f) (started_witness h.sets h.ways 1)
+  pub manager : nodes.manager ≡ (opening h).manager
+  pub clients : states nodes.clients.items ≡ (opening h).clients
+  pub masters : states nodes.masters.items ≡ (opening h).masters
+  pub backups : states nodes.backups.items ≡ (opening h).backups
+  pub witnesses : states nodes.witnesses.items ≡ (opening h).witnesses
   pub client_numbers : HasNumbers nodes.clients.items
   pub master_numbers : HasNumbers nodes.masters.items
   pub backup_numbers : HasNumbers nodes.backups.items

@@ -1,5 +1,5 @@
 ghost use Rattle.std.specs.Prelude.{◌≡◌, ◌+◌, ◌<◌, ◌^◌, length, map, IfOk, IfSome, IsTrue};
-ghost use Rattle.curp_facts.specs.Run.{IsHeader};
+ghost use Rattle.curp_msg.specs.Script.{IsHeader};
 ghost use Rattle.curp_gather.specs.Journals.{AreOf};
 ghost use Rattle.curp_live.specs.Live.{IsLiveRun, live_header};
 ghost use Rattle.curp_live.specs.Opening.{AreAllAnew, AreAnew};
@@ -11,8 +11,8 @@ use crate::work::{did_all, recovery_count};
 use curp_base::NoMemory;
 use curp_cmd::{Command, NodeId, NodeKind};
 use curp_gather::Journals;
-use curp_inv::{BackupNode, ClientNode, MasterNode, WitnessNode};
 use curp_msg::Header;
+use curp_nodes::{BackupNode, ClientNode, MasterNode, WitnessNode};
 use curp_seat::Kept;
 use curp_words::LivePlan;
 use std::alloc::Global;

@@ -3,7 +3,7 @@ use crate::master::MasterSeat;
 use crate::seats::Seats;
 use curp_base::NoMemory;
 use curp_cmd::Command;
-use curp_inv::{BackupNode, ClientNode, ManagerNode, WitnessNode};
+use curp_nodes::{BackupNode, ClientNode, ManagerNode, WitnessNode};
 use curp_seat::Seat;
 use std::alloc::Global;
 

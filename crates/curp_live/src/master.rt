@@ -1,8 +1,8 @@
 use crate::board::End;
 use curp_base::NoMemory;
-use curp_inv::MasterNode;
 use curp_journal::{Arrived, Named};
 use curp_msg::{Body, Local};
+use curp_nodes::MasterNode;
 use curp_seat::{Kept, Seat};
 use std::sync::Wait;
 use std::sync::atomic::{AtomicU64, Ordering};

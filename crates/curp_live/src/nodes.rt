@@ -1,6 +1,6 @@
 ghost use Rattle.std.specs.Prelude.{◌≡◌, ◌*◌, map, replicate, IfOk};
 ghost use Rattle.curp_base.specs.Words.{numbers_from};
-ghost use Rattle.curp_facts.specs.Run.{IsHeader};
+ghost use Rattle.curp_msg.specs.Script.{IsHeader};
 ghost use Rattle.curp_model.specs.Backup.{installed_backup};
 ghost use Rattle.curp_model.specs.Client.{fresh_client};
 ghost use Rattle.curp_model.specs.Manager.{opening_config};
@@ -10,8 +10,8 @@ ghost use Rattle.curp_opening.specs.Nodes.{HasNumbers, states};
 ghost use Rattle.curp_live.specs.Opening.{IsOpening};
 
 use curp_base::NoMemory;
-use curp_inv::{BackupNode, ClientNode, ManagerNode, MasterNode, WitnessNode};
 use curp_msg::{Config, Header};
+use curp_nodes::{BackupNode, ClientNode, ManagerNode, MasterNode, WitnessNode};
 use std::alloc::Global;
 
 /// The nodes of a world.
@@ -26,6 +26,7 @@ pub(crate) struct Nodes {
 
 impl Nodes {
     /// Those of a header, before any step.
+    #[tactic(auto, unfolding(curp_model::specs::World::opening))]
     pub(crate) fn opening(alloc: Global, header: &Header) -> Result<Nodes, NoMemory>
         requires { IsHeader header.now }
         ensures { IfOk result (λ nodes. IsOpening header.now nodes) }

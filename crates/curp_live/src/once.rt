@@ -1,5 +1,5 @@
 ghost use Rattle.std.specs.Prelude.{◌<◌, vec_len};
-ghost use Rattle.curp_facts.specs.Run.{IsHeader};
+ghost use Rattle.curp_msg.specs.Script.{IsHeader};
 
 use crate::board::{Board, End};
 use crate::floor::Floor;

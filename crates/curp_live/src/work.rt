@@ -3,9 +3,9 @@ ghost use Rattle.curp_turns.specs.Work.{DidWork, IsCompletedIn, invoked_by, invo
 ghost use Rattle.curp_live.specs.Live.{DidInOrder};
 
 use curp_cmd::{Command, RequestId};
-use curp_inv::ClientNode;
 use curp_journal::{Arrived, Item};
 use curp_msg::Local;
+use curp_nodes::ClientNode;
 use curp_same::Same;
 use curp_seat::Kept;
 

@@ -1,7 +1,5 @@
 -- What leaves with a range fits into the log.
-use Rattle.std.proofs.Common.{◌≡◌, ◌≤◌, ℕ, true, refl, ap, ◌∙◌}
-use mathlib.Core.HLevel.{is_prop→PathP}
-use Rattle.std.proofs.Math.Bridge.{le_prop}
+use Rattle.std.proofs.Common.{◌≡◌, ℕ, true, refl, ap, ◌∙◌}
 use Rattle.curp_cmd.specs.declared.entry.Entry.TheVariants.{Take}
 use Rattle.curp_cmd.specs.declared.migration.Package.{Package}
 use Rattle.curp_msg.specs.declared.body.TakeOut.{TakeOut}
@@ -9,16 +7,6 @@ use Rattle.curp_model.specs.Log.{LogState, fits_at, package_of}
 use Rattle.curp_model.proofs.Packages.{package_eq-Decides}
 use Rattle.curp_model.specs.Master.{MasterState, push_take, state_of}
 use Rattle.curp_master.specs.Moving.{IsPackage, pushes}
-
--- two packages of the same parts are one
-pub one_package : (p q : Package) → p.lo ≡ q.lo → p.hi ≡ q.hi → p.pairs ≡ q.pairs → p.table ≡ q.table → p ≡ q
-one_package p q lo hi pairs table = λ i. record {
-  lo = lo i;
-  hi = hi i;
-  pairs = pairs i;
-  table = table i;
-  ordered = is_prop→PathP (λ j. lo j ≤ hi j) (λ j. le_prop) p.ordered q.ordered i;
-}
 
 pub fits_out : (s : LogState) (t : TakeOut) (p : Package) → IsPackage s t p → fits_at s (Take t.migration p) ≡ true
 fits_out s t p is =

@@ -1,16 +1,18 @@
 -- What taking the turn that is due keeps of a merge.
-use Rattle.std.proofs.Common.{◌≡◌, inl, inr, ℕ, zero, suc, ◌+◌, ◌≤◌, List, [], ◌∷◌, ◌++◌, length, set, take, replicate, refl, ap, sym, ◌∙◌, subst, arith, add-one, append_assoc, append-nil, length-append}
+use Rattle.std.proofs.Common.{◌≡◌, inl, inr, ℕ, ◌+◌, ◌≤◌, List, [], ◌∷◌, ◌++◌, length, set, take, replicate, refl, ap, sym, ◌∙◌, subst, arith, append_assoc, append-nil, length-append}
 use Rattle.std.proofs.lemmas.Bool.{cases_lt}
 use Rattle.std.proofs.lemmas.List.{length-take-le, take_all}
 use Rattle.curp_base.specs.Words.{At}
-use Rattle.curp_base.proofs.Lists.{Each-append, at_append, at_append_right, at_push_cases, at_replicate, at_same, at_set_cases, at_some, at_within}
+use Rattle.curp_base.proofs.Lists.{Each-append, at_append, at_append_right, at_push_cases, at_replicate, at_same, at_set_cases, at_some, at_within, take_one}
+use Rattle.curp_cmd.specs.declared.node.NodeId.{NodeId}
 use Rattle.curp_msg.specs.declared.message.Message.{Message}
 use Rattle.curp_msg.specs.declared.script.Step.{Step}
 use Rattle.curp_journal.specs.declared.arrived.Arrived.{Arrived}
 use Rattle.curp_journal.specs.declared.arrived.Arrived.TheVariants as arrived
 use Rattle.curp_journal.specs.declared.arrived.Named.{Named}
 use Rattle.curp_journal.specs.declared.item.Item.{Item}
-use Rattle.curp_turns.specs.Legal.{LegalFrom, deed_by, deed_for}
+use Rattle.curp_model.specs.World.{deed_by}
+use Rattle.curp_turns.specs.Legal.{LegalFrom, deed_for}
 use Rattle.curp_turns.specs.Turns.{AreApart, Did, InOrder, IsKnown, Journal, Placed, Precedes, Turn, of, said, sent_by, turn_stamp, turns_of}
 use Rattle.curp_turns.proofs.Turns.{of_here, of_there, said-snoc}
 use Rattle.curp_merge.specs.Merging.{AreJournals, Delivers, Merged, NameTaken, turn_weight, weight_sent}
@@ -21,14 +23,6 @@ use Rattle.curp_merge.proofs.Stamps.{turn_of_item, turns_rise}
 use Rattle.curp_merge.proofs.Sums.{legal_length}
 
 -- ---- lists
-
-take_next : {A : Type 0} (xs : List A) (t : ℕ) (x : A) → At xs t x → take (t + 1) xs ≡ take t xs ++ x ∷ []
-take_next xs t x at = rw add-one (go xs t at)
-  where
-    go : (ys : List _) (k : ℕ) → At ys k x → take (suc k) ys ≡ take k ys ++ x ∷ []
-    go [] k at = absurd cc
-    go (y ∷ ys) zero at = let same : y ≡ x = cc in ap (λ z. z ∷ []) same
-    go (y ∷ ys) (suc k) at = ap (λ zs. y ∷ zs) (go ys k at)
 
 legal-snoc : (before : List Placed) (ss : List Step) (ps : List Placed) (s : Step) (p : Placed)
     → LegalFrom before ss ps → deed_by (said (before ++ ps)) s ≡ deed_for p → LegalFrom before (ss ++ s ∷ []) (ps ++ p ∷ [])
@@ -59,20 +53,29 @@ module _ (journals : List Journal) (apart : AreApart journals) where
       (same, at_same journals k a b (subst (λ (n : ℕ). At journals n a) same at_a) at_b)
 
   -- by the places of the journals
-  precedes : (i k : ℕ) (a b : Journal) (t u : Turn) → At journals i a → At journals k b → Comes (turn_stamp a.items t) i (turn_stamp b.items u) k
+  precedes : (i k : ℕ) (a b : Journal) (t u : Turn) → At journals i a → At journals k b → Comes (turn_stamp t) i (turn_stamp u) k
       → Precedes journals (record { node = a.id; turn = t }) (record { node = b.id; turn = u })
-  precedes i k a b t u at_a at_b comes x y c d at_c at_d e f =
-      let g = same_journal x i c a at_c at_a e in
-      let h = same_journal y k d b at_d at_b f in
-      rw (g.1, h.1, g.0, h.0) comes
+  precedes i k a b t u at_a at_b comes = elim comes [
+    | inl before ↦ inl before
+    | inr level ↦ inr (
+      level.0,
+      λ x y c d at_c at_d e f.
+          let g = same_journal x i c a at_c at_a e in
+          let h = same_journal y k d b at_d at_b f in
+          omega (arith, g.0, h.0, level.1),
+    )
+  ]
 
-  -- what precedes a turn precedes those behind it in its journal
-  precedes_later : (p : Placed) (k : ℕ) (j : Journal) (t u : Turn) → At journals k j → turn_stamp j.items t ≤ turn_stamp j.items u
-      → Precedes journals p (record { node = j.id; turn = t }) → Precedes journals p (record { node = j.id; turn = u })
-  precedes_later p k j t u at most before x y c d at_c at_d e f =
-      let h = same_journal y k d j at_d at f in
-      let le : turn_stamp d.items t ≤ turn_stamp d.items u = subst (λ (z : Journal). turn_stamp z.items t ≤ turn_stamp z.items u) (sym h.1) most in
-      not_later (turn_stamp c.items p.turn) x (turn_stamp d.items t) y (turn_stamp d.items u) (before x y c d at_c at_d e f) le
+  -- what precedes a turn precedes those of the same node that are no earlier
+  precedes_later : (p : Placed) (node : NodeId) (t u : Turn) → turn_stamp t ≤ turn_stamp u
+      → Precedes journals p (record { node = node; turn = t }) → Precedes journals p (record { node = node; turn = u })
+  precedes_later p node t u most before = elim before [
+    | inl less ↦ inl (omega (arith, less, most))
+    | inr level ↦ elim (cases_lt (turn_stamp t) (turn_stamp u)) [
+      | inl less ↦ inl (omega (arith, level.0, less))
+      | inr same ↦ inr (omega (arith, level.0, same, most), level.1)
+    ]
+  ]
 
 -- ---- before any turn
 
@@ -115,7 +118,7 @@ module _ (journals : List Journal) (rows : List (List ℕ)) (ss : List Step) (ne
         | inr same ↦
             let e : a ≡ j = at_same journals k a j (subst (λ (n : ℕ). At journals n a) same.0 at) stands in
             let n : length r ≡ length row + 1 = ap (λ (x : List ℕ). length x) (sym same.1) ∙ length-push row next in
-            rw (e, n) (of_here woven.placed here ∙ (ap (λ ts. ts ++ turn ∷ []) (woven.parts k j row stands its_row) ∙ sym (take_next (turns_of j) (length row) turn its_turn)))
+            rw (e, n) (of_here woven.placed here ∙ (ap (λ ts. ts ++ turn ∷ []) (woven.parts k j row stands its_row) ∙ sym (take_one (turns_of j) (length row) turn its_turn)))
       ]
 
   -- where the turn stands then
@@ -192,13 +195,13 @@ module _ (journals : List Journal) (rows : List (List ℕ)) (ss : List Step) (ne
 
   -- the turn that comes next in its journal
   behind : (a : Journal) (r : List ℕ) (after : Turn) → row ++ next ∷ [] ≡ r → a ≡ j → At (turns_of a) (length r) after
-      → At (turns_of j) (length row + 1) after × (turn_stamp j.items turn ≤ turn_stamp j.items after)
+      → At (turns_of j) (length row + 1) after × (turn_stamp turn ≤ turn_stamp after)
   behind a r after same e at =
       let n : length r ≡ length row + 1 = ap (λ (x : List ℕ). length x) (sym same) ∙ length-push row next in
       let at_j : At (turns_of j) (length row + 1) after = subst (λ (x : ℕ). At (turns_of j) x after) n (subst (λ (x : Journal). At (turns_of x) (length r) after) e at) in
       (at_j, turns_rise j (length row) (length row + 1) turn after (are.stamped k j stands) its_turn at_j (omega arith))
 
-  module _ (first : IsFirst journals rows (length journals) k (turn_stamp j.items turn)) where
+  module _ (first : IsFirst journals rows (length journals) k (turn_stamp turn)) where
     here_precedes : (i : ℕ) (a : Journal) (r : List ℕ) (after : Turn) → At journals i a → At new_rows i r → At (turns_of a) (length r) after
         → Precedes journals here (record { node = a.id; turn = after })
     here_precedes i a r after at at_r at_after =
@@ -207,8 +210,7 @@ module _ (journals : List Journal) (rows : List (List ℕ)) (ss : List Step) (ne
           | inr same ↦
               let e : a ≡ j = at_same journals k a j (subst (λ (n : ℕ). At journals n a) same.0 at) stands in
               let b = behind a r after same.1 e at_after in
-              let most : turn_stamp j.items turn ≤ turn_stamp a.items after = rw e b.1 in
-              precedes journals are.apart k i j a turn after stands at (not_later (turn_stamp j.items turn) k (turn_stamp j.items turn) i (turn_stamp a.items after) (inr (refl, omega (arith, same.0))) most)
+              precedes journals are.apart k i j a turn after stands at (not_later (turn_stamp turn) k (turn_stamp turn) i (turn_stamp after) (inr (refl, omega (arith, same.0))) b.1)
         ]
 
     old_precedes : (t : ℕ) (p : Placed) (i : ℕ) (a : Journal) (r : List ℕ) (after : Turn) → At woven.placed t p → At journals i a → At new_rows i r → At (turns_of a) (length r) after
@@ -219,7 +221,7 @@ module _ (journals : List Journal) (rows : List (List ℕ)) (ss : List Step) (ne
           | inr same ↦
               let e : a ≡ j = at_same journals k a j (subst (λ (n : ℕ). At journals n a) same.0 at) stands in
               let b = behind a r after same.1 e at_after in
-              rw e (precedes_later journals are.apart p k j turn after stands b.1 (woven.precede t p k j row turn at_p stands its_row its_turn))
+              rw e (precedes_later journals are.apart p j.id turn after b.1 (woven.precede t p k j row turn at_p stands its_row its_turn))
         ]
 
     precede_after : (t : ℕ) (p : Placed) (i : ℕ) (a : Journal) (r : List ℕ) (after : Turn) → At taken t p → At journals i a → At new_rows i r → At (turns_of a) (length r) after

@@ -6,7 +6,7 @@ use Rattle.curp_journal.specs.declared.arrived.Named.{Named}
 use Rattle.curp_turns.specs.Turns.{Did, Journal, Placed, Turn, of}
 use Rattle.curp_merge.specs.Merging.{Delivers, IsNumberIn}
 use Rattle.curp_merge.specs.Weaving.{DeliversBy, IsCounted, IsSent}
-use Rattle.curp_merge.proofs.Senders.{at_place}
+use Rattle.curp_base.proofs.Numbered.{at_place}
 
 -- a turn more stands behind those that are there
 parts_more : (placed pre post : List Placed) (q p : Placed) → placed ≡ pre ++ (q ∷ post) → placed ++ p ∷ [] ≡ pre ++ (q ∷ (post ++ p ∷ []))

@@ -42,8 +42,8 @@ module _ (journals : List Journal) (rows : List (List ℕ)) (k : ℕ) (due : IsD
   turn_at : (taken : ℕ) → taken ≡ length row → At (turns_of line) taken turn
   turn_at taken same = subst (λ (n : ℕ). At (turns_of line) n turn) (sym same) its_turn
 
-  its_stamp : due.stamp ≡ turn_stamp line.items turn
-  its_stamp = due.is.stamp_is ∙ ap (λ (j : Journal). turn_stamp j.items turn) same_line
+  its_stamp : due.stamp ≡ turn_stamp turn
+  its_stamp = due.is.stamp_is ∙ ap (λ (j : Journal). turn_stamp turn) same_line
 
   comes_first : (stamp : ℕ) → due.stamp ≡ stamp → IsFirst journals rows (length journals) k stamp
   comes_first stamp same = subst (λ (n : ℕ). IsFirst journals rows (length journals) k n) same due.is.first
@@ -61,7 +61,7 @@ module _ (journals : List Journal) (rows : List (List ℕ)) (k : ℕ) (due : IsD
     can_be_given held lengths fits =
         elim (turn_cases line (length row) turn its_turn) [
           | inl did ↦
-              let first = comes_first did.0.stamp (its_stamp ∙ ap (turn_stamp line.items) did.1) in
+              let first = comes_first did.0.stamp (its_stamp ∙ ap turn_stamp did.1) in
               subst (λ (x : Turn). CanBeGiven journals rows line.id x) (sym did.1)
               (are.own k line (length row) did.0 stands did.2, was_sent journals rows ss next are woven lengths held fits k line row did.0 stands its_row did.2 first)
           | inr stop ↦ subst (λ (x : Turn). CanBeGiven journals rows line.id x) (sym stop.0) tt
@@ -87,5 +87,5 @@ module _ (journals : List Journal) (rows : List (List ℕ)) (k : ℕ) (due : IsD
           let does = of_some (λ (x : Turn). IsStepOf journals rows (record { node = line.id; turn = x }) step) (slice_get (turns_of line) taken) turn (turn_at taken same) made in
           let names = of_some (λ (x : Turn). NamesTurn journals rows x step) (slice_get (turns_of line) taken) turn (turn_at taken same) named in
           rw sent_is
-          (woven_more journals rows ss next are woven k line row turn stands its_row its_turn (comes_first (turn_stamp line.items turn) its_stamp)
+          (woven_more journals rows ss next are woven k line row turn stands its_row its_turn (comes_first (turn_stamp turn) its_stamp)
           step does (can_be_given held lengths fits) names)

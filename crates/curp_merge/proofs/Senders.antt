@@ -7,7 +7,7 @@ use Rattle.std.proofs.lemmas.List.Folds.{find_at}
 use Rattle.std.proofs.lemmas.Option.{get_or_from_slice_get, slice_get_past, slice_get_read}
 use Rattle.curp_base.specs.Words.{At, numbered}
 use Rattle.curp_base.proofs.Lists.{at_same, at_some, at_within}
-use Rattle.curp_base.proofs.Numbered.{place}
+use Rattle.curp_base.proofs.Numbered.{place, at_place}
 use Rattle.curp_cmd.specs.Node.{same_node}
 use Rattle.curp_cmd.proofs.Nodes.{same_node-true}
 use Rattle.curp_msg.specs.declared.message.Message.{Message}
@@ -125,11 +125,11 @@ module _ (journals : List Journal) (rows : List (List ℕ)) (ss : List Step) (ne
             let within : length row < length (turns_of j) = omega (arith, more, at_within (turns_of j) t (Did item) at_t) in
             let due = at_some (turns_of j) (length row) within in
             let comes = first i j row due.0 (at_within journals i j stands) stands its_row due.1 in
-            let not_below : stamp ≤ turn_stamp j.items due.0 = elim comes [ inl before ↦ omega (arith, before) | inr level ↦ omega (arith, level.0) ] in
+            let not_below : stamp ≤ turn_stamp due.0 = elim comes [ inl before ↦ omega (arith, before) | inr level ↦ omega (arith, level.0) ] in
             elim (cases_eq (length row) t) [
               | inl same ↦
                   let e : due.0 ≡ Did item = at_same (turns_of j) t due.0 (Did item) (subst (λ (n : ℕ). At (turns_of j) n due.0) same due.1) at_t in
-                  let s : turn_stamp j.items due.0 ≡ item.stamp = ap (turn_stamp j.items) e in
+                  let s : turn_stamp due.0 ≡ item.stamp = ap turn_stamp e in
                   absurd (omega (arith, s, not_below, less))
               | inr other ↦
                   let rise = turns_rise j (length row) t due.0 (Did item) (are.stamped i j stands) due.1 at_t (omega (arith, more, other)) in
@@ -197,11 +197,6 @@ module _ (journals : List Journal) (rows : List (List ℕ)) (named : Named) (fro
 
     pub before_is : get_or befores (named.step - 1) 0 ≡ s.before
     before_is = get_or_from_slice_get befores (named.step - 1) s.before 0 counted_at
-
--- what stands at a place has its number
-pub at_place : {A : Type 0} (xs : List A) (k n : ℕ) (x : A) → n ≡ k + 1 → At xs k x → numbered xs n ≡ Some x
-at_place xs k zero x e h = absurd (omega arith)
-at_place xs k (suc n) x e h = let same : k ≡ n = omega arith in subst (λ (i : ℕ). At xs i x) same h
 
 pub number_is : (journals : List Journal) (rows : List (List ℕ)) (named : Named) (s : IsSent journals rows named) → IsNumberOf journals rows named.message (s.before + named.place)
 number_is journals rows named s sent numbers =

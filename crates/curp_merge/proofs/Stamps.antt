@@ -15,24 +15,24 @@ at_map_back f [] k y at = absurd cc
 at_map_back f (x ∷ xs) zero y at = (x, cc, refl)
 at_map_back f (x ∷ xs) (suc k) y at = at_map_back f xs k y at
 
-stop_alone : (b : Bool) (n : ℕ) (turn : Turn) → At (if b then Quits ∷ [] else []) n turn → (turn ≡ Quits) × (n ≡ 0) × (b ≡ true)
-stop_alone true zero turn at = (cc, refl, refl)
-stop_alone true (suc n) turn at = absurd cc
-stop_alone false n turn at = absurd cc
+stop_alone : (b : Bool) (stamp n : ℕ) (turn : Turn) → At (if b then Quits stamp ∷ [] else []) n turn → (turn ≡ Quits stamp) × (n ≡ 0) × (b ≡ true)
+stop_alone true stamp zero turn at = (cc, refl, refl)
+stop_alone true stamp (suc n) turn at = absurd cc
+stop_alone false stamp n turn at = absurd cc
 
 -- an item, or the last stop behind them all
 pub turn_cases : (j : Journal) (t : ℕ) (turn : Turn) → At (turns_of j) t turn
-    → ((item : Item) × (turn ≡ Did item) × At j.items t item) ⊎ ((turn ≡ Quits) × (t ≡ length j.items) × (j.ended ≡ true))
+    → ((item : Item) × (turn ≡ Did item) × At j.items t item) ⊎ ((turn ≡ Quits (last_stamp 0 j.items)) × (t ≡ length j.items) × (j.ended ≡ true))
 turn_cases j t turn at =
-    elim (at_append_cases (map Did j.items) (if j.ended then Quits ∷ [] else []) t turn at) [
+    elim (at_append_cases (map Did j.items) (if j.ended then Quits (last_stamp 0 j.items) ∷ [] else []) t turn at) [
       | inl did ↦ let r = at_map_back Did j.items t turn did in inl (r.0, sym r.1, r.2)
       | inr quits ↦
-          let r = stop_alone j.ended quits.0 turn quits.2 in
+          let r = stop_alone j.ended (last_stamp 0 j.items) quits.0 turn quits.2 in
           inr (r.0, omega (arith, quits.1, length-map j.items Did, r.1), r.2)
     ]
 
 pub turn_of_item : (j : Journal) (t : ℕ) (item : Item) → At j.items t item → At (turns_of j) t (Did item)
-turn_of_item j t item at = at_append (map Did j.items) (if j.ended then Quits ∷ [] else []) t (Did item) (at_map Did j.items t item at)
+turn_of_item j t item at = at_append (map Did j.items) (if j.ended then Quits (last_stamp 0 j.items) ∷ [] else []) t (Did item) (at_map Did j.items t item at)
 
 -- ---- stamps rise
 
@@ -45,7 +45,7 @@ last_stamp_at last (first ∷ items) (suc k) item at all = last_stamp_at first.s
 
 -- a later turn has no lesser stamp
 pub turns_rise : (j : Journal) (t u : ℕ) (a b : Turn) → Stamped 0 j.items → At (turns_of j) t a → At (turns_of j) u b → t < u
-    → turn_stamp j.items a ≤ turn_stamp j.items b
+    → turn_stamp a ≤ turn_stamp b
 turns_rise j t u a b stamped at_a at_b below =
     elim (turn_cases j t a at_a) [
       | inl first ↦

@@ -4,15 +4,15 @@ use Rattle.std.specs.List.{sum}
 use Rattle.std.proofs.lemmas.List.{map-append}
 use Rattle.std.proofs.lemmas.List.Sums.{sum_by-append, sum_by-cons}
 use Rattle.curp_base.specs.Words.{At, Each}
-use Rattle.curp_cmd.specs.Node.{same_node}
 use Rattle.curp_cmd.specs.declared.node.NodeId.{NodeId}
+use Rattle.curp_journal.specs.Journal.{last_stamp}
 use Rattle.curp_journal.specs.declared.item.Item.{Item}
 use Rattle.curp_msg.specs.declared.script.Step.{Step}
 use Rattle.curp_msg.specs.Weight.{weight_of}
 use Rattle.curp_turns.specs.Legal.{LegalFrom}
 use Rattle.curp_turns.specs.Turns.{AreApart, AreTurns, Did, IsKnown, Journal, Placed, Quits, Turn, of, said, sent_by, turns_of}
 use Rattle.curp_turns.proofs.Turns.{of_first}
-use Rattle.curp_cmd.proofs.Nodes.{same_node-true}
+use Rattle.curp_cmd.proofs.Nodes.{other_node}
 use Rattle.curp_merge.specs.Merging.{Merged, turn_count, turn_weight, weight_sent}
 
 -- ---- sums of a function
@@ -45,13 +45,6 @@ sum_more g h more (x ∷ xs) (suc place) y at here there =
     sum-cons g x xs ∙ (omega (arith, there zero x (omega arith) refl, sum_more g h more xs place y at here (λ k z ne a. there (suc k) z (omega arith) a), sum-cons h x xs))
 
 -- ---- sums over turns
-
-other_node : (a b : NodeId) → a ≢ b → same_node a b ≡ false
-other_node a b ne = go (same_node a b) refl
-  where
-    go : (c : Bool) → same_node a b ≡ c → c ≡ false
-    go true e = absurd (ne (same_node-true a b e))
-    go false e = refl
 
 of_other : (node : NodeId) (p : Placed) (ps : List Placed) → p.node ≢ node → of node (p ∷ ps) ≡ of node ps
 of_other node p ps ne = rw (other_node p.node node ne) refl
@@ -110,9 +103,9 @@ pub weight_of_turns : (journals : List Journal) (placed : List Placed) → AreAp
 weight_of_turns journals placed apart turns = said_weight placed ∙ sum_of_turns turn_weight journals placed apart turns
 
 -- a last stop sends nothing
-weight_of_stop : (ended : Bool) → sum (map turn_weight (if ended then Quits ∷ [] else [])) ≡ 0
-weight_of_stop true = refl
-weight_of_stop false = refl
+weight_of_stop : (stamp : ℕ) (ended : Bool) → sum (map turn_weight (if ended then Quits stamp ∷ [] else [])) ≡ 0
+weight_of_stop stamp true = refl
+weight_of_stop stamp false = refl
 
 weight_of_items : (items : List Item) → sum (map turn_weight (map Did items)) ≡ sum (map (λ (item : Item). sum (map weight_of item.done.sent)) items)
 weight_of_items [] = refl
@@ -123,8 +116,8 @@ weight_of_items (item ∷ items) =
 
 pub weight_of_journal : (j : Journal) → sum (map turn_weight (turns_of j)) ≡ sum (map (λ (item : Item). sum (map weight_of item.done.sent)) j.items)
 weight_of_journal j =
-    sum-append turn_weight (map Did j.items) (if j.ended then Quits ∷ [] else [])
-    ∙ omega (arith, weight_of_stop j.ended, weight_of_items j.items)
+    sum-append turn_weight (map Did j.items) (if j.ended then Quits (last_stamp 0 j.items) ∷ [] else [])
+    ∙ omega (arith, weight_of_stop (last_stamp 0 j.items) j.ended, weight_of_items j.items)
 
 -- there are as many legal steps as turns
 pub legal_length : (before : List Placed) (ss : List Step) (placed : List Placed) → LegalFrom before ss placed → length ss ≡ length placed

@@ -1,6 +1,6 @@
 -- Why journals aren't a script (this project's own).
 use Rattle.std.specs.Prelude.{◌≡◌, ◌≤◌, ◌<◌, ◌^◌, ◌-◌, min, List, ⊤}
-use Rattle.curp_model.specs.World.{weight_limit}
+use Rattle.curp_msg.specs.Limits.{step_limit, weight_limit}
 use Rattle.curp_turns.specs.Turns.{Journal}
 use Rattle.curp_merge.specs.Held.{AllHeld, IsMismatch}
 use Rattle.curp_merge.specs.Merging.{turn_count, weight_sent}
@@ -10,8 +10,8 @@ use Rattle.curp_merge.specs.declared.error.GatherError.TheVariants as error
 -- an error has its cause, and the causes of those before it in their order don't hold
 abbrev pub IsCause : List Journal → GatherError → Type 0
 IsCause journals (error.Mismatch node step got kept) = IsMismatch journals node step got kept
-IsCause journals error.TooManySteps = AllHeld journals × (200000 < turn_count journals)
+IsCause journals error.TooManySteps = AllHeld journals × (step_limit < turn_count journals)
 IsCause journals (error.TooLarge weight) =
-    AllHeld journals × (turn_count journals ≤ 200000) × (weight_limit < weight_sent journals)
+    AllHeld journals × (turn_count journals ≤ step_limit) × (weight_limit < weight_sent journals)
     × (weight ≡ min (weight_sent journals) (2 ^ 64 - 1))
 IsCause journals error.NoMemory = ⊤

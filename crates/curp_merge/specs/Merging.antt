@@ -1,16 +1,16 @@
 -- What a merge of journals is (this project's own).
-use Rattle.std.specs.Prelude.{◌≡◌, ℕ, ◌+◌, Bool, true, false, List, [], ◌∷◌, ◌++◌, length, map, Some}
+use Rattle.std.specs.Prelude.{◌≡◌, ℕ, ◌+◌, Bool, true, List, [], ◌∷◌, ◌++◌, length, map, Some}
 use Rattle.std.specs.List.{sum}
 use Rattle.curp_base.specs.Words.{At, numbered}
 use Rattle.curp_cmd.specs.declared.node.NodeId.{NodeId}
 use Rattle.curp_cmd.specs.declared.node.NodeKind.{NodeKind}
 use Rattle.curp_cmd.specs.declared.node.NodeKind.TheVariants as kind
-use Rattle.curp_cmd.specs.Node.{manager_node}
+use Rattle.curp_cmd.specs.Node.{manager_node, same_kind}
 use Rattle.curp_msg.specs.Weight.{weight_of}
 use Rattle.curp_msg.specs.declared.machine.Local.{Local}
-use Rattle.curp_msg.specs.declared.machine.Local.TheVariants as local
 use Rattle.curp_msg.specs.declared.script.Step.{Step}
 use Rattle.curp_msg.specs.declared.script.Step.TheVariants as steps
+use Rattle.curp_model.specs.World.{taker_of}
 use Rattle.curp_journal.specs.Journal.{Stamped}
 use Rattle.curp_journal.specs.declared.arrived.Arrived.{Arrived}
 use Rattle.curp_journal.specs.declared.arrived.Arrived.TheVariants as arrived
@@ -21,17 +21,7 @@ use Rattle.curp_turns.specs.Turns.{AreApart, AreTurns, Did, InOrder, Journal, Pl
 
 -- a script has a step that gives the order to a node of the kind
 abbrev pub is_order_of : NodeKind → Local → Bool
-is_order_of kind.Client (local.Invoke command) = true
-is_order_of kind.Client (local.Retry seq) = true
-is_order_of kind.Client local.Fetch = true
-is_order_of kind.Master local.Sync = true
-is_order_of kind.Master local.Collect = true
-is_order_of kind.Manager (local.Recover part backup witness) = true
-is_order_of kind.Manager (local.Replace keeper part place) = true
-is_order_of kind.Manager (local.Migrate lo hi to) = true
-is_order_of kind.Manager local.Nudge = true
-is_order_of kind.Manager (local.Expire client) = true
-is_order_of _ _ = false
+is_order_of kind order = same_kind (taker_of order) kind
 
 -- what comes to a node is its own: a message that is addressed to it, or an order that a script can give to it
 abbrev pub IsOwn : NodeId → Arrived → Type 0

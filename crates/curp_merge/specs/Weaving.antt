@@ -9,13 +9,13 @@ use Rattle.curp_msg.specs.declared.machine.Local.{Local}
 use Rattle.curp_msg.specs.declared.message.Message.{Message}
 use Rattle.curp_msg.specs.declared.script.Step.{Step}
 use Rattle.curp_msg.specs.declared.script.Step.TheVariants as steps
-use Rattle.curp_model.specs.World.{Gives}
+use Rattle.curp_model.specs.World.{Gives, deed_by}
 use Rattle.curp_journal.specs.Given.{given}
 use Rattle.curp_journal.specs.declared.arrived.Arrived.{Arrived}
 use Rattle.curp_journal.specs.declared.arrived.Arrived.TheVariants as arrived
 use Rattle.curp_journal.specs.declared.arrived.Named.{Named}
 use Rattle.curp_journal.specs.declared.item.Item.{Item}
-use Rattle.curp_turns.specs.Legal.{LegalFrom, deed_by, deed_for}
+use Rattle.curp_turns.specs.Legal.{LegalFrom, deed_for}
 use Rattle.curp_turns.specs.Turns.{Did, InOrder, IsKnown, Journal, Placed, Precedes, Quits, Turn, of, said, sent_by, turn_stamp, turns_of}
 use Rattle.curp_merge.specs.Merging.{IsOwn, NameTaken, turn_weight, weight_sent}
 
@@ -23,7 +23,7 @@ use Rattle.curp_merge.specs.Merging.{IsOwn, NameTaken, turn_weight, weight_sent}
 
 -- the stamp of the next turn of a journal of which so many were taken, if there is one
 abbrev pub next_stamp : Journal → ℕ → Option ℕ
-next_stamp j taken = option_map (turn_stamp j.items) (slice_get (turns_of j) taken)
+next_stamp j taken = option_map turn_stamp (slice_get (turns_of j) taken)
 
 -- no turn is left of the first n journals
 abbrev pub NoneBelow : List Journal → List (List ℕ) → ℕ → Type 0
@@ -40,7 +40,7 @@ Comes stamp place other there = (stamp < other) ⊎ ((stamp ≡ other) × (place
 -- no next turn of the first n journals comes before this stamp of the journal at that place
 abbrev pub IsFirst : List Journal → List (List ℕ) → ℕ → ℕ → ℕ → Type 0
 IsFirst journals rows n place stamp = (i : ℕ) (j : Journal) (row : List ℕ) (turn : Turn)
-    → i < n → At journals i j → At rows i row → At (turns_of j) (length row) turn → Comes stamp place (turn_stamp j.items turn) i
+    → i < n → At journals i j → At rows i row → At (turns_of j) (length row) turn → Comes stamp place (turn_stamp turn) i
 
 -- the next turn of the journal at a place
 pub record IsNext (journals : List Journal) (rows : List (List ℕ)) (place : ℕ) (turn : Turn) : Type 0 where
@@ -55,7 +55,7 @@ pub record IsBest (journals : List Journal) (rows : List (List ℕ)) (n place st
   pub turn : Turn
   pub next : IsNext journals rows place turn
   pub among : place < n
-  pub stamp_is : stamp ≡ turn_stamp next.journal.items turn
+  pub stamp_is : stamp ≡ turn_stamp turn
   pub first : IsFirst journals rows n place stamp
 
 -- the best so far, if any of the first n journals has a next turn
@@ -119,7 +119,7 @@ NamesInput journals rows (arrived.Message named) step = DeliversBy journals rows
 -- so it is with what came by the turn
 abbrev pub NamesTurn : List Journal → List (List ℕ) → Turn → Step → Type 0
 NamesTurn journals rows (Did item) step = NamesInput journals rows item.input step
-NamesTurn journals rows Quits step = ⊤
+NamesTurn journals rows (Quits stamp) step = ⊤
 
 -- ---- what a node can be given
 
@@ -150,7 +150,7 @@ SentBefore journals rows (arrived.Message named) = IsSent journals rows named
 -- a node can be given what came to it by the turn
 abbrev pub CanBeGiven : List Journal → List (List ℕ) → NodeId → Turn → Type 0
 CanBeGiven journals rows node (Did item) = IsOwn node item.input × SentBefore journals rows item.input
-CanBeGiven journals rows node Quits = ⊤
+CanBeGiven journals rows node (Quits stamp) = ⊤
 
 -- the journal has a turn behind so many, and its node can be given what came to it then
 pub record IsReady (journals : List Journal) (rows : List (List ℕ)) (j : Journal) (taken : ℕ) : Type 0 where

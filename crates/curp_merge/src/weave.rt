@@ -2,7 +2,7 @@ ghost use Rattle.std.specs.Prelude.{◌≡◌, ◌<◌, ◌≤◌, IfOk, OnOk, l
 ghost use Rattle.curp_merge.specs.Held.{AllHeld};
 ghost use Rattle.curp_merge.specs.Merging.{AreJournals, Merged, weight_sent};
 ghost use Rattle.curp_merge.specs.Weaving.{IsDue, Woven, turns_left};
-ghost use Rattle.curp_model.specs.World.{weight_limit};
+ghost use Rattle.curp_msg.specs.Limits.{weight_limit};
 
 use crate::Line;
 use crate::due::due;

@@ -38,7 +38,7 @@ takes_nothing b epoch base = record {
   no_gap = λ ne. absurd (ne refl);
 }
 
-installed_at : (own : Option ℕ) (epoch : ℕ) → is_installed_at own epoch ≡ true → own ≡ Some epoch
+pub installed_at : (own : Option ℕ) (epoch : ℕ) → is_installed_at own epoch ≡ true → own ≡ Some epoch
 installed_at None epoch e = absurd cc
 installed_at (Some own) epoch e = let same : own ≡ epoch = grind (arith, nat_tests) in ap (λ (x : ℕ). Some x) same
 

@@ -2,7 +2,7 @@
 use Rattle.std.proofs.Common.{◌≡◌, ℕ, zero, suc, ◌==◌, ◌&&◌, ◌||◌, Bool, true, false, List, [], ◌∷◌, take, refl, ap, sym, ◌∙◌, subst, arith}
 use Rattle.std.specs.List.{AllByRecursion, IsDistinct, list_any}
 use Rattle.std.specs.Ordering.{eq_by_cmp}
-use Rattle.std.proofs.lemmas.Bool.{and_from, or_left, or_parts}
+use Rattle.std.proofs.lemmas.Bool.{or_left, or_parts}
 use Rattle.std.proofs.lemmas.Bool.Decides.{nat_tests}
 use Rattle.std.proofs.lemmas.Map.Keys.{IsDistinct-head, IsDistinct-tail}
 use Rattle.std.proofs.lemmas.Map.Views.{tells_apart}
@@ -13,6 +13,7 @@ use Rattle.curp_cmd.specs.declared.command.Request.{Request}
 use Rattle.curp_cmd.specs.declared.command.RequestId.{RequestId}
 use Rattle.curp_model.specs.Laws.{clash}
 use Rattle.curp_model.proofs.Tables.{ids_same}
+use Rattle.curp_cmd.proofs.Ids.{same_id-self}
 
 -- ---- it is the same the other way round
 
@@ -49,14 +50,8 @@ clash_flips r s = λ i.
 
 -- ---- what it says of two
 
-equal_self : (n : ℕ) → (n == n) ≡ true
-equal_self n = grind (arith, nat_tests)
-
-same_self : (id : RequestId) → same_id id id ≡ true
-same_self id = and_from _ _ (equal_self id.client) (equal_self id.seq)
-
 pub one_id_clashes : (r s : Request) → r.id ≡ s.id → clash r s ≡ true
-one_id_clashes r s e = or_left _ _ (subst (λ (id : RequestId). same_id r.id id ≡ true) e (same_self r.id))
+one_id_clashes r s e = or_left _ _ (subst (λ (id : RequestId). same_id r.id id ≡ true) e (same_id-self r.id))
 
 pub no_conflict : (r s : Request) → clash r s ≡ false → conflicts r.command s.command ≡ false
 no_conflict r s apart = (or_parts _ _ apart).1

@@ -7,3 +7,6 @@ pub mod Clashes
 pub mod Replays
 pub mod Packages
 pub mod Batches
+pub mod OpeningRanges
+pub mod Marks
+pub mod Managers

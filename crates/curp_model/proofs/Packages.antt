@@ -64,7 +64,7 @@ answer_eq-Decides _ _ = (λ e. absurd cc, λ e. absurd cc)
 -- ---- packages
 
 -- a range has one proof of its order
-one_package : (a b : Package) → a.lo ≡ b.lo → a.hi ≡ b.hi → a.pairs ≡ b.pairs → a.table ≡ b.table → a ≡ b
+pub one_package : (a b : Package) → a.lo ≡ b.lo → a.hi ≡ b.hi → a.pairs ≡ b.pairs → a.table ≡ b.table → a ≡ b
 one_package a b lo hi pairs table = λ i. record {
   lo = lo i;
   hi = hi i;

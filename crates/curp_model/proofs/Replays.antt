@@ -84,11 +84,6 @@ log_stored lo hi log rs = ap (λ (s : LogState). s.store) (meaning_append lo hi 
 
 -- ---- what stands in a log with requests behind it
 
-op_at : (rs : List Request) (j : ℕ) (q : Request) (acknowledged : ℕ) → At (ops rs) j (Op q acknowledged) → At rs j q
-op_at [] j q acknowledged h = absurd cc
-op_at (r ∷ rs) zero q acknowledged h = let same : r ≡ q = cc in ap (λ (x : Request). Some x) same
-op_at (r ∷ rs) (suc j) q acknowledged h = op_at rs j q acknowledged h
-
 pub take_ops : (log : List Entry) (rs : List Request) (j n : ℕ) → n ≡ length log + j → take n (log ++ ops rs) ≡ log ++ ops (take j rs)
 take_ops log rs j n e =
     ap (λ (m : ℕ). take m (log ++ ops rs)) e ∙ take-append-add log (ops rs) j ∙ ap (λ (es : List Entry). log ++ es) (take-map op_of j rs)
@@ -123,6 +118,12 @@ members : (rs ss : List Request) → IsPermutation rs ss → (j : ℕ) (q : Requ
 members rs ss p j q h =
     let m = Contains-permutation rs ss q p (j, at_within rs j q h, get_or_from_slice_get rs j q q h) in
     (m.0, slice_get-get_or ss m.0 q m.1 ∙ ap (λ (x : Request). Some x) m.2)
+
+-- a replayed op is of its request
+pub op_in_ops : (rs : List Request) (j : ℕ) (q : Request) (a : ℕ) → At (ops rs) j (Op q a) → At rs j q
+op_in_ops [] j q a h = absurd cc
+op_in_ops (r ∷ rs) zero q a h = let same : r ≡ q = cc in ap (λ (x : Request). Some x) same
+op_in_ops (r ∷ rs) (suc j) q a h = op_in_ops rs j q a h
 
 pub neighbours : (rs ss : List Request) (x y : Request) → IsPermutation (rs ++ x ∷ y ∷ ss) (rs ++ y ∷ x ∷ ss)
 neighbours rs ss x y = IsPermutation-append_right rs (x ∷ y ∷ ss) (y ∷ x ∷ ss) (IsPermutation-middle (x ∷ []) y ss)
@@ -165,7 +166,7 @@ module _ (commute : (s : Contents) (a b : Command) → conflicts a b ≡ false �
               its_answer = sym (ap (λ (es : List Entry). answer_after lo hi es d.request.command) (take-append-le d.index log (ops rs) (omega arith))) ∙ d.its_answer;
             })
         | inr h ↦
-            let at : At rs h.0 d.request = op_at rs h.0 d.request d.acknowledged h.2 in
+            let at : At rs h.0 d.request = op_in_ops rs h.0 d.request d.acknowledged h.2 in
             inr (
               h.0,
               d.request,

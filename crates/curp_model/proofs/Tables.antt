@@ -7,13 +7,14 @@ use Rattle.std.specs.FinMap.{IsAntisymmetric, nat_cmp-IsAntisymmetric}
 use Rattle.std.specs.FinMap.Entries.{find, find-put, find-where_key}
 use Rattle.std.specs.List.{filter, list_any}
 use Rattle.std.specs.Option.{IsSomeAnd}
-use Rattle.std.specs.Ordering.{nat_cmp, ordering_then, eq_by_cmp, match_ordering}
+use Rattle.std.specs.Ordering.{nat_cmp, ordering_reverse, ordering_then, eq_by_cmp, match_ordering}
 use Rattle.std.specs.declared.cmp.Ordering.{Ordering}
 use Rattle.std.specs.declared.cmp.Ordering.TheVariants.{Less, Equal, Greater}
 use Rattle.std.proofs.lemmas.Bool.{and_parts, and_from, or_left, or_right, not-true, not_from_false, cond_both}
 use Rattle.std.proofs.lemmas.Bool.Decides.{nat_tests}
+use Rattle.std.proofs.lemmas.Cmp.{tied_itself}
 use Rattle.std.proofs.lemmas.Map.Views.{tells_apart}
-use Rattle.curp_cmd.specs.RequestId.{id_cmp}
+use Rattle.curp_cmd.specs.RequestId.{id_cmp, same_id}
 use Rattle.curp_cmd.specs.declared.command.Answer.{Answer}
 use Rattle.curp_cmd.specs.declared.command.RequestId.{RequestId}
 use Rattle.curp_cmd.specs.declared.migration.TablePart.{TablePart}
@@ -21,6 +22,8 @@ use Rattle.curp_model.specs.declared.Check.{Check}
 use Rattle.curp_model.specs.declared.Check.TheVariants.{Expired, Stale, Known, New}
 use Rattle.curp_model.specs.Laws.{IsStillKnown}
 use Rattle.curp_model.specs.Table.{Noted, Table, is_gone, first_number, known, check, is_below, is_of_use, of_use, note, raise_first, acknowledge, expire, note_once, merge}
+use Rattle.curp_cmd.proofs.Apart.{same_number}
+use Rattle.curp_cmd.proofs.Ids.{apart_not_same}
 
 -- ---- ids
 
@@ -131,7 +134,7 @@ kept_before t u id gone rises k =
     go false e here = refl
 
 -- what is of use once a client has acknowledged isn't below its number
-first_raised : (firsts : List (ℕ × ℕ)) (client first : ℕ) → first ≤ unwrap_or (find nat_cmp client (raise_first firsts client first)) 0
+pub first_raised : (firsts : List (ℕ × ℕ)) (client first : ℕ) → first ≤ unwrap_or (find nat_cmp client (raise_first firsts client first)) 0
 first_raised firsts client zero = omega arith
 first_raised firsts client (suc n) =
     subst (λ (o : Option ℕ). suc n ≤ unwrap_or o 0) (sym (find-put nat_cmp nat_cmp_total client client _ firsts)) (go (eq_by_cmp nat_cmp client client) (same_number client))
@@ -154,9 +157,6 @@ not_below t id client first k = go (id.client == client) refl (nat_lt id.seq fir
         absurd (grind (arith, nat_tests))
     go true same false high = refl
     go false other l e = refl
-
-same_number : (k : ℕ) → (k == k) ≡ true
-same_number k = grind (arith, nat_tests)
 
 -- and what is of use once a client is gone isn't that client's
 gone_now : (gone : List ℕ) (k : ℕ) → list_any (λ c. c == k) (insert_key nat_cmp gone k) ≡ true
@@ -262,3 +262,18 @@ check_noted t id other a index apart =
 
 pub check_other : (t : Table) (id other : RequestId) (a : Answer) (index client : ℕ) → eq_by_cmp id_cmp id other ≡ false → check (acknowledge (note t other a index) client 0) id ≡ check t id
 check_other t id other a index client apart = check_none (note t other a index) id client ∙ check_noted t id other a index apart
+
+pub greater_back : (a b : RequestId) → id_cmp a b ≡ Less → id_cmp b a ≡ Greater
+greater_back a b e = ids_total.antisymm b a ∙ ap ordering_reverse e
+
+pub less_back : (a b : RequestId) → id_cmp a b ≡ Greater → id_cmp b a ≡ Less
+less_back a b e = ids_total.antisymm b a ∙ ap ordering_reverse e
+
+pub less_not_self : (a b : RequestId) → id_cmp a b ≡ Less → a ≡ b → ⊥
+less_not_self a b e same =
+    let tied : id_cmp a b ≡ Equal = subst (λ (x : RequestId). id_cmp a x ≡ Equal) same (tied_itself ids_total a) in
+    let no : Less ≡ Equal = sym e ∙ tied in
+    absurd cc
+
+pub less_not_same : (a b : RequestId) → id_cmp a b ≡ Less → same_id a b ≡ false
+less_not_same a b e = apart_not_same a b (less_not_self a b e)

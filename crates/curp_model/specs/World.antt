@@ -14,6 +14,7 @@ use Rattle.curp_cmd.specs.declared.entry.Entry.TheVariants.{Op}
 use Rattle.curp_cmd.specs.declared.node.NodeId.{NodeId}
 use Rattle.curp_cmd.specs.declared.node.NodeKind.TheVariants as kind
 use Rattle.curp_cmd.specs.declared.node.NodeKind.{NodeKind}
+use Rattle.curp_msg.specs.Limits.{weight_limit}
 use Rattle.curp_msg.specs.Moved.{Moved, quiet, within}
 use Rattle.curp_msg.specs.Weight.{weight_of}
 use Rattle.curp_msg.specs.declared.machine.Completed.{Completed}
@@ -263,32 +264,52 @@ abbrev pub delivery : Option Message → Deed
 delivery None = Nothing
 delivery (Some m) = Gives m.to (input.Message m)
 
--- an order to a client
-abbrev pub orders_client : ℕ → Local → Deed
-orders_client n order = Gives (client_node n) (input.Local order)
+-- the kind of node that an order is for
+abbrev pub taker_of : Local → NodeKind
+taker_of (local.Invoke command) = kind.Client
+taker_of (local.Retry seq) = kind.Client
+taker_of local.Fetch = kind.Client
+taker_of local.Sync = kind.Master
+taker_of local.Collect = kind.Master
+taker_of (local.Recover part backup witness) = kind.Manager
+taker_of (local.Replace keeper part place) = kind.Manager
+taker_of (local.Migrate lo hi to) = kind.Manager
+taker_of local.Nudge = kind.Manager
+taker_of (local.Expire client) = kind.Manager
 
--- an order to a master
-abbrev pub orders_master : ℕ → Local → Deed
-orders_master n order = Gives (master_node n) (input.Local order)
+-- an order to the node of that number, of the kind that it is for
+abbrev pub orders : ℕ → Local → Deed
+orders n order = Gives (record { kind = taker_of order; number = n }) (input.Local order)
 
--- an order to the manager
-abbrev pub orders_manager : Local → Deed
-orders_manager order = Gives manager_node (input.Local order)
+-- what a step of a script is to do, where these messages were sent before it. The manager has the number 0
+abbrev pub deed_by : List Message → Step → Deed
+deed_by sent (steps.Invoke n command) = orders n (local.Invoke command)
+deed_by sent (steps.Deliver number) = delivery (numbered sent number)
+deed_by sent (steps.Retry n seq) = orders n (local.Retry seq)
+deed_by sent (steps.Fetch n) = orders n local.Fetch
+deed_by sent (steps.Sync n) = orders n local.Sync
+deed_by sent (steps.Collect n) = orders n local.Collect
+deed_by sent (steps.Recover part backup witness) = orders 0 (local.Recover part backup witness)
+deed_by sent (steps.Replace keeper part place) = orders 0 (local.Replace keeper part place)
+deed_by sent (steps.Migrate lo hi to) = orders 0 (local.Migrate lo hi to)
+deed_by sent steps.Nudge = orders 0 local.Nudge
+deed_by sent (steps.Expire n) = orders 0 (local.Expire n)
+deed_by sent (steps.Stop node) = Stops node
 
--- what a step of a script is to do
+-- what it is to do in a world
 abbrev pub deed_of : World → Step → Deed
-deed_of w (steps.Invoke n command) = orders_client n (local.Invoke command)
-deed_of w (steps.Deliver number) = delivery (numbered (messages w) number)
-deed_of w (steps.Retry n seq) = orders_client n (local.Retry seq)
-deed_of w (steps.Fetch n) = orders_client n local.Fetch
-deed_of w (steps.Sync n) = orders_master n local.Sync
-deed_of w (steps.Collect n) = orders_master n local.Collect
-deed_of w (steps.Recover part backup witness) = orders_manager (local.Recover part backup witness)
-deed_of w (steps.Replace keeper part place) = orders_manager (local.Replace keeper part place)
-deed_of w (steps.Migrate lo hi to) = orders_manager (local.Migrate lo hi to)
-deed_of w steps.Nudge = orders_manager local.Nudge
-deed_of w (steps.Expire n) = orders_manager (local.Expire n)
-deed_of w (steps.Stop node) = Stops node
+deed_of w s = deed_by (messages w) s
+
+-- the order that a deed gives, and to which node
+abbrev pub order_in : Deed → Option (NodeId × Local)
+order_in (Gives to (input.Local order)) = Some (to, order)
+order_in (Gives to (input.Message m)) = None
+order_in Nothing = None
+order_in (Stops node) = None
+
+-- the order that a step gives, and to which node; a delivery and a stop give none, whatever was sent
+abbrev pub order_of : Step → Option (NodeId × Local)
+order_of s = order_in (deed_by [] s)
 
 -- ---- why a step can't be made
 
@@ -336,10 +357,6 @@ is_stopped w node = list_any (same_node node) w.stopped
 -- the node that its deed is about is stopped
 abbrev pub names_stopped : World → Step → Bool
 names_stopped w s = list_any (is_stopped w) (subject (deed_of w s))
-
--- beyond this weight no node gets anything more
-abbrev pub weight_limit : ℕ
-weight_limit = 2000000
 
 -- it gives a node something, and the messages weigh too much for that
 abbrev pub is_too_much : World → Deed → Bool

@@ -1,3 +1,5 @@
 pub mod Example
+pub mod Limits
 pub mod Moved
 pub mod Weight
+pub mod Script

@@ -14,6 +14,7 @@
 mod answer;
 mod body;
 mod config;
+mod limits;
 mod machine;
 mod message;
 mod outcome;
@@ -27,6 +28,7 @@ pub use body::{
     Worth,
 };
 pub use config::{Config, PartConfig};
+pub use limits::{STEP_LIMIT, WEIGHT_LIMIT};
 pub use machine::{Capture, Completed, Core, Done, Input, Local};
 pub use message::Message;
 pub use outcome::{Outcome, StepResult};

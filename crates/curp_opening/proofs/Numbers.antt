@@ -1,21 +1,17 @@
 -- Nodes that are numbered from 1, and what numbers name.
-use Rattle.std.proofs.Common.{◌≡◌, ◌⊎◌, inl, inr, ℕ, zero, suc, ◌+◌, ◌*◌, ◌<◌, ◌≤◌, ◌^◌, ◌-◌, List, [], ◌∷◌, ◌++◌, get_or, length, map, replicate, refl, ap, sym, ◌∙◌, arith, add-one, subst}
+use Rattle.std.proofs.Common.{◌≡◌, ◌⊎◌, inl, inr, ℕ, zero, suc, ◌+◌, ◌*◌, ◌<◌, ◌≤◌, ◌^◌, ◌-◌, List, [], ◌∷◌, ◌++◌, get_or, length, map, replicate, refl, ap, sym, ◌∙◌, arith, subst}
 use Rattle.std.proofs.Math.Nat.{mul-le-mul}
 use Rattle.std.proofs.lemmas.List.{length-map, length-replicate, map-append, replicate_more}
 use Rattle.std.proofs.lemmas.Option.{slice_get_read}
 use Rattle.curp_base.specs.Words.{At, numbers_from}
 use Rattle.curp_base.proofs.Lists.{at_push_cases}
-use Rattle.curp_facts.specs.Run.{IsHeader}
+use Rattle.curp_msg.specs.Script.{IsHeader}
 use Rattle.curp_msg.specs.Moved.{Node}
 use Rattle.curp_msg.specs.declared.script.Header.{Header}
 use Rattle.curp_opening.specs.Nodes.{HasNumbers, states}
+use Rattle.curp_base.proofs.Numbered.{length-numbers, named_more}
 
 -- ---- what numbers name
-
--- so many numbers
-pub length_numbers : (n k : ℕ) → length (numbers_from n k) ≡ k
-length_numbers n zero = refl
-length_numbers n (suc k) = ap suc (length_numbers (n + 1) k)
 
 named_from : {A : Type 0} (f : ℕ → A) (n count k : ℕ) (x : A) → At (map f (numbers_from n count)) k x → x ≡ f (n + k)
 named_from f n zero k x here = absurd cc
@@ -30,7 +26,7 @@ named_at f count k x here = let same : 1 + k ≡ k + 1 = omega arith in named_fr
 
 -- and there are so many
 pub named_length : {A : Type 0} (f : ℕ → A) (count : ℕ) → length (map f (numbers_from 1 count)) ≡ count
-named_length f count = length-map (numbers_from 1 count) f ∙ length_numbers 1 count
+named_length f count = length-map (numbers_from 1 count) f ∙ length-numbers 1 count
 
 -- the item of a place, as a loop reads it
 pub named_part : {A : Type 0} (f : ℕ → A) (count : ℕ) (items : List A) (k : ℕ) (x : A) → items ≡ map f (numbers_from 1 count) → k < length items → x ≡ get_or items k x
@@ -49,15 +45,6 @@ numbers_push {S = S} nodes y h next j z there = go (at_push_cases nodes y j z th
     go : At nodes j z ⊎ ((j ≡ length nodes) × (y ≡ z)) → z.number ≡ j + 1
     go (inl here) = h j z here
     go (inr last) = ap (λ (n : Node S). n.number) (sym last.1) ∙ next ∙ ap (λ i. i + 1) (sym last.0)
-
-numbers_next : (n k : ℕ) → numbers_from n (suc k) ≡ numbers_from n k ++ (n + k) ∷ []
-numbers_next n zero = ap (λ m. m ∷ []) (omega arith)
-numbers_next n (suc k) =
-    let last : (n + 1) + k ≡ n + suc k = omega arith in
-    ap (λ (ms : List ℕ). n ∷ ms) (numbers_next (n + 1) k ∙ ap (λ (m : ℕ). numbers_from (n + 1) k ++ m ∷ []) last)
-
-named_more : {A : Type 0} (f : ℕ → A) (n k : ℕ) → map f (numbers_from n (k + 1)) ≡ map f (numbers_from n k) ++ f (n + k) ∷ []
-named_more f n k = ap (λ (count : ℕ). map f (numbers_from n count)) (add-one k) ∙ ap (map f) (numbers_next n k) ∙ map-append f (numbers_from n k) ((n + k) ∷ [])
 
 -- what the numbers from 1 on name, one more
 pub named_push : {A : Type 0} (f : ℕ → A) (k : ℕ) (names pushed : List A) (name : A) → pushed ≡ names ++ name ∷ [] → names ≡ map f (numbers_from 1 k) → name ≡ f (k + 1) → pushed ≡ map f (numbers_from 1 (k + 1))

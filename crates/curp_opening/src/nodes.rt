@@ -2,7 +2,7 @@ ghost use Rattle.std.specs.Prelude.{◌≡◌, ◌≤◌, map, replicate, IfOk};
 ghost use Rattle.curp_base.specs.Words.{numbers_from};
 ghost use Rattle.curp_model.specs.Backup.{installed_backup};
 ghost use Rattle.curp_model.specs.Client.{fresh_client};
-ghost use Rattle.curp_facts.specs.Run.{IsHeader};
+ghost use Rattle.curp_msg.specs.Script.{IsHeader};
 ghost use Rattle.curp_model.specs.Manager.{opening_config, opening_manager};
 ghost use Rattle.curp_model.specs.Witness.{started_witness};
 ghost use Rattle.curp_model.specs.World.{opening_master, shape_of};
@@ -10,8 +10,8 @@ ghost use Rattle.curp_opening.specs.Nodes.{HasNumbers, begins, states};
 
 use curp_base::NoMemory;
 use curp_changes::{Shape, opening_hashes};
-use curp_inv::{BackupNode, ClientNode, ManagerNode, MasterNode, WitnessNode};
 use curp_msg::{Config, Header, PartConfig};
+use curp_nodes::{BackupNode, ClientNode, ManagerNode, MasterNode, WitnessNode};
 use curp_slots::ShapeError;
 use std::alloc::{AllocError, Global};
 

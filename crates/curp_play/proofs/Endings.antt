@@ -1,5 +1,5 @@
 -- What the end of a run says.
-use Rattle.std.proofs.Common.{◌≡◌, inl, inr, ℕ, List, None, Some, Result, Ok, Err, OnOk, false, refl, ap, ◌∙◌, subst}
+use Rattle.std.proofs.Common.{◌≡◌, inl, inr, ℕ, List, None, Some, Result, Ok, Err, OnOk, IsErrAnd, false, refl, ap, ◌∙◌, subst}
 use Rattle.curp_base.specs.Words.{Each}
 use Rattle.curp_io.specs.Text.{lines_of}
 use Rattle.curp_order.specs.Order.{IsHistory, IsOrder}
@@ -8,7 +8,7 @@ use Rattle.curp_msg.specs.declared.script.Step.{Step}
 use Rattle.curp_script.specs.Headers.{bad_field}
 use Rattle.curp_io.specs.Streams.{Rose}
 use Rattle.curp_script.specs.Script.{Ending, Script, Steps, Whole}
-use Rattle.curp_facts.specs.Run.{IsRun, IsStep}
+use Rattle.curp_msg.specs.Script.{IsRun, IsStep}
 use Rattle.curp_model.specs.World.{world, order}
 use Rattle.curp_play.specs.declared.status.Status.{Status}
 use Rattle.curp_play.specs.declared.status.Status.TheVariants as status
@@ -35,6 +35,12 @@ pub always : (P : Type 0) (r : Result (Unit {0}) Status) → P → OnOk r P
 always P (Ok _) h = h
 always P (Err stop) h = tt
 
+-- a stop that is passed on was that of the call
+pub same_stop : {A B : Type 0} (r : Result A Status) (call : Result B Status) (stop other : Status) → call ≡ Err stop
+    → IsErrAnd r (λ e. e ≡ stop) → r ≡ Err other → call ≡ Err other
+same_stop (Ok _) call stop other was same is = absurd same
+same_stop (Err e) call stop other was same is = cc
+
 -- a script that is read to its end, with no fault
 pub ends_whole : (result : Status) (ending : Ending) (a b c d : ℕ) → (is_cut_short result ≡ false → result ≡ status_of ending) → ending ≡ Whole
     → (result ≡ status.ReadFault → Rose a b) → (result ≡ status.WriteFault → Rose c d) → EndsWhole result a b c d
@@ -46,3 +52,5 @@ ends_whole status.Usage ending a b c d ends whole reads writes = let other : sta
 ends_whole (status.BadLine line reason) ending a b c d ends whole reads writes = let other : status.BadLine line reason ≡ status.Ok = ends refl ∙ ap status_of whole in absurd cc
 ends_whole (status.LineTooLong line) ending a b c d ends whole reads writes = let other : status.LineTooLong line ≡ status.Ok = ends refl ∙ ap status_of whole in absurd cc
 ends_whole status.TooManySteps ending a b c d ends whole reads writes = let other : status.TooManySteps ≡ status.Ok = ends refl ∙ ap status_of whole in absurd cc
+ends_whole (status.No clause) ending a b c d ends whole reads writes = let other : status.No clause ≡ status.Ok = ends refl ∙ ap status_of whole in absurd cc
+ends_whole status.TooManyLines ending a b c d ends whole reads writes = let other : status.TooManyLines ≡ status.Ok = ends refl ∙ ap status_of whole in absurd cc

@@ -3,13 +3,15 @@ use Rattle.std.proofs.Common.{ℕ, ◌+◌, ◌-◌, nat_lt, List, [], ◌∷◌
 use Rattle.std.proofs.lemmas.Bool.{cond_both}
 use Rattle.std.proofs.lemmas.Result.{IfOk-weaker}
 use Rattle.curp_base.specs.Words.{Each}
-use Rattle.curp_facts.specs.Run.{IsStep}
+use Rattle.curp_msg.specs.Script.{IsStep}
 use Rattle.curp_msg.specs.declared.script.Header.{Header}
 use Rattle.curp_msg.specs.declared.script.Step.{Step}
 use Rattle.curp_msg.specs.declared.script.Step.TheVariants.{Invoke}
 use Rattle.curp_script.specs.declared.error.LineError.{LineError}
 use Rattle.curp_script.specs.Grammar.{header_in, step_in}
-use Rattle.curp_script.specs.Script.{Script, Steps, begun_with, with_step, line_limit, script_of, step_limit, steps_in}
+use Rattle.curp_script.specs.Script.{Script, Steps, begun_with, with_step, script_of, steps_in}
+use Rattle.curp_base.specs.Limits.{line_limit}
+use Rattle.curp_msg.specs.Limits.{step_limit}
 use Rattle.curp_script.proofs.ReadNames.{IsNamed, read_names}
 
 is_step : (step : Step) → IsNamed step → IsStep step

@@ -8,11 +8,25 @@ use Rattle.curp_io.proofs.Text.{lines_of_first}
 use Rattle.curp_msg.specs.declared.script.Header.{Header}
 use Rattle.curp_msg.specs.declared.script.Step.{Step}
 use Rattle.curp_script.specs.Grammar.{header_in, step_in}
-use Rattle.curp_script.specs.Script.{Steps, begun_with, with_step, steps_in, step_limit, line_limit, script_of}
+use Rattle.curp_script.specs.declared.error.LineError.{LineError}
+use Rattle.curp_script.specs.Script.{Bad, Steps, TooLong, TooMany, Whole, begun_with, with_step, steps_in, script_of}
+use Rattle.curp_base.specs.Limits.{line_limit}
+use Rattle.curp_msg.specs.Limits.{step_limit}
 use Rattle.curp_play.specs.declared.status.Status.{Status}
 use Rattle.curp_play.specs.declared.status.Status.TheVariants as status
 use Rattle.curp_play.specs.Play.{script_in}
 use Rattle.curp_play.specs.Reading.{GivesStep, HasNoHeader, StopsAs, due}
+
+-- ---- what isn't read to its end
+
+pub not_whole_long : (line : ℕ) → TooLong line ≢ Whole
+not_whole_long line e = cc
+
+pub not_whole_bad : (line : ℕ) (reason : LineError) → Bad line reason ≢ Whole
+not_whole_bad line reason e = cc
+
+pub not_whole_many : TooMany ≢ Whole
+not_whole_many e = cc
 
 -- ---- lines
 

@@ -1,3 +1,4 @@
+pub mod Check
 pub mod Play
 pub mod Reading
 pub mod Status

@@ -1,7 +1,8 @@
 -- A script that is read line by line.
 use Rattle.std.specs.Prelude.{◌≡◌, ℕ, ◌+◌, Bool, true, false, List, [], ◌∷◌, ◌++◌, None, Result, Ok, Err, ⊤}
-use Rattle.curp_io.specs.Text.{Progress, lines_of}
+use Rattle.curp_io.specs.Text.{GivesLine, Progress, line_of, lines_of}
 use Rattle.curp_msg.specs.declared.script.Step.{Step}
+use Rattle.curp_script.specs.declared.error.LineError.{LineError}
 use Rattle.curp_script.specs.Script.{Whole, Script, Steps, ends, steps_in}
 use Rattle.curp_play.specs.Status.{is_cut_short, status_of}
 use Rattle.curp_play.specs.declared.status.Status.{Status}
@@ -30,9 +31,21 @@ GivesStep body (Ok true) s rest = body ≡ record { steps = s ∷ rest.steps; en
 GivesStep body (Ok false) s rest = body ≡ ends Whole
 GivesStep body (Err stop) s rest = StopsAs body stop
 
+-- the first line of these bytes is read as this, and the rest is left
+pub record ReadsLine {A : Type 0} (meaning : List ℕ → Result A LineError) (bytes : List ℕ) (read : A) (rest : List ℕ) : Type 0 where
+  pub line : List ℕ
+  pub given : GivesLine bytes line rest
+  pub is : meaning line ≡ Ok read
+
+-- nothing of these bytes is lost, and less than a line of them is ahead of what is left
+pub record LeavesLess (bytes ahead left : List ℕ) : Type 0 where
+  pub all : ahead ++ left ≡ bytes
+  pub less : line_of ahead ≡ ahead
+
 -- reading ends a run by what it read, by a read fault, or for want of memory
 abbrev pub IsOfReading : Status → Type 0
 IsOfReading status.Ok = ⊥
+IsOfReading (status.No clause) = ⊥
 IsOfReading status.Usage = ⊥
 IsOfReading status.WriteFault = ⊥
 IsOfReading _ = ⊤

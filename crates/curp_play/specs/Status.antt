@@ -1,9 +1,12 @@
 -- How a run ended, and what the program tells of it.
 use Rattle.std.specs.Prelude.{◌≡◌, ℕ, ◌++◌, codes, Bool, true, false, List, Option, Some, None, Result, Ok, Err, ⊤}
 use Rattle.std.specs.Fmt.{decimal}
+use Rattle.curp_check.specs.Claim.{claim_limit}
+use Rattle.curp_check.specs.Verdict.{number_of}
 use Rattle.curp_script.specs.declared.error.LineError.{LineError}
 use Rattle.curp_script.specs.declared.error.LineError.TheVariants.{NoMemory}
-use Rattle.curp_script.specs.Script.{Ending, Whole, Bad, TooLong, TooMany, step_limit}
+use Rattle.curp_script.specs.Script.{Ending, Whole, Bad, TooLong, TooMany}
+use Rattle.curp_msg.specs.Limits.{step_limit}
 use Rattle.curp_script.specs.Text.{reason_text}
 use Rattle.curp_play.specs.declared.status.Status.{Status}
 use Rattle.curp_play.specs.declared.status.Status.TheVariants as status
@@ -39,12 +42,14 @@ refused_at line reason = status.BadLine line reason
 -- the number with which the process ends
 abbrev pub code_of : Status → ℕ
 code_of status.Ok = 0
+code_of (status.No clause) = 1
 code_of status.Usage = 2
 code_of (status.BadLine line reason) = 3
 code_of status.ReadFault = 4
 code_of status.WriteFault = 5
 code_of status.NoMemory = 6
 code_of status.TooManySteps = 7
+code_of status.TooManyLines = 7
 code_of (status.LineTooLong line) = 10
 
 -- the process ends with the number of a status
@@ -55,12 +60,14 @@ pub record TellsStatus (number : ℕ) : Type 0 where
 -- how the run ended, in words
 abbrev pub status_text : Status → List ℕ
 status_text status.Ok = codes "done"
+status_text (status.No clause) = codes "no, clause " ++ decimal (number_of clause)
 status_text status.Usage = codes "usage: curp play, curp make [options], curp live [options]"
 status_text (status.BadLine line reason) = codes "line " ++ decimal line ++ codes ": " ++ reason_text reason
 status_text status.ReadFault = codes "reading failed"
 status_text status.WriteFault = codes "writing failed"
 status_text status.NoMemory = codes "out of memory"
 status_text status.TooManySteps = codes "more than " ++ decimal step_limit ++ codes " steps"
+status_text status.TooManyLines = codes "more than " ++ decimal claim_limit ++ codes " lines"
 status_text (status.LineTooLong line) = codes "line " ++ decimal line ++ codes " is too long"
 
 -- a run that ended well is no cause for complaint

@@ -3,7 +3,8 @@ ghost use Rattle.curp_io.specs.Streams.{HoldsPart, Rose, SameCount};
 ghost use Rattle.curp_script.specs.Headers.{bad_field};
 ghost use Rattle.curp_model.specs.World as model;
 ghost use Rattle.curp_text.specs.Text.{closing_order, made_text};
-ghost use Rattle.curp_play.specs.Play.{EndsWhole, HasAnOrder, text_from, script_in, text_of};
+ghost use Rattle.curp_play.specs.Play.{EndsWhole, HasAnOrder, HoldsRead, HoldsWholeLines};
+ghost use Rattle.curp_play.specs.Play.{script_in, text_from, text_of, texts_behind};
 ghost use Rattle.curp_script.specs.Script.{Whole};
 ghost use Rattle.curp_play.specs.Reading.{IsBehind, IsOfWriting, due};
 ghost use Rattle.curp_play.specs.Status.{ended, is_cut_short, status_of};
@@ -39,6 +40,9 @@ pub fn play_script<S: Source, K: Sink>(alloc: Global, source: &mut S, sink: &mut
     ensures front { S.tells source.old ≡ true → K.tells sink.old ≡ true
         → HoldsPart (K.held sink.old) (K.held sink.new) (text_of (script_in (S.left source.old))) }
     ensures flushed { is_cut_short result ≡ false → K.flushed sink.new ≡ true }
+    // Where reading fails, it has written what the whole lines say that it was given.
+    ensures at_fault { S.tells source.old ≡ true → K.tells sink.old ≡ true → result ≡ Status.ReadFault
+        → HoldsWholeLines (S.left source.old) (S.left source.new) (K.held sink.old) (K.held sink.new) }
 
     // The order that it prints is one of the history: each completed request stands once, each answer is that of one
     // thread, and what completed before another was invoked stands before it.
@@ -64,6 +68,8 @@ fn play<S: Source, K: Sink>(alloc: Global, source: &mut S, sink: &mut K) -> Resu
         → K.held sink.new ≡ K.held sink.old ++ text_of (script_in (S.left source.old)) }
     ensures front { S.tells source.old ≡ true → K.tells sink.old ≡ true
         → HoldsPart (K.held sink.old) (K.held sink.new) (text_of (script_in (S.left source.old))) }
+    ensures at_fault { S.tells source.old ≡ true → K.tells sink.old ≡ true → result ≡ Err Status.ReadFault
+        → HoldsWholeLines (S.left source.old) (S.left source.new) (K.held sink.old) (K.held sink.new) }
     ensures order { S.tells source.old ≡ true → OnOk result (HasAnOrder (script_in (S.left source.old))) }
     ensures tells { K.tells sink.old ≡ true → K.tells sink.new ≡ true }
     ensures read_fault { result ≡ Err Status.ReadFault → Rose (S.faults source.old) (S.faults source.new) }
@@ -98,6 +104,9 @@ fn play_behind<S: Source, K: Sink>(
         ≡ K.held sink.old ++ text_from 1 (model.world header.now []) (due script.old (S.left source.old)) }
     ensures front { S.tells source.old ≡ true → K.tells sink.old ≡ true → HoldsPart (K.held sink.old) (K.held sink.new)
         (text_from 1 (model.world header.now []) (due script.old (S.left source.old))) }
+    ensures at_fault { S.tells source.old ≡ true → K.tells sink.old ≡ true → result ≡ Err Status.ReadFault
+        → HoldsRead (texts_behind (model.world header.now [])) (script.old.ahead ++ S.left source.old)
+        (S.left source.new) (K.held sink.old) (K.held sink.new) }
     ensures tells { K.tells sink.old ≡ true → K.tells sink.new ≡ true }
     ensures read_fault { result ≡ Err Status.ReadFault → Rose (S.faults source.old) (S.faults source.new) }
     ensures no_read_fault { result ≢ Err Status.ReadFault → SameCount (S.faults source.old) (S.faults source.new) }
@@ -113,7 +122,7 @@ fn play_behind<S: Source, K: Sink>(
 }
 
 /// The world before any step. A header that was read is one of a world.
-fn begin(alloc: Global, header: &Header) -> Result<World, Status>
+pub(crate) fn begin(alloc: Global, header: &Header) -> Result<World, Status>
     requires { bad_field header.now ≡ None }
     ensures ok { IfOk result (λ w. w ≡ model.world header.now []) }
     ensures err { IfErr result (λ stop. stop ≡ Status.NoMemory) }
@@ -143,6 +152,9 @@ fn play_steps<S: Source, K: Sink>(
         → K.held sink.new ≡ K.held sink.old ++ text_from 1 world.old (due script.old (S.left source.old)) }
     ensures front { S.tells source.old ≡ true → K.tells sink.old ≡ true → HoldsPart (K.held sink.old) (K.held sink.new)
         (text_from 1 world.old (due script.old (S.left source.old))) }
+    ensures at_fault { S.tells source.old ≡ true → K.tells sink.old ≡ true → result ≡ Err Status.ReadFault
+        → HoldsRead (texts_behind world.old) (script.old.ahead ++ S.left source.old)
+        (S.left source.new) (K.held sink.old) (K.held sink.new) }
     ensures tells { K.tells sink.old ≡ true → K.tells sink.new ≡ true }
     ensures read_fault { result ≡ Err Status.ReadFault → Rose (S.faults source.old) (S.faults source.new) }
     ensures no_read_fault { result ≢ Err Status.ReadFault → SameCount (S.faults source.old) (S.faults source.new) }

@@ -1,21 +1,21 @@
-ghost use Rattle.std.specs.Prelude.{◌≡◌, ◌≢◌, ◌+◌, ◌≤◌, [], true, false, None, Some, Ok, Err, OnOk, IfOk, IfErr};
+ghost use Rattle.std.specs.Prelude.{◌≡◌, ◌≢◌, ◌+◌, ◌≤◌, ◌++◌, [], true, false, None, Some, Ok, Err, OnOk, IfOk, IfErr};
 ghost use Rattle.curp_io.specs.Streams.{Rose, SameCount};
 ghost use Rattle.curp_io.specs.Text.{nothing_read};
 ghost use Rattle.curp_script.specs.Grammar.{header_in, step_in};
 ghost use Rattle.curp_script.specs.Headers.{bad_field};
-ghost use Rattle.curp_script.specs.Script.{Steps, begun_with, step_limit, with_step};
+ghost use Rattle.curp_script.specs.Script.{Steps, begun_with, with_step};
+ghost use Rattle.curp_msg.specs.Limits.{step_limit};
 ghost use Rattle.curp_play.specs.Play.{script_in};
-ghost use Rattle.curp_play.specs.Reading.{GivesStep, HasNoHeader, IsBehind, IsOfReading, StopsAs, due};
+ghost use Rattle.curp_play.specs.Reading.{GivesStep, HasNoHeader, IsBehind, IsOfReading, LeavesLess, ReadsLine};
+ghost use Rattle.curp_play.specs.Reading.{StopsAs, due};
 
 use crate::status::Status;
 use curp_base::NoMemory;
 use curp_io::{Lines, NextLine, Source};
+use curp_msg::STEP_LIMIT;
 use curp_script::{Header, LineError, LineReader, Step};
 use std::alloc::Global;
 use std::marker::Model;
-
-/// How many steps a script may have.
-pub(crate) const STEP_LIMIT: u64 = 200_000;
 
 /// Reads a script line by line. Contracts see the lines read so far.
 #[derive(Drop)]
@@ -49,6 +49,10 @@ impl ScriptReader {
         ensures opened { S.tells source.old ≡ true → IfOk result (λ header. script_in (S.left source.old)
             ≡ record { header = Some header; body = due self.new (S.left source.new) }) }
         ensures refused { S.tells source.old ≡ true → IfErr result (HasNoHeader (script_in (S.left source.old))) }
+        ensures line { S.tells source.old ≡ true → IfOk result (λ header. ReadsLine header_in (S.left source.old) header
+            (self.new.ahead ++ S.left source.new)) }
+        ensures fault { S.tells source.old ≡ true → result ≡ Err Status.ReadFault
+            → LeavesLess (S.left source.old) self.new.ahead (S.left source.new) }
         ensures valid { IfOk result (λ header. bad_field header ≡ None) }
         ensures goes_on { OnOk result (IsBehind self.new 1) }
         ensures reading { IfErr result IsOfReading }
@@ -76,6 +80,10 @@ impl ScriptReader {
         requires counted { number ≤ step_limit + 1 }
         ensures due { S.tells source.old ≡ true
             → GivesStep (due self.old (S.left source.old)) result step.new (due self.new (S.left source.new)) }
+        ensures line { S.tells source.old ≡ true → result ≡ Ok true → ReadsLine step_in
+            (self.old.ahead ++ S.left source.old) step.new (self.new.ahead ++ S.left source.new) }
+        ensures fault { S.tells source.old ≡ true → result ≡ Err Status.ReadFault
+            → LeavesLess (self.old.ahead ++ S.left source.old) self.new.ahead (S.left source.new) }
         ensures end { S.tells source.old ≡ true → result ≡ Ok false → S.left source.new ≡ [] }
         ensures goes_on { result ≡ Ok true → IsBehind self.new (number + 1) }
         ensures counted { result ≡ Ok true → number ≤ step_limit }

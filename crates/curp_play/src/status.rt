@@ -1,8 +1,9 @@
 ghost use Rattle.std.specs.Prelude.{◌≡◌, option_map};
 ghost use Rattle.curp_play.specs.Status.{code_of, complaint_of, ended, is_cut_short, refused_at};
 
-use crate::reading::STEP_LIMIT;
 use curp_base::NoMemory;
+use curp_check::{CLAIM_LIMIT, Clause};
+use curp_msg::STEP_LIMIT;
 use curp_script::LineError;
 use std::fmt;
 use std::process::ExitCode;
@@ -12,6 +13,8 @@ use std::process::ExitCode;
 pub enum Status {
     /// The input was read to its end, and all text was written and flushed.
     Ok,
+    /// The input was read to its end, and the order isn't one of the history: that clause is the first that fails.
+    No { clause: Clause },
     /// The words are no command line. Nothing was read or written.
     Usage,
     /// That line, counted from 1, is the first that the grammar refuses.
@@ -24,6 +27,8 @@ pub enum Status {
     NoMemory,
     /// There is a step after the 200,000th.
     TooManySteps,
+    /// There is a line of a history or an order after the 400,000th.
+    TooManyLines,
     /// That line, counted from 1, is the first above 65,536 bytes.
     LineTooLong { line: u64 },
 }
@@ -35,12 +40,13 @@ impl Status {
     {
         match self {
             Status::Ok => 0,
+            Status::No { .. } => 1,
             Status::Usage => 2,
             Status::BadLine { .. } => 3,
             Status::ReadFault => 4,
             Status::WriteFault => 5,
             Status::NoMemory => 6,
-            Status::TooManySteps => 7,
+            Status::TooManySteps | Status::TooManyLines => 7,
             Status::LineTooLong { .. } => 10,
         }
     }
@@ -118,6 +124,7 @@ impl fmt::Display for Status {
     fn fmt<W: fmt::Write>(&self, f: &mut fmt::Formatter<W>) -> fmt::Result {
         match self {
             Status::Ok => write!(f, "done"),
+            Status::No { clause } => write!(f, "no, clause {}", clause.number()),
             Status::Usage => write!(
                 f,
                 "usage: curp play, curp make [options], curp live [options]"
@@ -127,6 +134,7 @@ impl fmt::Display for Status {
             Status::WriteFault => write!(f, "writing failed"),
             Status::NoMemory => write!(f, "out of memory"),
             Status::TooManySteps => write!(f, "more than {STEP_LIMIT} steps"),
+            Status::TooManyLines => write!(f, "more than {CLAIM_LIMIT} lines"),
             Status::LineTooLong { line } => write!(f, "line {line} is too long"),
         }
     }

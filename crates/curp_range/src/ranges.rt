@@ -56,13 +56,12 @@ impl Ranges {
         spans::covers(&self.spans, hash, hash)
     }
 
-    /// Whether each hash of the range is owned.
+    /// Whether each hash of the range is owned. Where `hi` is below `lo` there is none in it, and so it is.
     pub fn covers(&self, lo: u64, hi: u64) -> bool
-        requires { lo ≤ hi }
         ensures covered { IsTrue result ↔ Covers self.now.spans lo hi }
         ensures lacking { IsFalse result ↔ Lacks self.now.spans lo hi }
     {
-        spans::covers(&self.spans, lo, hi)
+        hi < lo || spans::covers(&self.spans, lo, hi)
     }
 
     /// The spans of the owned hashes: each has a first and a last hash, and the next begins at least two above the

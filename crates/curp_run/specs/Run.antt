@@ -3,9 +3,13 @@ use Rattle.std.specs.Prelude.{◌≡◌, ◌⊎◌, ℕ, Option, List, String, d
 use Rattle.std.specs.declared.alloc.Global.{Global}
 use Rattle.std.specs.declared.io.ErrorKind.{ErrorKind}
 use Rattle.std.specs.declared.io.ErrorKind.TheVariants as kind
+use Rattle.curp_base.specs.Words.{Each}
 use Rattle.curp_io.specs.Streams.{Rose}
+use Rattle.curp_law_print.specs.Ranges.{StepInRange}
+use Rattle.curp_msg.specs.declared.script.Step.{Step}
 use Rattle.curp_play.specs.declared.status.Status.{Status}
 use Rattle.curp_play.specs.declared.status.Status.TheVariants as status
+use Rattle.curp_script.specs.Printed.{NamesNode}
 use Rattle.curp_words.specs.Words.{order_in}
 use Rattle.curp_words.specs.declared.order.Order.{Order}
 
@@ -25,3 +29,8 @@ IsOfMaking result = (result ≡ status.Ok) ⊎ ((result ≡ status.WriteFault) �
 -- with no fault of its output, it ends with the status 0, or for want of memory
 abbrev pub EndsMade : Status → (before after : ℕ) → Type 0
 EndsMade result before after = (Rose before after → ⊥) → (result ≡ status.Ok) ⊎ (result ≡ status.NoMemory)
+
+-- each of the steps names a node that can be printed, and each of its values is in the range that its type gives it
+pub record ArePrintable (steps : List Step) : Type 0 where
+  pub names : Each NamesNode steps
+  pub in_range : Each StepInRange steps

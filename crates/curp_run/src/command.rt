@@ -1,30 +1,36 @@
 ghost use Rattle.std.specs.Prelude.{◌≡◌, ◌≢◌, ◌⊎◌, ◌↔◌, ◌++◌, [], true, false, Some, None};
 ghost use Rattle.curp_io.specs.Streams.{HoldsPart, Rose, SameCount};
-ghost use Rattle.curp_gen.specs.Texts.{made_text};
-ghost use Rattle.curp_play.specs.Play.{EndsWhole, HasAnOrder, script_in, text_of};
+ghost use Rattle.curp_gen.specs.Texts.{made_script, made_text};
+ghost use Rattle.curp_check.specs.Claim.{IsClaimOfOrder, claim_in};
+ghost use Rattle.curp_check.specs.declared.verdict.Clause.{Clause};
+ghost use Rattle.curp_play.specs.Play.{EndsWhole, HasAnOrder, HoldsWholeLines, claim_of, script_in, text_of};
 ghost use Rattle.curp_play.specs.Status.{is_cut_short, status_of};
+ghost use Rattle.curp_play.specs.Check.{EndsAs, EndsJudged, IsBrokenClaim, IsJudgedFront, is_verdict, verdict_text};
 ghost use Rattle.curp_run.specs.Live.{IsLive, IsLiveFront};
 ghost use Rattle.curp_run.specs.Run.{EndsMade, IsOfMaking, asked};
 ghost use Rattle.curp_script.specs.Script.{Whole};
 ghost use Rattle.curp_words.specs.declared.order.LivePlan.{LivePlan};
 ghost use Rattle.curp_words.specs.declared.order.MakePlan.{MakePlan};
 ghost use Rattle.curp_words.specs.declared.order.Output.{Output};
+ghost use Rattle.curp_words.specs.declared.order.Report.TheVariants as Report;
 
 use crate::arguments::order_of;
 use crate::live::live_script;
 use crate::script::make_script;
 use curp_io::{Sink, Source};
-use curp_play::{Status, play_script};
+use curp_play::{Status, check_claim, play_history, play_script};
 use curp_seat::Gate;
-use curp_words::{Order, WordsError};
+use curp_words::{Order, Report, WordsError};
 use std::alloc::Global;
 use std::sync::Wait;
 use std::thread::Threads;
 
-/// Does what the arguments of the program say. The first of them is the program's name; of the words behind it, `play`
-/// reads a script from the source and writes its text to the sink, as `play_script`; `make`, with its options, writes a script or its summary, as
-/// `make_script`; `live` runs nodes on threads, and writes the script of what they did and its text, as `live_script`.
-/// The gate is told of each step that a node on a thread makes.
+/// Does what the arguments of the program say. The first of them is the program's name; of the words behind it,
+/// `play` reads a script from the source and writes its text to the sink, as `play_script`, or with `--history` what
+/// clients saw, as `play_history`; `make`, with its options, writes a script or its summary, as `make_script`; `live`
+/// runs nodes on threads, and writes the script of what they did and its text, as `live_script`; `check` reads a
+/// history and an order, and writes whether the order is one of the history, as `check_claim`. The gate is told of
+/// each step that a node on a thread makes.
 pub fn run<R: Threads + Wait + Sync, G: Gate + Sync, S: Source, K: Sink>(
     rt: &R,
     alloc: Global,
@@ -39,29 +45,36 @@ pub fn run<R: Threads + Wait + Sync, G: Gate + Sync, S: Source, K: Sink>(
     ensures untouched { asked arguments.now ≡ None → (source.new ≡ source.old) × (sink.new ≡ sink.old) }
 
     // With `play` it ends as the script does, unless a fault or want of memory cuts it short.
-    ensures ends { asked arguments.now ≡ Some Order.Play → S.tells source.old ≡ true → is_cut_short result ≡ false
-        → result ≡ status_of (script_in (S.left source.old)).body.ending }
-    ensures end { asked arguments.now ≡ Some Order.Play → S.tells source.old ≡ true → result ≡ Status.Ok
+    ensures ends { asked arguments.now ≡ Some (Order.Play Report.Steps) → S.tells source.old ≡ true
+        → is_cut_short result ≡ false → result ≡ status_of (script_in (S.left source.old)).body.ending }
+    ensures end { asked arguments.now ≡ Some (Order.Play Report.Steps) → S.tells source.old ≡ true → result ≡ Status.Ok
         → S.left source.new ≡ [] }
-    ensures complete { asked arguments.now ≡ Some Order.Play → S.tells source.old ≡ true
+    ensures complete { asked arguments.now ≡ Some (Order.Play Report.Steps) → S.tells source.old ≡ true
         → (script_in (S.left source.old)).body.ending ≡ Whole
         → EndsWhole result (S.faults source.old) (S.faults source.new) (K.faults sink.old) (K.faults sink.new) }
 
     // It writes the text of the script; where it is cut short, it writes a front of the text.
-    ensures wrote { asked arguments.now ≡ Some Order.Play → S.tells source.old ≡ true → K.tells sink.old ≡ true
-        → is_cut_short result ≡ false → K.held sink.new ≡ K.held sink.old ++ text_of (script_in (S.left source.old)) }
-    ensures front { asked arguments.now ≡ Some Order.Play → S.tells source.old ≡ true → K.tells sink.old ≡ true
+    ensures wrote { asked arguments.now ≡ Some (Order.Play Report.Steps) → S.tells source.old ≡ true
+        → K.tells sink.old ≡ true → is_cut_short result ≡ false
+        → K.held sink.new ≡ K.held sink.old ++ text_of (script_in (S.left source.old)) }
+    ensures front { asked arguments.now ≡ Some (Order.Play Report.Steps) → S.tells source.old ≡ true
+        → K.tells sink.old ≡ true
         → HoldsPart (K.held sink.old) (K.held sink.new) (text_of (script_in (S.left source.old))) }
+    ensures at_fault { asked arguments.now ≡ Some (Order.Play Report.Steps) → S.tells source.old ≡ true
+        → K.tells sink.old ≡ true → result ≡ Status.ReadFault
+        → HoldsWholeLines (S.left source.old) (S.left source.new) (K.held sink.old) (K.held sink.new) }
 
     // The order that it prints is one of the history.
-    ensures order { asked arguments.now ≡ Some Order.Play → S.tells source.old ≡ true → result ≡ Status.Ok
-        → HasAnOrder (script_in (S.left source.old)) }
+    ensures order { asked arguments.now ≡ Some (Order.Play Report.Steps) → S.tells source.old ≡ true
+        → result ≡ Status.Ok → HasAnOrder (script_in (S.left source.old)) }
 
     // With `make` it writes what the plan gives, or a front of it, and reads nothing.
     ensures made { (plan : MakePlan) (output : Output) → asked arguments.now ≡ Some (Order.Make plan output)
         → K.tells sink.old ≡ true → result ≡ Status.Ok → K.held sink.new ≡ K.held sink.old ++ made_text plan output }
     ensures made_front { (plan : MakePlan) (output : Output) → asked arguments.now ≡ Some (Order.Make plan output)
         → K.tells sink.old ≡ true → HoldsPart (K.held sink.old) (K.held sink.new) (made_text plan output) }
+    ensures made_reads { (plan : MakePlan) → asked arguments.now ≡ Some (Order.Make plan Output.Script)
+        → result ≡ Status.Ok → script_in (made_text plan Output.Script) ≡ made_script plan }
     ensures unread { (plan : MakePlan) (output : Output) → asked arguments.now ≡ Some (Order.Make plan output)
         → source.new ≡ source.old }
     ensures of_making { (plan : MakePlan) (output : Output) → asked arguments.now ≡ Some (Order.Make plan output)
@@ -80,6 +93,42 @@ pub fn run<R: Threads + Wait + Sync, G: Gate + Sync, S: Source, K: Sink>(
     ensures complete_living { (plan : LivePlan) → asked arguments.now ≡ Some (Order.Live plan)
         → EndsMade result (K.faults sink.old) (K.faults sink.new) }
 
+    // With `play --history` it ends as the script does, and writes the lines of what clients saw and of the order,
+    // which `check` reads back and says yes to.
+    ensures history_ends { asked arguments.now ≡ Some (Order.Play Report.History) → S.tells source.old ≡ true
+        → is_cut_short result ≡ false → result ≡ status_of (script_in (S.left source.old)).body.ending }
+    ensures history_end { asked arguments.now ≡ Some (Order.Play Report.History) → S.tells source.old ≡ true
+        → result ≡ Status.Ok → S.left source.new ≡ [] }
+    ensures complete_history { asked arguments.now ≡ Some (Order.Play Report.History) → S.tells source.old ≡ true
+        → (script_in (S.left source.old)).body.ending ≡ Whole
+        → EndsWhole result (S.faults source.old) (S.faults source.new) (K.faults sink.old) (K.faults sink.new) }
+    ensures history { asked arguments.now ≡ Some (Order.Play Report.History) → S.tells source.old ≡ true
+        → K.tells sink.old ≡ true → is_cut_short result ≡ false
+        → K.held sink.new ≡ K.held sink.old ++ claim_of (script_in (S.left source.old)) }
+    ensures history_front { asked arguments.now ≡ Some (Order.Play Report.History) → S.tells source.old ≡ true
+        → K.tells sink.old ≡ true
+        → HoldsPart (K.held sink.old) (K.held sink.new) (claim_of (script_in (S.left source.old))) }
+    ensures history_is_ordered { asked arguments.now ≡ Some (Order.Play Report.History) → S.tells source.old ≡ true
+        → result ≡ Status.Ok → IsClaimOfOrder (claim_of (script_in (S.left source.old))) }
+
+    // With `check` it ends with the verdict on the claim, read to its end, or at the first line that is refused, is too
+    // long or is one too many: yes exactly where the order is one of the history, and else the first clause that fails.
+    ensures judged { asked arguments.now ≡ Some Order.Check → S.tells source.old ≡ true → is_cut_short result ≡ false
+        → EndsAs (S.left source.old) result }
+    ensures yes { asked arguments.now ≡ Some Order.Check → S.tells source.old ≡ true → is_cut_short result ≡ false
+        → (result ≡ Status.Ok) ↔ IsClaimOfOrder (S.left source.old) }
+    ensures no { (clause : Clause) → asked arguments.now ≡ Some Order.Check → S.tells source.old ≡ true
+        → is_cut_short result ≡ false → (result ≡ Status.No clause) ↔ IsBrokenClaim (S.left source.old) clause }
+    ensures judged_end { asked arguments.now ≡ Some Order.Check → S.tells source.old ≡ true
+        → is_verdict result ≡ true → S.left source.new ≡ [] }
+    ensures complete_judging { asked arguments.now ≡ Some Order.Check → S.tells source.old ≡ true
+        → (claim_in (S.left source.old)).ending ≡ Whole
+        → EndsJudged result (S.faults source.old) (S.faults source.new) (K.faults sink.old) (K.faults sink.new) }
+    ensures told { asked arguments.now ≡ Some Order.Check → K.tells sink.old ≡ true → is_cut_short result ≡ false
+        → K.held sink.new ≡ K.held sink.old ++ verdict_text result }
+    ensures told_front { asked arguments.now ≡ Some Order.Check → S.tells source.old ≡ true → K.tells sink.old ≡ true
+        → IsJudgedFront (S.left source.old) (K.held sink.old) (K.held sink.new) }
+
     // What it wrote is passed on.
     ensures flushed { asked arguments.now ≢ None → is_cut_short result ≡ false → K.flushed sink.new ≡ true }
 
@@ -90,9 +139,11 @@ pub fn run<R: Threads + Wait + Sync, G: Gate + Sync, S: Source, K: Sink>(
     ensures no_write_fault { result ≢ Status.WriteFault → SameCount (K.faults sink.old) (K.faults sink.new) }
 {
     match order_of(alloc, arguments) {
-        Ok(Order::Play) => play_script(alloc, source, sink),
+        Ok(Order::Play(Report::Steps)) => play_script(alloc, source, sink),
+        Ok(Order::Play(Report::History)) => play_history(alloc, source, sink),
         Ok(Order::Make(plan, output)) => make_script(alloc, &plan, output, sink),
         Ok(Order::Live(plan)) => live_script(rt, alloc, &plan, gate, sink),
+        Ok(Order::Check) => check_claim(alloc, source, sink),
         Err(WordsError::Usage) => Status::Usage,
         Err(WordsError::NoMemory) => Status::NoMemory,
     }

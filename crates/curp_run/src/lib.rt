@@ -1,4 +1,5 @@
-//! What the program does by the words of its command line: it plays a script, makes one, or runs nodes on threads.
+//! What the program does by the words of its command line: it plays a script, makes one, runs nodes on threads, or
+//! checks an order.
 //!
 //! `live_script` prints the script into memory, writes it, and plays just these bytes by `play_script`. A made script
 //! is written line by line, as its steps are made; nothing but the world is kept.

@@ -20,7 +20,8 @@ use std::{env, io};
 const OPTIONS: &str =
     "make takes --number, --f, --sets, --ways, --clients, --parts, --protocol, --steps and \
     --recoveries, each with a number, and --summary; live takes the same but --steps and \
-    --summary, --recoveries with 0 alone, and --commands with a number";
+    --summary, --recoveries with 0 alone, and --commands with a number; play takes --history; \
+    check takes none";
 
 /// Does all that `main` does: runs the command line over the standard streams, writes what there is to complain of to
 /// standard error, and says with which number the process ends. Where the words are no command line, one more line

@@ -1,14 +1,16 @@
 ghost use Rattle.std.specs.Prelude.{◌≡◌, ◌≢◌, ◌≤◌, ◌+◌, ◌++◌, true, Err, OnOk, IfErr};
 ghost use Rattle.curp_io.specs.Streams.{HoldsPart, Rose, SameCount};
-ghost use Rattle.curp_gen.specs.Texts.{made_text, script_text, summary_text};
+ghost use Rattle.curp_gen.specs.Texts.{made_script, made_text, script_text, summary_text};
 ghost use Rattle.curp_script.specs.Texts.{line_text, lines_text};
 ghost use Rattle.curp_gen.specs.Making.{after, begun, steps_from, summary_of};
+ghost use Rattle.curp_play.specs.Play.{script_in};
 ghost use Rattle.curp_play.specs.Reading.{IsOfWriting};
-ghost use Rattle.curp_run.specs.Run.{EndsMade, IsOfMaking};
+ghost use Rattle.curp_run.specs.Run.{ArePrintable, EndsMade, IsOfMaking};
 ghost use Rattle.curp_words.specs.Plan.{IsPlan};
 
 use curp_gen::Maker;
 use curp_io::Sink;
+use curp_law_print::{printed_scripts_are_read, step_is_in_range};
 use curp_play::{Status, close, write};
 use curp_script::{print_header, print_line};
 use curp_words::{MakePlan, Output};
@@ -25,6 +27,9 @@ pub fn make_script<K: Sink>(alloc: Global, plan: &MakePlan, output: Output, sink
     ensures front { K.tells sink.old ≡ true
         → HoldsPart (K.held sink.old) (K.held sink.new) (made_text plan.now output) }
     ensures flushed { result ≡ Status.Ok → K.flushed sink.new ≡ true }
+    // A made script is read to its end, as the plan's header and steps: none of its lines is refused.
+    ensures reads { result ≡ Status.Ok → output ≡ Output.Script
+        → script_in (made_text plan.now output) ≡ made_script plan.now }
 
     // A write fault comes exactly where the count of faults rose; want of memory is the one other failure.
     ensures of_making { IsOfMaking result }
@@ -48,6 +53,8 @@ fn write_made<K: Sink>(
         → OnOk result (K.held sink.new ≡ K.held sink.old ++ made_text plan.now output) }
     ensures front { K.tells sink.old ≡ true
         → HoldsPart (K.held sink.old) (K.held sink.new) (made_text plan.now output) }
+    ensures reads { OnOk result (output ≡ Output.Script
+        → script_in (made_text plan.now output) ≡ made_script plan.now) }
     ensures writing { IfErr result IsOfWriting }
     ensures tells { K.tells sink.old ≡ true → K.tells sink.new ≡ true }
     ensures fault { result ≡ Err Status.WriteFault → Rose (K.faults sink.old) (K.faults sink.new) }
@@ -65,6 +72,7 @@ fn write_script<K: Sink>(alloc: Global, plan: &MakePlan, sink: &mut K) -> Result
     ensures wrote { K.tells sink.old ≡ true
         → OnOk result (K.held sink.new ≡ K.held sink.old ++ script_text plan.now) }
     ensures front { K.tells sink.old ≡ true → HoldsPart (K.held sink.old) (K.held sink.new) (script_text plan.now) }
+    ensures reads { OnOk result (script_in (script_text plan.now) ≡ made_script plan.now) }
     ensures writing { IfErr result IsOfWriting }
     ensures tells { K.tells sink.old ≡ true → K.tells sink.new ≡ true }
     ensures fault { result ≡ Err Status.WriteFault → Rose (K.faults sink.old) (K.faults sink.new) }
@@ -83,15 +91,18 @@ fn write_begun<K: Sink>(
     maker: &mut Maker,
     sink: &mut K,
 ) -> Result<(), Status>
-    requires { maker.old ≡ begun plan.now }
+    requires begun { maker.old ≡ begun plan.now }
+    requires in_range { IsPlan plan.now }
     ensures wrote { K.tells sink.old ≡ true
         → OnOk result (K.held sink.new ≡ K.held sink.old ++ script_text plan.now) }
     ensures front { K.tells sink.old ≡ true → HoldsPart (K.held sink.old) (K.held sink.new) (script_text plan.now) }
+    ensures reads { OnOk result (script_in (script_text plan.now) ≡ made_script plan.now) }
     ensures writing { IfErr result IsOfWriting }
     ensures tells { K.tells sink.old ≡ true → K.tells sink.new ≡ true }
     ensures fault { result ≡ Err Status.WriteFault → Rose (K.faults sink.old) (K.faults sink.new) }
     ensures no_fault { result ≢ Err Status.WriteFault → SameCount (K.faults sink.old) (K.faults sink.new) }
 {
+    printed_scripts_are_read();
     let header = print_header(alloc, &maker.header())?;
     write_line(header, sink)?;
     write_steps(alloc, plan.steps, maker, sink)
@@ -109,6 +120,7 @@ fn write_steps<K: Sink>(
         → OnOk result (K.held sink.new ≡ K.held sink.old ++ lines_text (steps_from count maker.old)) }
     ensures front { K.tells sink.old ≡ true
         → HoldsPart (K.held sink.old) (K.held sink.new) (lines_text (steps_from count maker.old)) }
+    ensures printable { OnOk result (ArePrintable (steps_from count maker.old)) }
     ensures writing { IfErr result IsOfWriting }
     ensures tells { K.tells sink.old ≡ true → K.tells sink.new ≡ true }
     ensures fault { result ≡ Err Status.WriteFault → Rose (K.faults sink.old) (K.faults sink.new) }
@@ -116,6 +128,7 @@ fn write_steps<K: Sink>(
 {
     for _ in 0..count {
         let step = maker.next_step()?;
+        step_is_in_range(&step);
         let line = print_line(alloc, &step)?;
         write_line(line, sink)?;
     }

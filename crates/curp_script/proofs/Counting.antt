@@ -36,7 +36,7 @@ unless_fits : (all fits : Bool) (n : ℕ) → fits ≡ false → None ≡ (if al
 unless_fits true fits n is = rw is refl
 unless_fits false fits n is = refl
 
-not_below : (n m : ℕ) → m ≤ n → nat_lt n m ≡ false
+pub not_below : (n m : ℕ) → m ≤ n → nat_lt n m ≡ false
 not_below n m most = grind (arith, nat_tests)
 
 -- where the first digits are too large a number, all are

@@ -2,6 +2,7 @@ mod Behind
 mod Counting
 mod Delivery
 mod Hashes
+pub mod Events
 pub mod Lines
 mod Numbers
 mod Objects

@@ -40,13 +40,13 @@ pairs_flat : (pairs : List Pair) → items_depth (items_of (flat_map pair_data p
 pairs_flat [] = refl
 pairs_flat (p ∷ pairs) = rw (pairs_flat pairs) refl
 
-command_no_float : (command : Command) → has_float (command_data command) ≡ false
+pub command_no_float : (command : Command) → has_float (command_data command) ≡ false
 command_no_float (CondPut key None value) = refl
 command_no_float (CondPut key (Some expected) value) = refl
 command_no_float (Multi pairs) = pairs_no_float pairs
 command_no_float _ = refl
 
-command_depth : (command : Command) → depth (command_data command) ≡ 1
+pub command_depth : (command : Command) → depth (command_data command) ≡ 1
 command_depth (CondPut key None value) = refl
 command_depth (CondPut key (Some expected) value) = refl
 command_depth (Multi pairs) = rw (pairs_flat pairs) refl

@@ -112,12 +112,12 @@ pairs_more printed before pairs p is =
 
 -- ---- steps
 
-index_within : (n : ℕ) → n < 2 ^ 32 → number_within 0 (2 ^ 32 - 1) (count n) ≡ Some n
+pub index_within : (n : ℕ) → n < 2 ^ 32 → number_within 0 (2 ^ 32 - 1) (count n) ≡ Some n
 index_within n small =
     let fits : is_within 0 (2 ^ 32 - 1) n ≡ true = grind (arith, nat_tests) in
     rw fits refl
 
-listed-items_of : (ds : List Data) → listed (items_of ds) ≡ ds
+pub listed-items_of : (ds : List Data) → listed (items_of ds) ≡ ds
 listed-items_of [] = refl
 listed-items_of (d ∷ ds) = ap (λ (more : List Data). d ∷ more) (listed-items_of ds)
 

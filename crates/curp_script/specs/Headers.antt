@@ -1,5 +1,5 @@
 -- The ranges of a header's values.
-use Rattle.std.specs.Prelude.{ℕ, ◌≤◌, ◌&&◌, nat_le, if◌then◌else◌, Bool, not, Option, Some, None}
+use Rattle.std.specs.Prelude.{ℕ, ◌&&◌, nat_le, if◌then◌else◌, Bool, not, Option, Some, None}
 use Rattle.curp_msg.specs.declared.script.Header.{Header}
 use Rattle.curp_script.specs.declared.error.FieldName.{FieldName}
 use Rattle.curp_script.specs.declared.error.FieldName.TheVariants as field
@@ -17,11 +17,3 @@ bad_field h =
     else if not (is_within 1 1024 h.sets) then Some field.Sets
     else if not (is_within 1 16 h.ways) then Some field.Ways
     else None
-
--- each number is in the range that the format gives it
-pub record InRange (h : Header) : Type 0 where
-  pub clients : (1 ≤ h.clients) × (h.clients ≤ 64)
-  pub f : (1 ≤ h.f) × (h.f ≤ 5)
-  pub parts : (1 ≤ h.parts) × (h.parts ≤ 16)
-  pub sets : (1 ≤ h.sets) × (h.sets ≤ 1024)
-  pub ways : (1 ≤ h.ways) × (h.ways ≤ 16)

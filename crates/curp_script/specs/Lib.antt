@@ -1,4 +1,7 @@
 pub mod Digits
+pub mod EventKinds
+pub mod EventTexts
+pub mod Events
 pub mod Grammar
 pub mod Headers
 pub mod Kinds

@@ -1,18 +1,12 @@
 -- A whole script: the header, the steps, and how it ends.
 use Rattle.std.specs.Prelude.{ℕ, ◌+◌, ◌-◌, nat_lt, if◌then◌else◌, List, [], ◌∷◌, length, Option, Some, None, Result, Ok, Err}
+use Rattle.curp_base.specs.Limits.{line_limit}
+use Rattle.curp_msg.specs.Limits.{step_limit}
 use Rattle.curp_msg.specs.declared.script.Header.{Header}
 use Rattle.curp_msg.specs.declared.script.Step.{Step}
 use Rattle.curp_script.specs.declared.error.LineError.{LineError}
 use Rattle.curp_script.specs.declared.error.LineError.TheVariants.{BadJson}
 use Rattle.curp_script.specs.Grammar.{header_in, step_in}
-
--- how many bytes a line may have
-abbrev pub line_limit : ℕ
-line_limit = 65536
-
--- how many steps a script may have
-abbrev pub step_limit : ℕ
-step_limit = 200000
 
 -- A script is read to its end, or up to the first line that is refused, is too long, or holds a step too many.
 pub data Ending : Type 0 where

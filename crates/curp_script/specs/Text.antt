@@ -7,14 +7,17 @@ use Rattle.curp_script.specs.declared.error.LineError.TheVariants.{BadJson, BadF
 
 -- a name, as lines have it
 abbrev pub field_text : FieldName → List ℕ
+field_text field.Ans = codes "ans"
 field_text field.Backup = codes "backup"
 field_text field.Client = codes "client"
 field_text field.Clients = codes "clients"
 field_text field.Cmd = codes "cmd"
 field_text field.Do = codes "do"
+field_text field.Ev = codes "ev"
 field_text field.F = codes "f"
 field_text field.Fast = codes "fast"
 field_text field.Hi = codes "hi"
+field_text field.Id = codes "id"
 field_text field.Kind = codes "kind"
 field_text field.Lo = codes "lo"
 field_text field.Master = codes "master"

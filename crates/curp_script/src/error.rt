@@ -17,14 +17,17 @@ pub enum LineError {
 /// A name that a line may have. `Other` stands for every name that the line's kind doesn't have.
 #[derive(Clone, Copy, Debug, PartialEq, Eq)]
 pub enum FieldName {
+    Ans,
     Backup,
     Client,
     Clients,
     Cmd,
     Do,
+    Ev,
     F,
     Fast,
     Hi,
+    Id,
     Kind,
     Lo,
     Master,
@@ -48,14 +51,17 @@ impl FieldName {
         ensures { result.now ≡ field_text self }
     {
         match self {
+            FieldName::Ans => "ans",
             FieldName::Backup => "backup",
             FieldName::Client => "client",
             FieldName::Clients => "clients",
             FieldName::Cmd => "cmd",
             FieldName::Do => "do",
+            FieldName::Ev => "ev",
             FieldName::F => "f",
             FieldName::Fast => "fast",
             FieldName::Hi => "hi",
+            FieldName::Id => "id",
             FieldName::Kind => "kind",
             FieldName::Lo => "lo",
             FieldName::Master => "master",

@@ -5,9 +5,11 @@
 //!   line. The text of `LineError` is exact too. `bad_field`: exact.
 //! - `print_header`, `print_line`, clause `text`: exact, byte for byte; clause `reads_back`: the printed line is read
 //!   as the same header or step.
+//! - `LineReader::parse_event`, `print_event`: the same for the lines of a history and of an order that is claimed for it.
 #![tactic(auto)]
 
 mod error;
+mod event;
 mod header;
 mod kind;
 mod print;
@@ -15,6 +17,7 @@ mod read;
 
 pub use curp_msg::{Header, Protocol, Step};
 pub use error::{FieldName, LineError};
+pub use event::EventLine;
 pub use header::bad_field;
-pub use print::{print_header, print_line};
+pub use print::{print_event, print_header, print_line};
 pub use read::LineReader;

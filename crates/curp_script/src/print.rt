@@ -3,13 +3,14 @@ ghost use Rattle.serde_json.specs.Data.{object, string};
 ghost use Rattle.serde_json.specs.View.{view};
 ghost use Rattle.serde_json.specs.Written.{compact_text};
 ghost use Rattle.curp_script.specs.Grammar.{header_in, header_of, step_in};
-ghost use Rattle.curp_script.specs.Headers.{InRange};
+ghost use Rattle.curp_msg.specs.Script.{IsHeader};
 ghost use Rattle.curp_script.specs.Kinds.{names_of};
 ghost use Rattle.curp_script.specs.Nodes.{keeper_text};
 ghost use Rattle.curp_script.specs.Printed.{count, protocol_number, header_data, step_data, kind_line, with_values};
 ghost use Rattle.curp_script.specs.Printed.{NamesNode, ReadsBack};
 
 mod command;
+mod event;
 mod shown;
 
 use crate::kind::{HEADER_NAMES, Kind};
@@ -17,13 +18,14 @@ use crate::{FieldName, Header, Protocol, Step};
 use command::command_json;
 use curp_base::NoMemory;
 use curp_cmd::{Command, Keeper, NodeId};
+pub use event::print_event;
 use serde_json::{Map, Value as Json};
 use shown::{hash_text, node_text};
 use std::alloc::Global;
 
 /// The line of a header, without a line feed.
 pub fn print_header(alloc: Global, header: &Header) -> Result<Vec<u8>, NoMemory>
-    requires in_range { InRange header.now }
+    requires in_range { IsHeader header.now }
     ensures text { IfOk result (λ line. line.items ≡ compact_text (header_data header.now)) }
     ensures reads_back { IfOk result (λ line. header_in line.items ≡ Ok header.now) }
 {
@@ -40,7 +42,7 @@ pub fn print_line(alloc: Global, step: &Step) -> Result<Vec<u8>, NoMemory>
 }
 
 fn header_json(alloc: Global, header: &Header) -> Result<Json, NoMemory>
-    requires { InRange header.now }
+    requires { IsHeader header.now }
     ensures data { IfOk result (λ json. view json ≡ header_data header.now) }
     ensures reads { header_of (header_data header.now) ≡ Ok header.now }
 {

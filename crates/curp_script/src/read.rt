@@ -1,11 +1,13 @@
 ghost use Rattle.std.specs.Prelude.{◌≡◌, ◌≢◌, Err, IfOk};
 ghost use Rattle.curp_script.specs.Values.{value_data};
+ghost use Rattle.curp_script.specs.Events.{event_in};
 ghost use Rattle.curp_script.specs.Grammar.{header_in, step_in, header_of, protocol_at};
 ghost use Rattle.curp_script.specs.Headers.{bad_field};
 
 mod command;
 mod delivery;
 mod digits;
+mod event;
 mod fields;
 mod number;
 mod object;
@@ -13,8 +15,9 @@ mod steps;
 mod words;
 
 use crate::kind::HEADER_NAMES;
-use crate::{FieldName, Header, LineError, Protocol, Step};
+use crate::{EventLine, FieldName, Header, LineError, Protocol, Step};
 use delivery::printed_delivery;
+use event::event_of;
 use fields::{flag_at, no_other, number_at};
 use json::{Scratch, Value as Json};
 use object::parse_object;
@@ -56,6 +59,14 @@ impl LineReader {
         }
         let object = parse_object(self.alloc, &mut self.scratch, line)?;
         step_of(&object)
+    }
+
+    /// A line of a history or of an order, or why it is none. `NoMemory` says nothing of the line.
+    pub fn parse_event(&mut self, line: &[u8]) -> Result<EventLine, LineError>
+        ensures reads { result ≢ Err LineError.NoMemory → result ≡ event_in line.now }
+    {
+        let object = parse_object(self.alloc, &mut self.scratch, line)?;
+        event_of(&object)
     }
 }
 

@@ -6,14 +6,14 @@ use Rattle.std.proofs.lemmas.List.{get_or-map, length-map}
 use Rattle.std.proofs.lemmas.List.Elements.{filter-append}
 use Rattle.std.proofs.lemmas.List.Filters.{length-filter_both}
 use Rattle.curp_base.specs.Words.{Each}
-use Rattle.curp_base.proofs.Lists.{Each-map, Each-weaker}
+use Rattle.curp_base.proofs.Lists.{Each-map, Each-weaker, Each-filter}
 use Rattle.curp_cmd.specs.RequestId.{has_id, id_cmp}
 use Rattle.curp_cmd.specs.declared.command.RequestId.{RequestId}
 use Rattle.curp_model.specs.Witness.{HeldRequest, survives}
 use Rattle.curp_slots.specs.Collection.{places_freed, places_left, what_remains}
 use Rattle.curp_slots.specs.Register.{IsFilled, PlacesAscend, held_at, held_by, nobody, times}
 use Rattle.curp_slots.specs.declared.register.Place.{Place}
-use Rattle.curp_slots.proofs.Filters.{Each-filter, counted_apart, map_filter}
+use Rattle.curp_slots.proofs.Filters.{counted_apart, map_filter}
 
 module _ (kept : List HeldRequest) (listed : List RequestId) where
   survived_at : (e : Place) → e.at < length kept → held_at (map survives kept) e ≡ survives (held_at kept e)

@@ -1,15 +1,6 @@
 -- What is left of lists.
 use Rattle.std.proofs.Common.{◌≡◌, ◌+◌, ◌&&◌, Bool, true, false, cond, not, List, [], ◌∷◌, length, map, refl, ap, arith}
 use Rattle.std.specs.List.{filter}
-use Rattle.curp_base.specs.Words.{Each}
-
-pub Each-filter : {A : Type 0} (P : A → Type 0) (p : A → Bool) (xs : List A) → Each P xs → Each P (filter p xs)
-Each-filter P p [] all = tt
-Each-filter P p (x ∷ xs) all = go (p x) (Each-filter P p xs all.1)
-  where
-    go : (b : Bool) → Each P (filter p xs) → Each P (cond b (x ∷ filter p xs) (filter p xs))
-    go true rest = (all.0, rest)
-    go false rest = rest
 
 -- first by one test, then by another
 pub filter_both : {A : Type 0} (p q : A → Bool) (xs : List A) → filter p (filter q xs) ≡ filter (λ x. q x && p x) xs

@@ -23,10 +23,11 @@ use Rattle.curp_slots.specs.Slots.{HasSlotsFor, SlotTable, has_no_room, least_fu
 use Rattle.curp_slots.specs.declared.set.Slot.{Slot}
 use Rattle.curp_slots.proofs.Apart.{IsHashed, takes_all}
 use Rattle.curp_slots.proofs.Accepting.{IsPut, absent_each, all_chosen, either, ids_chosen, ids_put, if_some, length_put, none_chosen, owner_of_all, put_among, put_chosen, put_unchosen, sizes_kept, taken_in_set, total, total_most, total_taken, used_put}
-use Rattle.curp_slots.proofs.Filters.{Each-filter, filter_both, map_filter}
+use Rattle.curp_slots.proofs.Filters.{filter_both, map_filter}
 use Rattle.curp_slots.proofs.Filling.{filter_below, first_full, in_range, room_for_all}
 use Rattle.curp_slots.proofs.Taken.{left_in}
 use Rattle.curp_slots.proofs.Touching.{ascend_kept, conflict_least, requests_kept, suspect_keeps, suspects_marked, touches_among}
+use Rattle.curp_base.proofs.Lists.{Each-filter}
 
 -- the witness with those slots and that register
 abbrev pub witness_of : Mode → Option ℕ → SlotTable → Registered → WitnessState

@@ -8,11 +8,10 @@ use Rattle.std.specs.declared.cmp.Ordering.{Ordering}
 use Rattle.std.specs.declared.cmp.Ordering.TheVariants.{Less, Equal, Greater}
 use Rattle.std.proofs.lemmas.Cmp.{tied_itself}
 use Rattle.std.proofs.lemmas.List.Folds.{list_any_more}
-use Rattle.curp_cmd.proofs.Ids.{same_id-self}
+use Rattle.curp_cmd.proofs.Ids.{same_id-self, apart_not_same}
 use Rattle.curp_cmd.specs.RequestId.{has_id, id_cmp, same_id}
 use Rattle.curp_cmd.specs.declared.command.RequestId.{RequestId}
-use Rattle.curp_model.proofs.Tables.{ids_total, ids_same}
-use Rattle.curp_slots.proofs.Ids.{apart_not_same, less_not_self}
+use Rattle.curp_model.proofs.Tables.{ids_total, ids_same, less_not_self}
 
 -- the order's ties are the same ids
 pub tie_is_same : (a b : RequestId) → is_eq (id_cmp a b) ≡ same_id a b

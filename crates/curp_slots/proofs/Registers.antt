@@ -19,7 +19,8 @@ use Rattle.curp_cmd.specs.declared.command.RequestId.{RequestId}
 use Rattle.curp_model.specs.Witness.{placed, HeldRequest}
 use Rattle.curp_slots.specs.Register.{IdsAscend, IsFilled, IsIdGap, IsIdAt, IsPlaceGiven, PlacesAscend, held_at, held_by, is_held, marked, marked_at, nobody, put_at, times}
 use Rattle.curp_slots.specs.declared.register.Place.{Place}
-use Rattle.curp_slots.proofs.Ids.{each_get, each_insert, greater_back, less_back, one_place, any_at_place, none_in_gap}
+use Rattle.curp_slots.proofs.Ids.{each_get, each_insert, one_place, any_at_place, none_in_gap}
+use Rattle.curp_model.proofs.Tables.{greater_back, less_back}
 
 -- the ids of what is held rise as those of the index
 pub ids_ascend : (kept : List HeldRequest) (es : List Place) → PlacesAscend es → Each (IsFilled kept) es → IdsAscend (held_by kept es)

@@ -16,14 +16,15 @@ use Rattle.curp_cmd.specs.declared.command.Request.{Request}
 use Rattle.curp_cmd.specs.declared.command.RequestId.{RequestId}
 use Rattle.curp_model.specs.Witness.{WitnessState, conflict, suspect, HeldRequest}
 use Rattle.curp_model.proofs.Clashes.{common_flips}
-use Rattle.curp_model.proofs.Tables.{ids_total}
+use Rattle.curp_model.proofs.Tables.{ids_total, greater_back, less_not_same}
 use Rattle.curp_slots.specs.Hashed.{requests_of}
 use Rattle.curp_slots.specs.Holding.{ids_with, with_owner_marked, with_owners_marked}
 use Rattle.curp_slots.specs.Register.{IdsAscend, marked, marked_at}
 use Rattle.curp_slots.specs.Slots.{least_owner, lesser, owner}
 use Rattle.curp_slots.specs.declared.set.Slot.{Slot}
-use Rattle.curp_slots.proofs.Ids.{greater_back, less_not_same, less_not_same_back}
+use Rattle.curp_slots.proofs.Ids.{less_not_same_back}
 use Rattle.curp_slots.proofs.Registers.{marked_request}
+use Rattle.curp_base.proofs.Lists.{map_alike}
 
 -- ---- a common hash, from either side
 
@@ -200,9 +201,6 @@ then_any h hs x = go (touches x.request.command h)
     go true = ap (λ (q : Request). cond (list_any (touches q.command) hs) (marked (marked x)) (marked x)) (marked_request x) ∙ again (list_any (touches x.request.command) hs)
     go false = refl
 
-map_same : {A B : Type 0} (f g : A → B) → ((x : A) → f x ≡ g x) → (xs : List A) → map f xs ≡ map g xs
-map_same f g same xs = λ i. map (λ x. same x i) xs
-
 none_marked_by : (held : List HeldRequest) → held ≡ map (marked_by_any []) held
 none_marked_by [] = refl
 none_marked_by (x ∷ held) = ap (λ ys. x ∷ ys) (none_marked_by held)
@@ -213,7 +211,7 @@ owners_marked sets (h ∷ hs) held s owns =
     ap (with_owners_marked sets hs) (owner_marked h (owner sets h) held s (owns h))
     ∙ owners_marked sets hs (map (marked_by h) held) (ascend_kept (marked_by h) (by_keeps h) held s) (owns_kept sets (marked_by h) (by_keeps h) held owns)
     ∙ map-map (marked_by_any hs) (marked_by h) held
-    ∙ map_same (λ (x : HeldRequest). marked_by_any hs (marked_by h x)) (marked_by_any (h ∷ hs)) (then_any h hs) held
+    ∙ map_alike (λ (x : HeldRequest). marked_by_any hs (marked_by h x)) (marked_by_any (h ∷ hs)) (then_any h hs) held
 
 suspected_alike : (r : Request) (x : HeldRequest) → marked_by_any (hashes r.command) x ≡ suspect r x
 suspected_alike r x = rw (← conflicts_touch x.request.command r.command) (go (conflicts x.request.command r.command) (nat_le 3 x.survived))
@@ -225,7 +223,7 @@ suspected_alike r x = rw (← conflicts_touch x.request.command r.command) (go (
 -- what conflicts is suspected through its slots
 pub suspects_marked : (sets : List (List Slot)) (r : Request) (held : List HeldRequest) → IdsAscend held → Owns sets held → with_owners_marked sets (hashes r.command) held ≡ map (suspect r) held
 suspects_marked sets r held s owns =
-    owners_marked sets (hashes r.command) held s owns ∙ map_same (marked_by_any (hashes r.command)) (suspect r) (suspected_alike r) held
+    owners_marked sets (hashes r.command) held s owns ∙ map_alike (marked_by_any (hashes r.command)) (suspect r) (suspected_alike r) held
 
 pub suspect_keeps : (r : Request) → Keeps (suspect r)
 suspect_keeps r x = cond_both (conflicts x.request.command r.command && nat_le 3 x.survived) _ _ (λ (y : HeldRequest). y.request ≡ x.request) (λ y. refl) (λ n. refl)

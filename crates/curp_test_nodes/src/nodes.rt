@@ -6,11 +6,11 @@ use crate::build::{
 };
 use curp_base::Items;
 use curp_cmd::{Command, Entry, NodeId, Request, RequestId};
-use curp_inv::{BackupNode, ClientNode, MasterNode, WitnessNode};
 use curp_msg::{
     Accepted, Append, AppendAnswer, Body, Collected, Core, Done, FenceReply, Gc, GcAnswer, Local,
     Probe, Protocol, Reason, Record, Recover, Refusal, Refuse, Rejected,
 };
+use curp_nodes::{BackupNode, ClientNode, MasterNode, WitnessNode};
 use std::alloc::Global;
 use std::process::Abort;
 

@@ -5,21 +5,21 @@ mod rows;
 use crate::played::{played, text_of};
 use curp_base::NoMemory;
 use curp_play::Status;
-use rows::ROWS;
+pub(crate) use rows::ROWS;
 use std::alloc::Global;
 use std::test::Fail;
 
 // A row has the name of an example, its script, the exit status with the line on standard error, if there is one, and
 // the whole output.
 #[derive(Drop)]
-struct Row<'a> {
+pub(crate) struct Row<'a> {
     name: &'a str,
-    script: &'a str,
+    pub(crate) script: &'a str,
     ends: &'a str,
     out: &'a str,
 }
 
-fn row_of(text: &str) -> Option<Row<'_>> {
+pub(crate) fn row_of(text: &str) -> Option<Row<'_>> {
     let (name, text) = text.split_once('\n')?;
     let (script, text) = text.split_once("\n=== status ")?;
     let (ends, out) = text.split_once('\n')?;
@@ -31,7 +31,7 @@ fn row_of(text: &str) -> Option<Row<'_>> {
     })
 }
 
-fn ended(alloc: Global, status: &Status) -> Result<String, NoMemory> {
+pub(crate) fn ended(alloc: Global, status: &Status) -> Result<String, NoMemory> {
     let code = status.code();
     match status.complaint() {
         Some(complaint) => format!(in alloc; "{code} {complaint}"),

@@ -1,7 +1,7 @@
 // What no clause says: that there is an order where there is memory.
 use curp_base::NoMemory;
 use curp_msg::Protocol;
-use curp_words::{LivePlan, MakePlan, Order, Output, WordsError, blamed, read};
+use curp_words::{LivePlan, MakePlan, Order, Output, Report, WordsError, blamed, read};
 use std::alloc::Global;
 use std::test::Fail;
 
@@ -20,6 +20,15 @@ play|--
 play|--f|3
 play|--summary
 play|live
+play|--history|--history
+play|--history=true
+play|--history|play
+--history
+make|--history
+check|--history
+check|x
+check|check
+Check
 Make
 make|make
 make|live
@@ -133,6 +142,10 @@ live|--protocol|2: 1 3 64 4 8 2 2 50 0 Live
 // The first word of a command line with which no line can begin; none where the line breaks off.
 const BLAMED: &str = "plya: 0
 play|--f|1: 1
+play|--history|x: 2
+--history: none
+--history|make: 1
+check|--history: 1
 make|--f|6: 2
 make|--f|1|--f|1: 3
 --clients|64|--parts|make: 3
@@ -244,7 +257,10 @@ fn other_words_are_refused(rt: HostRuntime) -> Result<(), Fail> {
 
 #[test]
 fn orders_are_read(rt: HostRuntime) -> Result<(), Fail> {
-    assert!(rt; read(rt.alloc(), &["play"]) == Ok(Order::Play));
+    assert!(rt; read(rt.alloc(), &["play"]) == Ok(Order::Play(Report::Steps)));
+    assert!(rt; read(rt.alloc(), &["play", "--history"]) == Ok(Order::Play(Report::History)));
+    assert!(rt; read(rt.alloc(), &["--history", "play"]) == Ok(Order::Play(Report::History)));
+    assert!(rt; read(rt.alloc(), &["check"]) == Ok(Order::Check));
     for row in TAKEN.lines() {
         assert!(rt; is_planned(rt.alloc(), row)?, "{row}");
     }

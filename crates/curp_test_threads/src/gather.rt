@@ -5,10 +5,10 @@ ghost use Rattle.curp_msg.specs.declared.script.Protocol.TheVariants.{One};
 
 use curp_cmd::{Command, Key, NodeId, Value};
 use curp_gather::{GatherError, Journals, gather};
-use curp_inv::{BackupNode, ClientNode, ManagerNode, MasterNode, WitnessNode};
 use curp_journal::{Arrived, Named};
 use curp_live::anew_at_opening;
 use curp_msg::{Core, Header, Local, Protocol};
+use curp_nodes::{BackupNode, ClientNode, ManagerNode, MasterNode, WitnessNode};
 use curp_same::Same;
 use curp_seat::Kept;
 use std::alloc::Global;

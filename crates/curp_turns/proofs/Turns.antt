@@ -2,7 +2,7 @@
 use Rattle.std.proofs.Common.{◌≡◌, ◌≢◌, if◌then◌else◌, Bool, true, false, List, [], ◌∷◌, ◌++◌, refl, ap, sym, ◌∙◌, append-nil, append_assoc}
 use Rattle.curp_cmd.specs.Node.{same_node}
 use Rattle.curp_cmd.specs.declared.node.NodeId.{NodeId}
-use Rattle.curp_cmd.proofs.Nodes.{same_node-self, same_node-true}
+use Rattle.curp_cmd.proofs.Nodes.{same_node-self, other_node}
 use Rattle.curp_turns.specs.Turns.{Placed, of, said, sent_by}
 
 -- ---- the turns of a node
@@ -20,13 +20,6 @@ of_first p ps = rw (same_node-self p.node) refl
 
 pub of_here : (ps : List Placed) (p : Placed) → of p.node (ps ++ p ∷ []) ≡ of p.node ps ++ p.turn ∷ []
 of_here ps p = of-append p.node ps (p ∷ []) ∙ ap (λ ts. of p.node ps ++ ts) (of_first p [])
-
-other_node : (a b : NodeId) → a ≢ b → same_node a b ≡ false
-other_node a b ne = go (same_node a b) refl
-  where
-    go : (c : Bool) → same_node a b ≡ c → c ≡ false
-    go true e = absurd (ne (same_node-true a b e))
-    go false e = refl
 
 pub of_there : (k : NodeId) (ps : List Placed) (p : Placed) → p.node ≢ k → of k (ps ++ p ∷ []) ≡ of k ps
 of_there k ps p ne = of-append k ps (p ∷ []) ∙ (rw (other_node p.node k ne) (append-nil (of k ps)))

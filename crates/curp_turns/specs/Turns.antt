@@ -14,24 +14,29 @@ pub record Journal : Type 0 where
   pub items : List Item
   pub ended : Bool
 
--- a thing that a journal holds: an item, or the last stop
+-- a thing that a journal holds: an item, or the last stop, which has the stamp of the last item, and 0 where there is none
 pub data Turn : Type 0 where
   Did : (item : Item) → Turn
-  Quits : Turn
+  Quits : (stamp : ℕ) → Turn
 
 -- all that a journal holds, in order
 abbrev pub turns_of : Journal → List Turn
-turns_of j = map Did j.items ++ (if j.ended then Quits ∷ [] else [])
+turns_of j = map Did j.items ++ (if j.ended then Quits (last_stamp 0 j.items) ∷ [] else [])
+
+-- when it was
+abbrev pub turn_stamp : Turn → ℕ
+turn_stamp (Did item) = item.stamp
+turn_stamp (Quits stamp) = stamp
 
 -- the messages that it sent then
 abbrev pub sent_by : Turn → List Message
 sent_by (Did item) = item.done.sent
-sent_by Quits = []
+sent_by (Quits stamp) = []
 
 -- the request that it completed then
 abbrev pub completed_by : Turn → Option Completed
 completed_by (Did item) = item.done.completed
-completed_by Quits = None
+completed_by (Quits stamp) = None
 
 -- a turn with its node
 pub record Placed : Type 0 where
@@ -67,16 +72,13 @@ pub record AreTurns (journals : List Journal) (placed : List Placed) : Type 0 wh
 
 -- ---- the order in which journals are merged
 
--- the stamp of a turn of these items; a last stop has that of the last item, and 0 where there is none
-abbrev pub turn_stamp : List Item → Turn → ℕ
-turn_stamp items (Did item) = item.stamp
-turn_stamp items Quits = last_stamp 0 items
+-- the journal of the one node doesn't stand behind that of the other
+abbrev pub IsNotBehind : List Journal → NodeId → NodeId → Type 0
+IsNotBehind journals node other = (i k : ℕ) (a b : Journal) → At journals i a → At journals k b → a.id ≡ node → b.id ≡ other → i ≤ k
 
--- the first turn has the lesser stamp, or the same one, and then its journal doesn't stand behind that of the second
+-- the first turn has the lesser stamp or, where the stamps are the same, not the later journal
 abbrev pub Precedes : List Journal → Placed → Placed → Type 0
-Precedes journals p q = (i k : ℕ) (a b : Journal) → At journals i a → At journals k b → a.id ≡ p.node → b.id ≡ q.node
-    → (turn_stamp a.items p.turn < turn_stamp b.items q.turn)
-    ⊎ ((turn_stamp a.items p.turn ≡ turn_stamp b.items q.turn) × (i ≤ k))
+Precedes journals p q = (turn_stamp p.turn < turn_stamp q.turn) ⊎ ((turn_stamp p.turn ≡ turn_stamp q.turn) × IsNotBehind journals p.node q.node)
 
 -- the turns stand in the order of their stamps and, where these are the same, in that of the journals
 abbrev pub InOrder : List Journal → List Placed → Type 0

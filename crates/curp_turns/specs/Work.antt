@@ -1,5 +1,5 @@
 -- What journals and steps show of the work that clients were given (this project's own).
-use Rattle.std.specs.Prelude.{◌≡◌, ◌≤◌, ℕ, ◌+◌, if◌then◌else◌, List, [], ◌∷◌, ◌++◌, length, Some}
+use Rattle.std.specs.Prelude.{◌≡◌, ◌≤◌, ℕ, ◌+◌, if◌then◌else◌, List, [], ◌∷◌, ◌++◌, length, Option, Some, None}
 use Rattle.curp_base.specs.Words.{At}
 use Rattle.curp_cmd.specs.Node.{client_node, manager_node, same_node}
 use Rattle.curp_cmd.specs.declared.command.Command.{Command}
@@ -10,11 +10,10 @@ use Rattle.curp_msg.specs.declared.machine.Input.TheVariants as input
 use Rattle.curp_msg.specs.declared.machine.Local.{Local}
 use Rattle.curp_msg.specs.declared.machine.Local.TheVariants as local
 use Rattle.curp_msg.specs.declared.script.Step.{Step}
-use Rattle.curp_model.specs.World.{Deed, Gives}
+use Rattle.curp_model.specs.World.{order_of}
 use Rattle.curp_journal.specs.declared.arrived.Arrived.{Arrived}
 use Rattle.curp_journal.specs.declared.arrived.Arrived.TheVariants as arrived
 use Rattle.curp_journal.specs.declared.item.Item.{Item}
-use Rattle.curp_turns.specs.Legal.{deed_by}
 
 -- ---- in a journal
 
@@ -54,15 +53,15 @@ pub record DidWork (number : ℕ) (commands : List Command) (items : List Item) 
 
 -- ---- in a script
 
--- the order that a node gets by what a step is to do
-abbrev pub ordered : NodeId → Deed → List Local
-ordered node (Gives to (input.Local order)) = if same_node to node then order ∷ [] else []
-ordered node _ = []
+-- the order, where it is to that node
+abbrev pub ordered : NodeId → Option (NodeId × Local) → List Local
+ordered node None = []
+ordered node (Some order) = if same_node order.0 node then order.1 ∷ [] else []
 
--- the orders that steps give to a node; which message a delivery takes makes no difference here
+-- the orders that steps give to a node
 abbrev pub orders_to : NodeId → List Step → List Local
 orders_to node [] = []
-orders_to node (s ∷ ss) = ordered node (deed_by [] s) ++ orders_to node ss
+orders_to node (s ∷ ss) = ordered node (order_of s) ++ orders_to node ss
 
 -- the commands among orders
 abbrev pub commands_among : List Local → List Command

@@ -3,6 +3,7 @@ use Rattle.std.proofs.Common.{◌≡◌, ◌≤◌, ◌&&◌, ◌^◌, ◌-◌, 
 use Rattle.std.specs.Prelude.{option_and_then, option_map, ⊤}
 use Rattle.clap.proofs.WalkLemmas.{both}
 use Rattle.clap.specs.Walk.{Text}
+use Rattle.curp_msg.specs.Limits.{step_limit}
 use Rattle.curp_msg.specs.declared.script.Protocol.{Protocol}
 use Rattle.curp_words.specs.Numbers.{number_of, number_within, within}
 use Rattle.curp_words.specs.Plan.{IsLivePlan, IsPlan, fits}
@@ -77,7 +78,7 @@ plan_fits value =
       steps = steps;
       recoveries = recoveries;
     }) IsPlan
-    (Within 0 (2 ^ 64 - 1)) (Within 1 5) (Within 1 1024) (Within 1 16) (Within 1 64) (Within 1 16) (Within 1 200000) (Within 0 64)
+    (Within 0 (2 ^ 64 - 1)) (Within 1 5) (Within 1 1024) (Within 1 16) (Within 1 64) (Within 1 16) (Within 1 step_limit) (Within 0 64)
     (λ _ _ _ _ _ _ _ _ recoveries in_number in_f in_sets in_ways in_clients in_parts in_steps in_recoveries. record {
       number = in_number.1;
       f = in_f;
@@ -95,7 +96,7 @@ plan_fits value =
     (number_in_range 1 16 4 (value (codes "ways")) (omega arith) (omega arith))
     (number_in_range 1 64 8 (value (codes "clients")) (omega arith) (omega arith))
     (number_in_range 1 16 2 (value (codes "parts")) (omega arith) (omega arith))
-    (number_in_range 1 200000 4000 (value (codes "steps")) (omega arith) (omega arith))
+    (number_in_range 1 step_limit 4000 (value (codes "steps")) (omega arith) (omega arith))
     (number_in_range 0 64 3 (value (codes "recoveries")) (omega arith) (omega arith))
 
 live_plan_fits : (value : Text → Option Text) → IfSomeIs (live_plan_by value) IsLivePlan

@@ -4,11 +4,12 @@ use Rattle.std.specs.List.{list_any}
 use Rattle.clap.specs.Walk.{Text}
 use Rattle.curp_words.specs.Words.{order_in}
 
--- what can be missing behind words with which a command line begins: its word, an option's value, both, or nothing. The
+-- what can be missing behind words with which a command line begins: its word, an option's value, both, or nothing. Behind
+-- an option of `play` it is that word. The
 -- number 1 is in the range of each option but the recoveries of `live`, which are 0
 abbrev pub endings : List (List Text)
 endings =
-    [] ∷ (codes "make" ∷ []) ∷ (codes "live" ∷ [])
+    [] ∷ (codes "play" ∷ []) ∷ (codes "make" ∷ []) ∷ (codes "live" ∷ [])
     ∷ (codes "1" ∷ []) ∷ (codes "1" ∷ codes "make" ∷ []) ∷ (codes "1" ∷ codes "live" ∷ [])
     ∷ (codes "0" ∷ []) ∷ (codes "0" ∷ codes "live" ∷ []) ∷ []
 

@@ -1,10 +1,11 @@
 -- The plans of `make` and `live`.
 use Rattle.std.specs.Prelude.{◌≡◌, ◌≤◌, ◌^◌, ◌-◌, ⊤}
+use Rattle.curp_msg.specs.Limits.{step_limit}
 use Rattle.curp_msg.specs.declared.script.Protocol.TheVariants.{One}
 use Rattle.curp_words.specs.declared.order.LivePlan.{LivePlan}
 use Rattle.curp_words.specs.declared.order.MakePlan.{MakePlan}
 use Rattle.curp_words.specs.declared.order.Order.{Order}
-use Rattle.curp_words.specs.declared.order.Order.TheVariants.{Play, Make, Live}
+use Rattle.curp_words.specs.declared.order.Order.TheVariants.{Play, Make, Live, Check}
 
 -- the plan of `make` with no option
 abbrev pub default_plan : MakePlan
@@ -22,7 +23,7 @@ pub record IsPlan (plan : MakePlan) : Type 0 where
   pub ways : (1 ≤ plan.ways) × (plan.ways ≤ 16)
   pub clients : (1 ≤ plan.clients) × (plan.clients ≤ 64)
   pub parts : (1 ≤ plan.parts) × (plan.parts ≤ 16)
-  pub steps : (1 ≤ plan.steps) × (plan.steps ≤ 200000)
+  pub steps : (1 ≤ plan.steps) × (plan.steps ≤ step_limit)
   pub recoveries : plan.recoveries ≤ 64
 
 -- each number of a plan of `live` is in its range
@@ -38,6 +39,7 @@ pub record IsLivePlan (plan : LivePlan) : Type 0 where
 
 -- an order with a plan has one in range
 abbrev pub fits : Order → Type 0
-fits Play = ⊤
+fits (Play report) = ⊤
 fits (Make plan output) = IsPlan plan
 fits (Live plan) = IsLivePlan plan
+fits Check = ⊤

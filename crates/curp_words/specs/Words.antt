@@ -8,15 +8,17 @@ use Rattle.clap.specs.Lexer.{long_of, strip_byte}
 use Rattle.clap.specs.Walk.{Text}
 use Rattle.clap.specs.declared.error.kind.ErrorKind.{ErrorKind}
 use Rattle.clap.specs.declared.error.kind.ErrorKind.TheVariants as kind
+use Rattle.curp_msg.specs.Limits.{step_limit}
 use Rattle.curp_msg.specs.declared.script.Protocol.{Protocol}
 use Rattle.curp_msg.specs.declared.script.Protocol.TheVariants.{One, Two}
 use Rattle.curp_words.specs.Numbers.{number_within}
 use Rattle.curp_words.specs.declared.order.LivePlan.{LivePlan}
 use Rattle.curp_words.specs.declared.order.MakePlan.{MakePlan}
 use Rattle.curp_words.specs.declared.order.Order.{Order}
-use Rattle.curp_words.specs.declared.order.Order.TheVariants.{Play, Make, Live}
+use Rattle.curp_words.specs.declared.order.Order.TheVariants.{Play, Make, Live, Check}
 use Rattle.curp_words.specs.declared.order.Output.{Output}
 use Rattle.curp_words.specs.declared.order.Output.TheVariants.{Script, Summary}
+use Rattle.curp_words.specs.declared.order.Report.TheVariants.{Steps, History}
 use Rattle.curp_words.specs.declared.order.WordsError.{WordsError}
 use Rattle.curp_words.specs.declared.order.WordsError.TheVariants.{Usage, NoMemory}
 
@@ -146,7 +148,7 @@ plan_by value =
     with (number_within 1 64 8 (value (codes "clients"))) (λ clients.
     with (number_within 1 16 2 (value (codes "parts"))) (λ parts.
     with (protocol_by value) (λ protocol.
-    with (number_within 1 200000 4000 (value (codes "steps"))) (λ steps.
+    with (number_within 1 step_limit 4000 (value (codes "steps"))) (λ steps.
     with (number_within 0 64 3 (value (codes "recoveries"))) (λ recoveries.
     Some (record {
       number = number;
@@ -205,11 +207,24 @@ live_order_by value =
     if is_text (codes "live") (value (codes "command"))
     then option_map (λ plan. Live plan) (live_plan_by value) else None
 
--- the one word `play`
-abbrev pub is_play : List Text → Bool
-is_play [] = false
-is_play (word ∷ []) = bytes_eq word (codes "play")
-is_play (word ∷ next ∷ words) = false
+-- the one word `play`, or `check`
+abbrev pub one_word : Text → Option Order
+one_word word =
+    if bytes_eq word (codes "play") then Some (Play Steps) else (if bytes_eq word (codes "check") then Some Check else None)
+
+-- `play` with its one option, before it or behind it
+abbrev pub two_words : Text → Text → Option Order
+two_words word next =
+    if (bytes_eq word (codes "play") && bytes_eq next (codes "--history"))
+    || (bytes_eq word (codes "--history") && bytes_eq next (codes "play"))
+    then Some (Play History) else None
+
+-- what words ask for with no number in them
+abbrev pub plain_in : List Text → Option Order
+plain_in [] = None
+plain_in (word ∷ []) = one_word word
+plain_in (word ∷ next ∷ []) = two_words word next
+plain_in (word ∷ next ∷ other ∷ words) = None
 
 -- the order of a command line with these options, where `order` says it by their values
 abbrev pub order_with : Options → ((Text → Option Text) → Option Order) → List Text → Option Order
@@ -225,7 +240,7 @@ live_in words = order_with live_options live_order_by words
 
 -- what the words behind the program's name ask for; none where they are no command line
 abbrev pub order_in : List Text → Option Order
-order_in words = if is_play words then Some Play else option_or (make_in words) (live_in words)
+order_in words = option_or (plain_in words) (option_or (make_in words) (live_in words))
 
 -- ---- what is no order
 

@@ -28,6 +28,7 @@ fn is_beginning(alloc: Global, words: &[&str]) -> Result<bool, NoMemory>
 {
     Ok(
         is_line(alloc, words, &[])?
+            || is_line(alloc, words, &["play"])?
             || is_line(alloc, words, &["make"])?
             || is_line(alloc, words, &["live"])?
             || is_line(alloc, words, &["1"])?

@@ -5,7 +5,8 @@
 //! each option; `make` is tried first, and `live` where the words are none of `make`. That each takes exactly what
 //! `given_by` says with its options, with the same values, is proved once for any options, over what the kit's port
 //! states of simple commands (`proofs/Walks.antt`, `proofs/Parses.antt`; `proofs/Orders.antt` has `make` and `live`).
-//! `play` alone, empty words, `--`, and words that begin with one hyphen are decided before the parser. `blamed`: the
+//! `play`, alone or with `--history`, `check`, empty words, `--`, and words that begin with one hyphen are decided before
+//! the parser. `blamed`: the
 //! first word with which no command line can begin, or none where something is missing at the end.
 #![tactic(auto)]
 
@@ -18,5 +19,5 @@ mod setting;
 mod words;
 
 pub use blame::blamed;
-pub use order::{LivePlan, MakePlan, Order, Output, WordsError};
+pub use order::{LivePlan, MakePlan, Order, Output, Report, WordsError};
 pub use words::read;

@@ -8,6 +8,7 @@ use crate::options::{F, NUMBER, PARTS, PROTOCOL, SETS, WAYS, command_with, flag,
 use crate::order::{MakePlan, Order, Output};
 use crate::setting::Setting;
 use clap::{ArgMatches, Command};
+use curp_msg::STEP_LIMIT;
 use std::alloc::{AllocError, Global};
 
 const CLIENTS: Setting = Setting {
@@ -20,7 +21,7 @@ const CLIENTS: Setting = Setting {
 const STEPS: Setting = Setting {
     name: "steps",
     least: 1,
-    most: 200_000,
+    most: STEP_LIMIT,
     default: 4_000,
 };
 

@@ -8,11 +8,22 @@ use thiserror::Error;
 #[derive(Clone, Copy, PartialEq, Eq)]
 pub enum Order {
     /// A script is read from standard input and played.
-    Play,
+    Play(Report),
     /// A script is made by the plan.
     Make(MakePlan, Output),
     /// Nodes run on threads by the plan.
     Live(LivePlan),
+    /// A history and an order are read from standard input, and it is told whether the order is one of the history.
+    Check,
+}
+
+/// What `play` writes of a script.
+#[derive(Clone, Copy, Debug, PartialEq, Eq)]
+pub enum Report {
+    /// What every step did, and the order with its answers.
+    Steps,
+    /// What clients saw, and the order, for `check` to read.
+    History,
 }
 
 /// From what a script is made: a number that everything in it follows from, the size of the world, how its reads are

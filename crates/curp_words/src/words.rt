@@ -5,17 +5,17 @@ ghost use Rattle.clap.specs.Simple.{app_of};
 ghost use Rattle.clap.specs.Walk.{texts};
 ghost use Rattle.curp_words.specs.Command.{IsRefused, IsTaken};
 ghost use Rattle.curp_words.specs.Plan.{fits};
-ghost use Rattle.curp_words.specs.Words.{is_play, is_well_formed, live_in, make_in, order_in};
+ghost use Rattle.curp_words.specs.Words.{is_well_formed, live_in, make_in, one_word, order_in, plain_in, two_words};
 
 use crate::live::{live_command, live_order};
 use crate::make::{make_command, make_order};
-use crate::order::{Order, WordsError};
+use crate::order::{Order, Report, WordsError};
 use clap::{ArgMatches, Command};
 use std::alloc::Global;
 
-/// What the words behind the program's name ask for: `play`, or `make` or `live` with its options, which stand before
-/// the word or behind it, in any order and each at most once. An option has its value behind `=` or as the next word.
-/// The value is a number of one to twenty decimal digits. Only `--summary` has no value.
+/// What the words behind the program's name ask for: `check`, or `play`, `make` or `live` with its options, which stand
+/// before the word or behind it, in any order and each at most once. An option has its value behind `=` or as the next word.
+/// The value is a number of one to twenty decimal digits. Only `--summary` and `--history` have no value.
 ///
 /// Want of memory may come for any words.
 pub fn read(alloc: Global, words: &[&str]) -> Result<Order, WordsError>
@@ -25,8 +25,8 @@ pub fn read(alloc: Global, words: &[&str]) -> Result<Order, WordsError>
         → (result ≡ Err WordsError.Usage) ⊎ (result ≡ Err WordsError.NoMemory) }
     ensures in_range { IfOk result fits }
 {
-    if is_play(words) {
-        return Ok(Order::Play);
+    if let Some(order) = plain_order(words) {
+        return Ok(order);
     }
     match read_make(alloc, words) {
         Err(WordsError::Usage) => read_live(alloc, words),
@@ -34,13 +34,34 @@ pub fn read(alloc: Global, words: &[&str]) -> Result<Order, WordsError>
     }
 }
 
-fn is_play(words: &[&str]) -> bool
-    ensures { result ≡ is_play (texts words.now) }
+// What words ask for that the parser doesn't see.
+fn plain_order(words: &[&str]) -> Option<Order>
+    ensures { result ≡ plain_in (texts words.now) }
 {
     match words {
-        [word] => *word == "play",
-        _ => false,
+        [word] => one_word(word),
+        [word, next] => two_words(word, next),
+        _ => None,
     }
+}
+
+fn one_word(word: &str) -> Option<Order>
+    ensures { result ≡ one_word word.now }
+{
+    match word {
+        "play" => Some(Order::Play(Report::Steps)),
+        "check" => Some(Order::Check),
+        _ => None,
+    }
+}
+
+// `play` with its one option, before it or behind it.
+fn two_words(word: &str, next: &str) -> Option<Order>
+    ensures { result ≡ two_words word.now next.now }
+{
+    let is_option_behind = word == "play" && next == "--history";
+    let is_option_before = word == "--history" && next == "play";
+    (is_option_behind || is_option_before).then_some(Order::Play(Report::History))
 }
 
 // The same, of `make` alone.

@@ -1,17 +1,19 @@
 -- Runs of one step more.
-use Rattle.std.proofs.Common.{◌≡◌, ◌&&◌, if◌then◌else◌, Bool, true, false, not, Option, Some, None, ◌≤◌, arith, ℕ, List, [], ◌∷◌, ◌++◌, Result, Ok, Err, OnOk, OnErr, refl, ap, sym, ◌∙◌, subst}
+use Rattle.std.proofs.Common.{◌≡◌, ◌&&◌, if◌then◌else◌, Bool, true, false, not, Option, Some, None, ◌≤◌, arith, ℕ, List, [], ◌∷◌, ◌++◌, Result, Ok, Err, OnOk, OnErr, IfOk, refl, ap, sym, ◌∙◌, subst}
 use Rattle.std.proofs.lemmas.Bool.Decides.{nat_tests}
 use Rattle.curp_base.proofs.Lists.{Each-append}
 use Rattle.curp_script.specs.Headers.{bad_field, is_within}
 use Rattle.curp_script.specs.declared.error.FieldName.TheVariants as field
 use Rattle.curp_msg.specs.declared.script.Header.{Header}
 use Rattle.curp_msg.specs.declared.script.Step.{Step}
-use Rattle.curp_facts.specs.Run.{IsHeader, IsRun, IsStep}
+use Rattle.curp_msg.specs.Script.{IsHeader, IsRun, IsStep}
 use Rattle.curp_law_line.specs.Line.{StandsIn}
 use Rattle.curp_law_line.proofs.Growing.{stands_self}
 use Rattle.curp_law_linear.specs.Grows.{completed_in_order}
 use Rattle.curp_script.specs.declared.error.FieldName.{FieldName}
-use Rattle.curp_model.specs.World.{World, step, run, opening, world}
+use Rattle.curp_model.specs.World.{World, step, run, opening, result_of, world}
+use Rattle.curp_msg.specs.declared.outcome.Outcome.{Outcome}
+use Rattle.curp_msg.specs.declared.outcome.StepResult.{StepResult}
 use Rattle.curp_world.specs.Reached.{Reached}
 
 pub run_more : (w : World) (ss : List Step) (s : Step) → run w (ss ++ s ∷ []) ≡ (step (run w ss) s).world
@@ -76,3 +78,10 @@ reached_opening h w ordered is = record {
   run = record { header = ordered; steps_are = tt };
   is = sym is;
 }
+
+-- ---- what comes of a step, by its cause
+
+pub by_cause : {E : Type 0} (r : Result Outcome E) (w : World) (s : Step) (P : StepResult → Type 0) → (step w s).outcome.result ≡ result_of w s
+    → IfOk r (λ (o : Outcome). o ≡ (step w s).outcome) → P (result_of w s) → IfOk r (λ (o : Outcome). P o.result)
+by_cause (Ok o) w s P is same holds = subst P (sym (ap (λ (x : Outcome). x.result) same ∙ is)) holds
+by_cause (Err e) w s P is same holds = tt

@@ -1,6 +1,1 @@
-pub mod Batches
-pub mod Given
-pub mod Marks
-pub mod Nodes
 pub mod Reached
-pub mod Stopped

@@ -1,6 +1,6 @@
 -- What a world can be.
 use Rattle.std.specs.Prelude.{◌≡◌, List}
-use Rattle.curp_facts.specs.Run.{IsRun}
+use Rattle.curp_msg.specs.Script.{IsRun}
 use Rattle.curp_msg.specs.declared.script.Header.{Header}
 use Rattle.curp_msg.specs.declared.script.Step.{Step}
 use Rattle.curp_model.specs.World.{World, world}

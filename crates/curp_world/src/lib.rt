@@ -9,15 +9,6 @@
 //!   stand, in that order, among those after it. `keeps`: all that every reached world keeps (`Kept`), by the call.
 #![tactic(auto)]
 
-mod cluster;
-mod given;
-mod growing;
-mod marks;
-mod nodes;
-mod ordered;
-mod orders;
-mod sent;
-mod stopped;
 mod world;
 
 pub use curp_msg::{Header, Outcome, Step, StepResult};

@@ -5,19 +5,18 @@ ghost use Rattle.curp_order.specs.Order.{IsHistory, IsOrder};
 ghost use Rattle.curp_script.specs.declared.error.FieldName.{FieldName};
 ghost use Rattle.curp_script.specs.Headers.{bad_field};
 ghost use Rattle.curp_facts.specs.Kept.{Kept};
-ghost use Rattle.curp_facts.specs.Run.{IsStep};
+ghost use Rattle.curp_msg.specs.Script.{IsStep};
 ghost use Rattle.curp_law_line.specs.Line.{StandsIn};
 ghost use Rattle.curp_law_linear.specs.Grows.{completed_in_order};
 ghost use Rattle.curp_model.specs.Causes.{IsLight, IsRunning, IsSent, IsThere, SparesManager};
 ghost use Rattle.curp_model.specs.World as world;
 
-use crate::cluster::Cluster;
-use crate::ordered;
 use curp_base::NoMemory;
+use curp_cluster::Cluster;
 use curp_cmd::laws::names_one_to_four_keys;
 use curp_cmd::{Answer, Command, RequestId};
-use curp_inv::ClientNode;
 use curp_msg::{Header, Message, Outcome, Step, StepResult};
+use curp_nodes::ClientNode;
 use curp_order::History;
 use curp_script::{FieldName, bad_field};
 use std::alloc::Global;
@@ -126,14 +125,14 @@ impl World {
     pub fn client(&self, number: u32) -> Option<&ClientNode>
         ensures { option_map (λ client. client.now.state) result ≡ numbered self.now.clients number }
     {
-        self.cluster.nodes().client(number)
+        self.cluster.client(number)
     }
 
     /// How many masters were made so far, the stopped and the fresh ones too.
     pub fn master_count(&self) -> u32
         ensures { result ≡ length self.now.masters }
     {
-        self.cluster.nodes().master_count()
+        self.cluster.master_count()
     }
 
     /// How many messages were ever sent. Their numbers and the next one fit a `u64`.
@@ -141,14 +140,14 @@ impl World {
         ensures count { result ≡ length (world.messages self.now) }
         ensures fits { result < u64.MAX }
     {
-        self.cluster.sent().count()
+        self.cluster.message_count()
     }
 
     /// The message of that number, counted from 1.
     pub fn message(&self, number: u64) -> Option<&Message>
         ensures { option_copied result ≡ numbered (world.messages self.now) number }
     {
-        self.cluster.sent().get(number)
+        self.cluster.message(number)
     }
 
     /// The messages of the step whose first message has that number, else none. The numbers of all fit a `u64`.
@@ -156,7 +155,7 @@ impl World {
         ensures messages { result.now ≡ world.sent_at 1 self.now.sent first }
         ensures fits { first + length result.now < 2 ^ 64 }
     {
-        self.cluster.sent().step_at(first)
+        self.cluster.sent(first)
     }
 
     /// What all clients saw, in the order in which it happened.
@@ -174,8 +173,7 @@ impl World {
         ensures is_order { IsOrder self.now.history (world.order self.now) }
     {
         curp_laws::order_stands();
-        let requests = self.cluster.marks().order()?;
-        ordered::answered(alloc, &requests)
+        self.cluster.order(alloc)
     }
 }
 

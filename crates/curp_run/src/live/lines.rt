@@ -3,7 +3,7 @@ ghost use Rattle.std.specs.Prelude.{◌≡◌, ◌++◌, IfOk, OnOk};
 ghost use Rattle.curp_base.specs.Words.{Each};
 ghost use Rattle.curp_law_print.specs.Ranges.{StepInRange};
 ghost use Rattle.curp_script.specs.Texts.{script_lines, step_line};
-ghost use Rattle.curp_script.specs.Headers.{InRange};
+ghost use Rattle.curp_msg.specs.Script.{IsHeader};
 ghost use Rattle.curp_script.specs.Printed.{NamesNode};
 
 use curp_base::NoMemory;
@@ -18,7 +18,7 @@ pub(crate) fn script_text(
     header: &Header,
     steps: &[Step],
 ) -> Result<Vec<u8>, NoMemory>
-    requires in_range { InRange header.now }
+    requires in_range { IsHeader header.now }
     requires printable { Each NamesNode steps.now }
     ensures text { IfOk result (λ text. text.items ≡ script_lines header.now steps.now) }
     ensures in_range { OnOk result (Each StepInRange steps.now) }

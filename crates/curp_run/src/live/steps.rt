@@ -3,8 +3,8 @@ ghost use Rattle.std.specs.Prelude.{◌≡◌, ◌≤◌, length, map, IfOk, IfS
 ghost use Rattle.curp_gather.specs.Journals.{AreOf, IsScriptOf, journals_of};
 ghost use Rattle.curp_live.specs.Live.{live_header};
 ghost use Rattle.curp_run.specs.Live.{Shows, work_of};
-ghost use Rattle.curp_script.specs.Headers.{InRange};
-ghost use Rattle.curp_script.specs.Script.{step_limit};
+ghost use Rattle.curp_msg.specs.Script.{IsHeader};
+ghost use Rattle.curp_msg.specs.Limits.{step_limit};
 ghost use Rattle.curp_words.specs.Plan.{IsLivePlan};
 
 use curp_base::NoMemory;
@@ -85,7 +85,7 @@ fn script_of(
 pub(crate) fn header_of(plan: &LivePlan) -> Header
     requires { IsLivePlan plan.now }
     ensures header { result ≡ live_header plan.now }
-    ensures in_range { InRange result }
+    ensures in_range { IsHeader result }
 {
     Header {
         clients: plan.clients,

@@ -96,7 +96,7 @@ fn push_multi(parts: &mut Vec<Json>, alloc: Global, pairs: &Pairs) -> Result<(),
     Ok(())
 }
 
-fn push_word(parts: &mut Vec<Json>, alloc: Global, word: &str) -> Result<(), NoMemory>
+pub(crate) fn push_word(parts: &mut Vec<Json>, alloc: Global, word: &str) -> Result<(), NoMemory>
     ensures { OnOk result (map view parts.new.items ≡ map view parts.old.items ++ string word.now ∷ []) }
 {
     push_part(parts, text(alloc, word)?)
@@ -116,7 +116,7 @@ fn push_value(parts: &mut Vec<Json>, alloc: Global, value: &Value) -> Result<(),
     push_part(parts, Json::String(hex_text(alloc, value.bytes())?))
 }
 
-fn push_expected(
+pub(crate) fn push_expected(
     parts: &mut Vec<Json>,
     alloc: Global,
     expected: &Option<Value>,
@@ -131,7 +131,7 @@ fn push_expected(
     }
 }
 
-fn push_part(parts: &mut Vec<Json>, part: Json) -> Result<(), NoMemory>
+pub(crate) fn push_part(parts: &mut Vec<Json>, part: Json) -> Result<(), NoMemory>
     ensures { OnOk result (map view parts.new.items ≡ map view parts.old.items ++ view part ∷ []) }
 {
     parts.push(part)?;

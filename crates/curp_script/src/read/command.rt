@@ -143,7 +143,7 @@ fn value_of(json: &Json<'_>) -> Option<Value>
 }
 
 // A value that is expected, or null where the key is to be absent.
-fn expected_of(json: &Json<'_>) -> Option<Option<Value>>
+pub(crate) fn expected_of(json: &Json<'_>) -> Option<Option<Value>>
     ensures { result ≡ expected_in (value_data json.now) }
 {
     if is_null(json) {

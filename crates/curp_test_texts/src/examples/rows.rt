@@ -1,5 +1,5 @@
 // Made by examples/to_specs.py: a row for each example. The line feed behind its script is none of it.
-pub(super) const ROWS: &str = r#"=== example append-below-the-fence
+pub(crate) const ROWS: &str = r#"=== example append-below-the-fence
 {"clients":2,"f":1,"fast":true,"parts":1,"protocol":1,"sets":16,"ways":4}
 {"client":1,"cmd":["incr","6e"],"do":"invoke"}
 {"do":"deliver","msg":1}

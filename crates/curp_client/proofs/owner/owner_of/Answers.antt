@@ -4,8 +4,8 @@ use Rattle.std.proofs.lemmas.Iterator.Search.{find_from_yields_List}
 use Rattle.curp_cmd.specs.Hash.{hashes}
 use Rattle.curp_model.specs.Ranges.{owns_all}
 use Rattle.curp_msg.specs.declared.config.PartConfig.{PartConfig}
-use Rattle.curp_client.proofs.Found.{first_is_found}
 use Rattle.curp_client.proofs.owner.owner_of.Goals as goal
+use Rattle.curp_base.proofs.Lists.{first_is_found}
 
 pub returns : goal.returns
 returns c =

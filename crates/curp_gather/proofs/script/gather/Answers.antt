@@ -1,5 +1,5 @@
 use Rattle.std.proofs.Common.{◌≡◌, ◌≤◌, ◌∙◌, IfErr, IfOk, List, Ok, Err, Result, length, subst, arith}
-use Rattle.curp_model.specs.World.{weight_limit}
+use Rattle.curp_msg.specs.Limits.{weight_limit}
 use Rattle.curp_law_weave.proofs.Weaving.{legal_runs}
 use Rattle.curp_merge.specs.Causes.{IsCause}
 use Rattle.curp_merge.specs.Held.{AllHeld}

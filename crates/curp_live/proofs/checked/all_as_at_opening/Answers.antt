@@ -4,8 +4,17 @@ use Rattle.curp_live.specs.Opening.{IsAnew}
 use Rattle.curp_live.proofs.Counts.{few_nodes}
 use Rattle.curp_live.proofs.checked.all_as_at_opening.Goals as goal
 
+pub others_anew-requires-clause-few_clients : goal.others_anew-requires-clause-few_clients
+others_anew-requires-clause-few_clients c = (few_nodes c.args.header.now c.in_ok-nodes.nodes c.requires c.in_ok-nodes.ensures).clients
+
 pub others_anew-requires-clause-few_masters : goal.others_anew-requires-clause-few_masters
 others_anew-requires-clause-few_masters c = (few_nodes c.args.header.now c.in_ok-nodes.nodes c.requires c.in_ok-nodes.ensures).masters
+
+pub others_anew-requires-clause-few_backups : goal.others_anew-requires-clause-few_backups
+others_anew-requires-clause-few_backups c = (few_nodes c.args.header.now c.in_ok-nodes.nodes c.requires c.in_ok-nodes.ensures).backups
+
+pub others_anew-requires-clause-few_witnesses : goal.others_anew-requires-clause-few_witnesses
+others_anew-requires-clause-few_witnesses c = (few_nodes c.args.header.now c.in_ok-nodes.nodes c.requires c.in_ok-nodes.ensures).witnesses
 
 pub returns : goal.returns
 returns c =

@@ -1,8 +1,9 @@
-use Rattle.std.proofs.Common.{◌≡◌, ◌≤◌, ◌+◌, ◌-◌, true}
+use Rattle.std.proofs.Common.{◌≡◌, ◌≤◌, ◌+◌, ◌-◌, ◌++◌, true}
 use Rattle.curp_io.specs.Streams.{SameCount}
-use Rattle.curp_script.specs.Script.{step_limit}
+use Rattle.curp_msg.specs.Limits.{step_limit}
 use Rattle.curp_play.specs.Play.{text_from}
 use Rattle.curp_play.specs.Reading.{IsBehind, due}
+use Rattle.curp_play.proofs.Fronts.{Told}
 use Rattle.curp_play.proofs.SoFar.{SoFar}
 use Rattle.curp_play.proofs.play.play_steps.Given as goal
 
@@ -22,6 +23,9 @@ invariant-steps g l =
       written : g.S.Source.tells l.fn.source ≡ true → g.K.Sink.tells l.fn.sink ≡ true
           → SoFar (text_from 1 l.fn.world all) (g.K.Sink.held l.fn.sink) (g.K.Sink.held l.sink)
           (text_from l.number l.world rest);
+      told : g.S.Source.tells l.fn.source ≡ true → g.K.Sink.tells l.fn.sink ≡ true
+          → Told (l.fn.script.ahead ++ g.S.Source.left l.fn.source) (l.script.ahead ++ g.S.Source.left l.source) l.number
+          l.fn.world l.world (g.K.Sink.held l.fn.sink) (g.K.Sink.held l.sink);
     }
 
 abbrev pub decreases-steps : goal.decreases-steps

@@ -4,7 +4,7 @@ use Rattle.curp_script.specs.Texts.{lines_text, step_line}
 use Rattle.curp_io.specs.Streams.{HoldsPart}
 use Rattle.curp_play.proofs.SoFar.{SoFar}
 use Rattle.curp_play.proofs.Pieces.{goes_further, is_whole, still_front}
-use Rattle.curp_run.proofs.Steps.{counted_more, next_line, no_line, printed_line}
+use Rattle.curp_run.proofs.Steps.{counted_more, next_line, no_line, none_printable, printable_more, printed_line}
 use Rattle.curp_run.proofs.script.write_steps.Goals as goal
 
 pub returns-in_err-write_line-clause-front : goal.returns-in_err-write_line-clause-front
@@ -38,8 +38,14 @@ loop-preserved g c = record {
       let line = printed_line c.loop.maker c.in_ok-step.step c.in_ok-line.line.items c.in_ok-line.ensures.text c.in_ok-step.ensures.step in
       let wrote : new ≡ now ++ piece = c.in_ok-write_line.ensures.wrote (c.loop.invariant.sink_tells tells) ∙ ap (λ l. now ++ l) line in
       subst (λ m. SoFar text old new (left m)) (sym c.in_ok-step.ensures.state) (goes_further text old now new piece (left (with_next c.loop.maker)) due wrote);
+  printable = λ left.
+      c.loop.invariant.printable (printable_more c.loop.maker c.next_step.new.self c.in_ok-step.step c.loop.counter c.args.count c.loop-test.true
+      c.in_ok-step.ensures.step c.in_ok-step.ensures.state c.in_ok-step.ensures.names_node c.step_is_in_range.ensures left);
 }
 
 pub returns-clause-wrote : goal.returns-clause-wrote
 returns-clause-wrote g c = λ tells.
     is_whole _ _ _ _ (c.loop.invariant.written tells) (no_line c.loop.maker c.loop.counter c.args.count (search rules))
+
+pub returns-clause-printable : goal.returns-clause-printable
+returns-clause-printable g c = c.loop.invariant.printable (none_printable c.loop.maker c.loop.counter c.args.count (search rules))

@@ -22,8 +22,8 @@ values-preserved c =
     let long : length (map view rest) ≡ length rest = length-map rest view in
     let fits : length (map view rest) < length names = omega (arith, ap length split, length-append rest (c.in-Some.value ∷ [])) in
     let at_end : c.len.result ≡ length (map view rest) = omega arith in
-    let key : string_bytes c.in_ok-key.key ≡ field_text (get_or names (length (map view rest)) field.Backup) =
-    c.in_ok-key.ensures.ok ∙ c.as_str.ensures ∙ ap (λ n. field_text (get_or names n field.Backup)) at_end in
+    let key : string_bytes c.in_ok-key.key ≡ field_text (get_or names (length (map view rest)) field.Ans) =
+    c.in_ok-key.ensures.ok ∙ c.as_str.ensures ∙ ap (λ n. field_text (get_or names n field.Ans)) at_end in
     let old = c.values.members.entries in
     let put_last : members_view c.insert.new.self.entries ≡ put (string_bytes c.in_ok-key.key) (view c.in-Some.value) (members_view old) =
     ap members_view c.in_ok-insert.ensures.entries ∙ members_view-insert_entry old c.in_ok-key.key c.in-Some.value in
@@ -32,7 +32,7 @@ values-preserved c =
       left =
           c.values.invariant.left ∙ ap (λ (vs : List Value). onto names (map view vs) (members_view old)) split
           ∙ ap (λ (ds : List Data). onto names ds (members_view old)) (map-append view rest (c.in-Some.value ∷ []))
-          ∙ onto-last names (map view rest) (view c.in-Some.value) (members_view old) field.Backup fits
+          ∙ onto-last names (map view rest) (view c.in-Some.value) (members_view old) field.Ans fits
           ∙ ap (onto names (map view rest)) (sym (put_last ∙ ap (λ (k : List ℕ). put k (view c.in-Some.value) (members_view old)) key));
     }
 

@@ -3,8 +3,8 @@ use Rattle.std.proofs.lemmas.Iterator.{YieldsList-from_slice}
 use Rattle.std.proofs.lemmas.Iterator.Search.{find_from_yields_List}
 use Rattle.std.specs.List.{list_any}
 use Rattle.curp_model.specs.Client.{Early, proves}
-use Rattle.curp_client.proofs.Found.{first_is_found}
 use Rattle.curp_client.proofs.pending.Pending.proved_reply.Goals as goal
+use Rattle.curp_base.proofs.Lists.{first_is_found}
 
 pub returns : goal.returns
 returns c =

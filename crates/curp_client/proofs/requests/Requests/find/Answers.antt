@@ -3,8 +3,8 @@ use Rattle.std.proofs.lemmas.Iterator.{YieldsList-from_slice}
 use Rattle.std.proofs.lemmas.Iterator.Search.{find_from_yields_List}
 use Rattle.curp_cmd.specs.RequestId.{same_id}
 use Rattle.curp_model.specs.Client.{Pending}
-use Rattle.curp_client.proofs.Found.{first_is_found}
 use Rattle.curp_client.proofs.requests.Requests.find.Goals as goal
+use Rattle.curp_base.proofs.Lists.{first_is_found}
 
 pub returns : goal.returns
 returns c =

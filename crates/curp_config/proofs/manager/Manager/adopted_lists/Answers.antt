@@ -3,8 +3,8 @@ use Rattle.std.proofs.lemmas.Iterator.{YieldsList-from_slice}
 use Rattle.std.proofs.lemmas.Iterator.Search.{find_from_yields_List}
 use Rattle.curp_msg.specs.declared.config.PartConfig.{PartConfig}
 use Rattle.curp_model.specs.Manager.{ManagerState}
-use Rattle.curp_config.proofs.Listed.{first_is_found}
 use Rattle.curp_config.proofs.manager.Manager.adopted_lists.Goals as goal
+use Rattle.curp_base.proofs.Lists.{first_is_found}
 
 pub returns : goal.returns
 returns c =

@@ -2,8 +2,8 @@ use Rattle.std.proofs.Common.{◌∙◌, ap, sym, rules, tests}
 use Rattle.std.proofs.lemmas.Iterator.{YieldsList-from_slice}
 use Rattle.std.proofs.lemmas.Iterator.Search.{find_from_yields_List}
 use Rattle.curp_model.specs.Manager.{ManagerState, owns_range}
-use Rattle.curp_config.proofs.Listed.{first_is_found}
 use Rattle.curp_config.proofs.manager.Manager.owner_of_range.Goals as goal
+use Rattle.curp_base.proofs.Lists.{first_is_found}
 
 pub returns : goal.returns
 returns c =

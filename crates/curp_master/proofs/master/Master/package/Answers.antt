@@ -6,8 +6,8 @@ use Rattle.curp_model.specs.Master.{MasterState, state_of}
 use Rattle.curp_model.specs.Table.{packed}
 use Rattle.curp_msg.specs.Moved.{Node}
 use Rattle.curp_range.specs.Spans.{is_covered}
-use Rattle.curp_master.proofs.Packed.{one_package}
 use Rattle.curp_master.proofs.master.Master.package.Goals as goal
+use Rattle.curp_model.proofs.Packages.{one_package}
 
 pub returns-in_ok-pack : goal.returns-in_ok-pack
 returns-in_ok-pack c =

@@ -6,9 +6,8 @@ use Rattle.curp_model.specs.World as world
 use Rattle.curp_model.specs.World.{World}
 use Rattle.curp_msg.specs.declared.outcome.Outcome.{Outcome}
 use Rattle.curp_msg.specs.declared.outcome.StepResult.{StepResult}
-use Rattle.curp_msg.specs.declared.outcome.StepResult.TheVariants.{Full, Gone, Manager, Refused}
-use Rattle.curp_world.proofs.Runs.{grows_after, reached_after}
-use Rattle.curp_world.proofs.Stepping.{by_cause}
+use Rattle.curp_msg.specs.declared.outcome.StepResult.TheVariants.{Done, Full, Gone, Manager, Refused}
+use Rattle.curp_world.proofs.Runs.{by_cause, grows_after, reached_after}
 use Rattle.curp_world.proofs.world.World.step.Goals as goal
 
 pub invariant_of-self : goal.invariant_of-self
@@ -56,3 +55,11 @@ returns-clause-refused c =
     ↔ (IsLight w s × (world.refusal w s ≢ 0) × (number ≡ world.refusal w s)))) c.self.view_is
     (by_cause c.step.result w s (λ (x : StepResult). (number : ℕ) → (x ≡ Refused number)
     ↔ (IsLight w s × (world.refusal w s ≢ 0) × (number ≡ world.refusal w s))) (law.result w s) c.step.ensures.outcome (law.refused w s))
+
+pub returns-clause-done : goal.returns-clause-done
+returns-clause-done c =
+    let w = c.self.inside.cluster in
+    let s = c.args.step.now in
+    let law = c.results_have_causes.ensures in
+    subst (λ (w : World). IfOk c.step.result (λ (o : Outcome). (o.result ≡ Done) ↔ (IsLight w s × (world.refusal w s ≡ 0)))) c.self.view_is
+    (by_cause c.step.result w s (λ (x : StepResult). (x ≡ Done) ↔ (IsLight w s × (world.refusal w s ≡ 0))) (law.result w s) c.step.ensures.outcome (law.done w s))

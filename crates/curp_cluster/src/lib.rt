@@ -1,0 +1,19 @@
+//! The nodes of a run together: every message that was ever sent, the history, the marks, and the steps of a script. It
+//! knows no law.
+//!
+//! - `Cluster::new`: exact, of a header whose numbers are in their ranges. `step`, clauses `state` and `outcome`: exact, of
+//!   any step. Clause `err`: for want of memory nothing has changed. `message`, `sent`, `weight`, `history`, `order`: exact.
+#![tactic(auto)]
+
+mod cluster;
+mod given;
+mod growing;
+mod marks;
+mod nodes;
+mod ordered;
+mod orders;
+mod sent;
+mod stopped;
+
+pub use cluster::Cluster;
+pub use curp_msg::{Header, Outcome, Step, StepResult};

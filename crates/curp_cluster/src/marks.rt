@@ -1,0 +1,312 @@
+// The marks of what masters push and capture, and of what the manager adopts.
+ghost use Rattle.std.specs.Prelude.{◌≡◌, ◌+◌, ◌<◌, ◌≤◌, ◌^◌, ◌++◌, [], ◌∷◌, List, None, Some, true, length, option_copied, IfOk};
+ghost use Rattle.std.specs.List.{list_any};
+ghost use Rattle.curp_base.specs.Words.{numbered};
+ghost use Rattle.curp_cmd.specs.Node.{same_node};
+ghost use Rattle.curp_model.specs.Manager.{adopted_by};
+ghost use Rattle.curp_model.specs.Master.{Captured as CapturedRead};
+ghost use Rattle.curp_model.specs.World.{capture_mark, op_marks, op_requests, with_completion};
+ghost use Rattle.curp_cluster.specs.Given.{input_of};
+ghost use Rattle.curp_cluster.specs.Marks as spec;
+ghost use Rattle.curp_cluster.specs.Marks.{HasRoomFor, HasRoomSince, IsSound, answered, due_marks, due_to_master, has_answered};
+ghost use Rattle.curp_cluster.specs.Marks.{is_captured_behind, marks_behind, marks_by, marks_of_serving, master_at, most_due, told_due};
+
+use crate::given::Given;
+use crate::nodes::Nodes;
+use curp_base::{NoMemory, past};
+use curp_cmd::{Entry, NodeId, NodeKind, Request};
+use curp_line::Line;
+use curp_master::{Captured, Master};
+use curp_msg::{Body, Completed, Config, GcAnswer, Message};
+use curp_nodes::MasterNode;
+use std::alloc::Global;
+
+/// What a recovery has replayed that is adopted: its master, its partition and epoch, the length of the log that it was
+/// given, and the requests behind that.
+#[derive(Drop)]
+pub(crate) struct Adoption {
+    master: NodeId,
+    part: u32,
+    epoch: u32,
+    cut: u64,
+    replayed: Vec<Request>,
+}
+
+/// A master that serves, before it gets an input: whether it is adopted, how long its log is, the numbers of its last
+/// capture and of its last round, and the read that the input asks it to answer at once.
+#[derive(Clone, Copy)]
+pub(crate) struct Former {
+    adopted: bool,
+    length: u64,
+    captured: u64,
+    round: u64,
+    glanced: Option<Request>,
+}
+
+/// What is to be marked of an input, once its node got it.
+#[derive(Drop)]
+pub(crate) enum Due {
+    Nothing,
+    /// What a master has pushed and captured since, if it is adopted, and what it has answered at once.
+    Since(Former),
+    Adoption(Adoption),
+}
+
+// What a master does from now on that is to be marked.
+fn due_of_master(nodes: &Nodes, to: NodeId, given: &Given) -> Due
+    requires { to.kind ≡ NodeKind.Master }
+    ensures value { told_due result ≡ due_to_master nodes.now to (input_of given.now) }
+    ensures sound { IsSound (told_due result) (numbered nodes.now.masters to.number) }
+{
+    let adopted = is_adopted(nodes.manager().config(), to);
+    let glanced = glanced(given);
+    if !adopted && glanced.is_none() {
+        return Due::Nothing;
+    }
+    match nodes.master(to.number).and_then(MasterNode::serving) {
+        Some(master) => Due::Since(Former {
+            adopted,
+            length: master.log().len(),
+            captured: master.captured(),
+            round: master.round(),
+            glanced,
+        }),
+        None => Due::Nothing,
+    }
+}
+
+// The read that an input asks for an answer at once.
+fn glanced(given: &Given) -> Option<Request>
+    ensures { result ≡ spec.glanced (input_of given.now) }
+{
+    match given {
+        Given::Message(message) => glanced_in(&message.body),
+        Given::Order(_) => None,
+    }
+}
+
+fn glanced_in(body: &Body) -> Option<Request>
+    ensures { result ≡ spec.glanced_in body.now }
+{
+    match body {
+        Body::Glance(ask) => Some(ask.get().request),
+        _ => None,
+    }
+}
+
+// What a recovery has replayed, if the manager adopts one by that message.
+fn due_of_adoption(alloc: Global, nodes: &Nodes, message: &Message) -> Result<Due, NoMemory>
+    ensures value { IfOk result (λ due. told_due due
+        ≡ spec.due_of_adoption nodes.now.masters (adopted_by nodes.now.manager message.now.body)) }
+    ensures sound { IfOk result (λ due. IsSound (told_due due) None) }
+{
+    let Some((master, order)) = nodes.manager().adoption(message) else {
+        return Ok(Due::Nothing);
+    };
+    let Some(recovery) = nodes.master(master.number).and_then(MasterNode::recovering) else {
+        return Ok(Due::Nothing);
+    };
+    let (Some(log), Some(cut)) = (recovery.log(), recovery.cut()) else {
+        return Ok(Due::Nothing);
+    };
+    Ok(Due::Adoption(Adoption {
+        master,
+        part: order.part,
+        epoch: order.epoch,
+        cut,
+        replayed: op_requests(alloc, past(log.entries(), cut))?,
+    }))
+}
+
+impl Due {
+    /// What will be due of the input, by the nodes before they got it.
+    pub(crate) fn of(
+        alloc: Global,
+        nodes: &Nodes,
+        to: NodeId,
+        given: &Given,
+    ) -> Result<Due, NoMemory>
+        ensures value { IfOk result (λ due. told_due due ≡ due_marks nodes.now to (input_of given.now)) }
+        ensures sound { IfOk result (λ due. IsSound (told_due due) (master_at to.kind to.number nodes.now.masters)) }
+    {
+        match to.kind {
+            NodeKind::Master => Ok(due_of_master(nodes, to, given)),
+            NodeKind::Manager => match given {
+                Given::Message(message) => due_of_adoption(alloc, nodes, message),
+                Given::Order(_) => Ok(Due::Nothing),
+            },
+            _ => Ok(Due::Nothing),
+        }
+    }
+
+    /// So many marks come of it at most.
+    pub(crate) fn most(&self, given: &Given) -> u64
+        ensures { result ≡ most_due (told_due self.now) (spec.most_marks (input_of given.now)) }
+    {
+        match self {
+            Due::Nothing => 0,
+            Due::Since(_) => most_marks(given),
+            // One is that of the adoption itself.
+            Due::Adoption(adoption) => 1 + adoption.replayed.len() as u64,
+        }
+    }
+
+    /// Marks what was due, once the node got its input. It takes no memory, since there is room, and looks at no entry
+    /// that stood in a log before, and at no read but the last one.
+    pub(crate) fn mark(&self, marks: &mut Line, to: NodeId, nodes: &Nodes)
+        requires { HasRoomFor (told_due self.now) (numbered nodes.now.masters to.number) marks.old.spare }
+        ensures { marks.new.marks ≡ marks_by (told_due self.now) to nodes.now.masters marks.old.marks }
+    {
+        match self {
+            Due::Nothing => (),
+            Due::Since(former) => {
+                if let Some(master) = nodes.master(to.number).and_then(MasterNode::serving) {
+                    former.mark(marks, to, master);
+                }
+            }
+            Due::Adoption(a) => {
+                marks.adopted(a.master, a.part, a.epoch, a.cut, &a.replayed);
+            }
+        }
+    }
+}
+
+impl Former {
+    // Marks what the master has done since.
+    fn mark(&self, marks: &mut Line, node: NodeId, master: &Master)
+        requires { HasRoomSince self.now master.now.state marks.old.spare }
+        ensures { marks.new.marks ≡ marks_of_serving node self.now master.now.state marks.old.marks }
+    {
+        if self.adopted {
+            self.add_behind(marks, node, master);
+        }
+        if let Some(read) = self.answered(master) {
+            let (part, epoch) = (master.part(), master.epoch());
+            marks.quick(node, part, epoch, master.captured(), read.id, read.command);
+        }
+    }
+
+    // The read that the master has answered at once since: a capture was numbered, and no round began.
+    fn answered(&self, master: &Master) -> Option<Request>
+        ensures { result ≡ answered self.now master.now.state }
+    {
+        if self.captured < master.captured() && master.round() == self.round {
+            self.glanced
+        } else {
+            None
+        }
+    }
+
+    // What the master has pushed since, and the read that it has captured, if it has.
+    fn add_behind(&self, marks: &mut Line, node: NodeId, master: &Master)
+        requires { HasRoomSince self.now master.now.state marks.old.spare }
+        ensures marks { marks.new.marks ≡ marks.old.marks ++ marks_behind node self.now master.now.state }
+        ensures spare { has_answered self.now master.now.state ≡ true → 1 ≤ marks.new.spare }
+    {
+        let log = master.log();
+        // For their clauses alone.
+        let (_length, _captured) = (log.len(), master.captured());
+        let (part, epoch) = (master.part(), master.epoch());
+        let pushed = past(log.entries(), self.length);
+        add_ops(marks, node, part, epoch, self.length, pushed);
+        if is_captured_behind(master.last_capture(), self.captured) {
+            add_capture(marks, node, master);
+        }
+    }
+}
+
+/// A completion flags its mark.
+pub(crate) fn flag(marks: &mut Line, completed: Option<Completed>)
+    ensures { marks.new.marks ≡ with_completion completed marks.old.marks }
+{
+    if let Some(completed) = completed {
+        marks.completed(&completed);
+    }
+}
+
+// So many marks come of an input to a master at most.
+fn most_marks(given: &Given) -> u64
+    ensures { result ≡ spec.most_marks (input_of given.now) }
+{
+    match given {
+        Given::Message(message) => most_by_message(&message.body),
+        Given::Order(_) => 0,
+    }
+}
+
+fn most_by_message(body: &Body) -> u64
+    ensures { result ≡ spec.most_by_message body.now }
+{
+    match body {
+        Body::Update(_) | Body::Sync(_) | Body::Read(_) | Body::Glance(_) => 1,
+        Body::TakeOut(_) | Body::GiveIn(_) | Body::ExpireClient { .. } => 1,
+        Body::Collected(collected) => match &collected.answer {
+            GcAnswer::Suspects(requests) => requests.len() as u64,
+            _ => 0,
+        },
+        _ => 0,
+    }
+}
+
+// Whether the master stands in the adopted configuration.
+fn is_adopted(config: &Config, master: NodeId) -> bool
+    ensures { result ≡ list_any (λ part. same_node part.master master) config.now.parts }
+{
+    config
+        .parts
+        .as_slice()
+        .iter()
+        .any(|part| part.master == master)
+}
+
+// The requests that entries have.
+fn op_requests(alloc: Global, entries: &[Entry]) -> Result<Vec<Request>, NoMemory>
+    ensures { IfOk result (λ requests. requests.items ≡ op_requests entries.now) }
+{
+    let mut requests = Vec::new(alloc);
+    for entry in entries {
+        if let Entry::Op { request, .. } = entry {
+            requests.push(*request)?;
+        }
+    }
+    Ok(requests)
+}
+
+// Whether the read was captured behind that number.
+fn is_captured_behind(last: Option<&Captured>, captured: u64) -> bool
+    ensures { result ≡ is_captured_behind captured (option_copied last.entry) }
+{
+    match last {
+        Some(last) => captured < last.number(),
+        None => false,
+    }
+}
+
+// The read that the master captured last.
+fn add_capture(marks: &mut Line, node: NodeId, master: &Master)
+    requires room { 1 ≤ marks.old.spare }
+    ensures { (older : List CapturedRead) (capture : CapturedRead) → master.now.state.captures ≡ older ++ capture ∷ []
+        → marks.new.marks ≡ marks.old.marks
+        ++ capture_mark node master.now.state.part master.now.state.epoch capture ∷ [] }
+{
+    let (part, epoch) = (master.part(), master.epoch());
+    if let Some(last) = master.last_capture() {
+        let (number, length) = (last.number(), last.log_length());
+        marks.looked(node, part, epoch, number, length, last.id(), last.command());
+    }
+}
+
+// The marks of the ops among entries, which stand in a log from that index on.
+fn add_ops(marks: &mut Line, node: NodeId, part: u32, epoch: u32, index: u64, entries: &[Entry])
+    requires room { length entries.now ≤ marks.old.spare }
+    requires fits { index + length entries.now < 2 ^ 64 }
+    ensures marks { marks.new.marks ≡ marks.old.marks ++ op_marks node part epoch index entries.now }
+    ensures spare { marks.old.spare ≤ marks.new.spare + length entries.now }
+{
+    for (at, entry) in entries.iter().enumerate() {
+        if let Entry::Op { request, .. } = entry {
+            let index = index + at as u64;
+            marks.executed(node, part, epoch, index, request.id, request.command);
+        }
+    }
+}

@@ -1,0 +1,156 @@
+ghost use Rattle.std.specs.Prelude.{◌≡◌, ◌+◌, ◌≤◌, ◌<◌, ◌^◌, [], length, OnOk, IfOk, IfErr, IfSome, IfNone};
+ghost use Rattle.std.specs.Option.{option_copied};
+ghost use Rattle.curp_base.specs.Words.{numbered, all_of};
+ghost use Rattle.curp_model.specs.World.{sent_at, with_batch};
+ghost use Rattle.curp_cluster.specs.Batches.{Rise, StandsAt, IsGapAt, IsBatchOf, weight_of_all};
+
+use curp_base::{Items, NoMemory};
+use curp_msg::{Message, weight};
+use std::alloc::{AllocError, Global};
+use std::marker::Model;
+
+// So many messages fit no memory, and below it no number runs over.
+const MOST: u64 = 1 << 63;
+
+/// Every message that was ever sent, as the steps sent them. Messages are numbered from 1.
+#[derive(Drop)]
+pub(crate) struct Sent {
+    batches: Vec<Items<Message>>,
+    // The number of the first message of each batch.
+    firsts: Vec<u64>,
+    next: u64,
+    // What all messages weigh.
+    weight: u64,
+}
+
+impl Model for Sent {
+    ghost use Rattle.std.specs.Prelude.{◌-◌, ◌^◌, nat_le, if◌then◌else◌, vec_len, vec_capacity, min};
+    ghost use Rattle.curp_cluster.specs.Batches.{Batched, IsIndexOf};
+
+    ghost Value = { Batched };
+
+    ghost view = { λ s. record {
+      lists = s.batches.items;
+      spare = if nat_le s.next (2 ^ 63)
+          then min (vec_capacity s.batches - vec_len s.batches) (vec_capacity s.firsts - vec_len s.firsts)
+          else 0;
+    } };
+
+    ghost invariant = { λ s. IsIndexOf s.firsts.items s.batches.items s.next s.weight };
+}
+
+impl Sent {
+    pub(crate) fn new(alloc: Global) -> Sent
+        ensures { result.lists ≡ [] }
+    {
+        Sent {
+            batches: Vec::new(alloc),
+            firsts: Vec::new(alloc),
+            next: 1,
+            weight: 0,
+        }
+    }
+
+    /// Makes room for one more step.
+    pub(crate) fn reserve(&mut self) -> Result<(), NoMemory>
+        ensures lists { self.new.lists ≡ self.old.lists }
+        ensures room { OnOk result (1 ≤ self.new.spare) }
+    {
+        self.batches.reserve(1)?;
+        self.firsts.reserve(1)?;
+        if self.next > MOST {
+            return Err(AllocError);
+        }
+        Ok(())
+    }
+
+    /// Keeps what a step sent. It takes no memory.
+    pub(crate) fn push(&mut self, messages: Items<Message>)
+        requires { 1 ≤ self.old.spare }
+        ensures { self.new.lists ≡ with_batch self.old.lists messages }
+    {
+        if messages.len() == 0 {
+            return;
+        }
+        let first = self.next;
+        self.next += messages.len() as u64;
+        let added = weight_of_all(messages.as_slice());
+        self.weight = self.weight.saturating_add(added);
+        self.firsts.push_reserved(first);
+        self.batches.push_reserved(messages);
+    }
+
+    /// How many messages were sent.
+    pub(crate) fn count(&self) -> u64
+        ensures count { result ≡ length (all_of self.now.lists) }
+        ensures fits { result < u64.MAX }
+    {
+        self.next - 1
+    }
+
+    /// The number that the next message gets.
+    pub(crate) fn next(&self) -> u64
+        ensures { result ≡ length (all_of self.now.lists) + 1 }
+    {
+        self.next
+    }
+
+    /// The weight of all messages. It stands still at 2^64 - 1.
+    pub(crate) fn weight(&self) -> u64
+        ensures { result ≡ weight_of_all (all_of self.now.lists) }
+    {
+        self.weight
+    }
+
+    /// The message of that number.
+    pub(crate) fn get(&self, number: u64) -> Option<&Message>
+        ensures { option_copied result ≡ numbered (all_of self.now.lists) number }
+    {
+        let index = batch_of(&self.firsts, number)?;
+        let offset = number - self.firsts[index];
+        self.batches[index].as_slice().get(offset as usize)
+    }
+
+    /// The messages of the step whose first message has that number, else none. The numbers of all fit a `u64`.
+    pub(crate) fn step_at(&self, first: u64) -> &[Message]
+        ensures messages { result.now ≡ sent_at 1 self.now.lists first }
+        ensures fits { first + length result.now < 2 ^ 64 }
+    {
+        match search(&self.firsts, first) {
+            Ok(index) => self.batches[index].as_slice(),
+            Err(_) => &[],
+        }
+    }
+}
+
+// What messages weigh in all.
+fn weight_of_all(messages: &[Message]) -> u64
+    ensures { result ≡ weight_of_all messages.now }
+{
+    let mut total: u64 = 0;
+    for message in messages {
+        total = total.saturating_add(weight(message));
+    }
+    total
+}
+
+// The batch that has a number or, of a number past all, the last one.
+fn batch_of(firsts: &[u64], number: u64) -> Option<usize>
+    requires { Rise firsts.now }
+    ensures some { IfSome result (IsBatchOf firsts.now number) }
+    ensures none { IfNone result (IsGapAt firsts.now number 0) }
+{
+    match search(firsts, number) {
+        Ok(index) => Some(index),
+        Err(gap) => gap.checked_sub(1),
+    }
+}
+
+// Where a number stands among rising ones, or would stand.
+fn search(numbers: &[u64], number: u64) -> Result<usize, usize>
+    requires { Rise numbers.now }
+    ensures found { IfOk result (StandsAt numbers.now number) }
+    ensures absent { IfErr result (IsGapAt numbers.now number) }
+{
+    numbers.binary_search(&number)
+}

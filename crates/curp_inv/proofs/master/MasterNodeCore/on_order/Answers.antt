@@ -1,5 +1,0 @@
-use Rattle.curp_inv.specs.Refusals.{master_obeys}
-use Rattle.curp_inv.proofs.master.MasterNodeCore.on_order.Goals as goal
-
-pub returns-clause-refused : goal.returns-clause-refused
-returns-clause-refused c = λ some. absurd (some (master_obeys c.args.self.now c.args.order.now))

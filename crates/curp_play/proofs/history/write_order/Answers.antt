@@ -1,0 +1,44 @@
+use Rattle.std.proofs.Common.{rules, ◌≡◌, ◌+◌, ◌++◌, ◌∙◌, drop, subst, refl, sym, ap}
+use Rattle.curp_play.specs.Play.{asked_of}
+use Rattle.curp_script.specs.EventTexts.{event_line, order_lines}
+use Rattle.curp_script.specs.declared.event.EventLine.TheVariants.{Place}
+use Rattle.curp_play.proofs.Claims.{next_place, next_place_too, no_place_left}
+use Rattle.curp_play.proofs.Pieces.{goes_further, is_whole, still_front}
+use Rattle.curp_play.proofs.SoFar.{SoFar}
+use Rattle.curp_play.proofs.history.write_order.Goals as goal
+
+pub returns-in_err-write_line-clause-front : goal.returns-in_err-write_line-clause-front
+returns-in_err-write_line-clause-front g c = λ tells.
+    let order = c.args.order.now in
+    let k = c.loop-id.id-index in
+    let x = c.loop-id-item.result in
+    let text = order_lines (asked_of order) in
+    let old = g.K.Sink.held c.args.sink.now in
+    let now = g.K.Sink.held c.loop-id.sink in
+    let due : SoFar text old now (event_line (Place x.0 x.1) ++ order_lines (asked_of (drop (k + 1) order))) =
+    subst (λ d. SoFar text old now d) (next_place order k x c.loop-id-test.true c.loop-id-item.is) (c.loop-id.invariant.written tells) in
+    still_front text old now (g.K.Sink.held c.write_line.new.sink) (event_line (Place x.0 x.1)) (order_lines (asked_of (drop (k + 1) order))) due
+    (c.write_line.ensures.front (c.loop-id.invariant.sink_tells tells))
+
+pub loop-id-preserved : goal.loop-id-preserved
+loop-id-preserved g c =
+    let order = c.args.order.now in
+    let k = c.loop-id.id-index in
+    let x = c.loop-id-item.result in
+    record {
+      sink_tells = search rules;
+      sink_faults = search rules;
+      written = λ tells.
+          let text = order_lines (asked_of order) in
+          let old = g.K.Sink.held c.args.sink.now in
+          let now = g.K.Sink.held c.loop-id.sink in
+          let due : SoFar text old now (event_line (Place x.0 x.1) ++ order_lines (asked_of (drop (k + 1) order))) =
+          subst (λ d. SoFar text old now d) (next_place order k x c.loop-id-test.true c.loop-id-item.is) (c.loop-id.invariant.written tells) in
+          goes_further text old now (g.K.Sink.held c.write_line.new.sink) (event_line (Place x.0 x.1)) (order_lines (asked_of (drop (k + 1) order))) due
+          (c.in_ok-write_line.ensures.wrote (c.loop-id.invariant.sink_tells tells));
+      in_range = next_place_too order k x c.loop-id-test.true c.loop-id-item.is c.loop-id.invariant.in_range c.asked_is_in_range.ensures;
+    }
+
+pub returns-clause-wrote : goal.returns-clause-wrote
+returns-clause-wrote g c = λ tells.
+    is_whole _ _ _ _ (c.loop-id.invariant.written tells) (no_place_left c.args.order.now c.loop-id.id-index (search rules))
