@@ -1,0 +1,9 @@
+pub mod Ascends
+pub mod Distinct
+pub mod Formats
+pub mod Fronts
+pub mod Combining
+pub mod More
+pub mod Orders
+pub mod Ranges
+pub mod Written

@@ -1,0 +1,5 @@
+pub mod Bounds
+pub mod Calls
+pub mod Format
+pub mod Items
+pub mod Spelling

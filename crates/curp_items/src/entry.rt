@@ -1,0 +1,94 @@
+ghost use Rattle.std.specs.Prelude.{◌≡◌, OnOk};
+ghost use Rattle.curp_items.specs.Calls.{ReadsIfMemory, Skips, Writes};
+ghost use Rattle.curp_items.specs.Items as format;
+ghost use Rattle.curp_items.specs.Spelling.{HasSpelling};
+
+use crate::package::{read_package, skip_package, write_package};
+use crate::{Fault, Item, ReadError, Reader, Writer};
+use curp_base::NoMemory;
+use curp_cmd::{Entry, Request};
+use std::alloc::Global;
+
+/// Writes an entry's spelling.
+#[tactic(auto, unfolding(crate::specs::Items::entry))]
+pub fn write_entry(entry: &Entry, out: &mut Writer) -> Result<(), NoMemory>
+    requires { HasSpelling entry.now }
+    ensures writes { Writes out.old out.new result (format.entry.of entry.now) }
+    ensures fits { OnOk result (format.entry.Fits entry.now) }
+{
+    match entry {
+        Entry::Op {
+            request,
+            acknowledge,
+        } => {
+            out.byte(1)?;
+            request.write(out)?;
+            acknowledge.write(out)
+        }
+        Entry::Take { migration, package } => {
+            out.byte(2)?;
+            migration.write(out)?;
+            write_package(package, out)
+        }
+        Entry::Give { migration, package } => {
+            out.byte(3)?;
+            migration.write(out)?;
+            write_package(package, out)
+        }
+        Entry::Expire { client } => {
+            out.byte(4)?;
+            client.write(out)
+        }
+    }
+}
+
+/// Reads an entry from the front.
+#[tactic(auto, unfolding(crate::specs::Items::entry))]
+pub fn read_entry_at(alloc: Global, reader: &mut Reader) -> Result<Entry, ReadError>
+    ensures { ReadsIfMemory result reader.new (format.entry.read reader.old) }
+{
+    let place = reader.place();
+    match reader.byte()? {
+        1 => Ok(Entry::Op {
+            request: Item::read(reader)?,
+            acknowledge: Item::read(reader)?,
+        }),
+        2 => Ok(Entry::Take {
+            migration: Item::read(reader)?,
+            package: read_package(alloc, reader)?,
+        }),
+        3 => Ok(Entry::Give {
+            migration: Item::read(reader)?,
+            package: read_package(alloc, reader)?,
+        }),
+        4 => Ok(Entry::Expire {
+            client: Item::read(reader)?,
+        }),
+        _ => Err(ReadError::Fault { place }),
+    }
+}
+
+/// Reads past an entry. It takes no memory.
+#[tactic(auto, unfolding(crate::specs::Items::entry))]
+pub(crate) fn skip_entry(reader: &mut Reader) -> Result<(), Fault>
+    ensures { Skips result reader.new (format.entry.read reader.old) }
+{
+    let place = reader.place();
+    match reader.byte()? {
+        1 => skip::<(Request, u32)>(reader),
+        2 | 3 => {
+            skip::<u32>(reader)?;
+            skip_package(reader)
+        }
+        4 => skip::<u32>(reader),
+        _ => Err(Fault { place }),
+    }
+}
+
+/// Reads past an item.
+fn skip<T: Item>(reader: &mut Reader) -> Result<(), Fault>
+    ensures { Skips result reader.new (T.format.read reader.old) }
+{
+    T::read(reader)?;
+    Ok(())
+}

@@ -1,0 +1,44 @@
+//! What stands in a frame behind its length.
+ghost use Rattle.std.specs.Prelude.{◌≡◌, OnOk};
+ghost use Rattle.curp_items.specs.Calls.{ReadsIfMemory, Writes};
+ghost use Rattle.curp_wire.specs.Frame.{IsMessage, content, is_tag, read_message};
+ghost use Rattle.curp_wire.specs.Spelling.{HasContent};
+
+use crate::body::{read_fields, tag_of, write_fields};
+use curp_base::NoMemory;
+use curp_items::{Item, ReadError, Reader, Writer};
+use curp_msg::Message;
+use std::alloc::Global;
+
+/// Writes the tag, the sender, the addressee and the fields.
+pub(crate) fn write_content(message: &Message, out: &mut Writer) -> Result<(), NoMemory>
+    requires { HasContent message.now }
+    ensures writes { Writes out.old out.new result (content message.now) }
+    ensures message { OnOk result (IsMessage message.now) }
+{
+    out.byte(tag_of(&message.body))?;
+    message.from.write(out)?;
+    message.to.write(out)?;
+    write_fields(&message.body, out)
+}
+
+/// Reads what stands behind the tag.
+pub(crate) fn read_message(
+    tag: u8,
+    alloc: Global,
+    reader: &mut Reader,
+) -> Result<Message, ReadError>
+    ensures { ReadsIfMemory result reader.new (read_message tag reader.old) }
+{
+    let from = Item::read(reader)?;
+    let to = Item::read(reader)?;
+    let body = read_fields(tag, alloc, reader)?;
+    Ok(Message { from, to, body })
+}
+
+/// Whether some body has this tag.
+pub(crate) fn is_tag(tag: u8) -> bool
+    ensures { result ≡ is_tag tag }
+{
+    (1..=35).contains(&tag)
+}
