@@ -1,0 +1,12 @@
+pub mod Backwards
+pub mod Behind
+pub mod Completes
+pub mod Exactly
+pub mod Feeding
+pub mod Fronts
+pub mod InPlace
+pub mod Inwards
+pub mod Keeps
+pub mod Numbers
+pub mod Pairs
+pub mod Runs

@@ -1,0 +1,11 @@
+pub mod Ahead
+pub mod Feeds
+pub mod Frames
+pub mod Input
+pub mod Kept
+pub mod KeptMeaning
+pub mod Language
+pub mod Meaning
+pub mod Next
+pub mod Read
+pub mod Reply

@@ -1,0 +1,118 @@
+-- What requests mean (this project's own words).
+use Rattle.std.specs.Prelude.{ℕ, ◌==◌, ◌&&◌, ◌||◌, nat_le, not, Bool, codes, find, if◌then◌else◌, List, [], ◌∷◌}
+use Rattle.std.specs.Prelude.{length, Option, Some, None, Result, Ok, Err}
+use Rattle.std.specs.Str.{str_eq_ignore_ascii_case}
+use Rattle.curp_base.specs.Cases.{◌>>=◌, refuse_if}
+use Rattle.curp_cmd.specs.Pairs.{Pair, names_twice}
+use Rattle.curp_cmd.specs.declared.command.Command.{Command}
+use Rattle.curp_cmd.specs.declared.command.Command.TheVariants as command
+use Rattle.curp_resp.specs.declared.asked.Asked.{Asked}
+use Rattle.curp_resp.specs.declared.asked.Asked.TheVariants as asked
+use Rattle.curp_resp.specs.declared.asked.Wrong.{Wrong}
+use Rattle.curp_resp.specs.declared.asked.Wrong.TheVariants as wrong
+use Rattle.curp_resp.specs.declared.word.Word.{Word}
+use Rattle.curp_resp.specs.declared.word.Word.TheVariants as word
+
+-- ---- words
+
+-- the words that a request may begin with
+abbrev pub words : List Word
+words =
+    word.Get ∷ word.Set ∷ word.Del ∷ word.Incr ∷ word.Append ∷ word.CondPut ∷ word.CondNew ∷ word.MSet ∷ []
+
+abbrev pub word_text : Word → List ℕ
+word_text word.Get = codes "GET"
+word_text word.Set = codes "SET"
+word_text word.Del = codes "DEL"
+word_text word.Incr = codes "INCR"
+word_text word.Append = codes "APPEND"
+word_text word.CondPut = codes "CONDPUT"
+word_text word.CondNew = codes "CONDNEW"
+word_text word.MSet = codes "MSET"
+
+-- the bytes spell the word, each letter in either case
+abbrev pub spells : List ℕ → Word → Bool
+spells bytes w = str_eq_ignore_ascii_case bytes (word_text w)
+
+-- the word that the bytes spell
+abbrev pub word_of : List ℕ → Option Word
+word_of bytes = find (spells bytes) words
+
+-- ---- arguments
+
+-- a key has 1 to 32 bytes
+abbrev pub key_in : List ℕ → Result (List ℕ) Wrong
+key_in bytes = if nat_le 1 (length bytes) && nat_le (length bytes) 32 then Ok bytes else Err wrong.Size
+
+-- a value has 0 to 128 bytes
+abbrev pub value_in : List ℕ → Result (List ℕ) Wrong
+value_in bytes = if nat_le (length bytes) 128 then Ok bytes else Err wrong.Size
+
+abbrev pub pair_in : List ℕ → List ℕ → Result Pair Wrong
+pair_in key value = key_in key >>= λ k. value_in value >>= λ v. Ok (k, v)
+
+-- keys and values in turn
+abbrev pub pairs_in : List (List ℕ) → Result (List Pair) Wrong
+pairs_in [] = Ok []
+pairs_in (key ∷ []) = Err wrong.Arguments
+pairs_in (key ∷ value ∷ rest) = pair_in key value >>= λ p. pairs_in rest >>= λ ps. Ok (p ∷ ps)
+
+-- ---- commands
+
+-- one argument, a key
+abbrev pub key_alone : List (List ℕ) → Result (List ℕ) Wrong
+key_alone (key ∷ []) = key_in key
+key_alone _ = Err wrong.Arguments
+
+-- two arguments, a key and a value
+abbrev pub pair_alone : List (List ℕ) → Result Pair Wrong
+pair_alone (key ∷ value ∷ []) = pair_in key value
+pair_alone _ = Err wrong.Arguments
+
+-- three arguments: a key, the value that it is expected to have, and the value that it has from then on
+abbrev pub swap_alone : List (List ℕ) → Result Command Wrong
+swap_alone (key ∷ expected ∷ value ∷ []) =
+    pair_in key value >>= λ p. value_in expected >>= λ e. Ok (command.CondPut p.0 (Some e) p.1)
+swap_alone _ = Err wrong.Arguments
+
+-- so many arguments are one to four pairs
+abbrev pub are_pairs : ℕ → Bool
+are_pairs count = count == 2 || count == 4 || count == 6 || count == 8
+
+-- the multi-put of one to four pairs of a key and a value, no key twice
+abbrev pub multi_alone : List (List ℕ) → Result Command Wrong
+multi_alone arguments =
+    refuse_if (not (are_pairs (length arguments))) wrong.Arguments
+    >>= λ _. pairs_in arguments
+    >>= λ pairs. refuse_if (names_twice pairs) wrong.KeyTwice
+    >>= λ _. Ok (command.Multi pairs)
+
+-- what a word means with these arguments
+abbrev pub command_by : Word → List (List ℕ) → Result Command Wrong
+command_by word.Get arguments = key_alone arguments >>= λ key. Ok (command.Get key)
+command_by word.Set arguments = pair_alone arguments >>= λ p. Ok (command.Put p.0 p.1)
+command_by word.Del arguments = key_alone arguments >>= λ key. Ok (command.Delete key)
+command_by word.Incr arguments = key_alone arguments >>= λ key. Ok (command.Incr key)
+command_by word.Append arguments = pair_alone arguments >>= λ p. Ok (command.Append p.0 p.1)
+command_by word.CondPut arguments = swap_alone arguments
+command_by word.CondNew arguments = pair_alone arguments >>= λ p. Ok (command.CondPut p.0 None p.1)
+command_by word.MSet arguments = multi_alone arguments
+
+-- ---- requests
+
+abbrev pub command_behind : Option Word → List (List ℕ) → Result Command Wrong
+command_behind None arguments = Err wrong.Unknown
+command_behind (Some w) arguments = command_by w arguments
+
+-- the command of a request, the first argument of which is its word; no request is empty
+abbrev pub command_of : List (List ℕ) → Result Command Wrong
+command_of [] = Err wrong.Unknown
+command_of (first ∷ arguments) = command_behind (word_of first) arguments
+
+abbrev pub asked_by : Result Command Wrong → Asked
+asked_by (Ok c) = asked.Command c
+asked_by (Err why) = asked.Wrong why
+
+-- what a request with these arguments means: a command, or the first of the errors that holds
+abbrev pub meaning : List (List ℕ) → Asked
+meaning arguments = asked_by (command_of arguments)
