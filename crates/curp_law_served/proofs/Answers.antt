@@ -10,13 +10,13 @@ use Rattle.curp_cmd.specs.declared.command.RequestId.{RequestId}
 use Rattle.curp_order.specs.Order.{IsHistory, IsOrder, answers, store_after}
 use Rattle.curp_order.proofs.Laws.{answers_append, answers_push, length-answers}
 use Rattle.curp_model.specs.World.{with_answers}
-use Rattle.curp_law_served.specs.Served.{Answered, answer_behind, answered, in_turn, requests, requests_from}
+use Rattle.curp_law_served.specs.Served.{AnsweredRequest, answer_behind, answered, in_turn, requests, requests_from}
 use Rattle.curp_law_served.proofs.InTurn.{answers_in_turn, as_many, in_its_turn}
 
 -- ---- the order is that of the turns
 
 -- a request without its answer
-abbrev pub asked_of : Answered → RequestId × Command
+abbrev pub asked_of : AnsweredRequest → RequestId × Command
 asked_of x = (x.0, x.1)
 
 -- lists with the same items are the same
@@ -30,13 +30,13 @@ same_items {A} (x ∷ xs) (y ∷ ys) there few =
     let rest = same_items xs ys (λ k z at. there (suc k) z at) (λ k z at. let low = few (suc k) z at in omega (arith, low)) in
     λ i. first i ∷ rest i
 
-module _ (xs : List Answered) (order : List (RequestId × Command)) (history : IsHistory (in_turn xs))
+module _ (xs : List AnsweredRequest) (order : List (RequestId × Command)) (history : IsHistory (in_turn xs))
     (ok : IsOrder (in_turn xs) order) where
   pub order_is : order ≡ map asked_of xs
   order_is = same_items (map asked_of xs) order there (λ k y at. let low = as_many xs order history ok k y at in let long = length-map xs asked_of in omega (arith, low, long))
     where
-      unmapped : (zs : List Answered) (k : ℕ) (y : RequestId × Command) → At (map asked_of zs) k y
-          → (x : Answered) × At zs k x × (asked_of x ≡ y)
+      unmapped : (zs : List AnsweredRequest) (k : ℕ) (y : RequestId × Command) → At (map asked_of zs) k y
+          → (x : AnsweredRequest) × At zs k x × (asked_of x ≡ y)
       unmapped [] k y at = absurd cc
       unmapped (z ∷ zs) zero y at = (z, refl, cc)
       unmapped (z ∷ zs) (suc k) y at = unmapped zs k y at
@@ -45,10 +45,10 @@ module _ (xs : List Answered) (order : List (RequestId × Command)) (history : I
       there k y at = let u = unmapped xs k y at in subst (λ (z : RequestId × Command). At order k z) u.2 (in_its_turn xs order history ok k u.0 u.1)
 
   -- the answer to the last one is that of one thread behind the others
-  pub last_answer : (before : List Answered) (x : Answered) → xs ≡ before ++ x ∷ []
+  pub last_answer : (before : List AnsweredRequest) (x : AnsweredRequest) → xs ≡ before ++ x ∷ []
       → x.2 ≡ (applied (store_after nothing (map asked_of before)) x.1).answer
   last_answer before x is =
-      let at : At xs (length before) x = subst (λ (zs : List Answered). At zs (length before) x) (sym is) (at_push before x (length before) refl) in
+      let at : At xs (length before) x = subst (λ (zs : List AnsweredRequest). At zs (length before) x) (sym is) (at_push before x (length before) refl) in
       let own : At (answers order) (length before) x.2 = answers_in_turn xs order history ok (length before) x at in
       let whole : order ≡ map asked_of before ++ asked_of x ∷ [] = order_is ∙ ap (map asked_of) is ∙ map-append asked_of before (x ∷ []) in
       at_same (answers order) (length before) x.2 _ own
@@ -70,7 +70,7 @@ with_push : (os : List (RequestId × Command)) (given : List Answer) (o : Reques
 with_push [] [] o a long = refl
 with_push [] (b ∷ bs) o a long = absurd (omega (arith, long))
 with_push (p ∷ os) [] o a long = absurd (omega (arith, long))
-with_push (p ∷ os) (b ∷ bs) o a long = ap (λ (xs : List Answered). (p.0, p.1, b) ∷ xs) (with_push os bs o a (omega (arith, long)))
+with_push (p ∷ os) (b ∷ bs) o a long = ap (λ (xs : List AnsweredRequest). (p.0, p.1, b) ∷ xs) (with_push os bs o a (omega (arith, long)))
 
 -- one more command
 pub answered_push : (cs : List Command) (c : Command)

@@ -49,7 +49,7 @@ use Rattle.curp_law_steps.specs.Named.{StopsNone}
 use Rattle.curp_law_steps.proofs.Moving.{its_result, only_moves, stops_only_by_stop}
 use Rattle.curp_law_quiet.specs.Calm.{Calm, FitsIn}
 use Rattle.curp_law_quiet.specs.Grounds.{Grounds, IsCalm}
-use Rattle.curp_law_quiet.specs.Learns.{ClientLearns, IsBehind}
+use Rattle.curp_law_quiet.specs.Learns.{ClientLearns, IsBehindEntry}
 use Rattle.curp_law_quiet.proofs.Laws.{delivers_on, none_left}
 use Rattle.curp_law_quiet.proofs.Learns.{learns_on, learnt_at_end}
 use Rattle.curp_law_quiet.proofs.Starts.{Gave, collect_calm, fetch_calm, gave, invoke_calm, invoked, sent_due, sync_calm}
@@ -112,10 +112,10 @@ module _ {f n : ℕ} {w : World} {done : ℕ} {c : PartConfig} {q : ℕ} (s : Se
   pub grounded : n ≤ most_steps → Grounds w done c its_master its_client
   grounded few = grounds s.known f n s.follows few done c q its_master its_client calmly s.homes s.newest
 
-  pub behind : IsBehind w c its_client
+  pub behind : IsBehindEntry w c its_client
   behind = by (s.follows.configs 1 its_client (ap (λ (cs : List ClientState). numbered cs 1) calmly.client))
     where
-      by : IsOlder w.manager.config its_client.config → IsBehind w c its_client
+      by : IsOlder w.manager.config its_client.config → IsBehindEntry w c its_client
       by (inl same) = inl (ap (λ (x : Config). x.parts) same ∙ calmly.manager)
       by (inr less) = inr less
 

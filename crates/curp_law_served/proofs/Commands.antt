@@ -19,34 +19,34 @@ use Rattle.curp_model.specs.World.{World, messages, step}
 use Rattle.curp_law_growth.proofs.Worlds.{step_grows}
 use Rattle.curp_law_quiet.specs.Learns.{ClientLearns}
 use Rattle.curp_law_quiet.specs.Renews.{renewed}
-use Rattle.curp_law_served.specs.Served.{Answered, Served, and_then, answer_by, header_of, if_turn, in_turn, is_turn, makes, newest_in, quiets, replaces_master, serve, tidies, with_quieting}
+use Rattle.curp_law_served.specs.Served.{AnsweredRequest, Served, and_then, answer_by, header_of, if_turn, in_turn, is_turn, makes, newest_in, quiets, replaces_master, serve, tidies, with_quieting}
 use Rattle.curp_law_served.proofs.Calm.{Serves, calmly, collect_learns, collect_made, collect_serves, deliver_learns, deliver_made, deliver_serves, fetch_learns, fetch_made, fetch_serves, invoke_learns, invoke_made, invoke_serves, its_client, learnt, sync_learns, sync_made, sync_serves}
 use Rattle.curp_law_served.proofs.Followed.{IsServedStep}
 use Rattle.curp_law_served.proofs.History.{InvokesNone, Tells}
 use Rattle.curp_law_served.proofs.Made.{IsMade}
 use Rattle.curp_law_served.proofs.Recovery as renewing
-use Rattle.curp_law_served.proofs.Recovery.{Halted, Renews, begins, halts, its_order, recover_made, renewed_serves, stop_made, stop_silent}
+use Rattle.curp_law_served.proofs.Recovery.{Halted, Renews, begins, halts, is_master, its_order, recover_made, renewed_serves, stop_made, stop_silent}
 use Rattle.curp_law_served.proofs.Turns.{Leaves, Stands, later_leaves, length_push, made_state, makes_leaves, quiets_leaves, then_leaves}
 
 -- ---- what holds in between
 
 -- its master serves, and something was invoked behind the requests in turn
-pub record IsServing (f : ℕ) (xs : List Answered) (c : PartConfig) (q : ℕ) (s : Served) : Type 0 where
+pub record IsServing (f : ℕ) (xs : List AnsweredRequest) (c : PartConfig) (q : ℕ) (s : Served) : Type 0 where
   pub serves : Serves f (length s.steps) s.world s.delivered c q
   pub begun : length (in_turn xs) < length s.world.history
 
 -- and the client has the present entry, or will have it
-pub record IsLearning (f : ℕ) (xs : List Answered) (c : PartConfig) (q : ℕ) (s : Served) : Type 0 where
+pub record IsLearning (f : ℕ) (xs : List AnsweredRequest) (c : PartConfig) (q : ℕ) (s : Served) : Type 0 where
   pub serving : IsServing f xs c q s
   pub learns : ClientLearns s.world s.delivered c
 
 -- its partition is recovered
-pub record IsRenewing (f : ℕ) (xs : List Answered) (c : PartConfig) (q : ℕ) (o : Recover) (cl : ClientState) (s : Served) : Type 0 where
+pub record IsRenewing (f : ℕ) (xs : List AnsweredRequest) (c : PartConfig) (q : ℕ) (o : Recover) (cl : ClientState) (s : Served) : Type 0 where
   pub renews : Renews f (length s.steps) s.world s.delivered c q o cl
   pub begun : length (in_turn xs) < length s.world.history
 
 -- its master is stopped, and every message is delivered
-pub record IsHalted (f : ℕ) (xs : List Answered) (c : PartConfig) (cl : ClientState) (s : Served) : Type 0 where
+pub record IsHalted (f : ℕ) (xs : List AnsweredRequest) (c : PartConfig) (cl : ClientState) (s : Served) : Type 0 where
   pub halted : Halted f (length s.steps) s.world c cl
   pub begun : length (in_turn xs) < length s.world.history
   pub ended : s.delivered ≡ length (messages s.world)
@@ -58,19 +58,19 @@ pub record IsQuiet (f : ℕ) (c : PartConfig) (q : ℕ) (s : Served) : Type 0 wh
   pub config : (its_client serves).config.parts ≡ c ∷ []
 
 -- and something was invoked
-pub record IsDone (f : ℕ) (xs : List Answered) (c : PartConfig) (q : ℕ) (s : Served) : Type 0 where
+pub record IsDone (f : ℕ) (xs : List AnsweredRequest) (c : PartConfig) (q : ℕ) (s : Served) : Type 0 where
   pub at_rest : IsQuiet f c q s
   pub begun : length (in_turn xs) < length s.world.history
 
 -- with some entry and some master
-abbrev pub IsOver : ℕ → List Answered → Served → Type 0
+abbrev pub IsOver : ℕ → List AnsweredRequest → Served → Type 0
 IsOver f xs s = (c : PartConfig) × (q : ℕ) × IsDone f xs c q s
 
 -- the recovery has finished, and every message is delivered
-abbrev pub IsRecovered : ℕ → List Answered → Served → Type 0
+abbrev pub IsRecovered : ℕ → List AnsweredRequest → Served → Type 0
 IsRecovered f xs s = (c : PartConfig) × (q : ℕ) × IsServing f xs c q s × (s.delivered ≡ length (messages s.world))
 
-module _ (f : ℕ) (low : f ≤ 5) (header : IsHeader (header_of f)) (xs : List Answered) (id : RequestId)
+module _ (f : ℕ) (low : f ≤ 5) (header : IsHeader (header_of f)) (xs : List AnsweredRequest) (id : RequestId)
     (command : Command) where
   abbrev Its : Served → Type 0
   Its s = Stands f xs id command s
@@ -220,7 +220,7 @@ module _ (f : ℕ) (low : f ≤ 5) (header : IsHeader (header_of f)) (xs : List 
       let w = quiet.at_rest in
       let own : c.master ≡ master_node (newest_in s.world.manager.config.parts) = (calmly w.serves).its_master ∙ ap (λ (k : ℕ). master_node k) (sym (newest_is c q s w)) in
       subst (λ (node : NodeId). Left (IsHalted f xs c (its_client w.serves)) (makes (steps.Stop node) s)) own
-      (later_leaves f header xs id command (IsHalted f xs c (its_client w.serves)) (steps.Stop c.master) tt s st none tt (inl (stop_made w.serves st.few))
+      (later_leaves f header xs id command (IsHalted f xs c (its_client w.serves)) (steps.Stop c.master) (is_master w.serves st.few) s st none tt (inl (stop_made w.serves st.few))
       (λ is room. record {
         halted = subst (λ (k : ℕ). Halted f k (step s.world (steps.Stop c.master)).world c (its_client w.serves)) (sym (length_push s.steps (steps.Stop c.master))) (halts w.serves st.few);
         begun = begun_later s.world (steps.Stop c.master) quiet.begun;

@@ -42,7 +42,7 @@ use Rattle.curp_law_kept.proofs.Known.{fits, from_manager}
 use Rattle.curp_law_kept.proofs.MastersMoves.{heard_in, input_moves, speaker, stage_from}
 use Rattle.curp_law_kept.proofs.Steps.{known_step}
 use Rattle.curp_law_names.proofs.Lists.{among_each}
-use Rattle.curp_law_served.specs.Served.{header_of}
+use Rattle.curp_law_served.specs.Served.{StopsMaster, header_of}
 use Rattle.curp_law_served.proofs.Clients.{client_goes}
 use Rattle.curp_law_served.proofs.Managers.{Advances, IsOlder, IsPlain, IsServed, advances_self, manager_goes, older_later, plain_later}
 use Rattle.curp_law_served.proofs.Rounds.{IsWithin, higher, input_within}
@@ -55,12 +55,16 @@ IsServedStep (steps.Fetch n) = ⊤
 IsServedStep (steps.Sync n) = ⊤
 IsServedStep (steps.Collect n) = ⊤
 IsServedStep (steps.Recover part backup witness) = ⊤
-IsServedStep (steps.Stop node) = ⊤
+IsServedStep (steps.Stop node) = StopsMaster (steps.Stop node)
 IsServedStep _ = ⊥
 
 pub is_step : (s : Step) → IsServedStep s → IsStep s
 is_step (steps.Invoke n command) its = its
 is_step _ its = tt
+
+pub stops_master : (s : Step) → IsServedStep s → StopsMaster s
+stops_master (steps.Stop node) its = its
+stops_master _ its = tt
 
 -- what it gives
 pub served_input : (w : World) (s : Step) → IsServedStep s → (to : NodeId) (given : Input)

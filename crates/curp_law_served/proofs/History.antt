@@ -34,7 +34,7 @@ use Rattle.curp_law_growth.proofs.Deeds.{deed_meant}
 use Rattle.curp_law_keepers.proofs.Backups.{backup_effect}
 use Rattle.curp_law_keepers.proofs.Witnesses.{witness_effect}
 use Rattle.curp_law_kept.proofs.MastersMoves.{input_idle}
-use Rattle.curp_law_served.specs.Served.{Answered, answer_by, in_turn}
+use Rattle.curp_law_served.specs.Served.{AnsweredRequest, answer_by, in_turn}
 use Rattle.curp_law_served.proofs.Clients.{Changes, Completes, Hears, Keeps, client_told}
 use Rattle.curp_law_served.proofs.Followed.{Follows, IsServedStep, served_input}
 use Rattle.curp_law_served.proofs.Managers.{IsServed, manager_goes}
@@ -43,7 +43,7 @@ use Rattle.curp_law_served.proofs.Managers.{IsServed, manager_goes}
 
 -- Behind so many requests in turn, the next one, of that id, isn't invoked yet, waits, or has its answer. The client has used as many
 -- numbers, or one more
-pub data Tells (w : World) (xs : List Answered) (id : RequestId) (command : Command) : Option Answer → Type 0 where
+pub data Tells (w : World) (xs : List AnsweredRequest) (id : RequestId) (command : Command) : Option Answer → Type 0 where
   Unasked : (cl : ClientState) → w.clients ≡ cl ∷ [] → cl.pending ≡ [] → cl.last ≡ length xs → w.history ≡ in_turn xs
       → Tells w xs id command None
   Waits : (cl : ClientState) → w.clients ≡ cl ∷ [] → (p : Pending) → cl.pending ≡ p ∷ [] → p.request.id ≡ id
@@ -53,7 +53,7 @@ pub data Tells (w : World) (xs : List Answered) (id : RequestId) (command : Comm
       → w.history ≡ in_turn (xs ++ (id, command, a) ∷ [])
       → Tells w xs id command (Some a)
 
-pub in_turn_push : (xs : List Answered) (id : RequestId) (command : Command) (a : Answer)
+pub in_turn_push : (xs : List AnsweredRequest) (id : RequestId) (command : Command) (a : Answer)
     → in_turn xs ++ Invoke id command ∷ Complete id a ∷ [] ≡ in_turn (xs ++ (id, command, a) ∷ [])
 in_turn_push [] id command a = refl
 in_turn_push (x ∷ xs) id command a = ap (λ (es : List Event). Invoke x.0 x.1 ∷ Complete x.0 x.2 ∷ es) (in_turn_push xs id command a)
@@ -236,7 +236,7 @@ without_one p id e = by (same_id p.request.id id) (subst (λ (x : RequestId). sa
     by false e = absurd cc
 
 module _ {w : World} (known : Known w) (f n : ℕ) (follows : Follows f w n) (s : Step) (its : IsServedStep s)
-    (none : InvokesNone s) (xs : List Answered) (id : RequestId) (command : Command) where
+    (none : InvokesNone s) (xs : List AnsweredRequest) (id : RequestId) (command : Command) where
   abbrev v : World
   v = (step w s).world
 

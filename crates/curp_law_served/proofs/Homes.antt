@@ -12,7 +12,7 @@ use Rattle.curp_model.specs.Named.{IsBackup, IsWitness}
 use Rattle.curp_model.specs.Witness.{WitnessState}
 use Rattle.curp_model.specs.World.{World}
 use Rattle.curp_facts.specs.Facts.{IsAmong, IsGiven, Lists, WasSent}
-use Rattle.curp_facts.specs.Names.{IsOf, Names, OrderOk}
+use Rattle.curp_facts.specs.Names.{IsOf, Names, RecoverOrderOk}
 
 module _ (w : World) where
   -- a backup of the world has a state
@@ -32,6 +32,6 @@ module _ {w : World} (n : Names w) where
   -- the backup that an order names is at home in the order's partition, in a smaller epoch
   pub ordered_backup_home : (node : NodeId) (o : Recover) → WasSent w (says manager_node node (body.Recover o)) → (l : Lists) → IsGiven w l → IsAmong o.backup l.backups → (l.part ≡ o.part) × (l.epoch < o.epoch)
   ordered_backup_home node o sent l given a =
-      let ok : OrderOk w node o = n.manager_says node (body.Recover o) sent in
+      let ok : RecoverOrderOk w node o = n.manager_says node (body.Recover o) sent in
       let home = backup_home l ok.before given ok.was.given o.backup a ok.its_backup in
       (home.0 ∙ ok.its_part, omega (arith, home.1, ok.earlier))

@@ -7,47 +7,47 @@ use Rattle.curp_cmd.specs.declared.command.Command.{Command}
 use Rattle.curp_cmd.specs.declared.command.RequestId.{RequestId}
 use Rattle.curp_order.specs.Order.{IsHistory, IsOrder, answers}
 use Rattle.curp_order.specs.declared.Event.TheVariants.{Invoke, Complete}
-use Rattle.curp_law_served.specs.Served.{Answered, in_turn}
+use Rattle.curp_law_served.specs.Served.{AnsweredRequest, in_turn}
 
-invoked_at : (xs : List Answered) (k i : ℕ) (x : Answered) → i ≡ k + k → At xs k x → At (in_turn xs) i (Invoke x.0 x.1)
+invoked_at : (xs : List AnsweredRequest) (k i : ℕ) (x : AnsweredRequest) → i ≡ k + k → At xs k x → At (in_turn xs) i (Invoke x.0 x.1)
 invoked_at [] k i x e at = absurd cc
-invoked_at (y ∷ ys) zero zero x e at = let same : y ≡ x = cc in ap (λ (z : Answered). Some (Invoke z.0 z.1)) same
+invoked_at (y ∷ ys) zero zero x e at = let same : y ≡ x = cc in ap (λ (z : AnsweredRequest). Some (Invoke z.0 z.1)) same
 invoked_at (y ∷ ys) zero (suc i) x e at = absurd (omega (arith, e))
 invoked_at (y ∷ ys) (suc k) zero x e at = absurd (omega (arith, e))
 invoked_at (y ∷ ys) (suc k) (suc zero) x e at = absurd (omega (arith, e))
 invoked_at (y ∷ ys) (suc k) (suc (suc i)) x e at = invoked_at ys k i x (omega (arith, e)) at
 
-completed_at : (xs : List Answered) (k i : ℕ) (x : Answered) → i ≡ k + k + 1 → At xs k x
+completed_at : (xs : List AnsweredRequest) (k i : ℕ) (x : AnsweredRequest) → i ≡ k + k + 1 → At xs k x
     → At (in_turn xs) i (Complete x.0 x.2)
 completed_at [] k i x e at = absurd cc
 completed_at (y ∷ ys) zero zero x e at = absurd (omega (arith, e))
-completed_at (y ∷ ys) zero (suc zero) x e at = let same : y ≡ x = cc in ap (λ (z : Answered). Some (Complete z.0 z.2)) same
+completed_at (y ∷ ys) zero (suc zero) x e at = let same : y ≡ x = cc in ap (λ (z : AnsweredRequest). Some (Complete z.0 z.2)) same
 completed_at (y ∷ ys) zero (suc (suc i)) x e at = absurd (omega (arith, e))
 completed_at (y ∷ ys) (suc k) zero x e at = absurd (omega (arith, e))
 completed_at (y ∷ ys) (suc k) (suc zero) x e at = absurd (omega (arith, e))
 completed_at (y ∷ ys) (suc k) (suc (suc i)) x e at = completed_at ys k i x (omega (arith, e)) at
 
 -- what was invoked is one of them
-invoked_is : (xs : List Answered) (i : ℕ) (id : RequestId) (c : Command) → At (in_turn xs) i (Invoke id c)
-    → (k : ℕ) × (x : Answered) × (i ≡ k + k) × At xs k x × (x.0 ≡ id) × (x.1 ≡ c)
+invoked_is : (xs : List AnsweredRequest) (i : ℕ) (id : RequestId) (c : Command) → At (in_turn xs) i (Invoke id c)
+    → (k : ℕ) × (x : AnsweredRequest) × (i ≡ k + k) × At xs k x × (x.0 ≡ id) × (x.1 ≡ c)
 invoked_is [] i id c at = absurd cc
 invoked_is (y ∷ ys) zero id c at = (0, y, omega arith, refl, cc, cc)
 invoked_is (y ∷ ys) (suc zero) id c at = absurd cc
 invoked_is (y ∷ ys) (suc (suc i)) id c at = let r = invoked_is ys i id c at in (suc r.0, r.1, omega (arith, r.2), r.3, r.4, r.5)
 
-module _ (xs : List Answered) (order : List (RequestId × Command)) (history : IsHistory (in_turn xs))
+module _ (xs : List AnsweredRequest) (order : List (RequestId × Command)) (history : IsHistory (in_turn xs))
     (ok : IsOrder (in_turn xs) order) where
   -- the order has it there
-  abbrev Has : ℕ → Answered → Type 0
+  abbrev Has : ℕ → AnsweredRequest → Type 0
   Has k x = (y : RequestId × Command) × At order k y × (y.0 ≡ x.0)
 
   -- one id is of one of them
-  one_place : (j k : ℕ) (x y : Answered) → At xs j x → At xs k y → x.0 ≡ y.0 → j ≡ k
+  one_place : (j k : ℕ) (x y : AnsweredRequest) → At xs j x → At xs k y → x.0 ≡ y.0 → j ≡ k
   one_place j k x y a b same =
       let e = history.invoked_once (j + j) (k + k) y.0 x.1 y.1 (subst (λ (id : RequestId). At (in_turn xs) (j + j) (Invoke id x.1)) same (invoked_at xs j (j + j) x refl a)) (invoked_at xs k (k + k) y refl b) in
       omega (arith, e)
 
-  step : (k : ℕ) → ((j : ℕ) → j < k → (x : Answered) → At xs j x → Has j x) → (x : Answered) → At xs k x → Has k x
+  step : (k : ℕ) → ((j : ℕ) → j < k → (x : AnsweredRequest) → At xs j x → Has j x) → (x : AnsweredRequest) → At xs k x → Has k x
   step k before x at = elim (cases_lt p k) [
     | inl low ↦
         let o = at_some xs p (omega (arith, low, at_within xs k x at)) in
@@ -85,19 +85,19 @@ module _ (xs : List Answered) (order : List (RequestId × Command)) (history : I
               | inr early ↦
                   let same : r.0 ≡ k = omega (arith, high, early) in
                   let own : r.1 ≡ x = at_same xs k r.1 x (subst (λ (n : ℕ). At xs n r.1) same r.3) at in
-                  absurd (omega (arith, above, ok.once k p z.0 y z.1 s.2 (sym r.4 ∙ ap (λ (q : Answered). q.0) own ∙ sym s.3)))
+                  absurd (omega (arith, above, ok.once k p z.0 y z.1 s.2 (sym r.4 ∙ ap (λ (q : AnsweredRequest). q.0) own ∙ sym s.3)))
             ]
           ]
 
-  all_below : (k : ℕ) → (j : ℕ) → j < k → (x : Answered) → At xs j x → Has j x
+  all_below : (k : ℕ) → (j : ℕ) → j < k → (x : AnsweredRequest) → At xs j x → Has j x
   all_below zero j low x at = absurd (omega (arith, low))
   all_below (suc k) j low x at = elim (cases_lt j k) [
     | inl less ↦ all_below k j less x at
-    | inr more ↦ (let same : k ≡ j = omega (arith, low, more) in step j (subst (λ (n : ℕ). (i : ℕ) → i < n → (z : Answered) → At xs i z → Has i z) same (all_below k)) x at)
+    | inr more ↦ (let same : k ≡ j = omega (arith, low, more) in step j (subst (λ (n : ℕ). (i : ℕ) → i < n → (z : AnsweredRequest) → At xs i z → Has i z) same (all_below k)) x at)
   ]
 
   -- each stands in its turn, with its command
-  pub in_its_turn : (k : ℕ) (x : Answered) → At xs k x → At order k (x.0, x.1)
+  pub in_its_turn : (k : ℕ) (x : AnsweredRequest) → At xs k x → At order k (x.0, x.1)
   in_its_turn k x at =
       let h = all_below (suc k) k (omega arith) x at in
       let i = ok.invoked k h.0 h.1 in
@@ -115,5 +115,5 @@ module _ (xs : List Answered) (order : List (RequestId × Command)) (history : I
       omega (arith, ok.once r.0 k (r.1.0, r.1.1) z own at r.4, at_within xs r.0 r.1 r.3)
 
   -- its answer is that of one thread
-  pub answers_in_turn : (k : ℕ) (x : Answered) → At xs k x → At (answers order) k x.2
+  pub answers_in_turn : (k : ℕ) (x : AnsweredRequest) → At xs k x → At (answers order) k x.2
   answers_in_turn k x at = ok.answered (k + k + 1) x.0 x.2 (completed_at xs k (k + k + 1) x refl at) k (x.0, x.1) (in_its_turn k x at) refl

@@ -1,7 +1,7 @@
 -- Served runs: what is so behind each command, from the first on.
 use Rattle.std.proofs.Common.{◌≡◌, ◌≤◌, ◌<◌, ℕ, suc, ◌+◌, ◌*◌, false, List, [], ◌∷◌, ◌++◌, length, map, set, Option, Some, None, append-nil, append_assoc, refl, ap, sym, ◌∙◌, subst, arith}
-use Rattle.curp_base.specs.Words.{At, Each}
-use Rattle.curp_base.proofs.Lists.{Each-weaker}
+use Rattle.curp_base.specs.Words.{At, Each, IsPrefix}
+use Rattle.curp_base.proofs.Lists.{Each-weaker, prefix_push}
 use Rattle.curp_base.proofs.Numbered.{numbered_replicate}
 use Rattle.curp_cmd.specs.Store.{NamesKey, applied, nothing}
 use Rattle.curp_cmd.specs.declared.command.Answer.{Answer}
@@ -14,7 +14,7 @@ use Rattle.curp_msg.specs.declared.outcome.StepResult.TheVariants.{Done}
 use Rattle.curp_msg.specs.declared.script.Step.TheVariants as steps
 use Rattle.curp_order.specs.Order.{IsHistory, IsOrder, store_after}
 use Rattle.curp_order.specs.declared.Event.{Event}
-use Rattle.curp_order.specs.declared.Event.TheVariants.{Invoke}
+use Rattle.curp_order.specs.declared.Event.TheVariants.{Complete, Invoke}
 use Rattle.curp_msg.specs.Script.{IsHeader, IsRun}
 use Rattle.curp_model.specs.Backup.{BackupState, installed_backup}
 use Rattle.curp_model.specs.Client.{ClientState, Pending, attempt_at, next_request, sends_first}
@@ -26,20 +26,20 @@ use Rattle.curp_model.specs.World.{Stepped, World, kept, opening, opening_client
 use Rattle.curp_law_kept.proofs.Steps.{known_opening}
 use Rattle.curp_law_linear.proofs.Laws.{history_all, order_all}
 use Rattle.curp_law_served.proofs.Homes.{backup_there}
-use Rattle.curp_law_quiet.specs.Calm.{Calm, Due}
-use Rattle.curp_law_served.specs.Served.{Answered, Served, Limit, after_all, answer_behind, answer_by, answered, begun, header_of, in_turn, most_steps, requests, serve, serve_all}
+use Rattle.curp_law_quiet.specs.Calm.{Calm, IsDue}
+use Rattle.curp_law_served.specs.Served.{AnsweredRequest, Served, Limit, after_all, answer_behind, answer_by, answered, begun, header_of, in_turn, most_steps, requests, serve, serve_all}
 use Rattle.curp_law_served.proofs.Answers.{answered_push, asked_are, asked_of, last_answer, length_answered, order_is}
 use Rattle.curp_law_served.proofs.Calm.{Serves, calmly, invoked_as, its_client, rests}
 use Rattle.curp_law_served.proofs.Commands.{IsDone, IsOver, IsQuiet, serve_leaves}
 use Rattle.curp_law_served.proofs.Followed.{IsServedStep, follows_opening, is_step}
 use Rattle.curp_law_served.proofs.Grounding.{Homes, backup_of}
-use Rattle.curp_law_served.proofs.History.{Has, Tells, Unasked, Waits}
+use Rattle.curp_law_served.proofs.History.{Has, Tells, Unasked, Waits, in_turn_push}
 use Rattle.curp_law_served.proofs.Turns.{Stands, length_push}
 
 -- ---- behind a command
 
 -- the requests in turn are completed, all is delivered, and the present master serves
-pub record Rested (f : ℕ) (xs : List Answered) (s : Served) : Type 0 where
+pub record Rested (f : ℕ) (xs : List AnsweredRequest) (s : Served) : Type 0 where
   pub its : Each IsServedStep s.steps
   pub is : world (header_of f) s.steps ≡ s.world
   pub few : length s.steps ≤ most_steps
@@ -50,7 +50,7 @@ pub record Rested (f : ℕ) (xs : List Answered) (s : Served) : Type 0 where
   pub history : s.world.history ≡ in_turn xs
 
 -- the next request of the client
-abbrev pub next_of : List Answered → RequestId
+abbrev pub next_of : List AnsweredRequest → RequestId
 next_of xs = record { client = 1; seq = length xs + 1 }
 
 module _ (f : ℕ) (some : 1 ≤ f) (low : f ≤ 5) where
@@ -65,7 +65,7 @@ module _ (f : ℕ) (some : 1 ≤ f) (low : f ≤ 5) where
   abbrev first : PartConfig
   first = opening_part (shape_of (header_of f)) 1
 
-  none_due : (x : Message) → Due (opening (header_of f)) 0 x → ⊥
+  none_due : (x : Message) → IsDue (opening (header_of f)) 0 x → ⊥
   unfolding opening
   none_due x due = no_item due.0 due.2
     where
@@ -128,7 +128,7 @@ module _ (f : ℕ) (some : 1 ≤ f) (low : f ≤ 5) where
 
   -- ---- one command
 
-  module _ (xs : List Answered) (s : Served) (none : s.stopped ≡ None) (r : Rested f xs s) (command : Command)
+  module _ (xs : List AnsweredRequest) (s : Served) (none : s.stopped ≡ None) (r : Rested f xs s) (command : Command)
       (keys : NamesKey command) where
     abbrev cl : ClientState
     cl = its_client r.quiet.serves
@@ -224,7 +224,7 @@ module _ (f : ℕ) (some : 1 ≤ f) (low : f ≤ 5) where
               },
             )
               where
-                length_more : (ys : List Answered) (y : Answered) → length (ys ++ y ∷ []) ≡ length ys + 1
+                length_more : (ys : List AnsweredRequest) (y : AnsweredRequest) → length (ys ++ y ∷ []) ≡ length ys + 1
                 length_more ys y = let long = length_push ys y in omega (arith, long)
 
   -- ---- the answers
@@ -234,7 +234,7 @@ module _ (f : ℕ) (some : 1 ≤ f) (low : f ≤ 5) where
   run_of s all = record { header = header; steps_are = Each-weaker IsServedStep _ is_step s.steps all }
 
   -- the order of a state, with its history in turn
-  module _ (xs : List Answered) (s : Served) (all : Each IsServedStep s.steps)
+  module _ (xs : List AnsweredRequest) (s : Served) (all : Each IsServedStep s.steps)
       (is : world (header_of f) s.steps ≡ s.world) (history : s.world.history ≡ in_turn xs) where
     history_ok : IsHistory (in_turn xs)
     history_ok = subst IsHistory history (subst (λ (v : World). IsHistory v.history) is (history_all (header_of f) s.steps (run_of s all)))
@@ -245,7 +245,7 @@ module _ (f : ℕ) (some : 1 ≤ f) (low : f ≤ 5) where
     pub shown_order : order s.world ≡ map asked_of xs
     shown_order = order_is xs (order s.world) history_ok order_ok
 
-    pub its_answer : (before : List Answered) (x : Answered) → xs ≡ before ++ x ∷ []
+    pub its_answer : (before : List AnsweredRequest) (x : AnsweredRequest) → xs ≡ before ++ x ∷ []
         → x.2 ≡ (applied (store_after nothing (map asked_of before)) x.1).answer
     its_answer before x e = last_answer xs (order s.world) history_ok order_ok before x e
 
@@ -264,6 +264,34 @@ module _ (f : ℕ) (some : 1 ≤ f) (low : f ≤ 5) where
           let same : b ≡ a = cc in
           sym same ∙ its_answer (answered commands ++ (next_of (answered commands), command, b) ∷ []) s st.its st.is history (answered commands) (next_of (answered commands), command, b) refl
           ∙ ap (λ (os : List _). (applied (store_after nothing os) command).answer) (asked_are commands)
+
+  -- a command more, with that answer
+  answered_more : (commands : List Command) (command : Command) (a : Answer) → a ≡ answer_behind commands command
+      → answered commands ++ (next_of (answered commands), command, a) ∷ [] ≡ answered (commands ++ command ∷ [])
+  answered_more commands command a right =
+      ap (λ (b : Answer). answered commands ++ (next_of (answered commands), command, b) ∷ []) right
+      ∙ ap (λ (k : ℕ). answered commands ++ (record { client = 1; seq = k + 1 }, command, answer_behind commands command) ∷ []) (length_answered commands) ∙ sym (answered_push commands command)
+
+  -- the history has the commands before it in turn, and the command behind them once it has its answer
+  history_told : (commands : List Command) (command : Command) (s : Served)
+      → Stands f (answered commands) (next_of (answered commands)) command s
+      → IsPrefix (in_turn (answered commands)) s.world.history
+      × ((a : Answer) → s.answer ≡ Some a → s.world.history ≡ in_turn (answered (commands ++ command ∷ [])))
+  history_told commands command s st = by s.answer refl st.tells
+    where
+      begins : (xs : List AnsweredRequest) (events : List Event) → s.world.history ≡ in_turn xs ++ events → IsPrefix (in_turn xs) s.world.history
+      begins xs events history = subst (λ (h : List Event). IsPrefix (in_turn xs) h) (sym history) (prefix_push (in_turn xs) events)
+
+      by : (o : Option Answer) → s.answer ≡ o → Tells s.world (answered commands) (next_of (answered commands)) command o
+          → IsPrefix (in_turn (answered commands)) s.world.history × ((a : Answer) → s.answer ≡ Some a → s.world.history ≡ in_turn (answered (commands ++ command ∷ [])))
+      by _ is (Unasked d client pending last history) = (begins (answered commands) [] (history ∙ sym (append-nil (in_turn (answered commands)))), λ a e. absurd cc)
+      by _ is (Waits d client p pends id last history) =
+          (begins (answered commands) (Invoke (next_of (answered commands)) command ∷ []) history, λ a e. absurd cc)
+      by _ is (Has d client pending last b history) = (
+        begins (answered commands) (Invoke (next_of (answered commands)) command ∷ Complete (next_of (answered commands)) b ∷ [])
+            (history ∙ sym (in_turn_push (answered commands) (next_of (answered commands)) command b)),
+        λ a e. history ∙ ap in_turn (answered_more commands command b (answer_right commands command s st b is)),
+      )
 
   -- ---- all commands
 
@@ -284,9 +312,7 @@ module _ (f : ℕ) (some : 1 ≤ f) (low : f ≤ 5) where
           rested = λ e.
               let d = g.1 e in
               let right = answer_right commands command (serve every command s) g.0 d.0 d.1 in
-              subst (λ (xs : List Answered). Rested f xs (serve every command s))
-              (ap (λ (a : Answer). answered commands ++ (next_of (answered commands), command, a) ∷ []) right
-              ∙ ap (λ (k : ℕ). answered commands ++ (record { client = 1; seq = k + 1 }, command, answer_behind commands command) ∷ []) (length_answered commands) ∙ sym (answered_push commands command)) d.2;
+              subst (λ (xs : List AnsweredRequest). Rested f xs (serve every command s)) (answered_more commands command d.0 right) d.2;
         }
 
     from_there : (rest done : List Command) (s : Served) → Each NamesKey rest → s.stopped ≡ None
@@ -325,6 +351,15 @@ module _ (f : ℕ) (some : 1 ≤ f) (low : f ≤ 5) where
           let g = serve_goes (answered commands) s free ((all_served commands keys).rested free) command key every in
           let right = answer_right commands command (serve every command s) g.0 in
           ((λ still. let d = g.1 still in d.1 ∙ ap (λ (a : Answer). Some a) (right d.0 d.1)), right)
+
+      -- its world's history has the commands before it in turn, and it behind them once it has its answer
+      pub command_shown : (command : Command) → NamesKey command → (serve_all every commands (begun f)).stopped ≡ None
+          → IsPrefix (in_turn (answered commands)) (serve every command (serve_all every commands (begun f))).world.history
+          × ((a : Answer) → (serve every command (serve_all every commands (begun f))).answer ≡ Some a → (serve every command (serve_all every commands (begun f))).world.history ≡ in_turn (answered (commands ++ command ∷ [])))
+      command_shown command key free =
+          let s = serve_all every commands (begun f) in
+          history_told commands command (serve every command s)
+          (serve_goes (answered commands) s free ((all_served commands keys).rested free) command key every).0
 
 -- one command more comes behind the others, unless a limit came
 pub served_push : (every : ℕ) (commands : List Command) (command : Command) (s : Served)

@@ -11,11 +11,10 @@ use Rattle.curp_cmd.specs.Store.{keys_of}
 use Rattle.curp_cmd.specs.declared.command.Command.{Command}
 use Rattle.curp_cmd.specs.declared.entry.Entry.{Entry}
 use Rattle.curp_law_masters.proofs.Lists.{each_inserted}
-use Rattle.curp_model.specs.Log.{log_opening}
+use Rattle.curp_model.specs.Log.{log_opening, IsOp}
 use Rattle.curp_model.specs.Master.{MasterState, state_of}
 use Rattle.curp_model.specs.Ranges.{owns_all}
 use Rattle.curp_range.specs.Spans.{Span, is_owned}
-use Rattle.curp_law_quiet.specs.Grounds.{IsOp}
 use Rattle.curp_law_served.proofs.Welcomes.{all_ops}
 
 abbrev IsHash : ℕ → Type 0

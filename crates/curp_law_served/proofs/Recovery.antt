@@ -1,6 +1,6 @@
 -- The world of a served run while its partition is recovered: the master is stopped, a recovery is ordered, each delivery keeps it, and
 -- where every message is delivered the fresh master serves.
-use Rattle.std.proofs.Common.{◌≡◌, ◌≤◌, ◌<◌, inl, inr, ℕ, suc, ◌+◌, ◌-◌, ◌^◌, true, false, List, [], ◌∷◌, ◌++◌, length, Option, None, is_some, append-nil, refl, ap, sym, ◌∙◌, subst, arith}
+use Rattle.std.proofs.Common.{◌≡◌, ◌≤◌, ◌<◌, inl, inr, ℕ, zero, suc, ◌+◌, ◌-◌, ◌^◌, true, false, List, [], ◌∷◌, ◌++◌, length, Option, None, is_some, append-nil, refl, ap, sym, ◌∙◌, subst, arith}
 use Rattle.curp_base.specs.Words.{At, numbered}
 use Rattle.curp_base.proofs.Lists.{at_append_right, at_push, at_push_cases, at_some, prefix_at}
 use Rattle.curp_base.proofs.Numbered.{number_within}
@@ -39,7 +39,7 @@ use Rattle.curp_law_quiet.proofs.RenewStarts.{begins_renewal, ordered}
 use Rattle.curp_law_quiet.proofs.Renews.{renewed_at_end, renewed_on}
 use Rattle.curp_law_quiet.proofs.Starts.{Gave, gave}
 use Rattle.curp_law_quiet.proofs.Steps.{delivered, sent_more}
-use Rattle.curp_law_served.specs.Served.{most_steps}
+use Rattle.curp_law_served.specs.Served.{StopsMaster, most_steps}
 use Rattle.curp_law_served.proofs.Calm.{Serves, StoppedBelow, calmly, its_client, rests, runs}
 use Rattle.curp_law_served.proofs.Followed.{Follows, follows_step}
 use Rattle.curp_law_served.proofs.Made.{IsMade, delivery_made, delivery_next, gives_made}
@@ -82,6 +82,16 @@ module _ {f n : ℕ} {w : World} {c : PartConfig} {q : ℕ} (s : Serves f n w (l
   not_manager : stops_manager (steps.Stop c.master) ≡ false
   not_manager = subst (λ (k : NodeId). same_node k manager_node ≡ false) (sym (calmly s).its_master) refl
 
+  pub is_master : StopsMaster (steps.Stop c.master)
+  is_master = (ap (λ (k : NodeId). k.kind) (calmly s).its_master, first c.master.number (ap (λ (k : NodeId). k.number) (calmly s).its_master))
+    where
+      first : (n : ℕ) → n ≡ q → 1 ≤ n
+      first zero e = absurd (no_zero (subst (λ (k : ℕ). is_some (numbered w.masters k) ≡ true) (sym e) there))
+        where
+          no_zero : false ≡ true → ⊥
+          no_zero e = cc
+      first (suc k) e = omega arith
+
   result_is : result_of w (steps.Stop c.master) ≡ Done
   result_is = rw (master_here, master_runs, not_manager) refl
 
@@ -100,7 +110,7 @@ module _ {f n : ℕ} {w : World} {c : PartConfig} {q : ℕ} (s : Serves f n w (l
   pub halts : Halted f (suc n) (step w (steps.Stop c.master)).world c (its_client s)
   halts = record {
     known = known_step w s.known (steps.Stop c.master);
-    follows = follows_step s.known (steps.Stop c.master) tt f n s.follows;
+    follows = follows_step s.known (steps.Stop c.master) is_master f n s.follows;
     idle = record { client = ap (λ (v : World). v.clients) stopped_world ∙ (calmly s).client; fast = (calmly s).fast; protocol = (calmly s).protocol; pending = rests s few };
     manager = ap (λ (v : World). v.manager.config.parts) stopped_world ∙ (calmly s).manager;
     ranges = s.ranges;

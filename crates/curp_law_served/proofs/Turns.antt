@@ -16,7 +16,7 @@ use Rattle.curp_model.specs.World.{World, messages, opening, run, step, weight, 
 use Rattle.curp_law_kept.proofs.Steps.{known_opening, known_step}
 use Rattle.curp_law_growth.proofs.Worlds.{step_grows}
 use Rattle.curp_base.proofs.Lists.{prefix_length}
-use Rattle.curp_law_served.specs.Served.{Answered, Served, Limit, TooLarge, TooManySteps, after_all, and_then, answer_by, delivers, header_of, is_busy, makes, most_steps, quiets, quiets_in, stepped}
+use Rattle.curp_law_served.specs.Served.{AnsweredRequest, Served, Limit, TooLarge, TooManySteps, after_all, and_then, answer_by, delivers, header_of, is_busy, makes, most_steps, quiets, quiets_in, stepped}
 use Rattle.curp_law_served.proofs.Followed.{Follows, IsServedStep, follows_opening, follows_step}
 use Rattle.curp_law_served.proofs.History.{InvokesNone, Tells, tells_step}
 use Rattle.curp_law_served.proofs.Made.{IsMade}
@@ -41,7 +41,7 @@ length_push (y ∷ xs) x = ap suc (length_push xs x)
 -- ---- a state
 
 -- it is that of its steps, and tells of the command
-pub record Stands (f : ℕ) (xs : List Answered) (id : RequestId) (command : Command) (s : Served) : Type 0 where
+pub record Stands (f : ℕ) (xs : List AnsweredRequest) (id : RequestId) (command : Command) (s : Served) : Type 0 where
   pub its : Each IsServedStep s.steps
   pub is : world (header_of f) s.steps ≡ s.world
   pub few : length s.steps ≤ most_steps
@@ -55,7 +55,7 @@ facts_of f header ss all =
     let r = run_facts f ss all (opening (header_of f)) 0 (known_opening (header_of f) header) (follows_opening f) in
     (r.0, subst (Follows f (world (header_of f) ss)) (omega arith) r.1)
 
-module _ (f : ℕ) (header : IsHeader (header_of f)) (xs : List Answered) (id : RequestId) (command : Command) where
+module _ (f : ℕ) (header : IsHeader (header_of f)) (xs : List AnsweredRequest) (id : RequestId) (command : Command) where
   abbrev Its : Served → Type 0
   Its s = Stands f xs id command s
 

@@ -11,7 +11,7 @@ use Rattle.std.specs.Prelude.{◌==◌, if◌then◌else◌}
 use Rattle.curp_cmd.specs.declared.command.RequestId.{RequestId}
 use Rattle.curp_cmd.specs.declared.entry.Entry.{Entry}
 use Rattle.curp_cmd.specs.declared.entry.Entry.TheVariants.{Op, Take, Give, Expire}
-use Rattle.curp_facts.specs.ClientNumbers.{IsWaiting, NumbersOk}
+use Rattle.curp_facts.specs.ClientNumbers.{IsUncompleted, ClientNumbersOk}
 use Rattle.curp_facts.specs.Kept.{HasCompletedBelow}
 use Rattle.curp_facts.specs.Nodes.{ServingOk}
 use Rattle.curp_facts.specs.Reach.{Tells}
@@ -20,12 +20,12 @@ use Rattle.curp_law_masters.proofs.Completed.{stale_completed}
 use Rattle.curp_model.specs.declared.Check.{Check}
 use Rattle.curp_model.specs.declared.Check.TheVariants.{Expired, Stale, Known, New}
 use Rattle.curp_model.specs.Client.{ClientState, Pending}
-use Rattle.curp_model.specs.Log.{LogState, after_entries, after_entry, log_opening}
+use Rattle.curp_model.specs.Log.{LogState, after_entries, after_entry, log_opening, IsOp}
 use Rattle.curp_model.specs.Master.{MasterState, state_of}
 use Rattle.curp_model.specs.Table.{Noted, Table, check, first_number, is_gone, known}
 use Rattle.curp_model.specs.World.{World}
 use Rattle.curp_cmd.specs.Node.{master_node}
-use Rattle.curp_law_quiet.specs.Grounds.{IsFine, IsOp}
+use Rattle.curp_law_quiet.specs.Grounds.{IsFine}
 
 -- ---- a log of ops alone: no client is gone, and the range is that of the beginning
 
@@ -89,9 +89,9 @@ stale_below t id first e = by (is_gone t id.client) e
 
 module _ (w : World) (q : ℕ) (m : MasterState) (ok : ServingOk w (master_node q) m)
     (ops : (index : ℕ) (e : Entry) → At m.log index e → IsOp e) (n : ℕ) (cl : ClientState)
-    (numbers : NumbersOk n w.history cl) (p : Pending) (k : ℕ) (at : At cl.pending k p) where
-  waits : IsWaiting n w.history p.request
-  waits = Each-at (λ (x : Pending). IsWaiting n w.history x.request) cl.pending numbers.pending k p at
+    (numbers : ClientNumbersOk n w.history cl) (p : Pending) (k : ℕ) (at : At cl.pending k p) where
+  waits : IsUncompleted n w.history p.request
+  waits = Each-at (λ (x : Pending). IsUncompleted n w.history x.request) cl.pending numbers.pending k p at
 
   pub fine : IsFine m p.request.id (check (state_of m).table p.request.id)
   fine = by (check (state_of m).table p.request.id) refl

@@ -1,12 +1,13 @@
 -- The steps that serve commands by a cluster of one partition: each command is invoked, and then every message that was
 -- sent is delivered, in rising number, until none is left (this project's own).
-use Rattle.std.specs.Prelude.{◌≤◌, ℕ, zero, suc, ◌+◌, ◌%◌, ◌==◌, ◌&&◌, nat_lt, if◌then◌else◌, Bool, true, false, not, List, [], ◌∷◌, ◌++◌, length, Option, Some, None}
+use Rattle.std.specs.Prelude.{◌≡◌, ◌≤◌, ℕ, zero, suc, ◌+◌, ◌%◌, ◌==◌, ◌&&◌, nat_lt, if◌then◌else◌, Bool, true, false, not, List, [], ◌∷◌, ◌++◌, length, Option, Some, None, ⊤}
 use Rattle.curp_base.specs.Words.{Each}
 use Rattle.curp_cmd.specs.Store.{NamesKey, applied, nothing}
 use Rattle.curp_cmd.specs.Node.{master_node}
 use Rattle.curp_cmd.specs.declared.command.Answer.{Answer}
 use Rattle.curp_cmd.specs.declared.command.Command.{Command}
 use Rattle.curp_cmd.specs.declared.command.RequestId.{RequestId}
+use Rattle.curp_cmd.specs.declared.node.NodeKind.TheVariants as kind
 use Rattle.curp_msg.specs.declared.config.PartConfig.{PartConfig}
 use Rattle.curp_msg.specs.declared.machine.Completed.{Completed}
 use Rattle.curp_msg.specs.declared.outcome.StepResult.{StepResult}
@@ -144,11 +145,11 @@ serve_all every (command ∷ rest) s = and_then (serve every command s) (serve_a
 -- ---- what is served
 
 -- a request with its answer
-abbrev pub Answered : Type 0
-Answered = RequestId × Command × Answer
+abbrev pub AnsweredRequest : Type 0
+AnsweredRequest = RequestId × Command × Answer
 
 -- each is invoked and completes before the next
-abbrev pub in_turn : List Answered → List Event
+abbrev pub in_turn : List AnsweredRequest → List Event
 in_turn [] = []
 in_turn (x ∷ xs) = Invoke x.0 x.1 ∷ Complete x.0 x.2 ∷ in_turn xs
 
@@ -162,7 +163,7 @@ abbrev pub requests : List Command → List (RequestId × Command)
 requests commands = requests_from 1 commands
 
 -- each with the answer of one thread
-abbrev pub answered : List Command → List Answered
+abbrev pub answered : List Command → List AnsweredRequest
 answered commands = with_answers (requests commands) (answers (requests commands))
 
 -- what one thread answers to a command behind others
@@ -178,3 +179,8 @@ pub record AreServed (f : ℕ) (commands : List Command) : Type 0 where
 -- the state behind commands
 abbrev pub after : ℕ → ℕ → List Command → Served
 after f every commands = serve_all every commands (begun f)
+
+-- where a step stops a node, that is a master, and masters are numbered from 1
+abbrev pub StopsMaster : Step → Type 0
+StopsMaster (steps.Stop node) = (node.kind ≡ kind.Master) × (1 ≤ node.number)
+StopsMaster _ = ⊤

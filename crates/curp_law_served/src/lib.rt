@@ -13,18 +13,22 @@
 #![tactic(auto)]
 
 ghost use Rattle.std.specs.Prelude.{◌≡◌, ℕ, List, [], ◌∷◌, ◌++◌, Some, None};
+ghost use Rattle.curp_base.specs.Words.{Each, IsPrefix};
 ghost use Rattle.curp_cmd.specs.Store.{NamesKey};
 ghost use Rattle.curp_cmd.specs.declared.command.Answer.{Answer};
 ghost use Rattle.curp_cmd.specs.declared.command.Command.{Command};
 ghost use Rattle.curp_msg.specs.Script.{IsRun};
 ghost use Rattle.curp_model.specs.World.{order, world};
-ghost use Rattle.curp_law_served.specs.Served.{AreServed, after, answer_behind, answered, header_of, in_turn, requests, serve};
+ghost use Rattle.curp_law_served.specs.Served.{AreServed, StopsMaster, after, answer_behind, answered, header_of, in_turn, requests, serve};
 
-/// Every command is completed by its quieting, with the answer of one thread, and the steps are a script that shows it.
+/// Every command is completed by its quieting, with the answer of one thread, and the steps are a script that shows it,
+/// also where a limit came behind the answer.
 pub fn served()
     ensures steps { (f every : ℕ) (commands : List Command) → AreServed f commands
         → IsRun (header_of f) (after f every commands).steps
         × (world (header_of f) (after f every commands).steps ≡ (after f every commands).world) }
+    ensures stops { (f every : ℕ) (commands : List Command) → AreServed f commands
+        → Each StopsMaster (after f every commands).steps }
     ensures history { (f every : ℕ) (commands : List Command) → AreServed f commands
         → (after f every commands).stopped ≡ None
         → (after f every commands).world.history ≡ in_turn (answered commands) }
@@ -41,4 +45,12 @@ pub fn served()
         → NamesKey command → (after f every commands).stopped ≡ None
         → (a : Answer) → (serve every command (after f every commands)).answer ≡ Some a
         → a ≡ answer_behind commands command }
+    ensures keeps { (f every : ℕ) (commands : List Command) (command : Command) → AreServed f commands
+        → NamesKey command → (after f every commands).stopped ≡ None
+        → IsPrefix (in_turn (answered commands)) (serve every command (after f every commands)).world.history }
+    ensures shows { (f every : ℕ) (commands : List Command) (command : Command) → AreServed f commands
+        → NamesKey command → (after f every commands).stopped ≡ None
+        → (a : Answer) → (serve every command (after f every commands)).answer ≡ Some a
+        → (serve every command (after f every commands)).world.history
+        ≡ in_turn (answered (commands ++ command ∷ [])) }
 {}

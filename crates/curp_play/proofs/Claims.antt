@@ -5,7 +5,6 @@ use Rattle.curp_base.specs.Words.{Each}
 use Rattle.curp_base.proofs.Lists.{Each-map, drop_index}
 use Rattle.curp_check.proofs.Items.{next_too}
 use Rattle.curp_check.specs.Claim.{IsClaimOfOrder, claim_in, claim_limit}
-use Rattle.curp_check.specs.Verdict.{Asked}
 use Rattle.curp_cmd.specs.Store.{nothing}
 use Rattle.curp_cmd.specs.declared.command.Answer.{Answer}
 use Rattle.curp_cmd.specs.declared.command.Command.{Command}
@@ -14,7 +13,7 @@ use Rattle.curp_law_print.specs.EventRanges.{AskedInRange, EventInRange}
 use Rattle.curp_msg.specs.declared.script.Header.{Header}
 use Rattle.curp_model.specs.World.{World, answered_order, opening, order, run, with_answers}
 use Rattle.curp_order.proofs.Laws.{length-answers}
-use Rattle.curp_order.specs.Order.{IsHistory, IsOrder, answers}
+use Rattle.curp_order.specs.Order.{IsHistory, IsOrder, answers, Asked}
 use Rattle.curp_order.specs.declared.Event as seen
 use Rattle.curp_play.specs.Play.{asked_of, claim_behind, claim_from}
 use Rattle.curp_play.specs.Reading.{IsOfReading, IsOfWriting}
@@ -123,7 +122,9 @@ written_whole (Err (status.BadLine line reason)) writing cut p = absurd writing
 written_whole (Err status.ReadFault) writing cut p = absurd writing
 written_whole (Err status.TooManySteps) writing cut p = absurd writing
 written_whole (Err status.TooManyLines) writing cut p = absurd writing
+written_whole (Err (status.TooLarge weight)) writing cut p = absurd writing
 written_whole (Err (status.LineTooLong line)) writing cut p = absurd writing
+written_whole (Err (status.BadRequest at)) writing cut p = absurd writing
 
 -- before any step clients saw nothing
 pub nothing_seen : (h : Header) (w : World) → w ≡ opening h → w.history ≡ []

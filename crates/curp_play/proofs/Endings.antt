@@ -50,7 +50,9 @@ ends_whole status.ReadFault ending a b c d ends whole reads writes = λ read wri
 ends_whole status.WriteFault ending a b c d ends whole reads writes = λ read written. absurd (written (writes refl))
 ends_whole status.Usage ending a b c d ends whole reads writes = let other : status.Usage ≡ status.Ok = ends refl ∙ ap status_of whole in absurd cc
 ends_whole (status.BadLine line reason) ending a b c d ends whole reads writes = let other : status.BadLine line reason ≡ status.Ok = ends refl ∙ ap status_of whole in absurd cc
+ends_whole (status.TooLarge weight) ending a b c d ends whole reads writes = let other : status.TooLarge weight ≡ status.Ok = ends refl ∙ ap status_of whole in absurd cc
 ends_whole (status.LineTooLong line) ending a b c d ends whole reads writes = let other : status.LineTooLong line ≡ status.Ok = ends refl ∙ ap status_of whole in absurd cc
+ends_whole (status.BadRequest at) ending a b c d ends whole reads writes = let other : status.BadRequest at ≡ status.Ok = ends refl ∙ ap status_of whole in absurd cc
 ends_whole status.TooManySteps ending a b c d ends whole reads writes = let other : status.TooManySteps ≡ status.Ok = ends refl ∙ ap status_of whole in absurd cc
 ends_whole (status.No clause) ending a b c d ends whole reads writes = let other : status.No clause ≡ status.Ok = ends refl ∙ ap status_of whole in absurd cc
 ends_whole status.TooManyLines ending a b c d ends whole reads writes = let other : status.TooManyLines ≡ status.Ok = ends refl ∙ ap status_of whole in absurd cc

@@ -116,7 +116,9 @@ yes_by Whole claim status.WriteFault ends = absurd ends
 yes_by Whole claim status.NoMemory ends = absurd ends
 yes_by Whole claim status.TooManySteps ends = absurd ends
 yes_by Whole claim status.TooManyLines ends = absurd ends
+yes_by Whole claim (status.TooLarge weight) ends = absurd ends
 yes_by Whole claim (status.LineTooLong line) ends = absurd ends
+yes_by Whole claim (status.BadRequest at) ends = absurd ends
 yes_by (Bad line reason) claim s ends = (λ e. let wrong : status.BadLine line reason ≡ status.Ok = sym ends ∙ e in absurd cc, λ is. absurd (not_whole_bad line reason is.0))
 yes_by (TooLong line) claim s ends = (λ e. let wrong : status.LineTooLong line ≡ status.Ok = sym ends ∙ e in absurd cc, λ is. absurd (not_whole_long line is.0))
 yes_by TooMany claim s ends = (λ e. let wrong : status.TooManyLines ≡ status.Ok = sym ends ∙ e in absurd cc, λ is. absurd (not_whole_many is.0))
@@ -143,7 +145,9 @@ no_by clause Whole claim status.WriteFault ends = absurd ends
 no_by clause Whole claim status.NoMemory ends = absurd ends
 no_by clause Whole claim status.TooManySteps ends = absurd ends
 no_by clause Whole claim status.TooManyLines ends = absurd ends
+no_by clause Whole claim (status.TooLarge weight) ends = absurd ends
 no_by clause Whole claim (status.LineTooLong line) ends = absurd ends
+no_by clause Whole claim (status.BadRequest at) ends = absurd ends
 no_by clause (Bad line reason) claim s ends = (λ e. let wrong : status.BadLine line reason ≡ status.No clause = sym ends ∙ e in absurd cc, λ is. absurd (not_whole_bad line reason is.0))
 no_by clause (TooLong line) claim s ends = (λ e. let wrong : status.LineTooLong line ≡ status.No clause = sym ends ∙ e in absurd cc, λ is. absurd (not_whole_long line is.0))
 no_by clause TooMany claim s ends = (λ e. let wrong : status.TooManyLines ≡ status.No clause = sym ends ∙ e in absurd cc, λ is. absurd (not_whole_many is.0))
@@ -166,5 +170,9 @@ ends_judged (status.BadLine line reason) ending claim a b c d ends whole reads w
     absurd (subst (λ (e : Ending). EndsBy e claim (status.BadLine line reason)) whole (ends refl))
 ends_judged status.TooManySteps ending claim a b c d ends whole reads writes = absurd (subst (λ (e : Ending). EndsBy e claim status.TooManySteps) whole (ends refl))
 ends_judged status.TooManyLines ending claim a b c d ends whole reads writes = absurd (subst (λ (e : Ending). EndsBy e claim status.TooManyLines) whole (ends refl))
+ends_judged (status.TooLarge weight) ending claim a b c d ends whole reads writes =
+    absurd (subst (λ (e : Ending). EndsBy e claim (status.TooLarge weight)) whole (ends refl))
 ends_judged (status.LineTooLong line) ending claim a b c d ends whole reads writes =
     absurd (subst (λ (e : Ending). EndsBy e claim (status.LineTooLong line)) whole (ends refl))
+ends_judged (status.BadRequest at) ending claim a b c d ends whole reads writes =
+    absurd (subst (λ (e : Ending). EndsBy e claim (status.BadRequest at)) whole (ends refl))

@@ -5,7 +5,7 @@ use Rattle.curp_io.specs.Text.{line_of, lines_of}
 use Rattle.curp_cmd.specs.declared.command.Answer.{Answer}
 use Rattle.curp_cmd.specs.declared.command.Command.{Command}
 use Rattle.curp_cmd.specs.declared.command.RequestId.{RequestId}
-use Rattle.curp_check.specs.Verdict.{Asked}
+use Rattle.curp_order.specs.Order.{Asked}
 use Rattle.curp_order.specs.Order.{IsHistory, IsOrder}
 use Rattle.curp_msg.specs.declared.script.Header.{Header}
 use Rattle.curp_msg.specs.declared.script.Step.{Step}

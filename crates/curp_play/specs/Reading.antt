@@ -48,6 +48,8 @@ IsOfReading status.Ok = ⊥
 IsOfReading (status.No clause) = ⊥
 IsOfReading status.Usage = ⊥
 IsOfReading status.WriteFault = ⊥
+IsOfReading (status.TooLarge weight) = ⊥
+IsOfReading (status.BadRequest at) = ⊥
 IsOfReading _ = ⊤
 
 -- writing ends a run by a write fault, or for want of memory

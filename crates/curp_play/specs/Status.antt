@@ -50,7 +50,9 @@ code_of status.WriteFault = 5
 code_of status.NoMemory = 6
 code_of status.TooManySteps = 7
 code_of status.TooManyLines = 7
+code_of (status.TooLarge weight) = 9
 code_of (status.LineTooLong line) = 10
+code_of (status.BadRequest at) = 11
 
 -- the process ends with the number of a status
 pub record TellsStatus (number : ℕ) : Type 0 where
@@ -68,7 +70,9 @@ status_text status.WriteFault = codes "writing failed"
 status_text status.NoMemory = codes "out of memory"
 status_text status.TooManySteps = codes "more than " ++ decimal step_limit ++ codes " steps"
 status_text status.TooManyLines = codes "more than " ++ decimal claim_limit ++ codes " lines"
+status_text (status.TooLarge weight) = codes "weight " ++ decimal weight
 status_text (status.LineTooLong line) = codes "line " ++ decimal line ++ codes " is too long"
+status_text (status.BadRequest at) = codes "bad request at " ++ decimal at
 
 -- a run that ended well is no cause for complaint
 abbrev pub complaint_of : Status → Option Status

@@ -29,8 +29,12 @@ pub enum Status {
     TooManySteps,
     /// There is a line of a history or an order after the 400,000th.
     TooManyLines,
+    /// A step can't be made, since all messages weigh more than 2,000,000: this much.
+    TooLarge { weight: u64 },
     /// That line, counted from 1, is the first above 65,536 bytes.
     LineTooLong { line: u64 },
+    /// Behind so many bytes stands the first that no request has there, or the input ends inside a request.
+    BadRequest { at: u64 },
 }
 
 impl Status {
@@ -47,7 +51,9 @@ impl Status {
             Status::WriteFault => 5,
             Status::NoMemory => 6,
             Status::TooManySteps | Status::TooManyLines => 7,
+            Status::TooLarge { .. } => 9,
             Status::LineTooLong { .. } => 10,
+            Status::BadRequest { .. } => 11,
         }
     }
 
@@ -135,7 +141,9 @@ impl fmt::Display for Status {
             Status::NoMemory => write!(f, "out of memory"),
             Status::TooManySteps => write!(f, "more than {STEP_LIMIT} steps"),
             Status::TooManyLines => write!(f, "more than {CLAIM_LIMIT} lines"),
+            Status::TooLarge { weight } => write!(f, "weight {weight}"),
             Status::LineTooLong { line } => write!(f, "line {line} is too long"),
+            Status::BadRequest { at } => write!(f, "bad request at {at}"),
         }
     }
 }

@@ -6,12 +6,12 @@ use Rattle.curp_msg.specs.declared.script.Header.{Header}
 use Rattle.curp_msg.specs.declared.script.Step.{Step}
 use Rattle.curp_model.specs.World.{world}
 use Rattle.curp_script.specs.Script.{Script}
-use Rattle.curp_words.specs.Plan.{IsLivePlan}
+use Rattle.curp_words.specs.Plan.{IsLivePlan, live_header}
 use Rattle.curp_words.specs.declared.order.LivePlan.{LivePlan}
 use Rattle.curp_gather.specs.Journals.{IsScriptOf, journals_of}
 use Rattle.curp_gather.specs.declared.journals.Journals.{Journals}
 use Rattle.curp_gen.specs.Commands.{workload_of}
-use Rattle.curp_live.specs.Live.{IsLiveRun, live_header}
+use Rattle.curp_live.specs.Live.{IsLiveRun}
 use Rattle.curp_opening.proofs.Numbers.{named_length}
 use Rattle.curp_io.specs.Streams.{HoldsPart}
 use Rattle.curp_play.specs.Play.{HasAnOrder, OrderStands, script_in, text_of}

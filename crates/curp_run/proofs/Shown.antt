@@ -7,7 +7,7 @@ use Rattle.curp_cmd.specs.Node.{client_node}
 use Rattle.curp_msg.specs.Moved.{Node}
 use Rattle.curp_msg.specs.declared.script.Step.{Step}
 use Rattle.curp_msg.specs.declared.script.Step.TheVariants.{Collect, Deliver, Expire, Fetch, Invoke, Migrate, Nudge, Recover, Replace, Retry, Stop, Sync}
-use Rattle.curp_journal.specs.Journal.{Log}
+use Rattle.curp_journal.specs.Journal.{NodeJournal}
 use Rattle.curp_model.specs.Client.{ClientState}
 use Rattle.curp_script.specs.Printed.{NamesNode}
 use Rattle.curp_turns.specs.Work.{DidWork}
@@ -17,7 +17,8 @@ use Rattle.curp_gather.specs.Journals.{IsClientJournal, IsScriptOf, journal_of, 
 use Rattle.curp_gather.specs.declared.journals.Journals.{Journals}
 use Rattle.curp_gen.specs.Commands.{workload_of}
 use Rattle.curp_gen.proofs.Workloads.{length-workload}
-use Rattle.curp_live.specs.Live.{IsLiveRun, live_header}
+use Rattle.curp_live.specs.Live.{IsLiveRun}
+use Rattle.curp_words.specs.Plan.{live_header}
 use Rattle.curp_opening.proofs.Numbers.{named_length}
 use Rattle.curp_words.specs.declared.order.LivePlan.{LivePlan}
 use Rattle.curp_run.specs.Live.{Shows, work_of}
@@ -41,7 +42,7 @@ module _ (plan : LivePlan) (j : Journals) (ss : List Step) (run : IsLiveRun plan
   -- a client's journal, and what it did
   record Worked (n : ℕ) : Type 0 where
     k : ℕ
-    log : Log (Node ClientState)
+    log : NodeJournal (Node ClientState)
     stands : At (journals_of j) k (journal_of log)
     its_name : log.id ≡ client_node n
     did : DidWork n (workload_of plan.number n plan.commands) log.items

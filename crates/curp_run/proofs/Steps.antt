@@ -7,7 +7,7 @@ use Rattle.curp_law_print.specs.Ranges.{StepInRange}
 use Rattle.curp_run.specs.Run.{ArePrintable}
 use Rattle.curp_script.specs.Printed.{NamesNode, header_data, step_data}
 use Rattle.curp_base.specs.Words.{Each}
-use Rattle.curp_gen.specs.Making.{Making, after, begun, header_of, made_steps, next_step, steps_from, with_next}
+use Rattle.curp_gen.specs.Making.{Making, after, begun, made_steps, next_step, steps_from, with_next}
 use Rattle.curp_gen.specs.Texts.{made_script, script_text}
 use Rattle.curp_io.specs.Text.{lines_of}
 use Rattle.curp_play.specs.Play.{script_in}
@@ -15,7 +15,7 @@ use Rattle.curp_msg.specs.Script.{IsHeader}
 use Rattle.curp_msg.specs.Limits.{step_limit}
 use Rattle.curp_script.specs.Script.{Whole, script_of}
 use Rattle.curp_script.specs.Texts.{header_line, line_text, lines_text, script_lines, step_line}
-use Rattle.curp_words.specs.Plan.{IsPlan}
+use Rattle.curp_words.specs.Plan.{IsPlan, header_of}
 use Rattle.curp_words.specs.declared.order.MakePlan.{MakePlan}
 use Rattle.curp_gen.proofs.Made.{next_plan, next_made}
 

@@ -11,7 +11,7 @@ use Rattle.curp_model.specs.World.{world}
 use Rattle.curp_turns.specs.Work.{invocations, recoveries}
 use Rattle.curp_law_weave.specs.Run.{IsCompletedBy}
 use Rattle.curp_words.specs.declared.order.LivePlan.{LivePlan}
-use Rattle.curp_live.specs.Live.{live_header}
+use Rattle.curp_words.specs.Plan.{live_header}
 use Rattle.curp_gen.specs.Commands.{workload_of}
 use Rattle.curp_play.specs.Play.{OrderStands, script_in, text_of}
 

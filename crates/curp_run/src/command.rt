@@ -1,18 +1,26 @@
-ghost use Rattle.std.specs.Prelude.{◌≡◌, ◌≢◌, ◌⊎◌, ◌↔◌, ◌++◌, [], true, false, Some, None};
+ghost use Rattle.std.specs.Prelude.{◌≡◌, ◌≢◌, ◌⊎◌, ◌↔◌, ◌-◌, ◌++◌, ℕ, List, [], length, map, true, false, Some, None};
+ghost use Rattle.curp_base.specs.Words.{IsPrefix};
 ghost use Rattle.curp_io.specs.Streams.{HoldsPart, Rose, SameCount};
 ghost use Rattle.curp_gen.specs.Texts.{made_script, made_text};
 ghost use Rattle.curp_check.specs.Claim.{IsClaimOfOrder, claim_in};
 ghost use Rattle.curp_check.specs.declared.verdict.Clause.{Clause};
+ghost use Rattle.curp_law_served.specs.Served.{answered, header_of, in_turn};
+ghost use Rattle.curp_model.specs.World.{world};
 ghost use Rattle.curp_play.specs.Play.{EndsWhole, HasAnOrder, HoldsWholeLines, claim_of, script_in, text_of};
 ghost use Rattle.curp_play.specs.Status.{is_cut_short, status_of};
 ghost use Rattle.curp_play.specs.Check.{EndsAs, EndsJudged, IsBrokenClaim, IsJudgedFront, is_verdict, verdict_text};
+ghost use Rattle.curp_resp.specs.Input.{Decomposes};
+ghost use Rattle.curp_resp.specs.Meaning.{meaning};
 ghost use Rattle.curp_run.specs.Live.{IsLive, IsLiveFront};
 ghost use Rattle.curp_run.specs.Run.{EndsMade, IsOfMaking, asked};
 ghost use Rattle.curp_script.specs.Script.{Whole};
+ghost use Rattle.curp_session.specs.Session.{EndsSession, commands_in, replies_of_one_thread, session, session_text};
 ghost use Rattle.curp_words.specs.declared.order.LivePlan.{LivePlan};
 ghost use Rattle.curp_words.specs.declared.order.MakePlan.{MakePlan};
 ghost use Rattle.curp_words.specs.declared.order.Output.{Output};
 ghost use Rattle.curp_words.specs.declared.order.Report.TheVariants as Report;
+ghost use Rattle.curp_words.specs.declared.order.RespOutput.TheVariants as RespOutput;
+ghost use Rattle.curp_words.specs.declared.order.RespPlan.{RespPlan};
 
 use crate::arguments::order_of;
 use crate::live::live_script;
@@ -20,6 +28,8 @@ use crate::script::make_script;
 use curp_io::{Sink, Source};
 use curp_play::{Status, check_claim, play_history, play_script};
 use curp_seat::Gate;
+use curp_session::answer_requests;
+use curp_session::laws::{replies_are_of_one_thread, scripts_complete_each_command};
 use curp_words::{Order, Report, WordsError};
 use std::alloc::Global;
 use std::sync::Wait;
@@ -29,8 +39,9 @@ use std::thread::Threads;
 /// `play` reads a script from the source and writes its text to the sink, as `play_script`, or with `--history` what
 /// clients saw, as `play_history`; `make`, with its options, writes a script or its summary, as `make_script`; `live`
 /// runs nodes on threads, and writes the script of what they did and its text, as `live_script`; `check` reads a
-/// history and an order, and writes whether the order is one of the history, as `check_claim`. The gate is told of
-/// each step that a node on a thread makes.
+/// history and an order, and writes whether the order is one of the history, as `check_claim`; `resp` has the commands of
+/// requests of Redis' protocol served by a cluster, and replies, as `answer_requests`. The gate is told of each step that
+/// a node on a thread makes.
 pub fn run<R: Threads + Wait + Sync, G: Gate + Sync, S: Source, K: Sink>(
     rt: &R,
     alloc: Global,
@@ -129,6 +140,43 @@ pub fn run<R: Threads + Wait + Sync, G: Gate + Sync, S: Source, K: Sink>(
     ensures told_front { asked arguments.now ≡ Some Order.Check → S.tells source.old ≡ true → K.tells sink.old ≡ true
         → IsJudgedFront (S.left source.old) (K.held sink.old) (K.held sink.new) }
 
+    // With `resp` it ends by the first limit that is met, or as the input does, and writes the replies to the requests, or
+    // the script of the steps that serve them; where it is cut short, a front of these.
+    ensures answers_end { (plan : RespPlan) (requests : List (List (List ℕ))) (rest : List ℕ)
+        → asked arguments.now ≡ Some (Order.Resp plan) → S.tells source.old ≡ true
+        → Decomposes requests (S.left source.old) rest → is_cut_short result ≡ false
+        → EndsSession (session plan requests).served.stopped (length (S.left source.old) - length rest) rest result }
+    ensures answers { (plan : RespPlan) (requests : List (List (List ℕ))) (rest : List ℕ)
+        → asked arguments.now ≡ Some (Order.Resp plan) → S.tells source.old ≡ true → K.tells sink.old ≡ true
+        → Decomposes requests (S.left source.old) rest → is_cut_short result ≡ false
+        → K.held sink.new ≡ K.held sink.old ++ session_text plan requests rest }
+    ensures answers_front { (plan : RespPlan) (requests : List (List (List ℕ))) (rest : List ℕ)
+        → asked arguments.now ≡ Some (Order.Resp plan) → S.tells source.old ≡ true → K.tells sink.old ≡ true
+        → Decomposes requests (S.left source.old) rest
+        → HoldsPart (K.held sink.old) (K.held sink.new) (session_text plan requests rest) }
+
+    // The replies are those of one thread, or, where a limit was met, a front of these. The script is read whole, and its
+    // run completes each command before the next, with the answer that one thread gives.
+    ensures replied_as_one_thread { (plan : RespPlan) (requests : List (List (List ℕ)))
+        → asked arguments.now ≡ Some (Order.Resp plan) → is_cut_short result ≡ false
+        → (session plan requests).served.stopped ≡ None
+        → (session plan requests).replies ≡ replies_of_one_thread requests }
+    ensures replied_front { (plan : RespPlan) (requests : List (List (List ℕ)))
+        → asked arguments.now ≡ Some (Order.Resp plan) → is_cut_short result ≡ false
+        → IsPrefix (session plan requests).replies (replies_of_one_thread requests) }
+    ensures answers_play { (plan : RespPlan) (requests : List (List (List ℕ))) (rest : List ℕ)
+        → asked arguments.now ≡ Some (Order.Resp plan) → S.tells source.old ≡ true
+        → Decomposes requests (S.left source.old) rest → is_cut_short result ≡ false → plan.output ≡ RespOutput.Script
+        → script_in (session_text plan requests rest) ≡ record {
+          header = Some (header_of plan.f);
+          body = record { steps = (session plan requests).served.steps; ending = Whole };
+        } }
+    ensures answers_complete { (plan : RespPlan) (requests : List (List (List ℕ)))
+        → asked arguments.now ≡ Some (Order.Resp plan) → is_cut_short result ≡ false
+        → (session plan requests).served.stopped ≡ None
+        → (world (header_of plan.f) (session plan requests).served.steps).history
+        ≡ in_turn (answered (commands_in (map meaning requests))) }
+
     // What it wrote is passed on.
     ensures flushed { asked arguments.now ≢ None → is_cut_short result ≡ false → K.flushed sink.new ≡ true }
 
@@ -144,6 +192,11 @@ pub fn run<R: Threads + Wait + Sync, G: Gate + Sync, S: Source, K: Sink>(
         Ok(Order::Make(plan, output)) => make_script(alloc, &plan, output, sink),
         Ok(Order::Live(plan)) => live_script(rt, alloc, &plan, gate, sink),
         Ok(Order::Check) => check_claim(alloc, source, sink),
+        Ok(Order::Resp(plan)) => {
+            replies_are_of_one_thread();
+            scripts_complete_each_command();
+            answer_requests(alloc, &plan, source, sink)
+        }
         Err(WordsError::Usage) => Status::Usage,
         Err(WordsError::NoMemory) => Status::NoMemory,
     }

@@ -11,7 +11,7 @@ mod lines;
 mod steps;
 
 use crate::live::lines::script_text;
-use crate::live::steps::{header_of, steps_of_run};
+use crate::live::steps::steps_of_run;
 use curp_base::NoMemory;
 use curp_io::{Sink, SureSource};
 use curp_law_print::printed_scripts_are_read;
@@ -64,7 +64,7 @@ fn live_text<R: Threads + Wait + Sync, G: Gate + Sync>(
 {
     printed_scripts_are_read();
     let steps = steps_of_run(rt, alloc, plan, gate)?;
-    script_text(alloc, &header_of(plan), &steps)
+    script_text(alloc, &plan.header(), &steps)
 }
 
 // Writes a script, an empty line, and what playing the script writes.

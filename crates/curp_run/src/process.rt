@@ -21,7 +21,7 @@ const OPTIONS: &str =
     "make takes --number, --f, --sets, --ways, --clients, --parts, --protocol, --steps and \
     --recoveries, each with a number, and --summary; live takes the same but --steps and \
     --summary, --recoveries with 0 alone, and --commands with a number; play takes --history; \
-    check takes none";
+    check takes none; resp takes --f and --every, each with a number, and --script";
 
 /// Does all that `main` does: runs the command line over the standard streams, writes what there is to complain of to
 /// standard error, and says with which number the process ends. Where the words are no command line, one more line

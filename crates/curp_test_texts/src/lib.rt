@@ -1,10 +1,12 @@
-//! Tests of scripts, texts and command lines by the public calls.
+//! Tests of scripts, texts, command lines and served commands by the public calls.
 #![tactic(auto)]
 
 #[cfg(test)]
 mod check;
 #[cfg(test)]
 mod examples;
+#[cfg(test)]
+mod hostile;
 #[cfg(test)]
 mod play;
 #[cfg(test)]
@@ -13,6 +15,10 @@ mod played;
 mod report;
 #[cfg(test)]
 mod script;
+#[cfg(test)]
+mod served;
+#[cfg(test)]
+mod sessions;
 #[cfg(test)]
 mod streams;
 #[cfg(test)]

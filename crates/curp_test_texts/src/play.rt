@@ -247,6 +247,17 @@ fn a_script_has_up_to_200000_steps(rt: HostRuntime) -> Result<(), Fail> {
     Ok(())
 }
 
+#[test]
+fn a_script_of_200000_steps_ends(rt: HostRuntime) -> Result<(), Fail> {
+    let mut text = many_refusals(rt.alloc())?;
+    text.push_str("order 0\n")?;
+    let script = many_steps(rt.alloc(), 200_000)?;
+    let (status, sink) = played(rt.alloc(), &script)?;
+    assert!(rt; status == Status::Ok);
+    assert!(rt; sink.bytes() == text.as_bytes() && sink.is_flushed());
+    Ok(())
+}
+
 // A header of so many bytes, filled up by blanks.
 fn header_of(alloc: Global, len: usize) -> Result<String, NoMemory> {
     let blanks = " ".repeat(alloc, len.saturating_sub(HEADER.len()))?;

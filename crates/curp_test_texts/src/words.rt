@@ -107,13 +107,42 @@ live|--commands|5|--commands|5
 live|--steps|5
 live|--summary
 live|--number|18446744073709551616
+Resp
+resp|x
+resp|
+resp|--
+resp|resp
+resp|play
+play|resp
+resp|make
+live|resp
+resp|--f
+resp|--f|0
+resp|--f|6
+resp|--every
+resp|--every|-1
+resp|--every|1000001
+resp|--every|1|--every|1
+resp|--script|--script
+resp|--script=true
+resp|--script|yes
+resp|--sets|64
+resp|--number|1
+resp|--summary
+make|--every|1
+live|--every|1
+live|--script
+play|--script
+check|--script
+--every|1
+--script
 --commands|5
 --commands|5|make
 --steps|5|live
 --f|3
 --summary";
 
-// Command lines of `make` and `live`, with the numbers of their plans and what is written.
+// Command lines of `make`, `live` and `resp`, with the numbers of their plans and what is written.
 const TAKEN: &str = "make: 1 3 64 4 8 2 1 4000 3 Script
 make|--number|0: 0 3 64 4 8 2 1 4000 3 Script
 make|--number|18446744073709551615: 18446744073709551615 3 64 4 8 2 1 4000 3 Script
@@ -137,7 +166,14 @@ live|--number|18446744073709551615: 18446744073709551615 3 64 4 8 2 1 50 0 Live
 live|--f|5|--sets|1024|--ways|16|--clients|16: 1 5 1024 16 16 2 1 50 0 Live
 --parts=16|live|--commands=100: 1 3 64 4 8 16 1 100 0 Live
 live|--protocol|2: 1 3 64 4 8 2 2 50 0 Live
---commands|5|live: 1 3 64 4 8 2 1 5 0 Live";
+--commands|5|live: 1 3 64 4 8 2 1 5 0 Live
+resp: 3 0 Replies
+resp|--f|1|--every|1000000: 1 1000000 Replies
+resp|--every|0: 3 0 Replies
+--f=5|resp: 5 0 Replies
+resp|--script: 3 0 Script
+--script|resp|--every=7: 3 7 Script
+--every|1|--script|--f|2|resp: 2 1 Script";
 
 // The first word of a command line with which no line can begin; none where the line breaks off.
 const BLAMED: &str = "plya: 0
@@ -166,7 +202,22 @@ live|make: 1
 make|--commands|5: 1
 --commands|5|make: 2
 --commands|5|--steps: 2
---clients|17|live: 2";
+--clients|17|live: 2
+resp|--f|6: 2
+resp|--every: none
+resp|--every|1000001: 2
+resp|--every|1|--every|1: 3
+resp|--steps|5: 1
+resp|--script|make: 2
+--every: none
+--every|5: none
+--every|1000001: 1
+--every|5|make: 2
+--script: none
+--script|live: 1
+--f|3|--script|--every: none
+live|--script: 1
+make|--every|5: 1";
 
 fn words_of(alloc: Global, line: &str) -> Result<Vec<&str>, NoMemory> {
     line.split('|').collect(alloc)
@@ -219,6 +270,7 @@ fn planned(alloc: Global, line: &str) -> Result<String, NoMemory> {
     match order_of(alloc, line)? {
         Ok(Order::Make(plan, output)) => made(alloc, &plan, output),
         Ok(Order::Live(plan)) => run(alloc, &plan),
+        Ok(Order::Resp(plan)) => format!(in alloc; "{} {} {:?}", plan.f, plan.every, plan.output),
         _ => Ok(String::new(alloc)),
     }
 }

@@ -17,8 +17,8 @@ use Rattle.clap.specs.declared.parser.matches.Found.{Found}
 use Rattle.clap.specs.declared.parser.matches.ValueSource.TheVariants.{DefaultValue}
 use Rattle.clap.proofs.WalkLemmas.{both, first_value-rows}
 use Rattle.clap.specs.Simple.{App, argument_words, built, matches_of, names_of}
-use Rattle.curp_words.specs.Command.{IsRefused, IsTaken, app_with}
-use Rattle.curp_words.specs.Words.{Given, Options, given_from, if_once, is_among, is_given, is_once, is_text, is_well_formed, order_with, value_of}
+use Rattle.curp_words.specs.Command.{IsRefused, ParserTakes, app_with}
+use Rattle.curp_words.specs.Words.{GivenOptions, Options, given_from, if_once, is_among, is_given, is_once, is_text, is_well_formed, order_with, value_of}
 use Rattle.curp_words.specs.declared.order.Order.{Order}
 use Rattle.curp_words.specs.declared.order.WordsError.{WordsError}
 use Rattle.curp_words.specs.declared.order.WordsError.TheVariants.{NoMemory, Usage}
@@ -186,7 +186,7 @@ find_push-hit p (y ∷ ys) x none hit = by_test (p y)
     (λ no_. rw no_ (find_push-hit p ys x (sym (ap (λ b. b || list_any p ys) no_) ∙ none) hit))
 
 -- the row of what is given once
-find_row_for : (id : Text) (given : Given) → is_once given ≡ true
+find_row_for : (id : Text) (given : GivenOptions) → is_once given ≡ true
     → find (λ r. bytes_eq r.id id) (rows_for given) ≡ option_map row_for (find (λ value. bytes_eq value.0 id) given)
 find_row_for id [] once = refl
 find_row_for id (value ∷ given) once =
@@ -200,7 +200,7 @@ find_row_for id (value ∷ given) once =
     not_given true e = sym e
     not_given false e = refl
 
-first_of_given : (id : Text) (given : Given) → is_once given ≡ true → first_of id (rows_for given) ≡ value_of given id
+first_of_given : (id : Text) (given : GivenOptions) → is_once given ≡ true → first_of id (rows_for given) ≡ value_of given id
 first_of_given id given once =
     ap (option_and_then (λ (r : Row). slice_get r.values 0)) (find_row_for id given once) ∙ go (find (λ value. bytes_eq value.0 id) given)
   where
@@ -261,7 +261,7 @@ pub record SameValues (options : Options) (f g : Text → Option Text) : Type 0 
   pub flags : (id : Text) → is_text (codes "true") (f id) ≡ is_text (codes "true") (g id)
 
 -- the values of a parse
-same_values : (options : Options) (found : Found) (given : Given) → is_once given ≡ true → rows_of found ≡ ended options.flags (rows_for given)
+same_values : (options : Options) (found : Found) (given : GivenOptions) → is_once given ≡ true → rows_of found ≡ ended options.flags (rows_for given)
     → SameValues options (value_of given) (first_value found)
 same_values options found given once is = record {
   values = λ id none. sym (first_of_given id given once) ∙ sym (other_values options.flags id (rows_for given) none) ∙ read id;
@@ -296,13 +296,13 @@ module _ (options : Options) (order : (Text → Option Text) → Option Order) (
       ∙ ap (λ kinds. or_else (walk_fault (with_rules rules) [] start words) kinds) (or_else_none (settle_fault rules false end))
 
   -- what the words ask for, where the parser takes them, and where it doesn't
-  abbrev then_order : Option Given → Option Order
+  abbrev then_order : Option GivenOptions → Option Order
   then_order o = option_and_then (λ given. order (value_of given)) (option_and_then if_once o)
 
   order_is : (words : List Text) → list_all is_well_formed words ≡ true → order_with options order words ≡ then_order (given_from options None [] words)
   order_is words well = rw well refl
 
-  taken : (words : List Text) (matches : ArgMatches) → IsTaken (app_with options) words matches
+  taken : (words : List Text) (matches : ArgMatches) → ParserTakes (app_with options) words matches
       → order_with options order words ≡ order (first_value (found_of matches))
   taken words matches is =
       order_is words is.well ∙ go (given_from options None [] words) (all_agree rules options (knows options reads_by.word) words is.well)
@@ -310,14 +310,14 @@ module _ (options : Options) (order : (Text → Option Text) → Option Order) (
       found : Found
       found = found_of matches
 
-      once_order : (given : Given) → is_once given ≡ true → rows_of found ≡ ended options.flags (rows_for given)
+      once_order : (given : GivenOptions) → is_once given ≡ true → rows_of found ≡ ended options.flags (rows_for given)
           → then_order (Some given) ≡ order (first_value found)
       once_order given once rows = rw once (reads_by.same (value_of given) (first_value found) (same_values options found given once rows))
 
       ends : matches_of (app_with options) words ≡ ended options.flags (rows_from rules start words)
       ends = ap₂ (λ (app : App) texts. rows_after app.top.rules (names_of app) texts) reads_by.word.is_built (reads_by.word.all_words words) ∙ finished_is options (walk rules [] nothing_held words).held
 
-      go : (o : Option Given) → Ends rules (kinds_from rules start words) (rows_from rules start words) o → then_order o ≡ order (first_value found)
+      go : (o : Option GivenOptions) → Ends rules (kinds_from rules start words) (rows_from rules start words) o → then_order o ≡ order (first_value found)
       go None fails = absurd (fails (sym (fault_is words) ∙ is.no_fault))
       go (Some given) (inr twice) = absurd (twice.1 (sym (fault_is words) ∙ is.no_fault))
       go (Some given) (inl once) = once_order given once.0 (is.rows ∙ ends ∙ ap (ended options.flags) once.2)
@@ -328,7 +328,7 @@ module _ (options : Options) (order : (Text → Option Text) → Option Order) (
       (λ well. order_is words well ∙ go (given_from options None [] words) (all_agree rules options (knows options reads_by.word) words well))
       (λ bad. rw bad refl)
     where
-      go : (o : Option Given) → Ends rules (kinds_from rules start words) (rows_from rules start words) o → then_order o ≡ None
+      go : (o : Option GivenOptions) → Ends rules (kinds_from rules start words) (rows_from rules start words) o → then_order o ≡ None
       go None e = refl
       go (Some given) (inl once) = absurd (fails (fault_is words ∙ once.1))
       go (Some given) (inr twice) = rw twice.0 refl
@@ -346,11 +346,11 @@ module _ (options : Options) (order : (Text → Option Text) → Option Order) (
 
   -- what is read of the matches of the words, or of their fault
   module _ (app : App) (app_is : app ≡ app_with options) (words : List Text) where
-    pub by_matches : (matches : ArgMatches) → (is_simple_and_free app ≡ true → IsTaken app words matches) → (o : Option Order)
+    pub by_matches : (matches : ArgMatches) → (is_simple_and_free app ≡ true → ParserTakes app words matches) → (o : Option Order)
         → o ≡ order (first_value (found_of matches)) → (r : Result Order WordsError) → r ≡ ok_or o Usage → HasOrder words r × HasNone words r
     by_matches matches takes o reads r is =
         subst (λ result. HasOrder words result × HasNone words result) (sym is)
-        (as_result words o (taken words matches (subst (λ (a : App). IsTaken a words matches) app_is (takes (ap is_simple_and_free app_is ∙ reads_by.word.is_free))) ∙ sym reads))
+        (as_result words o (taken words matches (subst (λ (a : App). ParserTakes a words matches) app_is (takes (ap is_simple_and_free app_is ∙ reads_by.word.is_free))) ∙ sym reads))
 
     pub by_fault : (error : WordsError) → (is_simple_and_free app ≡ true → error ≢ NoMemory → IsRefused app words)
         → (r : Result Order WordsError) → r ≡ Err error → HasNone words r

@@ -6,13 +6,15 @@ use Rattle.clap.specs.Walk.{Text}
 use Rattle.curp_msg.specs.Limits.{step_limit}
 use Rattle.curp_msg.specs.declared.script.Protocol.{Protocol}
 use Rattle.curp_words.specs.Numbers.{number_of, number_within, within}
-use Rattle.curp_words.specs.Plan.{IsLivePlan, IsPlan, fits}
-use Rattle.curp_words.specs.Words.{Given, Options, given_by, is_text, live_in, live_options, live_order_by, live_plan_by, make_in, make_options, order_by, order_with, output_by, plan_by, value_of}
+use Rattle.curp_words.specs.Plan.{IsLivePlan, IsPlan, IsRespPlan, fits}
+use Rattle.curp_words.specs.Words.{GivenOptions, Options, given_by, is_text, live_in, live_options, live_order_by, live_plan_by, make_in, make_options, order_by, order_with, output_by, plan_by, resp_in, resp_options, resp_order_by, resp_output_by, resp_plan_by, value_of}
 use Rattle.curp_words.specs.declared.order.LivePlan.{LivePlan}
 use Rattle.curp_words.specs.declared.order.MakePlan.{MakePlan}
 use Rattle.curp_words.specs.declared.order.Order.{Order}
-use Rattle.curp_words.specs.declared.order.Order.TheVariants.{Live, Make}
+use Rattle.curp_words.specs.declared.order.Order.TheVariants.{Live, Make, Resp}
 use Rattle.curp_words.specs.declared.order.Output.{Output}
+use Rattle.curp_words.specs.declared.order.RespOutput.{RespOutput}
+use Rattle.curp_words.specs.declared.order.RespPlan.{RespPlan}
 
 -- what an option holds is so, where it holds something
 abbrev IfSomeIs : {X : Type 0} → Option X → (X → Type 0) → Type 0
@@ -81,11 +83,7 @@ plan_fits value =
     (Within 0 (2 ^ 64 - 1)) (Within 1 5) (Within 1 1024) (Within 1 16) (Within 1 64) (Within 1 16) (Within 1 step_limit) (Within 0 64)
     (λ _ _ _ _ _ _ _ _ recoveries in_number in_f in_sets in_ways in_clients in_parts in_steps in_recoveries. record {
       number = in_number.1;
-      f = in_f;
-      sets = in_sets;
-      ways = in_ways;
-      clients = in_clients;
-      parts = in_parts;
+      header = record { clients = in_clients; f = in_f; parts = in_parts; sets = in_sets; ways = in_ways };
       steps = in_steps;
       recoveries = in_recoveries.1;
     })
@@ -115,11 +113,14 @@ live_plan_fits value =
     (Within 0 (2 ^ 64 - 1)) (Within 1 5) (Within 1 1024) (Within 1 16) (Within 1 16) (Within 1 16) (Within 1 100) (Within 0 0)
     (λ _ _ _ _ _ _ _ _ recoveries in_number in_f in_sets in_ways in_clients in_parts in_commands in_recoveries. record {
       number = in_number.1;
-      f = in_f;
-      sets = in_sets;
-      ways = in_ways;
-      clients = in_clients;
-      parts = in_parts;
+      header = record {
+        clients = (in_clients.0, omega (arith, in_clients.1));
+        f = in_f;
+        parts = in_parts;
+        sets = in_sets;
+        ways = in_ways;
+      };
+      clients = in_clients.1;
       commands = in_commands;
       recoveries = let most : recoveries ≤ 0 = in_recoveries.1 in omega arith;
     })
@@ -133,6 +134,18 @@ live_plan_fits value =
     (number_in_range 1 100 50 (value (codes "commands")) (omega arith) (omega arith))
     (number_in_range 0 0 0 (value (codes "recoveries")) (omega arith) (omega arith))
 
+-- the plan of two numbers, if there is each
+served_from : (output : RespOutput) (f every : Option ℕ) → IfSomeIs f (Within 1 5) → IfSomeIs every (Within 0 1000000)
+    → IfSomeIs (option_and_then (λ n. option_and_then (λ m. Some (record { f = n; every = m; output = output })) every) f) IsRespPlan
+served_from output None every in_f in_every = tt
+served_from output (Some f) None in_f in_every = tt
+served_from output (Some f) (Some every) in_f in_every = record { f = in_f; every = in_every.1 }
+
+resp_plan_fits : (value : Text → Option Text) → IfSomeIs (resp_plan_by value) IsRespPlan
+resp_plan_fits value =
+    served_from (resp_output_by value) _ _ (number_in_range 1 5 3 (value (codes "f")) (omega arith) (omega arith))
+    (number_in_range 0 1000000 0 (value (codes "every")) (omega arith) (omega arith))
+
 made : (output : Output) (o : Option MakePlan) → IfSomeIs o IsPlan → IfSomeIs (option_map (λ plan. Make plan output) o) fits
 made output None is = tt
 made output (Some plan) is = is
@@ -140,6 +153,10 @@ made output (Some plan) is = is
 live : (o : Option LivePlan) → IfSomeIs o IsLivePlan → IfSomeIs (option_map (λ plan. Live plan) o) fits
 live None is = tt
 live (Some plan) is = is
+
+resp : (o : Option RespPlan) → IfSomeIs o IsRespPlan → IfSomeIs (option_map (λ plan. Resp plan) o) fits
+resp None is = tt
+resp (Some plan) is = is
 
 if_so : (b : Bool) (o : Option Order) → IfSomeIs o fits → IfSomeIs (cond b o None) fits
 if_so true o is = is
@@ -151,11 +168,14 @@ order_fits value = if_so (is_text (codes "make") (value (codes "command"))) _ (m
 live_order_fits : (value : Text → Option Text) → IfSomeIs (live_order_by value) fits
 live_order_fits value = if_so (is_text (codes "live") (value (codes "command"))) _ (live (live_plan_by value) (live_plan_fits value))
 
+resp_order_fits : (value : Text → Option Text) → IfSomeIs (resp_order_by value) fits
+resp_order_fits value = if_so (is_text (codes "resp") (value (codes "command"))) _ (resp (resp_plan_by value) (resp_plan_fits value))
+
 with_fits : (options : Options) (order : (Text → Option Text) → Option Order) → ((value : Text → Option Text) → IfSomeIs (order value) fits)
     → (words : List Text) → IfSomeIs (order_with options order words) fits
 with_fits options order fit words = go (given_by options words)
   where
-    go : (o : Option Given) → IfSomeIs (option_and_then (λ given. order (value_of given)) o) fits
+    go : (o : Option GivenOptions) → IfSomeIs (option_and_then (λ given. order (value_of given)) o) fits
     go None = tt
     go (Some given) = fit (value_of given)
 
@@ -165,3 +185,6 @@ make_fits words order e = subst (λ o. IfSomeIs o fits) e (with_fits make_option
 
 pub live_fits : (words : List Text) (order : Order) → live_in words ≡ Some order → fits order
 live_fits words order e = subst (λ o. IfSomeIs o fits) e (with_fits live_options live_order_by live_order_fits words)
+
+pub resp_fits : (words : List Text) (order : Order) → resp_in words ≡ Some order → fits order
+resp_fits words order e = subst (λ o. IfSomeIs o fits) e (with_fits resp_options resp_order_by resp_order_fits words)

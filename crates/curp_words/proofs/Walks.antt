@@ -18,7 +18,7 @@ use Rattle.clap.specs.declared.builder.value_parser.Reading.TheVariants.{AsWritt
 use Rattle.clap.specs.declared.error.kind.ErrorKind.TheVariants as kind
 use Rattle.clap.specs.declared.parser.matches.ValueSource.TheVariants.{CommandLine}
 use Rattle.curp_words.specs.Command.{bare_rule, flag_rule, valued_rule}
-use Rattle.curp_words.specs.Words.{Given, Options, Reading, given_from, gives, is_among, is_given, is_once, is_well_formed, with_next, with_option}
+use Rattle.curp_words.specs.Words.{GivenOptions, Options, Reading, given_from, gives, is_among, is_given, is_once, is_well_formed, with_next, with_option}
 
 -- ---- tests
 
@@ -69,11 +69,11 @@ abbrev pub row_for : Text × Text → Row
 row_for value = record { id = value.0; values = value.1 ∷ []; count = None; source = Some CommandLine; reading = AsWritten }
 
 -- the rows of what is given
-abbrev pub rows_for : Given → List Row
+abbrev pub rows_for : GivenOptions → List Row
 rows_for [] = []
 rows_for (value ∷ given) = rows_for given ++ row_for value ∷ []
 
-pub has_row_for : (id : Text) (given : Given) → has_row id (rows_for given) ≡ is_given id given
+pub has_row_for : (id : Text) (given : GivenOptions) → has_row id (rows_for given) ≡ is_given id given
 has_row_for id [] = refl
 has_row_for id (value ∷ given) =
     list_any-append (λ r. bytes_eq r.id id) (rows_for given) (row_for value ∷ [])
@@ -89,10 +89,10 @@ at_none id change missing (r ∷ rs) none = by_test (bytes_eq r.id id)
 -- ---- one use
 
 -- a step's kinds and the rows after it are those of what is given: none where nothing is given twice, and else some
-abbrev pub FollowsOnce : Kinds → List Row → Given → Type 0
+abbrev pub FollowsOnce : Kinds → List Row → GivenOptions → Type 0
 FollowsOnce kinds rows given = ((is_once given ≡ true) × (kinds ≡ []) × (rows ≡ rows_for given)) ⊎ ((is_once given ≡ false) × (kinds ≡ [] → ⊥))
 
-used_once : (id value : Text) (rows : List Row) (given : Given) → is_once given ≡ true → rows ≡ rows_for given
+used_once : (id value : Text) (rows : List Row) (given : GivenOptions) → is_once given ≡ true → rows ≡ rows_for given
     → FollowsOnce (repeat_fault false id rows) (with_values id AsWritten CommandLine (value ∷ []) (without id rows)) ((id, value) ∷ given)
 used_once id value rows given once is = by_test (is_given id given) twice fresh
   where
@@ -233,19 +233,19 @@ module _ (c : List Rule) where
   rows_from w words = (settled c (fold (walked c []) w words).held).rows
 
   -- the walk fails where nothing is given or something twice, and else it ends with the rows of what is given
-  abbrev pub Ends : Kinds → List Row → Option Given → Type 0
+  abbrev pub Ends : Kinds → List Row → Option GivenOptions → Type 0
   Ends kinds rows None = kinds ≡ [] → ⊥
   Ends kinds rows (Some given) = FollowsOnce kinds rows given
 
-  abbrev IsTwice : Option Given → Type 0
+  abbrev IsTwice : Option GivenOptions → Type 0
   IsTwice None = ⊤
   IsTwice (Some given) = is_once given ≡ false
 
-  ends_failed : (kinds : Kinds) (rows : List Row) (o : Option Given) → (kinds ≡ [] → ⊥) → IsTwice o → Ends kinds rows o
+  ends_failed : (kinds : Kinds) (rows : List Row) (o : Option GivenOptions) → (kinds ≡ [] → ⊥) → IsTwice o → Ends kinds rows o
   ends_failed kinds rows None fails twice = fails
   ends_failed kinds rows (Some given) fails twice = inr (twice, fails)
 
-  moves : (w after : Walk) (word : Text) (rest : List Text) (o : Option Given) → fault_at w word ≡ [] → walked c [] w word ≡ after
+  moves : (w after : Walk) (word : Text) (rest : List Text) (o : Option GivenOptions) → fault_at w word ≡ [] → walked c [] w word ≡ after
       → Ends (kinds_from after rest) (rows_from after rest) o → Ends (kinds_from w (word ∷ rest)) (rows_from w (word ∷ rest)) o
   unfolding walk_fault
   moves w after word rest o none is ends =
@@ -253,21 +253,21 @@ module _ (c : List Rule) where
       (settle_fault c false (fold (walked c []) (walked c [] w word) rest).held)) (rows_from (walked c [] w word) rest) o)
       (sym none) (subst (λ (next : Walk). Ends (kinds_from next rest) (rows_from next rest) o) (sym is) ends)
 
-  fails_at : (w : Walk) (word : Text) (rest : List Text) (o : Option Given) → (fault_at w word ≡ [] → ⊥) → IsTwice o
+  fails_at : (w : Walk) (word : Text) (rest : List Text) (o : Option GivenOptions) → (fault_at w word ≡ [] → ⊥) → IsTwice o
       → Ends (kinds_from w (word ∷ rest)) (rows_from w (word ∷ rest)) o
   unfolding walk_fault
   fails_at w word rest o fails twice = ends_failed _ _ o (fails_first _ _ (fails_first _ _ fails)) twice
 
   -- what was given twice stays so
   module _ (options : Options) where
-    twice_more : (x : Text × Text) (given : Given) → is_once given ≡ false → is_once (x ∷ given) ≡ false
+    twice_more : (x : Text × Text) (given : GivenOptions) → is_once given ≡ false → is_once (x ∷ given) ≡ false
     twice_more x given twice = ap (λ b. not (is_given x.0 given) && b) twice ∙ and_false (not (is_given x.0 given))
 
     abbrev IsStillTwice : Option Reading → Type 0
     IsStillTwice None = ⊤
     IsStillTwice (Some reading) = is_once reading.given ≡ false
 
-    option_twice : (given : Given) (name : Text) (v : Option Text) → is_once given ≡ false → IsStillTwice (with_option options given name v)
+    option_twice : (given : GivenOptions) (name : Text) (v : Option Text) → is_once given ≡ false → IsStillTwice (with_option options given name v)
     option_twice given name (Some v) twice = go (is_among options.valued name)
       where
         go : (b : Bool) → IsStillTwice (cond b (Some (gives ((name, v) ∷ given))) None)
@@ -280,18 +280,18 @@ module _ (c : List Rule) where
         go false true = twice_more (name, codes "true") given twice
         go false false = tt
 
-    next_twice : (waiting : Option Text) (given : Given) (word : Text) (o : Option (Text × Option Text)) → is_once given ≡ false
+    next_twice : (waiting : Option Text) (given : GivenOptions) (word : Text) (o : Option (Text × Option Text)) → is_once given ≡ false
         → IsStillTwice (with_next options waiting given word o)
     next_twice waiting given word None twice = twice_more (unwrap_or waiting (codes "command"), word) given twice
     next_twice None given word (Some p) twice = option_twice given p.0 p.1 twice
     next_twice (Some name) given word (Some p) twice = tt
 
-    go_on_twice : (words : List Text) → ((waiting : Option Text) (given : Given) → is_once given ≡ false → IsTwice (given_from options waiting given words))
+    go_on_twice : (words : List Text) → ((waiting : Option Text) (given : GivenOptions) → is_once given ≡ false → IsTwice (given_from options waiting given words))
         → (o : Option Reading) → IsStillTwice o → IsTwice (option_and_then (λ (reading : Reading). given_from options reading.waiting reading.given words) o)
     go_on_twice words rest None h = tt
     go_on_twice words rest (Some reading) h = rest reading.waiting reading.given h
 
-    from_twice : (words : List Text) (waiting : Option Text) (given : Given) → is_once given ≡ false → IsTwice (given_from options waiting given words)
+    from_twice : (words : List Text) (waiting : Option Text) (given : GivenOptions) → is_once given ≡ false → IsTwice (given_from options waiting given words)
     from_twice [] None given twice = twice
     from_twice [] (Some name) given twice = tt
     from_twice (word ∷ words) None given twice =
@@ -303,36 +303,36 @@ module _ (c : List Rule) where
 
     module _ (knows : Knows c options) where
       -- the place of the next word that stands for itself
-      abbrev position_of : Given → ℕ
+      abbrev position_of : GivenOptions → ℕ
       position_of given = cond (is_given (codes "command") given) 2 1
 
       -- an option waits for its value
       abbrev waits : Text → List Row → ℕ → Held
       waits name rows skip = record { rows = rows; pending = Some (name, []); skip = skip }
 
-      abbrev FollowsIdle : Walk → Given → Type 0
+      abbrev FollowsIdle : Walk → GivenOptions → Type 0
       FollowsIdle w given = (h : Held) × (w ≡ stands h idle (position_of given)) × FollowsOnce (settle_fault c false h) (settled c h).rows given
 
-      abbrev FollowsWaiting : Walk → Text → Given → Type 0
+      abbrev FollowsWaiting : Walk → Text → GivenOptions → Type 0
       FollowsWaiting w name given = (rows : List Row) × (skip : ℕ) × (w ≡ stands (waits name rows skip) (option name) (position_of given))
           × (is_once given ≡ true) × (rows ≡ rows_for given) × (is_among options.valued name ≡ true)
 
       -- the walk stands where so much is given, and this option waits
-      abbrev Follows : Walk → Option Text → Given → Type 0
+      abbrev Follows : Walk → Option Text → GivenOptions → Type 0
       Follows w None given = FollowsIdle w given
       Follows w (Some name) given = FollowsWaiting w name given
 
       -- from there on the words end it as they should
       abbrev Rest : List Text → Type 0
-      Rest words = (w : Walk) (waiting : Option Text) (given : Given) → Follows w waiting given
+      Rest words = (w : Walk) (waiting : Option Text) (given : GivenOptions) → Follows w waiting given
           → Ends (kinds_from w words) (rows_from w words) (given_from options waiting given words)
 
-      follows_as : (kinds others : Kinds) (rows more : List Row) (given : Given) → kinds ≡ others → rows ≡ more → FollowsOnce others more given
+      follows_as : (kinds others : Kinds) (rows more : List Row) (given : GivenOptions) → kinds ≡ others → rows ≡ more → FollowsOnce others more given
           → FollowsOnce kinds rows given
       follows_as kinds others rows more given e f follows = rw (e, f) follows
 
       -- a value that is pending
-      pending_value : (a : Rule) (id value : Text) (rows : List Row) (skip : ℕ) (given : Given) → arg_by_id c id ≡ Some a
+      pending_value : (a : Rule) (id value : Text) (rows : List Row) (skip : ℕ) (given : GivenOptions) → arg_by_id c id ≡ Some a
           → use_fault false a (value ∷ []) rows ≡ repeat_fault false id rows
           → used a (value ∷ []) rows ≡ with_values id AsWritten CommandLine (value ∷ []) (without id rows)
           → is_once given ≡ true → rows ≡ rows_for given
@@ -362,7 +362,7 @@ module _ (c : List Rule) where
       flag_used name rows = refl
 
       -- a word that stands for itself, where one was given, and where none was
-      module _ (h : Held) (given : Given) (word : Text) (rest : List Text) (is : IsBare word) (next : Rest rest) where
+      module _ (h : Held) (given : GivenOptions) (word : Text) (rest : List Text) (is : IsBare word) (next : Rest rest) where
         abbrev command : Text × Text
         command = (codes "command", word)
 
@@ -400,7 +400,7 @@ module _ (c : List Rule) where
                 ∙ ap (λ b. stands (pushed (codes "command") word (cond b h (settled c h))) idle 2) (and_false (is_pending bare_built h.pending))
 
       -- an option, where no other waits
-      module _ (h : Held) (given : Given) (word name : Text) (v : Option Text) (rest : List Text) (is : IsOption word name v) (next : Rest rest) where
+      module _ (h : Held) (given : GivenOptions) (word name : Text) (v : Option Text) (rest : List Text) (is : IsOption word name v) (next : Rest rest) where
         abbrev here : Walk
         here = stands h idle (position_of given)
 
@@ -419,7 +419,7 @@ module _ (c : List Rule) where
         walk_is : (o : Option Rule) → arg_by_long c name ≡ o → walked c [] here word ≡ walk_by o
         walk_is o e = option_walk h idle (position_of given) word name v is ∙ ap walk_by e
 
-        abbrev Then : Option Given → Type 0
+        abbrev Then : Option GivenOptions → Type 0
         Then o = Ends (kinds_from here (word ∷ rest)) (rows_from here (word ∷ rest)) o
 
         -- it is refused
@@ -466,13 +466,13 @@ module _ (c : List Rule) where
         ]
 
       -- what follows where the words were read as far as this
-      abbrev go_on : List Text → Option Reading → Option Given
+      abbrev go_on : List Text → Option Reading → Option GivenOptions
       go_on rest o = option_and_then (λ (reading : Reading). given_from options reading.waiting reading.given rest) o
 
-      abbrev flag_given : Text → Given → Bool → Option Reading
+      abbrev flag_given : Text → GivenOptions → Bool → Option Reading
       flag_given name given b = cond b (Some (gives ((name, codes "true") ∷ given))) None
 
-      idle_option : (h : Held) (given : Given) (word name : Text) (v : Option Text) (rest : List Text) (is : IsOption word name v) (next : Rest rest)
+      idle_option : (h : Held) (given : GivenOptions) (word name : Text) (v : Option Text) (rest : List Text) (is : IsOption word name v) (next : Rest rest)
           → FollowsOnce (settle_fault c false h) (settled c h).rows given
           → Then h given word name v rest is next (go_on rest (with_option options given name v))
       idle_option h given word name (Some value) rest is next follows = by_test (is_among options.valued name)
@@ -496,7 +496,7 @@ module _ (c : List Rule) where
 
       -- ---- a word where an option waits
 
-      module _ (waiting : Text) (rows : List Row) (skip : ℕ) (given : Given) (known : is_among options.valued waiting ≡ true)
+      module _ (waiting : Text) (rows : List Row) (skip : ℕ) (given : GivenOptions) (known : is_among options.valued waiting ≡ true)
           (once : is_once given ≡ true) (rows_are : rows ≡ rows_for given) where
         abbrev held : Held
         held = waits waiting rows skip
@@ -557,12 +557,12 @@ module _ (c : List Rule) where
 
       -- ---- all the words
 
-      idle_ends : (h : Held) (position : ℕ) (given : Given) → FollowsOnce (settle_fault c false h) (settled c h).rows given
+      idle_ends : (h : Held) (position : ℕ) (given : GivenOptions) → FollowsOnce (settle_fault c false h) (settled c h).rows given
           → Ends (kinds_from (stands h idle position) []) (rows_from (stands h idle position) []) (Some given)
       unfolding walk_fault
       idle_ends h position given follows = follows
 
-      idle_bare : (h : Held) (given : Given) (word : Text) (rest : List Text) → IsBare word → Rest rest
+      idle_bare : (h : Held) (given : GivenOptions) (word : Text) (rest : List Text) → IsBare word → Rest rest
           → FollowsOnce (settle_fault c false h) (settled c h).rows given
           → Ends (kinds_from (stands h idle (position_of given)) (word ∷ rest)) (rows_from (stands h idle (position_of given)) (word ∷ rest))
           (given_from options None ((codes "command", word) ∷ given) rest)
@@ -572,7 +572,7 @@ module _ (c : List Rule) where
           (λ none. subst (λ b. Ends (kinds_from (stands h idle (cond b 2 1)) (word ∷ rest)) (rows_from (stands h idle (cond b 2 1)) (word ∷ rest))
           (given_from options None ((codes "command", word) ∷ given) rest)) (sym none) (first_word h given word rest is next none follows))
 
-      idle_word : (h : Held) (given : Given) (word : Text) (rest : List Text) → is_well_formed word ≡ true → Rest rest
+      idle_word : (h : Held) (given : GivenOptions) (word : Text) (rest : List Text) → is_well_formed word ≡ true → Rest rest
           → FollowsOnce (settle_fault c false h) (settled c h).rows given
           → Ends (kinds_from (stands h idle (position_of given)) (word ∷ rest)) (rows_from (stands h idle (position_of given)) (word ∷ rest))
           (given_from options None given (word ∷ rest))
@@ -583,7 +583,7 @@ module _ (c : List Rule) where
             (go_on rest (with_next options None given word o))) (sym is.0) (idle_bare h given word rest is next follows)
       ]
 
-      waiting_word : (name : Text) (rows : List Row) (skip : ℕ) (given : Given) (known : is_among options.valued name ≡ true)
+      waiting_word : (name : Text) (rows : List Row) (skip : ℕ) (given : GivenOptions) (known : is_among options.valued name ≡ true)
           (once : is_once given ≡ true) (rows_are : rows ≡ rows_for given) (word : Text) (rest : List Text) → is_well_formed word ≡ true → Rest rest
           → (let w : Walk = stands (waits name rows skip) (option name) (position_of given) in
           Ends (kinds_from w (word ∷ rest)) (rows_from w (word ∷ rest)) (given_from options (Some name) given (word ∷ rest)))

@@ -6,7 +6,7 @@ use Rattle.clap.specs.Matches.{found_of}
 use Rattle.clap.specs.Walk.{Rule, Text, rows_of}
 use Rattle.clap.specs.Simple.{App, matches_of, new_app, new_rule, on_top, with_rule}
 use Rattle.clap.specs.declared.parser.matches.ArgMatches.{ArgMatches}
-use Rattle.curp_words.specs.Words.{Options, is_well_formed, live_options, make_options}
+use Rattle.curp_words.specs.Words.{Options, is_well_formed, live_options, make_options, resp_options}
 use Rattle.clap.specs.declared.builder.action.ArgAction.TheVariants.{Set, SetTrue}
 
 -- an option with a value
@@ -41,8 +41,12 @@ make_app = app_with make_options
 abbrev pub live_app : App
 live_app = app_with live_options
 
+-- `resp` with its options
+abbrev pub resp_app : App
+resp_app = app_with resp_options
+
 -- the words are well formed, and the parser has these matches for them, with no fault
-pub record IsTaken (app : App) (words : List Text) (matches : ArgMatches) : Type 0 where
+pub record ParserTakes (app : App) (words : List Text) (matches : ArgMatches) : Type 0 where
   pub well : list_all is_well_formed words ≡ true
   pub no_fault : fault_of app words ≡ []
   pub rows : rows_of (found_of matches) ≡ matches_of app words

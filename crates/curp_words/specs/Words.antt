@@ -15,10 +15,13 @@ use Rattle.curp_words.specs.Numbers.{number_within}
 use Rattle.curp_words.specs.declared.order.LivePlan.{LivePlan}
 use Rattle.curp_words.specs.declared.order.MakePlan.{MakePlan}
 use Rattle.curp_words.specs.declared.order.Order.{Order}
-use Rattle.curp_words.specs.declared.order.Order.TheVariants.{Play, Make, Live, Check}
+use Rattle.curp_words.specs.declared.order.Order.TheVariants.{Play, Make, Live, Check, Resp}
 use Rattle.curp_words.specs.declared.order.Output.{Output}
 use Rattle.curp_words.specs.declared.order.Output.TheVariants.{Script, Summary}
 use Rattle.curp_words.specs.declared.order.Report.TheVariants.{Steps, History}
+use Rattle.curp_words.specs.declared.order.RespOutput.{RespOutput}
+use Rattle.curp_words.specs.declared.order.RespOutput.TheVariants as shown
+use Rattle.curp_words.specs.declared.order.RespPlan.{RespPlan}
 use Rattle.curp_words.specs.declared.order.WordsError.{WordsError}
 use Rattle.curp_words.specs.declared.order.WordsError.TheVariants.{Usage, NoMemory}
 
@@ -45,31 +48,35 @@ live_options = record {
   flags = [];
 }
 
+-- the options of `resp`
+abbrev pub resp_options : Options
+resp_options = record { valued = codes "f" ∷ codes "every" ∷ []; flags = codes "script" ∷ [] }
+
 -- ---- what is given
 
 -- a name with its value
-abbrev pub Value : Type 0
-Value = Text × Text
+abbrev pub NamedValue : Type 0
+NamedValue = Text × Text
 
 -- what is given by some words, the last first: the value of an option by the option's name, the word that stands for
 -- itself by the name `command`, and an option without a value with the value `true`
-abbrev pub Given : Type 0
-Given = List Value
+abbrev pub GivenOptions : Type 0
+GivenOptions = List NamedValue
 
 -- one of the names
 abbrev pub is_among : List Text → Text → Bool
 is_among names name = list_any (λ each. bytes_eq each name) names
 
 -- something is given by the name
-abbrev pub is_given : Text → Given → Bool
+abbrev pub is_given : Text → GivenOptions → Bool
 is_given name given = list_any (λ value. bytes_eq value.0 name) given
 
 -- the value that is given by the name
-abbrev pub value_of : Given → Text → Option Text
+abbrev pub value_of : GivenOptions → Text → Option Text
 value_of given name = option_map (λ value. value.1) (find (λ value. bytes_eq value.0 name) given)
 
 -- nothing is given twice
-abbrev pub is_once : Given → Bool
+abbrev pub is_once : GivenOptions → Bool
 is_once [] = true
 is_once (value ∷ given) = not (is_given value.0 given) && is_once given
 
@@ -81,19 +88,19 @@ is_well_formed word = is_some (long_of word) || not (is_some (strip_byte 45 word
 
 -- what is given by the words so far, and the option that waits for its value
 pub record Reading : Type 0 where
-  pub given : Given
+  pub given : GivenOptions
   pub waiting : Option Text
 
 -- so much is given, and no option waits
-abbrev pub gives : Given → Reading
+abbrev pub gives : GivenOptions → Reading
 gives given = record { given = given; waiting = None }
 
 -- a word with no hyphen is the value that an option waits for, and else it stands for itself
-abbrev pub with_bare : Option Text → Given → Text → Reading
+abbrev pub with_bare : Option Text → GivenOptions → Text → Reading
 with_bare waiting given word = gives ((unwrap_or waiting (codes "command"), word) ∷ given)
 
 -- an option: its value is behind `=`, or it is the next word, or it has none
-abbrev pub with_option : Options → Given → Text → Option Text → Option Reading
+abbrev pub with_option : Options → GivenOptions → Text → Option Text → Option Reading
 with_option options given name (Some value) =
     if is_among options.valued name then Some (gives ((name, value) ∷ given)) else None
 with_option options given name None =
@@ -101,13 +108,13 @@ with_option options given name None =
     else (if is_among options.flags name then Some (gives ((name, codes "true") ∷ given)) else None)
 
 -- no option stands where another one waits for its value
-abbrev pub with_next : Options → Option Text → Given → Text → Option (Text × Option Text) → Option Reading
+abbrev pub with_next : Options → Option Text → GivenOptions → Text → Option (Text × Option Text) → Option Reading
 with_next options waiting given word None = Some (with_bare waiting given word)
 with_next options None given word (Some option) = with_option options given option.0 option.1
 with_next options (Some name) given word (Some option) = None
 
 -- what is given by all the words, if no option waits for its value at their end
-abbrev pub given_from : Options → Option Text → Given → List Text → Option Given
+abbrev pub given_from : Options → Option Text → GivenOptions → List Text → Option GivenOptions
 given_from options None given [] = Some given
 given_from options (Some name) given [] = None
 given_from options waiting given (word ∷ words) =
@@ -115,11 +122,11 @@ given_from options waiting given (word ∷ words) =
     (with_next options waiting given word (long_of word))
 
 -- and nothing is given twice
-abbrev pub if_once : Given → Option Given
+abbrev pub if_once : GivenOptions → Option GivenOptions
 if_once given = if is_once given then Some given else None
 
 -- what is given by the words of a command line with these options
-abbrev pub given_by : Options → List Text → Option Given
+abbrev pub given_by : Options → List Text → Option GivenOptions
 given_by options words =
     if list_all is_well_formed words then option_and_then if_once (given_from options None [] words) else None
 
@@ -195,6 +202,17 @@ is_text text (Some other) = bytes_eq other text
 abbrev pub output_by : (Text → Option Text) → Output
 output_by value = if is_text (codes "true") (value (codes "summary")) then Summary else Script
 
+-- the script of the steps, where it is asked for
+abbrev pub resp_output_by : (Text → Option Text) → RespOutput
+resp_output_by value = if is_text (codes "true") (value (codes "script")) then shown.Script else shown.Replies
+
+-- the plan of `resp`, by the values of the options
+abbrev pub resp_plan_by : (Text → Option Text) → Option RespPlan
+resp_plan_by value =
+    with (number_within 1 5 3 (value (codes "f"))) (λ f.
+    with (number_within 0 1000000 0 (value (codes "every"))) (λ every.
+    Some (record { f = f; every = every; output = resp_output_by value })))
+
 -- the order of a command line with values by these names, if its word is `make`
 abbrev pub order_by : (Text → Option Text) → Option Order
 order_by value =
@@ -206,6 +224,12 @@ abbrev pub live_order_by : (Text → Option Text) → Option Order
 live_order_by value =
     if is_text (codes "live") (value (codes "command"))
     then option_map (λ plan. Live plan) (live_plan_by value) else None
+
+-- the same, if its word is `resp`
+abbrev pub resp_order_by : (Text → Option Text) → Option Order
+resp_order_by value =
+    if is_text (codes "resp") (value (codes "command"))
+    then option_map (λ plan. Resp plan) (resp_plan_by value) else None
 
 -- the one word `play`, or `check`
 abbrev pub one_word : Text → Option Order
@@ -238,9 +262,13 @@ make_in words = order_with make_options order_by words
 abbrev pub live_in : List Text → Option Order
 live_in words = order_with live_options live_order_by words
 
+-- the word `resp` with options
+abbrev pub resp_in : List Text → Option Order
+resp_in words = order_with resp_options resp_order_by words
+
 -- what the words behind the program's name ask for; none where they are no command line
 abbrev pub order_in : List Text → Option Order
-order_in words = option_or (plain_in words) (option_or (make_in words) (live_in words))
+order_in words = option_or (plain_in words) (option_or (make_in words) (option_or (live_in words) (resp_in words)))
 
 -- ---- what is no order
 

@@ -1,6 +1,6 @@
 ghost use Rattle.std.specs.Prelude.{◌≡◌, ◌++◌, IfOk, is_some};
 ghost use Rattle.clap.specs.Walk.{texts};
-ghost use Rattle.curp_words.specs.Blame.{IsBlamed, is_beginning};
+ghost use Rattle.curp_words.specs.Blame.{IsBlamed, is_beginning, is_line_with, value_endings, word_endings};
 ghost use Rattle.curp_words.specs.Words.{order_in};
 
 use crate::order::WordsError;
@@ -26,14 +26,31 @@ pub fn blamed(alloc: Global, words: &[&str]) -> Result<Option<usize>, NoMemory>
 fn is_beginning(alloc: Global, words: &[&str]) -> Result<bool, NoMemory>
     ensures { IfOk result (λ so. so ≡ is_beginning (texts words.now)) }
 {
+    Ok(lacks_no_value(alloc, words)? || lacks_value(alloc, words)?)
+}
+
+// Whether it does with no option at the words' end that waits for its value.
+fn lacks_no_value(alloc: Global, words: &[&str]) -> Result<bool, NoMemory>
+    ensures { IfOk result (λ so. so ≡ is_line_with word_endings (texts words.now)) }
+{
     Ok(
         is_line(alloc, words, &[])?
             || is_line(alloc, words, &["play"])?
             || is_line(alloc, words, &["make"])?
             || is_line(alloc, words, &["live"])?
-            || is_line(alloc, words, &["1"])?
+            || is_line(alloc, words, &["resp"])?,
+    )
+}
+
+// Whether it does with an option there that waits.
+fn lacks_value(alloc: Global, words: &[&str]) -> Result<bool, NoMemory>
+    ensures { IfOk result (λ so. so ≡ is_line_with value_endings (texts words.now)) }
+{
+    Ok(
+        is_line(alloc, words, &["1"])?
             || is_line(alloc, words, &["1", "make"])?
             || is_line(alloc, words, &["1", "live"])?
+            || is_line(alloc, words, &["1", "resp"])?
             || is_line(alloc, words, &["0"])?
             || is_line(alloc, words, &["0", "live"])?,
     )

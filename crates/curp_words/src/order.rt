@@ -1,6 +1,8 @@
 ghost use Rattle.std.specs.Prelude.{◌≡◌};
+ghost use Rattle.curp_msg.specs.Script.{IsHeader};
+ghost use Rattle.curp_words.specs.Plan.{IsLivePlan, IsPlan, header_of, live_header};
 
-use curp_msg::Protocol;
+use curp_msg::{Header, Protocol};
 use std::alloc::AllocError;
 use thiserror::Error;
 
@@ -15,6 +17,8 @@ pub enum Order {
     Live(LivePlan),
     /// A history and an order are read from standard input, and it is told whether the order is one of the history.
     Check,
+    /// Requests are read from standard input and served by a cluster of the plan.
+    Resp(RespPlan),
 }
 
 /// What `play` writes of a script.
@@ -56,6 +60,25 @@ pub struct LivePlan {
     pub recoveries: u32,
 }
 
+/// Which cluster serves requests, and what is written of it. Contracts see the range of each number with `IsRespPlan`.
+#[derive(Clone, Copy, PartialEq, Eq)]
+pub struct RespPlan {
+    /// How many backups and as many witnesses it has.
+    pub f: u32,
+    /// After each of so many commands its partition is recovered; never, where that is 0.
+    pub every: u64,
+    pub output: RespOutput,
+}
+
+/// What `resp` writes.
+#[derive(Clone, Copy, Debug, PartialEq, Eq)]
+pub enum RespOutput {
+    /// A reply to each request.
+    Replies,
+    /// The script of the steps that serve the requests, for `play` to read.
+    Script,
+}
+
 /// What `make` writes.
 #[derive(Clone, Copy, Debug, PartialEq, Eq)]
 pub enum Output {
@@ -74,6 +97,42 @@ pub enum WordsError {
     /// There was no memory to read them.
     #[error("out of memory")]
     NoMemory,
+}
+
+impl MakePlan {
+    /// The header of the script: clients are fast.
+    pub fn header(&self) -> Header
+        ensures header { result ≡ header_of self.now }
+        ensures in_range { IsPlan self.now → IsHeader result }
+    {
+        Header {
+            clients: self.clients,
+            f: self.f,
+            fast: true,
+            parts: self.parts,
+            protocol: self.protocol,
+            sets: self.sets,
+            ways: self.ways,
+        }
+    }
+}
+
+impl LivePlan {
+    /// The header of the script of the run: clients are fast.
+    pub fn header(&self) -> Header
+        ensures header { result ≡ live_header self.now }
+        ensures in_range { IsLivePlan self.now → IsHeader result }
+    {
+        Header {
+            clients: self.clients,
+            f: self.f,
+            fast: true,
+            parts: self.parts,
+            protocol: self.protocol,
+            sets: self.sets,
+            ways: self.ways,
+        }
+    }
 }
 
 impl Default for MakePlan {
@@ -114,6 +173,21 @@ impl Default for LivePlan {
             protocol: Protocol::One,
             commands: 50,
             recoveries: 0,
+        }
+    }
+}
+
+impl Default for RespPlan {
+    ghost use Rattle.std.specs.Prelude.{◌≡◌};
+    ghost use Rattle.curp_words.specs.Plan.{default_resp_plan};
+
+    ghost is_default = { λ plan. plan ≡ default_resp_plan };
+
+    fn default() -> RespPlan {
+        RespPlan {
+            f: 3,
+            every: 0,
+            output: RespOutput::Replies,
         }
     }
 }

@@ -1,21 +1,24 @@
 ghost use Rattle.std.specs.Prelude.{◌≡◌, ◌≢◌, ◌⊎◌, IfErr, IfOk, Err, None, Some, true};
 ghost use Rattle.std.specs.List.{list_all};
+ghost use Rattle.std.specs.Option.{option_or};
 ghost use Rattle.clap.specs.Faults.{is_simple_and_free};
 ghost use Rattle.clap.specs.Simple.{app_of};
 ghost use Rattle.clap.specs.Walk.{texts};
-ghost use Rattle.curp_words.specs.Command.{IsRefused, IsTaken};
+ghost use Rattle.curp_words.specs.Command.{IsRefused, ParserTakes};
 ghost use Rattle.curp_words.specs.Plan.{fits};
-ghost use Rattle.curp_words.specs.Words.{is_well_formed, live_in, make_in, one_word, order_in, plain_in, two_words};
+ghost use Rattle.curp_words.specs.Words.{is_well_formed, live_in, make_in, one_word, order_in, plain_in, resp_in, two_words};
 
 use crate::live::{live_command, live_order};
 use crate::make::{make_command, make_order};
 use crate::order::{Order, Report, WordsError};
+use crate::resp::{resp_command, resp_order};
 use clap::{ArgMatches, Command};
 use std::alloc::Global;
 
-/// What the words behind the program's name ask for: `check`, or `play`, `make` or `live` with its options, which stand
-/// before the word or behind it, in any order and each at most once. An option has its value behind `=` or as the next word.
-/// The value is a number of one to twenty decimal digits. Only `--summary` and `--history` have no value.
+/// What the words behind the program's name ask for: `check`, or `play`, `make`, `live` or `resp` with its options, which
+/// stand before the word or behind it, in any order and each at most once. An option has its value behind `=` or as the
+/// next word. The value is a number of one to twenty decimal digits. Only `--summary`, `--history` and `--script` have
+/// no value.
 ///
 /// Want of memory may come for any words.
 pub fn read(alloc: Global, words: &[&str]) -> Result<Order, WordsError>
@@ -29,8 +32,21 @@ pub fn read(alloc: Global, words: &[&str]) -> Result<Order, WordsError>
         return Ok(order);
     }
     match read_make(alloc, words) {
-        Err(WordsError::Usage) => read_live(alloc, words),
+        Err(WordsError::Usage) => read_other(alloc, words),
         made => made,
+    }
+}
+
+// The same, of words that are none of `make`.
+fn read_other(alloc: Global, words: &[&str]) -> Result<Order, WordsError>
+    ensures order { IfOk result (λ order. option_or (live_in (texts words.now)) (resp_in (texts words.now)) ≡ Some order) }
+    ensures err { IfErr result (λ error. error ≢ WordsError.NoMemory
+        → option_or (live_in (texts words.now)) (resp_in (texts words.now)) ≡ None) }
+    ensures in_range { IfOk result fits }
+{
+    match read_live(alloc, words) {
+        Err(WordsError::Usage) => read_resp(alloc, words),
+        lived => lived,
     }
 }
 
@@ -82,10 +98,19 @@ fn read_live(alloc: Global, words: &[&str]) -> Result<Order, WordsError>
     live_order(&matches).ok_or(WordsError::Usage)
 }
 
+// The same, of `resp` alone.
+fn read_resp(alloc: Global, words: &[&str]) -> Result<Order, WordsError>
+    ensures order { IfOk result (λ order. resp_in (texts words.now) ≡ Some order) }
+    ensures err { IfErr result (λ error. error ≢ WordsError.NoMemory → resp_in (texts words.now) ≡ None) }
+{
+    let matches = parsed(resp_command(alloc)?, words)?;
+    resp_order(&matches).ok_or(WordsError::Usage)
+}
+
 // What the parser takes, of words that are well formed.
 fn parsed<'a>(command: Command<'a>, words: &'a [&'a str]) -> Result<ArgMatches<'a>, WordsError>
     ensures ok { is_simple_and_free (app_of command.entry) ≡ true
-        → IfOk result (IsTaken (app_of command.entry) (texts words.now)) }
+        → IfOk result (ParserTakes (app_of command.entry) (texts words.now)) }
     ensures err { is_simple_and_free (app_of command.entry) ≡ true
         → IfErr result (λ error. error ≢ WordsError.NoMemory → IsRefused (app_of command.entry) (texts words.now)) }
 {

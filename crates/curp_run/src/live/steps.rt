@@ -1,11 +1,9 @@
 // The steps of a run on threads.
 ghost use Rattle.std.specs.Prelude.{◌≡◌, ◌≤◌, length, map, IfOk, IfSome};
 ghost use Rattle.curp_gather.specs.Journals.{AreOf, IsScriptOf, journals_of};
-ghost use Rattle.curp_live.specs.Live.{live_header};
 ghost use Rattle.curp_run.specs.Live.{Shows, work_of};
-ghost use Rattle.curp_msg.specs.Script.{IsHeader};
 ghost use Rattle.curp_msg.specs.Limits.{step_limit};
-ghost use Rattle.curp_words.specs.Plan.{IsLivePlan};
+ghost use Rattle.curp_words.specs.Plan.{IsLivePlan, live_header};
 
 use curp_base::NoMemory;
 use curp_cmd::Command;
@@ -31,7 +29,7 @@ pub(crate) fn steps_of_run<R: Threads + Wait + Sync, G: Gate + Sync>(
     ensures shows { IfOk result (λ steps. Shows plan.now steps.items) }
     ensures few { IfOk result (λ steps. length steps.items ≤ step_limit) }
 {
-    let header = header_of(plan);
+    let header = plan.header();
     let work = work_of(alloc, plan)?;
     for _ in rt.forever() {
         if let Some(steps) = steps_of_one(rt, alloc, plan, &header, &work, gate)? {
@@ -78,23 +76,6 @@ fn script_of(
         Ok(steps) => Ok(Some(steps)),
         Err(GatherError::NoMemory) => Err(AllocError),
         Err(_) => Ok(None),
-    }
-}
-
-/// The header of a plan: clients are fast.
-pub(crate) fn header_of(plan: &LivePlan) -> Header
-    requires { IsLivePlan plan.now }
-    ensures header { result ≡ live_header plan.now }
-    ensures in_range { IsHeader result }
-{
-    Header {
-        clients: plan.clients,
-        f: plan.f,
-        fast: true,
-        parts: plan.parts,
-        protocol: plan.protocol,
-        sets: plan.sets,
-        ways: plan.ways,
     }
 }
 

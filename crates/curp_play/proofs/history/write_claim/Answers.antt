@@ -1,6 +1,6 @@
 use Rattle.std.proofs.Common.{◌≡◌, ◌∙◌, ◌++◌, List, OnOk, subst, ap, sym}
 use Rattle.curp_base.specs.Words.{Each}
-use Rattle.curp_check.specs.Verdict.{Asked}
+use Rattle.curp_order.specs.Order.{Asked}
 use Rattle.curp_law_print.specs.EventRanges.{AskedInRange, EventInRange}
 use Rattle.curp_model.specs.World.{order}
 use Rattle.curp_order.specs.declared.Event as seen

@@ -1,6 +1,7 @@
 use Rattle.std.proofs.Common.{◌≡◌, ◌++◌, ◌∙◌, OnOk, subst, sym, ap}
 use Rattle.std.proofs.lemmas.Result.{on_ok_weaker}
-use Rattle.curp_gen.specs.Making.{header_of, made_steps, steps_from}
+use Rattle.curp_gen.specs.Making.{made_steps, steps_from}
+use Rattle.curp_words.specs.Plan.{header_of}
 use Rattle.curp_script.specs.Texts.{header_line, lines_text}
 use Rattle.curp_io.specs.Streams.{HoldsPart}
 use Rattle.curp_run.proofs.Ends.{ends_with, of_memory, passed_on}

@@ -1,0 +1,4 @@
+pub mod Going
+pub mod Quieting
+pub mod Leading
+pub mod Behind

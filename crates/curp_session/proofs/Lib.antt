@@ -1,0 +1,4 @@
+pub mod Naming
+pub mod OneThread
+pub mod Standing
+pub mod Texts

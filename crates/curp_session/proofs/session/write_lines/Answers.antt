@@ -1,0 +1,45 @@
+use Rattle.std.proofs.Common.{rules, ◌≡◌, ◌+◌, ◌++◌, drop, subst, List, ℕ}
+use Rattle.curp_io.specs.Streams.{HoldsPart}
+use Rattle.curp_play.proofs.Pieces.{goes_further, is_whole, still_front}
+use Rattle.curp_play.proofs.SoFar.{SoFar}
+use Rattle.curp_script.specs.Texts.{line_text, lines_text, step_line}
+use Rattle.curp_session.proofs.Texts.{next_in_range, next_line, no_line_left}
+use Rattle.curp_session.proofs.session.write_lines.Goals as goal
+
+pub returns-in_err-write_line-clause-front : goal.returns-in_err-write_line-clause-front
+returns-in_err-write_line-clause-front g c = λ tells.
+    let steps = c.args.steps.now in
+    let k = c.loop-step.step-index in
+    let s = c.step-item.result in
+    let text = lines_text steps in
+    let old = g.K.Sink.held c.args.sink.now in
+    let now = g.K.Sink.held c.loop-step.sink in
+    let new = g.K.Sink.held c.write_line.new.sink in
+    let due : SoFar text old now (step_line s ++ lines_text (drop (k + 1) steps)) =
+    subst (λ (d : List ℕ). SoFar text old now d) (next_line steps k s c.loop-step-test.true c.step-item.is) (c.loop-step.invariant.written tells) in
+    still_front text old now new (step_line s) (lines_text (drop (k + 1) steps)) due
+    (subst (λ (l : List ℕ). HoldsPart now new (line_text l)) c.in_ok-print_line.ensures.text (c.write_line.ensures.front (c.loop-step.invariant.sink_tells tells)))
+
+pub loop-step-preserved : goal.loop-step-preserved
+loop-step-preserved g c =
+    let steps = c.args.steps.now in
+    let k = c.loop-step.step-index in
+    let s = c.step-item.result in
+    record {
+      sink_tells = search rules;
+      sink_faults = search rules;
+      written = λ tells.
+          let text = lines_text steps in
+          let old = g.K.Sink.held c.args.sink.now in
+          let now = g.K.Sink.held c.loop-step.sink in
+          let new = g.K.Sink.held c.write_line.new.sink in
+          let due : SoFar text old now (step_line s ++ lines_text (drop (k + 1) steps)) =
+          subst (λ (d : List ℕ). SoFar text old now d) (next_line steps k s c.loop-step-test.true c.step-item.is) (c.loop-step.invariant.written tells) in
+          goes_further text old now new (step_line s) (lines_text (drop (k + 1) steps)) due
+          (subst (λ (l : List ℕ). new ≡ now ++ line_text l) c.in_ok-print_line.ensures.text (c.in_ok-write_line.ensures.wrote (c.loop-step.invariant.sink_tells tells)));
+      in_range = next_in_range steps k s c.loop-step-test.true c.step-item.is c.loop-step.invariant.in_range c.step_is_in_range.ensures;
+    }
+
+pub returns-clause-wrote : goal.returns-clause-wrote
+returns-clause-wrote g c = λ tells.
+    is_whole _ _ _ _ (c.loop-step.invariant.written tells) (no_line_left c.args.steps.now c.loop-step.step-index (search rules))
