@@ -1,3 +1,5 @@
 pub mod Cases
 pub mod Limits
+pub mod Places
+pub mod Reserving
 pub mod Words

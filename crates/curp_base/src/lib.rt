@@ -2,6 +2,9 @@
 //! and lemmas on lists.
 //!
 //! - `Boxed`: a value at a place of its own; contracts see the value.
+//! - `Reserved`: a list in whose room an item more takes no memory; contracts see the items, and how many more have room.
+//!   `ReservedPairs`: pairs in strictly ascending order of their keys in such room, where a key is found by a binary
+//!   search. What they keep and what they drop is exact; of the room they say how much is left at least.
 //! - `Items`, `AscendingPairs`, `AscendingKeys`: `new`, `into_vec`, `as_slice`, `len`, `copy`: exact. The last two are
 //!   in strictly ascending order by their type; `pairs_ascend` and `keys_ascend` are the tests. `TryCopy` is the trait
 //!   of what is copied where there is memory: its clause says that the copy is the same value. `copies_of`, `past`:
@@ -11,10 +14,14 @@
 mod ascending;
 mod boxed;
 mod items;
+mod reserved;
+mod reserved_pairs;
 
 pub use ascending::{AscendingKeys, AscendingPairs, keys_ascend, pairs_ascend};
 pub use boxed::Boxed;
 pub use items::{Items, TryCopy, copies_of, past};
+pub use reserved::Reserved;
+pub use reserved_pairs::ReservedPairs;
 use std::alloc::AllocError;
 
 /// There was no memory left. It is the one failure that no clause predicts.

@@ -7,7 +7,7 @@ use Rattle.curp_cmd.specs.declared.command.RequestId.{RequestId}
 use Rattle.curp_order.specs.declared.Event.{Event}
 use Rattle.curp_check.proofs.Ids.{self_tied, tied_same}
 use Rattle.curp_check.specs.Found.{Finder, FindsInvocations, FindsPlaces, StandsTwice, invoked_by}
-use Rattle.curp_check.specs.Verdict.{Asked}
+use Rattle.curp_order.specs.Order.{Asked}
 
 -- a finder that finds one request more, or elsewhere
 abbrev pub FindsMore : Finder → Finder → RequestId → ℕ → Type 0

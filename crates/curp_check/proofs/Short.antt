@@ -10,12 +10,11 @@ use Rattle.curp_base.proofs.Numbered.{any_at}
 use Rattle.curp_cmd.proofs.Ids.{same_id-self, same_id-true}
 use Rattle.curp_cmd.specs.RequestId.{same_id}
 use Rattle.curp_cmd.specs.declared.command.RequestId.{RequestId}
-use Rattle.curp_order.specs.Order.{IsOrder}
+use Rattle.curp_order.specs.Order.{IsOrder, Asked}
 use Rattle.curp_order.specs.declared.Event.{Event}
 use Rattle.curp_order.specs.declared.Event.TheVariants.{Invoke}
 use Rattle.curp_check.proofs.Stages.{any_from, apart_test}
 use Rattle.curp_check.specs.Stages.{request_of}
-use Rattle.curp_check.specs.Verdict.{Asked}
 
 ids_alike : IsEquivalence same_id
 ids_alike = search (comparing, rules)

@@ -20,8 +20,8 @@ use Rattle.curp_script.specs.declared.error.LineError.TheVariants.{BadField}
 use Rattle.curp_check.proofs.Ids.{self_tied, tied_same}
 use Rattle.curp_check.specs.Claim.{Claimed, completes, invokes, is_begun, may_follow, with_event}
 use Rattle.curp_check.specs.Stages.{IsFollowed, request_of, stage_after, stage_of}
-use Rattle.curp_check.specs.declared.claim.Stage.{Stage}
-use Rattle.curp_check.specs.declared.claim.Stage.TheVariants.{Invoked, Completed}
+use Rattle.curp_check.specs.declared.claim.RequestStage.{RequestStage}
+use Rattle.curp_check.specs.declared.claim.RequestStage.TheVariants.{Invoked, Completed}
 
 -- ---- what a test of all events says
 
@@ -185,7 +185,7 @@ completed_was_invoked events id h completed never =
     cc
 
 -- the stage by two tests
-abbrev stage_by : Bool → Bool → Option Stage
+abbrev stage_by : Bool → Bool → Option RequestStage
 stage_by completed invoked = if completed then Some Completed else if invoked then Some Invoked else None
 
 -- an event that has no next stage may not follow
@@ -205,7 +205,7 @@ may_not events (Complete id a) h none = by (list_any (completes id) events) (lis
     by false false none = refl
 
 -- one that has may
-pub may : (events : List Event) (e : Event) (s : Stage) → stage_after e (stage_of events (request_of e)) ≡ Some s → may_follow events e ≡ true
+pub may : (events : List Event) (e : Event) (s : RequestStage) → stage_after e (stage_of events (request_of e)) ≡ Some s → may_follow events e ≡ true
 may events (Invoke id c) s some = by (list_any (completes id) events) (list_any (invokes id) events) some
   where
     by : (d i : Bool) → stage_after (Invoke id c) (stage_by d i) ≡ Some s → not i ≡ true
@@ -220,7 +220,7 @@ may events (Complete id a) s some = by (list_any (completes id) events) (list_an
     by false false some = absurd cc
 
 -- the stage of its request behind it
-own_stage : (events : List Event) (e : Event) (s : Stage) → stage_after e (stage_of events (request_of e)) ≡ Some s → stage_of (events ++ e ∷ []) (request_of e) ≡ Some s
+own_stage : (events : List Event) (e : Event) (s : RequestStage) → stage_after e (stage_of events (request_of e)) ≡ Some s → stage_of (events ++ e ∷ []) (request_of e) ≡ Some s
 own_stage events (Invoke id c) s some =
     rw (list_any-append (completes id) events (Invoke id c ∷ []), list_any-append (invokes id) events (Invoke id c ∷ []), same_id-self id)
     (by (list_any (completes id) events) (list_any (invokes id) events) some)
@@ -265,7 +265,7 @@ other_stage events (Complete other a) id apart =
     by false false = refl
 
 -- one event more is followed
-pub followed : (old new : RequestId → Option Stage) (events : List Event) (e : Event) (s : Stage) → IsFollowed old events
+pub followed : (old new : RequestId → Option RequestStage) (events : List Event) (e : Event) (s : RequestStage) → IsFollowed old events
     → stage_after e (old (request_of e)) ≡ Some s
     → ((id : RequestId) → new id ≡ cond (is_eq (id_cmp (request_of e) id)) (Some s) (old id)) → IsFollowed new (events ++ e ∷ [])
 followed old new events e s f some updates = record {
@@ -284,7 +284,7 @@ followed old new events e s f some updates = record {
         apart_ids same = let wrong : true ≡ false = sym (self_tied (request_of e)) ∙ ap (λ (r : RequestId). is_eq (id_cmp (request_of e) r)) same ∙ apart in cc
 
 -- nothing happened
-pub nothing_followed : (stages : RequestId → Option Stage) → ((id : RequestId) → stages id ≡ None) → IsFollowed stages []
+pub nothing_followed : (stages : RequestId → Option RequestStage) → ((id : RequestId) → stages id ≡ None) → IsFollowed stages []
 nothing_followed stages none = record {
   is_history = record {
     invoked_once = λ i j id c d at_i at_j. absurd cc;
@@ -312,7 +312,7 @@ bad_id_exactly claim e h empty = by (may_follow claim.events e) refl
     by false is = (λ err. no_history claim.events e is, λ none. refused false is)
 
 -- an event is taken whole, or not at all
-pub followed_or_not : {E : Type 0} (r : Result (Unit {0}) E) (old new : BTreeMap RequestId Stage) (events later : List Event) (e : Event) (s : Stage)
+pub followed_or_not : {E : Type 0} (r : Result (Unit {0}) E) (old new : BTreeMap RequestId RequestStage) (events later : List Event) (e : Event) (s : RequestStage)
     → IsFollowed (get id_cmp old) events → stage_after e (stage_of events (request_of e)) ≡ Some s → OnOk r (later ≡ events ++ e ∷ [])
     → OnOk r (Updates id_cmp old new (request_of e) (Some s)) → OnErr r (later ≡ events) → OnErr r (new.entries ≡ old.entries)
     → IsFollowed (get id_cmp new) later

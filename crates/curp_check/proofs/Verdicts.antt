@@ -4,11 +4,11 @@ use Rattle.curp_base.specs.Words.{At, Each}
 use Rattle.curp_base.proofs.Lists.{Each-at, Each-from_at, at_within, at_same}
 use Rattle.curp_cmd.specs.declared.command.Answer.{Answer}
 use Rattle.curp_cmd.specs.declared.command.RequestId.{RequestId}
-use Rattle.curp_order.specs.Order.{IsHistory, IsOrder, answers}
+use Rattle.curp_order.specs.Order.{IsHistory, IsOrder, answers, Asked}
 use Rattle.curp_order.specs.declared.Event.{Event}
 use Rattle.curp_order.specs.declared.Event.TheVariants.{Invoke, Complete}
-use Rattle.curp_check.specs.Found.{AreInTime, Finder, FindsInvocations, FindsPlaces, IsAnswered, IsInvoked, IsPlaced, StandsTwice, invoked_by}
-use Rattle.curp_check.specs.Verdict.{AreInvoked, Asked, EachIsAnswered, EachIsInTime, EachStands, Holds, IsFirstBroken, IsVerdict, number_of}
+use Rattle.curp_check.specs.Found.{AreInTime, Finder, FindsInvocations, FindsPlaces, HasAnswerOfPlace, IsInvoked, IsFound, StandsTwice, invoked_by}
+use Rattle.curp_check.specs.Verdict.{AreInvoked, EachIsAnswered, EachIsInTime, EachStands, Holds, IsFirstBroken, IsVerdict, number_of}
 use Rattle.curp_check.specs.declared.verdict.Clause.{Clause}
 use Rattle.curp_check.specs.declared.verdict.Clause.TheVariants.{Invoked, Stands, Answered, InTime}
 use Rattle.curp_check.specs.declared.verdict.Verdict.{Verdict}
@@ -42,28 +42,28 @@ module _ (events : List Event) (order : List Asked) where
     found_at : (k : ℕ) (x : Asked) (id : RequestId) → At order k x → x.0 ≡ id → find id ≡ Some k
     found_at k x id at is = ap find (sym is) ∙ f.each k x (at_within order k x at) at
 
-    pub stand_from_each : Each (IsPlaced find) events → EachStands events order
+    pub stand_from_each : Each (IsFound find) events → EachStands events order
     stand_from_each each i id a at =
-        let placed = Each-at (IsPlaced find) events each i (Complete id a) at in
+        let placed = Each-at (IsFound find) events each i (Complete id a) at in
         let there = f.there id placed.0 placed.1 in
         (placed.0, there.1.0, there.1.1, there.1.2)
 
-    pub each_from_stand : EachStands events order → Each (IsPlaced find) events
-    each_from_stand holds = Each-from_at (IsPlaced find) events one
+    pub each_from_stand : EachStands events order → Each (IsFound find) events
+    each_from_stand holds = Each-from_at (IsFound find) events one
       where
-        one : (i : ℕ) (e : Event) → At events i e → IsPlaced find e
+        one : (i : ℕ) (e : Event) → At events i e → IsFound find e
         one i (Invoke id c) at = tt
         one i (Complete id a) at = let s = holds i id a at in (s.0, found_at s.0 s.1 id s.2 s.3)
 
-    pub answered_from_each : Each (IsAnswered find (answers order)) events → EachIsAnswered events order
+    pub answered_from_each : Each (HasAnswerOfPlace find (answers order)) events → EachIsAnswered events order
     answered_from_each each i id a at k x here is =
-        let said = Each-at (IsAnswered find (answers order)) events each i (Complete id a) at in
+        let said = Each-at (HasAnswerOfPlace find (answers order)) events each i (Complete id a) at in
         said k (found_at k x id here is)
 
-    pub each_from_answered : EachIsAnswered events order → Each (IsAnswered find (answers order)) events
-    each_from_answered holds = Each-from_at (IsAnswered find (answers order)) events one
+    pub each_from_answered : EachIsAnswered events order → Each (HasAnswerOfPlace find (answers order)) events
+    each_from_answered holds = Each-from_at (HasAnswerOfPlace find (answers order)) events one
       where
-        one : (i : ℕ) (e : Event) → At events i e → IsAnswered find (answers order) e
+        one : (i : ℕ) (e : Event) → At events i e → HasAnswerOfPlace find (answers order) e
         one i (Invoke id c) at = tt
         one i (Complete id a) at = λ k found.
             let there = f.there id k found in

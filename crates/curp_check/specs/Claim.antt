@@ -4,7 +4,7 @@ use Rattle.std.specs.List.{list_any}
 use Rattle.curp_io.specs.Text.{lines_of}
 use Rattle.curp_cmd.specs.RequestId.{same_id}
 use Rattle.curp_cmd.specs.declared.command.RequestId.{RequestId}
-use Rattle.curp_order.specs.Order.{IsOrder}
+use Rattle.curp_order.specs.Order.{IsOrder, Asked}
 use Rattle.curp_order.specs.declared.Event as order
 use Rattle.curp_order.specs.declared.Event.TheVariants.{Invoke, Complete}
 use Rattle.curp_script.specs.declared.error.FieldName.TheVariants as field
@@ -15,7 +15,6 @@ use Rattle.curp_script.specs.declared.event.EventLine.TheVariants.{Event, Place}
 use Rattle.curp_script.specs.Events.{event_in}
 use Rattle.curp_base.specs.Limits.{line_limit}
 use Rattle.curp_script.specs.Script.{Ending, Whole, Bad, TooLong, TooMany}
-use Rattle.curp_check.specs.Verdict.{Asked}
 
 -- how many lines a claim may have
 abbrev pub claim_limit : ℕ

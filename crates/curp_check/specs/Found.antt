@@ -6,7 +6,7 @@ use Rattle.curp_cmd.specs.declared.command.Command.{Command}
 use Rattle.curp_cmd.specs.declared.command.RequestId.{RequestId}
 use Rattle.curp_order.specs.declared.Event.{Event}
 use Rattle.curp_order.specs.declared.Event.TheVariants.{Invoke, Complete}
-use Rattle.curp_check.specs.Verdict.{Asked}
+use Rattle.curp_order.specs.Order.{Asked}
 
 -- where a request is found, if it is
 abbrev pub Finder : Type 0
@@ -47,14 +47,14 @@ abbrev pub IsInvoked : List Event → Asked → Type 0
 IsInvoked events x = (i : ℕ) × At events i (Invoke x.0 x.1)
 
 -- a request that completes is found
-abbrev pub IsPlaced : Finder → Event → Type 0
-IsPlaced find (Invoke id command) = ⊤
-IsPlaced find (Complete id answer) = (k : ℕ) × (find id ≡ Some k)
+abbrev pub IsFound : Finder → Event → Type 0
+IsFound find (Invoke id command) = ⊤
+IsFound find (Complete id answer) = (k : ℕ) × (find id ≡ Some k)
 
 -- a request that completes and is found has the answer of its place
-abbrev pub IsAnswered : Finder → List Answer → Event → Type 0
-IsAnswered find answers (Invoke id command) = ⊤
-IsAnswered find answers (Complete id answer) = (k : ℕ) → find id ≡ Some k → At answers k answer
+abbrev pub HasAnswerOfPlace : Finder → List Answer → Event → Type 0
+HasAnswerOfPlace find answers (Invoke id command) = ⊤
+HasAnswerOfPlace find answers (Complete id answer) = (k : ℕ) → find id ≡ Some k → At answers k answer
 
 -- among the first n events: what completed before another was invoked is found before it
 abbrev pub AreInTime : ℕ → Finder → List Event → Type 0

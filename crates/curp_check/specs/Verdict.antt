@@ -4,17 +4,13 @@ use Rattle.curp_base.specs.Words.{At}
 use Rattle.curp_cmd.specs.declared.command.Answer.{Answer}
 use Rattle.curp_cmd.specs.declared.command.Command.{Command}
 use Rattle.curp_cmd.specs.declared.command.RequestId.{RequestId}
-use Rattle.curp_order.specs.Order.{IsOrder, answers}
+use Rattle.curp_order.specs.Order.{Asked, IsOrder, answers}
 use Rattle.curp_order.specs.declared.Event.{Event}
 use Rattle.curp_order.specs.declared.Event.TheVariants.{Invoke, Complete}
 use Rattle.curp_check.specs.declared.verdict.Clause.{Clause}
 use Rattle.curp_check.specs.declared.verdict.Clause.TheVariants.{Invoked, Stands, Answered, InTime}
 use Rattle.curp_check.specs.declared.verdict.Verdict.{Verdict}
 use Rattle.curp_check.specs.declared.verdict.Verdict.TheVariants as verdict
-
--- a request with its command
-abbrev pub Asked : Type 0
-Asked = RequestId × Command
 
 -- the number of a clause
 abbrev pub number_of : Clause → ℕ

@@ -19,7 +19,7 @@ pub const CLAIM_LIMIT: u64 = 400_000;
 
 /// How far a request is.
 #[derive(Clone, Copy)]
-pub(crate) enum Stage {
+pub(crate) enum RequestStage {
     Invoked,
     Completed,
 }
@@ -30,7 +30,7 @@ pub struct Claim {
     history: History,
     order: Vec<(RequestId, Command)>,
     // How far each request of the history is.
-    stages: BTreeMap<RequestId, Stage>,
+    stages: BTreeMap<RequestId, RequestStage>,
 }
 
 impl Model for Claim {
@@ -123,9 +123,9 @@ impl Claim {
 
 fn push_event(
     history: &mut History,
-    stages: &mut BTreeMap<RequestId, Stage>,
+    stages: &mut BTreeMap<RequestId, RequestStage>,
     event: &Event,
-    stage: Stage,
+    stage: RequestStage,
 ) -> Result<(), NoMemory>
     ensures history { OnOk result (history.new.events ≡ history.old.events ++ event.now ∷ []) }
     ensures stages { OnOk result (Updates id_cmp stages.old stages.new (request_of event.now) (Some stage)) }
@@ -150,12 +150,12 @@ fn request_of(event: &Event) -> RequestId
 }
 
 // How far a request is by an event, where it was so far before, if the event may come then.
-fn stage_after(event: &Event, stage: Option<Stage>) -> Option<Stage>
+fn stage_after(event: &Event, stage: Option<RequestStage>) -> Option<RequestStage>
     ensures { result ≡ stage_after event.now stage }
 {
     match (event, stage) {
-        (Event::Invoke { .. }, None) => Some(Stage::Invoked),
-        (Event::Complete { .. }, Some(Stage::Invoked)) => Some(Stage::Completed),
+        (Event::Invoke { .. }, None) => Some(RequestStage::Invoked),
+        (Event::Complete { .. }, Some(RequestStage::Invoked)) => Some(RequestStage::Completed),
         _ => None,
     }
 }

@@ -4,7 +4,7 @@ ghost use Rattle.curp_base.specs.Words.{At, Each};
 ghost use Rattle.curp_cmd.specs.RequestId.{id_cmp};
 ghost use Rattle.curp_order.specs.Order.{IsHistory, IsOrder, answers};
 ghost use Rattle.curp_order.specs.declared.Event.TheVariants as seen;
-ghost use Rattle.curp_check.specs.Found.{FindsInvocations, FindsPlaces, IsAnswered, IsInvoked, IsPlaced};
+ghost use Rattle.curp_check.specs.Found.{FindsInvocations, FindsPlaces, HasAnswerOfPlace, IsInvoked, IsFound};
 ghost use Rattle.curp_check.specs.Verdict.{AreInvoked, IsFirstBroken, IsVerdict};
 
 use crate::places::{Places, invocations_in, places_in};
@@ -132,7 +132,7 @@ fn invokes(event: &Event, id: &RequestId, command: &Command) -> bool
 
 /// Whether each completed request has a place.
 fn are_placed(history: &[Event], places: &Places) -> bool
-    ensures { IsTrue result ↔ Each (IsPlaced (get id_cmp places.now)) history.now }
+    ensures { IsTrue result ↔ Each (IsFound (get id_cmp places.now)) history.now }
 {
     for event in history {
         if !is_placed(places, event) {
@@ -143,7 +143,7 @@ fn are_placed(history: &[Event], places: &Places) -> bool
 }
 
 fn is_placed(places: &Places, event: &Event) -> bool
-    ensures { IsTrue result ↔ IsPlaced (get id_cmp places.now) event.now }
+    ensures { IsTrue result ↔ IsFound (get id_cmp places.now) event.now }
 {
     match event {
         Event::Invoke { .. } => true,
@@ -153,7 +153,7 @@ fn is_placed(places: &Places, event: &Event) -> bool
 
 /// Whether each completed request that has a place has the answer of that place.
 fn are_answered(history: &[Event], places: &Places, answers: &[Answer]) -> bool
-    ensures { IsTrue result ↔ Each (IsAnswered (get id_cmp places.now) answers.now) history.now }
+    ensures { IsTrue result ↔ Each (HasAnswerOfPlace (get id_cmp places.now) answers.now) history.now }
 {
     for event in history {
         if !is_answered(places, answers, event) {
@@ -164,7 +164,7 @@ fn are_answered(history: &[Event], places: &Places, answers: &[Answer]) -> bool
 }
 
 fn is_answered(places: &Places, answers: &[Answer], event: &Event) -> bool
-    ensures { IsTrue result ↔ IsAnswered (get id_cmp places.now) answers.now event.now }
+    ensures { IsTrue result ↔ HasAnswerOfPlace (get id_cmp places.now) answers.now event.now }
 {
     match event {
         Event::Invoke { .. } => true,

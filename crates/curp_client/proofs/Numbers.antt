@@ -9,10 +9,10 @@ use Rattle.curp_cmd.proofs.Ids.{same_id-true, same_id-self}
 use Rattle.curp_cmd.specs.RequestId.{same_id}
 use Rattle.curp_cmd.specs.declared.command.Request.{Request}
 use Rattle.curp_cmd.specs.declared.command.RequestId.{RequestId}
-use Rattle.curp_model.specs.Client.{Pending, replaced, with_id, without_id}
+use Rattle.curp_model.specs.Client.{Pending, replaced, with_id, without_id, NumbersRise}
 use Rattle.curp_client.proofs.Found.{first_at, first_nowhere}
 use Rattle.curp_client.specs.Evidence.{kept}
-use Rattle.curp_client.specs.Requests.{Changes, NumbersRise}
+use Rattle.curp_client.specs.Requests.{Changes}
 use Rattle.curp_client.specs.declared.evidence.Evidence.{Evidence}
 use Rattle.curp_client.specs.declared.evidence.Evidence.TheVariants.{Reply, Accept, Quick, Live}
 

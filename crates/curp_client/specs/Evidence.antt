@@ -11,10 +11,10 @@ use Rattle.curp_model.specs.Client.{Accept, Attempt, ClientState, Early, Glimpse
 use Rattle.curp_model.specs.Client.{with_accept, with_early, with_evidence, with_glimpse, with_id, with_sight}
 use Rattle.curp_client.specs.declared.evidence.Evidence.{Evidence}
 use Rattle.curp_client.specs.declared.evidence.Evidence.TheVariants as evidence
-use Rattle.curp_client.specs.declared.evidence.Master.{Master}
+use Rattle.curp_client.specs.declared.evidence.KnownMaster.{KnownMaster}
 
 -- an attempt went to that master, and all its witnesses have accepted at its epoch
-abbrev pub is_backed : Master → List Accept → Attempt → Bool
+abbrev pub is_backed : KnownMaster → List Accept → Attempt → Bool
 is_backed m accepts a =
     same_node m.node a.master && (m.epoch == a.epoch) && (m.version == a.version) && list_all (has_accepted accepts a.epoch) a.witnesses
 

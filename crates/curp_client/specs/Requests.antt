@@ -1,6 +1,6 @@
 -- Requests that are pending: their numbers, and what is sent for them.
 use Rattle.std.specs.Prelude.{◌≡◌, ℕ, ◌<◌, if◌then◌else◌, false, min, List, [], ◌∷◌, fold, Option, Some, None, MatchOption, ⊤}
-use Rattle.curp_base.specs.Words.{Each, last_of}
+use Rattle.curp_base.specs.Words.{last_of}
 use Rattle.curp_cmd.specs.Node.{client_node}
 use Rattle.curp_cmd.specs.Store.{is_update}
 use Rattle.curp_cmd.specs.declared.command.Request.{Request}
@@ -12,11 +12,6 @@ use Rattle.curp_msg.specs.declared.body.Body.TheVariants as body
 use Rattle.curp_msg.specs.declared.config.PartConfig.{PartConfig}
 use Rattle.curp_msg.specs.declared.message.Message.{Message}
 use Rattle.curp_model.specs.Client.{Attempt, ClientState, Pending, asks, asks_value, attempt_at, replaced, with_id}
-
--- the numbers of pending requests strictly rise
-abbrev pub NumbersRise : List Pending → Type 0
-NumbersRise [] = ⊤
-NumbersRise (p ∷ rest) = Each (λ (q : Pending). p.request.id.seq < q.request.id.seq) rest × NumbersRise rest
 
 -- the least number of requests that are pending
 abbrev pub least_of : List Pending → Option ℕ

@@ -5,7 +5,7 @@ ghost use Rattle.curp_client.specs.Evidence.{completes_if, concluded, kept};
 ghost use Rattle.curp_client.specs.Requests.{asks_once, least_of};
 ghost use Rattle.curp_client.specs.Refusals.{TellsInvoke, TellsRetry, invoke_number};
 
-use crate::evidence::{Accept, Early, Evidence, Glimpse, Master};
+use crate::evidence::{Accept, Early, Evidence, Glimpse, KnownMaster};
 use crate::owner::owner_of;
 use crate::pending::{Attempt, Pending};
 use crate::requests::Requests;
@@ -243,7 +243,7 @@ impl Client {
             }));
         }
         let early = Early {
-            master: Master {
+            master: KnownMaster {
                 node: from,
                 epoch: reply.epoch,
                 version: reply.version,
@@ -304,7 +304,7 @@ impl Client {
             return Ok(Done::quiet(self.alloc));
         }
         let glimpse = Glimpse {
-            master: Master {
+            master: KnownMaster {
                 node: from,
                 epoch: quick.epoch,
                 version: quick.version,

@@ -10,7 +10,7 @@ use std::marker::Model;
 
 /// A master as it is known, with the epoch and the version of its lists.
 #[derive(Clone, Copy, PartialEq, Eq)]
-pub(crate) struct Master {
+pub(crate) struct KnownMaster {
     pub(crate) node: NodeId,
     pub(crate) epoch: u32,
     pub(crate) version: u32,
@@ -19,7 +19,7 @@ pub(crate) struct Master {
 /// An unsynced reply that was delivered.
 #[derive(Drop)]
 pub(crate) struct Early {
-    pub(crate) master: Master,
+    pub(crate) master: KnownMaster,
     pub(crate) answer: Answer,
 }
 
@@ -54,7 +54,7 @@ impl Early {
 /// A Quick that was delivered.
 #[derive(Drop)]
 pub(crate) struct Glimpse {
-    pub(crate) master: Master,
+    pub(crate) master: KnownMaster,
     pub(crate) capture: u64,
     pub(crate) answer: Answer,
 }

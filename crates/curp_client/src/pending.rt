@@ -8,7 +8,7 @@ ghost use Rattle.curp_client.specs.Requests.{ask_at, first_sent};
 ghost use Rattle.curp_client.specs.Evidence.{completion, is_backed, kept};
 
 use crate::evidence::{
-    Accept, Early, Evidence, Glimpse, Master, add_accept, add_early, add_glimpse, has_accepted,
+    Accept, Early, Evidence, Glimpse, KnownMaster, add_accept, add_early, add_glimpse, has_accepted,
 };
 use curp_base::{Boxed, Items, NoMemory};
 use curp_cmd::{NodeId, Request};
@@ -19,7 +19,7 @@ use std::marker::Model;
 /// One sending of a request: to whom, and what was known of it.
 #[derive(Drop)]
 pub(crate) struct Attempt {
-    master: Master,
+    master: KnownMaster,
     witnesses: Items<NodeId>,
 }
 
@@ -41,7 +41,7 @@ impl Attempt {
     pub(crate) fn at(alloc: Global, part: &PartConfig) -> Result<Attempt, NoMemory>
         ensures { IfOk result (λ attempt. attempt ≡ model.attempt_at part.now) }
     {
-        let master = Master {
+        let master = KnownMaster {
             node: part.master,
             epoch: part.epoch,
             version: part.version,
@@ -81,7 +81,7 @@ impl Attempt {
     }
 
     // Whether it went to that master, and all its witnesses have accepted.
-    fn is_backed(&self, master: &Master, accepts: &[Accept]) -> bool
+    fn is_backed(&self, master: &KnownMaster, accepts: &[Accept]) -> bool
         ensures { result ≡ is_backed master.now accepts.now self.now }
     {
         *master == self.master && self.all_accepted(accepts)
@@ -240,7 +240,7 @@ impl Pending {
         self.some_is_backed(&glimpse.master, &self.lives)
     }
 
-    fn some_is_backed(&self, master: &Master, accepts: &[Accept]) -> bool
+    fn some_is_backed(&self, master: &KnownMaster, accepts: &[Accept]) -> bool
         ensures { result ≡ list_any (is_backed master.now accepts.now) self.now.attempts }
     {
         self.attempts

@@ -25,7 +25,7 @@ pub(crate) struct Requests {
 impl Model for Requests {
     ghost use Rattle.std.specs.Prelude.{List};
     ghost use Rattle.curp_model.specs.Client as model;
-    ghost use Rattle.curp_client.specs.Requests.{NumbersRise};
+    ghost use Rattle.curp_model.specs.Client.{NumbersRise};
 
     ghost Value = { List model.Pending };
 

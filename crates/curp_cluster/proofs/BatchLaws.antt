@@ -11,7 +11,7 @@ use Rattle.curp_base.proofs.Lists.{Each-append}
 use Rattle.curp_msg.specs.declared.message.Message.{Message}
 use Rattle.curp_msg.specs.Weight.{weight_of}
 use Rattle.curp_model.specs.World.{sent_at}
-use Rattle.curp_cluster.specs.Batches.{firsts_from, SentSome, IsIndexOf, weight_of_all, Rise, StandsAt, IsGapAt, IsBatchOf}
+use Rattle.curp_cluster.specs.Batches.{firsts_from, SentSome, IsIndexOf, weight_of_all, Rise, NumberStandsAt, IsGapAt, IsBatchOf}
 use Rattle.curp_base.proofs.Numbered.{all_of-push}
 
 -- ---- the search
@@ -124,11 +124,11 @@ numbered_below (xs ∷ rest) (suc k) gap = absurd (omega (arith, gap.greater_aft
 
 -- ---- the batch of a first number
 
-pub sent_at-stands : (n : ℕ) (lists : List (List Message)) (first at : ℕ) → Each SentSome lists → StandsAt (firsts_from n lists) first at → get_or lists at [] ≡ sent_at n lists first
+pub sent_at-stands : (n : ℕ) (lists : List (List Message)) (first at : ℕ) → Each SentSome lists → NumberStandsAt (firsts_from n lists) first at → get_or lists at [] ≡ sent_at n lists first
 sent_at-stands n [] first at some stands = absurd (omega (arith, stands.in_range))
 sent_at-stands n (xs ∷ rest) first zero some stands = grind (arith, nat_tests, stands.is)
 sent_at-stands n (xs ∷ rest) first (suc at) some stands =
-    let behind : StandsAt (firsts_from (n + length xs) rest) first at = record { in_range = omega (arith, stands.in_range); is = stands.is } in
+    let behind : NumberStandsAt (firsts_from (n + length xs) rest) first at = record { in_range = omega (arith, stands.in_range); is = stands.is } in
     let low : n + length xs ≤ first = omega (arith, firsts_from_low (n + length xs) rest at behind.in_range, stands.is) in
     let later : n ≢ first = omega (arith, some.0) in
     grind (arith, nat_tests, sent_at-stands (n + length xs) rest first at some.1 behind)

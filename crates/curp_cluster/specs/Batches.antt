@@ -35,7 +35,7 @@ abbrev pub Rise : List ℕ → Type 0
 Rise ns = (i j : ℕ) → i < j → j < length ns → slice_index_or ns i 0 < slice_index_or ns j 0
 
 -- the number stands at the place
-pub record StandsAt (ns : List ℕ) (n at : ℕ) : Type 0 where
+pub record NumberStandsAt (ns : List ℕ) (n at : ℕ) : Type 0 where
   pub in_range : at < length ns
   pub is : slice_index_or ns at 0 ≡ n
 

@@ -7,7 +7,7 @@ use Rattle.curp_cmd.specs.declared.node.NodeKind.{NodeKind}
 use Rattle.curp_cmd.specs.declared.node.NodeKind.TheVariants as kind
 
 -- the numbers of nodes of each kind
-pub record Numbers : Type 0 where
+pub record StoppedNumbers : Type 0 where
   pub managers : List ℕ
   pub clients : List ℕ
   pub masters : List ℕ
@@ -15,7 +15,7 @@ pub record Numbers : Type 0 where
   pub witnesses : List ℕ
 
 -- those of one kind
-abbrev pub numbers_of : Numbers → NodeKind → List ℕ
+abbrev pub numbers_of : StoppedNumbers → NodeKind → List ℕ
 numbers_of n kind.Manager = n.managers
 numbers_of n kind.Client = n.clients
 numbers_of n kind.Master = n.masters
@@ -23,5 +23,5 @@ numbers_of n kind.Backup = n.backups
 numbers_of n kind.Witness = n.witnesses
 
 -- a node is among these exactly where its number is one of its kind
-abbrev pub AreNumbersOf : List NodeId → Numbers → Type 0
+abbrev pub AreNumbersOf : List NodeId → StoppedNumbers → Type 0
 AreNumbersOf nodes n = (node : NodeId) → list_any (same_node node) nodes ≡ list_any (nat_eq node.number) (numbers_of n node.kind)

@@ -16,7 +16,7 @@ use crate::stopped::Stopped;
 use curp_base::NoMemory;
 use curp_cmd::{Answer, Command, NodeId, RequestId};
 use curp_line::Line;
-use curp_msg::{Done, Header, Local, Message, Outcome, Step, StepResult, WEIGHT_LIMIT};
+use curp_msg::{Config, Done, Header, Local, Message, Outcome, Step, StepResult, WEIGHT_LIMIT};
 use curp_nodes::ClientNode;
 use curp_order::History;
 use std::alloc::Global;
@@ -71,6 +71,13 @@ impl Cluster {
         ensures { option_map (λ client. client.now.state) result ≡ numbered self.now.clients number }
     {
         self.nodes.client(number)
+    }
+
+    /// The configuration that the manager has adopted.
+    pub fn config(&self) -> &Config
+        ensures { result.now ≡ self.now.manager.config }
+    {
+        self.nodes.manager().config()
     }
 
     /// How many masters were made so far, the stopped and the fresh ones too.

@@ -2,7 +2,8 @@
 //! knows no law.
 //!
 //! - `Cluster::new`: exact, of a header whose numbers are in their ranges. `step`, clauses `state` and `outcome`: exact, of
-//!   any step. Clause `err`: for want of memory nothing has changed. `message`, `sent`, `weight`, `history`, `order`: exact.
+//!   any step. Clause `err`: for want of memory nothing has changed. `config`, `message`, `sent`, `weight`,
+//!   `history`, `order`: exact.
 #![tactic(auto)]
 
 mod cluster;

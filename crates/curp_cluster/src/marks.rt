@@ -15,19 +15,16 @@ use crate::given::Given;
 use crate::nodes::Nodes;
 use curp_base::{NoMemory, past};
 use curp_cmd::{Entry, NodeId, NodeKind, Request};
-use curp_line::Line;
+use curp_line::{Line, Tenure};
 use curp_master::{Captured, Master};
 use curp_msg::{Body, Completed, Config, GcAnswer, Message};
 use curp_nodes::MasterNode;
 use std::alloc::Global;
 
-/// What a recovery has replayed that is adopted: its master, its partition and epoch, the length of the log that it was
-/// given, and the requests behind that.
+/// What a recovery has replayed that is adopted: the length of the log that it was given, and the requests behind that.
 #[derive(Drop)]
 pub(crate) struct Adoption {
-    master: NodeId,
-    part: u32,
-    epoch: u32,
+    tenure: Tenure,
     cut: u64,
     replayed: Vec<Request>,
 }
@@ -109,10 +106,13 @@ fn due_of_adoption(alloc: Global, nodes: &Nodes, message: &Message) -> Result<Du
     let (Some(log), Some(cut)) = (recovery.log(), recovery.cut()) else {
         return Ok(Due::Nothing);
     };
-    Ok(Due::Adoption(Adoption {
+    let tenure = Tenure {
         master,
         part: order.part,
         epoch: order.epoch,
+    };
+    Ok(Due::Adoption(Adoption {
+        tenure,
         cut,
         replayed: op_requests(alloc, past(log.entries(), cut))?,
     }))
@@ -165,7 +165,7 @@ impl Due {
                 }
             }
             Due::Adoption(a) => {
-                marks.adopted(a.master, a.part, a.epoch, a.cut, &a.replayed);
+                marks.adopted(a.tenure, a.cut, &a.replayed);
             }
         }
     }
@@ -181,8 +181,8 @@ impl Former {
             self.add_behind(marks, node, master);
         }
         if let Some(read) = self.answered(master) {
-            let (part, epoch) = (master.part(), master.epoch());
-            marks.quick(node, part, epoch, master.captured(), read.id, read.command);
+            let tenure = tenure_of(node, master);
+            marks.quick(tenure, master.captured(), read.id, read.command);
         }
     }
 
@@ -206,9 +206,8 @@ impl Former {
         let log = master.log();
         // For their clauses alone.
         let (_length, _captured) = (log.len(), master.captured());
-        let (part, epoch) = (master.part(), master.epoch());
         let pushed = past(log.entries(), self.length);
-        add_ops(marks, node, part, epoch, self.length, pushed);
+        add_ops(marks, tenure_of(node, master), self.length, pushed);
         if is_captured_behind(master.last_capture(), self.captured) {
             add_capture(marks, node, master);
         }
@@ -282,6 +281,21 @@ fn is_captured_behind(last: Option<&Captured>, captured: u64) -> bool
     }
 }
 
+// The time of the master over its partition.
+fn tenure_of(node: NodeId, master: &Master) -> Tenure
+    ensures { result ≡ record {
+      master = node;
+      part = master.now.state.part;
+      epoch = master.now.state.epoch;
+    } }
+{
+    Tenure {
+        master: node,
+        part: master.part(),
+        epoch: master.epoch(),
+    }
+}
+
 // The read that the master captured last.
 fn add_capture(marks: &mut Line, node: NodeId, master: &Master)
     requires room { 1 ≤ marks.old.spare }
@@ -289,24 +303,25 @@ fn add_capture(marks: &mut Line, node: NodeId, master: &Master)
         → marks.new.marks ≡ marks.old.marks
         ++ capture_mark node master.now.state.part master.now.state.epoch capture ∷ [] }
 {
-    let (part, epoch) = (master.part(), master.epoch());
+    let tenure = tenure_of(node, master);
     if let Some(last) = master.last_capture() {
         let (number, length) = (last.number(), last.log_length());
-        marks.looked(node, part, epoch, number, length, last.id(), last.command());
+        marks.looked(tenure, number, length, last.id(), last.command());
     }
 }
 
 // The marks of the ops among entries, which stand in a log from that index on.
-fn add_ops(marks: &mut Line, node: NodeId, part: u32, epoch: u32, index: u64, entries: &[Entry])
+fn add_ops(marks: &mut Line, tenure: Tenure, index: u64, entries: &[Entry])
     requires room { length entries.now ≤ marks.old.spare }
     requires fits { index + length entries.now < 2 ^ 64 }
-    ensures marks { marks.new.marks ≡ marks.old.marks ++ op_marks node part epoch index entries.now }
+    ensures marks { marks.new.marks ≡ marks.old.marks
+        ++ op_marks tenure.master tenure.part tenure.epoch index entries.now }
     ensures spare { marks.old.spare ≤ marks.new.spare + length entries.now }
 {
     for (at, entry) in entries.iter().enumerate() {
         if let Entry::Op { request, .. } = entry {
             let index = index + at as u64;
-            marks.executed(node, part, epoch, index, request.id, request.command);
+            marks.executed(tenure, index, request.id, request.command);
         }
     }
 }

@@ -2,7 +2,7 @@ ghost use Rattle.std.specs.Prelude.{◌≡◌, ◌+◌, ◌≤◌, ◌<◌, ◌^
 ghost use Rattle.std.specs.Option.{option_copied};
 ghost use Rattle.curp_base.specs.Words.{numbered, all_of};
 ghost use Rattle.curp_model.specs.World.{sent_at, with_batch};
-ghost use Rattle.curp_cluster.specs.Batches.{Rise, StandsAt, IsGapAt, IsBatchOf, weight_of_all};
+ghost use Rattle.curp_cluster.specs.Batches.{Rise, NumberStandsAt, IsGapAt, IsBatchOf, weight_of_all};
 
 use curp_base::{Items, NoMemory};
 use curp_msg::{Message, weight};
@@ -149,7 +149,7 @@ fn batch_of(firsts: &[u64], number: u64) -> Option<usize>
 // Where a number stands among rising ones, or would stand.
 fn search(numbers: &[u64], number: u64) -> Result<usize, usize>
     requires { Rise numbers.now }
-    ensures found { IfOk result (StandsAt numbers.now number) }
+    ensures found { IfOk result (NumberStandsAt numbers.now number) }
     ensures absent { IfErr result (IsGapAt numbers.now number) }
 {
     numbers.binary_search(&number)

@@ -1,92 +1,51 @@
 -- The ids in their order, with their lengths, as ids come and leave.
-use Rattle.std.proofs.Common.{◌≡◌, ℕ, zero, suc, ◌||◌, ◌&&◌, nat_le, max, Bool, true, false, cond, not, List, [], ◌∷◌, ◌++◌, length, map, get_or, set, refl, ap, sym, ◌∙◌, subst, arith}
-use Rattle.std.specs.List.{filter, insert}
-use Rattle.std.specs.declared.cmp.Ordering.TheVariants.{Less}
+use Rattle.std.proofs.Common.{◌≡◌, ℕ, ◌||◌, ◌&&◌, nat_le, max, Bool, true, false, cond, not, List, [], ◌∷◌, ◌++◌, map, Option, Some, None, is_some, unwrap_or, refl, ap, sym, ◌∙◌, subst}
+use Rattle.std.specs.FinMap.Entries.{find, find-put, is_sorted-put, put}
+use Rattle.std.specs.List.{filter}
 use Rattle.curp_base.specs.Words.{Each}
-use Rattle.curp_cmd.proofs.Ids.{same_id-self, same_id-true}
+use Rattle.curp_base.proofs.Values.{ascend_passing, find_passing, passing}
+use Rattle.curp_cmd.proofs.Ids.{same_id-self, same_id-true, tied_same}
 use Rattle.curp_cmd.specs.RequestId.{has_id, id_cmp, same_id}
 use Rattle.curp_cmd.specs.declared.command.RequestId.{RequestId}
 use Rattle.curp_model.specs.Master.{Queued, queued}
-use Rattle.curp_collect.specs.Queue.{Apart, IdsAscend, IsIdAt, IsIdGap, IsQueue, has_come, is_come_of, length_of, waiting_of, waits_for}
-use Rattle.curp_collect.specs.declared.queue.Wait.{Wait}
-use Rattle.curp_collect.proofs.Ids.{ascend_filter, ascend_insert, ascend_set, none_in_gap, other_before, same_flips, waits_at}
-use Rattle.curp_model.proofs.Tables.{less_not_same}
+use Rattle.curp_collect.specs.Queue.{Apart, IsQueue, has_come, is_come_of, is_past, length_of, waiting_of}
+use Rattle.curp_model.proofs.Tables.{ids_total}
 
-later : (v : Wait) (ws : List Wait) (at : ℕ) (id : RequestId) → IsIdAt (v ∷ ws) id (suc at) → IsIdAt ws id at
-later v ws at id p = record { within = omega (arith, p.within); has_id = λ d. p.has_id d }
+abbrev Waits : Type 0
+Waits = List (RequestId × ℕ)
 
-same_by : (a b id : RequestId) → a ≡ b → same_id b id ≡ same_id a id
-same_by a b id e = ap (λ (x : RequestId). same_id x id) (sym e)
+same_flips : (a b : RequestId) → same_id a b ≡ same_id b a
+same_flips a b = go (same_id a b) (same_id b a) refl refl
+  where
+    go : (s t : Bool) → same_id a b ≡ s → same_id b a ≡ t → s ≡ t
+    go true true e f = refl
+    go false false e f = refl
+    go true false e f = sym (subst (λ (x : RequestId). same_id x a ≡ true) (same_id-true a b e) (same_id-self a)) ∙ f
+    go false true e f = sym e ∙ subst (λ (x : RequestId). same_id x b ≡ true) (same_id-true b a f) (same_id-self b)
 
 -- ---- lengths
 
-pub length_at : (ws : List Wait) (at : ℕ) (id : RequestId) (d : Wait) → IdsAscend ws → IsIdAt ws id at → length_of ws id ≡ (get_or ws at d).until
-length_at [] at id d s p = absurd (omega (arith, p.within))
-length_at (w ∷ ws) zero id d s p = let own : same_id w.id id ≡ true = same_by id w.id id (sym (p.has_id d)) ∙ same_id-self id in rw own refl
-length_at (w ∷ ws) (suc at) id d s p = rw (other_before w ws at id s p) (length_at ws at id d s.1 (later w ws at id p))
+found_put : (ws : Waits) (id x : RequestId) (until : ℕ) → find id_cmp x (put id_cmp id until ws) ≡ cond (same_id x id) (Some until) (find id_cmp x ws)
+found_put ws id x until = find-put id_cmp ids_total x id until ws ∙ ap (λ (b : Bool). cond b (Some until) (find id_cmp x ws)) (tied_same x id)
 
--- one that waits gets another length
+length_put : (ws : Waits) (id : RequestId) (until : ℕ) → length_of (put id_cmp id until ws) id ≡ until
+length_put ws id until = rw (found_put ws id id until, same_id-self id) refl
 
-pub length_set : (ws : List Wait) (at : ℕ) (w : Wait) → IdsAscend ws → IsIdAt ws w.id at → length_of (set ws at w) w.id ≡ w.until
-length_set [] at w s p = absurd (omega (arith, p.within))
-length_set (v ∷ ws) zero w s p = rw (same_id-self w.id) refl
-length_set (v ∷ ws) (suc at) w s p = rw (other_before v ws at w.id s p) (length_set ws at w s.1 (later v ws at w.id p))
+length_other : (ws : Waits) (id : RequestId) (until : ℕ) (x : RequestId) → same_id id x ≡ false → length_of (put id_cmp id until ws) x ≡ length_of ws x
+length_other ws id until x other = let apart : same_id x id ≡ false = same_flips x id ∙ other in rw (found_put ws id x until, apart) refl
 
-pub length_set_other : (ws : List Wait) (at : ℕ) (w : Wait) (id : RequestId) → IsIdAt ws w.id at → same_id w.id id ≡ false → length_of (set ws at w) id ≡ length_of ws id
-length_set_other [] at w id p other = absurd (omega (arith, p.within))
-length_set_other (v ∷ ws) zero w id p other = let no : same_id v.id id ≡ false = ap (λ (x : RequestId). same_id x id) (p.has_id v) ∙ other in rw (other, no) refl
-length_set_other (v ∷ ws) (suc at) w id p other = ap (λ (n : ℕ). cond (same_id v.id id) v.until n) (length_set_other ws at w id (later v ws at w.id p) other)
-
-pub waits_set : (ws : List Wait) (at : ℕ) (w : Wait) (id : RequestId) → IsIdAt ws w.id at → waits_for (set ws at w) id ≡ waits_for ws id
-waits_set [] at w id p = absurd (omega (arith, p.within))
-waits_set (v ∷ ws) zero w id p = ap (λ (x : RequestId). same_id x id || waits_for ws id) (sym (p.has_id v))
-waits_set (v ∷ ws) (suc at) w id p = ap (λ (b : Bool). same_id v.id id || b) (waits_set ws at w id (later v ws at w.id p))
-
--- one more waits
-
-pub length_insert : (ws : List Wait) (at : ℕ) (w : Wait) → waits_for ws w.id ≡ false → length_of (insert ws at w) w.id ≡ w.until
-length_insert [] zero w none = rw (same_id-self w.id) refl
-length_insert [] (suc at) w none = rw (same_id-self w.id) refl
-length_insert (v ∷ ws) zero w none = rw (same_id-self w.id) refl
-length_insert (v ∷ ws) (suc at) w none = go (same_id v.id w.id) none (length_insert ws at w)
+has_put : (ws : Waits) (id : RequestId) (until : ℕ) (x : RequestId) → is_some (find id_cmp x (put id_cmp id until ws)) ≡ (is_some (find id_cmp x ws) || same_id x id)
+has_put ws id until x = ap is_some (found_put ws id x until) ∙ go (same_id x id) (find id_cmp x ws)
   where
-    go : (b : Bool) → (b || waits_for ws w.id) ≡ false → (waits_for ws w.id ≡ false → length_of (insert ws at w) w.id ≡ w.until) → cond b v.until (length_of (insert ws at w) w.id) ≡ w.until
-    go true none rest = absurd cc
-    go false none rest = rest none
-
-pub length_insert_other : (ws : List Wait) (at : ℕ) (w : Wait) (id : RequestId) → same_id w.id id ≡ false → length_of (insert ws at w) id ≡ length_of ws id
-length_insert_other [] zero w id other = rw other refl
-length_insert_other [] (suc at) w id other = rw other refl
-length_insert_other (v ∷ ws) zero w id other = rw other refl
-length_insert_other (v ∷ ws) (suc at) w id other = ap (λ (n : ℕ). cond (same_id v.id id) v.until n) (length_insert_other ws at w id other)
-
-pub waits_insert : (ws : List Wait) (at : ℕ) (w : Wait) (id : RequestId) → waits_for (insert ws at w) id ≡ (waits_for ws id || same_id id w.id)
-waits_insert [] zero w id = or_none (same_id w.id id) ∙ same_flips w.id id
-  where
-    or_none : (b : Bool) → (b || false) ≡ b
-    or_none true = refl
-    or_none false = refl
-waits_insert [] (suc at) w id = or_none (same_id w.id id) ∙ same_flips w.id id
-  where
-    or_none : (b : Bool) → (b || false) ≡ b
-    or_none true = refl
-    or_none false = refl
-waits_insert (v ∷ ws) zero w id = ap (λ (b : Bool). b || (same_id v.id id || waits_for ws id)) (same_flips w.id id) ∙ flip (same_id id w.id) (same_id v.id id || waits_for ws id)
-  where
-    flip : (a b : Bool) → (a || b) ≡ (b || a)
-    flip true true = refl
-    flip true false = refl
-    flip false true = refl
-    flip false false = refl
-waits_insert (v ∷ ws) (suc at) w id = ap (λ (b : Bool). same_id v.id id || b) (waits_insert ws at w id) ∙ assoc (same_id v.id id) (waits_for ws id) (same_id id w.id)
-  where
-    assoc : (a b c : Bool) → (a || (b || c)) ≡ ((a || b) || c)
-    assoc true b c = refl
-    assoc false b c = refl
+    go : (b : Bool) (o : Option ℕ) → is_some (cond b (Some until) o) ≡ (is_some o || b)
+    go true None = refl
+    go true (Some n) = refl
+    go false None = refl
+    go false (Some n) = refl
 
 -- ---- the ids in their order
 
-others_alike : (order : List RequestId) (ws vs : List Wait) (id : RequestId) → has_id id order ≡ false → ((x : RequestId) → same_id id x ≡ false → length_of vs x ≡ length_of ws x) → waiting_of order vs ≡ waiting_of order ws
+others_alike : (order : List RequestId) (ws vs : Waits) (id : RequestId) → has_id id order ≡ false → ((x : RequestId) → same_id id x ≡ false → length_of vs x ≡ length_of ws x) → waiting_of order vs ≡ waiting_of order ws
 others_alike [] ws vs id none alike = refl
 others_alike (x ∷ order) ws vs id none alike = go (same_id id x) refl none (others_alike order ws vs id)
   where
@@ -95,7 +54,7 @@ others_alike (x ∷ order) ws vs id none alike = go (same_id id x) refl none (ot
     go false e none rest = λ i. record { id = x; length = alike x e i } ∷ rest none alike i
 
 -- one that waits keeps its place
-pub raised : (order : List RequestId) (ws vs : List Wait) (id : RequestId) (long : ℕ) → Apart order → has_id id order ≡ true → length_of vs id ≡ max (length_of ws id) long
+pub raised : (order : List RequestId) (ws vs : Waits) (id : RequestId) (long : ℕ) → Apart order → has_id id order ≡ true → length_of vs id ≡ max (length_of ws id) long
     → ((x : RequestId) → same_id id x ≡ false → length_of vs x ≡ length_of ws x) → waiting_of order vs ≡ queued (waiting_of order ws) id long
 raised [] ws vs id long apart has more alike = absurd cc
 raised (x ∷ order) ws vs id long apart has more alike = go (same_id x id) refl (raised order ws vs id long apart.1)
@@ -113,7 +72,7 @@ raised (x ∷ order) ws vs id long apart has more alike = go (same_id x id) refl
         λ i. record { id = x; length = alike x other i } ∷ rest has_later more alike i
 
 -- another one comes behind them
-pub joined : (order : List RequestId) (ws vs : List Wait) (id : RequestId) (long : ℕ) → has_id id order ≡ false → length_of vs id ≡ long
+pub joined : (order : List RequestId) (ws vs : Waits) (id : RequestId) (long : ℕ) → has_id id order ≡ false → length_of vs id ≡ long
     → ((x : RequestId) → same_id id x ≡ false → length_of vs x ≡ length_of ws x) → waiting_of (order ++ id ∷ []) vs ≡ queued (waiting_of order ws) id long
 joined [] ws vs id long none own alike = λ i. record { id = id; length = own i } ∷ []
 joined (x ∷ order) ws vs id long none own alike = go (same_id id x) refl none (joined order ws vs id long)
@@ -147,48 +106,26 @@ apart_pushed (x ∷ order) id apart none = go (same_id id x) refl none (apart_pu
 
 -- ---- what is due
 
-abbrev pub stays : ℕ → Wait → Bool
-stays synced w = not (nat_le w.until synced)
+abbrev pub stays : ℕ → ℕ → Bool
+stays synced until = not (nat_le until synced)
 
-abbrev pub remains_of : List Wait → ℕ → RequestId → Bool
+abbrev pub all_that_stay : ℕ → Waits → Waits
+all_that_stay synced ws = filter (λ (w : RequestId × ℕ). stays synced w.1) ws
+
+abbrev pub remains_of : Waits → ℕ → RequestId → Bool
 remains_of ws synced id = not (is_come_of ws synced id)
 
-length_stays : (ws : List Wait) (synced : ℕ) (id : RequestId) → not (nat_le (length_of ws id) synced) ≡ true → waits_for ws id ≡ true → length_of (filter (stays synced) ws) id ≡ length_of ws id
-length_stays [] synced id late has = absurd cc
-length_stays (w ∷ ws) synced id late has = go (same_id w.id id) (nat_le w.until synced) refl refl late has (length_stays ws synced id)
-  where
-    go : (b c : Bool) → same_id w.id id ≡ b → nat_le w.until synced ≡ c → not (nat_le (cond b w.until (length_of ws id)) synced) ≡ true → (b || waits_for ws id) ≡ true
-        → (not (nat_le (length_of ws id) synced) ≡ true → waits_for ws id ≡ true → length_of (filter (stays synced) ws) id ≡ length_of ws id)
-        → length_of (cond (not c) (w ∷ filter (stays synced) ws) (filter (stays synced) ws)) id ≡ cond b w.until (length_of ws id)
-    go true true e f late has rest = let no : false ≡ true = sym (ap not f) ∙ late in absurd cc
-    go true false e f late has rest = rw e refl
-    go false true e f late has rest = rest late has
-    go false false e f late has rest = rw e (rest late has)
+length_passing : (synced : ℕ) (o : Option ℕ) → is_past synced o ≡ false → unwrap_or (passing (stays synced) o) 0 ≡ unwrap_or o 0
+length_passing synced None late = refl
+length_passing synced (Some until) late = rw late refl
 
-each_greater : (ws : List Wait) (synced : ℕ) (x : RequestId) → Each (λ (v : Wait). same_id v.id x ≡ false) ws → waits_for (filter (stays synced) ws) x ≡ false
-each_greater [] synced x all = refl
-each_greater (w ∷ ws) synced x all = go (nat_le w.until synced) (each_greater ws synced x all.1)
+has_passing : (synced : ℕ) (o : Option ℕ) → is_some (passing (stays synced) o) ≡ (is_some o && not (is_past synced o))
+has_passing synced None = refl
+has_passing synced (Some until) = go (nat_le until synced)
   where
-    go : (b : Bool) → waits_for (filter (stays synced) ws) x ≡ false → waits_for (cond (not b) (w ∷ filter (stays synced) ws) (filter (stays synced) ws)) x ≡ false
-    go true rest = rest
-    go false rest = rw all.0 rest
-
-each_apart : (w : Wait) (ws : List Wait) (x : RequestId) → same_id w.id x ≡ true → Each (λ (v : Wait). id_cmp w.id v.id ≡ Less) ws → Each (λ (v : Wait). same_id v.id x ≡ false) ws
-each_apart w [] x own all = tt
-each_apart w (v ∷ ws) x own all =
-    let same : w.id ≡ x = same_id-true w.id x own in
-    (same_flips v.id x ∙ subst (λ (y : RequestId). same_id y v.id ≡ false) same (less_not_same w.id v.id all.0), each_apart w ws x own all.1)
-
-pub waits_stay : (ws : List Wait) (synced : ℕ) (id : RequestId) → IdsAscend ws → waits_for (filter (stays synced) ws) id ≡ (waits_for ws id && not (nat_le (length_of ws id) synced))
-waits_stay [] synced id s = refl
-waits_stay (w ∷ ws) synced id s = go (same_id w.id id) (nat_le w.until synced) refl refl (waits_stay ws synced id s.1)
-  where
-    go : (b c : Bool) → same_id w.id id ≡ b → nat_le w.until synced ≡ c → waits_for (filter (stays synced) ws) id ≡ (waits_for ws id && not (nat_le (length_of ws id) synced))
-        → waits_for (cond (not c) (w ∷ filter (stays synced) ws) (filter (stays synced) ws)) id ≡ ((b || waits_for ws id) && not (nat_le (cond b w.until (length_of ws id)) synced))
-    go true true e f rest = each_greater ws synced id (each_apart w ws id e s.0) ∙ sym (ap not f)
-    go true false e f rest = rw (e, f) refl
-    go false true e f rest = rest
-    go false false e f rest = rw e rest
+    go : (b : Bool) → is_some (cond (not b) (Some until) None) ≡ not b
+    go true = refl
+    go false = refl
 
 -- ids that pass a test which tells the same of the same ids
 pub has_filtered : (p : RequestId → Bool) (order : List RequestId) (id : RequestId) → has_id id (filter p order) ≡ (has_id id order && p id)
@@ -213,6 +150,10 @@ apart_filter p (x ∷ order) apart = go (p x) (apart_filter p order apart.1)
     go true rest = (has_filtered p order x ∙ ap (λ (b : Bool). b && p x) apart.0, rest)
     go false rest = rest
 
+-- those of some ids that wait
+abbrev AllWait : Waits → List RequestId → Type 0
+AllWait ws order = Each (λ (id : RequestId). is_some (find id_cmp id ws) ≡ true) order
+
 each_among : (P : RequestId → Type 0) (order : List RequestId) → ((id : RequestId) → has_id id order ≡ true → P id) → Each P order
 each_among P [] all = tt
 each_among P (x ∷ order) all = (all x (rw (same_id-self x) refl), each_among P order (λ id has. all id (or_true (same_id id x) (has_id id order) has)))
@@ -221,16 +162,20 @@ each_among P (x ∷ order) all = (all x (rw (same_id-self x) refl), each_among P
     or_true true b e = refl
     or_true false b e = e
 
-module _ (order : List RequestId) (ws : List Wait) (q : IsQueue order ws) (synced : ℕ) where
-  each_waits : Each (λ (id : RequestId). waits_for ws id ≡ true) order
-  each_waits = each_among (λ (id : RequestId). waits_for ws id ≡ true) order (λ id has. sym (q.same id) ∙ has)
+past_of : (synced : ℕ) (o : Option ℕ) → is_some o ≡ true → is_past synced o ≡ nat_le (unwrap_or o 0) synced
+past_of synced None e = absurd cc
+past_of synced (Some until) e = refl
+
+module _ (order : List RequestId) (ws : Waits) (q : IsQueue order ws) (synced : ℕ) where
+  all_wait : AllWait ws order
+  all_wait = each_among (λ (id : RequestId). is_some (find id_cmp id ws) ≡ true) order (λ id has. sym (q.same id) ∙ has)
 
   pub due_is : filter (is_come_of ws synced) order ≡ map (λ (q : Queued). q.id) (filter (has_come synced) (waiting_of order ws))
-  due_is = go order each_waits
+  due_is = go order all_wait
     where
-      go : (xs : List RequestId) → Each (λ (id : RequestId). waits_for ws id ≡ true) xs → filter (is_come_of ws synced) xs ≡ map (λ (q : Queued). q.id) (filter (has_come synced) (waiting_of xs ws))
+      go : (xs : List RequestId) → AllWait ws xs → filter (is_come_of ws synced) xs ≡ map (λ (q : Queued). q.id) (filter (has_come synced) (waiting_of xs ws))
       go [] all = refl
-      go (x ∷ xs) all = rw all.0 (step (nat_le (length_of ws x) synced) (go xs all.1))
+      go (x ∷ xs) all = rw (past_of synced (find id_cmp x ws) all.0) (step (nat_le (length_of ws x) synced) (go xs all.1))
         where
           step : (b : Bool) → filter (is_come_of ws synced) xs ≡ map (λ (q : Queued). q.id) (filter (has_come synced) (waiting_of xs ws))
               → cond b (x ∷ filter (is_come_of ws synced) xs) (filter (is_come_of ws synced) xs)
@@ -238,49 +183,67 @@ module _ (order : List RequestId) (ws : List Wait) (q : IsQueue order ws) (synce
           step true rest = ap (λ (ids : List RequestId). x ∷ ids) rest
           step false rest = rest
 
-  pub left_is : waiting_of (filter (remains_of ws synced) order) (filter (stays synced) ws) ≡ filter (λ q. not (has_come synced q)) (waiting_of order ws)
-  left_is = go order each_waits
+  length_stays : (x : RequestId) → is_past synced (find id_cmp x ws) ≡ false → length_of (all_that_stay synced ws) x ≡ length_of ws x
+  length_stays x late = ap (λ (o : Option ℕ). unwrap_or o 0) (find_passing id_cmp (stays synced) ids_total x ws q.ascend) ∙ length_passing synced (find id_cmp x ws) late
+
+  pub left_is : waiting_of (filter (remains_of ws synced) order) (all_that_stay synced ws) ≡ filter (λ q. not (has_come synced q)) (waiting_of order ws)
+  left_is = go order all_wait
     where
-      go : (xs : List RequestId) → Each (λ (id : RequestId). waits_for ws id ≡ true) xs → waiting_of (filter (remains_of ws synced) xs) (filter (stays synced) ws) ≡ filter (λ q. not (has_come synced q)) (waiting_of xs ws)
+      go : (xs : List RequestId) → AllWait ws xs → waiting_of (filter (remains_of ws synced) xs) (all_that_stay synced ws) ≡ filter (λ q. not (has_come synced q)) (waiting_of xs ws)
       go [] all = refl
-      go (x ∷ xs) all = rw all.0 (step (nat_le (length_of ws x) synced) refl (go xs all.1))
+      go (x ∷ xs) all =
+          let same = past_of synced (find id_cmp x ws) all.0 in
+          rw same (step (nat_le (length_of ws x) synced) same (go xs all.1))
         where
-          step : (b : Bool) → nat_le (length_of ws x) synced ≡ b → waiting_of (filter (remains_of ws synced) xs) (filter (stays synced) ws) ≡ filter (λ q. not (has_come synced q)) (waiting_of xs ws)
-              → waiting_of (cond (not b) (x ∷ filter (remains_of ws synced) xs) (filter (remains_of ws synced) xs)) (filter (stays synced) ws)
+          step : (b : Bool) → is_past synced (find id_cmp x ws) ≡ b → waiting_of (filter (remains_of ws synced) xs) (all_that_stay synced ws) ≡ filter (λ q. not (has_come synced q)) (waiting_of xs ws)
+              → waiting_of (cond (not b) (x ∷ filter (remains_of ws synced) xs) (filter (remains_of ws synced) xs)) (all_that_stay synced ws)
               ≡ cond (not b) (record { id = x; length = length_of ws x } ∷ filter (λ q. not (has_come synced q)) (waiting_of xs ws)) (filter (λ q. not (has_come synced q)) (waiting_of xs ws))
           step true e rest = rest
-          step false e rest = λ i. record { id = x; length = length_stays ws synced x (ap not e) all.0 i } ∷ rest i
+          step false e rest = λ i. record { id = x; length = length_stays x e i } ∷ rest i
 
-  pub queue_left : IsQueue (filter (remains_of ws synced) order) (filter (stays synced) ws)
+  pub queue_left : IsQueue (filter (remains_of ws synced) order) (all_that_stay synced ws)
   queue_left = record {
-    ascend = ascend_filter (stays synced) ws q.ascend;
+    ascend = ascend_passing id_cmp (stays synced) ws q.ascend;
     apart = apart_filter (remains_of ws synced) order q.apart;
-    same = λ id. has_filtered (remains_of ws synced) order id ∙ (λ i. q.same id i && remains_of ws synced id) ∙ cases (waits_for ws id) (nat_le (length_of ws id) synced) ∙ sym (waits_stay ws synced id q.ascend);
+    same = λ id.
+        has_filtered (remains_of ws synced) order id
+        ∙ (λ i. q.same id i && remains_of ws synced id)
+        ∙ sym (has_passing synced (find id_cmp id ws))
+        ∙ ap is_some (sym (find_passing id_cmp (stays synced) ids_total id ws q.ascend));
+  }
+
+module _ (order : List RequestId) (ws : Waits) (q : IsQueue order ws) (id : RequestId) where
+  -- it waits already
+
+  pub queue_raised : (until long : ℕ) → find id_cmp id ws ≡ Some until → IsQueue order (put id_cmp id long ws)
+  queue_raised until long found = record {
+    ascend = is_sorted-put id_cmp ids_total id long ws q.ascend;
+    apart = q.apart;
+    same = λ x. q.same x ∙ go x (same_id x id) refl ∙ sym (has_put ws id long x);
   }
     where
-      cases : (a c : Bool) → (a && not (a && c)) ≡ (a && not c)
-      cases true c = refl
-      cases false c = refl
+      go : (x : RequestId) (b : Bool) → same_id x id ≡ b → is_some (find id_cmp x ws) ≡ (is_some (find id_cmp x ws) || b)
+      go x true e = let has : is_some (find id_cmp x ws) ≡ true = ap (λ (y : RequestId). is_some (find id_cmp y ws)) (same_id-true x id e) ∙ ap is_some found in rw has refl
+      go x false e = or_none (is_some (find id_cmp x ws))
+        where
+          or_none : (b : Bool) → b ≡ (b || false)
+          or_none true = refl
+          or_none false = refl
 
-module _ (order : List RequestId) (ws : List Wait) (q : IsQueue order ws) (w : Wait) (at : ℕ) where
-  pub queue_raised : IsIdAt ws w.id at → IsQueue order (set ws at w)
-  queue_raised p = record { ascend = ascend_set ws at w q.ascend p; apart = q.apart; same = λ id. q.same id ∙ sym (waits_set ws at w id p) }
+  pub raised_is : (until long : ℕ) → find id_cmp id ws ≡ Some until → waiting_of order (put id_cmp id (max until long) ws) ≡ queued (waiting_of order ws) id long
+  raised_is until long found =
+      raised order ws (put id_cmp id (max until long) ws) id long q.apart (q.same id ∙ ap is_some found)
+      (length_put ws id (max until long) ∙ ap (λ (o : Option ℕ). max (unwrap_or o 0) long) (sym found))
+      (length_other ws id (max until long))
 
-  pub raised_is : (d : Wait) (long : ℕ) → IsIdAt ws w.id at → w.until ≡ max (get_or ws at d).until long → waiting_of order (set ws at w) ≡ queued (waiting_of order ws) w.id long
-  raised_is d long p more =
-      raised order ws (set ws at w) w.id long q.apart (q.same w.id ∙ waits_at ws at w.id p)
-      (length_set ws at w q.ascend p ∙ more ∙ ap (λ (n : ℕ). max n long) (sym (length_at ws at w.id d q.ascend p)))
-      (λ x other. length_set_other ws at w x p other)
+  -- it comes behind the others
 
-  none : IsIdGap ws w.id at → has_id w.id order ≡ false
-  none g = q.same w.id ∙ none_in_gap ws at w.id g
-
-  pub queue_joined : IsIdGap ws w.id at → IsQueue (order ++ w.id ∷ []) (insert ws at w)
-  queue_joined g = record {
-    ascend = ascend_insert ws at w q.ascend g;
-    apart = apart_pushed order w.id q.apart (none g);
-    same = λ id. has_pushed order w.id id ∙ (λ i. q.same id i || same_id id w.id) ∙ sym (waits_insert ws at w id);
+  pub queue_joined : (long : ℕ) → find id_cmp id ws ≡ None → IsQueue (order ++ id ∷ []) (put id_cmp id long ws)
+  queue_joined long none = record {
+    ascend = is_sorted-put id_cmp ids_total id long ws q.ascend;
+    apart = apart_pushed order id q.apart (q.same id ∙ ap is_some none);
+    same = λ x. has_pushed order id x ∙ (λ i. q.same x i || same_id x id) ∙ sym (has_put ws id long x);
   }
 
-  pub joined_is : IsIdGap ws w.id at → waiting_of (order ++ w.id ∷ []) (insert ws at w) ≡ queued (waiting_of order ws) w.id w.until
-  joined_is g = joined order ws (insert ws at w) w.id w.until (none g) (length_insert ws at w (none_in_gap ws at w.id g)) (λ x other. length_insert_other ws at w x other)
+  pub joined_is : (long : ℕ) → find id_cmp id ws ≡ None → waiting_of (order ++ id ∷ []) (put id_cmp id long ws) ≡ queued (waiting_of order ws) id long
+  joined_is long none = joined order ws (put id_cmp id long ws) id long (q.same id ∙ ap is_some none) (length_put ws id long) (length_other ws id long)

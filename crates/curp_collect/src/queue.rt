@@ -1,19 +1,12 @@
-ghost use Rattle.std.specs.Prelude.{◌≡◌, ◌+◌, ◌<◌, ◌≤◌, [], not, length, map, IfOk, IfErr, OnOk};
+ghost use Rattle.std.specs.Prelude.{◌≡◌, ◌+◌, ◌≤◌, [], not, map, IfOk, OnOk};
 ghost use Rattle.std.specs.List.{filter};
 ghost use Rattle.curp_model.specs.Master.{queued};
-ghost use Rattle.curp_collect.specs.Queue.{IdsAscend, IsIdAt, IsIdGap, has_come, is_come_of};
+ghost use Rattle.curp_collect.specs.Queue.{has_come, is_come_of};
 
-use curp_base::NoMemory;
+use curp_base::{NoMemory, Reserved, ReservedPairs};
 use curp_cmd::RequestId;
 use std::alloc::Global;
 use std::marker::Model;
-
-/// Until when an id waits: so many entries are synced then.
-#[derive(Clone, Copy)]
-pub struct Wait {
-    pub id: RequestId,
-    pub until: u64,
-}
 
 /// The ids that wait for collection, each once and at its larger length, in the order in which they were first added.
 /// Contracts see these, and for how many more there is room. That an id keeps its place and its larger length is this
@@ -22,20 +15,20 @@ pub struct Wait {
 pub struct Queue {
     alloc: Global,
     // In the order in which they were first added.
-    order: Vec<RequestId>,
-    // In ascending order of the ids.
-    waits: Vec<Wait>,
+    order: Reserved<RequestId>,
+    // So many entries are synced then.
+    waits: ReservedPairs<RequestId, u64>,
 }
 
 impl Model for Queue {
-    ghost use Rattle.std.specs.Prelude.{◌-◌, min, vec_len, vec_capacity};
+    ghost use Rattle.std.specs.Prelude.{min};
     ghost use Rattle.curp_collect.specs.Queue.{IsQueue, Queueing, waiting_of};
 
     ghost Value = { Queueing };
 
     ghost view = { λ q. record {
       waiting = waiting_of q.order.items q.waits.items;
-      spare = min (vec_capacity q.order - vec_len q.order) (vec_capacity q.waits - vec_len q.waits);
+      spare = min q.order.spare q.waits.spare;
     } };
 
     ghost invariant = { λ q. IsQueue q.order.items q.waits.items };
@@ -48,8 +41,8 @@ impl Queue {
     {
         Queue {
             alloc,
-            order: Vec::new(alloc),
-            waits: Vec::new(alloc),
+            order: Reserved::new(alloc),
+            waits: ReservedPairs::new(alloc),
         }
     }
 
@@ -59,8 +52,8 @@ impl Queue {
         ensures room { OnOk result (spare ≤ self.new.spare) }
         ensures kept { self.old.spare ≤ self.new.spare }
     {
-        self.order.reserve(spare as usize)?;
-        self.waits.reserve(spare as usize)
+        self.order.reserve(spare)?;
+        self.waits.reserve(spare)
     }
 
     /// Adds the id behind the others, to wait until so many entries are synced. One that waits already keeps its place,
@@ -70,15 +63,11 @@ impl Queue {
         ensures waiting { self.new.waiting ≡ queued self.old.waiting id length }
         ensures spare { self.old.spare ≤ self.new.spare + 1 }
     {
-        match find(&self.waits, &id) {
-            Ok(at) => {
-                let until = self.waits[at].until.max(length);
-                self.waits[at] = Wait { id, until };
-            }
-            Err(gap) => {
-                let wait = Wait { id, until: length };
-                self.waits.insert(gap, wait).unwrap();
-                self.order.push_reserved(id);
+        match self.waits.value_of(&id) {
+            Some(until) => self.waits.put(id, until.max(length)),
+            None => {
+                self.waits.put(id, length);
+                self.order.push(id);
             }
         }
     }
@@ -97,7 +86,7 @@ impl Queue {
     {
         let waits = &self.waits;
         self.order.retain(|id| !is_due(waits, id, synced));
-        self.waits.retain(|wait| wait.until > synced);
+        self.waits.retain(|wait| wait.1 > synced);
     }
 }
 
@@ -105,11 +94,10 @@ impl Queue {
 fn due_among(
     alloc: Global,
     order: &[RequestId],
-    waits: &[Wait],
+    waits: &ReservedPairs<RequestId, u64>,
     synced: u64,
 ) -> Result<Vec<RequestId>, NoMemory>
-    requires { IdsAscend waits.now }
-    ensures { IfOk result (λ ids. ids.items ≡ filter (is_come_of waits.now synced) order.now) }
+    ensures { IfOk result (λ ids. ids.items ≡ filter (is_come_of waits.now.items synced) order.now) }
 {
     let mut due = Vec::new(alloc);
     for id in order {
@@ -121,21 +109,11 @@ fn due_among(
 }
 
 /// Whether the id waits, and no longer than until so many entries are synced.
-fn is_due(waits: &[Wait], id: &RequestId, synced: u64) -> bool
-    ensures { IdsAscend waits.now → result ≡ is_come_of waits.now synced id.now }
+fn is_due(waits: &ReservedPairs<RequestId, u64>, id: &RequestId, synced: u64) -> bool
+    ensures { result ≡ is_come_of waits.now.items synced id.now }
 {
-    match find(waits, id) {
-        Ok(at) => waits[at].until <= synced,
-        Err(_) => false,
+    match waits.value_of(id) {
+        Some(until) => until <= synced,
+        None => false,
     }
-}
-
-/// Where the id stands among those in ascending order, or where it would go.
-fn find(waits: &[Wait], id: &RequestId) -> Result<usize, usize>
-    ensures within { IfOk result (λ at. at < length waits.now) }
-    ensures gap { IfErr result (λ at. at ≤ length waits.now) }
-    ensures found { IdsAscend waits.now → IfOk result (IsIdAt waits.now id.now) }
-    ensures absent { IdsAscend waits.now → IfErr result (IsIdGap waits.now id.now) }
-{
-    waits.binary_search_by_key(id, |wait| wait.id)
 }

@@ -16,11 +16,11 @@ use Rattle.curp_msg.specs.declared.machine.Local.TheVariants as local
 use Rattle.curp_model.specs.Manager as model
 use Rattle.curp_model.specs.Manager.{ManagerState, counter_ends, last_number, manager_ordered, unless_numbers_end}
 use Rattle.curp_model.specs.Ranges.{Range, range_of}
-use Rattle.curp_config.specs.Refusals.{Tells}
+use Rattle.curp_config.specs.Refusals.{TellsRefusal}
 
 -- a refusal that is told is the move
 pub tells_moves : {S : Type 0} (old new : S) (m : Moved S) (refusal : ℕ) (told : Result Done AllocError) → m.refused ≡ refusal
-    → Refuses old m → new ≡ old → Tells refusal told → Moves old new told m
+    → Refuses old m → new ≡ old → TellsRefusal refusal told → Moves old new told m
 tells_moves old new m refusal (Ok done) is refuses same tells =
     let some : m.refused ≢ 0 = λ e. tells.0 (sym is ∙ e) in
     (same ∙ sym (refuses.same some), tells.1 ∙ sym (rw (is, refuses.silent some, refuses.idle some) refl))

@@ -9,8 +9,8 @@ abbrev pub IsNumbered : ℕ → PartConfig → Type 0
 IsNumbered parts c = (1 ≤ c.part) × (c.part ≤ parts)
 
 -- all are
-abbrev pub AreNumbered : ℕ → List PartConfig → Type 0
-AreNumbered parts entries = Each (IsNumbered parts) entries
+abbrev pub PartsNumbered : ℕ → List PartConfig → Type 0
+PartsNumbered parts entries = Each (IsNumbered parts) entries
 
 -- the entry of a partition whose new lists are adopted
 abbrev pub prepared_part : model.NewLists → PartConfig

@@ -1,7 +1,7 @@
 ghost use Rattle.std.specs.Prelude.{◌≡◌, ◌≢◌, ◌*◌, ◌<◌, ◌≤◌, IsOk, IfOk, IfSome};
 ghost use Rattle.std.specs.Option.{option_copied};
 ghost use Rattle.curp_config.specs.Parts.{IsNumbered};
-ghost use Rattle.curp_config.specs.Refusals.{Tells};
+ghost use Rattle.curp_config.specs.Refusals.{TellsRefusal};
 ghost use Rattle.curp_base.specs.Words.{numbered};
 ghost use Rattle.curp_model.specs.Manager as model;
 ghost use Rattle.curp_msg.specs.declared.machine.Local.TheVariants as local;
@@ -34,7 +34,7 @@ pub struct Manager {
 }
 
 impl Model for Manager {
-    ghost use Rattle.curp_config.specs.Parts.{AreNumbered};
+    ghost use Rattle.curp_config.specs.Parts.{PartsNumbered};
     ghost use Rattle.curp_model.specs.Manager as model;
 
     ghost Value = { model.ManagerState };
@@ -48,7 +48,7 @@ impl Model for Manager {
       next = m.next;
     } };
 
-    ghost invariant = { λ m. AreNumbered m.shape.parts m.config.parts };
+    ghost invariant = { λ m. PartsNumbered m.shape.parts m.config.parts };
 }
 
 impl Manager {
@@ -228,7 +228,7 @@ impl Manager {
 
 // What is told of an order that wasn't made: the number of its refusal, else want of memory.
 fn told(alloc: Global, refusal: u8) -> Result<Done, NoMemory>
-    ensures { Tells refusal result }
+    ensures { TellsRefusal refusal result }
 {
     if refusal == 0 {
         return Err(AllocError);

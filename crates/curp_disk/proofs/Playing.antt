@@ -3,7 +3,7 @@ use Rattle.std.specs.Prelude.{◌≡◌, ℕ, ◌+◌, ◌<◌, ◌≤◌, min, 
 use Rattle.std.proofs.Common.{sym, ◌∙◌, ap, subst, inl, inr, arith, length-append}
 use Rattle.std.proofs.lemmas.List.{take_all, take-append-le, take-append-drop, take_more}
 use Rattle.std.proofs.lemmas.Bool.{cases_lt}
-use Rattle.curp_disk.specs.Disk.{Torn, over, Elapses, Follows, Narrows, Only}
+use Rattle.curp_disk.specs.Disk.{Torn, over, Elapses, CrashesFollow, Narrows, Only}
 use Rattle.curp_disk.specs.Calls.{Played, more, seen_after, seen_through, kept_after, kept_through, LeftAfter, LeftThrough, LeftNow, LeftSince, kept_of, seen_of}
 use Rattle.curp_disk.specs.Moments.{reads_now, length-over}
 use Rattle.curp_disk.specs.declared.medium.Call.{Call}
@@ -50,10 +50,10 @@ went_on p q call is = subst (λ (r : Played). Elapses (length p.calls) (length r
 torn_same : (at n : ℕ) (c : List ℕ) → Torn at n c c
 torn_same at n c = record { before = refl; after = refl; no_shorter = omega arith; no_longer = omega arith }
 
-pub follows_same : (p q : Played) (at n : ℕ) → q ≡ p → Follows (Torn at n) (LeftNow p) (LeftNow q)
+pub follows_same : (p q : Played) (at n : ℕ) → q ≡ p → CrashesFollow (Torn at n) (LeftNow p) (LeftNow q)
 follows_same p q at n is c left = (c, subst (λ (r : Played). LeftNow r c) is left, torn_same at n c)
 
-pub follows_write : (p q : Played) (at : ℕ) (bytes : List ℕ) → at ≤ length (seen_of p) → q ≡ more p (Write at bytes) → Follows (Torn at (length bytes)) (LeftNow p) (LeftNow q)
+pub follows_write : (p q : Played) (at : ℕ) (bytes : List ℕ) → at ≤ length (seen_of p) → q ≡ more p (Write at bytes) → CrashesFollow (Torn at (length bytes)) (LeftNow p) (LeftNow q)
 follows_write p q at bytes le is c left =
     let from = left_more p.calls p.first (λ d. d ≡ p.first) (Write at bytes) c (subst (λ (r : Played). LeftNow r c) is left) in
     let place : min at (length (seen_of p)) ≡ at = omega (arith, le) in

@@ -17,8 +17,8 @@ pub record Torn (at n : ℕ) (old new : List ℕ) : Type 0 where
   pub no_longer : length new ≤ max (length old) (at + n)
 
 -- each new outcome of a crash is an old outcome after a step
-abbrev pub Follows : (List ℕ → List ℕ → Type 0) → (List ℕ → Type 0) → (List ℕ → Type 0) → Type 0
-Follows step old new = (c : List ℕ) → new c → (d : List ℕ) × old d × step d c
+abbrev pub CrashesFollow : (List ℕ → List ℕ → Type 0) → (List ℕ → Type 0) → (List ℕ → Type 0) → Type 0
+CrashesFollow step old new = (c : List ℕ) → new c → (d : List ℕ) × old d × step d c
 
 -- no outcome of a crash is new
 abbrev pub Narrows : (List ℕ → Type 0) → (List ℕ → Type 0) → Type 0
@@ -29,15 +29,15 @@ abbrev pub Only : List ℕ → (List ℕ → Type 0) → Type 0
 Only content outcomes = (c : List ℕ) → outcomes c → c ≡ content
 
 -- as many bytes as there are from a place on, up to the buffer's length, stand at the buffer's front
-abbrev pub Gives : List ℕ → ℕ → Did → List ℕ → Type 0
-Gives content at (did.Done n) buffer = (n ≡ min (length buffer) (length content - at)) × (take n buffer ≡ take n (drop at content))
-Gives content at did.Failed buffer = ⊤
-Gives content at did.NoMemory buffer = ⊤
+abbrev pub GivesBytes : List ℕ → ℕ → Did → List ℕ → Type 0
+GivesBytes content at (did.Done n) buffer = (n ≡ min (length buffer) (length content - at)) × (take n buffer ≡ take n (drop at content))
+GivesBytes content at did.Failed buffer = ⊤
+GivesBytes content at did.NoMemory buffer = ⊤
 
 -- so many bytes are there
-abbrev pub Tells : List ℕ → Long → Type 0
-Tells content (long.Bytes n) = n ≡ length content
-Tells content long.Failed = ⊤
+abbrev pub HasLength : List ℕ → Long → Type 0
+HasLength content (long.Bytes n) = n ≡ length content
+HasLength content long.Failed = ⊤
 
 -- all bytes stand where they were to be written, and the rest is as before; after a refusal nothing is said
 abbrev pub Wrote : List ℕ → ℕ → List ℕ → Did → List ℕ → Type 0

@@ -1,6 +1,6 @@
 ghost use Rattle.std.specs.Prelude.{◌≡◌, ◌≢◌, ◌≤◌, List, ℕ, length};
 ghost use Rattle.curp_io.specs.Streams.{Rose, SameCount};
-ghost use Rattle.curp_disk.specs.Disk.{Elapses, Follows, Gives, Narrows, Synced, Tells, Torn, Wrote};
+ghost use Rattle.curp_disk.specs.Disk.{Elapses, CrashesFollow, GivesBytes, Narrows, Synced, HasLength, Torn, Wrote};
 ghost use Rattle.curp_disk.specs.declared.disk.Did.{Did};
 
 /// What a call of `read`, `write_at` or `sync` did.
@@ -53,7 +53,7 @@ pub trait Disk {
 
     /// Reads as many bytes as there are from a place on, up to the buffer's length.
     fn read(&mut self, at: u64, buf: &mut [u8]) -> Did
-        ensures bytes { Gives (seen self.old) at result buf.new }
+        ensures bytes { GivesBytes (seen self.old) at result buf.new }
         ensures seen { seen self.new ≡ seen self.old }
         ensures crash { Narrows (may_leave self.old) (may_leave self.new) }
         ensures time { Elapses (moment self.old) (moment self.new) (left_since self.old) (left_since self.new)
@@ -65,7 +65,7 @@ pub trait Disk {
 
     /// How many bytes it reads as.
     fn length(&mut self) -> Long
-        ensures bytes { Tells (seen self.old) result }
+        ensures bytes { HasLength (seen self.old) result }
         ensures seen { seen self.new ≡ seen self.old }
         ensures crash { Narrows (may_leave self.old) (may_leave self.new) }
         ensures time { Elapses (moment self.old) (moment self.new) (left_since self.old) (left_since self.new)
@@ -80,7 +80,7 @@ pub trait Disk {
     fn write_at(&mut self, at: u64, bytes: &[u8]) -> Did
         requires { at ≤ length (seen self.old) }
         ensures bytes { Wrote (seen self.old) at bytes.now result (seen self.new) }
-        ensures crash { Follows (Torn at (length bytes.now)) (may_leave self.old) (may_leave self.new) }
+        ensures crash { CrashesFollow (Torn at (length bytes.now)) (may_leave self.old) (may_leave self.new) }
         ensures time { Elapses (moment self.old) (moment self.new) (left_since self.old) (left_since self.new)
             (may_leave self.new) }
         ensures whole { wrote self.old at bytes.now result self.new }

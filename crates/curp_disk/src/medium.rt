@@ -1,5 +1,5 @@
 ghost use Rattle.std.specs.Prelude.{◌≡◌, ◌≢◌, ◌+◌, ◌-◌, ◌≤◌, ◌++◌, [], ◌∷◌, length, take, drop, min, false, IfOk, OnOk, OnErr, vec_capacity};
-ghost use Rattle.curp_disk.specs.Disk.{Elapses, Follows, Narrows, Synced, Torn, Wrote, over};
+ghost use Rattle.curp_disk.specs.Disk.{Elapses, CrashesFollow, Narrows, Synced, Torn, Wrote, over};
 ghost use Rattle.curp_disk.specs.Calls.{LeftNow, LeftSince, more, seen_after, seen_of, seen_through};
 ghost use Rattle.curp_disk.specs.InMemory.{Ran, crashed};
 ghost use Rattle.curp_disk.specs.declared.medium.Call.TheVariants.{Write, Sync};
@@ -99,7 +99,7 @@ impl Medium {
     pub fn put(&mut self, at: u64, bytes: &[u8]) -> Did
         requires { at ≤ length (seen_of self.old) }
         ensures bytes { Wrote (seen_of self.old) at bytes.now result (seen_of self.new) }
-        ensures crash { Follows (Torn at (length bytes.now)) (LeftNow self.old) (LeftNow self.new) }
+        ensures crash { CrashesFollow (Torn at (length bytes.now)) (LeftNow self.old) (LeftNow self.new) }
         ensures time { Elapses (length self.old.calls) (length self.new.calls) (LeftSince self.old) (LeftSince self.new) (LeftNow self.new) }
         ensures whole { Ran false self.old (Write at bytes.now) result self.new }
     {

@@ -294,7 +294,7 @@ pub record HeldBy (w : World) (from : NodeId) (id : RequestId) : Type 0 where
   pub is_held : IsAmong request (frozen_requests x)
 
 -- a collection that lists the id was sent to the witness
-pub record Collected (w : World) (from : NodeId) (id : RequestId) (epoch : ℕ) : Type 0 where
+pub record WasCollected (w : World) (from : NodeId) (id : RequestId) (epoch : ℕ) : Type 0 where
   pub node : NodeId
   pub gc : Gc
   pub sent : WasSent w (says node from (body.Gc gc))
@@ -303,7 +303,7 @@ pub record Collected (w : World) (from : NodeId) (id : RequestId) (epoch : ℕ) 
 
 -- what an accept says
 abbrev pub AcceptedOk : World → NodeId → Accepted → Type 0
-AcceptedOk w from a = HeldBy w from a.id ⊎ Collected w from a.id a.epoch
+AcceptedOk w from a = HeldBy w from a.id ⊎ WasCollected w from a.id a.epoch
 
 -- the id of a synced reply stands with that answer on each backup of that version's list, and of each later list of the epoch
 abbrev pub SyncedOk : World → NodeId → Reply → Type 0
@@ -339,7 +339,7 @@ abbrev pub FromPart : World → NodeId → ((p : ℕ) → Type 0) → Type 0
 FromPart w from P = (l : Lists) → IsGiven w l → l.master ≡ from → P l.part
 
 -- What a recovery stands on: a backup that is fenced at its epoch, and a witness that is frozen. Nothing of them changes any more
-pub record Sources (w : World) (backup witness : NodeId) (epoch : ℕ) : Type 0 where
+pub record ReplaySources (w : World) (backup witness : NodeId) (epoch : ℕ) : Type 0 where
   pub b : BackupState
   pub its_backup : IsBackup w backup b
   pub fenced : epoch ≤ b.fence
@@ -348,7 +348,7 @@ pub record Sources (w : World) (backup witness : NodeId) (epoch : ℕ) : Type 0 
   pub frozen : x.mode ≡ mode.Frozen
 
 -- their replay: the log of the one, and what the other holds
-abbrev pub replay_of : {w : World} {backup witness : NodeId} {epoch : ℕ} → (lo hi : ℕ) → Sources w backup witness epoch → List Entry
+abbrev pub replay_of : {w : World} {backup witness : NodeId} {epoch : ℕ} → (lo hi : ℕ) → ReplaySources w backup witness epoch → List Entry
 replay_of lo hi sources = replay lo hi sources.b.log (frozen_requests sources.x)
 
 -- every fresh backup has the whole log as it was at Recovered: the replay over the backup and the witness that were named
@@ -356,7 +356,7 @@ pub record RecoveredOk (w : World) (from : NodeId) (epoch : ℕ) : Type 0 where
   pub order : Recover
   pub sent : WasSent w (says manager_node from (body.Recover order))
   pub its_epoch : order.epoch ≡ epoch
-  pub sources : Sources w order.backup order.witness epoch
+  pub sources : ReplaySources w order.backup order.witness epoch
   pub on_all : Each (λ node. (f : BackupState) → IsBackup w node f → IsPrefix (replay_of order.lo order.hi sources) f.log) order.backups
 
 -- an entry that may be pushed while a master switches
@@ -435,14 +435,14 @@ pub record Speaks (w : World) (from : NodeId) (epoch version : ℕ) : Type 0 whe
   pub its_version : lists.version ≡ version
 
 -- it is a master that has served, in that epoch
-pub record Served (w : World) (from : NodeId) (epoch : ℕ) : Type 0 where
+pub record HasServed (w : World) (from : NodeId) (epoch : ℕ) : Type 0 where
   pub version : ℕ
   pub speaks : Speaks w from epoch version
 
 -- it is a master that has served
 pub record IsServer (w : World) (from : NodeId) : Type 0 where
   pub epoch : ℕ
-  pub served : Served w from epoch
+  pub served : HasServed w from epoch
 
 -- what a reply says
 abbrev pub ReplyOk : World → NodeId → Reply → Bool → Type 0
@@ -460,7 +460,7 @@ BodyOk w from to (body.Probe p) = ⊤
 BodyOk w from to body.Fetch = ⊤
 BodyOk w from to (body.Configuration config) = ConfigOk w config
 BodyOk w from to (body.Reply r) = ReplyOk w from r r.synced
-BodyOk w from to (body.Worth v) = Served w from v.epoch
+BodyOk w from to (body.Worth v) = HasServed w from v.epoch
 BodyOk w from to (body.Quick q) = Speaks w from q.epoch q.version
 BodyOk w from to (body.Refuse r) = ⊤
 BodyOk w from to (body.Accepted a) = AcceptedOk w from a
@@ -468,7 +468,7 @@ BodyOk w from to (body.Rejected r) = ⊤
 BodyOk w from to (body.Probed a) = ⊤
 BodyOk w from to (body.Append a) = AppendOk w from a
 BodyOk w from to (body.Appended a) = AppendAnswerOk w from to a a.answer
-BodyOk w from to (body.Gc g) = Served w from g.epoch
+BodyOk w from to (body.Gc g) = HasServed w from g.epoch
 BodyOk w from to (body.Collected c) = ⊤
 BodyOk w from to (body.Install epoch) = ⊤
 BodyOk w from to (body.Start s) = ⊤
@@ -495,7 +495,7 @@ pub record MessageOk (w : World) (m : Message) : Type 0 where
 
 -- a recovering master's log, once it has one, is the replay over the backup and the witness that its order named
 pub record ReplayOk (w : World) (s : RecoveryState) (r : Replayed) : Type 0 where
-  pub sources : Sources w s.order.backup s.order.witness s.order.epoch
+  pub sources : ReplaySources w s.order.backup s.order.witness s.order.epoch
   pub is : r.log ≡ replay_of s.order.lo s.order.hi sources
   pub its_cut : r.cut ≡ length sources.b.log
 

@@ -111,12 +111,12 @@ addressee_kind (body.Quick q) = kind.Client
 -- ---- requests are of clients
 
 -- the request is one of a client of the world
-abbrev pub IsAsked : World → Request → Type 0
-IsAsked w r = IsNodeOf w kind.Client r.id.client
+abbrev pub IsOfClient : World → Request → Type 0
+IsOfClient w r = IsNodeOf w kind.Client r.id.client
 
 -- the request of an op is
 abbrev pub EntryAsked : World → Entry → Type 0
-EntryAsked w (Op r acknowledged) = IsAsked w r
+EntryAsked w (Op r acknowledged) = IsOfClient w r
 EntryAsked w _ = ⊤
 
 -- those of a backup's log are
@@ -126,7 +126,7 @@ ReplyAsked w _ = ⊤
 
 -- suspects are
 abbrev pub SuspectsAsked : World → GcAnswer → Type 0
-SuspectsAsked w (Suspects requests) = Each (IsAsked w) requests
+SuspectsAsked w (Suspects requests) = Each (IsOfClient w) requests
 SuspectsAsked w _ = ⊤
 
 -- ---- what masters say of their orders
@@ -188,7 +188,7 @@ BodyFits w from to (body.Recover o) = ⊤
 BodyFits w from to (body.Fence epoch) = FencesBackup w from to epoch
 BodyFits w from to (body.FenceAnswer a) = ReplyAsked w a.answer
 BodyFits w from to (body.Freeze epoch) = FreezesWitness w from to epoch
-BodyFits w from to (body.FrozenAnswer requests) = Each (IsAsked w) requests
+BodyFits w from to (body.FrozenAnswer requests) = Each (IsOfClient w) requests
 BodyFits w from to (body.Recovered r) = OrderedTo w from r.part r.epoch
 BodyFits w from to (body.Adopted a) = ⊤
 BodyFits w from to (body.Prepare p) = ⊤
@@ -243,7 +243,7 @@ LogThere w (Some entries) = Each (EntryAsked w) entries
 
 abbrev pub RequestsThere : World → Option (List Request) → Type 0
 RequestsThere w None = ⊤
-RequestsThere w (Some requests) = Each (IsAsked w) requests
+RequestsThere w (Some requests) = Each (IsOfClient w) requests
 
 abbrev pub PhaseFits : World → RecoveryPhase → Type 0
 PhaseFits w (Asking log requests) = LogThere w log × RequestsThere w requests
@@ -267,7 +267,7 @@ BackupFits w b = Each (EntryAsked w) b.log
 
 -- what a witness holds
 abbrev pub WitnessFits : World → WitnessState → Type 0
-WitnessFits w x = Each (λ (h : HeldRequest). IsAsked w h.request) x.held
+WitnessFits w x = Each (λ (h : HeldRequest). IsOfClient w h.request) x.held
 
 -- ---- all together
 

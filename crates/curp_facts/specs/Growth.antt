@@ -25,7 +25,7 @@ LogGrows None later = ⊤
 LogGrows (Some l) later = (k : Logged) × (later ≡ Some k) × IsPrefix l.log k.log × (l.round ≤ k.round)
 
 -- what of a serving master never falls
-pub record Core : Type 0 where
+pub record Growing : Type 0 where
   pub part : ℕ
   pub epoch : ℕ
   pub version : ℕ
@@ -38,7 +38,7 @@ pub record Core : Type 0 where
   pub phase : Phase
 
 -- those fields of a master
-abbrev pub core : MasterState → Core
+abbrev pub core : MasterState → Growing
 core m = record { part = m.part; epoch = m.epoch; version = m.version; lo = m.lo; hi = m.hi; log = m.log; round = m.round; captured = m.captured; free = m.free; phase = m.phase }
 
 -- the lists that it takes up next have no lower version
@@ -47,7 +47,7 @@ Above version phase.Open = ⊤
 Above version (phase.Switching s) = version ≤ s.version
 
 -- a serving master stays the same master. Its version isn't less where the lists that it takes up next are above.
-pub record CoreGrows (c d : Core) : Type 0 where
+pub record CoreGrows (c d : Growing) : Type 0 where
   pub part : d.part ≡ c.part
   pub epoch : d.epoch ≡ c.epoch
   pub lo : d.lo ≡ c.lo

@@ -35,7 +35,7 @@ abbrev pub take_order : Migration → TakeOut
 take_order m = record { migration = m.number; lo = m.range.lo; hi = m.range.hi; ordered = m.range.ordered }
 
 -- the migration in work was ordered to be taken out of its source, and a package that is kept was told
-pub record MovingOk (w : World) (m : Migration) : Type 0 where
+pub record MigrationOk (w : World) (m : Migration) : Type 0 where
   pub ordered : WasOrdered w m.source (body.TakeOut (take_order m))
   pub told : (p : Package) → m.moved ≡ Some p → WasTaken w (record { migration = m.number; «package» = p })
 
@@ -52,4 +52,4 @@ pub record Invariant (w : World) : Type 0 where
       → At w.history j (Complete id a) → WasRead w id a
   pub messages : (k : ℕ) (m : Message) → At (messages w) k m → Says w k m.from m.to m.body
   pub present : (c : PartConfig) → IsAdoptedNow w c → PresentOk w c
-  pub moving : (m : Migration) → w.manager.moving ≡ Some m → MovingOk w m
+  pub moving : (m : Migration) → w.manager.moving ≡ Some m → MigrationOk w m

@@ -41,7 +41,7 @@ use Rattle.curp_model.specs.declared.Check.{Check}
 use Rattle.curp_model.specs.declared.Mode.TheVariants as mode
 use Rattle.curp_model.specs.declared.Check.TheVariants.{Expired, Stale, Known, New}
 use Rattle.curp_model.specs.Backup.{BackupState}
-use Rattle.curp_facts.specs.Facts.{AdoptedBefore, Completable, HasLog, IsAdoptedNow, IsAmong, IsGiven, Lists, Logged, PairsGood, SaidOk, ToldWithin, WasAdopted, WasOrdered, WasSent, hi_of, lists_of_part, lo_of, reply_message, Sources, replay_of}
+use Rattle.curp_facts.specs.Facts.{AdoptedBefore, Completable, HasLog, IsAdoptedNow, IsAmong, IsGiven, Lists, Logged, PairsGood, SaidOk, ToldWithin, WasAdopted, WasOrdered, WasSent, hi_of, lists_of_part, lo_of, reply_message, ReplaySources, replay_of}
 use Rattle.curp_facts.specs.Names.{Agree, GivenOk, Top}
 use Rattle.curp_model.specs.Laws.{clash}
 use Rattle.curp_model.specs.Log.{IsLog, IsDone, LogState, entry_touches, meaning}
@@ -103,8 +103,8 @@ HeldApart w = (node : NodeId) (x : WitnessState) → IsWitness w node x → IsDi
 -- ---- logs
 
 -- the logs of all masters, recovering ones included, are logs
-abbrev pub LogsOk : World → Type 0
-LogsOk w = (l : Lists) → IsGiven w l → (its : Logged) → HasLog w l.master its → IsLog (lo_of w l.part) (hi_of w l.part) its.log
+abbrev pub LogsAreLogs : World → Type 0
+LogsAreLogs w = (l : Lists) → IsGiven w l → (its : Logged) → HasLog w l.master its → IsLog (lo_of w l.part) (hi_of w l.part) its.log
 
 -- a backup's log is a beginning of that of the master of its partition and epoch
 pub record FollowsLog (w : World) (l : Lists) (b : BackupState) : Type 0 where
@@ -278,7 +278,7 @@ pub record AdoptionOk (w : World) (l : Lists) : Type 0 where
   pub named : IsAmong node before.backups
   pub other : NodeId
   pub named_too : IsAmong other before.witnesses
-  pub sources : Sources w node other l.epoch
+  pub sources : ReplaySources w node other l.epoch
   pub last : (o : Lists) → WasAdopted w o → o.part ≡ l.part → o.epoch < l.epoch → o.version ≤ before.version
   pub order : Recover
   pub ordered : WasSent w (says manager_node l.master (body.Recover order))
@@ -455,7 +455,7 @@ pub record FactsKept (w : World) : Type 0 where
   pub migrations : MigrationsGivenOnce w
   pub held : HeldApart w
   pub said : SaidOk w
-  pub logs : LogsOk w
+  pub logs : LogsAreLogs w
   pub backups : BackupsFollow w
   pub masters : MastersFollow w
   pub early : EarlyRepliesOk w

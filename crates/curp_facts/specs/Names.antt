@@ -58,8 +58,8 @@ abbrev pub AllDiffer : {A : Type 0} → List A → Type 0
 AllDiffer {A} xs = (i j : ℕ) (x : A) → At xs i x → At xs j x → i ≡ j
 
 -- at opening a partition's master has the number of the partition; behind these, each epoch above the first has the next number
-abbrev pub IsMasterOf : ℕ → Lists → Type 0
-IsMasterOf parts l = ((l.epoch ≡ 1) × (l.master ≡ master_node l.part))
+abbrev pub HasMasterNumber : ℕ → Lists → Type 0
+HasMasterNumber parts l = ((l.epoch ≡ 1) × (l.master ≡ master_node l.part))
     ⊎ ((n : ℕ) × (1 < l.epoch) × (l.master ≡ master_node n) × (l.epoch + parts ≡ n + 1))
 
 -- Lists that were given: the numbers were used, the nodes are of the world and of the right kinds, each of the two lists has f
@@ -69,7 +69,7 @@ pub record GivenOk (w : World) (l : Lists) : Type 0 where
   pub epoch : (1 ≤ l.epoch) × (l.epoch < w.manager.next.epoch)
   pub version : (1 ≤ l.version) × (l.version < w.manager.next.version)
   pub master : IsOf w kind.Master l.master
-  pub its_number : IsMasterOf w.manager.shape.parts l
+  pub its_number : HasMasterNumber w.manager.shape.parts l
   pub backups : Each (IsOf w kind.Backup) l.backups
   pub witnesses : Each (IsOf w kind.Witness) l.witnesses
   pub many_backups : length l.backups ≡ w.manager.shape.f
@@ -113,7 +113,7 @@ pub record StartOk (w : World) (node : NodeId) (s : Start) : Type 0 where
 
 -- an order to recover names a backup and a witness of adopted lists of its partition, with a smaller epoch and version, and has
 -- the range that the partition had at opening
-pub record OrderOk (w : World) (node : NodeId) (o : Recover) : Type 0 where
+pub record RecoverOrderOk (w : World) (node : NodeId) (o : Recover) : Type 0 where
   pub before : Lists
   pub was : WasAdopted w before
   pub its_part : before.part ≡ o.part
@@ -170,7 +170,7 @@ MovingOk w (Some m) = IsCarried w m.number m.moved
 abbrev pub ManagerSays : World → NodeId → Body → Type 0
 ManagerSays w node (body.Install epoch) = InstallOk w node epoch
 ManagerSays w node (body.Start s) = StartOk w node s
-ManagerSays w node (body.Recover o) = OrderOk w node o
+ManagerSays w node (body.Recover o) = RecoverOrderOk w node o
 ManagerSays w node (body.Prepare p) = PrepareOk w node p
 ManagerSays w node (body.Adopted a) = AdoptedOk w node a
 ManagerSays w node (body.TakeOut t) = IsAdoptedMaster w node

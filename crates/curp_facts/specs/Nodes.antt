@@ -28,7 +28,7 @@ use Rattle.curp_model.specs.Recovery.{Asking, MasterStage, Fresh, Recovering, Re
 use Rattle.curp_model.specs.Table.{check}
 use Rattle.curp_model.specs.Witness.{HeldRequest, WitnessState}
 use Rattle.curp_model.specs.World.{World}
-use Rattle.curp_facts.specs.ClientNumbers.{NumbersOk}
+use Rattle.curp_facts.specs.ClientNumbers.{ClientNumbersOk}
 use Rattle.curp_facts.specs.Evidence.{KnowledgeOk}
 use Rattle.curp_facts.specs.Entries.{LogOk, UpdateOk}
 use Rattle.curp_facts.specs.Facts.{Completable, EntryWas, FencedLogOk, FrozenOk, IsOnlyExpire, Lists, ReplayOk, WasAdopted, WasSent, hi_of, lo_of}
@@ -143,7 +143,7 @@ abbrev pub NeverPrepared : World → NodeId → Type 0
 NeverPrepared w node = (version : ℕ) → WasSent w (says node manager_node (body.Prepared version)) → ⊥
 
 -- a recovering master: its order was sent to it; only one that waits has said Recovered
-pub record RecoveringOk (w : World) (node : NodeId) (s : RecoveryState) : Type 0 where
+pub record RecovererOk (w : World) (node : NodeId) (s : RecoveryState) : Type 0 where
   pub ordered : WasSent w (says manager_node node (body.Recover s.order))
   pub stage : StageOk w s s.phase
   pub unprepared : NeverPrepared w node
@@ -157,7 +157,7 @@ pub record FreshOk (w : World) (node : NodeId) : Type 0 where
 -- a master, by how far it is
 abbrev pub MasterOk : World → NodeId → MasterStage → Type 0
 MasterOk w node Fresh = FreshOk w node
-MasterOk w node (Recovering s) = RecoveringOk w node s
+MasterOk w node (Recovering s) = RecovererOk w node s
 MasterOk w node (Serving m) = ServingOk w node m
 
 -- ---- backups and witnesses
@@ -186,7 +186,7 @@ MayCome w n from b = WasSent w (says from (client_node n) b)
 
 -- its numbers are those of the history, and what it knows was said
 pub record ClientOk (w : World) (n : ℕ) (c : ClientState) : Type 0 where
-  pub numbers : NumbersOk n w.history c
+  pub numbers : ClientNumbersOk n w.history c
   pub knows : KnowledgeOk (MayCome w n) (EntryWas w) c
 
 -- ---- the history

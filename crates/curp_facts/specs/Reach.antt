@@ -58,8 +58,8 @@ pub record HasStored (w : World) (n : ℕ) (node : NodeId) : Type 0 where
   pub low : n ≤ length b.log
 
 -- a backup of that name is there
-abbrev pub IsThere : World → NodeId → Type 0
-IsThere w node = (b : BackupState) × IsBackup w node b
+abbrev pub BackupIsThere : World → NodeId → Type 0
+BackupIsThere w node = (b : BackupState) × IsBackup w node b
 
 -- what an entry says of a request
 abbrev pub Tells : ℕ → ℕ → List Entry → ℕ → RequestId → Answer → Entry → Type 0

@@ -33,7 +33,7 @@ abbrev pub IsGiveOf : ℕ → Entry → Type 0
 IsGiveOf migration e = (given : Package) × (e ≡ Give migration given)
 
 -- a migration is done: its package was told by a master, and its give stands on all backups of one
-pub record IsDone (w : World) (number : ℕ) : Type 0 where
+pub record IsMigrationDone (w : World) (number : ℕ) : Type 0 where
   pub source : NodeId
   pub taken : Package
   pub told : WasSent w (says source manager_node (body.Taken (record { migration = number; «package» = taken })))
@@ -54,4 +54,4 @@ pub record Routes (w : World) : Type 0 where
   pub one_target : (part other : ℕ) (g k : Parcel) → WasOrdered w part (body.GiveIn g) → WasOrdered w other (body.GiveIn k) → g.migration ≡ k.migration → part ≡ other
   pub apart : (part other : ℕ) (t : TakeOut) (g : Parcel) → WasOrdered w part (body.TakeOut t) → WasOrdered w other (body.GiveIn g) → t.migration ≡ g.migration → part ≢ other
   pub in_work : (m : Migration) → w.manager.moving ≡ Some m → InWork w m
-  pub done : (number : ℕ) → 1 ≤ number → number < w.manager.next.migration → (IsMoving w number → ⊥) → IsDone w number
+  pub done : (number : ℕ) → 1 ≤ number → number < w.manager.next.migration → (IsMoving w number → ⊥) → IsMigrationDone w number

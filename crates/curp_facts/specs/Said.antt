@@ -32,7 +32,7 @@ use Rattle.curp_model.specs.Named.{IsWitness}
 use Rattle.curp_model.specs.Witness.{WitnessState, holds}
 use Rattle.curp_model.specs.World.{World}
 use Rattle.curp_facts.specs.Entries.{RequestOk, UpdateOk}
-use Rattle.curp_facts.specs.Facts.{AdoptedBefore, AppendOk, Collected, EntryWas, FenceReplyOk, FrozenOk, HasLog, IsAmong, IsGiven, Lists, Logged, PreparedOk, RecoveredOk, replay_of, Speaks, StoredOk, WasAdopted, WasSent, WasTaken, IsMasterOf, WasOrdered}
+use Rattle.curp_facts.specs.Facts.{AdoptedBefore, AppendOk, WasCollected, EntryWas, FenceReplyOk, FrozenOk, HasLog, IsAmong, IsGiven, Lists, Logged, PreparedOk, RecoveredOk, replay_of, Speaks, StoredOk, WasAdopted, WasSent, WasTaken, IsMasterOf, WasOrdered}
 use Rattle.curp_facts.specs.Kept.{RefusalFirstOk}
 use Rattle.curp_facts.specs.Reach.{EarlySaid, GcSaid, IsReady, Reach, SyncedSaid, QuickSaid}
 use Rattle.curp_msg.specs.declared.body.Probed.{Probed}
@@ -171,7 +171,7 @@ pub record AcceptedSaid (w : World) (from to : NodeId) (a : Accepted) : Type 0 w
   pub x : WitnessState
   pub is : IsWitness w from x
   pub its_epoch : x.epoch ≡ Some a.epoch
-  pub kept : (holds x a.id ≡ true) ⊎ Collected w from a.id a.epoch
+  pub kept : (holds x a.id ≡ true) ⊎ WasCollected w from a.id a.epoch
 
 -- what is rejected is an update that was invoked, and it is told to its client
 pub record RejectedSaid (w : World) (to : NodeId) (r : Rejected) : Type 0 where

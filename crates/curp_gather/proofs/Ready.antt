@@ -16,7 +16,7 @@ use Rattle.curp_model.specs.Recovery.{Fresh, MasterStage}
 use Rattle.curp_model.specs.Witness.{WitnessState, fresh_witness}
 use Rattle.curp_model.specs.World.{opening}
 use Rattle.curp_msg.specs.Limits.{weight_limit}
-use Rattle.curp_journal.specs.Journal.{IsJournal, Log, Stamped}
+use Rattle.curp_journal.specs.Journal.{IsJournal, NodeJournal, Stamped}
 use Rattle.curp_turns.specs.Turns.{AreApart, Journal, Placed}
 use Rattle.curp_law_weave.specs.NodeStates.{ABackup, AClient, AManager, AMaster, AWitness, NodeState, machine_of, opening_of, state_of}
 use Rattle.curp_law_weave.specs.Openings.{ComesAs, OpensAs}
@@ -27,7 +27,7 @@ use Rattle.curp_merge.specs.Merging.{AreJournals, Merged, weight_sent}
 use Rattle.curp_merge.proofs.Sums.{weight_of_turns}
 use Rattle.curp_nodes.specs.Machines.{backup_machine, client_machine, manager_machine, master_machine, witness_machine}
 use Rattle.curp_gather.specs.Journals.{AreOf, Begins, IsBackupJournal, IsClientJournal, IsMasterJournal, IsScriptOf, IsWitnessJournal, NodesAscend, journal_of, journals_of}
-use Rattle.curp_gather.specs.Replays.{AreReplayed, IsReplayed}
+use Rattle.curp_gather.specs.Replays.{AreReplayed, IsMadeAnew}
 use Rattle.curp_gather.specs.declared.journals.Journals.{Journals}
 use Rattle.curp_gather.proofs.ByMachine.{backup_is, client_is, manager_is, master_is, witness_is}
 
@@ -75,15 +75,15 @@ one_apart x i k a b at bt same = let p = only i a at in let q = only k b bt in o
     only (suc n) y h = absurd cc
 
 -- the name of a node of a kind, by its number
-abbrev named : {S : Type 0} → NodeKind → Log (Node S) → Type 0
+abbrev named : {S : Type 0} → NodeKind → NodeJournal (Node S) → Type 0
 named K log = log.id ≡ record { kind = K; number = log.opening.number }
 
-kind_apart : {S : Type 0} (K : NodeKind) (logs : List (Log (Node S))) → Each (named K) logs → NodesAscend logs → AreApart (map journal_of logs)
+kind_apart : {S : Type 0} (K : NodeKind) (logs : List (NodeJournal (Node S))) → Each (named K) logs → NodesAscend logs → AreApart (map journal_of logs)
 kind_apart {S} K logs names rise i k a b at bt same =
     let p = at_mapped journal_of logs i a at in
     let q = at_mapped journal_of logs k b bt in
-    let x : Log (Node S) = p.0 in
-    let y : Log (Node S) = q.0 in
+    let x : NodeJournal (Node S) = p.0 in
+    let y : NodeJournal (Node S) = q.0 in
     let number : x.opening.number ≡ y.opening.number =
     ap (λ (id : NodeId). id.number) (sym (Each-at (named K) logs names i x p.1) ∙ (ap (λ (z : Journal). z.id) p.2 ∙ (same ∙ (ap (λ (z : Journal). z.id) (sym q.2) ∙ Each-at (named K) logs names k y q.1)))) in
     elim (cases_lt i k) [
@@ -94,10 +94,10 @@ kind_apart {S} K logs names rise i k a b at bt same =
       ]
     ]
 
-of_kind : {S : Type 0} (K : NodeKind) (logs : List (Log (Node S))) → Each (named K) logs → OfKind K (map journal_of logs)
+of_kind : {S : Type 0} (K : NodeKind) (logs : List (NodeJournal (Node S))) → Each (named K) logs → OfKind K (map journal_of logs)
 of_kind {S} K logs names =
     Each-map (λ (x : Journal). x.id.kind ≡ K) journal_of logs
-    (Each-weaker (named K) (λ (log : Log (Node S)). log.id.kind ≡ K) (λ log e. ap (λ (id : NodeId). id.kind) e) logs names)
+    (Each-weaker (named K) (λ (log : NodeJournal (Node S)). log.id.kind ≡ K) (λ log e. ap (λ (id : NodeId). id.kind) e) logs names)
 
 other_kind : (K L : NodeKind) → (L ≡ K → ⊥) → (xs : List Journal) → OfKind L xs → NotOfKind K xs
 other_kind K L differ xs of = Each-weaker (λ (x : Journal). x.id.kind ≡ L) (λ (x : Journal). x.id.kind ≢ K) (λ x e same. differ (sym e ∙ same)) xs of
@@ -160,17 +160,17 @@ module _ (h : Header) (j : Journals) (are : AreOf h j) where
         (Each-weaker (named kind.Backup) _ (λ log e same. absurd cc) j.backups.items backup_names)
         (Each-weaker (named kind.Witness) _ (λ log e same. absurd cc) j.witnesses.items witness_names);
     stamped = of_all (λ (x : Journal). Stamped 0 x.items) j replayed.manager.stamped
-        (Each-weaker (IsReplayed _) _ (λ log r. r.stamped) j.clients.items replayed.clients)
-        (Each-weaker (IsReplayed _) _ (λ log r. r.stamped) j.masters.items replayed.masters)
-        (Each-weaker (IsReplayed _) _ (λ log r. r.stamped) j.backups.items replayed.backups)
-        (Each-weaker (IsReplayed _) _ (λ log r. r.stamped) j.witnesses.items replayed.witnesses);
+        (Each-weaker (IsMadeAnew _) _ (λ log r. r.stamped) j.clients.items replayed.clients)
+        (Each-weaker (IsMadeAnew _) _ (λ log r. r.stamped) j.masters.items replayed.masters)
+        (Each-weaker (IsMadeAnew _) _ (λ log r. r.stamped) j.backups.items replayed.backups)
+        (Each-weaker (IsMadeAnew _) _ (λ log r. r.stamped) j.witnesses.items replayed.witnesses);
     own = are.own;
   }
 
   -- ---- each is one that its node can have
 
   -- a journal of a node that begins so
-  of_node : {S : Type 0} (log : Log S) (node : NodeId) (x : NodeState) → log.id ≡ node → opening_of h node ≡ x → IsJournal (machine_of node) x log.items
+  of_node : {S : Type 0} (log : NodeJournal S) (node : NodeId) (x : NodeState) → log.id ≡ node → opening_of h node ≡ x → IsJournal (machine_of node) x log.items
       → (state_of (opening h) node ≢ None) ⊎ TakesFirst log.items → (node ≡ manager_node → log.ended ≡ false) → IsJournalOf h (journal_of log)
   of_node log node x name begins journal there stops = record {
     replay = subst (λ (n : NodeId). IsJournal (machine_of n) (opening_of h n) log.items) (sym name) (rw begins journal);
@@ -178,12 +178,12 @@ module _ (h : Header) (j : Journals) (are : AreOf h j) where
     stops = λ e. stops (sym name ∙ e);
   }
 
-  opens_so : {S : Type 0} (log : Log S) (node : NodeId) (x : NodeState) → log.id ≡ node → OpensAs h node x → IsJournal (machine_of node) x log.items → (node ≡ manager_node → log.ended ≡ false)
+  opens_so : {S : Type 0} (log : NodeJournal S) (node : NodeId) (x : NodeState) → log.id ≡ node → OpensAs h node x → IsJournal (machine_of node) x log.items → (node ≡ manager_node → log.ended ≡ false)
       → IsJournalOf h (journal_of log)
   opens_so log node x name opens journal stops =
       of_node log node x name opens.begins journal (inl (λ none. let there = opens.there in absurd (cc (there, none)))) stops
 
-  comes_so : {S : Type 0} (log : Log S) (node : NodeId) (x : NodeState) → log.id ≡ node → ComesAs h node x → IsJournal (machine_of node) x log.items → TakesFirst log.items → (node ≡ manager_node → log.ended ≡ false)
+  comes_so : {S : Type 0} (log : NodeJournal S) (node : NodeId) (x : NodeState) → log.id ≡ node → ComesAs h node x → IsJournal (machine_of node) x log.items → TakesFirst log.items → (node ≡ manager_node → log.ended ≡ false)
       → IsJournalOf h (journal_of log)
   comes_so log node x name comes journal first stops = of_node log node x name comes.begins journal (inr first) stops
 
@@ -191,18 +191,18 @@ module _ (h : Header) (j : Journals) (are : AreOf h j) where
   not_manager : {b : Bool} (node : NodeId) → (node.kind ≡ kind.Manager → ⊥) → node ≡ manager_node → b ≡ false
   not_manager node other e = absurd (other (ap (λ (id : NodeId). id.kind) e))
 
-  of_manager : IsReplayed manager_machine j.manager → IsJournalOf h (journal_of j.manager)
+  of_manager : IsMadeAnew manager_machine j.manager → IsJournalOf h (journal_of j.manager)
   of_manager r =
       opens_so j.manager manager_node (AManager j.manager.opening) are.manager.its_name
       (rw are.manager.begins (manager_opens h)) (manager_journal j.manager.opening j.manager.items (manager_is j.manager.opening j.manager.items r.replay)) (λ e. are.manager.runs)
 
-  of_client : (log : Log (Node ClientState)) → IsClientJournal h log → IsReplayed client_machine log → IsJournalOf h (journal_of log)
+  of_client : (log : NodeJournal (Node ClientState)) → IsClientJournal h log → IsMadeAnew client_machine log → IsJournalOf h (journal_of log)
   of_client log is r =
       let n = log.opening.number in
       opens_so log (client_node n) (AClient log.opening.state) is.its_name
       (client_opens h n log.opening.state is.begins) (client_journal log.opening log.items (client_is log.opening log.items r.replay)) (not_manager (client_node n) (λ k. absurd cc))
 
-  of_master : (log : Log (Node MasterStage)) → IsMasterJournal h log → IsReplayed master_machine log → IsJournalOf h (journal_of log)
+  of_master : (log : NodeJournal (Node MasterStage)) → IsMasterJournal h log → IsMadeAnew master_machine log → IsJournalOf h (journal_of log)
   of_master log is r = go is.begins
     where
       journal : IsJournal (machine_of (master_node log.opening.number)) (AMaster log.opening.state) log.items
@@ -213,7 +213,7 @@ module _ (h : Header) (j : Journals) (are : AreOf h j) where
           opens_so log (master_node log.opening.number) (AMaster log.opening.state) is.its_name (master_opens h log.opening.number log.opening.state p) journal (not_manager (master_node log.opening.number) (λ k. absurd cc))
       go (inr p) = comes_so log (master_node log.opening.number) (AMaster log.opening.state) is.its_name (rw p.1 (master_comes h log.opening.number p.0)) journal p.2 (not_manager (master_node log.opening.number) (λ k. absurd cc))
 
-  of_backup : (log : Log (Node BackupState)) → IsBackupJournal h log → IsReplayed backup_machine log → IsJournalOf h (journal_of log)
+  of_backup : (log : NodeJournal (Node BackupState)) → IsBackupJournal h log → IsMadeAnew backup_machine log → IsJournalOf h (journal_of log)
   of_backup log is r = go is.begins
     where
       journal : IsJournal (machine_of (backup_node log.opening.number)) (ABackup log.opening.state) log.items
@@ -224,7 +224,7 @@ module _ (h : Header) (j : Journals) (are : AreOf h j) where
           opens_so log (backup_node log.opening.number) (ABackup log.opening.state) is.its_name (backup_opens h log.opening.number log.opening.state p) journal (not_manager (backup_node log.opening.number) (λ k. absurd cc))
       go (inr p) = comes_so log (backup_node log.opening.number) (ABackup log.opening.state) is.its_name (rw p.1 (backup_comes h log.opening.number p.0)) journal p.2 (not_manager (backup_node log.opening.number) (λ k. absurd cc))
 
-  of_witness : (log : Log (Node WitnessState)) → IsWitnessJournal h log → IsReplayed witness_machine log → IsJournalOf h (journal_of log)
+  of_witness : (log : NodeJournal (Node WitnessState)) → IsWitnessJournal h log → IsMadeAnew witness_machine log → IsJournalOf h (journal_of log)
   of_witness log is r = go is.begins
     where
       journal : IsJournal (machine_of (witness_node log.opening.number)) (AWitness log.opening.state) log.items

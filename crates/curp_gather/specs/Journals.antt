@@ -5,7 +5,7 @@ use Rattle.curp_cmd.specs.Node.{backup_node, client_node, manager_node, master_n
 use Rattle.curp_msg.specs.Moved.{Node}
 use Rattle.curp_msg.specs.declared.script.Header.{Header}
 use Rattle.curp_msg.specs.declared.script.Step.{Step}
-use Rattle.curp_journal.specs.Journal.{Log}
+use Rattle.curp_journal.specs.Journal.{NodeJournal}
 use Rattle.curp_journal.specs.declared.item.Item.{Item}
 use Rattle.curp_model.specs.Backup.{BackupState, fresh_backup}
 use Rattle.curp_model.specs.Client.{ClientState}
@@ -22,7 +22,7 @@ use Rattle.curp_gather.specs.declared.journals.Journals.{Journals}
 -- ---- the journals
 
 -- a journal, without the state that its node began with
-abbrev pub journal_of : {N : Type 0} → Log N → Journal
+abbrev pub journal_of : {N : Type 0} → NodeJournal N → Journal
 journal_of log = record { id = log.id; items = log.items; ended = log.ended }
 
 -- the journals of all nodes: the manager, the clients, the masters, the backups and the witnesses
@@ -42,36 +42,36 @@ Begins there fresh node items =
     ⊎ ((length there < node.number) × (node.state ≡ fresh) × TakesFirst items)
 
 -- the manager begins as it is before any step, and never stops
-pub record IsManagerJournal (h : Header) (log : Log ManagerState) : Type 0 where
+pub record IsManagerJournal (h : Header) (log : NodeJournal ManagerState) : Type 0 where
   pub its_name : log.id ≡ manager_node
   pub begins : log.opening ≡ (opening h).manager
   pub runs : log.ended ≡ false
 
 -- a client is there before any step
-pub record IsClientJournal (h : Header) (log : Log (Node ClientState)) : Type 0 where
+pub record IsClientJournal (h : Header) (log : NodeJournal (Node ClientState)) : Type 0 where
   pub its_name : log.id ≡ client_node log.opening.number
   pub begins : numbered (opening h).clients log.opening.number ≡ Some log.opening.state
 
 -- a master
-pub record IsMasterJournal (h : Header) (log : Log (Node MasterStage)) : Type 0 where
+pub record IsMasterJournal (h : Header) (log : NodeJournal (Node MasterStage)) : Type 0 where
   pub its_name : log.id ≡ master_node log.opening.number
   pub begins : Begins (opening h).masters Fresh log.opening log.items
 
 -- a backup
-pub record IsBackupJournal (h : Header) (log : Log (Node BackupState)) : Type 0 where
+pub record IsBackupJournal (h : Header) (log : NodeJournal (Node BackupState)) : Type 0 where
   pub its_name : log.id ≡ backup_node log.opening.number
   pub begins : Begins (opening h).backups fresh_backup log.opening log.items
 
 -- a witness
-pub record IsWitnessJournal (h : Header) (log : Log (Node WitnessState)) : Type 0 where
+pub record IsWitnessJournal (h : Header) (log : NodeJournal (Node WitnessState)) : Type 0 where
   pub its_name : log.id ≡ witness_node log.opening.number
   pub begins : Begins (opening h).witnesses (fresh_witness h.sets h.ways) log.opening log.items
 
 -- ---- all of them
 
 -- the numbers of the nodes rise
-abbrev pub NodesAscend : {S : Type 0} → List (Log (Node S)) → Type 0
-NodesAscend {S} logs = (i k : ℕ) (a b : Log (Node S)) → At logs i a → At logs k b → i < k → a.opening.number < b.opening.number
+abbrev pub NodesAscend : {S : Type 0} → List (NodeJournal (Node S)) → Type 0
+NodesAscend {S} logs = (i k : ℕ) (a b : NodeJournal (Node S)) → At logs i a → At logs k b → i < k → a.opening.number < b.opening.number
 
 -- Journals that nodes of the header's world can have: each was begun with the node that the world has by its name, the
 -- lists ascend, and what came to a node is its own

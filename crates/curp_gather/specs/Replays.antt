@@ -3,18 +3,18 @@ use Rattle.curp_base.specs.Words.{Each}
 use Rattle.curp_msg.specs.Moved.{Moved}
 use Rattle.curp_msg.specs.declared.machine.Input.{Input}
 use Rattle.curp_nodes.specs.Machines.{backup_machine, client_machine, manager_machine, master_machine, witness_machine}
-use Rattle.curp_journal.specs.Journal.{IsJournal, Log, Stamped}
+use Rattle.curp_journal.specs.Journal.{IsJournal, NodeJournal, Stamped}
 use Rattle.curp_gather.specs.declared.journals.Journals.{Journals}
 
 -- the machine makes the items of their inputs, and their stamps rise
-pub record IsReplayed {N : Type 0} (machine : N → Input → Moved N) (log : Log N) : Type 0 where
+pub record IsMadeAnew {N : Type 0} (machine : N → Input → Moved N) (log : NodeJournal N) : Type 0 where
   pub replay : IsJournal machine log.opening log.items
   pub stamped : Stamped 0 log.items
 
 -- so is each journal
 pub record AreReplayed (j : Journals) : Type 0 where
-  pub manager : IsReplayed manager_machine j.manager
-  pub clients : Each (IsReplayed client_machine) j.clients.items
-  pub masters : Each (IsReplayed master_machine) j.masters.items
-  pub backups : Each (IsReplayed backup_machine) j.backups.items
-  pub witnesses : Each (IsReplayed witness_machine) j.witnesses.items
+  pub manager : IsMadeAnew manager_machine j.manager
+  pub clients : Each (IsMadeAnew client_machine) j.clients.items
+  pub masters : Each (IsMadeAnew master_machine) j.masters.items
+  pub backups : Each (IsMadeAnew backup_machine) j.backups.items
+  pub witnesses : Each (IsMadeAnew witness_machine) j.witnesses.items

@@ -6,8 +6,8 @@
 #![tactic(auto)]
 
 mod journals;
-mod lines;
 mod script;
+mod strands;
 
 pub use curp_merge::GatherError;
 pub use journals::Journals;

@@ -6,7 +6,7 @@ ghost use Rattle.curp_merge.specs.Merging.{turn_count, weight_sent};
 ghost use Rattle.curp_msg.specs.Limits.{step_limit, weight_limit};
 
 use crate::Journals;
-use crate::lines::lines_of;
+use crate::strands::strands_of;
 use curp_merge::{GatherError, merge};
 use curp_msg::{Header, Step};
 use std::alloc::Global;
@@ -27,6 +27,6 @@ pub fn gather(
     ensures light { IfOk result (λ steps. weight_sent (journals_of journals.now) ≤ weight_limit) }
     ensures cause { IfErr result (IsCause (journals_of journals.now)) }
 {
-    let lines = lines_of(alloc, journals)?;
-    merge(alloc, &lines)
+    let strands = strands_of(alloc, journals)?;
+    merge(alloc, &strands)
 }

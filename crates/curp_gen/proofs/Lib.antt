@@ -1,5 +1,4 @@
 pub mod Answered
-pub mod Headers
 pub mod Made
 pub mod Masters
 pub mod Named

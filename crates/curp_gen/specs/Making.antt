@@ -8,10 +8,9 @@ use Rattle.curp_model.specs.Client.{Pending, most_pending}
 use Rattle.curp_model.specs.World.{World, Stepped, messages, opening, order, step, weight}
 use Rattle.curp_msg.specs.declared.outcome.StepResult.{StepResult}
 use Rattle.curp_msg.specs.declared.outcome.StepResult.TheVariants.{Done}
-use Rattle.curp_msg.specs.declared.script.Header.{Header}
 use Rattle.curp_msg.specs.declared.script.Step.{Step}
 use Rattle.curp_msg.specs.declared.script.Step.TheVariants.{Collect, Deliver, Fetch, Invoke, Migrate, Nudge, Recover, Retry, Sync}
-use Rattle.curp_words.specs.Plan.{IsPlan}
+use Rattle.curp_words.specs.Plan.{IsPlan, header_of}
 use Rattle.curp_words.specs.declared.order.MakePlan.{MakePlan}
 use Rattle.curp_gen.specs.Commands.{made_command}
 use Rattle.curp_gen.specs.declared.choice.Choice.{Choice}
@@ -40,18 +39,6 @@ pub record IsCounted (m : Making) : Type 0 where
   pub recoveries : m.recoveries ≤ m.plan.recoveries
   pub refused : m.refused ≤ m.made
   pub completed : m.completed ≤ m.made
-
--- the header: clients are fast
-abbrev pub header_of : MakePlan → Header
-header_of plan = record {
-  clients = plan.clients;
-  f = plan.f;
-  fast = true;
-  parts = plan.parts;
-  protocol = plan.protocol;
-  sets = plan.sets;
-  ways = plan.ways;
-}
 
 -- the stream of words that scripts are made from
 abbrev pub script_stream : ℕ

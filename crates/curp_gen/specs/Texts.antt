@@ -6,7 +6,8 @@ use Rattle.curp_script.specs.Texts.{line_text, script_lines}
 use Rattle.curp_words.specs.declared.order.MakePlan.{MakePlan}
 use Rattle.curp_words.specs.declared.order.Output.{Output}
 use Rattle.curp_words.specs.declared.order.Output.TheVariants as output
-use Rattle.curp_gen.specs.Making.{after, begun, header_of, made_steps, summary_of}
+use Rattle.curp_gen.specs.Making.{after, begun, made_steps, summary_of}
+use Rattle.curp_words.specs.Plan.{header_of}
 use Rattle.curp_gen.specs.declared.summary.Summary.{Summary}
 
 -- the script of a plan: its header, and its steps

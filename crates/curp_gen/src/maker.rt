@@ -3,7 +3,7 @@ ghost use Rattle.curp_client.specs.Requests.{least_of};
 ghost use Rattle.curp_model.specs.World.{order};
 ghost use Rattle.curp_msg.specs.Script.{IsHeader};
 ghost use Rattle.curp_script.specs.Printed.{NamesNode};
-ghost use Rattle.curp_words.specs.Plan.{IsPlan};
+ghost use Rattle.curp_words.specs.Plan.{IsPlan, header_of};
 ghost use Rattle.curp_gen.specs.Making as making;
 
 use crate::draws::copy_of;
@@ -69,7 +69,7 @@ impl Maker {
     {
         Ok(Maker {
             plan: *plan,
-            world: Cluster::new(alloc, &header_of(plan))?,
+            world: Cluster::new(alloc, &plan.header())?,
             words: Pcg32::new(plan.number, SCRIPT_STREAM),
             cursor: 1,
             made: 0,
@@ -81,10 +81,10 @@ impl Maker {
 
     /// The header of the script.
     pub fn header(&self) -> Header
-        ensures header { result ≡ making.header_of self.now.plan }
+        ensures header { result ≡ header_of self.now.plan }
         ensures in_range { IsHeader result }
     {
-        header_of(&self.plan)
+        self.plan.header()
     }
 
     /// Makes the next step. Where there is no memory for it, nothing has changed.
@@ -196,7 +196,7 @@ impl Maker {
 /// The script of a plan.
 pub fn make(alloc: Global, plan: &MakePlan) -> Result<(Header, Vec<Step>), NoMemory>
     requires { IsPlan plan.now }
-    ensures header { IfOk result (λ script. script.0 ≡ making.header_of plan.now) }
+    ensures header { IfOk result (λ script. script.0 ≡ header_of plan.now) }
     ensures steps { IfOk result (λ script. script.1.items ≡ making.made_steps plan.now) }
 {
     let mut maker = Maker::new(alloc, plan)?;
@@ -208,7 +208,7 @@ pub fn make(alloc: Global, plan: &MakePlan) -> Result<(Header, Vec<Step>), NoMem
 // The script of a plan that is begun.
 fn made(alloc: Global, plan: &MakePlan, maker: &mut Maker) -> Result<(Header, Vec<Step>), NoMemory>
     requires { maker.old ≡ making.begun plan.now }
-    ensures header { IfOk result (λ script. script.0 ≡ making.header_of plan.now) }
+    ensures header { IfOk result (λ script. script.0 ≡ header_of plan.now) }
     ensures steps { IfOk result (λ script. script.1.items ≡ making.made_steps plan.now) }
 {
     let mut list = Vec::with_capacity(alloc, plan.steps as usize)?;
@@ -218,21 +218,6 @@ fn made(alloc: Global, plan: &MakePlan, maker: &mut Maker) -> Result<(Header, Ve
         list.extend_from_slice(&[step])?;
     }
     Ok((maker.header(), list))
-}
-
-// The header: clients are fast.
-fn header_of(plan: &MakePlan) -> Header
-    ensures { result ≡ making.header_of plan.now }
-{
-    Header {
-        clients: plan.clients,
-        f: plan.f,
-        fast: true,
-        parts: plan.parts,
-        protocol: plan.protocol,
-        sets: plan.sets,
-        ways: plan.ways,
-    }
 }
 
 // So much, and one more where it is so.

@@ -10,7 +10,7 @@ use Rattle.curp_journal.specs.declared.arrived.Arrived.{Arrived}
 use Rattle.curp_journal.specs.declared.item.Item.{Item}
 
 -- a node's name and opening state, what it has done, and whether it has stopped for good
-pub record Log (N : Type 0) : Type 0 where
+pub record NodeJournal (N : Type 0) : Type 0 where
   pub id : NodeId
   pub opening : N
   pub items : List Item

@@ -36,16 +36,16 @@ use Rattle.curp_msg.specs.Moved.{Moved}
 use Rattle.curp_model.specs.Ranges.{owns_all}
 use Rattle.curp_cmd.specs.Hash.{hashes}
 use Rattle.curp_model.specs.Table.{check, is_gone}
-use Rattle.curp_facts.specs.Growth.{Core, core, CoreGrows, ServesOn, Above}
+use Rattle.curp_facts.specs.Growth.{Growing, core, CoreGrows, ServesOn, Above}
 
 -- ---- cores
 
 -- a core that stays
-pub core_self : (c : Core) → CoreGrows c c
+pub core_self : (c : Growing) → CoreGrows c c
 core_self c = record { part = refl; epoch = refl; lo = refl; hi = refl; log = prefix_self c.log; round = omega arith; captured = omega arith; free = λ i h. h; version = λ a. omega arith; above = λ a. a }
 
 -- one growth behind another
-pub core_trans : (c d e : Core) → CoreGrows c d → CoreGrows d e → CoreGrows c e
+pub core_trans : (c d e : Growing) → CoreGrows c d → CoreGrows d e → CoreGrows c e
 core_trans c d e p q = record {
   part = q.part ∙ p.part;
   epoch = q.epoch ∙ p.epoch;
@@ -60,29 +60,29 @@ core_trans c d e p q = record {
 }
 
 -- what of a core may change, and by what
-core_to : (c : Core) (version : ℕ) (log : List Entry) (round captured : ℕ) (phase : Phase) → IsPrefix c.log log → c.round ≤ round → c.captured ≤ captured
+core_to : (c : Growing) (version : ℕ) (log : List Entry) (round captured : ℕ) (phase : Phase) → IsPrefix c.log log → c.round ≤ round → c.captured ≤ captured
     → (Above c.version c.phase → c.version ≤ version) → (Above c.version c.phase → Above version phase)
     → CoreGrows c (record c { version = version; log = log; round = round; captured = captured; phase = phase })
 core_to c version log round captured phase p r k v a = record { part = refl; epoch = refl; lo = refl; hi = refl; log = p; round = r; captured = k; free = λ i h. h; version = v; above = a }
 
-core_pushes : (c : Core) (es : List Entry) → CoreGrows c (record c { log = c.log ++ es })
+core_pushes : (c : Growing) (es : List Entry) → CoreGrows c (record c { log = c.log ++ es })
 core_pushes c es = core_to c c.version (c.log ++ es) c.round c.captured c.phase (prefix_push c.log es) (omega arith) (omega arith) (λ a. omega arith) (λ a. a)
 
-core_rounds : (c : Core) → CoreGrows c (record c { round = c.round + 1 })
+core_rounds : (c : Growing) → CoreGrows c (record c { round = c.round + 1 })
 core_rounds c = core_to c c.version c.log (c.round + 1) c.captured c.phase (prefix_self c.log) (omega arith) (omega arith) (λ a. omega arith) (λ a. a)
 
-core_pushes_round : (c : Core) (es : List Entry) → CoreGrows c (record c { log = c.log ++ es; round = c.round + 1 })
+core_pushes_round : (c : Growing) (es : List Entry) → CoreGrows c (record c { log = c.log ++ es; round = c.round + 1 })
 core_pushes_round c es = core_to c c.version (c.log ++ es) (c.round + 1) c.captured c.phase (prefix_push c.log es) (omega arith) (omega arith) (λ a. omega arith) (λ a. a)
 
 -- an answer at once takes a capture number alone
-core_glances : (c : Core) → CoreGrows c (record c { captured = c.captured + 1 })
+core_glances : (c : Growing) → CoreGrows c (record c { captured = c.captured + 1 })
 core_glances c = core_to c c.version c.log c.round (c.captured + 1) c.phase (prefix_self c.log) (omega arith) (omega arith) (λ a. omega arith) (λ a. a)
 
-core_captures : (c : Core) → CoreGrows c (record c { round = c.round + 1; captured = c.captured + 1 })
+core_captures : (c : Growing) → CoreGrows c (record c { round = c.round + 1; captured = c.captured + 1 })
 core_captures c = core_to c c.version c.log (c.round + 1) (c.captured + 1) c.phase (prefix_self c.log) (omega arith) (omega arith) (λ a. omega arith) (λ a. a)
 
 -- one more is free
-core_frees : (c d : Core) (index : ℕ) → d.free ≡ c.free → CoreGrows c d → CoreGrows c (record d { free = d.free ++ index ∷ [] })
+core_frees : (c d : Growing) (index : ℕ) → d.free ≡ c.free → CoreGrows c d → CoreGrows c (record d { free = d.free ++ index ∷ [] })
 core_frees c d index same g = record {
   part = g.part;
   epoch = g.epoch;
@@ -164,8 +164,8 @@ module _ (n : ℕ) (m : MasterState) where
   prepares_goes k s same is = cond_both (not s.prepared && all_have k.acknowledged s.backups (length k.log) s.round) _ _ (Goes m)
       (λ y. go (core m) (core k) same is) (λ y. subst (CoreGrows (core m)) (sym same) rests)
     where
-      go : (c d : Core) → d ≡ c → c.phase ≡ Switching s → CoreGrows c (record d { phase = Switching (record s { prepared = true }) })
-      go c d e is = subst (λ (x : Core). CoreGrows c (record x { phase = Switching (record s { prepared = true }) })) (sym e)
+      go : (c d : Growing) → d ≡ c → c.phase ≡ Switching s → CoreGrows c (record d { phase = Switching (record s { prepared = true }) })
+      go c d e is = subst (λ (x : Growing). CoreGrows c (record x { phase = Switching (record s { prepared = true }) })) (sym e)
           (core_to c c.version c.log c.round c.captured (Switching (record s { prepared = true })) (prefix_self c.log) (omega arith) (omega arith) (λ a. omega arith) (λ a. subst (Above c.version) is a))
 
   goes_on_goes : (k : MasterState) (p : Phase) → core k ≡ core m → m.phase ≡ p → Goes m (goes_on n k p)

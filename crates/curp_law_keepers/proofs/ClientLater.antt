@@ -20,13 +20,13 @@ use Rattle.curp_model.specs.Client.{Accept, Attempt, ClientState, Early, Pending
 use Rattle.curp_model.specs.World.{completion, invocation_of}
 use Rattle.curp_facts.specs.Evidence.{AcceptCame, EarlyCame, EvidenceOk, IsAttempt, KnowledgeOk, GlimpseCame, LiveCame}
 use Rattle.curp_law_keepers.specs.ClientEffect.{MayComplete, events_after}
-use Rattle.curp_facts.specs.ClientNumbers.{IsEventOf, NumbersOk}
+use Rattle.curp_facts.specs.ClientNumbers.{IsEventOf, ClientNumbersOk}
 use Rattle.curp_law_keepers.proofs.Numbers.{numbers_stay, waiting}
 
 -- ---- at first
 
 -- a client that has invoked nothing
-pub fresh_numbers : (n : ℕ) (fast : _) (protocol : _) (config : Config) → NumbersOk n [] (fresh_client fast protocol config)
+pub fresh_numbers : (n : ℕ) (fast : _) (protocol : _) (config : Config) → ClientNumbersOk n [] (fresh_client fast protocol config)
 fresh_numbers n fast protocol config = record { pending = tt; rise = tt; used = λ seq one up. absurd (omega (arith, one, up)); counted = λ i id command at mine. absurd cc }
 
 -- knows the adopted entries that it begins with
@@ -55,7 +55,7 @@ module _ (Came Comes : NodeId → Body → Type 0) (Adopted Adopts : PartConfig 
 
 -- ---- what one client does leaves the numbers of others
 
-module _ (Came : NodeId → Body → Type 0) (Adopted : PartConfig → Type 0) (n : ℕ) (events : List Event) (c : ClientState) (numbers : NumbersOk n events c) where
+module _ (Came : NodeId → Body → Type 0) (Adopted : PartConfig → Type 0) (n : ℕ) (events : List Event) (c : ClientState) (numbers : ClientNumbersOk n events c) where
   invocation_its : (given : Input) → Each (IsEventOf n) (invocation_of (client_node n) (Some c) given)
   invocation_its (input.Local (local.Invoke command)) = (refl, tt)
   invocation_its (input.Local _) = tt
@@ -67,8 +67,8 @@ module _ (Came : NodeId → Body → Type 0) (Adopted : PartConfig → Type 0) (
       let mine = (waiting n events c numbers ok.place ok.p ok.pending).asked.client in
       (ap (λ (id : RequestId). id.client) (sym ok.its_id) ∙ mine, tt)
 
-  pub others_stay : (given : Input) (r : Moved ClientState) → MayComplete Came Adopted c r.completed → (m : ℕ) → m ≢ n → (d : ClientState) → NumbersOk m events d → NumbersOk m (events_after n events c given r) d
+  pub others_stay : (given : Input) (r : Moved ClientState) → MayComplete Came Adopted c r.completed → (m : ℕ) → m ≢ n → (d : ClientState) → ClientNumbersOk m events d → ClientNumbersOk m (events_after n events c given r) d
   others_stay given r ok m other d theirs =
       let more = invocation_of (client_node n) (Some c) given ++ completion r.completed in
       let its : Each (IsEventOf n) more = Each-append (IsEventOf n) (invocation_of (client_node n) (Some c) given) (completion r.completed) (invocation_its given) (completion_its r.completed ok) in
-      subst (λ (l : List Event). NumbersOk m l d) (sym (append_assoc events (invocation_of (client_node n) (Some c) given) (completion r.completed))) (numbers_stay n m other events more its d theirs)
+      subst (λ (l : List Event). ClientNumbersOk m l d) (sym (append_assoc events (invocation_of (client_node n) (Some c) given) (completion r.completed))) (numbers_stay n m other events more its d theirs)

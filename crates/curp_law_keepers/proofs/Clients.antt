@@ -38,7 +38,7 @@ use Rattle.curp_model.specs.World.{completion}
 use Rattle.curp_facts.specs.Facts.{IsAmong}
 use Rattle.curp_facts.specs.Evidence.{AcceptCame, EarlyCame, EvidenceOk, IsAttempt, KnowledgeOk, GlimpseCame, LiveCame}
 use Rattle.curp_law_keepers.specs.ClientEffect.{ClientEffect, ClientSays, InputSuitsClient, MayComplete, SuitsClient, events_after}
-use Rattle.curp_facts.specs.ClientNumbers.{IsAsked, NumbersOk}
+use Rattle.curp_facts.specs.ClientNumbers.{IsAsked, ClientNumbersOk}
 use Rattle.curp_law_keepers.proofs.Evidence.{accepts_each, early_each, proved_ok, glimpses_each, seen_ok}
 use Rattle.curp_law_keepers.proofs.Lists.{first_at, last_at}
 use Rattle.curp_law_keepers.proofs.Numbers.{fresh_asked, history_completed, history_invoked, numbers_changed, numbers_completed, numbers_invoked, waiting}
@@ -52,7 +52,7 @@ use Rattle.curp_base.proofs.Numbered.{filter_at}
 each_among : {A B : Type 0} (P : B → Type 0) (f : A → B) (xs : List A) → ((x : A) → IsAmong x xs → P (f x)) → Each P (map f xs)
 each_among {A} P f xs each = Each-map P f xs (Each-from_at (λ (x : A). P (f x)) xs (λ k x at. each x (record { place = k; stands = at })))
 
-module _ (Came : NodeId → Body → Type 0) (Adopted : PartConfig → Type 0) (n : ℕ) (events : List Event) (c : ClientState) (history : IsHistory events) (numbers : NumbersOk n events c) (knows : KnowledgeOk Came Adopted c) where
+module _ (Came : NodeId → Body → Type 0) (Adopted : PartConfig → Type 0) (n : ℕ) (events : List Event) (c : ClientState) (history : IsHistory events) (numbers : ClientNumbersOk n events c) (knows : KnowledgeOk Came Adopted c) where
   -- an effect with that history after it
   abbrev Eff : List Event → Moved ClientState → Type 0
   Eff later r = ClientEffect Came Adopted n later c r
@@ -69,7 +69,7 @@ module _ (Came : NodeId → Body → Type 0) (Adopted : PartConfig → Type 0) (
 
   -- ---- three moves
 
-  unfinished : (d : ClientState) (out : List Message) → NumbersOk n events d → KnowledgeOk Came Adopted d → Each (ClientSays Adopted n events) out → Heard (sends d out)
+  unfinished : (d : ClientState) (out : List Message) → ClientNumbersOk n events d → KnowledgeOk Came Adopted d → Each (ClientSays Adopted n events) out → Heard (sends d out)
   unfinished d out ok known said =
       subst (λ (later : List Event). Eff later (sends d out)) (sym (append-nil events)) (record { history = history; numbers = ok; knows = known; says = said; completes = tt })
 

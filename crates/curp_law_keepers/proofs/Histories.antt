@@ -9,12 +9,12 @@ use Rattle.curp_order.specs.Order.{IsHistory}
 use Rattle.curp_order.specs.declared.Event.{Event}
 use Rattle.curp_order.specs.declared.Event.TheVariants.{Invoke, Complete}
 use Rattle.curp_cmd.specs.declared.command.Request.{Request}
-use Rattle.curp_facts.specs.ClientNumbers.{CompletedBelow, IsAsked, IsCompleted}
+use Rattle.curp_facts.specs.ClientNumbers.{CompletedBelow, IsAsked, WasCompleted}
 
 -- ---- what stays, whatever comes
 
 -- what is completed stays so
-pub completed_later : (events more : List Event) (id : RequestId) → IsCompleted events id → IsCompleted (events ++ more) id
+pub completed_later : (events more : List Event) (id : RequestId) → WasCompleted events id → WasCompleted (events ++ more) id
 completed_later events more id c = (c.0, c.1, at_append events more c.0 _ c.2)
 
 -- all below a number stays completed
@@ -68,15 +68,15 @@ module _ (events : List Event) (id : RequestId) (answer : Answer) where
   invocation_old i x c at = elim (at_push_cases events (Complete id answer) i _ at) [ inl old ↦ old | inr last ↦ absurd (cc (last.1)) ]
 
   -- another that is completed was so before
-  pub completed_old : (x : RequestId) → x ≢ id → IsCompleted completed x → IsCompleted events x
+  pub completed_old : (x : RequestId) → x ≢ id → WasCompleted completed x → WasCompleted events x
   completed_old x apart c = elim (at_push_cases events (Complete id answer) c.0 _ c.2) [ inl old ↦ (c.0, c.1, old) | inr last ↦ absurd (apart (sym (cc (last.1)))) ]
 
   -- this one is completed
-  pub completed_now : IsCompleted completed id
+  pub completed_now : WasCompleted completed id
   completed_now = (length events, answer, at_push events (Complete id answer) (length events) refl)
 
   -- one that was invoked and isn't completed yet is completed once
-  pub completed_history : IsHistory events → (i : ℕ) (c : Command) → At events i (Invoke id c) → (IsCompleted events id → ⊥) → IsHistory completed
+  pub completed_history : IsHistory events → (i : ℕ) (c : Command) → At events i (Invoke id c) → (WasCompleted events id → ⊥) → IsHistory completed
   completed_history history place command was never = record {
     invoked_once = λ i j x c d hi hj. history.invoked_once i j x c d (invocation_old i x c hi) (invocation_old j x d hj);
     completed_once = λ i j x a b hi hj. elim (at_push_cases events (Complete id answer) i _ hi) [

@@ -7,8 +7,8 @@ use Rattle.curp_base.proofs.Lists.{Each-append, at_map, Each-filter}
 use Rattle.curp_cmd.specs.RequestId.{same_id}
 use Rattle.curp_cmd.specs.declared.command.RequestId.{RequestId}
 use Rattle.curp_cmd.proofs.Ids.{same_id-true}
-use Rattle.curp_model.specs.Client.{Pending, replaced, with_id, without_id}
-use Rattle.curp_facts.specs.ClientNumbers.{IsPending, NumbersRise}
+use Rattle.curp_model.specs.Client.{Pending, replaced, with_id, without_id, NumbersRise}
+use Rattle.curp_facts.specs.ClientNumbers.{IsPending}
 use Rattle.curp_law_keepers.proofs.Lists.{first_at}
 use Rattle.curp_base.proofs.Numbered.{filter_at}
 

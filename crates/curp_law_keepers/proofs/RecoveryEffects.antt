@@ -30,7 +30,7 @@ use Rattle.curp_model.specs.Log.{is_log}
 use Rattle.curp_model.specs.Master.{last_round}
 use Rattle.curp_model.specs.Recovery.{MasterStage, Recovering, RecoveryState, RecoveryPhase, Asking, Storing, Waiting, Replayed, again_in, all_complete, append_answered, appends_whole, both_there, completed_by, fence_answered, log_comes, master_input, master_ordered, next_storing, on_fresh, on_master, on_recover, on_recovering, recovery_ordered, replay, requests_come, serves, stored_comes, turns_away, with_complete}
 use Rattle.curp_facts.specs.Facts.{IsAmong}
-use Rattle.curp_law_keepers.specs.RecoveryEffect.{InputCame, LogCame, PhaseCame, RecoveryEffect, RecoverySays, ReplayCame, RequestsCame, StageCame, StoredCame}
+use Rattle.curp_law_keepers.specs.RecoveryEffect.{InputCame, LogCame, PhaseCame, RecoveryEffect, RecovererSays, ReplayCame, RequestsCame, StageCame, StoredCame}
 use Rattle.curp_base.proofs.Numbered.{filter_at}
 
 module _ (Came : NodeId → Body → Type 0) (n : ℕ) (o : Recover) where
@@ -46,8 +46,8 @@ module _ (Came : NodeId → Body → Type 0) (n : ℕ) (o : Recover) where
 
   -- ---- storing
 
-  whole : (r : Replayed) (backups : List NodeId) → ((k : ℕ) (node : NodeId) → At backups k node → IsAmong node o.backups) → Each (RecoverySays n o (Recovering (at (Storing r)))) (appends_whole n o r backups)
-  whole r backups named = Each-map (RecoverySays n o (Recovering (at (Storing r)))) (λ (to : NodeId). says (master_node n) to (body.Append (record { epoch = o.epoch; base = 0; round = r.round; entries = r.log }))) backups
+  whole : (r : Replayed) (backups : List NodeId) → ((k : ℕ) (node : NodeId) → At backups k node → IsAmong node o.backups) → Each (RecovererSays n o (Recovering (at (Storing r)))) (appends_whole n o r backups)
+  whole r backups named = Each-map (RecovererSays n o (Recovering (at (Storing r)))) (λ (to : NodeId). says (master_node n) to (body.Append (record { epoch = o.epoch; base = 0; round = r.round; entries = r.log }))) backups
       (Each-from_at _ backups (λ k node h. record { sender = refl; says_so = record { s = at (Storing r); is = refl; r = r; stores = refl; addressed = named k node h; epoch = refl; base = refl; round = refl; entries = refl } }))
 
   both : (l : Option (List Entry)) (q : Option (List Request)) → IfSome l (LogCame Came o) → IfSome q (RequestsCame Came o) → Goes (both_there n o l q)

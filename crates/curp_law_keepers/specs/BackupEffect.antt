@@ -59,7 +59,7 @@ pub data BackupMove (given : Input) (b c : BackupState) : Type 0 where
 -- ---- what it says
 
 -- its log has at least that length, which reaches to the end of the append, and it is installed at the append's epoch
-pub record StoredSays (c : BackupState) (append : Append) (long : ℕ) : Type 0 where
+pub record SaysStored (c : BackupState) (append : Append) (long : ℕ) : Type 0 where
   pub long_enough : long ≤ length c.log
   pub reaches : append.base + length append.entries ≤ long
   pub own_epoch : c.installed ≡ Some append.epoch
@@ -67,7 +67,7 @@ pub record StoredSays (c : BackupState) (append : Append) (long : ℕ) : Type 0 
 
 -- by the answer
 abbrev pub AppendAnswerSays : BackupState → Append → AppendAnswer → Type 0
-AppendAnswerSays c append (Stored long) = StoredSays c append long
+AppendAnswerSays c append (Stored long) = SaysStored c append long
 AppendAnswerSays c append _ = ⊤
 
 -- an append came from the node that is answered, of that epoch and round

@@ -25,7 +25,7 @@ use Rattle.curp_order.specs.declared.Event.{Event}
 use Rattle.curp_model.specs.Client.{ClientState, Pending}
 use Rattle.curp_model.specs.World.{completion, invocation_of}
 use Rattle.curp_facts.specs.Facts.{IsAmong}
-use Rattle.curp_facts.specs.ClientNumbers.{IsAsked, IsInvoked, NumbersOk}
+use Rattle.curp_facts.specs.ClientNumbers.{IsAsked, RequestInvoked, ClientNumbersOk}
 use Rattle.curp_facts.specs.Evidence.{KnowledgeOk}
 use Rattle.curp_msg.specs.declared.body.Quick.{Quick}
 use Rattle.curp_msg.specs.declared.body.Probe.{Probe}
@@ -35,7 +35,7 @@ use Rattle.curp_msg.specs.declared.body.Probe.{Probe}
 -- a configuration has adopted entries, and what a witness rejects is an update
 abbrev pub SuitsClient : (PartConfig → Type 0) → List Event → Body → Type 0
 SuitsClient Adopted events (body.Configuration config) = Each Adopted config.parts
-SuitsClient Adopted events (body.Rejected r) = (q : Request) → q.id ≡ r.id → IsInvoked events q → is_update q.command ≡ true
+SuitsClient Adopted events (body.Rejected r) = (q : Request) → q.id ≡ r.id → RequestInvoked events q → is_update q.command ≡ true
 SuitsClient Adopted events _ = ⊤
 
 -- an order, or a message that came and suits
@@ -170,7 +170,7 @@ events_after n events c given r = (events ++ invocation_of (client_node n) (Some
 -- what an input does to client n, with the history after it
 pub record ClientEffect (Came : NodeId → Body → Type 0) (Adopted : PartConfig → Type 0) (n : ℕ) (later : List Event) (c : ClientState) (r : Moved ClientState) : Type 0 where
   pub history : IsHistory later
-  pub numbers : NumbersOk n later r.state
+  pub numbers : ClientNumbersOk n later r.state
   pub knows : KnowledgeOk Came Adopted r.state
   pub says : Each (ClientSays Adopted n later) r.messages
   pub completes : MayComplete Came Adopted c r.completed

@@ -94,7 +94,7 @@ pub record AppendsWhole (o : Recover) (stage : MasterStage) (to : NodeId) (a : A
   pub entries : a.entries ≡ r.log
 
 -- it tells the manager that all is stored, and waits
-pub record TellsRecovered (o : Recover) (stage : MasterStage) (to : NodeId) (told : Recovered) : Type 0 where
+pub record TellsManager (o : Recover) (stage : MasterStage) (to : NodeId) (told : Recovered) : Type 0 where
   pub s : RecoveryState
   pub is : stage ≡ Recovering s
   pub r : Replayed
@@ -108,12 +108,12 @@ abbrev pub RecoveryTells : Recover → MasterStage → NodeId → Body → Type 
 RecoveryTells o stage to (body.Fence epoch) = (to ≡ o.backup) × (epoch ≡ o.epoch)
 RecoveryTells o stage to (body.Freeze epoch) = (to ≡ o.witness) × (epoch ≡ o.epoch)
 RecoveryTells o stage to (body.Append a) = AppendsWhole o stage to a
-RecoveryTells o stage to (body.Recovered told) = TellsRecovered o stage to told
+RecoveryTells o stage to (body.Recovered told) = TellsManager o stage to told
 RecoveryTells o stage to (body.Refuse r) = (to ≡ client_node r.id.client) × (r.refusal ≡ refusal.Switching)
 RecoveryTells o stage to _ = ⊥
 
 -- a message of master n, which recovers by that order
-pub record RecoverySays (n : ℕ) (o : Recover) (stage : MasterStage) (m : Message) : Type 0 where
+pub record RecovererSays (n : ℕ) (o : Recover) (stage : MasterStage) (m : Message) : Type 0 where
   pub sender : m.from ≡ master_node n
   pub says_so : RecoveryTells o stage m.to m.body
 
@@ -122,4 +122,4 @@ pub record RecoveryEffect (Came : NodeId → Body → Type 0) (n : ℕ) (o : Rec
   pub idle : r.completed ≡ None
   pub obeys : r.refused ≡ 0
   pub stage : StageCame Came o r.state
-  pub says : Each (RecoverySays n o r.state) r.messages
+  pub says : Each (RecovererSays n o r.state) r.messages

@@ -29,7 +29,7 @@ use Rattle.curp_law_keepers.specs.Brought.{Brings}
 use Rattle.curp_law_keepers.proofs.Brought.{brought_sent}
 use Rattle.curp_facts.specs.Known.{Known}
 use Rattle.curp_law_kept.proofs.Known.{from_manager, said}
-use Rattle.curp_facts.specs.Names.{InstallOk, OrderOk}
+use Rattle.curp_facts.specs.Names.{InstallOk, RecoverOrderOk}
 use Rattle.curp_law_stays.proofs.Nodes.{backup_ok_later}
 use Rattle.curp_law_stays.proofs.Words.{Follows, given_later, log_later, sent_later}
 
@@ -58,10 +58,10 @@ module _ {w v : World} (known : Known w) (s : Follows w v) (n : ℕ) (given : In
   fence_says place to a ok =
       let o : IsOrderedTo w to (λ o. (o.epoch ≡ a.epoch) × (o.backup ≡ backup_node n))
       = said known to (backup_node n) (body.Fence a.epoch) (brought_sent w (backup_node n) given to (body.Fence a.epoch) for ok.came) in
-      let home : OrderOk w to o.0 = known.names.manager_says to (body.Recover o.0) o.1 in
+      let home : RecoverOrderOk w to o.0 = known.names.manager_says to (body.Recover o.0) o.1 in
       ((o.0, sent_later s o.1, o.2), reply a.answer ok.answer home o.2.0 o.2.1)
     where
-      reply : (answer : FenceReply) → FenceReplySays c a.epoch answer → {o : _} → OrderOk w to o → o.epoch ≡ a.epoch → o.backup ≡ backup_node n → FenceReplyOk v (backup_node n) a.epoch answer
+      reply : (answer : FenceReply) → FenceReplySays c a.epoch answer → {o : _} → RecoverOrderOk w to o → o.epoch ≡ a.epoch → o.backup ≡ backup_node n → FenceReplyOk v (backup_node n) a.epoch answer
       reply (Log entries) k home epoch named = record {
         b = c;
         is = is;

@@ -22,7 +22,7 @@ use Rattle.curp_order.specs.declared.Event.{Event}
 use Rattle.curp_order.specs.declared.Event.TheVariants.{Invoke, Complete}
 use Rattle.curp_model.specs.Client.{ClientState, client_input}
 use Rattle.curp_model.specs.World.{World, completion, invocation_of}
-use Rattle.curp_facts.specs.ClientNumbers.{CompletedBelow, IsAsked, NumbersOk}
+use Rattle.curp_facts.specs.ClientNumbers.{CompletedBelow, IsAsked, ClientNumbersOk}
 use Rattle.curp_facts.specs.Facts.{EntryWas, WasSent, lists_of_part}
 use Rattle.curp_facts.specs.Nodes.{ClientOk, CompletedBy, MayCome, ValueWasSent, WasRead, WasSeen}
 use Rattle.curp_facts.specs.Said.{AskSaid, RejectedSaid, Says, WorthSaid}
@@ -87,7 +87,7 @@ module _ {w v : World} (known : Known w) (n : ℕ) (given : Input) (for : IsFor 
 
   pub client_keeps : ClientOk v n (client_input n c given).state
   client_keeps = record {
-    numbers = subst (λ (h : List Event). NumbersOk n h (client_input n c given).state) (sym later) its.numbers;
+    numbers = subst (λ (h : List Event). ClientNumbersOk n h (client_input n c given).state) (sym later) its.numbers;
     knows = knows_later w v s n (client_input n c given).state its.knows;
   }
 
@@ -95,7 +95,7 @@ module _ {w v : World} (known : Known w) (n : ℕ) (given : Input) (for : IsFor 
   other_client_keeps m other d here =
       let ok = known.inv.clients m d here in
       record {
-        numbers = subst (λ (h : List Event). NumbersOk m h d) (sym later) (others_stay (MayCome w n) (EntryWas w) n w.history c (known.inv.clients n c was).numbers given (client_input n c given) its.completes m other d ok.numbers);
+        numbers = subst (λ (h : List Event). ClientNumbersOk m h d) (sym later) (others_stay (MayCome w n) (EntryWas w) n w.history c (known.inv.clients n c was).numbers given (client_input n c given) its.completes m other d ok.numbers);
         knows = knows_later w v s m d ok.knows;
       }
 

@@ -21,9 +21,9 @@ use Rattle.curp_model.specs.Client.{ClientState}
 use Rattle.curp_model.specs.Manager.{ManagerState, Migration}
 use Rattle.curp_model.specs.World.{World, messages}
 use Rattle.curp_facts.specs.Facts.{EntryWas, IsAdoptedNow, IsGiven, Lists, WasSent}
-use Rattle.curp_facts.specs.ClientNumbers.{NumbersOk}
+use Rattle.curp_facts.specs.ClientNumbers.{ClientNumbersOk}
 use Rattle.curp_facts.specs.Evidence.{KnowledgeOk}
-use Rattle.curp_facts.specs.Invariant.{MovingOk, PresentOk}
+use Rattle.curp_facts.specs.Invariant.{MigrationOk, PresentOk}
 use Rattle.curp_facts.specs.Known.{Known}
 use Rattle.curp_facts.specs.Nodes.{ClientOk, CompletedBy, MayCome, WasRead}
 use Rattle.curp_facts.specs.Said.{Says}
@@ -75,7 +75,7 @@ module _ {w v : World} (known : Known w) (s : Follows w v) {out : List Message} 
       let ok = known.inv.present c before in
       record { entry = entry_was_later s c ok.entry; ready = ready_later s ok.ready }
 
-  pub moving_stays : (m : Migration) → v.manager.moving ≡ Some m → MovingOk v m
+  pub moving_stays : (m : Migration) → v.manager.moving ≡ Some m → MigrationOk v m
   moving_stays m its =
       let ok = known.inv.moving m (subst (λ (g : ManagerState). g.moving ≡ Some m) f.manager its) in
       record { ordered = ordered_later s ok.ordered; told = λ p is. let t = ok.told p is in record { node = t.node; told = sent_later s t.told } }
@@ -83,7 +83,7 @@ module _ {w v : World} (known : Known w) (s : Follows w v) {out : List Message} 
   pub clients_stay : (n : ℕ) (c : ClientState) → numbered v.clients n ≡ Some c → ClientOk v n c
   clients_stay n c here =
       let ok = known.inv.clients n c (subst (λ (cs : List ClientState). numbered cs n ≡ Some c) f.clients here) in
-      record { numbers = subst (λ (h : List Event). NumbersOk n h c) (sym f.history) ok.numbers; knows = knows_later w v s n c ok.knows }
+      record { numbers = subst (λ (h : List Event). ClientNumbersOk n h c) (sym f.history) ok.numbers; knows = knows_later w v s n c ok.knows }
 
   pub history_stays : IsHistory v.history
   history_stays = subst IsHistory (sym f.history) known.inv.history

@@ -23,10 +23,10 @@ use Rattle.curp_model.specs.Named.{IsBackup, IsMaster, IsWitness}
 use Rattle.curp_model.specs.Recovery.{Fresh, MasterStage}
 use Rattle.curp_model.specs.Witness.{WitnessState, fresh_witness}
 use Rattle.curp_model.specs.World.{Gives, World, completion, events_of, grown, messages}
-use Rattle.curp_facts.specs.ClientNumbers.{NumbersOk}
+use Rattle.curp_facts.specs.ClientNumbers.{ClientNumbersOk}
 use Rattle.curp_facts.specs.Facts.{IsAdoptedNow, IsAmong, IsGiven, HasLog, Lists, WasOrdered, WasSent}
 use Rattle.curp_facts.specs.Growth.{Grows}
-use Rattle.curp_facts.specs.Invariant.{Invariant, MovingOk, PresentOk}
+use Rattle.curp_facts.specs.Invariant.{Invariant, MigrationOk, PresentOk}
 use Rattle.curp_facts.specs.Nodes.{BackupOk, ClientOk, FreshOk, MasterOk, StartedAt, WitnessOk}
 use Rattle.curp_law_growth.specs.Deeds.{IsFor}
 use Rattle.curp_law_kept.specs.ManagerEffect.{EntryKeeps, IsOrdered, ManagerEffect, Uttered}
@@ -176,7 +176,7 @@ module _ {w : World} (known : Known w) (given : Input) (for : IsFor w manager_no
       }
     ]
 
-    moving_keeps : (m : Migration) → r.state.moving ≡ Some m → MovingOk v m
+    moving_keeps : (m : Migration) → r.state.moving ≡ Some m → MigrationOk v m
     moving_keeps m its =
         let ok = does.moving m its in
         record { ordered = ordered_keeps m.source _ ok.ordered; told = λ p is. let t = ok.told p is in record { node = t.node; told = sent_later follows t.told } }
@@ -191,7 +191,7 @@ module _ {w : World} (known : Known w) (given : Input) (for : IsFor w manager_no
     clients_keep : (n : ℕ) (c : ClientState) → numbered w.clients n ≡ Some c → ClientOk v n c
     clients_keep n c here =
         let ok = known.inv.clients n c here in
-        record { numbers = subst (λ (h : List Event). NumbersOk n h c) (sym same_history) ok.numbers; knows = knows_later w v follows n c ok.knows }
+        record { numbers = subst (λ (h : List Event). ClientNumbersOk n h c) (sym same_history) ok.numbers; knows = knows_later w v follows n c ok.knows }
 
     -- all that nodes and messages keep
     pub manager_keeps : Invariant v

@@ -18,11 +18,11 @@ use Rattle.curp_facts.specs.Facts.{AtOpening, ByRecovery, ByReplacement, IsGiven
 use Rattle.curp_facts.specs.Growth.{Grows}
 use Rattle.curp_facts.specs.Reach.{IsReady, RecoveredTo}
 use Rattle.curp_facts.specs.Said.{RecoveredSaid}
-use Rattle.curp_law_kept.specs.ManagerEffect.{NewNodes, Orders, Uttered}
+use Rattle.curp_law_kept.specs.ManagerEffect.{NewNodes, OrdersOnce, Uttered}
 use Rattle.curp_facts.specs.Known.{Known}
 use Rattle.curp_law_kept.proofs.Known.{said}
 use Rattle.curp_law_kept.proofs.Moved.{sent_back, sent_cases}
-use Rattle.curp_facts.specs.Names.{Names, OrderOk, PrepareOk}
+use Rattle.curp_facts.specs.Names.{Names, RecoverOrderOk, PrepareOk}
 use Rattle.curp_law_names.proofs.Later as names
 use Rattle.curp_law_names.proofs.Later.{Later}
 use Rattle.curp_law_stays.proofs.Words.{Follows}
@@ -48,7 +48,7 @@ module _ {w v : World} (known : Known w) (after : Names v) (later : Later w v) (
   pub given_first : (l : Lists) → IsGiven v l → l.version ≡ 1 → IsGiven w l
   given_first _ (AtOpening k c at) one = AtOpening k c (subst (λ (s : Shape). At (opening_config s).parts k c) later.shape at)
   given_first _ (ByRecovery node o sent) one =
-      let ok : OrderOk v node o = after.manager_says node (body.Recover o) sent in
+      let ok : RecoverOrderOk v node o = after.manager_says node (body.Recover o) sent in
       absurd (omega (arith, one, ok.older, (after.given ok.before ok.was.given).version.0))
   given_first _ (ByReplacement old p before sent) one =
       let ok : PrepareOk v old.master p = after.manager_says old.master (body.Prepare p) sent in
@@ -89,7 +89,7 @@ module _ {w v : World} (known : Known w) (after : Names v) (later : Later w v) (
 
   -- ---- lists that are given
 
-  orders_back : (node : NodeId) (b : Body) → WasSent v (says manager_node node b) → WasSent w (says manager_node node b) ⊎ Orders w node b
+  orders_back : (node : NodeId) (b : Body) → WasSent v (says manager_node node b) → WasSent w (says manager_node node b) ⊎ OrdersOnce w node b
   orders_back node b sent = elim (sent_cases w v out e (says manager_node node b) sent) [
     | inl was ↦ inl was
     | inr now ↦ inr (Each-at (Uttered w) out all now.place (says manager_node node b) now.stands).orders

@@ -20,7 +20,7 @@ use Rattle.curp_model.specs.Manager.{Doing, ManagerState, Migration, Recovering,
 use Rattle.curp_model.specs.Ranges.{Range}
 use Rattle.curp_model.specs.World.{World}
 use Rattle.curp_facts.specs.Facts.{EntryWas, IsAmong, lists_of_part}
-use Rattle.curp_law_kept.specs.ManagerEffect.{EntryKeeps, ManagerEffect, MovingKeeps, Orders, ToldAgain, Uttered}
+use Rattle.curp_law_kept.specs.ManagerEffect.{EntryKeeps, ManagerEffect, MovingKeeps, OrdersOnce, ToldAgain, Uttered}
 use Rattle.curp_facts.specs.Known.{Known}
 use Rattle.curp_facts.specs.Names.{AdoptedOk, RecoveringOk, ReplacingOk}
 use Rattle.curp_law_names.proofs.Keeps.{entry_now}
@@ -89,7 +89,7 @@ module _ {w : World} (known : Known w) where
   start_words : (part epoch : ℕ) (nodes : List NodeId) → Each (Word w) (start_on part epoch nodes)
   start_words part epoch nodes = words_each nodes _ (λ to. record { uttered = record { from = refl; says_so = λ place. tt; orders = tt }; again = tt })
 
-  pub recover_words : (node : NodeId) (o : Recover) → Orders w node (body.Recover o) → Each (Word w) (recover_messages node o)
+  pub recover_words : (node : NodeId) (o : Recover) → OrdersOnce w node (body.Recover o) → Each (Word w) (recover_messages node o)
   recover_words node o orders =
       Each-append (Word w) (install_on o.epoch o.backups ++ start_on o.part o.epoch o.witnesses) _
       (Each-append (Word w) (install_on o.epoch o.backups) (start_on o.part o.epoch o.witnesses) (install_words o.epoch o.backups) (start_words o.part o.epoch o.witnesses))
@@ -99,7 +99,7 @@ module _ {w : World} (known : Known w) where
   fresh_words c keeper.Backup fresh = install_words c.epoch (fresh ∷ [])
   fresh_words c keeper.Witness fresh = start_words c.part c.epoch (fresh ∷ [])
 
-  pub replace_words : (c : PartConfig) (which : Keeper) (fresh : NodeId) (p : Prepare) → Orders w c.master (body.Prepare p) → Each (Word w) (replace_messages c which fresh p.version p.backups p.witnesses)
+  pub replace_words : (c : PartConfig) (which : Keeper) (fresh : NodeId) (p : Prepare) → OrdersOnce w c.master (body.Prepare p) → Each (Word w) (replace_messages c which fresh p.version p.backups p.witnesses)
   replace_words c which fresh p orders = Each-append (Word w) (fresh_keeper c which fresh) _ (fresh_words c which fresh) (record { uttered = record { from = refl; says_so = λ place. tt; orders = orders }; again = tt }, tt)
 
   expire_words : (client : ℕ) → Each (Word w) (expire_messages w.manager client)

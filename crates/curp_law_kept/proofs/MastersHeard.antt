@@ -32,7 +32,7 @@ use Rattle.curp_model.specs.World.{World}
 use Rattle.curp_facts.specs.Entries.{EntryOk, LogOk, UpdateOk}
 use Rattle.curp_facts.specs.Facts.{AtOpening, ByRecovery, ByReplacement, FencedLogOk, FrozenOk, HasLog, IsGiven, Lists, Logged, WasOrdered, WasSent, WasTaken, hi_of, lo_of, lists_of_order, node_log}
 use Rattle.curp_facts.specs.Kept.{AllCompletedBelow, lists_of_master}
-use Rattle.curp_facts.specs.Nodes.{BackupOk, MasterOk, RecoveringOk, ReplayedOk, ServingOk, StageOk, WasPrepared}
+use Rattle.curp_facts.specs.Nodes.{BackupOk, MasterOk, RecovererOk, ReplayedOk, ServingOk, StageOk, WasPrepared}
 use Rattle.curp_facts.specs.Reach.{RecoveredTo}
 use Rattle.curp_facts.specs.Said.{AdoptedSaid, AppendHolds, AppendSaid, AppendedSaid, Says, StoredEntry, IsTakeOf, SuspectsHold}
 use Rattle.curp_law_kept.proofs.Apart.{one_some}
@@ -41,7 +41,7 @@ use Rattle.curp_law_kept.proofs.Known.{from_manager, said}
 use Rattle.curp_law_logs.proofs.Frozen.{kept_held}
 use Rattle.curp_law_logs.proofs.Logs.{log_prefix}
 use Rattle.curp_law_masters.specs.Moves.{Hears, HearsAnswer, HearsLog, HearsStored, HearsSuspects, RecoveryHears}
-use Rattle.curp_facts.specs.Names.{OrderOk, PrepareOk}
+use Rattle.curp_facts.specs.Names.{RecoverOrderOk, PrepareOk}
 
 -- a master has one log
 pub one_log : (w : World) (node : NodeId) (x y : Logged) → HasLog w node x → HasLog w node y → x ≡ y
@@ -86,10 +86,10 @@ module _ {w : World} (known : Known w) where
       same_part : (k : Lists) → IsGiven w k → k.master ≡ l.master → (log : List Entry) → LogOk w k.part log → log ≡ its.log → LogOk w l.part its.log
       same_part k here same log ok e = subst (λ (p : ℕ). LogOk w p its.log) ((known.names.agree k l here given).by_master same).0 (subst (LogOk w k.part) e ok)
 
-      replayed : (s : RecoveryState) (ok : RecoveringOk w l.master s) (r : Replayed) → ReplayedOk w s r → Some (record { log = r.log; round = r.round }) ≡ Some its → LogOk w l.part its.log
+      replayed : (s : RecoveryState) (ok : RecovererOk w l.master s) (r : Replayed) → ReplayedOk w s r → Some (record { log = r.log; round = r.round }) ≡ Some its → LogOk w l.part its.log
       replayed s ok r k e = same_part (lists_of_order l.master s.order) (ByRecovery l.master s.order ok.ordered) refl r.log k.log (ap (λ (x : Logged). x.log) (one_some e))
 
-      staged : (s : RecoveryState) (ok : RecoveringOk w l.master s) (p : RecoveryPhase) → StageOk w s p → node_log (Recovering (record { order = s.order; phase = p })) ≡ Some its → LogOk w l.part its.log
+      staged : (s : RecoveryState) (ok : RecovererOk w l.master s) (p : RecoveryPhase) → StageOk w s p → node_log (Recovering (record { order = s.order; phase = p })) ≡ Some its → LogOk w l.part its.log
       staged s ok (Asking log requests) k e = absurd cc
       staged s ok (Storing r) k e = replayed s ok r k e
       staged s ok (Waiting r) k e = replayed s ok r k.0 e
@@ -116,7 +116,7 @@ module _ {w : World} (known : Known w) where
   pub order_lowest : (node : NodeId) (o : Recover) → WasSent w (says manager_node node (body.Recover o)) → (l : Lists) → IsGiven w l → l.master ≡ node → o.version ≤ l.version
   order_lowest node o sent l given its = go (l.version + 1) l given its (omega arith)
     where
-      ordered : OrderOk w node o
+      ordered : RecoverOrderOk w node o
       ordered = known.names.manager_says node (body.Recover o) sent
 
       late : (k : Lists) → IsGiven w k → k.master ≡ node → k.epoch ≡ 1 → ⊥
@@ -210,10 +210,10 @@ module _ {w : World} (known : Known w) where
     -- ---- what comes to a recovering master
 
     module _ (s : RecoveryState) (is : IsMaster w (master_node n) (Recovering s)) where
-      recovery : RecoveringOk w (master_node n) s
+      recovery : RecovererOk w (master_node n) s
       recovery = known.inv.masters (master_node n) (Recovering s) is
 
-      home : OrderOk w (master_node n) s.order
+      home : RecoverOrderOk w (master_node n) s.order
       home = known.names.manager_says (master_node n) (body.Recover s.order) recovery.ordered
 
       fenced : (from : NodeId) (epoch : ℕ) → epoch ≡ s.order.epoch → (answer : FenceReply) → Says w 0 from (master_node n) (body.FenceAnswer (record { epoch = epoch; answer = answer })) → HearsLog w s from answer

@@ -19,7 +19,7 @@ use Rattle.curp_facts.specs.Entries.{LogOk}
 use Rattle.curp_facts.specs.Facts.{ByRecovery, IsAmong, IsGiven, Lists, WasAdopted, WasSent, hi_of, lists_of_order, lo_of}
 use Rattle.curp_facts.specs.Growth.{MasterGrows, ServesByOrder, ServesOn}
 use Rattle.curp_facts.specs.Kept.{lists_of_master}
-use Rattle.curp_facts.specs.Nodes.{CapturedOk, FreshOk, HasSentAll, IsOpAt, IsWaiting, MasterOk, NeverPrepared, QueuedOk, RecoveringOk, ServingOk, StageOk, SwitchOk, WasPrepared}
+use Rattle.curp_facts.specs.Nodes.{CapturedOk, FreshOk, HasSentAll, IsOpAt, IsWaiting, MasterOk, NeverPrepared, QueuedOk, RecovererOk, ServingOk, StageOk, SwitchOk, WasPrepared}
 use Rattle.curp_facts.specs.Reach.{RecoveredTo}
 use Rattle.curp_facts.specs.Said.{AdoptedSaid}
 use Rattle.curp_law_kept.proofs.Apart.{not_both}
@@ -31,7 +31,7 @@ use Rattle.curp_law_kept.proofs.MastersReady.{next_given, no_switch, step_follow
 use Rattle.curp_law_kept.proofs.Moved.{sent_cases, sent_now}
 use Rattle.curp_law_masters.specs.Moves.{Begins, IsSaidBy, ListsMove, Prepares, RecoveryMove, RecoverySays, SaysAll, SaysPrepared, ServingMove, ServingSays, Stays, TakesUp}
 use Rattle.curp_law_masters.specs.Stages.{FreshSays}
-use Rattle.curp_facts.specs.Names.{AdoptedOk, OrderOk}
+use Rattle.curp_facts.specs.Names.{AdoptedOk, RecoverOrderOk}
 use Rattle.curp_law_names.proofs.Lists.{among_each}
 use Rattle.curp_law_stays.proofs.Entries.{log_ok_later}
 use Rattle.curp_law_stays.proofs.Masters.{acknowledged_later, captures_later, stage_later}
@@ -63,7 +63,7 @@ module _ {w v : World} (known : Known w) {n : ℕ} {from : NodeId} {heard : Opti
   -- ---- a recovering master
 
   recovering_keeps : (t : RecoveryState) → WasSent w (says manager_node (master_node n) (body.Recover t.order)) → NeverPrepared w (master_node n) → StageOk w t t.phase
-      → ((r : Recovered) → WasSent w (says (master_node n) manager_node (body.Recovered r)) → IsWaiting t.phase) → Each (IsSaidBy n (RecoverySays w t)) out → RecoveringOk v (master_node n) t
+      → ((r : Recovered) → WasSent w (says (master_node n) manager_node (body.Recovered r)) → IsWaiting t.phase) → Each (IsSaidBy n (RecoverySays w t)) out → RecovererOk v (master_node n) t
   recovering_keeps t ordered unprepared stage told all = record {
     ordered = sent_later f ordered;
     stage = stage_later f known.inv (master_node n) t t.phase (known.names.manager_says (master_node n) (body.Recover t.order) ordered) stage;
@@ -71,10 +71,10 @@ module _ {w v : World} (known : Known w) {n : ℕ} {from : NodeId} {heard : Opti
     told = λ r sent. elim (sent_by manager_node (body.Recovered r) sent) [ inl was ↦ told r was | inr now ↦ (said_now (RecoverySays w t) all manager_node (body.Recovered r) now).3 ];
   }
 
-  order_keeps : (t : RecoveryState) → FreshOk w (master_node n) → GetsOrder w n t out → RecoveringOk v (master_node n) t
+  order_keeps : (t : RecoveryState) → FreshOk w (master_node n) → GetsOrder w n t out → RecovererOk v (master_node n) t
   order_keeps t ok move = recovering_keeps t (subst (λ (o : Recover). WasSent w (says manager_node (master_node n) (body.Recover o))) (sym move.move.order) move.sent) ok.unprepared move.move.stage (λ r sent. absurd (ok.untold r sent)) move.move.says
 
-  recovery_keeps : (x t : RecoveryState) → RecoveringOk w (master_node n) x → RecoveryMove w n x (sends t out) → RecoveringOk v (master_node n) t
+  recovery_keeps : (x t : RecoveryState) → RecovererOk w (master_node n) x → RecoveryMove w n x (sends t out) → RecovererOk v (master_node n) t
   recovery_keeps x t ok move = recovering_keeps t (subst (λ (o : Recover). WasSent w (says manager_node (master_node n) (body.Recover o))) (sym move.order) ok.ordered) ok.unprepared move.stage (λ r sent. move.waits (ok.told r sent)) move.says
 
   -- ---- adopted lists
@@ -98,7 +98,7 @@ module _ {w v : World} (known : Known w) {n : ℕ} {from : NodeId} {heard : Opti
 
   -- ---- a master that begins to serve
 
-  module _ (x : RecoveryState) (ok : RecoveringOk w (master_node n) x) (y : MasterState) (by : ServesByOrder x y) where
+  module _ (x : RecoveryState) (ok : RecovererOk w (master_node n) x) (y : MasterState) (by : ServesByOrder x y) where
     order_lists : lists_of_order (master_node n) x.order ≡ lists_of_master (master_node n) y
     order_lists = λ i. record {
       part = sym by.part i;
@@ -112,7 +112,7 @@ module _ {w v : World} (known : Known w) {n : ℕ} {from : NodeId} {heard : Opti
     order_given : IsGiven w (lists_of_master (master_node n) y)
     order_given = subst (IsGiven w) order_lists (ByRecovery (master_node n) x.order ok.ordered)
 
-    order_home : OrderOk w (master_node n) x.order
+    order_home : RecoverOrderOk w (master_node n) x.order
     order_home = known.names.manager_says (master_node n) (body.Recover x.order) ok.ordered
 
     -- what is adopted of a master that never said Prepared are the lists of its order
@@ -133,7 +133,7 @@ module _ {w v : World} (known : Known w) {n : ℕ} {from : NodeId} {heard : Opti
             let one : r.order ≡ x.order = known.names.one_order (master_node n) r.order x.order (subst (λ (z : NodeId). WasSent w (says manager_node z (body.Recover r.order))) its.its_master r.ordered) ok.ordered in
             sym its.its_version ∙ sym r.its_version ∙ ap (λ (o : Recover). o.version) one ∙ sym by.version
 
-  begins_keeps : (x : RecoveryState) → RecoveringOk w (master_node n) x → (y : MasterState) → StartsToServe w n x y out → ServingOk v (master_node n) y
+  begins_keeps : (x : RecoveryState) → RecovererOk w (master_node n) x → (y : MasterState) → StartsToServe w n x y out → ServingOk v (master_node n) y
   begins_keeps x ok y move =
       let by = move.begins.ordered in
       let home = order_home x ok y by in

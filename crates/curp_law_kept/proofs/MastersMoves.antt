@@ -21,7 +21,7 @@ use Rattle.curp_model.specs.World.{World}
 use Rattle.curp_facts.specs.Facts.{ByReplacement, WasSent, lists_of_prepare}
 use Rattle.curp_facts.specs.Growth.{Grows}
 use Rattle.curp_facts.specs.Kept.{lists_of_master}
-use Rattle.curp_facts.specs.Nodes.{RecoveringOk, ServingOk}
+use Rattle.curp_facts.specs.Nodes.{RecovererOk, ServingOk}
 use Rattle.curp_law_growth.specs.Deeds.{IsFor}
 use Rattle.curp_law_kept.proofs.Apart.{one_some}
 use Rattle.curp_facts.specs.Known.{Known}
@@ -32,7 +32,7 @@ use Rattle.curp_law_masters.specs.Stages.{BeginningOk, FreshSays}
 use Rattle.curp_law_masters.proofs.Inputs.{serving_moves}
 use Rattle.curp_law_masters.proofs.Ordered.{serving_ordered_moves}
 use Rattle.curp_law_masters.proofs.Recovering.{at, fresh_moves, recovering_moves, recovery_ordered_moves}
-use Rattle.curp_facts.specs.Names.{OrderOk}
+use Rattle.curp_facts.specs.Names.{RecoverOrderOk}
 use Rattle.curp_law_names.proofs.Later.{Later}
 
 -- a fresh master gets its order
@@ -129,8 +129,8 @@ module _ {w : World} (known : Known w) (n : ℕ) where
           let its : WasSent w (says from (master_node n) (body.Recover o)) = subst (λ (x : Body). WasSent w (says from (master_node n) x)) it sent in
           subst (λ (x : NodeId). WasSent w (says x (master_node n) (body.Recover o))) (from_manager known from (master_node n) (body.Recover o) refl its) its
   message_move (Recovering s) is from b sent =
-      let recovering : RecoveringOk w (master_node n) s = known.inv.masters (master_node n) (Recovering s) is in
-      let home : OrderOk w (master_node n) s.order = known.names.manager_says (master_node n) (body.Recover s.order) recovering.ordered in
+      let recovering : RecovererOk w (master_node n) s = known.inv.masters (master_node n) (Recovering s) is in
+      let home : RecoverOrderOk w (master_node n) s.order = known.names.manager_says (master_node n) (body.Recover s.order) recovering.ordered in
       recovering_moves w n s home.its_lo home.its_hi recovering.stage from b (recovery_hears known n s is from b sent) (Goal from (Some b) (Recovering s)) (λ r k. recovery_move s r k)
       (λ a r k it waits log begins. record { a = a; sent = adopted a it; r = r; waits = waits; log = log; begins = begins; silent = refl })
     where
@@ -146,7 +146,7 @@ module _ {w : World} (known : Known w) (n : ℕ) where
   unfolding master_ordered
   order_move Fresh is order = tt
   order_move (Recovering s) is order =
-      let recovering : RecoveringOk w (master_node n) s = known.inv.masters (master_node n) (Recovering s) is in
+      let recovering : RecovererOk w (master_node n) s = known.inv.masters (master_node n) (Recovering s) is in
       recovery_move s (recovery_ordered n s order) (recovery_ordered_moves w n s recovering.stage order)
   order_move (Serving m) is order =
       serving_move m (master_node n) None (serving_ordered n m order) (serving_ordered_moves w n m (ok m is) (master_node n) None (own_filled m is) order)
@@ -156,8 +156,8 @@ module _ {w : World} (known : Known w) (n : ℕ) where
   unfolding on_master
   message_idle Fresh is from b sent = fresh_moves w n b (λ (r : Moved MasterStage). r.completed ≡ None) (λ o r it asks k. k.idle) (λ xs k. refl)
   message_idle (Recovering s) is from b sent =
-      let recovering : RecoveringOk w (master_node n) s = known.inv.masters (master_node n) (Recovering s) is in
-      let home : OrderOk w (master_node n) s.order = known.names.manager_says (master_node n) (body.Recover s.order) recovering.ordered in
+      let recovering : RecovererOk w (master_node n) s = known.inv.masters (master_node n) (Recovering s) is in
+      let home : RecoverOrderOk w (master_node n) s.order = known.names.manager_says (master_node n) (body.Recover s.order) recovering.ordered in
       recovering_moves w n s home.its_lo home.its_hi recovering.stage from b (recovery_hears known n s is from b sent) (λ (r : Moved MasterStage). r.completed ≡ None) (λ r k. k.idle) (λ a r k it waits log begins. refl)
   message_idle (Serving m) is from b sent = (serving_moves w n m (ok m is) (own_filled m is) (next_filled m is) from b (serving_hears known n m is from b sent)).idle
 
@@ -165,7 +165,7 @@ module _ {w : World} (known : Known w) (n : ℕ) where
   unfolding master_ordered
   order_idle Fresh is order = refl
   order_idle (Recovering s) is order =
-      let recovering : RecoveringOk w (master_node n) s = known.inv.masters (master_node n) (Recovering s) is in
+      let recovering : RecovererOk w (master_node n) s = known.inv.masters (master_node n) (Recovering s) is in
       (recovery_ordered_moves w n s recovering.stage order).idle
   order_idle (Serving m) is order = (serving_ordered_moves w n m (ok m is) (master_node n) None (own_filled m is) order).idle
 

@@ -18,7 +18,7 @@ use Rattle.curp_model.specs.Recovery.{Asking, MasterStage, Recovering, RecoveryP
 use Rattle.curp_model.specs.Witness.{WitnessState}
 use Rattle.curp_model.specs.World.{World}
 use Rattle.curp_facts.specs.Facts.{ByRecovery, HasLog, IsGiven, Lists, WasSent, lists_of_order, node_log}
-use Rattle.curp_facts.specs.Nodes.{IsWaiting, RecoveringOk, ReplayedOk, StageOk}
+use Rattle.curp_facts.specs.Nodes.{IsWaiting, RecovererOk, ReplayedOk, StageOk}
 use Rattle.curp_facts.specs.Reach.{HasMany, HasStored, Reach, RecoveredTo}
 use Rattle.curp_facts.specs.Said.{AppendSaid, IsOrderedTo, RecoveredSaid, Says}
 use Rattle.curp_facts.specs.Known.{Known}
@@ -27,8 +27,8 @@ use Rattle.curp_law_kept.proofs.MastersKept.{master_keeps}
 use Rattle.curp_law_kept.proofs.MastersMoves.{MasterStep}
 use Rattle.curp_law_kept.proofs.MastersPrepared.{prefix_whole}
 use Rattle.curp_law_kept.proofs.MastersReady.{all_stored, given_was, manager_was, many_now, step_follows, stored_many}
-use Rattle.curp_law_masters.specs.Moves.{IsWhole, RecoverySays}
-use Rattle.curp_facts.specs.Names.{OrderOk}
+use Rattle.curp_law_masters.specs.Moves.{IsWholeLog, RecoverySays}
+use Rattle.curp_facts.specs.Names.{RecoverOrderOk}
 use Rattle.curp_law_stays.proofs.Entries.{refusal_later}
 use Rattle.curp_law_stays.proofs.Nodes.{backup_ok_later}
 use Rattle.curp_law_stays.proofs.Words.{Follows, given_later}
@@ -38,13 +38,13 @@ module _ {w v : World} (known : Known w) {n : ℕ} {from : NodeId} {heard : Opti
   f : Follows w v
   f = step_follows known s
 
-  ok : RecoveringOk v (master_node n) t
+  ok : RecovererOk v (master_node n) t
   ok = master_keeps known s
 
   ordered : WasSent w (says manager_node (master_node n) (body.Recover t.order))
   ordered = manager_was known s (master_node n) (body.Recover t.order) ok.ordered
 
-  home : OrderOk w (master_node n) t.order
+  home : RecoverOrderOk w (master_node n) t.order
   home = known.names.manager_says (master_node n) (body.Recover t.order) ordered
 
   abbrev lists : Lists
@@ -64,7 +64,7 @@ module _ {w v : World} (known : Known w) {n : ℕ} {from : NodeId} {heard : Opti
   append_says : (to : NodeId) (a : Append) → RecoverySays w t to (body.Append a) → AppendSaid v (master_node n) to a
   append_says to a k = go t.phase refl k.3
     where
-      go : (p : RecoveryPhase) → t.phase ≡ p → IsWhole p a → AppendSaid v (master_node n) to a
+      go : (p : RecoveryPhase) → t.phase ≡ p → IsWholeLog p a → AppendSaid v (master_node n) to a
       go (Storing r) is whole = record {
         lists = lists;
         given = given_later f given;

@@ -20,7 +20,7 @@ use Rattle.curp_model.specs.Witness.{WitnessState, started_witness}
 use Rattle.curp_model.specs.World.{World, messages, opening, opening_master, shape_of, opening_client}
 use Rattle.curp_facts.specs.Entries.{LogOk}
 use Rattle.curp_facts.specs.Facts.{AtOpening, ByRecovery, ByReplacement, EntryWas, IsAdoptedNow, IsGiven, Lists, WasAdopted, WasSent, lists_of_part}
-use Rattle.curp_facts.specs.Invariant.{Invariant, MovingOk, PresentOk}
+use Rattle.curp_facts.specs.Invariant.{Invariant, MigrationOk, PresentOk}
 use Rattle.curp_facts.specs.Nodes.{BackupOk, ClientOk, MasterOk, StartedAt, WitnessOk}
 use Rattle.curp_facts.specs.Reach.{HasStored}
 use Rattle.curp_msg.specs.Script.{IsHeader}
@@ -80,7 +80,7 @@ module _ (h : Header) (its : IsHeader h) where
       let p = place_of (opening_config s).parts c.part c now in
       record { entry = entry_was p.0 c p.2; ready = record { given = AtOpening p.0 c p.2; told = inl (entry_first p.0 c p.2).1 } }
 
-  moving_first : (m : Migration) → start.manager.moving ≡ Some m → MovingOk start m
+  moving_first : (m : Migration) → start.manager.moving ≡ Some m → MigrationOk start m
   unfolding opening
   moving_first m is = absurd cc
 

@@ -32,16 +32,16 @@ pub record NewNodes (w : World) (master : NodeId) (backups witnesses : List Node
   pub witnesses_are : Each (IsNewOrHome w kind.Witness (λ (l : Lists). l.witnesses) master) witnesses
 
 -- an order to recover and new lists were sent before, or their nodes are new, or of the same master
-abbrev pub Orders : World → NodeId → Body → Type 0
-Orders w node (body.Recover o) = WasSent w (says manager_node node (body.Recover o)) ⊎ NewNodes w node o.backups o.witnesses
-Orders w node (body.Prepare p) = WasSent w (says manager_node node (body.Prepare p)) ⊎ NewNodes w node p.backups p.witnesses
-Orders w node _ = ⊤
+abbrev pub OrdersOnce : World → NodeId → Body → Type 0
+OrdersOnce w node (body.Recover o) = WasSent w (says manager_node node (body.Recover o)) ⊎ NewNodes w node o.backups o.witnesses
+OrdersOnce w node (body.Prepare p) = WasSent w (says manager_node node (body.Prepare p)) ⊎ NewNodes w node p.backups p.witnesses
+OrdersOnce w node _ = ⊤
 
 -- a message is the manager's, and what it says is so already
 pub record Uttered (w : World) (m : Message) : Type 0 where
   pub from : m.from ≡ manager_node
   pub says_so : (place : ℕ) → Says w place m.from m.to m.body
-  pub orders : Orders w m.to m.body
+  pub orders : OrdersOnce w m.to m.body
 
 -- ---- what it adopts
 
@@ -69,8 +69,8 @@ pub record Succeeds (w : World) (c : PartConfig) : Type 0 where
   pub how : Renews now c ⊎ Recovers w now c
 
 -- all lists that are told to be adopted were so before, or one entry's alone are, which succeeds the present one
-abbrev pub Adopts : World → List Message → Type 0
-Adopts w out = Each (λ (m : Message). ToldAgain w m.to m.body) out ⊎ ((c : PartConfig) × (out ≡ adopted_message c ∷ []) × Succeeds w c)
+abbrev pub TellsAdopted : World → List Message → Type 0
+TellsAdopted w out = Each (λ (m : Message). ToldAgain w m.to m.body) out ⊎ ((c : PartConfig) × (out ≡ adopted_message c ∷ []) × Succeeds w c)
 
 -- ---- what its state keeps
 
@@ -92,7 +92,7 @@ pub record MovingKeeps (w : World) (out : List Message) (m : Migration) : Type 0
 -- what an input to the manager does
 pub record ManagerEffect (w : World) (r : Moved ManagerState) : Type 0 where
   pub messages : Each (Uttered w) r.messages
-  pub adopts : Adopts w r.messages
+  pub adopts : TellsAdopted w r.messages
   pub entries : Each (EntryKeeps w) r.state.config.parts
   pub moving : (m : Migration) → r.state.moving ≡ Some m → MovingKeeps w r.messages m
   pub idle : r.completed ≡ None

@@ -13,11 +13,11 @@ use Rattle.curp_cmd.specs.declared.command.Request.{Request}
 use Rattle.curp_cmd.specs.declared.command.RequestId.{RequestId}
 use Rattle.curp_cmd.specs.declared.entry.Entry.{Entry}
 use Rattle.curp_cmd.specs.declared.entry.Entry.TheVariants.{Op}
-use Rattle.curp_order.specs.Order.{store_after}
+use Rattle.curp_order.specs.Order.{store_after, Asked}
 use Rattle.curp_model.specs.Log.{answer_after}
-use Rattle.curp_law_logs.specs.Hashes.{Asked, In, behind, came, on, value}
+use Rattle.curp_law_logs.specs.Hashes.{In, behind, came, on, value}
 use Rattle.curp_law_line.specs.Hashes.{Part, state_of}
-use Rattle.curp_law_line.specs.Line.{Answered, AnswersOk, DistinctOk, IsCompleted, MarkedOk, OnceOk}
+use Rattle.curp_law_line.specs.Line.{AnsweredInOrder, AnswersOk, DistinctOk, IsCompleted, MarkedOk, OnceOk}
 use Rattle.curp_law_line.specs.Moves.{ops}
 use Rattle.curp_law_line.proofs.AdoptedMarks.{asked_all}
 use Rattle.curp_law_line.proofs.AdoptedOrder.{after_line, again_distinct, again_once, at_goes, at_hash, at_stays, completed_done, cut_at, cut_line, done_completed, gone_by_test, kept_done, no_give, no_take, replayed_goes, replayed_held, test_gone, was_distinct, was_distinct_on}
@@ -65,7 +65,7 @@ module _ (it : Adopting) where
       in_left (filter (keeps_on it) (order_was it)) (filter (not_done it) (again it)) x (in_filter (keeps_on it) (order_was it) x m k)
 
   -- what doesn't go keeps its answer
-  pub stay : (x : Asked) (a : Answer) → Answered (order_was it) x a → (In x (gone it) → ⊥) → Answered (order_now it) x a
+  pub stay : (x : Asked) (a : Answer) → AnsweredInOrder (order_was it) x a → (In x (gone it) → ⊥) → AnsweredInOrder (order_now it) x a
   stay x a w not_gone =
       let m : In x (order_was it) = (w.place, w.stands) in
       let was = answered_is (order_was it) x a w in
@@ -76,7 +76,7 @@ module _ (it : Adopting) where
       let front : In x c.front = elim (in_cases c.front (on h (gone it)) x there) [ inl y ↦ y | inr g ↦ absurd (not_gone (from_filter (λ (z : Asked). touches z.1 h) (gone it) x g).0) ] in
       let sc = split_in c.front x front in
       front_of h (order_was it) c.front (on h (gone it)) x t (was_distinct_on it h) c.is was.0 sc ∙ sym (front_of h (order_now it) c.front (on h (again it)) x t (now_distinct_on h) (after_line it h c.front c.is) is sc) in
-      subst (Answered (order_now it) x) (sym (was.1 ∙ same_fronts it.pure was.0.front is.front x fronts)) (answered_there (order_now it) x is)
+      subst (AnsweredInOrder (order_now it) x) (sym (was.1 ∙ same_fronts it.pure was.0.front is.front x fronts)) (answered_there (order_now it) x is)
 
   -- at one hash one request is replayed at most
   pub again_alone : (h : ℕ) (x : Asked) → In x (on h (again it)) → on h (again it) ≡ x ∷ []
@@ -89,7 +89,7 @@ module _ (it : Adopting) where
       (from_filter (λ (z : Asked). touches z.1 h) (order_now it) x (subst (In x) (sym (after_line it h c.front c.is)) (in_right c.front (on h (again it)) x m))).0
 
   -- what is replayed is answered as over what stays
-  pub replayed_answer : (j : ℕ) (q : Request) → At (replayed it) j q → Answered (order_now it) (q.id, q.command) (answer_after it.move.p.lo it.move.p.hi it.move.stays q.command)
+  pub replayed_answer : (j : ℕ) (q : Request) → At (replayed it) j q → AnsweredInOrder (order_now it) (q.id, q.command) (answer_after it.move.p.lo it.move.p.hi it.move.stays q.command)
   replayed_answer j q hq =
       let x : Asked = (q.id, q.command) in
       let k = replayed_held it j q hq in
@@ -97,7 +97,7 @@ module _ (it : Adopting) where
       let mA : In x (again it) = in_asked_all (replayed it) j q hq in
       let on_it : (h : ℕ) → touches q.command h ≡ true → In x (on h (again it)) = λ h t. in_filter (λ (z : Asked). touches z.1 h) (again it) x mA t in
       let is = split_in (order_now it) x (in_now a.hash x (on_it a.hash a.has_hash)) in
-      subst (Answered (order_now it) x) (it.pure.answer_local (store_after nothing is.front) (state_of (cut_part it.move)).store q.command (λ key mk. key_value j q hq is on_it key mk)) (answered_there (order_now it) x is)
+      subst (AnsweredInOrder (order_now it) x) (it.pure.answer_local (store_after nothing is.front) (state_of (cut_part it.move)).store q.command (λ key mk. key_value j q hq is on_it key mk)) (answered_there (order_now it) x is)
     where
       key_value : (j : ℕ) (q : Request) → At (replayed it) j q → (is : Split (order_now it) (q.id, q.command)) → ((h : ℕ) → touches q.command h ≡ true → In (q.id, q.command) (on h (again it))) → (key : List ℕ) → In key (keys_of q.command)
           → value key is.front ≡ store.get (state_of (cut_part it.move)).store key
@@ -125,20 +125,20 @@ module _ (it : Adopting) where
   pub adopt_answers : AnswersOk (parts_now it) (order_now it)
   adopt_answers k q i r a hk hi = elim (numbered_set_cases it.line.parts it.move.part it.move.p (new_part it) it.fits.here k q hk) [
     | inl old ↦ stay (r.id, r.command) _ (it.facts.answered k q i r a old.1 hi) (elsewhere k q i r a old.1 hi (inl old.0))
-    | inr same ↦ subst (λ (y : Part). Answered (order_now it) (r.id, r.command) (answer_after y.lo y.hi (take i y.log) r.command)) same.1 (own_answer i r a (subst (λ (y : Part). At y.log i (Op r a)) (sym same.1) hi))
+    | inr same ↦ subst (λ (y : Part). AnsweredInOrder (order_now it) (r.id, r.command) (answer_after y.lo y.hi (take i y.log) r.command)) same.1 (own_answer i r a (subst (λ (y : Part). At y.log i (Op r a)) (sym same.1) hi))
   ]
     where
-      own_answer : (i : ℕ) (r : Request) (a : ℕ) → At (new_part it).log i (Op r a) → Answered (order_now it) (r.id, r.command) (answer_after it.move.p.lo it.move.p.hi (take i (new_part it).log) r.command)
+      own_answer : (i : ℕ) (r : Request) (a : ℕ) → At (new_part it).log i (Op r a) → AnsweredInOrder (order_now it) (r.id, r.command) (answer_after it.move.p.lo it.move.p.hi (take i (new_part it).log) r.command)
       own_answer i r a hi = elim (at_append_cases it.move.stays (ops (replayed it)) i (Op r a) hi) [
         | inl old ↦
             let low : i < length it.move.stays = at_within it.move.stays i _ old in
             let le : i ≤ length it.move.stays = omega (arith, low) in
             let before : take i it.move.p.log ≡ take i (new_part it).log = ap (take i) it.fits.is ∙ take-append-le i it.move.stays it.move.goes le ∙ sym (take-append-le i it.move.stays (ops (replayed it)) le) in
-            subst (λ (es : List Entry). Answered (order_now it) (r.id, r.command) (answer_after it.move.p.lo it.move.p.hi es r.command)) before
+            subst (λ (es : List Entry). AnsweredInOrder (order_now it) (r.id, r.command) (answer_after it.move.p.lo it.move.p.hi es r.command)) before
             (stay (r.id, r.command) _ (it.facts.answered it.move.part it.move.p i r a it.fits.here (at_stays it i _ old)) (elsewhere it.move.part it.move.p i r a it.fits.here (at_stays it i _ old) (inr low)))
         | inr g ↦
             let hq = op_in_ops (replayed it) g.0 r a g.2 in
-            subst (Answered (order_now it) (r.id, r.command)) (sym (ap (λ (n : ℕ). answer_after it.move.p.lo it.move.p.hi (take n (new_part it).log) r.command) g.1 ∙ it.ground.alone g.0 r hq)) (replayed_answer g.0 r hq)
+            subst (AnsweredInOrder (order_now it) (r.id, r.command)) (sym (ap (λ (n : ℕ). answer_after it.move.p.lo it.move.p.hi (take n (new_part it).log) r.command) g.1 ∙ it.ground.alone g.0 r hq)) (replayed_answer g.0 r hq)
       ]
 
   -- ---- a request is an op once
@@ -203,7 +203,7 @@ module _ (it : Adopting) where
         | inl y ↦ goes_on x a w d (gone_by_test it x m y) m
       ]
     where
-      goes_on : (x : Asked) (a : Answer) → Answered (order_was it) x a → done it x.0 ≡ true → In x (gone it) → In x (order_was it) → Answered (order_now it) x a
+      goes_on : (x : Asked) (a : Answer) → AnsweredInOrder (order_was it) x a → done it x.0 ≡ true → In x (gone it) → In x (order_was it) → AnsweredInOrder (order_now it) x a
       goes_on x a w d g m =
           let t = asked_of_in it.move.goes x g in
           let c : IsCompleted it.line.history t.1.id = subst (IsCompleted it.line.history) (ap (λ (y : Asked). y.0) (sym t.4)) (done_completed it x.0 d) in
@@ -218,4 +218,4 @@ module _ (it : Adopting) where
           let line : on h (order_was it) ≡ cu.front ++ x ∷ f.0 = cu.is ∙ ap (λ w. cu.front ++ w) (f.1 ∙ ap (λ (z : Asked). z ∷ f.0) t.4) in
           let after_it : on h (order_now it) ≡ cu.front ++ x ∷ [] = after_line it h cu.front cu.is ∙ ap (λ w. cu.front ++ w) (again_alone h x (in_filter (λ (z : Asked). touches z.1 h) (again it) x mA tx)) in
           front_at h (order_was it) cu.front f.0 x tx (was_distinct_on it h) line was.0 ∙ sym (front_at h (order_now it) cu.front [] x tx (now_distinct_on h) after_it is) in
-          subst (Answered (order_now it) x) (sym (was.1 ∙ same_fronts it.pure was.0.front is.front x fronts)) (answered_there (order_now it) x is)
+          subst (AnsweredInOrder (order_now it) x) (sym (was.1 ∙ same_fronts it.pure was.0.front is.front x fronts)) (answered_there (order_now it) x is)

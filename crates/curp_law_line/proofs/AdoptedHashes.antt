@@ -8,7 +8,8 @@ use Rattle.curp_base.specs.Words.{numbered}
 use Rattle.curp_range.specs.Spans.{is_in}
 use Rattle.curp_cmd.specs.declared.entry.Entry.{Entry}
 use Rattle.curp_model.specs.Manager.{Migration}
-use Rattle.curp_law_logs.specs.Hashes.{Asked, In, NoGive, NotNew, behind, came, gives, on}
+use Rattle.curp_law_logs.specs.Hashes.{In, NoGive, NotNew, behind, came, gives, on}
+use Rattle.curp_order.specs.Order.{Asked}
 use Rattle.curp_law_line.specs.Hashes.{HashOk, HashesOk, Part, given_on, has_take, holds, is_give, is_take, onward, owns}
 use Rattle.curp_law_line.specs.Moves.{ops}
 use Rattle.curp_law_line.proofs.AdoptedOrder.{after_line, at_hash, cut_line, gone_on, line_is, no_give, no_take, own_after, owns_new, replayed_on, take_new, take_where}

@@ -9,7 +9,8 @@ use Rattle.curp_cmd.specs.declared.command.Request.{Request}
 use Rattle.curp_cmd.specs.declared.command.RequestId.{RequestId}
 use Rattle.curp_cmd.specs.declared.node.NodeId.{NodeId}
 use Rattle.curp_model.specs.Marks.{Cut, Executed, Looked, Mark, Quick, adopted, adoptions, cut_mark, executed, has_completed, is_dropped, is_past, is_update_mark, replayed_marks}
-use Rattle.curp_law_logs.specs.Hashes.{Asked, In, asked, updates}
+use Rattle.curp_law_logs.specs.Hashes.{In, asked, updates}
+use Rattle.curp_order.specs.Order.{Asked}
 use Rattle.curp_law_line.proofs.Lists.{in_head, in_tail, or_none}
 
 -- requests as those of the order

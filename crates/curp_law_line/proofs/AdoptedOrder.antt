@@ -24,7 +24,8 @@ use Rattle.curp_model.specs.Table.{check}
 use Rattle.curp_model.specs.declared.Check.TheVariants.{New}
 use Rattle.curp_model.proofs.Filters.{filter_apart}
 use Rattle.curp_model.proofs.Logs.{new_by_test, op_not_new}
-use Rattle.curp_law_logs.specs.Hashes.{Asked, In, NoGive, behind, gives, on}
+use Rattle.curp_law_logs.specs.Hashes.{In, NoGive, behind, gives, on}
+use Rattle.curp_order.specs.Order.{Asked}
 use Rattle.curp_law_line.specs.Hashes.{HashOk, has_take, holds, is_take, onward, owns}
 use Rattle.curp_law_line.specs.Line.{IsCompleted, Ungiven}
 use Rattle.curp_law_line.specs.Moves.{ops}

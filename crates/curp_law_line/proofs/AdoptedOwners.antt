@@ -20,7 +20,7 @@ use Rattle.curp_model.proofs.Clashes.{front_apart}
 use Rattle.curp_model.proofs.Replays.{log_stored, stored, take_ops}
 use Rattle.curp_law_logs.specs.Hashes.{NoGive, gives}
 use Rattle.curp_law_line.specs.Hashes.{Part, has_take, is_give, is_take, owns}
-use Rattle.curp_law_line.specs.Line.{Line, Owned, Ungiven}
+use Rattle.curp_law_line.specs.Line.{LineState, Owned, Ungiven}
 use Rattle.curp_law_line.specs.Moves.{Adopt, AdoptFits, OnlyMoving, ops, relogged, replayed_of}
 use Rattle.curp_law_line.proofs.Entries.{take_entry}
 use Rattle.curp_law_line.proofs.Given.{TakesOnce}
@@ -31,7 +31,7 @@ use Rattle.curp_law_line.proofs.Requests.{ops_any, owned_ops}
 use Rattle.curp_law_line.proofs.Spans.{owned_after, takes}
 
 -- a take stands once in a log
-module _ (s : Line) (ok : Owned s.moving s.parts) (o : Adopt) (fits : AdoptFits s o) (takes_once : TakesOnce o.p.log) where
+module _ (s : LineState) (ok : Owned s.moving s.parts) (o : Adopt) (fits : AdoptFits s o) (takes_once : TakesOnce o.p.log) where
   abbrev p : Part
   p = o.p
 

@@ -12,7 +12,8 @@ use Rattle.curp_cmd.specs.declared.command.RequestId.{RequestId}
 use Rattle.curp_cmd.specs.declared.entry.Entry.{Entry}
 use Rattle.curp_cmd.specs.declared.entry.Entry.TheVariants.{Op}
 use Rattle.curp_model.specs.Marks.{Executed, Mark, is_past, is_update_mark}
-use Rattle.curp_law_logs.specs.Hashes.{Asked, In, asked, updates}
+use Rattle.curp_law_logs.specs.Hashes.{In, asked, updates}
+use Rattle.curp_order.specs.Order.{Asked}
 use Rattle.curp_law_line.specs.Hashes.{Part}
 use Rattle.curp_law_line.specs.Line.{OpAt}
 use Rattle.curp_law_line.proofs.AdoptedMarks.{filter_updates, flagged_stays, fresh_of, new_updates, stays}

@@ -11,9 +11,10 @@ use Rattle.curp_cmd.specs.declared.entry.Entry.TheVariants.{Op}
 use Rattle.curp_model.specs.Log.{answer_after}
 use Rattle.curp_model.specs.Manager.{Migration}
 use Rattle.curp_model.specs.Marks.{has_completed}
-use Rattle.curp_law_logs.specs.Hashes.{Asked, NoGive, behind, gives, on, updates}
+use Rattle.curp_law_logs.specs.Hashes.{NoGive, behind, gives, on, updates}
+use Rattle.curp_order.specs.Order.{Asked}
 use Rattle.curp_law_line.specs.Hashes.{Part, has_take, holds, is_give, owns}
-use Rattle.curp_law_line.specs.Line.{Line, OrderOk, Owned}
+use Rattle.curp_law_line.specs.Line.{LineState, OrderOk, Owned}
 use Rattle.curp_law_line.specs.Moves.{Adopt, AdoptFits, ops, relogged, replayed_of}
 use Rattle.curp_law_line.proofs.AdoptedMarks.{asked_all}
 use Rattle.curp_law_line.proofs.Given.{LogValue, Pure}
@@ -24,7 +25,7 @@ abbrev pub cut_part : Adopt → Part
 cut_part o = record o.p { log = o.stays }
 
 -- What the partition's logs say by themselves, before and after
-pub record AdoptGround (s : Line) (o : Adopt) : Type 0 where
+pub record AdoptGround (s : LineState) (o : Adopt) : Type 0 where
   -- an op of what goes is of a hash that the partition holds, and of none whose take stays
   pub held : (k h : ℕ) (r : Request) (a : ℕ) → At o.goes k (Op r a) → touches r.command h ≡ true → holds s.moving o.p h ≡ true
   pub out : (k h : ℕ) (r : Request) (a : ℕ) → has_take s.moving h o.stays ≡ true → At o.goes k (Op r a) → touches r.command h ≡ true → ⊥
@@ -49,7 +50,7 @@ pub record Fronts (h : ℕ) (order gone : List Asked) : Type 0 where
 -- what an adoption begins with: a state with its facts, the move with its premises, and who owns what behind it
 pub record Adopting : Type 0 where
   pub pure : Pure
-  pub line : Line
+  pub line : LineState
   pub facts : OrderOk line
   pub owned : Owned line.moving line.parts
   pub move : Adopt

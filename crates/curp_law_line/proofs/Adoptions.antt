@@ -9,7 +9,8 @@ use Rattle.curp_cmd.specs.declared.command.Request.{Request}
 use Rattle.curp_cmd.specs.declared.command.RequestId.{RequestId}
 use Rattle.curp_cmd.specs.declared.entry.Entry.TheVariants.{Op}
 use Rattle.curp_model.specs.Marks.{Executed, Mark, executed, is_open_cut, is_update_mark}
-use Rattle.curp_law_logs.specs.Hashes.{Asked, asked}
+use Rattle.curp_law_logs.specs.Hashes.{asked}
+use Rattle.curp_order.specs.Order.{Asked}
 use Rattle.curp_law_line.specs.Hashes.{HashesOk}
 use Rattle.curp_law_line.specs.Line.{AnswersOk, DistinctOk, FlagsOk, InTimeOk, InvokedOk, IsCompleted, KindsOk, MarkedOk, OneFlagOk, OpAt, OrderOk, ReadsOk, StandingOk, UnflaggedOk, WaitingOk, WasInvoked}
 use Rattle.curp_law_line.specs.Moves.{adopting, left_after, ops}

@@ -14,13 +14,14 @@ use Rattle.curp_cmd.specs.declared.entry.Entry.TheVariants.{Expire, Give, Op, Ta
 use Rattle.curp_cmd.specs.declared.migration.Package.{Package}
 use Rattle.curp_model.specs.Log.{LogState, entry_touches, package_of}
 use Rattle.curp_model.specs.Manager.{Migration}
-use Rattle.curp_law_logs.specs.Hashes.{Asked, In, NoGive, behind, behind_from, came, on, updates, value}
+use Rattle.curp_law_logs.specs.Hashes.{In, NoGive, behind, behind_from, came, on, updates, value}
+use Rattle.curp_order.specs.Order.{Asked}
 use Rattle.curp_law_line.specs.Hashes.{HashOk, Part, has_take, holds, is_take, onward, owns, state_of}
-use Rattle.curp_law_line.specs.Line.{Line, OrderOk}
+use Rattle.curp_law_line.specs.Line.{LineState, OrderOk}
 use Rattle.curp_law_line.proofs.Given.{LogValue}
 use Rattle.curp_law_line.proofs.Lists.{in_any, in_head, in_right}
 use Rattle.curp_law_line.proofs.Takes.{onward_ungiven}
-use Rattle.curp_law_line.specs.Moves.{IsCarried}
+use Rattle.curp_law_line.specs.Moves.{IsOnItsWay}
 use Rattle.curp_law_logs.proofs.Behind.{behind_from_append, came_from_append, came_kept}
 
 -- what a package has of a key of its range
@@ -53,7 +54,7 @@ quiet_gives h (Take n k ∷ es) q = quiet_gives h es (or_parts (is_in k.lo k.hi 
 quiet_gives h (Give n k ∷ es) q = let c = or_parts (is_in k.lo k.hi h) _ q in rw c.0 (quiet_gives h es c.1)
 quiet_gives h (Expire client ∷ es) q = quiet_gives h es q
 
-module _ (s : Line) (ok : OrderOk s) (m : Migration) (in_work : s.moving ≡ Some m) (carried : Package) (way : IsCarried s.parts m carried) (h : ℕ) (inside : is_in m.range.lo m.range.hi h ≡ true) where
+module _ (s : LineState) (ok : OrderOk s) (m : Migration) (in_work : s.moving ≡ Some m) (carried : Package) (way : IsOnItsWay s.parts m carried) (h : ℕ) (inside : is_in m.range.lo m.range.hi h ≡ true) where
   -- the source holds the hash: its take is out
   pub source_holds : holds s.moving way.source h ≡ true
   source_holds =

@@ -10,15 +10,15 @@ use Rattle.curp_cmd.specs.declared.command.Answer.{Answer}
 use Rattle.curp_cmd.specs.declared.command.Command.{Command}
 use Rattle.curp_cmd.specs.declared.command.RequestId.{RequestId}
 use Rattle.curp_cmd.proofs.Ids.{same_id-true}
-use Rattle.curp_order.specs.Order.{IsHistory}
+use Rattle.curp_order.specs.Order.{IsHistory, Asked}
 use Rattle.curp_order.specs.declared.Event.{Event}
 use Rattle.curp_order.specs.declared.Event.TheVariants.{Complete, Invoke}
 use Rattle.curp_msg.specs.declared.machine.Capture.{Capture}
 use Rattle.curp_msg.specs.declared.machine.Completed.{Completed}
 use Rattle.curp_model.specs.Marks.{Cut, Executed, Looked, Mark, Place, Quick, flagged, in_turn, is_capture, is_cut, is_flagged, is_open_cut, is_quick, is_update_mark}
-use Rattle.curp_law_logs.specs.Hashes.{Asked, In, asked, updates}
+use Rattle.curp_law_logs.specs.Hashes.{In, asked, updates}
 use Rattle.curp_law_line.specs.Hashes.{HashesOk, Part}
-use Rattle.curp_law_line.specs.Line.{Answered, AnswersOk, DistinctOk, EarlyAt, FlagOf, FlagsOk, InTimeOk, InvokedOk, IsCompleted, KindsOk, Line, MarkedOk, OneFlagOk, OpAt, OrderOk, ReadsOk, StandingOk, UnflaggedOk, WaitingOk, WasInvoked}
+use Rattle.curp_law_line.specs.Line.{AnsweredInOrder, AnswersOk, DistinctOk, EarlyAt, FlagOf, FlagsOk, InTimeOk, InvokedOk, IsCompleted, KindsOk, LineState, MarkedOk, OneFlagOk, OpAt, OrderOk, ReadsOk, StandingOk, UnflaggedOk, WaitingOk, WasInvoked}
 use Rattle.curp_law_line.specs.Moves.{CompleteFits, FlagFits, completing, flagging}
 use Rattle.curp_law_line.proofs.Hashes.{timed_no_cut, update_mark, update_no_cut, update_timed}
 use Rattle.curp_law_line.proofs.Invocations.{completed_grows, invoked_grows}
@@ -142,10 +142,10 @@ op_as parts i same its_id its_command o = record {
   its_command = o.its_command ∙ sym its_command;
 }
 
-module _ (s : Line) (ok : OrderOk s) (c : Completed) (own : (m : Mark) → is_flagged c c.by m ≡ true → m.id ≡ c.id)
+module _ (s : LineState) (ok : OrderOk s) (c : Completed) (own : (m : Mark) → is_flagged c c.by m ≡ true → m.id ≡ c.id)
     (hits : (k i : ℕ) (m : Mark) → At s.marks k m → m.place ≡ Executed i → m.id ≡ c.id → is_flagged c c.by m ≡ true)
     (one : (j k : ℕ) (m o : Mark) → At s.marks j m → At s.marks k o → is_flagged c c.by m ≡ true → is_flagged c c.by o ≡ true → j ≡ k)
-    (has : (d : Command) → WasInvoked s.history c.id d → is_update d ≡ true → Answered (updates s.marks) (c.id, d) c.answer)
+    (has : (d : Command) → WasInvoked s.history c.id d → is_update d ≡ true → AnsweredInOrder (updates s.marks) (c.id, d) c.answer)
     (reads : (d : Command) → WasInvoked s.history c.id d → is_update d ≡ false → (k : ℕ) × (m : Mark) × At s.marks k m × (is_flagged c c.by m ≡ true))
     (early : (k : ℕ) (m : Mark) → At s.marks k m → is_flagged c c.by m ≡ true → EarlyAt s.marks s.history k m.id m.command)
     (was_invoked : (i : ℕ) × (d : Command) × At s.history i (Invoke c.id d)) (waits : IsCompleted s.history c.id → ⊥) where
@@ -253,8 +253,8 @@ module _ (s : Line) (ok : OrderOk s) (c : Completed) (own : (m : Mark) → is_fl
     | inr last ↦
         let same : c.id ≡ x = cc (last.1) in
         let answer : c.answer ≡ a = cc (last.1) in
-        subst (λ (y : RequestId). Answered (updates s.marks) (y, d) a) same
-        (subst (Answered (updates s.marks) (c.id, d)) answer (has d (subst (λ (y : RequestId). WasInvoked s.history y d) (sym same) (invoked_before x d inv)) up))
+        subst (λ (y : RequestId). AnsweredInOrder (updates s.marks) (y, d) a) same
+        (subst (AnsweredInOrder (updates s.marks) (c.id, d)) answer (has d (subst (λ (y : RequestId). WasInvoked s.history y d) (sym same) (invoked_before x d inv)) up))
   ]
 
   new_kinds : KindsOk marks
@@ -357,7 +357,7 @@ module _ (s : Line) (ok : OrderOk s) (c : Completed) (own : (m : Mark) → is_fl
 
 -- ---- an update
 
-module _ (s : Line) (ok : OrderOk s) (id : RequestId) (a : Answer) (fits : CompleteFits s id a) where
+module _ (s : LineState) (ok : OrderOk s) (id : RequestId) (a : Answer) (fits : CompleteFits s id a) where
   abbrev by_update : Completed
   by_update = record { id = id; answer = a; by = None }
 
@@ -372,8 +372,8 @@ module _ (s : Line) (ok : OrderOk s) (id : RequestId) (a : Answer) (fits : Compl
   abbrev asks : Asked
   asks = (fits.done.request.id, fits.done.request.command)
 
-  update_has : Answered (updates s.marks) asks a
-  update_has = subst (Answered (updates s.marks) asks) fits.done.its_answer (ok.answered fits.part fits.p fits.done.index fits.done.request fits.done.acknowledged fits.here fits.done.stands)
+  update_has : AnsweredInOrder (updates s.marks) asks a
+  update_has = subst (AnsweredInOrder (updates s.marks) asks) fits.done.its_answer (ok.answered fits.part fits.p fits.done.index fits.done.request fits.done.acknowledged fits.here fits.done.stands)
 
   -- the command of the op is that of its invocation
   its_command : (d : Command) → WasInvoked s.history id d → asks ≡ (id, d)
@@ -384,8 +384,8 @@ module _ (s : Line) (ok : OrderOk s) (id : RequestId) (a : Answer) (fits : Compl
       let same : u.0.command ≡ d = one_command s.history ok.history u.0.id id u.0.command d its_id (ok.invoked u.1 u.0 u.2 (update_no_cut u.0.place (not u.0.completed) u.3)) inv in
       sym u.4 ∙ (λ i. (its_id i, same i))
 
-  update_has_it : (d : Command) → WasInvoked s.history id d → is_update d ≡ true → Answered (updates s.marks) (id, d) a
-  update_has_it d inv up = subst (λ (x : Asked). Answered (updates s.marks) x a) (its_command d inv) update_has
+  update_has_it : (d : Command) → WasInvoked s.history id d → is_update d ≡ true → AnsweredInOrder (updates s.marks) (id, d) a
+  update_has_it d inv up = subst (λ (x : Asked). AnsweredInOrder (updates s.marks) x a) (its_command d inv) update_has
 
   no_read : (d : Command) → WasInvoked s.history id d → is_update d ≡ false → ⊥
   no_read d inv read =
@@ -404,7 +404,7 @@ module _ (s : Line) (ok : OrderOk s) (id : RequestId) (a : Answer) (fits : Compl
 
 -- ---- a read
 
-module _ (s : Line) (ok : OrderOk s) (by : Capture) (id : RequestId) (a : Answer) (fits : FlagFits s by id a) where
+module _ (s : LineState) (ok : OrderOk s) (by : Capture) (id : RequestId) (a : Answer) (fits : FlagFits s by id a) where
   abbrev by_read : Completed
   by_read = record { id = id; answer = a; by = Some by }
 

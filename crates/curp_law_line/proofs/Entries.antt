@@ -7,7 +7,7 @@ use Rattle.curp_cmd.specs.declared.entry.Entry.TheVariants.{Expire, Give, Op, Ta
 use Rattle.curp_cmd.specs.declared.migration.Package.{Package}
 use Rattle.curp_law_logs.specs.Hashes.{gives}
 use Rattle.curp_law_line.specs.Hashes.{is_give, is_take}
-use Rattle.curp_law_line.specs.Line.{Line, Ungiven}
+use Rattle.curp_law_line.specs.Line.{LineState, Ungiven}
 use Rattle.curp_law_line.specs.Moves.{OnlyMoving}
 use Rattle.curp_law_line.proofs.Spans.{takes}
 
@@ -40,7 +40,7 @@ take_entry n (Give m k) t = absurd cc
 take_entry n (Expire c) t = absurd cc
 
 -- where a take goes, no log has its give
-pub take_ungiven : (s : Line) (n : ℕ) (e : Entry) → is_take n e ≡ true → OnlyMoving s e → Ungiven s.parts n
+pub take_ungiven : (s : LineState) (n : ℕ) (e : Entry) → is_take n e ≡ true → OnlyMoving s e → Ungiven s.parts n
 take_ungiven s n (Op r a) t only = absurd cc
 take_ungiven s n (Take number k) t only = subst (Ungiven s.parts) (eqb-true number n t) only.3
 take_ungiven s n (Give number k) t only = absurd cc

@@ -8,16 +8,17 @@ use Rattle.curp_cmd.specs.declared.command.Request.{Request}
 use Rattle.curp_cmd.specs.declared.entry.Entry.{Entry}
 use Rattle.curp_cmd.specs.declared.entry.Entry.TheVariants.{Expire, Op}
 use Rattle.curp_model.specs.Marks.{Executed, Mark, is_update_mark, looked, quick}
-use Rattle.curp_law_logs.specs.Hashes.{Asked, asked, behind, updates}
+use Rattle.curp_law_logs.specs.Hashes.{asked, behind, updates}
+use Rattle.curp_order.specs.Order.{Asked}
 use Rattle.curp_law_line.specs.Hashes.{HashOk, HashesOk, Part, holds, is_give, is_take, onward}
-use Rattle.curp_law_line.specs.Line.{AnswersOk, DistinctOk, InTimeOk, InvokedOk, KindsOk, Line, MarkedOk, OrderOk, ReadsOk, WasInvoked}
+use Rattle.curp_law_line.specs.Line.{AnswersOk, DistinctOk, InTimeOk, InvokedOk, KindsOk, LineState, MarkedOk, OrderOk, ReadsOk, WasInvoked}
 use Rattle.curp_law_line.specs.Moves.{Look, LookFits, PushExpire, PushExpireFits, expire_pushed, looking, pushed, quickly}
 use Rattle.curp_law_line.proofs.Hashes.{any_push, has_take_push, owned_expire, updates_append}
 use Rattle.curp_law_line.proofs.Lines.{known_push, onward_log, onward_same}
 use Rattle.curp_law_line.proofs.Pushes as pushes
 use Rattle.curp_law_logs.proofs.Behind.{behind_from_append, came_from_append}
 
-module _ (s : Line) (ok : OrderOk s) (o : PushExpire) (fits : PushExpireFits s o) where
+module _ (s : LineState) (ok : OrderOk s) (o : PushExpire) (fits : PushExpireFits s o) where
   abbrev p : Part
   p = o.p
 
@@ -84,7 +85,7 @@ module _ (s : Line) (ok : OrderOk s) (o : PushExpire) (fits : PushExpireFits s o
 
 -- ---- a look, or another mark of a read at the end
 
-module _ (s : Line) (ok : OrderOk s) (mark : Mark) (no_update : is_update_mark mark.place ≡ false) (no_flag : mark.completed ≡ false) (reads : is_update mark.command ≡ false)
+module _ (s : LineState) (ok : OrderOk s) (mark : Mark) (no_update : is_update_mark mark.place ≡ false) (no_flag : mark.completed ≡ false) (reads : is_update mark.command ≡ false)
     (was_invoked : WasInvoked s.history mark.id mark.command) where
   abbrev marks : List Mark
   marks = s.marks ++ mark ∷ []
@@ -149,9 +150,9 @@ module _ (s : Line) (ok : OrderOk s) (mark : Mark) (no_update : is_update_mark m
   }
 
 -- a look keeps the facts
-pub look_keeps : (s : Line) → OrderOk s → (o : Look) → LookFits s o → OrderOk (looking s o)
+pub look_keeps : (s : LineState) → OrderOk s → (o : Look) → LookFits s o → OrderOk (looking s o)
 look_keeps s ok o fits = read_keeps s ok (looked o.node o.part o.epoch o.capture (length o.p.log) o.id o.command) refl refl fits.reads fits.was_invoked
 
 -- and so does a quick mark at the end
-pub quick_keeps : (s : Line) → OrderOk s → (o : Look) → LookFits s o → OrderOk (quickly s o)
+pub quick_keeps : (s : LineState) → OrderOk s → (o : Look) → LookFits s o → OrderOk (quickly s o)
 quick_keeps s ok o fits = read_keeps s ok (quick o.node o.part o.epoch o.capture o.id o.command) refl refl fits.reads fits.was_invoked

@@ -11,7 +11,8 @@ use Rattle.curp_cmd.specs.declared.entry.Entry.TheVariants.{Give}
 use Rattle.curp_cmd.specs.declared.migration.Package.{Package}
 use Rattle.curp_model.specs.Log.{meaning}
 use Rattle.curp_model.specs.Table.{packed}
-use Rattle.curp_law_logs.specs.Hashes.{Asked, In, NotNew, on, value}
+use Rattle.curp_law_logs.specs.Hashes.{In, NotNew, on, value}
+use Rattle.curp_order.specs.Order.{Asked}
 use Rattle.curp_law_line.specs.Hashes.{Part}
 pub use Rattle.curp_law_line.specs.Given.{GivesOnce, LogValue, LogsOk, TakesOnce}
 

@@ -16,9 +16,10 @@ use Rattle.curp_cmd.specs.declared.migration.Package.{Package}
 use Rattle.curp_model.specs.Manager.{Migration}
 use Rattle.curp_model.specs.Table.{check}
 use Rattle.curp_model.proofs.Logs.{op_not_new}
-use Rattle.curp_law_logs.specs.Hashes.{Asked, In, NoGive, NotNew, behind, came, gives, on, updates, value}
+use Rattle.curp_law_logs.specs.Hashes.{In, NoGive, NotNew, behind, came, gives, on, updates, value}
+use Rattle.curp_order.specs.Order.{Asked}
 use Rattle.curp_law_line.specs.Hashes.{HashOk, HashesOk, Part, given_on, has_take, holds, is_give, is_take, onward, owns, state_of}
-use Rattle.curp_law_line.specs.Line.{Line, OrderOk}
+use Rattle.curp_law_line.specs.Line.{LineState, OrderOk}
 use Rattle.curp_law_line.specs.Moves.{PushGive, PushGiveFits, give_pushed, pushed}
 use Rattle.curp_law_line.proofs.Carried.{at_source, carried_line, carried_value, quiet_gives}
 use Rattle.curp_law_line.proofs.Given.{LogValue, Pure}
@@ -30,7 +31,7 @@ use Rattle.curp_law_line.proofs.Spans.{owned_give}
 use Rattle.curp_law_line.proofs.Takes.{onward_ungiven}
 use Rattle.curp_law_logs.proofs.Behind.{behind_from_append, came_from_append}
 
-module _ (pure : Pure) (s : Line) (ok : OrderOk s) (o : PushGive) (fits : PushGiveFits s o) (its_value : LogValue (record fits.way.source { log = fits.way.before })) where
+module _ (pure : Pure) (s : LineState) (ok : OrderOk s) (o : PushGive) (fits : PushGiveFits s o) (its_value : LogValue (record fits.way.source { log = fits.way.before })) where
   abbrev p : Part
   p = o.p
 

@@ -16,9 +16,10 @@ use Rattle.curp_cmd.specs.declared.migration.Package.{Package}
 use Rattle.curp_model.specs.Log.{IsLog, answer_after, meaning}
 use Rattle.curp_model.specs.Manager.{Migration}
 use Rattle.curp_model.specs.Recovery.{replays}
-use Rattle.curp_law_logs.specs.Hashes.{Asked, NoGive, behind, behind_from, gives, on}
+use Rattle.curp_law_logs.specs.Hashes.{NoGive, behind, behind_from, gives, on}
+use Rattle.curp_order.specs.Order.{Asked}
 use Rattle.curp_law_line.specs.Hashes.{Part, has_take, holds, is_give, is_take, owns}
-use Rattle.curp_law_line.specs.Line.{Line, Owned}
+use Rattle.curp_law_line.specs.Line.{LineState, Owned}
 use Rattle.curp_law_line.specs.Moves.{Adopt, AdoptFits, OnlyMoving, ops, relogged, replayed_of}
 use Rattle.curp_law_line.proofs.Adopting.{AdoptGround, cut_part}
 use Rattle.curp_law_line.proofs.Entries.{give_entry, give_of, take_of}
@@ -39,7 +40,7 @@ asked_of_append (Take n k ∷ xs) ys = asked_of_append xs ys
 asked_of_append (Give n k ∷ xs) ys = asked_of_append xs ys
 asked_of_append (Expire c ∷ xs) ys = asked_of_append xs ys
 
-module _ (s : Line) (below : Owned s.moving s.parts) (o : Adopt) (fits : AdoptFits s o) (later : Owned s.moving (relogged s.parts o.part o.p (o.stays ++ ops (replayed_of o))))
+module _ (s : LineState) (below : Owned s.moving s.parts) (o : Adopt) (fits : AdoptFits s o) (later : Owned s.moving (relogged s.parts o.part o.p (o.stays ++ ops (replayed_of o))))
     (log : IsLog o.p.lo o.p.hi o.p.log) (gives_once : GivesOnce o.p.log) where
   abbrev p : Part
   p = o.p

@@ -12,9 +12,10 @@ use Rattle.curp_order.specs.declared.Event.TheVariants.{Complete, Invoke}
 use Rattle.curp_msg.specs.declared.machine.Completed.{Completed}
 use Rattle.curp_facts.specs.Marked.{completes, is_completed}
 use Rattle.curp_model.specs.Marks.{Mark, flagged, is_flagged, is_shown, is_update_mark, quick, shown}
-use Rattle.curp_law_logs.specs.Hashes.{Asked, In, asked}
-use Rattle.curp_law_line.specs.Line.{IsCompleted, Line, LineOk, StandsIn, completed_order}
-use Rattle.curp_law_line.specs.Moves.{Adopt, Adopts, AllFit, Completes, ExpirePush, Fits, Flags, GivePush, GivenDone, Invokes, Lates, Looks, Migrates, Move, OpPush, Quicks, Strays, TakePush, Told, after, all_after, replayed_of}
+use Rattle.curp_law_logs.specs.Hashes.{In, asked}
+use Rattle.curp_order.specs.Order.{Asked}
+use Rattle.curp_law_line.specs.Line.{IsCompleted, LineState, LineOk, StandsIn, completed_order}
+use Rattle.curp_law_line.specs.Moves.{Adopt, Adopts, AllFit, Completes, ExpirePush, Fits, Flags, GivePush, GivenDone, Invokes, Lates, Looks, Migrates, LineMove, OpPush, Quicks, Strays, TakePush, Told, after, all_after, replayed_of}
 use Rattle.curp_law_line.proofs.AdoptedMarks.{adopted_is, flagged_stays, fresh_of, stays}
 use Rattle.curp_law_line.proofs.Given.{LogsOk, Pure, Second}
 use Rattle.curp_law_line.proofs.Hashes.{update_place}
@@ -71,7 +72,7 @@ flags_flagged c (m ∷ marks) = go (is_flagged c c.by m) m.completed refl (flags
     go false false e ih =
         subst (λ (b : Bool). StandsIn (flags marks) (map asked (cond b (m ∷ filter (λ (o : Mark). o.completed) (flagged c marks)) (filter (λ (o : Mark). o.completed) (flagged c marks))))) (sym e) ih
 
-flags_adopted : (s : Line) (o : Adopt) → StandsIn (flags s.marks) (flags (after s (Adopts o)).marks)
+flags_adopted : (s : LineState) (o : Adopt) → StandsIn (flags s.marks) (flags (after s (Adopts o)).marks)
 flags_adopted s o =
     let kept : List Mark = filter (stays o.part (length o.stays)) s.marks in
     let same : flags kept ≡ flags s.marks = ap (map asked) (filter_within (λ (m : Mark). m.completed) (stays o.part (length o.stays)) s.marks (λ m y. flagged_stays o.part (length o.stays) m y)) in
@@ -79,7 +80,7 @@ flags_adopted s o =
     (subst (λ (l : List Asked). StandsIn l (flags (kept ++ fresh_of o.node o.part o.epoch (length o.stays) (replayed_of o) s.marks))) same (flags_more kept _))
 
 -- each move keeps the flagged marks in their order
-pub flags_grow : (s : Line) (m : Move) → StandsIn (flags s.marks) (flags (after s m).marks)
+pub flags_grow : (s : LineState) (m : LineMove) → StandsIn (flags s.marks) (flags (after s m).marks)
 flags_grow s (OpPush o) = flags_more s.marks _
 flags_grow s (TakePush o) = stands_self (flags s.marks)
 flags_grow s (GivePush o) = stands_self (flags s.marks)
@@ -110,7 +111,7 @@ completed_to : (history : List Event) (id : RequestId) → IsCompleted history i
 completed_to history id c = in_any (completes id) history (Complete id c.answer) (c.event, c.stands) (same_id-self id)
 
 -- a shown mark is flagged where its request has completed
-flag_tells : (s : Line) → LineOk s → (k : ℕ) (m : Mark) → At s.marks k m → is_shown m ≡ true → is_completed s.history m.id ≡ m.completed
+flag_tells : (s : LineState) → LineOk s → (k : ℕ) (m : Mark) → At s.marks k m → is_shown m ≡ true → is_completed s.history m.id ≡ m.completed
 flag_tells s ok k m h t = elim (cases_Bool m.completed) [
   | inl y ↦ completed_to s.history m.id (ok.order.flags k m h y) ∙ sym y
   | inr n ↦ elim (cases_Bool (is_completed s.history m.id)) [
@@ -143,18 +144,18 @@ flags_shown p (m ∷ marks) f = go m.completed (is_update_mark m.place) refl ref
     go false false e g ih = ih
 
 -- the completed requests of the order are those of the flagged marks
-completed_flags : (s : Line) → LineOk s → completed_order s ≡ flags s.marks
+completed_flags : (s : LineState) → LineOk s → completed_order s ≡ flags s.marks
 completed_flags s ok = flags_shown (λ (x : Asked). is_completed s.history x.0) s.marks (λ m n t. flag_tells s ok n.0 m n.1 t)
 
 module _ (pure : Pure) (second : Second) where
   -- after a move they stand in the order as they stood before it
-  pub order_grows : (s : Line) (m : Move) → Fits s m → LogsOk s.parts → LineOk s → StandsIn (completed_order s) (completed_order (after s m))
+  pub order_grows : (s : LineState) (m : LineMove) → Fits s m → LogsOk s.parts → LineOk s → StandsIn (completed_order s) (completed_order (after s m))
   order_grows s m fits logs ok =
       subst (λ (l : List Asked). StandsIn l (completed_order (after s m))) (sym (completed_flags s ok))
       (subst (StandsIn (flags s.marks)) (sym (completed_flags (after s m) (keeps pure second s m fits logs ok))) (flags_grow s m))
 
   -- and so after all of a list
-  pub order_grows_on : (ms : List Move) (s : Line) → AllFit LogsOk s ms → LineOk s → StandsIn (completed_order s) (completed_order (all_after s ms))
+  pub order_grows_on : (ms : List LineMove) (s : LineState) → AllFit LogsOk s ms → LineOk s → StandsIn (completed_order s) (completed_order (all_after s ms))
   order_grows_on [] s fits ok = stands_self (completed_order s)
   order_grows_on (m ∷ ms) s fits ok =
       stands_trans (completed_order s) (completed_order (after s m)) (completed_order (all_after (after s m) ms)) (order_grows s m fits.0 fits.1 ok)

@@ -17,7 +17,8 @@ use Rattle.curp_model.specs.Log.{LogState, after_entry, meaning}
 use Rattle.curp_model.specs.Manager.{Migration}
 use Rattle.curp_model.specs.Marks.{Cut, Executed, Looked, Mark, Place, Quick, in_turn, is_cut, is_update_mark}
 use Rattle.curp_model.proofs.Logs.{meaning_append}
-use Rattle.curp_law_logs.specs.Hashes.{Asked, In, asked, behind, behind_from, came, on, updates}
+use Rattle.curp_law_logs.specs.Hashes.{In, asked, behind, behind_from, came, on, updates}
+use Rattle.curp_order.specs.Order.{Asked}
 use Rattle.curp_law_line.specs.Hashes.{Part, given_on, has_take, is_take, onward}
 use Rattle.curp_law_line.proofs.Lists.{in_cases, in_cons, in_none, or_none}
 use Rattle.curp_base.proofs.Numbered.{filter_at}

@@ -8,14 +8,14 @@ use Rattle.curp_cmd.specs.Store.{applied, is_update, nothing}
 use Rattle.curp_cmd.specs.declared.command.Answer.{Answer}
 use Rattle.curp_cmd.specs.declared.command.Command.{Command}
 use Rattle.curp_cmd.specs.declared.command.RequestId.{RequestId}
-use Rattle.curp_order.specs.Order.{IsOrder, answers, store_after}
+use Rattle.curp_order.specs.Order.{IsOrder, answers, store_after, Asked}
 use Rattle.curp_order.specs.declared.Event.TheVariants.{Complete, Invoke}
 use Rattle.curp_model.specs.Log.{IsDone}
 use Rattle.curp_model.specs.Marks.{Mark, Place, in_turn, is_cut, is_shown, is_update_mark, shown}
-use Rattle.curp_law_logs.specs.Hashes.{Asked, asked, updates}
+use Rattle.curp_law_logs.specs.Hashes.{asked, updates}
 use Rattle.curp_law_line.specs.Hashes.{Part}
 use Rattle.curp_facts.specs.Kept.{ShowsAnswer}
-use Rattle.curp_law_line.specs.Line.{Answered, Line, LineOk, WasInvoked, answer_at}
+use Rattle.curp_law_line.specs.Line.{AnsweredInOrder, LineState, LineOk, WasInvoked, answer_at}
 use Rattle.curp_law_line.proofs.AdoptedMarks.{filter_order}
 use Rattle.curp_law_line.proofs.Completions.{marks_once}
 use Rattle.curp_law_line.proofs.Hashes.{flagged_no_cut, update_mark, update_no_cut, update_place, update_timed, updates_append}
@@ -71,7 +71,7 @@ pub record ShownMark (marks : List Mark) (id : RequestId) : Type 0 where
   pub shows : is_shown m ≡ true
   pub its_id : m.id ≡ id
 
-module _ (s : Line) (ok : LineOk s) where
+module _ (s : LineState) (ok : LineOk s) where
   abbrev order : List Asked
   order = shown s.marks
 
@@ -134,7 +134,7 @@ module _ (s : Line) (ok : LineOk s) where
   -- ---- answers
 
   -- an update that is answered in the order of updates has a mark with that answer
-  abbrev answered_mark : (x : Asked) (a : Answer) → Answered (updates s.marks) x a → (w : ShownMark s.marks x.0) × (answer_at s.marks w.place w.m.command ≡ a)
+  abbrev answered_mark : (x : Asked) (a : Answer) → AnsweredInOrder (updates s.marks) x a → (w : ShownMark s.marks x.0) × (answer_at s.marks w.place w.m.command ≡ a)
   answered_mark x a w =
       let u = update_mark s.marks w.place x w.stands in
       let t = update_answer s.marks u.1 u.0 u.2 u.3 in
@@ -174,7 +174,7 @@ module _ (s : Line) (ok : LineOk s) where
   pub shows_done : (n : ℕ) (p : Part) (id : RequestId) (a : Answer) → numbered s.parts n ≡ Some p → IsDone p.lo p.hi p.log id a → ShowsAnswer s.marks id a
   shows_done n p id a hn done =
       let x : Asked = (done.request.id, done.request.command) in
-      let w = answered_mark x a (subst (Answered (updates s.marks) x) done.its_answer (ok.order.answered n p done.index done.request done.acknowledged hn done.stands)) in
+      let w = answered_mark x a (subst (AnsweredInOrder (updates s.marks) x) done.its_answer (ok.order.answered n p done.index done.request done.acknowledged hn done.stands)) in
       subst (λ (i : RequestId). ShowsAnswer s.marks i a) done.its_id (shows_mark done.request.id a w.0 w.1)
 
   -- ---- the order

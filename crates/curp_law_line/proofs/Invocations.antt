@@ -8,7 +8,7 @@ use Rattle.curp_cmd.specs.declared.command.RequestId.{RequestId}
 use Rattle.curp_order.specs.Order.{IsHistory}
 use Rattle.curp_order.specs.declared.Event.{Event}
 use Rattle.curp_order.specs.declared.Event.TheVariants.{Complete, Invoke}
-use Rattle.curp_law_line.specs.Line.{IsCompleted, Left, Line, OrderOk, WasInvoked}
+use Rattle.curp_law_line.specs.Line.{IsCompleted, Left, LineState, OrderOk, WasInvoked}
 use Rattle.curp_law_line.specs.Moves.{InvokeFits, invoking, take_told}
 
 -- what was invoked stays so
@@ -19,7 +19,7 @@ invoked_grows h more id c w = record { event = w.event; stands = at_append h mor
 pub completed_grows : (h more : List Event) (id : RequestId) → IsCompleted h id → IsCompleted (h ++ more) id
 completed_grows h more id w = record { event = w.event; answer = w.answer; stands = at_append h more w.event _ w.stands }
 
-module _ (s : Line) (ok : OrderOk s) (id : RequestId) (command : Command) (fits : InvokeFits s id) where
+module _ (s : LineState) (ok : OrderOk s) (id : RequestId) (command : Command) (fits : InvokeFits s id) where
   abbrev asks : Event
   asks = Invoke id command
 
@@ -76,7 +76,7 @@ module _ (s : Line) (ok : OrderOk s) (id : RequestId) (command : Command) (fits 
   }
 
 -- that a take was told, changes nothing here
-pub tell_keeps : (s : Line) (number : ℕ) → OrderOk s → OrderOk (take_told s number)
+pub tell_keeps : (s : LineState) (number : ℕ) → OrderOk s → OrderOk (take_told s number)
 tell_keeps s number ok = record {
   history = ok.history;
   hashes = ok.hashes;
@@ -96,7 +96,7 @@ tell_keeps s number ok = record {
 }
 
 -- nor does it what the superseded logs are
-pub left_keeps : (s : Line) (left : ℕ → ℕ → Left) → OrderOk s → OrderOk (record s { left = left })
+pub left_keeps : (s : LineState) (left : ℕ → ℕ → Left) → OrderOk s → OrderOk (record s { left = left })
 left_keeps s left ok = record {
   history = ok.history;
   hashes = ok.hashes;

@@ -9,8 +9,8 @@ use Rattle.curp_cmd.specs.declared.entry.Entry.TheVariants.{Op, Take}
 use Rattle.curp_msg.specs.declared.machine.Capture.{Capture}
 use Rattle.curp_model.specs.Log.{answer_after}
 use Rattle.curp_law_line.specs.Hashes.{HashOk, Part, owns}
-use Rattle.curp_law_line.specs.Line.{Left, Line, LineOk, LookGives}
-use Rattle.curp_law_line.specs.Moves.{Adopts, AllFit, Completes, ExpirePush, Fits, Flags, GivePush, GivenDone, Invokes, IsDropped, Lates, Look, LookFits, Looks, Migrates, Move, OpPush, Quicks, Strays, TakePush, Told, after, all_after, looking}
+use Rattle.curp_law_line.specs.Line.{Left, LineState, LineOk, LookGives}
+use Rattle.curp_law_line.specs.Moves.{Adopts, AllFit, Completes, ExpirePush, Fits, Flags, GivePush, GivenDone, Invokes, IsDropped, Lates, Look, LookFits, Looks, Migrates, LineMove, OpPush, Quicks, Strays, TakePush, Told, after, all_after, looking}
 use Rattle.curp_law_line.proofs.Given.{LogsOk, Pure, Second}
 use Rattle.curp_law_line.proofs.ReadsKept.{reads_keep}
 use Rattle.curp_law_line.proofs.UpdatesKept.{UpdatesOk, updates_keep, whole_value}
@@ -20,11 +20,11 @@ use Rattle.curp_law_line.proofs.Lates.{late_low}
 use Rattle.curp_model.specs.Marks.{quick}
 
 module _ (pure : Pure) (second : Second) where
-  updates_of : (s : Line) → LineOk s → UpdatesOk s
+  updates_of : (s : LineState) → LineOk s → UpdatesOk s
   updates_of s ok = record { order = ok.order; owned = ok.owned }
 
   -- each move keeps the facts
-  pub keeps : (s : Line) (m : Move) → Fits s m → LogsOk s.parts → LineOk s → LineOk (after s m)
+  pub keeps : (s : LineState) (m : LineMove) → Fits s m → LogsOk s.parts → LineOk s → LineOk (after s m)
   keeps s m fits logs ok =
       let now = updates_keep pure second s m fits logs (updates_of s ok) in
       record {
@@ -35,12 +35,12 @@ module _ (pure : Pure) (second : Second) where
       }
 
   -- and so do all of a list
-  pub all_keep : (ms : List Move) (s : Line) → AllFit LogsOk s ms → LineOk s → LineOk (all_after s ms)
+  pub all_keep : (ms : List LineMove) (s : LineState) → AllFit LogsOk s ms → LineOk s → LineOk (all_after s ms)
   all_keep [] s fits ok = ok
   all_keep (m ∷ ms) s fits ok = all_keep ms (after s m) fits.2 (keeps s m fits.0 fits.1 ok)
 
   -- a look gives at its mark what it gave, unless an adoption drops it
-  pub look_stays : (s : Line) (m : Move) → Fits s m → LogsOk s.parts → LineOk s → (by : Capture) (part long : ℕ) (id : RequestId) (a : Answer)
+  pub look_stays : (s : LineState) (m : LineMove) → Fits s m → LogsOk s.parts → LineOk s → (by : Capture) (part long : ℕ) (id : RequestId) (a : Answer)
       → LookGives s.marks by part long id a → LookGives (after s m).marks by part long id a ⊎ IsDropped m part long
   look_stays s (OpPush o) fits logs ok by part long id a w = inl (look_more s.marks _ by part long id a w)
   look_stays s (TakePush o) fits logs ok by part long id a w = inl w
@@ -61,7 +61,7 @@ module _ (pure : Pure) (second : Second) where
   look_stays s (Strays at number more) fits logs ok by part long id a w = inl w
 
   -- a look gives at its mark what it read in the log
-  pub look_reads : (s : Line) (o : Look) → LookFits s o → LogsOk s.parts → LineOk s
+  pub look_reads : (s : LineState) (o : Look) → LookFits s o → LogsOk s.parts → LineOk s
       → LookGives (looking s o).marks (record { master = o.node; epoch = o.epoch; number = o.capture }) o.part (length o.p.log) o.id (answer_after o.p.lo o.p.hi o.p.log o.command)
   look_reads s o fits logs ok = look_begins pure s ok.order ok.owned o fits (whole_value pure second s logs o.part o.p fits.here)
 

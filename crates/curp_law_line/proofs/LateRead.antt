@@ -18,7 +18,7 @@ use Rattle.curp_order.specs.declared.Event.{Event}
 use Rattle.curp_order.specs.declared.Event.TheVariants.{Complete, Invoke}
 use Rattle.curp_model.specs.Marks.{Mark, cut_mark, executed, quick, shown}
 use Rattle.curp_law_line.specs.Hashes.{Part}
-use Rattle.curp_law_line.specs.Line.{EarlyAt, Line}
+use Rattle.curp_law_line.specs.Line.{EarlyAt, LineState}
 use Rattle.curp_law_line.specs.Moves.{Adopts, AllFit, Completes, Invokes, Lates, OpPush, after, all_after, flags_mark}
 use Rattle.curp_cmd.specs.declared.entry.Entry.TheVariants.{Op}
 use Rattle.curp_law_line.proofs.Lists.{some_same}
@@ -110,7 +110,7 @@ module _ (key value : List ℕ) where
   not_read (suc (suc zero)) a h = let e : 2 ≡ 1 = ap client_in (some_same h) in omega (arith, e)
   not_read (suc (suc (suc i))) a h = absurd cc
 
-  abbrev before_flag : Line
+  abbrev before_flag : LineState
   before_flag =
       after (after (after (after (after (after (begin key) (Invokes reading (Get key))) (Adopts (adopt_second key))) (Invokes writing (Put key value))) (OpPush (push_write key value))) (Completes writing Done)) (Lates (late_answer key))
 

@@ -3,14 +3,15 @@ use Rattle.std.proofs.Common.{◌≡◌, ◌≤◌, ℕ, inl, inr, true, false, 
 use Rattle.curp_base.specs.Words.{At}
 use Rattle.curp_base.proofs.Lists.{at_within}
 use Rattle.curp_cmd.specs.Store.{is_update}
-use Rattle.curp_law_logs.specs.Hashes.{Asked, asked, updates}
+use Rattle.curp_law_logs.specs.Hashes.{asked, updates}
+use Rattle.curp_order.specs.Order.{Asked}
 use Rattle.curp_model.specs.Marks.{Executed, Mark, is_timed, is_update_mark, quick}
 use Rattle.curp_law_line.specs.Hashes.{HashesOk}
-use Rattle.curp_law_line.specs.Line.{AnswersOk, DistinctOk, InTimeOk, InvokedOk, KindsOk, Line, MarkedOk, OneFlagOk, OrderOk, ReadsOk, WasInvoked}
+use Rattle.curp_law_line.specs.Line.{AnswersOk, DistinctOk, InTimeOk, InvokedOk, KindsOk, LineState, MarkedOk, OneFlagOk, OrderOk, ReadsOk, WasInvoked}
 use Rattle.curp_law_line.specs.Moves.{Late, LateFits, late_quickly, put_before}
 use Rattle.curp_law_line.proofs.Puts.{Was, put_cases, put_filter, put_stands, was_order, was_same}
 
-module _ (s : Line) (ok : OrderOk s) (o : Late) (fits : LateFits s o) where
+module _ (s : LineState) (ok : OrderOk s) (o : Late) (fits : LateFits s o) where
   abbrev pub late_mark : Mark
   late_mark = quick o.node o.part o.epoch o.capture o.id o.command
 

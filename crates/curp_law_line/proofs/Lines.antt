@@ -8,7 +8,8 @@ use Rattle.curp_range.specs.Spans.{is_in}
 use Rattle.curp_cmd.specs.declared.command.RequestId.{RequestId}
 use Rattle.curp_cmd.specs.declared.entry.Entry.{Entry}
 use Rattle.curp_model.specs.Manager.{Migration}
-use Rattle.curp_law_logs.specs.Hashes.{Asked, NoGive, NotNew, behind, gives}
+use Rattle.curp_law_logs.specs.Hashes.{NoGive, NotNew, behind, gives}
+use Rattle.curp_order.specs.Order.{Asked}
 use Rattle.curp_law_line.specs.Hashes.{Part, given_on, has_take, is_give, is_take, onward}
 use Rattle.curp_law_line.specs.Moves.{pushed}
 use Rattle.curp_law_line.proofs.Known.{stays_known}

@@ -13,7 +13,7 @@ use Rattle.curp_order.specs.Order.{store_after}
 use Rattle.curp_model.specs.Marks.{Executed, Looked, Mark, is_past, is_update_mark}
 use Rattle.curp_law_logs.specs.Hashes.{In, asked, on, updates}
 use Rattle.curp_law_line.specs.Hashes.{Part, is_take}
-use Rattle.curp_law_line.specs.Line.{Line, LooksOk, ToldTake}
+use Rattle.curp_law_line.specs.Line.{LineState, LooksOk, ToldTake}
 use Rattle.curp_law_line.specs.Moves.{Adopt, AdoptFits}
 use Rattle.curp_law_line.proofs.AdoptedMarks.{flagged_stays, stays}
 use Rattle.curp_law_line.proofs.Entries.{take_entry}
@@ -52,7 +52,7 @@ stays_away part cut u ne = elim (cases_Bool (u.part == part)) [
   | inr n ↦ λ j. not ((n j && not u.completed) && is_past cut u.place)
 ]
 
-module _ (s : Line) (o : Adopt) (fits : AdoptFits s o) (takes_once : TakesOnce o.p.log) where
+module _ (s : LineState) (o : Adopt) (fits : AdoptFits s o) (takes_once : TakesOnce o.p.log) where
   -- a told take stands below the cut
   pub told_low : (i h : ℕ) → (t : ToldTake s.told o.p.log i h) → t.place < length o.stays
   told_low i h t =
@@ -65,7 +65,7 @@ module _ (s : Line) (o : Adopt) (fits : AdoptFits s o) (takes_once : TakesOnce o
       let low = at_within o.stays w.0 w.1 w.2 in
       omega (arith, same, low)
 
-module _ (s : Line) (looks : LooksOk s.parts s.told s.marks) (o : Adopt) (fits : AdoptFits s o) (takes_once : TakesOnce o.p.log) where
+module _ (s : LineState) (looks : LooksOk s.parts s.told s.marks) (o : Adopt) (fits : AdoptFits s o) (takes_once : TakesOnce o.p.log) where
   -- a look that is kept is no longer than the cut
   look_low : (j number long : ℕ) (m : Mark) → At s.marks j m → m.place ≡ Looked number long → m.part ≡ o.part → stays o.part (length o.stays) m ≡ true → long ≤ length o.stays
   look_low j number long m h at part st = elim (cases_Bool m.completed) [

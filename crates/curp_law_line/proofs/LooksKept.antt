@@ -12,7 +12,7 @@ use Rattle.curp_cmd.specs.declared.entry.Entry.TheVariants.{Op, Take}
 use Rattle.curp_msg.specs.declared.machine.Completed.{Completed}
 use Rattle.curp_model.specs.Marks.{Executed, Looked, Mark, flagged, is_quick, looked}
 use Rattle.curp_law_line.specs.Hashes.{Part}
-use Rattle.curp_law_line.specs.Line.{Line, LooksOk, OpAt, OrderOk, ToldTake}
+use Rattle.curp_law_line.specs.Line.{LineState, LooksOk, OpAt, OrderOk, ToldTake}
 use Rattle.curp_law_line.specs.Moves.{Adopt, AdoptFits, Look, LookFits, ops, pushed, put_before, relogged, replayed_of}
 use Rattle.curp_law_line.proofs.AdoptedMarks.{filter_order, stays}
 use Rattle.curp_law_line.proofs.Completions.{flagging_at}
@@ -54,7 +54,7 @@ looks_more parts told marks mark no_look ok j k i number long h m u hm am hk lt 
 ]
 
 -- one more look: an op elsewhere on its hashes has a told take behind it, since the look's partition owns them
-pub looks_look : (s : Line) → OrderOk s → (o : Look) → LookFits s o
+pub looks_look : (s : LineState) → OrderOk s → (o : Look) → LookFits s o
     → ((n i h a : ℕ) (q : Part) (r : Request) → n ≢ o.part → numbered s.parts n ≡ Some q → At q.log i (Op r a) → touches r.command h ≡ true → touches o.command h ≡ true → ToldTake s.told q.log i h)
     → LooksOk s.parts s.told s.marks → LooksOk s.parts s.told (s.marks ++ looked o.node o.part o.epoch o.capture (length o.p.log) o.id o.command ∷ [])
 looks_look s order o fits away ok j k i number long h m u hm am hk lt au f tm tu = elim (at_push_cases s.marks mark k u hk) [
@@ -107,11 +107,11 @@ looks_tell parts told number marks ok j k i n long h m u hm am hk lt au f tm tu 
 ]
 
 -- the marks that stay
-abbrev pub filter_stays : Line → Adopt → List Mark
+abbrev pub filter_stays : LineState → Adopt → List Mark
 filter_stays s o = filter (stays o.part (length o.stays)) s.marks
 
 -- an adoption
-pub looks_adopt : (s : Line) (looks : LooksOk s.parts s.told s.marks) (o : Adopt) (fits : AdoptFits s o) (takes_once : TakesOnce o.p.log) → (fresh : List Mark)
+pub looks_adopt : (s : LineState) (looks : LooksOk s.parts s.told s.marks) (o : Adopt) (fits : AdoptFits s o) (takes_once : TakesOnce o.p.log) → (fresh : List Mark)
     → ((k number long : ℕ) (m : Mark) → At fresh k m → m.place ≡ Looked number long → ⊥)
     → LooksOk (relogged s.parts o.part o.p (o.stays ++ ops (replayed_of o))) s.told (filter_stays s o ++ fresh)
 looks_adopt s looks o fits takes_once fresh no_look j k i number long h m u hm am hk lt au f tm tu = elim (at_append_cases (filter_stays s o) fresh j m hm) [

@@ -7,12 +7,12 @@ use Rattle.curp_range.specs.Spans.{is_in}
 use Rattle.curp_model.specs.Manager.{Migration}
 use Rattle.curp_law_logs.specs.Hashes.{behind, updates}
 use Rattle.curp_law_line.specs.Hashes.{HashesOk, Part, has_take, onward, owns}
-use Rattle.curp_law_line.specs.Line.{Line, OrderOk, Owned}
+use Rattle.curp_law_line.specs.Line.{LineState, OrderOk, Owned}
 use Rattle.curp_law_line.specs.Moves.{MigrateFits, given_done, migrating}
 use Rattle.curp_law_line.proofs.Hashes.{no_onward}
 
 -- where only the equation changes
-rehashed : (s : Line) → OrderOk s → (moving : Option Migration) → HashesOk moving s.parts (updates s.marks) → OrderOk (record s { moving = moving })
+rehashed : (s : LineState) → OrderOk s → (moving : Option Migration) → HashesOk moving s.parts (updates s.marks) → OrderOk (record s { moving = moving })
 rehashed s ok moving hashes = record {
   history = ok.history;
   hashes = hashes;
@@ -33,7 +33,7 @@ rehashed s ok moving hashes = record {
 
 -- ---- the beginning and the end
 
-module _ (s : Line) (ok : OrderOk s) (m : Migration) (fits : MigrateFits s m) where
+module _ (s : LineState) (ok : OrderOk s) (m : Migration) (fits : MigrateFits s m) where
   untaken : (n : ℕ) (p : Part) (h : ℕ) → numbered s.parts n ≡ Some p → has_take (Some m) h p.log ≡ false
   untaken n p h here = ap (λ (b : Bool). is_in m.range.lo m.range.hi h && b) (fits.untaken n p here) ∙ and-false _
 
@@ -54,7 +54,7 @@ module _ (s : Line) (ok : OrderOk s) (m : Migration) (fits : MigrateFits s m) wh
   pub migrate_keeps : OrderOk (migrating s m)
   migrate_keeps = rehashed s ok (Some m) migrate_hashes
 
-module _ (s : Line) (ok : OrderOk s) (below : Owned s.moving s.parts) where
+module _ (s : LineState) (ok : OrderOk s) (below : Owned s.moving s.parts) where
   given_hashes : HashesOk None s.parts (updates s.marks)
   given_hashes n p here h held =
       let own : owns p h ≡ true = elim (or_cases (owns p h) false held) [ inl y ↦ y | inr t ↦ absurd cc ] in

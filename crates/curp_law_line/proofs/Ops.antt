@@ -13,7 +13,7 @@ use Rattle.curp_cmd.specs.declared.command.Request.{Request}
 use Rattle.curp_cmd.specs.declared.command.RequestId.{RequestId}
 use Rattle.curp_cmd.specs.declared.entry.Entry.{Entry}
 use Rattle.curp_cmd.specs.declared.entry.Entry.TheVariants.{Op}
-use Rattle.curp_order.specs.Order.{IsHistory, answers}
+use Rattle.curp_order.specs.Order.{IsHistory, answers, Asked}
 use Rattle.curp_order.specs.declared.Event.{Event}
 use Rattle.curp_order.specs.declared.Event.TheVariants.{Invoke}
 use Rattle.curp_order.proofs.Laws.{answers_push}
@@ -21,9 +21,9 @@ use Rattle.curp_model.specs.Log.{answer_after}
 use Rattle.curp_model.specs.Marks.{Executed, Mark, executed, is_update_mark}
 use Rattle.curp_model.specs.Table.{check}
 use Rattle.curp_model.proofs.Logs.{op_not_new}
-use Rattle.curp_law_logs.specs.Hashes.{Asked, In, behind, on, updates}
+use Rattle.curp_law_logs.specs.Hashes.{In, behind, on, updates}
 use Rattle.curp_law_line.specs.Hashes.{HashOk, HashesOk, Part, has_take, holds, is_give, is_take, onward, owns, state_of}
-use Rattle.curp_law_line.specs.Line.{Answered, AnswersOk, DistinctOk, FlagsOk, InTimeOk, InvokedOk, IsCompleted, KindsOk, Line, MarkedOk, OnceOk, OneFlagOk, OpAt, OrderOk, Owned, ReadsOk, StandingOk, UnflaggedOk, WaitingOk, WasInvoked}
+use Rattle.curp_law_line.specs.Line.{AnsweredInOrder, AnswersOk, DistinctOk, FlagsOk, InTimeOk, InvokedOk, IsCompleted, KindsOk, LineState, MarkedOk, OnceOk, OneFlagOk, OpAt, OrderOk, Owned, ReadsOk, StandingOk, UnflaggedOk, WaitingOk, WasInvoked}
 use Rattle.curp_law_line.specs.Moves.{PushOp, PushOpFits, op_pushed, pushed}
 use Rattle.curp_law_line.proofs.Given.{LogsValue, Pure}
 use Rattle.curp_law_line.proofs.Hashes.{any_push, behind_in, behind_op, came_op, has_take_push, no_onward, on_none, owned_op, update_mark, update_no_cut, updates_append}
@@ -49,7 +49,7 @@ end_own past b o n o2 e f = rw (e, f, append-nil, append-nil, append_assoc) refl
 end_beside : (past b o n : List Asked) → (past ++ (b ++ o)) ++ n ≡ past ++ (b ++ (o ++ n))
 end_beside past b o n = append_assoc past (b ++ o) n ∙ ap (λ w. past ++ w) (append_assoc b o n)
 
-module _ (pure : Pure) (s : Line) (ok : OrderOk s) (below : Owned s.moving s.parts) (values : LogsValue s.parts) (o : PushOp) (fits : PushOpFits s o) where
+module _ (pure : Pure) (s : LineState) (ok : OrderOk s) (below : Owned s.moving s.parts) (values : LogsValue s.parts) (o : PushOp) (fits : PushOpFits s o) where
   abbrev os : List Asked
   os = updates s.marks
 
@@ -135,7 +135,7 @@ module _ (pure : Pure) (s : Line) (ok : OrderOk s) (below : Owned s.moving s.par
 
   -- ---- the answers of ops
 
-  own_answer : Answered (os ++ x ∷ []) x (answer_after p.lo p.hi p.log r.command)
+  own_answer : AnsweredInOrder (os ++ x ∷ []) x (answer_after p.lo p.hi p.log r.command)
   own_answer = record {
     place = length os;
     stands = at_push os x (length os) refl;
@@ -144,14 +144,14 @@ module _ (pure : Pure) (s : Line) (ok : OrderOk s) (below : Owned s.moving s.par
 
   op_answers : AnswersOk after (os ++ x ∷ [])
   op_answers k q i t a hk hi = elim (pushes.old_or_new s.parts o.part p e fits.here k q i t a hk hi) [
-    | inl old ↦ subst (Answered (os ++ x ∷ []) (t.id, t.command)) (sym old.3) (answered_grows os (x ∷ []) (t.id, t.command) _ (ok.answered k old.0 i t a old.1 old.2))
+    | inl old ↦ subst (AnsweredInOrder (os ++ x ∷ []) (t.id, t.command)) (sym old.3) (answered_grows os (x ∷ []) (t.id, t.command) _ (ok.answered k old.0 i t a old.1 old.2))
     | inr last ↦
         let is : r ≡ t = cc (last.2) in
         let before : answer_after longer.lo longer.hi (take i longer.log) r.command ≡ answer_after p.lo p.hi p.log r.command =
         ap (λ (j : ℕ). answer_after p.lo p.hi (take j (p.log ++ e ∷ [])) r.command) last.1 ∙ ap (λ (es : List Entry). answer_after p.lo p.hi es r.command) (take-append_seam p.log (e ∷ [])) in
-        subst (λ (y : Part). Answered (os ++ x ∷ []) (t.id, t.command) (answer_after y.lo y.hi (take i y.log) t.command)) last.3
-        (subst (λ (w : Request). Answered (os ++ x ∷ []) (w.id, w.command) (answer_after longer.lo longer.hi (take i longer.log) w.command)) is
-        (subst (Answered (os ++ x ∷ []) x) (sym before) own_answer))
+        subst (λ (y : Part). AnsweredInOrder (os ++ x ∷ []) (t.id, t.command) (answer_after y.lo y.hi (take i y.log) t.command)) last.3
+        (subst (λ (w : Request). AnsweredInOrder (os ++ x ∷ []) (w.id, w.command) (answer_after longer.lo longer.hi (take i longer.log) w.command)) is
+        (subst (AnsweredInOrder (os ++ x ∷ []) x) (sym before) own_answer))
   ]
 
   -- ---- the equation

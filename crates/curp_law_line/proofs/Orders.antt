@@ -11,10 +11,10 @@ use Rattle.curp_cmd.specs.declared.command.Answer.{Answer}
 use Rattle.curp_cmd.specs.declared.command.RequestId.{RequestId}
 use Rattle.curp_cmd.specs.declared.entry.Entry.{Entry}
 use Rattle.curp_cmd.specs.declared.entry.Entry.TheVariants.{Expire, Give, Op, Take}
-use Rattle.curp_order.specs.Order.{answers, answers_from, store_after}
+use Rattle.curp_order.specs.Order.{answers, answers_from, store_after, Asked}
 use Rattle.curp_order.proofs.Laws.{answers_append, length-answers}
-use Rattle.curp_law_logs.specs.Hashes.{Asked, In, NoGive, behind_from, on, value}
-use Rattle.curp_law_line.specs.Line.{Answered}
+use Rattle.curp_law_logs.specs.Hashes.{In, NoGive, behind_from, on, value}
+use Rattle.curp_law_line.specs.Line.{AnsweredInOrder}
 use Rattle.curp_law_line.proofs.Given.{Pure}
 use Rattle.curp_law_line.proofs.Hashes.{key_touches}
 use Rattle.curp_law_line.proofs.Lists.{Distinct, distinct_filter, empty_list, from_filter, in_cons, in_filter, in_head, in_none, in_right, in_tail, only_one, some_or_none}
@@ -101,15 +101,15 @@ answer_there f b x =
     (at_append_right (answers_from nothing f) _ 0 (length f) _ (let e : length (answers_from nothing f) ≡ length f = length-answers nothing f in omega (arith, e)) refl)
 
 -- the same of a cut
-pub answered_there : (os : List Asked) (x : Asked) (s : Split os x) → Answered os x (applied (store_after nothing s.front) x.1).answer
-answered_there os x s = subst (λ (l : List Asked). Answered l x (applied (store_after nothing s.front) x.1).answer) (sym s.is) (record {
+pub answered_there : (os : List Asked) (x : Asked) (s : Split os x) → AnsweredInOrder os x (applied (store_after nothing s.front) x.1).answer
+answered_there os x s = subst (λ (l : List Asked). AnsweredInOrder l x (applied (store_after nothing s.front) x.1).answer) (sym s.is) (record {
   place = length s.front;
   stands = at_append_right s.front (x ∷ s.back) 0 (length s.front) x (omega arith) refl;
   answer = answer_there s.front s.back x;
 })
 
 -- and back: an answer is that of a cut
-pub answered_is : (os : List Asked) (x : Asked) (a : Answer) → (w : Answered os x a) → (s : Split os x) × (a ≡ (applied (store_after nothing s.front) x.1).answer)
+pub answered_is : (os : List Asked) (x : Asked) (a : Answer) → (w : AnsweredInOrder os x a) → (s : Split os x) × (a ≡ (applied (store_after nothing s.front) x.1).answer)
 answered_is os x a w =
     let s = split_at os w.place x w.stands in
     let there : At (answers os) w.place (applied (store_after nothing s.0.front) x.1).answer =

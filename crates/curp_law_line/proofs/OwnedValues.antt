@@ -6,15 +6,15 @@ use Rattle.curp_base.specs.Words.{numbered}
 use Rattle.curp_cmd.specs.Hash.{hash_of, touches}
 use Rattle.curp_cmd.specs.Store.{applied, nothing}
 use Rattle.curp_cmd.specs.declared.command.Command.{Command}
-use Rattle.curp_order.specs.Order.{store_after}
+use Rattle.curp_order.specs.Order.{store_after, Asked}
 use Rattle.curp_model.specs.Log.{answer_after}
-use Rattle.curp_law_logs.specs.Hashes.{Asked, behind, updates, value}
+use Rattle.curp_law_logs.specs.Hashes.{behind, updates, value}
 use Rattle.curp_law_line.specs.Hashes.{HashOk, Part, has_take, owns, state_of}
-use Rattle.curp_law_line.specs.Line.{Line, OrderOk, Owned}
+use Rattle.curp_law_line.specs.Line.{LineState, OrderOk, Owned}
 use Rattle.curp_law_line.proofs.Given.{LogValue, Pure}
 use Rattle.curp_law_line.proofs.Hashes.{key_touches, no_onward}
 
-module _ (s : Line) (ok : OrderOk s) (below : Owned s.moving s.parts) (part : ℕ) (p : Part) (here : numbered s.parts part ≡ Some p) where
+module _ (s : LineState) (ok : OrderOk s) (below : Owned s.moving s.parts) (part : ℕ) (p : Part) (here : numbered s.parts part ≡ Some p) where
   -- the owner's take isn't out
   pub no_take : (h : ℕ) → owns p h ≡ true → has_take s.moving h p.log ≡ false
   no_take h own = elim (cases_Bool (has_take s.moving h p.log)) [ inl t ↦ absurd (below.gone part p h here own t) | inr f ↦ f ]

@@ -9,7 +9,7 @@ use Rattle.curp_cmd.specs.declared.entry.Entry.{Entry}
 use Rattle.curp_cmd.specs.declared.entry.Entry.TheVariants.{Give, Take}
 use Rattle.curp_model.specs.Manager.{Migration}
 use Rattle.curp_law_line.specs.Hashes.{Part, has_take, is_give, is_take, owns, state_of}
-use Rattle.curp_law_line.specs.Line.{Line, Owned}
+use Rattle.curp_law_line.specs.Line.{LineState, Owned}
 use Rattle.curp_law_line.specs.Moves.{MigrateFits, PushGive, PushGiveFits, PushTake, PushTakeFits, pushed, taken_by}
 use Rattle.curp_law_line.proofs.Hashes.{any_push, has_take_push}
 use Rattle.curp_law_line.proofs.Lists.{in_any, in_head, in_right, some_same}
@@ -60,7 +60,7 @@ push_was moving parts n p e here same no_take no_give k q hk = elim (pushes.case
 
 -- ---- the take
 
-module _ (s : Line) (ok : Owned (s.moving) s.parts) (o : PushTake) (fits : PushTakeFits s o) where
+module _ (s : LineState) (ok : Owned (s.moving) s.parts) (o : PushTake) (fits : PushTakeFits s o) where
   abbrev p : Part
   p = o.p
 
@@ -125,7 +125,7 @@ module _ (s : Line) (ok : Owned (s.moving) s.parts) (o : PushTake) (fits : PushT
 
 -- ---- the give
 
-module _ (s : Line) (ok : Owned s.moving s.parts) (o : PushGive) (fits : PushGiveFits s o) where
+module _ (s : LineState) (ok : Owned s.moving s.parts) (o : PushGive) (fits : PushGiveFits s o) where
   abbrev p2 : Part
   p2 = o.p
 
@@ -237,7 +237,7 @@ given_owned moving parts ok = record {
 }
 
 -- its beginning keeps it
-pub migrate_owned : (s : Line) (m : Migration) → Owned s.moving s.parts → MigrateFits s m → Owned (Some m) s.parts
+pub migrate_owned : (s : LineState) (m : Migration) → Owned s.moving s.parts → MigrateFits s m → Owned (Some m) s.parts
 migrate_owned s m ok fits = record {
   one = ok.one;
   gone = λ n p h hn a t. untaken n p h hn t;

@@ -13,14 +13,14 @@ use Rattle.curp_cmd.specs.declared.entry.Entry.TheVariants.{Op}
 use Rattle.curp_order.proofs.Laws.{answers_prefix}
 use Rattle.curp_model.specs.Log.{answer_after}
 use Rattle.curp_model.specs.Marks.{Mark}
-use Rattle.curp_law_logs.specs.Hashes.{Asked}
+use Rattle.curp_order.specs.Order.{Asked}
 use Rattle.curp_law_line.specs.Hashes.{Part}
-use Rattle.curp_law_line.specs.Line.{Answered, AnswersOk, OnceOk, OpAt, StandingOk, WaitingOk}
+use Rattle.curp_law_line.specs.Line.{AnsweredInOrder, AnswersOk, OnceOk, OpAt, StandingOk, WaitingOk}
 use Rattle.curp_law_line.specs.Moves.{pushed}
 use Rattle.curp_base.proofs.Numbered.{numbered_same, numbered_set_cases, numbered_set_other, numbered_set_same}
 
 -- what is answered in an order is so in a longer one
-pub answered_grows : (os more : List Asked) (x : Asked) (a : Answer) → Answered os x a → Answered (os ++ more) x a
+pub answered_grows : (os more : List Asked) (x : Asked) (a : Answer) → AnsweredInOrder os x a → AnsweredInOrder (os ++ more) x a
 answered_grows os more x a o = record {
   place = o.place;
   stands = at_append os more o.place x o.stands;
@@ -117,5 +117,5 @@ module _ (parts : List Part) (n : ℕ) (p : Part) (e : Entry) (here : numbered p
     pub answers_stay : (os : List Asked) → AnswersOk parts os → AnswersOk after os
     answers_stay os ok k q i r a hk hi = elim (old_or_new k q i r a hk hi) [
       | inr new ↦ absurd (no_op r a new.2)
-      | inl old ↦ subst (Answered os (r.id, r.command)) (sym old.3) (ok k old.0 i r a old.1 old.2)
+      | inl old ↦ subst (AnsweredInOrder os (r.id, r.command)) (sym old.3) (ok k old.0 i r a old.1 old.2)
     ]

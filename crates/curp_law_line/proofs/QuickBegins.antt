@@ -21,7 +21,7 @@ use Rattle.curp_law_logs.specs.Gives.{GivesWithin}
 use Rattle.curp_law_logs.proofs.Untouched.{answer_untouched}
 use Rattle.curp_model.specs.Marks.{Cut, Executed, Looked, Mark, Place, Quick, adoptions, cuts_at, cuts_part, is_capture, is_cut, is_number, is_update_mark, put_at, quick, shown}
 use Rattle.curp_law_line.specs.Hashes.{Part, owns, state_of}
-use Rattle.curp_law_line.specs.Line.{CutAt, CutEarly, IsCompleted, IsFirm, Left, Line, LineOk, QuickEarly, QuickGives, QuickLow}
+use Rattle.curp_law_line.specs.Line.{CutAt, CutEarly, IsCompleted, IsFirm, Left, LineState, LineOk, QuickEarly, QuickGives, QuickLow}
 use Rattle.curp_law_line.specs.Moves.{Adopt, FlagFits, Late, LateFits, Look, LookFits, adopting, flags_mark, late_quickly, put_before, quickly, replayed_of}
 use Rattle.curp_law_line.proofs.AdoptedMarks.{adopted_is, fresh_no_flag, fresh_of, stays, the_cut}
 use Rattle.curp_law_line.proofs.Carried.{quiet_gives}
@@ -41,7 +41,7 @@ use Rattle.curp_law_logs.specs.Hashes.{updates}
 
 -- ---- at an adopted master
 
-module _ (pure : Pure) (second : Second) (s : Line) (o : Look) (fits : LookFits s o) (logs : LogsOk s.parts) (ok : LineOk s) where
+module _ (pure : Pure) (second : Second) (s : LineState) (o : Look) (fits : LookFits s o) (logs : LogsOk s.parts) (ok : LineOk s) where
   abbrev quick_mark : Mark
   quick_mark = quick o.node o.part o.epoch o.capture o.id o.command
 
@@ -125,7 +125,7 @@ firm_answer l c within firm = answer_untouched l.front.lo l.front.hi l.front.log
         go true y = absurd (let bad : true ≡ false = sym (in_any (λ (x : Entry). entry_touches x h) l.back e (k, at) y) ∙ quiet in cc)
         go false n = n
 
-module _ (pure : Pure) (s : Line) (o : Late) (fits : LateFits s o) (ok : LineOk s) where
+module _ (pure : Pure) (s : LineState) (o : Late) (fits : LateFits s o) (ok : LineOk s) where
   abbrev late_mark : Mark
   late_mark = quick o.node o.part o.epoch o.capture o.id o.command
 
@@ -213,7 +213,7 @@ module _ (pure : Pure) (s : Line) (o : Late) (fits : LateFits s o) (ok : LineOk 
 -- ---- by the number of the adoption
 
 -- the place of an adoption's mark, by its number
-pub late_place : (s : Line) → LineOk s → (part number : ℕ) → 1 ≤ number → number ≤ adoptions part s.marks → CutAt s.marks part number
+pub late_place : (s : LineState) → LineOk s → (part number : ℕ) → 1 ≤ number → number ≤ adoptions part s.marks → CutAt s.marks part number
 late_place s ok part number one last = ok.quick.there part number one last
 
 -- the mark of an adoption, by the test
@@ -231,7 +231,7 @@ cut_of part number o y =
     numbered_cut (Cut a b) e f = (b, ap (λ (x : ℕ). Cut x b) (eqb-true a number f))
 
 -- and a mark that comes before it by the number comes before it by the place
-pub late_by_number : (s : Line) → LineOk s → (part number : ℕ) (q : Mark) → (c : CutAt s.marks part number) → put_at part number q s.marks ≡ put_before c.place q s.marks
+pub late_by_number : (s : LineState) → LineOk s → (part number : ℕ) (q : Mark) → (c : CutAt s.marks part number) → put_at part number q s.marks ≡ put_before c.place q s.marks
 late_by_number s ok part number q c = put_at_is part number q s.marks c.place c.mark c.stands its (λ k o h y.
     let p = cut_of part number o y in
     ok.quick.once k c.place number p.1 c.long o c.mark h c.stands p.2 c.is_cut (p.0 ∙ sym c.its_part))
@@ -240,7 +240,7 @@ late_by_number s ok part number q c = put_at_is part number q s.marks c.place c.
     its = and_from _ _ (and_from (is_cut c.mark.place) (c.mark.part == part) (ap is_cut c.is_cut) (eq-eqb c.mark.part part c.its_part)) (ap (is_number number) c.is_cut ∙ eq-eqb number number refl)
 
 -- where the partition wasn't adopted so often, it comes to the end
-pub late_at_end : (s : Line) → LineOk s → (part number : ℕ) (q : Mark) → adoptions part s.marks < number → put_at part number q s.marks ≡ s.marks ++ q ∷ []
+pub late_at_end : (s : LineState) → LineOk s → (part number : ℕ) (q : Mark) → adoptions part s.marks < number → put_at part number q s.marks ≡ s.marks ++ q ∷ []
 late_at_end s ok part number q past = put_at_end part number q s.marks (λ k o h y.
     let p = cut_of part number o y in
     let l : number ≤ adoptions part s.marks = subst (λ (x : ℕ). number ≤ adoptions x s.marks) p.0 (ok.quick.numbers k number p.1 o h p.2) in
@@ -249,7 +249,7 @@ late_at_end s ok part number q past = put_at_end part number q s.marks (λ k o h
 -- ---- an adoption
 
 -- nothing behind the mark of an adoption is flagged as it comes
-pub cut_early_begins : (s : Line) (o : Adopt) (id : RequestId) (command : Command) → CutEarly (adopting s o) o.part (adoptions o.part s.marks + 1) id command
+pub cut_early_begins : (s : LineState) (o : Adopt) (id : RequestId) (command : Command) → CutEarly (adopting s o) o.part (adoptions o.part s.marks + 1) id command
 cut_early_begins s o id command = record {
   place = length kept;
   mark = the_cut o.node o.part o.epoch (length o.stays) s.marks;
@@ -278,7 +278,7 @@ cut_early_begins s o id command = record {
 -- ---- a completion
 
 -- a quick mark whose request is early, and which is the only one that the completion flags, fits
-pub flag_fits : (s : Line) (by : Capture) (part : ℕ) (id : RequestId) (a : Answer) (q : QuickEarly s by part id a) → ((k : ℕ) (o : Mark) → At s.marks k o → flags_mark by id a o ≡ true → k ≡ q.its.place)
+pub flag_fits : (s : LineState) (by : Capture) (part : ℕ) (id : RequestId) (a : Answer) (q : QuickEarly s by part id a) → ((k : ℕ) (o : Mark) → At s.marks k o → flags_mark by id a o ≡ true → k ≡ q.its.place)
     → (IsCompleted s.history id → ⊥) → FlagFits s by id a
 flag_fits s by part id a q only waits = record {
   place = q.its.place;

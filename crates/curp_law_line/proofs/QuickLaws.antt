@@ -13,8 +13,8 @@ use Rattle.curp_order.specs.declared.Event.TheVariants.{Complete, Invoke}
 use Rattle.curp_msg.specs.declared.machine.Capture.{Capture}
 use Rattle.curp_msg.specs.declared.machine.Completed.{Completed}
 use Rattle.curp_model.specs.Marks.{Cut, Executed, Looked, Mark, Place, Quick, flagged, is_cut, is_flagged, is_past, is_quick, is_shown, is_update_mark, quick}
-use Rattle.curp_law_line.specs.Line.{CutEarly, EarlyAt, IsCompleted, KindsOk, Line, LineOk, QuickEarly, QuickGives, QuickLow, WasInvoked, answer_at}
-use Rattle.curp_law_line.specs.Moves.{Adopt, AdoptFits, Adopts, Completes, ExpirePush, Fits, Flags, GivePush, GivenDone, Invokes, Lates, Looks, Migrates, Move, OpPush, Quicks, Strays, TakePush, Told, adopting, after, put_before, replayed_of}
+use Rattle.curp_law_line.specs.Line.{CutEarly, EarlyAt, IsCompleted, KindsOk, LineState, LineOk, QuickEarly, QuickGives, QuickLow, WasInvoked, answer_at}
+use Rattle.curp_law_line.specs.Moves.{Adopt, AdoptFits, Adopts, Completes, ExpirePush, Fits, Flags, GivePush, GivenDone, Invokes, Lates, Looks, Migrates, LineMove, OpPush, Quicks, Strays, TakePush, Told, adopting, after, put_before, replayed_of}
 use Rattle.curp_law_line.proofs.AdoptedMarks.{adopted_is, fresh_no_flag, fresh_of, stays}
 use Rattle.curp_law_line.proofs.Completions.{flagging_at, read_own, update_own}
 use Rattle.curp_law_line.proofs.Given.{LogsOk, Pure, Second}
@@ -24,9 +24,9 @@ use Rattle.curp_law_line.proofs.Lists.{at_take_in}
 use Rattle.curp_law_line.proofs.Puts.{put_cases, put_stands, was_order}
 use Rattle.curp_law_line.proofs.Values.{quick_kept, value_flagged, value_more, value_put}
 use Rattle.curp_cmd.specs.Hash.{touches}
-use Rattle.curp_law_line.specs.Moved.{Moved}
+use Rattle.curp_law_line.specs.Moved.{MarkMoved}
 
-unfoldable pub moved_same : (s : Line) (place : ℕ) (m : Mark) → At s.marks place m → Moved s s.marks place m
+unfoldable pub moved_same : (s : LineState) (place : ℕ) (m : Mark) → At s.marks place m → MarkMoved s s.marks place m
 moved_same s place m h = record {
   now = place;
   mark = m;
@@ -43,7 +43,7 @@ moved_same s place m h = record {
 }
 
 -- one more mark at the end
-unfoldable pub moved_more : (s : Line) (mark : Mark) → mark.completed ≡ false → (place : ℕ) (m : Mark) → At s.marks place m → Moved s (s.marks ++ mark ∷ []) place m
+unfoldable pub moved_more : (s : LineState) (mark : Mark) → mark.completed ≡ false → (place : ℕ) (m : Mark) → At s.marks place m → MarkMoved s (s.marks ++ mark ∷ []) place m
 moved_more s mark no_flag place m h = record {
   now = place;
   mark = m;
@@ -66,7 +66,7 @@ moved_more s mark no_flag place m h = record {
 }
 
 -- flags
-unfoldable pub moved_flag : (s : Line) (c : Completed) → KindsOk s.marks → KindsOk (flagged c s.marks) → (IsCompleted s.history c.id → ⊥) → ((m : Mark) → is_flagged c c.by m ≡ true → m.id ≡ c.id) → (place : ℕ) (m : Mark) → At s.marks place m → Moved s (flagged c s.marks) place m
+unfoldable pub moved_flag : (s : LineState) (c : Completed) → KindsOk s.marks → KindsOk (flagged c s.marks) → (IsCompleted s.history c.id → ⊥) → ((m : Mark) → is_flagged c c.by m ≡ true → m.id ≡ c.id) → (place : ℕ) (m : Mark) → At s.marks place m → MarkMoved s (flagged c s.marks) place m
 moved_flag s c kinds kinds_now waits own place m h = record {
   now = place;
   mark = cond (is_flagged c c.by m) (record m { completed = true }) m;
@@ -96,7 +96,7 @@ moved_flag s c kinds kinds_now waits own place m h = record {
     alike f false e = refl
 
 -- a mark of no update between others
-unfoldable pub moved_put : (s : Line) (c : ℕ) (q : Mark) → q.completed ≡ false → is_update_mark q.place ≡ false → is_shown q ≡ false → c ≤ length s.marks → (place : ℕ) (m : Mark) → At s.marks place m → Moved s (put_before c q s.marks) place m
+unfoldable pub moved_put : (s : LineState) (c : ℕ) (q : Mark) → q.completed ≡ false → is_update_mark q.place ≡ false → is_shown q ≡ false → c ≤ length s.marks → (place : ℕ) (m : Mark) → At s.marks place m → MarkMoved s (put_before c q s.marks) place m
 moved_put s c q no_flag no_update out low place m h =
     let n = put_stands q c s.marks place m low h in
     record {
@@ -146,8 +146,8 @@ filter_place {A} q (z ∷ xs) (suc k) x h t = go (q z) (filter_place q xs k x h 
     go false r = (r.0, r.1, r.2, λ l y g lt. let w = r.3 l y g lt in (suc w.0, w.1, omega (arith, w.2)))
 
 -- an adoption that keeps the mark
-pub moved_kept : Pure → (s : Line) → LineOk s → (o : Adopt) → AdoptFits s o → LogsOk s.parts → (place : ℕ) (m : Mark) → At s.marks place m → stays o.part (length o.stays) m ≡ true
-    → (w : Moved s (filter (stays o.part (length o.stays)) s.marks ++ fresh_of o.node o.part o.epoch (length o.stays) (replayed_of o) s.marks) place m)
+pub moved_kept : Pure → (s : LineState) → LineOk s → (o : Adopt) → AdoptFits s o → LogsOk s.parts → (place : ℕ) (m : Mark) → At s.marks place m → stays o.part (length o.stays) m ≡ true
+    → (w : MarkMoved s (filter (stays o.part (length o.stays)) s.marks ++ fresh_of o.node o.part o.epoch (length o.stays) (replayed_of o) s.marks) place m)
     × At (filter (stays o.part (length o.stays)) s.marks) w.now m × (take w.now (filter (stays o.part (length o.stays)) s.marks) ≡ filter (stays o.part (length o.stays)) (take place s.marks))
 moved_kept pure s ok o fits logs place m h st = (
   record {
@@ -194,9 +194,9 @@ moved_kept pure s ok o fits logs place m h st = (
     quick_place (Quick c) e = (c, refl)
     quick_place (Cut c l) e = absurd cc
 
-pub moved_adopt : Pure → (s : Line) → LineOk s → (o : Adopt) → AdoptFits s o → LogsOk s.parts → (place : ℕ) (m : Mark) → At s.marks place m → stays o.part (length o.stays) m ≡ true → Moved s (adopting s o).marks place m
+pub moved_adopt : Pure → (s : LineState) → LineOk s → (o : Adopt) → AdoptFits s o → LogsOk s.parts → (place : ℕ) (m : Mark) → At s.marks place m → stays o.part (length o.stays) m ≡ true → MarkMoved s (adopting s o).marks place m
 moved_adopt pure s ok o fits logs place m h st =
-    subst (λ (l : List Mark). Moved s l place m) (sym (adopted_is o.node o.part o.epoch (length o.stays) (replayed_of o) s.marks)) (moved_kept pure s ok o fits logs place m h st).0
+    subst (λ (l : List Mark). MarkMoved s l place m) (sym (adopted_is o.node o.part o.epoch (length o.stays) (replayed_of o) s.marks)) (moved_kept pure s ok o fits logs place m h st).0
 
 -- ---- each move
 
@@ -219,7 +219,7 @@ lasting_stays part cut m y = ap (λ (b : Bool). not (((m.part == part) && not m.
 
 module _ (pure : Pure) (second : Second) where
   -- each move keeps them
-  pub moves : (s : Line) (m : Move) → Fits s m → LogsOk s.parts → LineOk s → (place : ℕ) (x : Mark) → At s.marks place x → is_lasting x.place ≡ true → Moved s (after s m).marks place x
+  pub moves : (s : LineState) (m : LineMove) → Fits s m → LogsOk s.parts → LineOk s → (place : ℕ) (x : Mark) → At s.marks place x → is_lasting x.place ≡ true → MarkMoved s (after s m).marks place x
   moves s (OpPush o) fits logs ok place x h y = moved_more s _ refl place x h
   moves s (TakePush o) fits logs ok place x h y = moved_same s place x h
   moves s (GivePush o) fits logs ok place x h y = moved_same s place x h
@@ -239,7 +239,7 @@ module _ (pure : Pure) (second : Second) where
   moves s (Strays part number more) fits logs ok place x h y = moved_same s place x h
 
 -- the history grows
-pub history_more : (s : Line) (m : Move) → (more : List Event) × ((after s m).history ≡ s.history ++ more)
+pub history_more : (s : LineState) (m : LineMove) → (more : List Event) × ((after s m).history ≡ s.history ++ more)
 history_more s (OpPush o) = ([], sym (append-nil s.history))
 history_more s (TakePush o) = ([], sym (append-nil s.history))
 history_more s (GivePush o) = ([], sym (append-nil s.history))
@@ -257,7 +257,7 @@ history_more s (Lates o) = ([], sym (append-nil s.history))
 history_more s (Strays part number more) = ([], sym (append-nil s.history))
 
 -- what was invoked before what is flagged behind a mark completed, stays so
-pub early_moved : (s : Line) (new : List Mark) (place : ℕ) (x : Mark) (w : Moved s new place x) (more : List Event) (id : RequestId) (command : Command) → WasInvoked s.history id command
+pub early_moved : (s : LineState) (new : List Mark) (place : ℕ) (x : Mark) (w : MarkMoved s new place x) (more : List Event) (id : RequestId) (command : Command) → WasInvoked s.history id command
     → EarlyAt s.marks s.history place id command → EarlyAt new (s.history ++ more) w.now id command
 early_moved s new place x w more id command inv early j e m a lt hj f done = elim (at_append_cases s.history more e _ done) [
   | inr g ↦ (inv.event, (let l = at_within s.history inv.event _ inv.stands in omega (arith, g.1, l)), at_append s.history more inv.event _ inv.stands)
@@ -275,7 +275,7 @@ quick_lasts p number e = ap is_lasting e
 cut_lasts : (p : Place) (number long : ℕ) → p ≡ Cut number long → is_lasting p ≡ true
 cut_lasts p number long e = ap is_lasting e
 
-module _ (pure : Pure) (second : Second) (s : Line) (m : Move) (fits : Fits s m) (logs : LogsOk s.parts) (ok : LineOk s) where
+module _ (pure : Pure) (second : Second) (s : LineState) (m : LineMove) (fits : Fits s m) (logs : LogsOk s.parts) (ok : LineOk s) where
   -- a quick mark gives what it gave, through each move
   pub quick_stays : (by : Capture) (part : ℕ) (id : RequestId) (a : Answer) → QuickGives s.marks by part id a → QuickGives (after s m).marks by part id a
   quick_stays by part id a g =

@@ -6,8 +6,8 @@ use Rattle.curp_base.specs.Words.{At}
 use Rattle.curp_base.proofs.Lists.{at_append_cases, at_push_cases, at_same, at_within}
 use Rattle.curp_msg.specs.declared.machine.Completed.{Completed}
 use Rattle.curp_model.specs.Marks.{Mark, executed, flagged, is_flagged, is_shown, is_update_mark, looked, quick}
-use Rattle.curp_law_line.specs.Line.{IsCompleted, KindsOk, Line, LineOk}
-use Rattle.curp_law_line.specs.Moves.{Adopt, AdoptFits, Adopts, Completes, ExpirePush, Fits, Flags, GivePush, GivenDone, Invokes, Lates, Looks, Migrates, Move, OpPush, Quicks, Strays, TakePush, Told, after, put_before, replayed_of}
+use Rattle.curp_law_line.specs.Line.{IsCompleted, KindsOk, LineState, LineOk}
+use Rattle.curp_law_line.specs.Moves.{Adopt, AdoptFits, Adopts, Completes, ExpirePush, Fits, Flags, GivePush, GivenDone, Invokes, Lates, Looks, Migrates, LineMove, OpPush, Quicks, Strays, TakePush, Told, after, put_before, replayed_of}
 use Rattle.curp_law_line.specs.Moved.{Came, IsNew}
 use Rattle.curp_law_line.proofs.AdoptedMarks.{adopted_is, fresh_mark_at, fresh_of, stays}
 use Rattle.curp_law_line.proofs.Completions.{flagging_at, read_own, update_own}
@@ -18,18 +18,18 @@ use Rattle.curp_law_line.proofs.Puts.{put_exact, put_stands, was_same}
 use Rattle.curp_law_line.proofs.QuickLaws.{moved_flag, moved_kept, moved_more, moved_put, moved_same}
 use Rattle.curp_law_line.proofs.Values.{filter_back}
 
-came_same : (s : Line) (k : ℕ) (x : Mark) → At s.marks k x → Came s s.marks k x
+came_same : (s : LineState) (k : ℕ) (x : Mark) → At s.marks k x → Came s s.marks k x
 unfolding moved_same
 came_same s k x h = record { place = k; old = x; stands = h; moved = moved_same s k x h; now = refl; mark = refl }
 
-came_more : (s : Line) (mark : Mark) → mark.completed ≡ false → (k : ℕ) (x : Mark) → At (s.marks ++ mark ∷ []) k x → Came s (s.marks ++ mark ∷ []) k x ⊎ ((mark ≡ x) × (k ≡ length s.marks))
+came_more : (s : LineState) (mark : Mark) → mark.completed ≡ false → (k : ℕ) (x : Mark) → At (s.marks ++ mark ∷ []) k x → Came s (s.marks ++ mark ∷ []) k x ⊎ ((mark ≡ x) × (k ≡ length s.marks))
 unfolding moved_more
 came_more s mark no_flag k x h = elim (at_push_cases s.marks mark k x h) [
   | inl old ↦ inl (record { place = k; old = x; stands = old; moved = moved_more s mark no_flag k x old; now = refl; mark = refl })
   | inr last ↦ inr (last.1, last.0)
 ]
 
-came_flag : (s : Line) (c : Completed) (kinds : KindsOk s.marks) (kinds_now : KindsOk (flagged c s.marks)) (waits : IsCompleted s.history c.id → ⊥) (own : (m : Mark) → is_flagged c c.by m ≡ true → m.id ≡ c.id)
+came_flag : (s : LineState) (c : Completed) (kinds : KindsOk s.marks) (kinds_now : KindsOk (flagged c s.marks)) (waits : IsCompleted s.history c.id → ⊥) (own : (m : Mark) → is_flagged c c.by m ≡ true → m.id ≡ c.id)
     → (k : ℕ) (x : Mark) → At (flagged c s.marks) k x → Came s (flagged c s.marks) k x
 unfolding moved_flag
 came_flag s c kinds kinds_now waits own k x h =
@@ -40,7 +40,7 @@ came_flag s c kinds kinds_now waits own k x h =
     same : (m : Mark) (g : At s.marks k m) → (moved_flag s c kinds kinds_now waits own k m g).now ≡ k
     same m g = refl
 
-came_put : (s : Line) (c : ℕ) (q : Mark) (no_flag : q.completed ≡ false) (no_update : is_update_mark q.place ≡ false) (out : is_shown q ≡ false) (low : c ≤ length s.marks) → (k : ℕ) (x : Mark) → At (put_before c q s.marks) k x
+came_put : (s : LineState) (c : ℕ) (q : Mark) (no_flag : q.completed ≡ false) (no_update : is_update_mark q.place ≡ false) (out : is_shown q ≡ false) (low : c ≤ length s.marks) → (k : ℕ) (x : Mark) → At (put_before c q s.marks) k x
     → Came s (put_before c q s.marks) k x ⊎ ((q ≡ x) × (k ≡ c))
 unfolding moved_put
 came_put s c q no_flag no_update out low k x h = elim (put_exact q c s.marks low k x h) [
@@ -50,7 +50,7 @@ came_put s c q no_flag no_update out low k x h = elim (put_exact q c s.marks low
       inl (record { place = old.0; old = x; stands = old.2; moved = moved_put s c q no_flag no_update out low old.0 x old.2; now = was_same c n.0 k old.0 old.0 n.1 old.1 refl; mark = refl })
 ]
 
-came_adopt : (pure : Pure) (s : Line) (ok : LineOk s) (o : Adopt) (fits : AdoptFits s o) (logs : LogsOk s.parts) → (k : ℕ) (x : Mark)
+came_adopt : (pure : Pure) (s : LineState) (ok : LineOk s) (o : Adopt) (fits : AdoptFits s o) (logs : LogsOk s.parts) → (k : ℕ) (x : Mark)
     → At (filter (stays o.part (length o.stays)) s.marks ++ fresh_of o.node o.part o.epoch (length o.stays) (replayed_of o) s.marks) k x
     → Came s (filter (stays o.part (length o.stays)) s.marks ++ fresh_of o.node o.part o.epoch (length o.stays) (replayed_of o) s.marks) k x
     ⊎ IsNew s (Adopts o) k x
@@ -82,7 +82,7 @@ came_adopt pure s ok o fits logs k x h = elim (at_append_cases kept fresh k x h)
 
 module _ (pure : Pure) (second : Second) where
   -- each mark afterwards was there before, or came with the move
-  pub marks_came : (s : Line) (m : Move) → Fits s m → LogsOk s.parts → LineOk s → (k : ℕ) (x : Mark) → At (after s m).marks k x → Came s (after s m).marks k x ⊎ IsNew s m k x
+  pub marks_came : (s : LineState) (m : LineMove) → Fits s m → LogsOk s.parts → LineOk s → (k : ℕ) (x : Mark) → At (after s m).marks k x → Came s (after s m).marks k x ⊎ IsNew s m k x
   marks_came s (OpPush o) fits logs ok k x h = came_more s (executed o.node o.part o.epoch (length o.p.log) o.request.id o.request.command) refl k x h
   marks_came s (TakePush o) fits logs ok k x h = inl (came_same s k x h)
   marks_came s (GivePush o) fits logs ok k x h = inl (came_same s k x h)

@@ -11,7 +11,7 @@ use Rattle.curp_cmd.specs.declared.entry.Entry.TheVariants.{Take}
 use Rattle.curp_law_logs.specs.Hashes.{In, on, updates}
 use Rattle.curp_model.specs.Marks.{Executed, Mark, is_update_mark}
 use Rattle.curp_law_line.specs.Hashes.{Part}
-use Rattle.curp_law_line.specs.Line.{AwayOk, Line, ToldAway, ToldTake}
+use Rattle.curp_law_line.specs.Line.{AwayOk, LineState, ToldAway, ToldTake}
 use Rattle.curp_law_line.specs.Moves.{Adopt, AdoptFits, ops, relogged, replayed_of}
 use Rattle.curp_law_line.proofs.AdoptedMarks.{flagged_stays, stays}
 use Rattle.curp_law_line.proofs.Given.{TakesOnce}
@@ -23,7 +23,7 @@ use Rattle.curp_law_line.proofs.Looks.{filter_on, stays_away, stays_low, told_lo
 abbrev pub LowBefore : List Mark → ℕ → ℕ → ℕ → ℕ → Type 0
 LowBefore marks place part h long = (k i : ℕ) (u : Mark) → At marks k u → k < place → u.place ≡ Executed i → u.completed ≡ false → u.part ≡ part → touches u.command h ≡ true → i < long
 
-module _ (s : Line) (o : Adopt) (fits : AdoptFits s o) (takes_once : TakesOnce o.p.log) where
+module _ (s : LineState) (o : Adopt) (fits : AdoptFits s o) (takes_once : TakesOnce o.p.log) where
   abbrev cut : ℕ
   cut = length o.stays
 

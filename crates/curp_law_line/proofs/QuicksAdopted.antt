@@ -12,10 +12,11 @@ use Rattle.curp_cmd.specs.declared.command.Command.{Command}
 use Rattle.curp_cmd.specs.declared.entry.Entry.{Entry}
 use Rattle.curp_cmd.specs.declared.entry.Entry.TheVariants.{Expire, Give, Op, Take}
 use Rattle.curp_model.specs.Log.{entry_touches}
-use Rattle.curp_law_logs.specs.Hashes.{Asked, behind, came, on, updates, value}
+use Rattle.curp_law_logs.specs.Hashes.{behind, came, on, updates, value}
+use Rattle.curp_order.specs.Order.{Asked}
 use Rattle.curp_model.specs.Marks.{Cut, Executed, Looked, Mark, Place, Quick, adoptions, cuts_part, has_completed, is_cut, is_past, is_update_mark}
 use Rattle.curp_law_line.specs.Hashes.{Part, owns, state_of}
-use Rattle.curp_law_line.specs.Line.{AwayOk, IsFirm, Left, Line, OrderOk, Owned, QuickKept, TakesOk}
+use Rattle.curp_law_line.specs.Line.{AwayOk, IsFirm, Left, LineState, OrderOk, Owned, QuickKept, TakesOk}
 use Rattle.curp_law_line.specs.Moves.{Adopt, AdoptFits, adopting, left_after, replayed_of}
 use Rattle.curp_law_line.proofs.AdoptedMarks.{adopted_is, filter_order, flagged_stays, new_mark_at, new_marks, stays, the_cut}
 use Rattle.curp_law_line.proofs.Adopting.{cut_part}
@@ -67,7 +68,7 @@ takes_touch h (Take n k) t = t
 takes_touch h (Give n k) t = absurd cc
 takes_touch h (Expire client) t = absurd cc
 
-module _ (pure : Pure) (s : Line) (order : OrderOk s) (below : Owned s.moving s.parts) (takes_ok : TakesOk s.parts s.moving s.told) (logs : LogsOk s.parts) (o : Adopt) (fits : AdoptFits s o)
+module _ (pure : Pure) (s : LineState) (order : OrderOk s) (below : Owned s.moving s.parts) (takes_ok : TakesOk s.parts s.moving s.told) (logs : LogsOk s.parts) (o : Adopt) (fits : AdoptFits s o)
     (q : QuickKept s.parts s.told s.left s.marks) where
   abbrev kept : List Mark
   kept = kept_of s o fits (logs.takes_once o.part o.p fits.here)

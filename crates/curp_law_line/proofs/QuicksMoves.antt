@@ -6,8 +6,8 @@ use Rattle.curp_cmd.specs.Hash.{touches}
 use Rattle.curp_cmd.specs.declared.command.Command.{Command}
 use Rattle.curp_cmd.specs.declared.entry.Entry.TheVariants.{Expire, Give, Op, Take}
 use Rattle.curp_model.specs.Marks.{Mark, executed, is_cut, is_quick, looked, quick}
-use Rattle.curp_law_line.specs.Line.{AwayOk, IsFirm, Line, LooksKept, OrderOk, Owned, QuickKept}
-use Rattle.curp_law_line.specs.Moves.{Adopts, Completes, ExpirePush, Fits, Flags, GivePush, GivenDone, Invokes, Lates, Look, LookFits, Looks, Migrates, Move, OpPush, Quicks, Strays, TakePush, Told, after, pushed, taken_by}
+use Rattle.curp_law_line.specs.Line.{AwayOk, IsFirm, LineState, LooksKept, OrderOk, Owned, QuickKept}
+use Rattle.curp_law_line.specs.Moves.{Adopts, Completes, ExpirePush, Fits, Flags, GivePush, GivenDone, Invokes, Lates, Look, LookFits, Looks, Migrates, LineMove, OpPush, Quicks, Strays, TakePush, Told, after, pushed, taken_by}
 use Rattle.curp_law_line.proofs.Given.{LogsOk, Pure}
 use Rattle.curp_law_line.proofs.Lates.{late_low}
 use Rattle.curp_law_line.proofs.QuicksAdopted.{quick_adopts}
@@ -16,7 +16,7 @@ use Rattle.curp_law_line.proofs.ToldTakes.{told_behind}
 use Rattle.curp_law_line.proofs.Completions.{hits_no_cut}
 
 -- what is uncompleted before a look's place on an owned hash, elsewhere, has a told take
-pub end_away : (s : Line) → LogsOk s.parts → OrderOk s → Owned s.moving s.parts → LooksKept s → (o : Look) → LookFits s o → (more : List Mark) (h : ℕ) → touches o.command h ≡ true
+pub end_away : (s : LineState) → LogsOk s.parts → OrderOk s → Owned s.moving s.parts → LooksKept s → (o : Look) → LookFits s o → (more : List Mark) (h : ℕ) → touches o.command h ≡ true
     → AwayOk s.parts s.told (s.marks ++ more) (length s.marks) o.part h
 end_away s logs ok below k o fits more h t i index u hk lt at waits tu ne =
     let old : At s.marks i u = was hk in
@@ -29,7 +29,7 @@ end_away s logs ok below k o fits more h t i index u hk lt at waits tu ne =
 
 module _ (pure : Pure) where
   -- each move keeps it
-  pub quicks_keep : (s : Line) (m : Move) → Fits s m → LogsOk s.parts → OrderOk s → Owned s.moving s.parts → LooksKept s → QuickKept s.parts s.told s.left s.marks
+  pub quicks_keep : (s : LineState) (m : LineMove) → Fits s m → LogsOk s.parts → OrderOk s → Owned s.moving s.parts → LooksKept s → QuickKept s.parts s.told s.left s.marks
       → QuickKept (after s m).parts (after s m).told (after s m).left (after s m).marks
   quicks_keep s (OpPush o) fits logs ok below k q =
       quick_more (pushed s.parts o.part o.p (Op o.request o.acknowledged)) s.told s.left s.marks (executed o.node o.part o.epoch (length o.p.log) o.request.id o.request.command ∷ [])

@@ -4,8 +4,8 @@ use Rattle.curp_base.specs.Words.{At}
 use Rattle.curp_base.proofs.Lists.{at_same}
 use Rattle.curp_cmd.specs.declared.entry.Entry.TheVariants.{Expire, Give, Op, Take}
 use Rattle.curp_model.specs.Marks.{Mark, executed, quick}
-use Rattle.curp_law_line.specs.Line.{Line, LooksKept, LooksOk, OrderOk, Owned, QuickKept, answer_at}
-use Rattle.curp_law_line.specs.Moves.{Adopt, AdoptFits, Adopts, Completes, ExpirePush, Fits, Flags, GivePush, GivenDone, Invokes, Lates, Looks, Migrates, Move, OpPush, Quicks, Strays, TakePush, Told, after, ops, relogged, replayed_of, taken_by}
+use Rattle.curp_law_line.specs.Line.{LineState, LooksKept, LooksOk, OrderOk, Owned, QuickKept, answer_at}
+use Rattle.curp_law_line.specs.Moves.{Adopt, AdoptFits, Adopts, Completes, ExpirePush, Fits, Flags, GivePush, GivenDone, Invokes, Lates, Looks, Migrates, LineMove, OpPush, Quicks, Strays, TakePush, Told, after, ops, relogged, replayed_of, taken_by}
 use Rattle.curp_law_line.proofs.AdoptedMarks.{adopted_is, fresh_no_look, fresh_of}
 use Rattle.curp_law_line.proofs.Completions.{read_own, update_kind, update_own}
 use Rattle.curp_law_line.proofs.Given.{LogsOk, Pure}
@@ -14,14 +14,14 @@ use Rattle.curp_law_line.proofs.ToldTakes.{takes_adopt, takes_give, takes_given,
 use Rattle.curp_law_line.proofs.Values.{values_adopt, values_complete, values_invoke, values_more, values_put}
 
 module _ (pure : Pure) where
-  adopted_looks : (s : Line) (o : Adopt) → AdoptFits s o → LogsOk s.parts → LooksOk s.parts s.told s.marks → LooksOk (relogged s.parts o.part o.p (o.stays ++ ops (replayed_of o))) s.told (after s (Adopts o)).marks
+  adopted_looks : (s : LineState) (o : Adopt) → AdoptFits s o → LogsOk s.parts → LooksOk s.parts s.told s.marks → LooksOk (relogged s.parts o.part o.p (o.stays ++ ops (replayed_of o))) s.told (after s (Adopts o)).marks
   adopted_looks s o fits logs looks =
       subst (LooksOk (relogged s.parts o.part o.p (o.stays ++ ops (replayed_of o))) s.told) (sym (adopted_is o.node o.part o.epoch (length o.stays) (replayed_of o) s.marks))
       (looks_adopt s looks o fits (logs.takes_once o.part o.p fits.here) (fresh_of o.node o.part o.epoch (length o.stays) (replayed_of o) s.marks) (λ k number long m h look.
       fresh_no_look o.node o.part o.epoch (length o.stays) (replayed_of o) s.marks k m h number long look))
 
   -- each move keeps what is kept of reads
-  pub reads_keep : (s : Line) (m : Move) → Fits s m → LogsOk s.parts → OrderOk s → Owned s.moving s.parts → OrderOk (after s m) → QuickKept s.parts s.told s.left s.marks → LooksKept s → LooksKept (after s m)
+  pub reads_keep : (s : LineState) (m : LineMove) → Fits s m → LogsOk s.parts → OrderOk s → Owned s.moving s.parts → OrderOk (after s m) → QuickKept s.parts s.told s.left s.marks → LooksKept s → LooksKept (after s m)
   reads_keep s (OpPush o) fits logs ok below now q k = record {
     looks = looks_more _ s.told s.marks (executed o.node o.part o.epoch (length o.p.log) o.request.id o.request.command) (λ number long is. absurd cc)
         (looks_push s.parts o.part o.p (Op o.request o.acknowledged) fits.here s.told s.marks k.looks);

@@ -14,7 +14,8 @@ use Rattle.curp_model.specs.Laws.{clash}
 use Rattle.curp_model.specs.Log.{LogState, after_entries, after_entry, entry_touches, meaning}
 use Rattle.curp_model.proofs.Clashes.{all_at, first_apart, no_conflict, one_id_clashes, rest_apart}
 use Rattle.curp_model.proofs.Logs.{meaning_append}
-use Rattle.curp_law_logs.specs.Hashes.{Asked, In, on}
+use Rattle.curp_law_logs.specs.Hashes.{In, on}
+use Rattle.curp_order.specs.Order.{Asked}
 use Rattle.curp_law_line.specs.Moves.{ops}
 use Rattle.curp_law_line.proofs.AdoptedMarks.{asked_all}
 use Rattle.curp_law_line.proofs.Lists.{Distinct, in_any, in_cons, in_none, in_tail}

@@ -14,8 +14,8 @@ use Rattle.curp_order.specs.Order.{store_after}
 use Rattle.curp_model.specs.Manager.{Migration}
 use Rattle.curp_model.specs.Marks.{shown}
 use Rattle.curp_law_line.specs.Hashes.{Part, owns, state_of}
-use Rattle.curp_law_line.specs.Line.{Line, LineOk}
-use Rattle.curp_law_line.specs.Moves.{IsCarried}
+use Rattle.curp_law_line.specs.Line.{LineState, LineOk}
+use Rattle.curp_law_line.specs.Moves.{IsOnItsWay}
 use Rattle.curp_law_line.proofs.Carried.{carried_value}
 use Rattle.curp_law_line.proofs.Given.{LogsOk, Pure}
 use Rattle.curp_law_line.proofs.OwnedValues.{owned_value}
@@ -23,10 +23,10 @@ use Rattle.curp_law_line.proofs.Shown.{shown_store}
 use Rattle.curp_law_logs.specs.Hashes.{updates}
 
 -- the store of one thread over all that the order shows
-abbrev pub shown_contents : Line → Contents
+abbrev pub shown_contents : LineState → Contents
 shown_contents s = store_after nothing (shown s.marks)
 
-module _ (pure : Pure) (s : Line) (logs : LogsOk s.parts) (ok : LineOk s) where
+module _ (pure : Pure) (s : LineState) (logs : LogsOk s.parts) (ok : LineOk s) where
   as_updates : shown_contents s ≡ store_after nothing (updates s.marks)
   as_updates = shown_store nothing s.marks (λ m n. ok.order.kinds n.0 m n.1)
 
@@ -36,7 +36,7 @@ module _ (pure : Pure) (s : Line) (logs : LogsOk s.parts) (ok : LineOk s) where
       ap (λ (c : Contents). store.get c key) as_updates ∙ owned_value s ok.order ok.owned n p here pure (logs.values n p here p.log [] (append-nil p.log)) key own
 
   -- and of one that is on its way it has what the package has
-  pub carried_store : (m : Migration) → s.moving ≡ Some m → (carried : Package) → (way : IsCarried s.parts m carried) → (key : List ℕ) → is_in m.range.lo m.range.hi (hash_of key) ≡ true
+  pub carried_store : (m : Migration) → s.moving ≡ Some m → (carried : Package) → (way : IsOnItsWay s.parts m carried) → (key : List ℕ) → is_in m.range.lo m.range.hi (hash_of key) ≡ true
       → store.get (shown_contents s) key ≡ find (slice_cmp nat_cmp) key carried.pairs
   carried_store m in_work carried way key inside =
       ap (λ (c : Contents). store.get c key) as_updates ∙ pure.value_local key (updates s.marks)

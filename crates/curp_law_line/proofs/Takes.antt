@@ -12,9 +12,10 @@ use Rattle.curp_cmd.specs.declared.migration.Package.{Package}
 use Rattle.curp_model.specs.Log.{LogState, after_entry, meaning}
 use Rattle.curp_model.specs.Manager.{Migration}
 use Rattle.curp_model.proofs.Logs.{meaning_append}
-use Rattle.curp_law_logs.specs.Hashes.{Asked, behind, updates}
+use Rattle.curp_law_logs.specs.Hashes.{behind, updates}
+use Rattle.curp_order.specs.Order.{Asked}
 use Rattle.curp_law_line.specs.Hashes.{HashOk, HashesOk, Part, given_on, has_take, holds, is_give, is_take, onward, owns, state_of}
-use Rattle.curp_law_line.specs.Line.{Line, OrderOk, Ungiven}
+use Rattle.curp_law_line.specs.Line.{LineState, OrderOk, Ungiven}
 use Rattle.curp_law_line.specs.Moves.{PushTake, PushTakeFits, pushed, take_pushed, taken_by}
 use Rattle.curp_law_line.proofs.Spans.{without_owned}
 use Rattle.curp_law_line.proofs.Hashes.{any_push}
@@ -38,7 +39,7 @@ onward_ungiven m parts log h none =
     at_target None e = refl
     at_target (Some t) e = ap (λ (b : Bool). cond b (behind h t.log) []) (none m.target t e)
 
-module _ (s : Line) (ok : OrderOk s) (o : PushTake) (fits : PushTakeFits s o) where
+module _ (s : LineState) (ok : OrderOk s) (o : PushTake) (fits : PushTakeFits s o) where
   abbrev p : Part
   p = o.p
 

@@ -17,7 +17,7 @@ use Rattle.curp_model.specs.Log.{IsLog}
 use Rattle.curp_model.specs.Manager.{Migration}
 use Rattle.curp_facts.specs.Facts.{IsAmong}
 use Rattle.curp_law_line.specs.Hashes.{Part, has_take, is_give, is_take, owns}
-use Rattle.curp_law_line.specs.Line.{IsMoving, Line, Owned, TakesOk, ToldTake, Ungiven}
+use Rattle.curp_law_line.specs.Line.{IsTakeInWork, LineState, Owned, TakesOk, ToldTake, Ungiven}
 use Rattle.curp_law_line.specs.Moves.{Adopt, AdoptFits, GivenFits, MigrateFits, PushGive, PushGiveFits, PushTake, PushTakeFits, ops, pushed, relogged, replayed_of, taken_by}
 use Rattle.curp_law_line.proofs.Entries.{take_of}
 use Rattle.curp_law_line.proofs.Hashes.{any_push}
@@ -32,7 +32,7 @@ use Rattle.curp_law_line.proofs.Spans.{owned_after, takes}
 
 -- one more entry that is no give, where a take is of the migration in work
 pub takes_push : (parts : List Part) (moving : Option Migration) (told : List ℕ) (n : ℕ) (p : Part) (e : Entry) → numbered parts n ≡ Some p → ((number : ℕ) → is_give number e ≡ false)
-    → ((number : ℕ) (k : Package) → e ≡ Take number k → IsMoving parts moving number k) → TakesOk parts moving told → TakesOk (pushed parts n p e) moving told
+    → ((number : ℕ) (k : Package) → e ≡ Take number k → IsTakeInWork parts moving number k) → TakesOk parts moving told → TakesOk (pushed parts n p e) moving told
 takes_push parts moving told n p e here no_give own ok m q i number k hm hi = elim (pushes.cases parts n p e here m q hm) [
   | inl old ↦ stays (ok m q i number k old.1 hi)
   | inr new ↦ elim (at_push_cases p.log e i (Take number k) (subst (λ (y : Part). At y.log i (Take number k)) (sym new.1) hi)) [
@@ -47,14 +47,14 @@ takes_push parts moving told n p e here no_give own ok m q i number k hm hi = el
       | inr new ↦ subst (λ (x : Part). list_any (is_give number) x.log ≡ false) new.1 (any_push (is_give number) p.log e (no_give number) ∙ none n p here)
     ]
 
-    moves : IsMoving parts moving number k → IsMoving (pushed parts n p e) moving number k
+    moves : IsTakeInWork parts moving number k → IsTakeInWork (pushed parts n p e) moving number k
     moves w = record { m = w.m; in_work = w.in_work; its_number = w.its_number; lo = w.lo; hi = w.hi; ungiven = still number w.ungiven }
 
-    stays : IsAmong number told ⊎ IsMoving parts moving number k → IsAmong number told ⊎ IsMoving (pushed parts n p e) moving number k
+    stays : IsAmong number told ⊎ IsTakeInWork parts moving number k → IsAmong number told ⊎ IsTakeInWork (pushed parts n p e) moving number k
     stays w = elim w [ inl t ↦ inl t | inr v ↦ inr (moves v) ]
 
 -- one more take is of the migration in work
-pub takes_take : (s : Line) (o : PushTake) → PushTakeFits s o → TakesOk s.parts s.moving s.told → TakesOk (pushed s.parts o.part o.p (Take o.m.number (taken_by o))) s.moving s.told
+pub takes_take : (s : LineState) (o : PushTake) → PushTakeFits s o → TakesOk s.parts s.moving s.told → TakesOk (pushed s.parts o.part o.p (Take o.m.number (taken_by o))) s.moving s.told
 takes_take s o fits ok = takes_push s.parts s.moving s.told o.part o.p (Take o.m.number (taken_by o)) fits.here (λ number. refl)
     (λ number k is. record {
       m = o.m;
@@ -72,7 +72,7 @@ takes_take s o fits ok = takes_push s.parts s.moving s.told o.part o.p (Take o.m
     package_of_take e = cc
 
 -- a give comes once its take was told
-pub takes_give : (s : Line) (o : PushGive) → PushGiveFits s o → TakesOk s.parts s.moving s.told → TakesOk (pushed s.parts o.part o.p (Give o.m.number o.brought)) s.moving s.told
+pub takes_give : (s : LineState) (o : PushGive) → PushGiveFits s o → TakesOk s.parts s.moving s.told → TakesOk (pushed s.parts o.part o.p (Give o.m.number o.brought)) s.moving s.told
 takes_give s o fits ok n q i number k hn hi = elim (pushes.cases s.parts o.part o.p (Give o.m.number o.brought) fits.here n q hn) [
   | inl old ↦ told_now (ok n q i number k old.1 hi)
   | inr new ↦ elim (at_push_cases o.p.log (Give o.m.number o.brought) i (Take number k) (subst (λ (y : Part). At y.log i (Take number k)) (sym new.1) hi)) [
@@ -81,7 +81,7 @@ takes_give s o fits ok n q i number k hn hi = elim (pushes.cases s.parts o.part 
   ]
 ]
   where
-    told_now : IsAmong number s.told ⊎ IsMoving s.parts s.moving number k → IsAmong number s.told ⊎ IsMoving (pushed s.parts o.part o.p (Give o.m.number o.brought)) s.moving number k
+    told_now : IsAmong number s.told ⊎ IsTakeInWork s.parts s.moving number k → IsAmong number s.told ⊎ IsTakeInWork (pushed s.parts o.part o.p (Give o.m.number o.brought)) s.moving number k
     told_now w = elim w [
       | inl t ↦ inl t
       | inr v ↦
@@ -97,14 +97,14 @@ takes_tell parts moving told number ok n q i other k hn hi = elim (ok n q i othe
 ]
 
 -- a migration begins where each take was told
-pub takes_migrate : (s : Line) (m : Migration) → MigrateFits s m → TakesOk s.parts s.moving s.told → TakesOk s.parts (Some m) s.told
+pub takes_migrate : (s : LineState) (m : Migration) → MigrateFits s m → TakesOk s.parts s.moving s.told → TakesOk s.parts (Some m) s.told
 takes_migrate s m fits ok n q i number k hn hi = elim (ok n q i number k hn hi) [
   | inl t ↦ inl t
   | inr v ↦ absurd (let e : None ≡ Some v.m = sym fits.none ∙ v.in_work in cc)
 ]
 
 -- a migration is done once its take was told
-pub takes_given : (s : Line) (m : Migration) → GivenFits s m → TakesOk s.parts s.moving s.told → TakesOk s.parts None s.told
+pub takes_given : (s : LineState) (m : Migration) → GivenFits s m → TakesOk s.parts s.moving s.told → TakesOk s.parts None s.told
 takes_given s m fits ok n q i number k hn hi = elim (ok n q i number k hn hi) [
   | inl t ↦ inl t
   | inr v ↦
@@ -114,7 +114,7 @@ takes_given s m fits ok n q i number k hn hi = elim (ok n q i number k hn hi) [
 ]
 
 -- an adoption: what stays has its takes, and there are no more gives
-pub takes_adopt : (s : Line) (o : Adopt) → AdoptFits s o → TakesOk s.parts s.moving s.told → TakesOk (relogged s.parts o.part o.p (o.stays ++ ops (replayed_of o))) s.moving s.told
+pub takes_adopt : (s : LineState) (o : Adopt) → AdoptFits s o → TakesOk s.parts s.moving s.told → TakesOk (relogged s.parts o.part o.p (o.stays ++ ops (replayed_of o))) s.moving s.told
 takes_adopt s o fits ok n q i number k hn hi = elim (numbered_set_cases s.parts o.part o.p new fits.here n q hn) [
   | inl old ↦ stays (ok n q i number k old.1 hi)
   | inr is ↦ elim (at_append_cases o.stays (ops (replayed_of o)) i (Take number k) (subst (λ (y : Part). At y.log i (Take number k)) (sym is.1) hi)) [
@@ -141,7 +141,7 @@ takes_adopt s o fits ok n q i number k hn hi = elim (numbered_set_cases s.parts 
           (list_any-append (is_give number) o.stays (ops (replayed_of o)) ∙ ap (λ (b : Bool). list_any (is_give number) o.stays || b) (ops_any (is_give number) (λ r. refl) (replayed_of o)) ∙ or-false _ ∙ (or_parts _ _ all).0)
     ]
 
-    stays : IsAmong number s.told ⊎ IsMoving s.parts s.moving number k → IsAmong number s.told ⊎ IsMoving (relogged s.parts o.part o.p (o.stays ++ ops (replayed_of o))) s.moving number k
+    stays : IsAmong number s.told ⊎ IsTakeInWork s.parts s.moving number k → IsAmong number s.told ⊎ IsTakeInWork (relogged s.parts o.part o.p (o.stays ++ ops (replayed_of o))) s.moving number k
     stays w = elim w [
       | inl t ↦ inl t
       | inr v ↦ inr (record { m = v.m; in_work = v.in_work; its_number = v.its_number; lo = v.lo; hi = v.hi; ungiven = still v.ungiven })
@@ -150,7 +150,7 @@ takes_adopt s o fits ok n q i number k hn hi = elim (numbered_set_cases s.parts 
 -- ---- ops elsewhere
 
 -- an op in another log than its hash's owner's has a told take of the hash behind it
-pub told_behind : (s : Line) → TakesOk s.parts s.moving s.told → Owned s.moving s.parts → (part : ℕ) (p : Part) → numbered s.parts part ≡ Some p
+pub told_behind : (s : LineState) → TakesOk s.parts s.moving s.told → Owned s.moving s.parts → (part : ℕ) (p : Part) → numbered s.parts part ≡ Some p
     → (n i h a : ℕ) (q : Part) (r : Request) → n ≢ part → numbered s.parts n ≡ Some q → IsLog q.lo q.hi q.log → At q.log i (Op r a) → touches r.command h ≡ true → owns p h ≡ true → ToldTake s.told q.log i h
 told_behind s takes_ok below part p here n i h a q r ne hn log hi t own = elim (cases_Bool (list_any (takes h) (drop i q.log))) [
   | inr none ↦

@@ -9,8 +9,8 @@ use Rattle.curp_model.specs.Log.{meaning}
 use Rattle.curp_model.specs.Recovery.{replays}
 use Rattle.curp_model.proofs.Filters.{filter_apart}
 use Rattle.curp_law_line.specs.Hashes.{Part}
-use Rattle.curp_law_line.specs.Line.{Line, OrderOk, Owned}
-use Rattle.curp_law_line.specs.Moves.{Adopt, AdoptFits, Adopts, Completes, ExpirePush, Fits, Flags, GivePush, GivenDone, Invokes, Lates, Looks, Migrates, Move, OpPush, Quicks, Strays, TakePush, Told, after, longer_left, replayed_of}
+use Rattle.curp_law_line.specs.Line.{LineState, OrderOk, Owned}
+use Rattle.curp_law_line.specs.Moves.{Adopt, AdoptFits, Adopts, Completes, ExpirePush, Fits, Flags, GivePush, GivenDone, Invokes, Lates, Looks, Migrates, LineMove, OpPush, Quicks, Strays, TakePush, Told, after, longer_left, replayed_of}
 use Rattle.curp_law_line.proofs.AdoptedOwners.{adopt_owned, replayed_alone}
 use Rattle.curp_law_line.proofs.Adoptions.{adopt_keeps}
 use Rattle.curp_law_line.proofs.Completions.{complete_keeps, flag_keeps}
@@ -27,16 +27,16 @@ use Rattle.curp_law_line.proofs.Takes.{take_keeps}
 use Rattle.curp_law_line.proofs.Lates.{late_keeps}
 
 -- what is kept of the order of updates, and who owns what
-pub record UpdatesOk (s : Line) : Type 0 where
+pub record UpdatesOk (s : LineState) : Type 0 where
   pub order : OrderOk s
   pub owned : Owned s.moving s.parts
 
 module _ (pure : Pure) (second : Second) where
   -- what a whole log has of its keys
-  pub whole_value : (s : Line) → LogsOk s.parts → (n : ℕ) (p : Part) → numbered s.parts n ≡ Some p → LogValue p
+  pub whole_value : (s : LineState) → LogsOk s.parts → (n : ℕ) (p : Part) → numbered s.parts n ≡ Some p → LogValue p
   whole_value s logs n p here = logs.values n p here p.log [] (append-nil p.log)
 
-  adopt_line : (s : Line) (o : Adopt) → AdoptFits s o → LogsOk s.parts → UpdatesOk s → UpdatesOk (after s (Adopts o))
+  adopt_line : (s : LineState) (o : Adopt) → AdoptFits s o → LogsOk s.parts → UpdatesOk s → UpdatesOk (after s (Adopts o))
   adopt_line s o fits logs ok =
       let later = adopt_owned s ok.owned o fits (logs.takes_once o.part o.p fits.here) in
       let alone : (j : ℕ) (q : Request) → At (replayed_of o) j q → _ = λ j q h.
@@ -46,7 +46,7 @@ module _ (pure : Pure) (second : Second) where
       record { order = adopt_keeps (record { pure = pure; line = s; facts = ok.order; owned = ok.owned; move = o; fits = fits; ground = ground; owned_after = later }); owned = later }
 
   -- each move keeps the facts of the order of updates, and who owns what
-  pub updates_keep : (s : Line) (m : Move) → Fits s m → LogsOk s.parts → UpdatesOk s → UpdatesOk (after s m)
+  pub updates_keep : (s : LineState) (m : LineMove) → Fits s m → LogsOk s.parts → UpdatesOk s → UpdatesOk (after s m)
   updates_keep s (OpPush o) fits logs ok = record {
     order = op_keeps pure s ok.order ok.owned (whole_value s logs) o fits;
     owned = owned_alike s.moving s.parts _ (push_was s.moving s.parts o.part o.p (Op o.request o.acknowledged) fits.here

@@ -7,7 +7,8 @@ use Rattle.curp_cmd.specs.declared.entry.Entry.{Entry}
 use Rattle.curp_cmd.specs.declared.entry.Entry.TheVariants.{Give, Take}
 use Rattle.curp_cmd.specs.declared.migration.Package.{Package}
 use Rattle.curp_model.specs.Log.{IsLog}
-use Rattle.curp_law_logs.specs.Hashes.{Asked, behind, came, value}
+use Rattle.curp_law_logs.specs.Hashes.{behind, came, value}
+use Rattle.curp_order.specs.Order.{Asked}
 use Rattle.curp_law_line.specs.Hashes.{Part, owns, state_of}
 
 -- what a log has of the keys of a hash that it owns: what came with the last give, and the ops behind it

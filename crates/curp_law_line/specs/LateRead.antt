@@ -8,15 +8,15 @@ use Rattle.curp_cmd.specs.declared.command.Command.TheVariants.{Get, Put}
 use Rattle.curp_cmd.specs.declared.command.RequestId.{RequestId}
 use Rattle.curp_msg.specs.declared.machine.Capture.{Capture}
 use Rattle.curp_law_line.specs.Hashes.{Part}
-use Rattle.curp_law_line.specs.Line.{Line}
-use Rattle.curp_law_line.specs.Moves.{Adopt, Adopts, Completes, Flags, Invokes, Late, Lates, Move, OpPush, PushOp}
+use Rattle.curp_law_line.specs.Line.{LineState}
+use Rattle.curp_law_line.specs.Moves.{Adopt, Adopts, Completes, Flags, Invokes, Late, Lates, LineMove, OpPush, PushOp}
 
 -- the partition owns all hashes up to that of the key
 abbrev pub whole : List ℕ → Part
 whole key = record { lo = 0; hi = hash_of key; log = [] }
 
 -- the opening
-abbrev pub begin : List ℕ → Line
+abbrev pub begin : List ℕ → LineState
 begin key = record {
   parts = whole key ∷
       [];
@@ -65,7 +65,7 @@ late_answer key = record {
 abbrev pub by_first : Capture
 by_first = record { master = master_node 1; epoch = 1; number = 1 }
 
-abbrev pub late_moves : List ℕ → List ℕ → List Move
+abbrev pub late_moves : List ℕ → List ℕ → List LineMove
 late_moves key value =
     Invokes reading (Get key) ∷ Adopts (adopt_second key) ∷ Invokes writing (Put key value) ∷ OpPush (push_write key value) ∷
     Completes writing Done ∷ Lates (late_answer key) ∷ Flags by_first reading (Found None) ∷ []

@@ -14,7 +14,7 @@ use Rattle.curp_cmd.specs.declared.command.RequestId.{RequestId}
 use Rattle.curp_cmd.specs.declared.entry.Entry.{Entry}
 use Rattle.curp_cmd.specs.declared.entry.Entry.TheVariants.{Op, Take}
 use Rattle.curp_cmd.specs.declared.migration.Package.{Package}
-use Rattle.curp_order.specs.Order.{IsHistory, answers, store_after}
+use Rattle.curp_order.specs.Order.{IsHistory, answers, store_after, Asked}
 use Rattle.curp_order.specs.declared.Event.{Event}
 use Rattle.curp_order.specs.declared.Event.TheVariants.{Complete, Invoke}
 use Rattle.curp_msg.specs.declared.machine.Capture.{Capture}
@@ -23,7 +23,7 @@ use Rattle.curp_model.specs.Manager.{Migration}
 use Rattle.curp_facts.specs.Marked.{is_completed}
 use Rattle.curp_model.specs.Marks.{Cut, Executed, Looked, Mark, Quick, adoptions, is_cut, is_open_cut, is_timed, is_update_mark, shown}
 use Rattle.curp_facts.specs.Facts.{IsAmong}
-use Rattle.curp_law_logs.specs.Hashes.{Asked, updates, value}
+use Rattle.curp_law_logs.specs.Hashes.{updates, value}
 use Rattle.curp_law_line.specs.Hashes.{HashesOk, Part, has_take, is_give, is_take, owns, state_of}
 
 -- What a superseded master's log is: the front that was recovered when its partition was adopted anew, with the partition's
@@ -34,7 +34,7 @@ pub record Left : Type 0 where
 
 -- the adopted log of each partition, the migration in work, the migrations whose package was told, the marks, the history, and
 -- the superseded logs by partition and number of adoption
-pub record Line : Type 0 where
+pub record LineState : Type 0 where
   pub parts : List Part
   pub moving : Option Migration
   pub told : List ℕ
@@ -66,7 +66,7 @@ pub record WasInvoked (history : List Event) (id : RequestId) (command : Command
   pub stands : At history event (Invoke id command)
 
 -- a request stands in the order, and one thread gives it that answer there
-pub record Answered (order : List Asked) (x : Asked) (a : Answer) : Type 0 where
+pub record AnsweredInOrder (order : List Asked) (x : Asked) (a : Answer) : Type 0 where
   pub place : ℕ
   pub stands : At order place x
   pub answer : At (answers order) place a
@@ -103,7 +103,7 @@ InvokedOk marks history = (k : ℕ) (m : Mark) → At marks k m → is_open_cut 
 abbrev pub MarkedOk : List Asked → List Event → Type 0
 MarkedOk order history = (e : ℕ) (id : RequestId) (c : Command) (a : Answer) → At history e (Complete id a)
     → WasInvoked history id c → is_update c ≡ true
-    → Answered order (id, c) a
+    → AnsweredInOrder order (id, c) a
 
 -- an update's mark is that of an op, and a read's that of a look
 abbrev pub KindsOk : List Mark → Type 0
@@ -134,7 +134,7 @@ DistinctOk order = (j k : ℕ) (x y : Asked) → At order j x → At order k y �
 -- each op of an adopted log stands in the order, and one thread gives it there the answer that the log gives
 abbrev pub AnswersOk : List Part → List Asked → Type 0
 AnswersOk parts order = (n : ℕ) (p : Part) (i : ℕ) (r : Request) (a : ℕ) → numbered parts n ≡ Some p → At p.log i (Op r a)
-    → Answered order (r.id, r.command) (answer_after p.lo p.hi (take i p.log) r.command)
+    → AnsweredInOrder order (r.id, r.command) (answer_after p.lo p.hi (take i p.log) r.command)
 
 -- a request is an op at one place of one adopted log
 abbrev pub OnceOk : List Part → Type 0
@@ -153,7 +153,7 @@ abbrev pub InTimeOk : List Mark → List Event → Type 0
 InTimeOk marks history = (k : ℕ) (o : Mark) → At marks k o → is_timed o ≡ true → EarlyAt marks history k o.id o.command
 
 -- what is kept of the updates' order: its equation at each hash, its marks, its answers
-pub record OrderOk (s : Line) : Type 0 where
+pub record OrderOk (s : LineState) : Type 0 where
   pub history : IsHistory s.history
   pub hashes : HashesOk s.moving s.parts (updates s.marks)
   pub waiting : WaitingOk s.parts s.marks
@@ -213,7 +213,7 @@ LooksOk parts told marks = (j k i number long h : ℕ) (m u : Mark) → At marks
     ⊎ ((u.part ≢ m.part) × (p : Part) × (numbered parts u.part ≡ Some p) × ToldTake told p.log i h)
 
 -- the take is that of the migration in work, with its range, and no log has the give
-pub record IsMoving (parts : List Part) (moving : Option Migration) (number : ℕ) (taken : Package) : Type 0 where
+pub record IsTakeInWork (parts : List Part) (moving : Option Migration) (number : ℕ) (taken : Package) : Type 0 where
   pub m : Migration
   pub in_work : moving ≡ Some m
   pub its_number : m.number ≡ number
@@ -225,7 +225,7 @@ pub record IsMoving (parts : List Part) (moving : Option Migration) (number : �
 abbrev pub TakesOk : List Part → Option Migration → List ℕ → Type 0
 TakesOk parts moving told = (n : ℕ) (p : Part) (i number : ℕ) (taken : Package) → numbered parts n ≡ Some p
     → At p.log i (Take number taken)
-    → IsAmong number told ⊎ IsMoving parts moving number taken
+    → IsAmong number told ⊎ IsTakeInWork parts moving number taken
 
 -- one thread gives a flagged look the answer that its request completed with
 abbrev pub ValuesOk : List Mark → List Event → Type 0
@@ -322,7 +322,7 @@ pub record QuickGives (marks : List Mark) (by : Capture) (part : ℕ) (id : Requ
   pub gives : answer_at marks place mark.command ≡ a
 
 -- and its request was invoked before what is flagged behind it completed
-pub record QuickEarly (s : Line) (by : Capture) (part : ℕ) (id : RequestId) (a : Answer) : Type 0 where
+pub record QuickEarly (s : LineState) (by : Capture) (part : ℕ) (id : RequestId) (a : Answer) : Type 0 where
   pub its : QuickGives s.marks by part id a
   pub early : EarlyAt s.marks s.history its.place its.mark.id its.mark.command
 
@@ -340,7 +340,7 @@ pub record QuickLow (marks : List Mark) (by : Capture) (part long : ℕ) (id : R
       → touches mark.command h ≡ true → touches u.command h ≡ true → i < long
 
 -- the mark of that adoption is kept, and the request was invoked before what is flagged behind it completed
-pub record CutEarly (s : Line) (part number : ℕ) (id : RequestId) (command : Command) : Type 0 where
+pub record CutEarly (s : LineState) (part number : ℕ) (id : RequestId) (command : Command) : Type 0 where
   pub place : ℕ
   pub mark : Mark
   pub stands : At s.marks place mark
@@ -351,7 +351,7 @@ pub record CutEarly (s : Line) (part number : ℕ) (id : RequestId) (command : C
 
 -- ---- what is kept of reads
 
-pub record LooksKept (s : Line) : Type 0 where
+pub record LooksKept (s : LineState) : Type 0 where
   pub looks : LooksOk s.parts s.told s.marks
   pub takes : TakesOk s.parts s.moving s.told
   pub values : ValuesOk s.marks s.history
@@ -371,7 +371,7 @@ pub record LookGives (marks : List Mark) (by : Capture) (part length : ℕ) (id 
 -- ---- what the order shows
 
 -- the completed requests of the order
-abbrev pub completed_order : Line → List Asked
+abbrev pub completed_order : LineState → List Asked
 completed_order s = filter (λ (x : Asked). is_completed s.history x.0) (shown s.marks)
 
 -- the items of the one list stand in the other, in the same order
@@ -383,7 +383,7 @@ StandsIn (x ∷ xs) (y ∷ ys) = ((x ≡ y) × StandsIn xs ys) ⊎ StandsIn (x �
 -- ---- all together
 
 -- what every move keeps
-pub record LineOk (s : Line) : Type 0 where
+pub record LineOk (s : LineState) : Type 0 where
   pub order : OrderOk s
   pub owned : Owned s.moving s.parts
   pub looks : LooksKept s

@@ -3,12 +3,12 @@ use Rattle.std.specs.Prelude.{◌≡◌, ◌⊎◌, ◌<◌, ◌+◌, ℕ, true,
 use Rattle.std.specs.List.{filter}
 use Rattle.curp_base.specs.Words.{At}
 use Rattle.curp_cmd.specs.declared.command.Request.{Request}
-use Rattle.curp_law_line.specs.Line.{IsCompleted, Line, answer_at}
+use Rattle.curp_law_line.specs.Line.{IsCompleted, LineState, answer_at}
 use Rattle.curp_model.specs.Marks.{Executed, Mark, adoptions, cut_mark, executed, is_dropped, is_quick, looked, quick}
-use Rattle.curp_law_line.specs.Moves.{Adopts, Lates, Looks, Move, OpPush, Quicks, replayed_of}
+use Rattle.curp_law_line.specs.Moves.{Adopts, Lates, Looks, LineMove, OpPush, Quicks, replayed_of}
 
 -- what is kept of a mark by a move: where it stands now, and what stands before it and behind it
-pub record Moved (s : Line) (new : List Mark) (place : ℕ) (m : Mark) : Type 0 where
+pub record MarkMoved (s : LineState) (new : List Mark) (place : ℕ) (m : Mark) : Type 0 where
   pub now : ℕ
   pub mark : Mark
   pub stands : At new now mark
@@ -30,16 +30,16 @@ pub record Moved (s : Line) (new : List Mark) (place : ℕ) (m : Mark) : Type 0 
       ⊎ (IsCompleted s.history u.id → ⊥)
 
 -- the mark at that place was there before
-pub record Came (s : Line) (new : List Mark) (k : ℕ) (x : Mark) : Type 0 where
+pub record Came (s : LineState) (new : List Mark) (k : ℕ) (x : Mark) : Type 0 where
   pub place : ℕ
   pub old : Mark
   pub stands : At s.marks place old
-  pub moved : Moved s new place old
+  pub moved : MarkMoved s new place old
   pub now : moved.now ≡ k
   pub mark : moved.mark ≡ x
 
 -- or it came with the move
-abbrev pub IsNew : Line → Move → ℕ → Mark → Type 0
+abbrev pub IsNew : LineState → LineMove → ℕ → Mark → Type 0
 IsNew s (OpPush o) k x = (executed o.node o.part o.epoch (length o.p.log) o.request.id o.request.command ≡ x)
     × (k ≡ length s.marks)
 IsNew s (Looks o) k x = (looked o.node o.part o.epoch o.capture (length o.p.log) o.id o.command ≡ x) × (k ≡ length s.marks)

@@ -25,7 +25,7 @@ use Rattle.curp_model.specs.declared.Check.TheVariants.{New}
 use Rattle.curp_facts.specs.Facts.{IsAmong}
 use Rattle.curp_law_logs.specs.Hashes.{gives}
 use Rattle.curp_law_line.specs.Hashes.{Part, is_give, is_take, owns, state_of}
-use Rattle.curp_law_line.specs.Line.{EarlyAt, IsCompleted, IsFirm, Left, Line, Ungiven, WasInvoked, answer_at}
+use Rattle.curp_law_line.specs.Line.{EarlyAt, IsCompleted, IsFirm, Left, LineState, Ungiven, WasInvoked, answer_at}
 
 -- ---- words
 
@@ -53,7 +53,7 @@ pub record PushOp : Type 0 where
   pub acknowledged : ℕ
 
 -- the request is an invoked update, new to the log, whose hashes the partition owns
-pub record PushOpFits (s : Line) (o : PushOp) : Type 0 where
+pub record PushOpFits (s : LineState) (o : PushOp) : Type 0 where
   pub here : numbered s.parts o.part ≡ Some o.p
   pub new : check (state_of o.p).table o.request.id ≡ New
   pub owned : (h : ℕ) → touches o.request.command h ≡ true → owns o.p h ≡ true
@@ -63,7 +63,7 @@ pub record PushOpFits (s : Line) (o : PushOp) : Type 0 where
   pub was_invoked : WasInvoked s.history o.request.id o.request.command
 
 -- its mark comes to the end
-abbrev pub op_pushed : Line → PushOp → Line
+abbrev pub op_pushed : LineState → PushOp → LineState
 op_pushed s o = record s {
   parts = pushed s.parts o.part o.p (Op o.request o.acknowledged);
   marks = s.marks ++ executed o.node o.part o.epoch (length o.p.log) o.request.id o.request.command ∷ [];
@@ -81,7 +81,7 @@ abbrev pub taken_by : PushTake → Package
 taken_by o = package_of (state_of o.p) o.m.range.lo o.m.range.hi o.ordered
 
 -- the migration is in work, from a partition that owns its range and has no take of it, and no log has its give
-pub record PushTakeFits (s : Line) (o : PushTake) : Type 0 where
+pub record PushTakeFits (s : LineState) (o : PushTake) : Type 0 where
   pub here : numbered s.parts o.part ≡ Some o.p
   pub in_work : s.moving ≡ Some o.m
   pub its_source : o.m.source ≡ o.part
@@ -90,7 +90,7 @@ pub record PushTakeFits (s : Line) (o : PushTake) : Type 0 where
   pub ungiven : Ungiven s.parts o.m.number
 
 -- the take stands at the end
-abbrev pub take_pushed : Line → PushTake → Line
+abbrev pub take_pushed : LineState → PushTake → LineState
 take_pushed s o = record s { parts = pushed s.parts o.part o.p (Take o.m.number (taken_by o)) }
 
 -- the give of a migration goes to the log p of that partition
@@ -102,7 +102,7 @@ pub record PushGive : Type 0 where
 
 -- The package of a migration is on its way: it is that of the take in the source's log, the source owned the range before the
 -- take and nothing behind it touches the range, and no log has the give
-pub record IsCarried (parts : List Part) (m : Migration) (carried : Package) : Type 0 where
+pub record IsOnItsWay (parts : List Part) (m : Migration) (carried : Package) : Type 0 where
   pub source : Part
   pub its_source : numbered parts m.source ≡ Some source
   pub before : List Entry
@@ -116,16 +116,16 @@ pub record IsCarried (parts : List Part) (m : Migration) (carried : Package) : T
   pub ungiven : Ungiven parts m.number
 
 -- the migration is in work, to that partition, and what it brings is on its way and was told
-pub record PushGiveFits (s : Line) (o : PushGive) : Type 0 where
+pub record PushGiveFits (s : LineState) (o : PushGive) : Type 0 where
   pub here : numbered s.parts o.part ≡ Some o.p
   pub in_work : s.moving ≡ Some o.m
   pub its_target : o.m.target ≡ o.part
   pub other : o.m.source ≢ o.m.target
-  pub way : IsCarried s.parts o.m o.brought
+  pub way : IsOnItsWay s.parts o.m o.brought
   pub told : IsAmong o.m.number s.told
 
 -- the give stands at the end
-abbrev pub give_pushed : Line → PushGive → Line
+abbrev pub give_pushed : LineState → PushGive → LineState
 give_pushed s o = record s { parts = pushed s.parts o.part o.p (Give o.m.number o.brought) }
 
 -- the expiry of a client goes to the log p of that partition
@@ -135,39 +135,39 @@ pub record PushExpire : Type 0 where
   pub client : ℕ
 
 -- it may always be pushed
-pub record PushExpireFits (s : Line) (o : PushExpire) : Type 0 where
+pub record PushExpireFits (s : LineState) (o : PushExpire) : Type 0 where
   pub here : numbered s.parts o.part ≡ Some o.p
 
 -- the expiry stands at the end
-abbrev pub expire_pushed : Line → PushExpire → Line
+abbrev pub expire_pushed : LineState → PushExpire → LineState
 expire_pushed s o = record s { parts = pushed s.parts o.part o.p (Expire o.client) }
 
 -- ---- the migration in work
 
 -- a master tells of a take that stands in its log, of the migration in work or of an older one, again and again
-pub record TellFits (s : Line) (number : ℕ) : Type 0 where
+pub record TellFits (s : LineState) (number : ℕ) : Type 0 where
   pub part : ℕ
   pub source : Part
   pub here : numbered s.parts part ≡ Some source
   pub stands : list_any (is_take number) source.log ≡ true
 
 -- its number is among the told
-abbrev pub take_told : Line → ℕ → Line
+abbrev pub take_told : LineState → ℕ → LineState
 take_told s number = record s { told = s.told ++ number ∷ [] }
 
 -- a migration begins where none is in work: between two partitions, and no log has its entries
-pub record MigrateFits (s : Line) (m : Migration) : Type 0 where
+pub record MigrateFits (s : LineState) (m : Migration) : Type 0 where
   pub none : s.moving ≡ None
   pub untaken : (k : ℕ) (q : Part) → numbered s.parts k ≡ Some q → list_any (is_take m.number) q.log ≡ false
   pub ungiven : Ungiven s.parts m.number
   pub other : m.source ≢ m.target
 
 -- it is in work
-abbrev pub migrating : Line → Migration → Line
+abbrev pub migrating : LineState → Migration → LineState
 migrating s m = record s { moving = Some m }
 
 -- it is done once its take and its give stand in the logs
-pub record GivenFits (s : Line) (m : Migration) : Type 0 where
+pub record GivenFits (s : LineState) (m : Migration) : Type 0 where
   pub in_work : s.moving ≡ Some m
   pub source : Part
   pub its_source : numbered s.parts m.source ≡ Some source
@@ -177,21 +177,21 @@ pub record GivenFits (s : Line) (m : Migration) : Type 0 where
   pub given : list_any (is_give m.number) target.log ≡ true
 
 -- none is in work
-abbrev pub given_done : Line → Line
+abbrev pub given_done : LineState → LineState
 given_done s = record s { moving = None }
 
 -- ---- invocations, completions and looks
 
 -- a request is invoked that wasn't yet
-pub record InvokeFits (s : Line) (id : RequestId) : Type 0 where
+pub record InvokeFits (s : LineState) (id : RequestId) : Type 0 where
   pub new : (i : ℕ) (c : Command) → At s.history i (Invoke id c) → ⊥
 
 -- the history has it
-abbrev pub invoking : Line → RequestId → Command → Line
+abbrev pub invoking : LineState → RequestId → Command → LineState
 invoking s id command = record s { history = s.history ++ Invoke id command ∷ [] }
 
 -- an update completes: some adopted log has its op with that answer
-pub record CompleteFits (s : Line) (id : RequestId) (a : Answer) : Type 0 where
+pub record CompleteFits (s : LineState) (id : RequestId) (a : Answer) : Type 0 where
   pub part : ℕ
   pub p : Part
   pub here : numbered s.parts part ≡ Some p
@@ -200,7 +200,7 @@ pub record CompleteFits (s : Line) (id : RequestId) (a : Answer) : Type 0 where
   pub waits : IsCompleted s.history id → ⊥
 
 -- its mark is flagged, and the history has the completion
-abbrev pub completing : Line → RequestId → Answer → Line
+abbrev pub completing : LineState → RequestId → Answer → LineState
 completing s id a = record s { marks = flagged (record { id = id; answer = a; by = None }) s.marks; history = s.history ++ Complete id a ∷ [] }
 
 -- an adopted master takes the value of a read at its log p, under the number of a capture
@@ -214,20 +214,20 @@ pub record Look : Type 0 where
   pub command : Command
 
 -- the request is an invoked read, whose hashes the partition owns
-pub record LookFits (s : Line) (o : Look) : Type 0 where
+pub record LookFits (s : LineState) (o : Look) : Type 0 where
   pub here : numbered s.parts o.part ≡ Some o.p
   pub owned : (h : ℕ) → touches o.command h ≡ true → owns o.p h ≡ true
   pub reads : is_update o.command ≡ false
   pub was_invoked : WasInvoked s.history o.id o.command
 
 -- its mark comes to the end
-abbrev pub looking : Line → Look → Line
+abbrev pub looking : LineState → Look → LineState
 looking s o = record s { marks = s.marks ++ looked o.node o.part o.epoch o.capture (length o.p.log) o.id o.command ∷ [] }
 
 -- ---- reads that are answered at once
 
 -- an adopted master answers a read at once by its log: a quick mark comes to the end. What it needs is that of a look
-abbrev pub quickly : Line → Look → Line
+abbrev pub quickly : LineState → Look → LineState
 quickly s o = record s { marks = s.marks ++ quick o.node o.part o.epoch o.capture o.id o.command ∷ [] }
 
 -- a superseded master answers a read at once: its partition's adoption of that number, the first one after its own, has its
@@ -243,7 +243,7 @@ pub record Late : Type 0 where
   pub command : Command
 
 -- the request is an invoked read, of whose hashes its log has what the recovered front has
-pub record LateFits (s : Line) (o : Late) : Type 0 where
+pub record LateFits (s : LineState) (o : Late) : Type 0 where
   pub mark : Mark
   pub stands : At s.marks o.place mark
   pub its_part : mark.part ≡ o.part
@@ -258,7 +258,7 @@ abbrev pub put_before : ℕ → Mark → List Mark → List Mark
 put_before place m marks = take place marks ++ m ∷ drop place marks
 
 -- its quick mark comes directly before that of the adoption
-abbrev pub late_quickly : Line → Late → Line
+abbrev pub late_quickly : LineState → Late → LineState
 late_quickly s o = record s { marks = put_before o.place (quick o.node o.part o.epoch o.capture o.id o.command) s.marks }
 
 -- the same log, or the one of that number with more behind it
@@ -267,7 +267,7 @@ longer_left left part number more p n =
     if (p == part) && (n == number) then record (left part number) { back = (left part number).back ++ more } else left p n
 
 -- a superseded master pushes entries
-abbrev pub straying : Line → ℕ → ℕ → List Entry → Line
+abbrev pub straying : LineState → ℕ → ℕ → List Entry → LineState
 straying s part number more = record s { left = longer_left s.left part number more }
 
 -- ---- completions of reads
@@ -278,7 +278,7 @@ flags_mark by id a m = is_flagged (record { id = id; answer = a; by = Some by })
 
 -- A read completes by one mark, and with the answer that one thread gives at that mark. Where it is a quick mark, the read was
 -- invoked before what is flagged behind the mark completed
-pub record FlagFits (s : Line) (by : Capture) (id : RequestId) (a : Answer) : Type 0 where
+pub record FlagFits (s : LineState) (by : Capture) (id : RequestId) (a : Answer) : Type 0 where
   pub place : ℕ
   pub m : Mark
   pub stands : At s.marks place m
@@ -290,7 +290,7 @@ pub record FlagFits (s : Line) (by : Capture) (id : RequestId) (a : Answer) : Ty
   pub early : is_quick m.place ≡ true → EarlyAt s.marks s.history place m.id m.command
 
 -- the mark is flagged, and the history has the completion
-abbrev pub flagging : Line → Capture → RequestId → Answer → Line
+abbrev pub flagging : LineState → Capture → RequestId → Answer → LineState
 flagging s by id a = record s { marks = flagged (record { id = id; answer = a; by = Some by }) s.marks; history = s.history ++ Complete id a ∷ [] }
 
 -- ---- adoption
@@ -311,7 +311,7 @@ abbrev pub replayed_of : Adopt → List Request
 replayed_of o = filter (replays (meaning o.p.lo o.p.hi o.stays)) o.held
 
 -- a take or a give that goes is of the migration in work and has its range; where its take goes, no log has its give
-abbrev pub OnlyMoving : Line → Entry → Type 0
+abbrev pub OnlyMoving : LineState → Entry → Type 0
 OnlyMoving s (Take migration taken) = (m : Migration) × (s.moving ≡ Some m) × (m.number ≡ migration)
     × Ungiven s.parts migration × (taken.lo ≡ m.range.lo) × (taken.hi ≡ m.range.hi)
 OnlyMoving s (Give migration given) = (m : Migration) × (s.moving ≡ Some m) × (m.number ≡ migration) × (given.lo ≡ m.range.lo)
@@ -319,7 +319,7 @@ OnlyMoving s (Give migration given) = (m : Migration) × (s.moving ≡ Some m) �
 OnlyMoving s _ = ⊤
 
 -- a request that was held: an invoked update that names a key
-pub record IsHeld (s : Line) (r : Request) : Type 0 where
+pub record IsHeldUpdate (s : LineState) (r : Request) : Type 0 where
   pub was_invoked : WasInvoked s.history r.id r.command
   pub updates : is_update r.command ≡ true
   pub hash : ℕ
@@ -336,13 +336,13 @@ pub record IsReplayedAs (o : Adopt) (r : Request) : Type 0 where
 -- invoked updates of which no two clash. Each completed op that goes is replayed, and nothing before it there touches its
 -- hashes. No completed look is longer than what stays, nor is a log that was recovered before and that a superseded log has
 -- on some hash to its end; what is uncompleted before a quick mark on its hashes stays; and each take that was told stays
-pub record AdoptFits (s : Line) (o : Adopt) : Type 0 where
+pub record AdoptFits (s : LineState) (o : Adopt) : Type 0 where
   pub here : numbered s.parts o.part ≡ Some o.p
   pub is : o.p.log ≡ o.stays ++ o.goes
   pub moving : (k : ℕ) (e : Entry) → At o.goes k e → OnlyMoving s e
   pub unowned : (h : ℕ) → list_any (gives h) o.goes ≡ true → owns (record o.p { log = o.stays }) h ≡ false
   pub apart : IsDistinct clash o.held
-  pub asked : (k : ℕ) (r : Request) → At o.held k r → IsHeld s r
+  pub asked : (k : ℕ) (r : Request) → At o.held k r → IsHeldUpdate s r
   pub done : (k : ℕ) (r : Request) (a : ℕ) → At o.goes k (Op r a) → IsCompleted s.history r.id
       → IsReplayedAs o r × ((h : ℕ) → touches r.command h ≡ true
       → list_any (λ (e : Entry). entry_touches e h) (take k o.goes) ≡ false)
@@ -357,13 +357,13 @@ pub record AdoptFits (s : Line) (o : Adopt) : Type 0 where
       → IsFirm (s.left m.part number) h → long ≤ length o.stays
 
 -- the superseded logs after an adoption: the log as it was is one more
-abbrev pub left_after : Line → Adopt → ℕ → ℕ → Left
+abbrev pub left_after : LineState → Adopt → ℕ → ℕ → Left
 left_after s o p n =
     if (p == o.part) && (n == adoptions o.part s.marks + 1) then record { front = record o.p { log = o.stays }; back = o.goes }
     else s.left p n
 
 -- the log is what stays and the replayed requests behind it, and the marks follow
-abbrev pub adopting : Line → Adopt → Line
+abbrev pub adopting : LineState → Adopt → LineState
 adopting s o = record s {
   parts = relogged s.parts o.part o.p (o.stays ++ ops (replayed_of o));
   marks = adopted o.node o.part o.epoch (length o.stays) (replayed_of o) s.marks;
@@ -373,25 +373,25 @@ adopting s o = record s {
 -- ---- all of them
 
 -- a move of the machine
-pub data Move : Type 0 where
-  OpPush : PushOp → Move
-  TakePush : PushTake → Move
-  GivePush : PushGive → Move
-  ExpirePush : PushExpire → Move
-  Told : ℕ → Move
-  Migrates : Migration → Move
-  GivenDone : Migration → Move
-  Invokes : RequestId → Command → Move
-  Completes : RequestId → Answer → Move
-  Looks : Look → Move
-  Flags : Capture → RequestId → Answer → Move
-  Adopts : Adopt → Move
-  Quicks : Look → Move
-  Lates : Late → Move
-  Strays : (part number : ℕ) → List Entry → Move
+pub data LineMove : Type 0 where
+  OpPush : PushOp → LineMove
+  TakePush : PushTake → LineMove
+  GivePush : PushGive → LineMove
+  ExpirePush : PushExpire → LineMove
+  Told : ℕ → LineMove
+  Migrates : Migration → LineMove
+  GivenDone : Migration → LineMove
+  Invokes : RequestId → Command → LineMove
+  Completes : RequestId → Answer → LineMove
+  Looks : Look → LineMove
+  Flags : Capture → RequestId → Answer → LineMove
+  Adopts : Adopt → LineMove
+  Quicks : Look → LineMove
+  Lates : Late → LineMove
+  Strays : (part number : ℕ) → List Entry → LineMove
 
 -- the move can be made
-abbrev pub Fits : Line → Move → Type 0
+abbrev pub Fits : LineState → LineMove → Type 0
 Fits s (OpPush o) = PushOpFits s o
 Fits s (TakePush o) = PushTakeFits s o
 Fits s (GivePush o) = PushGiveFits s o
@@ -409,7 +409,7 @@ Fits s (Lates o) = LateFits s o
 Fits s (Strays part number more) = ⊤
 
 -- the state after it
-abbrev pub after : Line → Move → Line
+abbrev pub after : LineState → LineMove → LineState
 after s (OpPush o) = op_pushed s o
 after s (TakePush o) = take_pushed s o
 after s (GivePush o) = give_pushed s o
@@ -427,16 +427,16 @@ after s (Lates o) = late_quickly s o
 after s (Strays part number more) = straying s part number more
 
 -- the state after moves
-abbrev pub all_after : Line → List Move → Line
+abbrev pub all_after : LineState → List LineMove → LineState
 all_after s [] = s
 all_after s (m ∷ ms) = all_after (after s m) ms
 
 -- each move can be made in its turn, with what is given of the logs
-abbrev pub AllFit : (List Part → Type 0) → Line → List Move → Type 0
+abbrev pub AllFit : (List Part → Type 0) → LineState → List LineMove → Type 0
 AllFit Given s [] = ⊤
 AllFit Given s (m ∷ ms) = Fits s m × Given s.parts × AllFit Given (after s m) ms
 
 -- the move drops the looks of that length in that partition: it adopts a log of which less stays
-abbrev pub IsDropped : Move → ℕ → ℕ → Type 0
+abbrev pub IsDropped : LineMove → ℕ → ℕ → Type 0
 IsDropped (Adopts o) part long = (o.part ≡ part) × (length o.stays < long)
 IsDropped _ part long = ⊥

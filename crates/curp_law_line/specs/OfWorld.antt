@@ -15,7 +15,7 @@ use Rattle.curp_model.specs.Recovery.{MasterStage}
 use Rattle.curp_model.specs.World.{World, messages}
 use Rattle.curp_facts.specs.Facts.{Logged, hi_of, lo_of, node_log}
 use Rattle.curp_law_line.specs.Hashes.{Part}
-use Rattle.curp_law_line.specs.Line.{Left, Line}
+use Rattle.curp_law_line.specs.Line.{Left, LineState}
 
 -- the entries of a log that is there
 abbrev pub logged_entries : Option Logged → List Entry
@@ -87,7 +87,7 @@ abbrev pub left_of : World → ℕ → ℕ → Left
 left_of w part number = let cs = cuts part w.marks in left_by w part (numbered (reigns part cs) number) (numbered cs number)
 
 -- the adopted logs, the migration in work, of which migrations a package was ever told, and the superseded logs
-abbrev pub line_of : World → Line
+abbrev pub line_of : World → LineState
 line_of w = record {
   parts = map (part_of w) w.manager.config.parts;
   moving = moving_of w.manager.moving;

@@ -14,26 +14,26 @@ ghost use Rattle.curp_cmd.specs.declared.command.RequestId.{RequestId};
 ghost use Rattle.curp_law_line.specs.Given.{LogsOk};
 ghost use Rattle.curp_law_line.specs.LateRead.{begin, late_moves, reading, writing};
 ghost use Rattle.curp_law_line.specs.Laws.{AdoptedReads, CutsByNumber, KeepsLow, LateEarly, LateGives, LateReads, MarksCome, MarksGo, NextAtEnd, QuickBegins, QuickLasts, ReadsFit};
-ghost use Rattle.curp_law_line.specs.Line.{CutEarly, Line, LineOk, LookGives, StandsIn, WasInvoked, completed_order};
+ghost use Rattle.curp_law_line.specs.Line.{CutEarly, LineState, LineOk, LookGives, StandsIn, WasInvoked, completed_order};
 ghost use Rattle.curp_model.specs.Marks.{adoptions, shown};
-ghost use Rattle.curp_law_line.specs.Moves.{Adopt, Fits, IsDropped, Move, adopting, after, AllFit, all_after};
+ghost use Rattle.curp_law_line.specs.Moves.{Adopt, Fits, IsDropped, LineMove, adopting, after, AllFit, all_after};
 ghost use Rattle.curp_msg.specs.declared.machine.Capture.{Capture};
 ghost use Rattle.curp_order.specs.Order.{IsOrder};
 
 /// Each move keeps the facts.
 pub fn each_move_keeps()
-    ensures { (s : Line) (m : Move) → Fits s m → LogsOk s.parts → LineOk s → LineOk (after s m) }
+    ensures { (s : LineState) (m : LineMove) → Fits s m → LogsOk s.parts → LineOk s → LineOk (after s m) }
 {}
 
 /// And so does a list of moves.
 pub fn all_moves_keep()
-    ensures { (s : Line) (ms : List Move) → AllFit LogsOk s ms → LineOk s → LineOk (all_after s ms) }
+    ensures { (s : LineState) (ms : List LineMove) → AllFit LogsOk s ms → LineOk s → LineOk (all_after s ms) }
 {}
 
 /// What the order shows is an order of the history, and completed requests stay in it in their order.
 pub fn order_stands()
-    ensures order { (s : Line) → LineOk s → IsOrder s.history (shown s.marks) }
-    ensures grows { (s : Line) (m : Move) → Fits s m → LogsOk s.parts → LineOk s
+    ensures order { (s : LineState) → LineOk s → IsOrder s.history (shown s.marks) }
+    ensures grows { (s : LineState) (m : LineMove) → Fits s m → LogsOk s.parts → LineOk s
         → StandsIn (completed_order s) (completed_order (after s m)) }
 {}
 
@@ -46,7 +46,7 @@ pub fn marks_move()
 
 /// A look gives at its mark what it gave, unless an adoption drops it.
 pub fn looks_last()
-    ensures { (s : Line) (m : Move) → Fits s m → LogsOk s.parts → LineOk s
+    ensures { (s : LineState) (m : LineMove) → Fits s m → LogsOk s.parts → LineOk s
         → (by : Capture) (part long : ℕ) (id : RequestId) (a : Answer)
         → LookGives s.marks by part long id a
         → LookGives (after s m).marks by part long id a ⊎ IsDropped m part long }
@@ -62,9 +62,9 @@ pub fn quick_marks_give()
 
 /// A request that was invoked before an adoption, is early at a quick mark that comes before that adoption's mark.
 pub fn early_reads()
-    ensures begins { (s : Line) (o : Adopt) (id : RequestId) (command : Command)
+    ensures begins { (s : LineState) (o : Adopt) (id : RequestId) (command : Command)
         → CutEarly (adopting s o) o.part (adoptions o.part s.marks + 1) id command }
-    ensures lasts { (s : Line) (m : Move) → Fits s m → LogsOk s.parts → LineOk s
+    ensures lasts { (s : LineState) (m : LineMove) → Fits s m → LogsOk s.parts → LineOk s
         → (part number : ℕ) (id : RequestId) (command : Command) → WasInvoked s.history id command
         → CutEarly s part number id command → CutEarly (after s m) part number id command }
     ensures late { LateEarly }

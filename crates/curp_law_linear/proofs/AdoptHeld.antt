@@ -16,7 +16,7 @@ use Rattle.curp_facts.specs.Entries.{UpdateOk}
 use Rattle.curp_cmd.specs.Store.{NamesKey}
 use Rattle.curp_facts.specs.Known.{Known}
 use Rattle.curp_facts.specs.Predecessors.{Predecessors}
-use Rattle.curp_law_line.specs.Moves.{IsHeld}
+use Rattle.curp_law_line.specs.Moves.{IsHeldUpdate}
 use Rattle.curp_law_line.specs.OfWorld.{cut_length, line_of}
 use Rattle.curp_law_line.proofs.Hashes.{key_touches}
 use Rattle.curp_law_line.proofs.Lists.{in_filter}
@@ -39,7 +39,7 @@ module _ {w : World} (known : Known w) (c : PartConfig) (a : Attempted) (o : Rec
       subst (UpdateOk w) h.3 (Each-at (λ (y : HeldRequest). UpdateOk w y.request) o.x.held (known.inv.witnesses a.order.witness o.x o.its_witness).held h.0 h.1 h.2)
 
   -- which names a key
-  pub held_asked : Ordered w → (k : ℕ) (r : Request) → At (frozen_requests o.x) k r → IsHeld (line_of w) r
+  pub held_asked : Ordered w → (k : ℕ) (r : Request) → At (frozen_requests o.x) k r → IsHeldUpdate (line_of w) r
   held_asked ordered k r at =
       let ok = held_update k r at in
       let names : NamesKey r.command = ordered.commands ok.request.place r.id r.command ok.request.invoked in

@@ -25,7 +25,7 @@ use Rattle.curp_law_kept.proofs.Known.{said}
 use Rattle.curp_law_line.specs.OfWorld.{part_of}
 use Rattle.curp_law_linear.proofs.ManagersDeeds.{Recovers}
 use Rattle.curp_law_linear.proofs.Parts.{part_log}
-use Rattle.curp_facts.specs.Names.{Agree, OrderOk, RecoveringOk}
+use Rattle.curp_facts.specs.Names.{Agree, RecoverOrderOk, RecoveringOk}
 
 -- the master of the attempt waits with its replay over the backup's log and the witness's requests
 pub record Recovery (w : World) (c : PartConfig) (a : Attempted) : Type 0 where
@@ -54,7 +54,7 @@ module _ {w : World} (known : Known w) where
     same_master : o.from ≡ a.master
     same_master = agree.by_late_epoch (omega (arith, its.holds.its_epoch, o.its_epoch, o.ok.later, (known.names.given (lists_of_part o.c) (known.names.top o.c o.now).was.given).epoch.0)) (its.holds.its_epoch ∙ sym o.its_epoch)
 
-    home : OrderOk w a.master a.order
+    home : RecoverOrderOk w a.master a.order
     home = known.names.manager_says a.master (body.Recover a.order) o.ok.sent
 
     lo_is : a.order.lo ≡ lo_of w o.c.part

@@ -36,7 +36,7 @@ use Rattle.curp_law_line.specs.Line.{LineOk}
 use Rattle.curp_law_line.specs.OfWorld.{cuts, line_of}
 use Rattle.curp_law_line.proofs.Discharged.{pure, second}
 use Rattle.curp_law_line.proofs.Keeps.{all_keep}
-use Rattle.curp_law_linear.specs.Ordered.{AdoptedOk, Ordered}
+use Rattle.curp_law_linear.specs.Ordered.{AdoptedLogOk, Ordered}
 use Rattle.curp_law_linear.specs.Refined.{Refines, RefinesQuiet}
 use Rattle.curp_law_linear.proofs.ClientsRefine.{client_refines}
 use Rattle.curp_law_linear.proofs.Commands.{CommandsName}
@@ -65,7 +65,7 @@ use Rattle.curp_model.proofs.Batches.{all_of-kept}
 -- what a step owes, but for the commands
 pub record KeepsOrder (w v : World) : Type 0 where
   pub refines : Refines w v
-  pub logs : (c : PartConfig) (l : AdoptedLog v c) → AdoptedOk v c l
+  pub logs : (c : PartConfig) (l : AdoptedLog v c) → AdoptedLogOk v c l
   pub reads : ReadsOk v
 
 -- it keeps what is kept of the order
@@ -107,7 +107,7 @@ module _ (w v : World) (manager : v.manager ≡ w.manager) (masters : v.masters 
     };
   }
 
-  same_logs : ((c : PartConfig) (l : AdoptedLog w c) → AdoptedOk w c l) → (c : PartConfig) (l : AdoptedLog v c) → AdoptedOk v c l
+  same_logs : ((c : PartConfig) (l : AdoptedLog w c) → AdoptedLogOk w c l) → (c : PartConfig) (l : AdoptedLog v c) → AdoptedLogOk v c l
   unfolding log_before
   same_logs ok c l =
       let o = ok c (log_before c l) in

@@ -27,7 +27,7 @@ use Rattle.curp_facts.specs.Kept.{AdoptedLog}
 use Rattle.curp_facts.specs.Known.{Known}
 use Rattle.curp_law_line.specs.Hashes.{Part}
 use Rattle.curp_law_line.specs.Line as line
-use Rattle.curp_law_line.specs.Line.{Line, LineOk, LookGives, QuickEarly}
+use Rattle.curp_law_line.specs.Line.{LineState, LineOk, LookGives, QuickEarly}
 use Rattle.curp_law_line.proofs.Given.{LogsOk}
 use Rattle.curp_law_line.specs.Moves.{CompleteFits, FlagFits, flags_mark}
 use Rattle.curp_law_line.specs.OfWorld.{line_of, part_of}

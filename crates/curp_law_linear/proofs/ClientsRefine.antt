@@ -23,7 +23,7 @@ use Rattle.curp_order.specs.declared.Event.TheVariants.{Invoke, Complete}
 use Rattle.curp_model.specs.Client.{ClientState, Resent, client_input, client_ordered, invocation_for, invoke, next_id, next_request, retry, retry_for, sends_again, sends_first}
 use Rattle.curp_model.specs.Marks.{flagged}
 use Rattle.curp_model.specs.World.{World, completion, invocation_of, kept, with_client, with_completion}
-use Rattle.curp_facts.specs.ClientNumbers.{IsWaiting, NumbersOk}
+use Rattle.curp_facts.specs.ClientNumbers.{IsUncompleted, ClientNumbersOk}
 use Rattle.curp_facts.specs.Facts.{Completable, EntryWas, WasSent, lists_of_part}
 use Rattle.curp_facts.specs.Nodes.{MayCome, WasSeen}
 use Rattle.curp_facts.specs.Said.{WorthSaid}
@@ -106,7 +106,7 @@ seen_of {w} known n d e =
 -- ---- moves
 
 module _ {w : World} (known : Known w) (chain : Predecessors w) (migrated : Migrated w) (ordered : Ordered w) (n : ℕ) (c : ClientState) (was : numbered w.clients n ≡ Some c) where
-  numbers : NumbersOk n w.history c
+  numbers : ClientNumbersOk n w.history c
   numbers = (known.inv.clients n c was).numbers
 
   logs : LogsOk (line_of w).parts
@@ -125,7 +125,7 @@ module _ {w : World} (known : Known w) (chain : Predecessors w) (migrated : Migr
     }
 
     module _ (d : Completed) (ok : CompletionOk (MayCome w n) (EntryWas w) c d) (marks : v.marks ≡ flagged d w.marks) (history : v.history ≡ w.history ++ Complete d.id d.answer ∷ []) where
-      pending : IsWaiting n w.history ok.p.request
+      pending : IsUncompleted n w.history ok.p.request
       pending = waiting n w.history c numbers ok.place ok.p ok.pending
 
       invoked : At w.history pending.asked.invoked.0 (Invoke d.id ok.p.request.command)

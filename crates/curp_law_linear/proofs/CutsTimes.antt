@@ -15,7 +15,7 @@ use Rattle.curp_law_stays.proofs.Words.{Follows, sent_later}
 use Rattle.curp_law_linear.specs.Refined.{Refines}
 use Rattle.curp_cmd.specs.declared.command.RequestId.{RequestId}
 use Rattle.curp_cmd.specs.declared.command.Command.{Command}
-use Rattle.curp_law_line.specs.Line.{WasInvoked, Line, CutEarly}
+use Rattle.curp_law_line.specs.Line.{WasInvoked, LineState, CutEarly}
 use Rattle.curp_base.proofs.Lists.{prefix_at}
 use Rattle.curp_model.specs.Marks.{Mark}
 use Rattle.curp_msg.specs.declared.body.Recover.{Recover}
@@ -46,7 +46,7 @@ module _ {w v : World} (known : Known w) (chain : Predecessors w) (ordered : Ord
       let frozen : IsWitness w k.order.witness k.sources.x = subst (λ (node : NodeId). IsWitness w node k.sources.x) (sym k.its_other) k.sources.its_witness in
       let was = lives k.order.witness to k.sources.x a frozen k.sources.frozen is (subst (λ (o : Recover). WasSent v (says o.witness to (body.Probed a))) same live) in
       let t = ordered.cuts_timed part i m at k.order told to a was is in
-      (t.0, invoked_on a.id t.0 t.1, subst (λ (l : Line). CutEarly l part (suc i) a.id t.0) r.leads (cut_early_on r.moves (line_of w) r.fit ordered.line part (suc i) a.id t.0 t.1 t.2))
+      (t.0, invoked_on a.id t.0 t.1, subst (λ (l : LineState). CutEarly l part (suc i) a.id t.0) r.leads (cut_early_on r.moves (line_of w) r.fit ordered.line part (suc i) a.id t.0 t.1 t.2))
 
   pub timed_stay : ((part : ℕ) → cuts part v.marks ≡ cuts part w.marks) → CutsTimed v
   timed_stay same part i m at = timed_on part i m (subst (λ (cs : List Mark). At cs i m) (same part) at)

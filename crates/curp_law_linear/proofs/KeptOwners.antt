@@ -32,7 +32,7 @@ use Rattle.curp_law_trip.proofs.OpeningOwners.{opening_owner}
 use Rattle.curp_law_linear.proofs.Parts.{entry_part, part_log}
 use Rattle.curp_facts.specs.Predecessors.{Predecessors}
 use Rattle.curp_facts.specs.Migrated.{Migrated, TakeStored}
-use Rattle.curp_facts.specs.Routes.{IsDone, IsGiveOf, IsMoving, Routes}
+use Rattle.curp_facts.specs.Routes.{IsMigrationDone, IsGiveOf, IsMoving, Routes}
 use Rattle.curp_facts.specs.Stored.{StoredNow}
 use Rattle.curp_law_routes.proofs.Migrated.{one_stored, work_or_done}
 use Rattle.curp_law_routes.proofs.Stored.{entry_of, front_at, one_adopted, stored_now}
@@ -88,7 +88,7 @@ module _ {w : World} (known : Known w) (chain : Predecessors w) (routes : Routes
             ∙ given_owned (lo_of w d.part) (hi_of w d.part) (take i k.its.log) number given h (ap (λ (p : Package). is_in p.lo p.hi h) same ∙ inside)
 
     -- a migration that is done has its give
-    by_done : IsDone w number → Result
+    by_done : IsMigrationDone w number → Result
     by_done done =
         let g : StoredEntry w done.target (IsGiveOf number) = done.given in
         let n : StoredNow w g.lists.part g.l.log g.index = stored_now known.names known.inv chain done.target (IsGiveOf number) g in

@@ -17,7 +17,7 @@ use Rattle.curp_facts.specs.Facts.{hi_of, lo_of}
 use Rattle.curp_facts.specs.Kept.{OnItsWay, StoresTogether}
 use Rattle.curp_facts.specs.Known.{Known}
 use Rattle.curp_law_line.specs.Hashes.{is_give}
-use Rattle.curp_law_line.specs.Moves.{IsCarried}
+use Rattle.curp_law_line.specs.Moves.{IsOnItsWay}
 use Rattle.curp_law_line.specs.OfWorld.{line_of, moving_of, part_of}
 use Rattle.curp_law_line.proofs.Discharged.{pure}
 use Rattle.curp_law_line.proofs.Lists.{take_split}
@@ -52,7 +52,7 @@ module _ {w : World} (known : Known w) (chain : Predecessors w) (routes : Routes
     within : (k : ℕ) → is_in o.migration.range.lo o.migration.range.hi k ≡ true → is_in o.carried.lo o.carried.hi k ≡ true
     within k inside = ap₂ (λ (x y : ℕ). is_in x y k) of.lo of.hi ∙ inside
 
-    way : IsCarried (line_of w).parts in_work o.carried
+    way : IsOnItsWay (line_of w).parts in_work o.carried
     way = record {
       source = part_of w o.source;
       its_source = subst (λ (n : ℕ). numbered (line_of w).parts n ≡ Some (part_of w o.source)) of.its_source (entry_part known o.source o.source_log.now);

@@ -14,7 +14,7 @@ use Rattle.curp_msg.specs.Moved.{says}
 use Rattle.curp_base.proofs.Lists.{at_append_cases, at_within, Each-at, Each-weaker}
 use Rattle.curp_msg.specs.declared.body.Recover.{Recover}
 use Rattle.curp_cmd.specs.Node.{manager_node, client_node, backup_node, witness_node, master_node}
-use Rattle.curp_facts.specs.Names.{OrderOk, AdoptedOk, IsOf}
+use Rattle.curp_facts.specs.Names.{RecoverOrderOk, AdoptedOk, IsOf}
 use Rattle.curp_facts.specs.Kept.{AdoptionOk, LivesEarly, adopted_by}
 use Rattle.curp_law_pairs.proofs.Adoptions.{adoptions_ok}
 use Rattle.curp_law_names.proofs.Lists.{among_each}
@@ -57,7 +57,7 @@ module _ {w v : World} (known : Known w) (chain : Predecessors w) (now : Known v
     abbrev word : Message
     word = says manager_node node (adopted_by order)
 
-    home : OrderOk v node order
+    home : RecoverOrderOk v node order
     home = now.names.manager_says node (body.Recover order) ordered
 
     late : 1 < order.epoch

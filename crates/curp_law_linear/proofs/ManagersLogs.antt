@@ -24,7 +24,7 @@ use Rattle.curp_law_line.specs.OfWorld.{entries_at, line_of, logged_entries, par
 use Rattle.curp_base.proofs.Numbered.{numbered_set_cases}
 use Rattle.curp_law_logs.specs.Gives.{GivesFit}
 use Rattle.curp_law_logs.proofs.Gives.{NoGives, gives_fit_front, gives_fit_more}
-use Rattle.curp_law_linear.specs.Ordered.{AdoptedOk, MigrationsRise, Ordered, moved_number}
+use Rattle.curp_law_linear.specs.Ordered.{AdoptedLogOk, MigrationsRise, Ordered, moved_number}
 use Rattle.curp_law_linear.proofs.Adopt.{adopted_parts}
 use Rattle.curp_law_linear.proofs.AdoptDone.{adopt}
 use Rattle.curp_law_linear.proofs.AdoptRecovery.{Recovery, backup_begins, recovery}
@@ -59,7 +59,7 @@ parts_fit {w} known ordered n p here =
     nothing j k m n d e low at to is its = absurd cc
 
 -- and back
-pub logs_fit : (v : World) → PartsFit (line_of v).parts → (d : PartConfig) (l : AdoptedLog v d) → AdoptedOk v d l
+pub logs_fit : (v : World) → PartsFit (line_of v).parts → (d : PartConfig) (l : AdoptedLog v d) → AdoptedLogOk v d l
 logs_fit v fit d l =
     let its = subst (λ (es : List Entry). LogFits (record (part_of v d) { log = es })) (ap entries_at l.its_log.is.its_state ∙ ap logged_entries l.its_log.its_log)
     (fit d.part (part_of v d) (numbered_mapped (part_of v) v.manager.config.parts d.part d l.now)) in
@@ -117,7 +117,7 @@ module _ {w : World} (known : Known w) (chain : Predecessors w) (routes : Routes
       → Names (manager_moved w (adoption w.manager given) events (manager_input w.manager given))
       → Later w (manager_moved w (adoption w.manager given) events (manager_input w.manager given))
       → (d : PartConfig) (l : AdoptedLog (manager_moved w (adoption w.manager given) events (manager_input w.manager given)) d)
-      → AdoptedOk (manager_moved w (adoption w.manager given) events (manager_input w.manager given)) d l
+      → AdoptedLogOk (manager_moved w (adoption w.manager given) events (manager_input w.manager given)) d l
   manager_logs given for names later =
       logs_fit (manager_moved w (adoption w.manager given) events (manager_input w.manager given))
       (leads_fit (manager_input w.manager given) (manager_does known given for) (adoption w.manager given) (manager_leads known.names given for) names later)

@@ -13,7 +13,7 @@ use Rattle.curp_law_growth.specs.Deeds.{IsFor}
 use Rattle.curp_law_kept.specs.ManagerEffect.{ManagerEffect}
 use Rattle.curp_facts.specs.Known.{Known}
 use Rattle.curp_law_kept.proofs.ManagersDo.{manager_does}
-use Rattle.curp_law_line.specs.Moves.{Adopts, Move}
+use Rattle.curp_law_line.specs.Moves.{Adopts, LineMove}
 use Rattle.curp_law_linear.specs.Ordered.{Ordered}
 use Rattle.curp_law_linear.specs.Refined.{NoAdoption, Refines, EarlyAfter}
 use Rattle.curp_law_linear.proofs.Adopt.{adopt_fits, adopt_leads}
@@ -30,14 +30,14 @@ use Rattle.curp_law_names.proofs.Steps.{manager_moved}
 use Rattle.curp_facts.specs.Predecessors.{Predecessors}
 use Rattle.curp_facts.specs.Migrated.{Migrated}
 use Rattle.curp_facts.specs.Routes.{Routes}
-use Rattle.curp_law_line.specs.Line.{CutEarly, Line}
+use Rattle.curp_law_line.specs.Line.{CutEarly, LineState}
 use Rattle.curp_law_line.specs.OfWorld.{line_of}
 use Rattle.curp_model.specs.Marks.{adoptions}
 use Rattle.curp_law_line.proofs.QuickBegins.{cut_early_begins}
 use Rattle.curp_law_stays.proofs.Words.{one_state}
 
 -- the moves adopt what the manager adopts, if it does, and as much of its log as was recovered
-abbrev pub AdoptsOnly : World → Option Attempted → List Move → Type 0
+abbrev pub AdoptsOnly : World → Option Attempted → List LineMove → Type 0
 AdoptsOnly w None moves = Each NoAdoption moves
 AdoptsOnly w (Some a) moves = (h : WaitsFor w a.master) → Each (AdoptsThat a.order.part h.p.cut) moves
 
@@ -76,7 +76,7 @@ module _ {w : World} (known : Known w) (chain : Predecessors w) (routes : Routes
         adopts = λ h. ((sym rec.ok.its_part, same_cut o.c a rec h), tt);
         early = λ id c.
             subst (λ (p : ℕ). CutEarly (line_of (manager_moved w (Some a) events r)) p (adoptions p w.marks + 1) id c) (sym rec.ok.its_part)
-            (subst (λ (l : Line). CutEarly l o.c.part (adoptions o.c.part w.marks + 1) id c) (sym (adopt_leads known chain routes migrated ordered o.c a rec front events none r does names later parts moving))
+            (subst (λ (l : LineState). CutEarly l o.c.part (adoptions o.c.part w.marks + 1) id c) (sym (adopt_leads known chain routes migrated ordered o.c a rec front events none r does names later parts moving))
             (cut_early_begins (line_of w) (adopt known chain routes migrated ordered o.c a rec front) id c));
       }
 

@@ -27,7 +27,7 @@ use Rattle.curp_facts.specs.Known.{Known}
 use Rattle.curp_facts.specs.Names.{IsOf}
 use Rattle.curp_law_kept.proofs.MastersMoves.{MasterStep}
 use Rattle.curp_law_line.specs.Hashes.{Part}
-use Rattle.curp_law_line.specs.Line.{Left, Line}
+use Rattle.curp_law_line.specs.Line.{Left, LineState}
 use Rattle.curp_law_line.specs.Moves.{Strays, longer_left, relogged}
 use Rattle.curp_law_line.specs.OfWorld.{Reign, entries_at, left_of, line_of, logged_entries, moving_of, part_of, told_by}
 use Rattle.curp_law_line.proofs.Given.{LogsOk}
@@ -69,7 +69,7 @@ module _ {w v : World} (known : Known w) (chain : Predecessors w) (routes : Rout
 
   module _ (m k : MasterStage) (step : MasterStep w v n from heard m k out) where
     -- what the machine has before the packages are told
-    abbrev untold : List Part → List Mark → (ℕ → ℕ → Left) → Line
+    abbrev untold : List Part → List Mark → (ℕ → ℕ → Left) → LineState
     untold parts marks left = record { parts = parts; moving = moving_of w.manager.moving; told = (line_of w).told; marks = marks; history = w.history; left = left }
 
     told_after : (line_of w).told ++ flat_map (λ (x : Message). told_by x.body) out ≡ (line_of v).told
@@ -175,7 +175,7 @@ module _ {w v : World} (known : Known w) (chain : Predecessors w) (routes : Rout
 
     -- with this front of the new log
     module _ (front : IsPrefix m.log k.log) where
-      abbrev at : List Entry → List Mark → Line
+      abbrev at : List Entry → List Mark → LineState
       at log marks = line_at known chain routes migrated ordered c mine k.log front new_log log marks
 
       begins : line_of w ≡ at m.log w.marks

@@ -34,7 +34,7 @@ use Rattle.curp_facts.specs.Known.{Known}
 use Rattle.curp_law_kept.proofs.Known.{said}
 use Rattle.curp_law_line.specs.Hashes.{Part, is_give, is_take}
 use Rattle.curp_law_line.specs.Line.{Ungiven}
-use Rattle.curp_law_line.specs.Moves.{IsCarried, PushExpire, PushExpireFits, PushGive, PushGiveFits, PushOp, PushOpFits, PushTake, PushTakeFits, taken_by}
+use Rattle.curp_law_line.specs.Moves.{IsOnItsWay, PushExpire, PushExpireFits, PushGive, PushGiveFits, PushOp, PushOpFits, PushTake, PushTakeFits, taken_by}
 use Rattle.curp_law_line.specs.OfWorld.{line_of, moving_of, part_of, told_by}
 use Rattle.curp_law_line.proofs.Lists.{take_split}
 use Rattle.curp_law_linear.specs.Ordered.{Ordered, moved_number}
@@ -242,7 +242,7 @@ module _ {w : World} (known : Known w) (chain : Predecessors w) (routes : Routes
     last : number + 1 ≡ w.manager.next.migration
     last = ap (λ (n : ℕ). n + 1) (sym b.its_number) ∙ (routes.in_work b.m b.is).last
 
-    way : IsCarried (line_at known chain routes migrated ordered c l new front ok log marks).parts (at_work b.m) given
+    way : IsOnItsWay (line_at known chain routes migrated ordered c l new front ok log marks).parts (at_work b.m) given
     way = record {
       source = part_of w s.source;
       its_source = part_other known chain routes migrated ordered c l new front ok log marks b.m.source (part_of w s.source)

@@ -12,8 +12,8 @@ use Rattle.curp_facts.specs.Facts.{hi_of, lo_of}
 use Rattle.curp_facts.specs.Kept.{AdoptedLog}
 use Rattle.curp_facts.specs.Known.{Known}
 use Rattle.curp_law_line.specs.Hashes.{Part}
-use Rattle.curp_law_line.specs.Line.{Line}
-use Rattle.curp_law_line.specs.Moves.{AllFit, Fits, Move, after, all_after, pushed, relogged}
+use Rattle.curp_law_line.specs.Line.{LineState}
+use Rattle.curp_law_line.specs.Moves.{AllFit, Fits, LineMove, after, all_after, pushed, relogged}
 use Rattle.curp_law_line.specs.OfWorld.{left_of, line_of, moving_of, part_of}
 use Rattle.curp_law_line.proofs.Discharged.{IsPlainLog, logs_ok}
 use Rattle.curp_law_line.proofs.Given.{LogsOk}
@@ -32,33 +32,33 @@ use Rattle.curp_facts.specs.Routes.{Routes}
 use Rattle.curp_law_linear.proofs.MastersRise.{new_fit, new_rise}
 
 -- these moves, each of which can be made and none of which adopts, lead from one state to the other
-pub record Leads (s t : Line) : Type 0 where
-  pub moves : List Move
+pub record Leads (s t : LineState) : Type 0 where
+  pub moves : List LineMove
   pub fit : AllFit LogsOk s moves
   pub leads : all_after s moves ≡ t
   pub steady : Each NoAdoption moves
 
-pub leads_none : (s t : Line) → s ≡ t → Leads s t
+pub leads_none : (s t : LineState) → s ≡ t → Leads s t
 leads_none s t same = record { moves = []; fit = tt; leads = same; steady = tt }
 
 -- one move before others
-pub leads_first : (s t : Line) (m : Move) → NoAdoption m → Fits s m → LogsOk s.parts → Leads (after s m) t → Leads s t
+pub leads_first : (s t : LineState) (m : LineMove) → NoAdoption m → Fits s m → LogsOk s.parts → Leads (after s m) t → Leads s t
 leads_first s t m steady fits logs more = record { moves = m ∷ more.moves; fit = (fits, logs, more.fit); leads = more.leads; steady = (steady, more.steady) }
 
-all_append : (ms ns : List Move) (s : Line) → all_after s (ms ++ ns) ≡ all_after (all_after s ms) ns
+all_append : (ms ns : List LineMove) (s : LineState) → all_after s (ms ++ ns) ≡ all_after (all_after s ms) ns
 all_append [] ns s = refl
 all_append (m ∷ ms) ns s = all_append ms ns (after s m)
 
-fit_append : (ms ns : List Move) (s : Line) → AllFit LogsOk s ms → AllFit LogsOk (all_after s ms) ns → AllFit LogsOk s (ms ++ ns)
+fit_append : (ms ns : List LineMove) (s : LineState) → AllFit LogsOk s ms → AllFit LogsOk (all_after s ms) ns → AllFit LogsOk s (ms ++ ns)
 fit_append [] ns s p q = q
 fit_append (m ∷ ms) ns s p q = (p.0, p.1, fit_append ms ns (after s m) p.2 q)
 
 -- one list of moves after another
-pub leads_on : (r s t : Line) → Leads r s → Leads s t → Leads r t
+pub leads_on : (r s t : LineState) → Leads r s → Leads s t → Leads r t
 leads_on r s t a b = record {
   moves = a.moves ++ b.moves;
-  fit = fit_append a.moves b.moves r a.fit (subst (λ (x : Line). AllFit LogsOk x b.moves) (sym a.leads) b.fit);
-  leads = all_append a.moves b.moves r ∙ ap (λ (x : Line). all_after x b.moves) a.leads ∙ b.leads;
+  fit = fit_append a.moves b.moves r a.fit (subst (λ (x : LineState). AllFit LogsOk x b.moves) (sym a.leads) b.fit);
+  leads = all_append a.moves b.moves r ∙ ap (λ (x : LineState). all_after x b.moves) a.leads ∙ b.leads;
   steady = Each-append NoAdoption a.moves b.moves a.steady b.steady;
 }
 
@@ -69,7 +69,7 @@ module _ {w : World} (known : Known w) (chain : Predecessors w) (routes : Routes
   part_at log = record (part_of w c) { log = log }
 
   -- the machine where the partition has that log, with these marks
-  abbrev pub line_at : List Entry → List Mark → Line
+  abbrev pub line_at : List Entry → List Mark → LineState
   line_at log marks = record {
     parts = relogged (line_of w).parts c.part (part_of w c) log;
     moving = moving_of w.manager.moving;

@@ -17,7 +17,7 @@ use Rattle.curp_facts.specs.Kept.{AdoptedLog}
 use Rattle.curp_facts.specs.Known.{Known}
 use Rattle.curp_law_kept.proofs.MastersMoves.{MasterStep}
 use Rattle.curp_law_line.proofs.Lists.{some_same}
-use Rattle.curp_law_linear.specs.Ordered.{AdoptedOk, MigrationsRise, Ordered}
+use Rattle.curp_law_linear.specs.Ordered.{AdoptedLogOk, MigrationsRise, Ordered}
 use Rattle.curp_law_linear.proofs.Masters.{serving_fit, serving_rise}
 use Rattle.curp_law_linear.proofs.MastersStand.{SameLog, begins_stands, fresh_stands, recovering_stands}
 use Rattle.curp_law_logs.specs.Gives.{GivesFit}
@@ -33,19 +33,19 @@ module _ {w v : World} (known : Known w) (chain : Predecessors w) (routes : Rout
     before = subst (λ (g : ManagerState). numbered g.config.parts d.part ≡ Some d) step.frame.manager x.now
 
     -- the ranges of the opening stay
-    ok_of : MigrationsRise x.its.log → GivesFit (log_opening (lo_of w d.part) (hi_of w d.part)) 0 x.its.log → AdoptedOk v d x
+    ok_of : MigrationsRise x.its.log → GivesFit (log_opening (lo_of w d.part) (hi_of w d.part)) 0 x.its.log → AdoptedLogOk v d x
     ok_of rise fit = record {
       rise = rise;
       fit = subst (λ (g : ManagerState). GivesFit (log_opening (opening_range g.shape.parts d.part).lo (opening_range g.shape.parts d.part).hi) 0 x.its.log) (sym step.frame.manager) fit;
     }
 
     -- a log that the world before it had
-    old_ok : (l : AdoptedLog w d) → x.its.log ≡ l.its.log → AdoptedOk v d x
+    old_ok : (l : AdoptedLog w d) → x.its.log ≡ l.its.log → AdoptedLogOk v d x
     old_ok l same =
         let o = ordered.logs d l in
         ok_of (subst MigrationsRise (sym same) o.rise) (subst (GivesFit (log_opening (lo_of w d.part) (hi_of w d.part)) 0) (sym same) o.fit)
 
-    other_ok : d.master ≢ master_node n → AdoptedOk v d x
+    other_ok : d.master ≢ master_node n → AdoptedLogOk v d x
     other_ok other =
         let is : IsMaster w d.master x.its_log.m = step.others d.master x.its_log.m other x.its_log.is in
         old_ok (record { now = before; its = x.its; its_log = record { m = x.its_log.m; is = is; its_log = x.its_log.its_log } }) refl
@@ -58,12 +58,12 @@ module _ {w v : World} (known : Known w) (chain : Predecessors w) (routes : Rout
           ap node_log same ∙ x.its_log.its_log
 
       -- its own, where it stays
-      own_ok : SameLog m k → AdoptedOk v d x
+      own_ok : SameLog m k → AdoptedLogOk v d x
       own_ok same =
           let l = same.logged x.its has in
           old_ok (record { now = before; its = l.0; its_log = record { m = m; is = subst (λ (y : NodeId). IsMaster w y m) (sym its) step.was; its_log = l.1 } }) l.2
 
-  own : (m k : MasterStage) (step : MasterStep w v n from heard m k out) (d : PartConfig) (x : AdoptedLog v d) → d.master ≡ master_node n → AdoptedOk v d x
+  own : (m k : MasterStage) (step : MasterStep w v n from heard m k out) (d : PartConfig) (x : AdoptedLog v d) → d.master ≡ master_node n → AdoptedLogOk v d x
   own Fresh Fresh step d x its = let none = has Fresh Fresh step d x its in absurd cc
   own Fresh (Recovering t) step d x its =
       own_ok Fresh (Recovering t) step d x its (fresh_stands known chain n t (ap (λ (s : RecoveryState). node_log (Recovering s)) step.move.asks))
@@ -83,7 +83,7 @@ module _ {w v : World} (known : Known w) (chain : Predecessors w) (routes : Rout
       (subst (GivesFit (log_opening (lo_of w d.part) (hi_of w d.part)) 0) same (serving_fit known chain routes migrated ordered moved n from heard out m k step d now its))
 
   -- each adopted log after it
-  pub master_logs : (m k : MasterStage) → MasterStep w v n from heard m k out → (d : PartConfig) (x : AdoptedLog v d) → AdoptedOk v d x
+  pub master_logs : (m k : MasterStage) → MasterStep w v n from heard m k out → (d : PartConfig) (x : AdoptedLog v d) → AdoptedLogOk v d x
   master_logs m k step d x = elim (either_node d.master (master_node n)) [
     | inl same ↦ own m k step d x same
     | inr apart ↦ other_ok m k step d x apart

@@ -19,7 +19,7 @@ use Rattle.curp_facts.specs.Facts.{IsAmong, hi_of, lo_of}
 use Rattle.curp_facts.specs.Kept.{AdoptedLog}
 use Rattle.curp_facts.specs.Nodes.{CapturedOk}
 use Rattle.curp_facts.specs.Known.{Known}
-use Rattle.curp_law_line.specs.Line.{Line}
+use Rattle.curp_law_line.specs.Line.{LineState}
 use Rattle.curp_law_line.specs.Moves.{Look, LookFits, Looks}
 use Rattle.curp_law_linear.specs.Ordered.{Ordered}
 use Rattle.curp_law_linear.proofs.MastersCaptures.{Captures, NoRead, OneRead, TakesNone, TakesOne}
@@ -55,7 +55,7 @@ module _ (m k : MasterState) (low : Each (λ (x : Captured). x.number ≤ m.capt
 
 module _ {w : World} (known : Known w) (chain : Predecessors w) (routes : Routes w) (migrated : Migrated w) (ordered : Ordered w)
     (c : PartConfig) (l : AdoptedLog w c) (new : List Entry) (front : IsPrefix l.its.log new) (ok : LogOk w c.part new) (node : NodeId) (epoch : ℕ) where
-  abbrev at : List Mark → Line
+  abbrev at : List Mark → LineState
   at marks = line_at known chain routes migrated ordered c l new front ok new marks
 
   -- the look that a capture is

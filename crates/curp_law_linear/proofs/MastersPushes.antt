@@ -11,8 +11,8 @@ use Rattle.curp_model.specs.World.{World, op_marks}
 use Rattle.curp_facts.specs.Entries.{LogOk}
 use Rattle.curp_facts.specs.Kept.{AdoptedLog}
 use Rattle.curp_facts.specs.Known.{Known}
-use Rattle.curp_law_line.specs.Line.{Line}
-use Rattle.curp_law_line.specs.Moves.{ExpirePush, Fits, GivePush, Move, OpPush, TakePush, after, pushed}
+use Rattle.curp_law_line.specs.Line.{LineState}
+use Rattle.curp_law_line.specs.Moves.{ExpirePush, Fits, GivePush, LineMove, OpPush, TakePush, after, pushed}
 use Rattle.curp_law_linear.specs.Refined.{NoAdoption}
 use Rattle.curp_law_linear.specs.Ordered.{Ordered}
 use Rattle.curp_law_linear.proofs.MastersFit.{expire_fits, expire_push, give_moves, give_push, op_fits, op_push, take_moves, take_push}
@@ -23,7 +23,7 @@ use Rattle.curp_facts.specs.Routes.{Routes}
 
 module _ {w : World} (known : Known w) (chain : Predecessors w) (routes : Routes w) (migrated : Migrated w) (ordered : Ordered w)
     (c : PartConfig) (l : AdoptedLog w c) (new : List Entry) (front : IsPrefix l.its.log new) (ok : LogOk w c.part new) (node : NodeId) (epoch : ℕ) where
-  abbrev at : List Entry → List Mark → Line
+  abbrev at : List Entry → List Mark → LineState
   at log marks = line_at known chain routes migrated ordered c l new front ok log marks
 
   -- the marks of entries behind a log
@@ -31,12 +31,12 @@ module _ {w : World} (known : Known w) (chain : Predecessors w) (routes : Routes
   behind log es = op_marks node c.part epoch (length log) es
 
   -- one entry first, by a move that leads to it
-  step : (log : List Entry) (marks more : List Mark) (e : Entry) (rest : List Entry) → log ++ e ∷ rest ≡ new → (m : Move) → NoAdoption m → Fits (at log marks) m
+  step : (log : List Entry) (marks more : List Mark) (e : Entry) (rest : List Entry) → log ++ e ∷ rest ≡ new → (m : LineMove) → NoAdoption m → Fits (at log marks) m
       → after (at log marks) m ≡ record (at log marks) { parts = pushed (at log marks).parts c.part (part_at known chain routes migrated ordered c l new front ok log) e; marks = more }
-      → (t : Line) → Leads (at (log ++ e ∷ []) more) t → Leads (at log marks) t
+      → (t : LineState) → Leads (at (log ++ e ∷ []) more) t → Leads (at log marks) t
   step log marks more e rest is m steady fits leads t on =
       leads_first (at log marks) t m steady fits (logs_at known chain routes migrated ordered c l new front ok log marks (record { rest = e ∷ rest; is = is }))
-      (subst (λ (s : Line). Leads s t) (sym (leads ∙ one_pushed known chain routes migrated ordered c l new front ok log marks more e)) on)
+      (subst (λ (s : LineState). Leads s t) (sym (leads ∙ one_pushed known chain routes migrated ordered c l new front ok log marks more e)) on)
 
   -- all that stands behind a beginning of the new log
   pub push_all : (es log : List Entry) (marks : List Mark) → log ++ es ≡ new → IsPrefix l.its.log log → Leads (at log marks) (at new (marks ++ behind log es))

@@ -42,7 +42,7 @@ use Rattle.curp_law_pairs.proofs.Along.{entry_along}
 use Rattle.curp_law_pairs.proofs.Logs.{log_ok}
 use Rattle.curp_law_pairs.proofs.Words.{one_log}
 use Rattle.curp_facts.specs.Migrated.{Migrated, TakeStored}
-use Rattle.curp_facts.specs.Routes.{IsDone, IsGiveOf, IsMoving, Routes, order_of}
+use Rattle.curp_facts.specs.Routes.{IsMigrationDone, IsGiveOf, IsMoving, Routes, order_of}
 use Rattle.curp_law_linear.proofs.Found.{found_give}
 use Rattle.curp_cmd.proofs.Apart.{same_number}
 
@@ -91,7 +91,7 @@ module _ {w : World} (known : Known w) (chain : Predecessors w) (routes : Routes
   one_moving x y = let same : x.0 ≡ y.0 = some_same (sym x.1 ∙ y.1) in sym x.2 ∙ ap (λ (m : Migration). m.number) same ∙ y.2
 
   -- what isn't done is in work
-  in_work : (number : ℕ) → 1 ≤ number → number < w.manager.next.migration → (IsDone w number → ⊥) → IsMoving w number
+  in_work : (number : ℕ) → 1 ≤ number → number < w.manager.next.migration → (IsMigrationDone w number → ⊥) → IsMoving w number
   in_work number low high not_done = elim (moving_or_not number) [ inl moving ↦ moving | inr still ↦ absurd (not_done (routes.done number low high still)) ]
 
   -- what was told of a give that stands in a log
@@ -161,7 +161,7 @@ module _ {w : World} (known : Known w) (chain : Predecessors w) (routes : Routes
         let its = give_given c.part number given (entry_ok i (Give number given) at) in
         in_work number its.0 its.1 (λ done. stands done)
       where
-        stands : IsDone w number → ⊥
+        stands : IsMigrationDone w number → ⊥
         stands done =
             let g : StoredEntry w done.target (IsGiveOf number) = done.given in
             let d = entry_of known chain migrated ordered g.lists g.adopted.given in

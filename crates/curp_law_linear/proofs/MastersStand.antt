@@ -15,11 +15,11 @@ use Rattle.curp_model.specs.Recovery.{Asking, Fresh, MasterStage, Recovering, Re
 use Rattle.curp_model.specs.Witness.{WitnessState, frozen_requests}
 use Rattle.curp_model.specs.World.{World}
 use Rattle.curp_facts.specs.Facts.{ByRecovery, Lists, Logged, ReplayOk, WasAdopted, WasSent, lists_of_order, node_log, phase_log}
-use Rattle.curp_facts.specs.Nodes.{IsWaiting, RecoveringOk, StageOk}
+use Rattle.curp_facts.specs.Nodes.{IsWaiting, RecovererOk, StageOk}
 use Rattle.curp_facts.specs.Known.{Known}
 use Rattle.curp_law_kept.proofs.MastersMoves.{StageMove}
 use Rattle.curp_law_line.specs.OfWorld.{logged_entries}
-use Rattle.curp_facts.specs.Names.{OrderOk}
+use Rattle.curp_facts.specs.Names.{RecoverOrderOk}
 use Rattle.curp_facts.specs.Predecessors.{Predecessor, Predecessors}
 use Rattle.curp_law_pairs.proofs.Words.{one_backup, one_witness}
 
@@ -32,8 +32,8 @@ module _ {w : World} (known : Known w) (chain : Predecessors w) (n : ℕ) where
   -- a master that was adopted and recovers waits
   pub adopted_waits : (s : RecoveryState) → IsMaster w (master_node n) (Recovering s) → (l : Lists) → WasAdopted w l → l.master ≡ master_node n → IsWaiting s.phase
   adopted_waits s is l was its =
-      let ok : RecoveringOk w (master_node n) s = known.inv.masters (master_node n) (Recovering s) is in
-      let home : OrderOk w (master_node n) s.order = known.names.manager_says (master_node n) (body.Recover s.order) ok.ordered in
+      let ok : RecovererOk w (master_node n) s = known.inv.masters (master_node n) (Recovering s) is in
+      let home : RecoverOrderOk w (master_node n) s.order = known.names.manager_says (master_node n) (body.Recover s.order) ok.ordered in
       let agree = known.names.agree l (lists_of_order (master_node n) s.order) was.given (ByRecovery (master_node n) s.order ok.ordered) in
       let epoch : l.epoch ≡ s.order.epoch = (agree.by_master its).1 in
       let first = (known.names.given home.before home.was.given).epoch.0 in
@@ -79,7 +79,7 @@ module _ {w : World} (known : Known w) (chain : Predecessors w) (n : ℕ) where
       → StageMove w n from heard (Recovering s) (Recovering t) out → SameLog (Recovering s) (Recovering t)
   recovering_stands l was its s t is from heard out move =
       let waits = adopted_waits s is l was its in
-      let ok : RecoveringOk w (master_node n) s = known.inv.masters (master_node n) (Recovering s) is in
+      let ok : RecovererOk w (master_node n) s = known.inv.masters (master_node n) (Recovering s) is in
       waiting_same s t move.order waits (move.waits waits) ok.stage move.stage
 
   pub begins_stands : (s : RecoveryState) (k : MasterState) (from : NodeId) (heard : Option Body) (out : List Message)

@@ -19,7 +19,7 @@ use Rattle.curp_model.specs.World.{World, messages}
 use Rattle.curp_facts.specs.Facts.{IsAmong, WasSent}
 use Rattle.curp_law_kept.proofs.MastersMoves.{StageMove}
 use Rattle.curp_law_line.specs.Hashes.{Part, is_take}
-use Rattle.curp_law_line.specs.Line.{Line}
+use Rattle.curp_law_line.specs.Line.{LineState}
 use Rattle.curp_law_line.specs.Moves.{Told}
 use Rattle.curp_law_line.specs.OfWorld.{entries_at, line_of, logged_entries, part_of, told_by}
 use Rattle.curp_law_line.proofs.Given.{LogsOk}
@@ -37,7 +37,7 @@ pub record TakeStands (parts : List Part) (number : ℕ) : Type 0 where
   pub stands : list_any (is_take number) source.log ≡ true
 
 -- migrations of which each take stands may be told
-pub tell_all : (numbers : List ℕ) (s : Line) → LogsOk s.parts → ((n : ℕ) → IsAmong n numbers → TakeStands s.parts n) → Leads s (record s { told = s.told ++ numbers })
+pub tell_all : (numbers : List ℕ) (s : LineState) → LogsOk s.parts → ((n : ℕ) → IsAmong n numbers → TakeStands s.parts n) → Leads s (record s { told = s.told ++ numbers })
 tell_all [] s logs stand = leads_none s _ (ap (λ (told : List ℕ). record s { told = told }) (sym (append-nil s.told)))
 tell_all (n ∷ ns) s logs stand =
     let t = stand n (record { place = 0; stands = refl }) in

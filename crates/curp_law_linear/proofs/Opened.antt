@@ -14,7 +14,7 @@ use Rattle.curp_facts.specs.Kept.{AdoptedLog}
 use Rattle.curp_msg.specs.Script.{IsHeader}
 use Rattle.curp_law_line.proofs.Openings.{opening_line}
 use Rattle.curp_law_linear.proofs.OpenedCuts.{cuts_follow_opening}
-use Rattle.curp_law_linear.specs.Ordered.{AdoptedOk, CaptureOk, MigrationsRise, Ordered}
+use Rattle.curp_law_linear.specs.Ordered.{AdoptedLogOk, CaptureOk, MigrationsRise, Ordered}
 use Rattle.curp_law_logs.specs.Gives.{GivesFit}
 use Rattle.curp_law_routes.proofs.Steps.{nothing_sent}
 use Rattle.curp_base.proofs.Lists.{at_mapped}
@@ -50,7 +50,7 @@ module _ (h : Header) where
       go : (n : ℕ) → opening_master (shape_of h) n ≡ Serving m → [] ≡ m.captures
       go n same = ap captures_of same
 
-  logs_first : (c : PartConfig) (l : AdoptedLog (opening h) c) → AdoptedOk (opening h) c l
+  logs_first : (c : PartConfig) (l : AdoptedLog (opening h) c) → AdoptedLogOk (opening h) c l
   logs_first c l =
       let none = empty_log c.master l.its l.its_log in
       record {

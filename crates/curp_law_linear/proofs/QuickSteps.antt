@@ -7,7 +7,7 @@ use Rattle.curp_cmd.specs.declared.node.NodeId.{NodeId}
 use Rattle.curp_model.specs.Marks.{Mark, quick, cuts_part, with_quick}
 use Rattle.curp_law_line.specs.Moves.{put_before, Look, LookFits, Late, LateFits, Quicks, Lates, quickly, late_quickly}
 use Rattle.curp_law_linear.specs.Refined.{RefinesQuiet}
-use Rattle.curp_law_line.specs.Line.{QuickGives, QuickEarly, QuickLow, WasInvoked, Line, Left, IsFirm, CutEarly}
+use Rattle.curp_law_line.specs.Line.{QuickGives, QuickEarly, QuickLow, WasInvoked, LineState, Left, IsFirm, CutEarly}
 use Rattle.curp_law_linear.specs.Ordered.{capture_of, Gated, StoredFrom, IsStored, Ordered, CutsFollow, reign_in}
 use Rattle.curp_law_line.specs.OfWorld.{line_of, cuts, reigns, reign_of, Reign, cut_length, left_of, left_at, log_of, entries_at, moving_of, part_of, told_by}
 use Rattle.curp_facts.specs.Known.{Known}
@@ -256,7 +256,7 @@ module _ {w v : World} (known : Known w) (chain : Predecessors w) (ordered : Ord
           let line : line_of v ≡ quickly (line_of w) look = line_after (length w.marks) (w.marks ++ mark_of ∷ []) put end in
           let answer : answer_after (part_of w c).lo (part_of w c).hi (part_of w c).log r.command ≡ quick_of.answer = whole (λ lo hi log. answer_after lo hi log r.command ≡ quick_of.answer) its_answer in
           let early : QuickEarly (line_of v) by x.part r.id quick_of.answer
-          = subst (λ (s : Line). QuickEarly s by x.part r.id quick_of.answer) (sym line)
+          = subst (λ (s : LineState). QuickEarly s by x.part r.id quick_of.answer) (sym line)
           (subst (λ (z : Answer). QuickEarly (quickly (line_of w) look) by x.part r.id z) answer (quick_early pure second (line_of w) look fits logs ordered.line)) in
           record {
             place = length w.marks;
@@ -267,7 +267,7 @@ module _ {w v : World} (known : Known w) (chain : Predecessors w) (ordered : Ord
             time = inl early;
             long = synced x;
             other = node;
-            low = subst (λ (s : Line). QuickLow s.marks by x.part (synced x) r.id) (sym line) (quick_low pure second (line_of w) look fits logs ordered.line (synced x)
+            low = subst (λ (s : LineState). QuickLow s.marks by x.part (synced x) r.id) (sym line) (quick_low pure second (line_of w) look fits logs ordered.line (synced x)
                 (λ h touched. subst (λ (es : List Entry). list_any (λ (e : Entry). entry_touches e h) (drop (synced x) es) ≡ false) (sym part_is) (quiet_past (synced x) (omega arith) h touched)));
             stored = from_stays follows node x.part (synced x) (record { lists = own; adopted = before.adopted; its_master = refl; its_part = refl; stored = synced_stored });
           }
@@ -382,7 +382,7 @@ module _ {w v : World} (known : Known w) (chain : Predecessors w) (ordered : Ord
       line = line_after cut.cut.place (put_before cut.cut.place mark_of w.marks) put put
 
       gives : QuickGives v.marks by x.part r.id quick_of.answer
-      gives = subst (λ (s : Line). QuickGives s.marks by x.part r.id quick_of.answer) (sym line)
+      gives = subst (λ (s : LineState). QuickGives s.marks by x.part r.id quick_of.answer) (sym line)
           (subst (λ (z : Answer). QuickGives (late_quickly (line_of w) late).marks by x.part r.id z) answer (late_reads_whole pure (line_of w) late late_fits ordered.line within))
 
       -- a Live of the frozen witness was said before
@@ -411,7 +411,7 @@ module _ {w v : World} (known : Known w) (chain : Predecessors w) (ordered : Ord
               let same : t.0 ≡ r.command = commands (at_same w.history was_invoked.event (Invoke r.id t.0) (Invoke r.id r.command) (subst (λ (j : ℕ). At w.history j (Invoke r.id t.0)) once t.1.stands) was_invoked.stands) in
               let number : suc i ≡ i + 1 = omega arith in
               let at_cut : CutEarly (line_of w) x.part (i + 1) r.id r.command = subst (λ (j : ℕ). CutEarly (line_of w) x.part j r.id r.command) number (subst (λ (c : Command). CutEarly (line_of w) x.part (suc i) r.id c) same t.2) in
-              subst (λ (s : Line). QuickEarly s by x.part r.id quick_of.answer) (sym line)
+              subst (λ (s : LineState). QuickEarly s by x.part r.id quick_of.answer) (sym line)
               (subst (λ (z : Answer). QuickEarly (late_quickly (line_of w) late) by x.part r.id z) answer (late_early_whole pure (line_of w) late late_fits ordered.line within at_cut))
             where
               commands : {c d : Command} → Invoke r.id c ≡ Invoke r.id d → c ≡ d
@@ -428,7 +428,7 @@ module _ {w v : World} (known : Known w) (chain : Predecessors w) (ordered : Ord
         time = inr gated;
         long = cut.cut.long;
         other = m.master;
-        low = subst (λ (s : Line). QuickLow s.marks by x.part cut.cut.long r.id) (sym line) (late_is_low pure (line_of w) late late_fits ordered.line);
+        low = subst (λ (s : LineState). QuickLow s.marks by x.part cut.cut.long r.id) (sym line) (late_is_low pure (line_of w) late late_fits ordered.line);
         stored = subst (StoredFrom v m.master x.part) (sym cut.its_long) (from_stays follows m.master x.part long ((follow x.part).stored i m here));
       }
 

@@ -32,7 +32,7 @@ use Rattle.curp_facts.specs.Known.{Known}
 use Rattle.curp_law_kept.proofs.Known.{fits}
 use Rattle.curp_law_kept.proofs.MastersReady.{all_stored, stored_many}
 use Rattle.curp_law_kept.proofs.Moved.{sent_back}
-use Rattle.curp_law_line.specs.Moves.{Adopts, Move, IsDropped}
+use Rattle.curp_law_line.specs.Moves.{Adopts, LineMove, IsDropped}
 use Rattle.curp_law_linear.specs.Ordered.{CaptureOk, CutsFollow, IsStored, Ordered, StoredFrom, CutsTimed}
 use Rattle.curp_law_linear.specs.Refined.{Refines}
 use Rattle.curp_law_linear.proofs.ReadsDropped.{Stays, kept_short, looks_adopted, read_stays}
@@ -113,7 +113,7 @@ module _ {w v : World} (now : Known v) {out : List Message} (f : ManagerSaid w v
 -- ---- with an adoption
 
 -- a move that adopts does so in that partition, and keeps so much
-abbrev pub AdoptsThat : ℕ → ℕ → Move → Type 0
+abbrev pub AdoptsThat : ℕ → ℕ → LineMove → Type 0
 AdoptsThat part cut (Adopts o) = (o.part ≡ part) × (length o.stays ≡ cut)
 AdoptsThat part cut _ = ⊤
 
@@ -140,7 +140,7 @@ pub record AdoptsRecovery (w v : World) (r : Refines w v) : Type 0 where
 
 module _ {w v : World} (known : Known w) (now : Known v) (chain : Predecessors w) (later : Predecessors v) (ordered : Ordered w) (s : Follows w v) (r : Refines w v)
     {out : List Message} (f : ManagerSaid w v out) (d : AdoptsRecovery w v r) where
-  recovering : nodes.RecoveringOk w d.a.master d.s
+  recovering : nodes.RecovererOk w d.a.master d.s
   recovering = known.inv.masters d.a.master (Recovering d.s) d.is
 
   same_order : d.s.order ≡ d.a.order
@@ -166,11 +166,11 @@ module _ {w v : World} (known : Known w) (now : Known v) (chain : Predecessors w
       omega (arith, low, cut_replay.its_cut)
 
   -- no move drops what is no longer than that
-  none_dropped : (ms : List Move) → Each (AdoptsThat d.a.order.part d.p.cut) ms → (part long : ℕ) → (d.a.order.part ≡ part → long ≤ d.p.cut) → NoneDrops ms part long
+  none_dropped : (ms : List LineMove) → Each (AdoptsThat d.a.order.part d.p.cut) ms → (part long : ℕ) → (d.a.order.part ≡ part → long ≤ d.p.cut) → NoneDrops ms part long
   none_dropped [] all part long short = tt
   none_dropped (m ∷ ms) all part long short = (go m all.0, none_dropped ms all.1 part long short)
     where
-      go : (m : Move) → AdoptsThat d.a.order.part d.p.cut m → IsDropped m part long → ⊥
+      go : (m : LineMove) → AdoptsThat d.a.order.part d.p.cut m → IsDropped m part long → ⊥
       go (Adopts o) that dropped = let low = short (sym that.0 ∙ dropped.0) in omega (arith, low, that.1, dropped.1)
       go _ that dropped = dropped
 

@@ -10,8 +10,8 @@ use Rattle.curp_msg.specs.declared.machine.Capture.{Capture}
 use Rattle.curp_model.specs.World.{World}
 use Rattle.curp_facts.specs.Facts.{IsAdoptedNow}
 use Rattle.curp_facts.specs.Known.{Known}
-use Rattle.curp_law_line.specs.Line.{Line, LineOk, LookGives}
-use Rattle.curp_law_line.specs.Moves.{AllFit, Adopts, IsDropped, Move, after, all_after}
+use Rattle.curp_law_line.specs.Line.{LineState, LineOk, LookGives}
+use Rattle.curp_law_line.specs.Moves.{AllFit, Adopts, IsDropped, LineMove, after, all_after}
 use Rattle.curp_law_line.specs.OfWorld.{line_of}
 use Rattle.curp_law_line.proofs.Discharged.{pure, second}
 use Rattle.curp_law_line.proofs.Given.{LogsOk}
@@ -24,23 +24,23 @@ use Rattle.curp_facts.specs.Migrated.{AllStored}
 use Rattle.curp_law_stays.proofs.Words.{Follows, adopted_later}
 
 -- no move drops looks of that length in that partition
-abbrev pub NoneDrops : List Move → ℕ → ℕ → Type 0
-NoneDrops ms part long = Each (λ (m : Move). IsDropped m part long → ⊥) ms
+abbrev pub NoneDrops : List LineMove → ℕ → ℕ → Type 0
+NoneDrops ms part long = Each (λ (m : LineMove). IsDropped m part long → ⊥) ms
 
 -- what each backup of the present list of the partition has, no move drops
-abbrev pub KeepsStored : World → List Move → Type 0
+abbrev pub KeepsStored : World → List LineMove → Type 0
 KeepsStored w ms = (part long : ℕ) → ((c : PartConfig) → IsAdoptedNow w c → c.part ≡ part → AllStored w c long) → NoneDrops ms part long
 
 -- moves that adopt nothing drop nothing
-pub none_drops : (ms : List Move) → Each NoAdoption ms → (part long : ℕ) → NoneDrops ms part long
+pub none_drops : (ms : List LineMove) → Each NoAdoption ms → (part long : ℕ) → NoneDrops ms part long
 none_drops [] none part long = tt
 none_drops (m ∷ ms) none part long = (go m none.0, none_drops ms none.1 part long)
   where
-    go : (m : Move) → NoAdoption m → IsDropped m part long → ⊥
+    go : (m : LineMove) → NoAdoption m → IsDropped m part long → ⊥
     go (Adopts o) n d = n
     go _ n d = d
 
-look_moves : (ms : List Move) (s : Line) → AllFit LogsOk s ms → LineOk s → (by : Capture) (part long : ℕ) (id : RequestId) (a : Answer) → LookGives s.marks by part long id a
+look_moves : (ms : List LineMove) (s : LineState) → AllFit LogsOk s ms → LineOk s → (by : Capture) (part long : ℕ) (id : RequestId) (a : Answer) → LookGives s.marks by part long id a
     → NoneDrops ms part long → LookGives (all_after s ms).marks by part long id a
 look_moves [] s fits ok by part long id a look none = look
 look_moves (m ∷ ms) s fits ok by part long id a look none = elim (look_stays pure second s m fits.0 fits.1 ok by part long id a look) [
@@ -52,7 +52,7 @@ module _ {w v : World} (ordered : Ordered w) (r : Refines w v) where
   -- a look of the world before gives the same in the world after
   pub look_later : (by : Capture) (part long : ℕ) (id : RequestId) (a : Answer) → LookGives w.marks by part long id a → NoneDrops r.moves part long → LookGives v.marks by part long id a
   look_later by part long id a look none =
-      subst (λ (s : Line). LookGives s.marks by part long id a) r.leads (look_moves r.moves (line_of w) r.fit ordered.line by part long id a look none)
+      subst (λ (s : LineState). LookGives s.marks by part long id a) r.leads (look_moves r.moves (line_of w) r.fit ordered.line by part long id a look none)
 
   -- a value that was sent is still what its look gives
   pub worth_later : Known w → Predecessors w → Follows w v → KeepsStored w r.moves → (node : NodeId) (x : Worth) → WorthOk w node x → WorthOk v node x

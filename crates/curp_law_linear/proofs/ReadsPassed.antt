@@ -20,7 +20,7 @@ use Rattle.curp_law_line.specs.Line.{LookGives}
 use Rattle.curp_law_linear.specs.Ordered.{CaptureOk, Ordered}
 use Rattle.curp_law_linear.specs.Refined.{Refines}
 use Rattle.curp_law_linear.proofs.ReadsMoves.{NoneDrops, look_later}
-use Rattle.curp_facts.specs.Names.{OrderOk}
+use Rattle.curp_facts.specs.Names.{RecoverOrderOk}
 use Rattle.curp_model.specs.Witness.{WitnessState}
 use Rattle.curp_msg.specs.declared.body.Probed.{Probed}
 use Rattle.curp_model.specs.declared.Mode.TheVariants as mode
@@ -46,7 +46,7 @@ KnowsNoLater k c node = (from_backup k.acknowledged node).round < c.round
 
 module _ {w v : World} (known : Known w) (s : Follows w v) where
   module _ (l : Lists) (m : MasterState) (c : Captured) (p : PassedBy w l m c) where
-    its : OrderOk w p.later.master p.order
+    its : RecoverOrderOk w p.later.master p.order
     its = known.names.manager_says p.later.master (body.Recover p.order) p.ordered
 
     same : (p.order.part ≡ p.later.part) × (p.order.epoch ≡ p.later.epoch)

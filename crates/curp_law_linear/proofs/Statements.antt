@@ -4,7 +4,7 @@ use Rattle.curp_order.specs.Order.{IsHistory, IsOrder}
 use Rattle.curp_model.specs.World.{World, order}
 use Rattle.curp_facts.specs.Kept.{LateRepliesAgree}
 use Rattle.curp_facts.specs.Known.{Known}
-use Rattle.curp_law_line.specs.Line.{Line, StandsIn, completed_order}
+use Rattle.curp_law_line.specs.Line.{LineState, StandsIn, completed_order}
 use Rattle.curp_law_line.specs.OfWorld.{line_of}
 use Rattle.curp_law_line.proofs.Discharged.{pure, second}
 use Rattle.curp_law_line.proofs.Growing.{order_grows_on}
@@ -33,5 +33,5 @@ late_replies {w} known chain migrated ordered part id a can =
 -- through a step that is moves of the machine they stay in their order
 pub order_grows : {w v : World} → Known w → Ordered w → Refines w v → StandsIn (completed_in_order w) (completed_in_order v)
 order_grows {w} {v} known ordered r =
-    subst (λ (s : Line). StandsIn (completed_order (line_of w)) (completed_order s)) r.leads
+    subst (λ (s : LineState). StandsIn (completed_order (line_of w)) (completed_order s)) r.leads
     (order_grows_on pure second r.moves (line_of w) r.fit ordered.line)

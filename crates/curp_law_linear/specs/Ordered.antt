@@ -46,7 +46,7 @@ abbrev pub MigrationsRise : List Entry → Type 0
 MigrationsRise log = (j k m n : ℕ) (d e : Entry) → j < k → At log j d → At log k e → moved_number d ≡ Some m → moved_number e ≡ Some n → m < n
 
 -- an adopted log: its takes and gives rise together, and each give fits at its place
-pub record AdoptedOk (w : World) (c : PartConfig) (l : AdoptedLog w c) : Type 0 where
+pub record AdoptedLogOk (w : World) (c : PartConfig) (l : AdoptedLog w c) : Type 0 where
   pub rise : MigrationsRise l.its.log
   pub fit : GivesFit (log_opening (lo_of w c.part) (hi_of w c.part)) 0 l.its.log
 
@@ -192,7 +192,7 @@ pub record Ordered (w : World) : Type 0 where
   pub cuts_follow : CutsFollow w
   pub cuts_timed : CutsTimed w
   pub commands : (i : ℕ) (id : RequestId) (command : Command) → At w.history i (Invoke id command) → NamesKey command
-  pub logs : (c : PartConfig) (l : AdoptedLog w c) → AdoptedOk w c l
+  pub logs : (c : PartConfig) (l : AdoptedLog w c) → AdoptedLogOk w c l
   pub numbered_looks : LooksNumbered w
   pub worths : (node : NodeId) (v : Worth) → WasSent w (says node (client_node v.id.client) (body.Worth v)) → WorthOk w node v
   pub quicks : (node : NodeId) (q : QuickValue) → WasSent w (says node (client_node q.id.client) (body.Quick q))

@@ -3,7 +3,7 @@ use Rattle.std.specs.Prelude.{◌≡◌, ◌+◌, List, Option, Some, None}
 use Rattle.std.specs.Bool.{⊤}
 use Rattle.curp_base.specs.Words.{Each}
 use Rattle.curp_model.specs.World.{World}
-use Rattle.curp_law_line.specs.Moves.{Adopts, AllFit, Move, all_after}
+use Rattle.curp_law_line.specs.Moves.{Adopts, AllFit, LineMove, all_after}
 use Rattle.curp_law_line.specs.OfWorld.{line_of}
 use Rattle.curp_cmd.specs.declared.command.Command.{Command}
 use Rattle.curp_cmd.specs.declared.command.RequestId.{RequestId}
@@ -15,12 +15,12 @@ use Rattle.curp_law_line.specs.Given.{LogsOk}
 -- these moves, each of which can be made and from logs that are logs, lead from what the machine has of one world to what it
 -- has of the other
 pub record Refines (w v : World) : Type 0 where
-  pub moves : List Move
+  pub moves : List LineMove
   pub fit : AllFit LogsOk (line_of w) moves
   pub leads : all_after (line_of w) moves ≡ line_of v
 
 -- the move adopts nothing
-abbrev pub NoAdoption : Move → Type 0
+abbrev pub NoAdoption : LineMove → Type 0
 NoAdoption (Adopts o) = ⊥
 NoAdoption _ = ⊤
 

@@ -12,7 +12,8 @@ use Rattle.curp_cmd.specs.declared.entry.Entry.{Entry}
 use Rattle.curp_cmd.specs.declared.entry.Entry.TheVariants.{Op, Take, Give, Expire}
 use Rattle.curp_cmd.specs.declared.migration.Package.{Package}
 use Rattle.curp_range.specs.Spans.{is_in}
-use Rattle.curp_law_logs.specs.Hashes.{Asked, NoGive, behind, behind_from, came, came_from, gives}
+use Rattle.curp_law_logs.specs.Hashes.{NoGive, behind, behind_from, came, came_from, gives}
+use Rattle.curp_order.specs.Order.{Asked}
 
 -- ---- where no give covers the hash
 

@@ -12,7 +12,7 @@ use Rattle.curp_cmd.specs.declared.command.Request.{Request}
 use Rattle.curp_cmd.specs.declared.entry.Entry.{Entry}
 use Rattle.curp_cmd.specs.declared.entry.Entry.TheVariants.{Op, Take, Give, Expire}
 use Rattle.curp_cmd.specs.declared.migration.Package.{Package}
-use Rattle.curp_order.specs.Order.{store_after}
+use Rattle.curp_order.specs.Order.{store_after, Asked}
 use Rattle.curp_range.specs.Spans.{is_in, is_owned}
 use Rattle.curp_model.specs.Log.{LogState, IsLog, answer_after, all_fit, fits_at, is_new, log_opening, after_entry, after_entries, meaning, without_keys}
 use Rattle.curp_model.specs.Ranges.{owns_all}
@@ -20,7 +20,7 @@ use Rattle.curp_cmd.specs.Hash.{hashes}
 use Rattle.curp_model.specs.Table.{check}
 use Rattle.curp_law_logs.specs.Follows.{Follows}
 use Rattle.curp_law_logs.specs.Gives.{GiveFits, GivesFit}
-use Rattle.curp_law_logs.specs.Hashes.{Asked, behind, behind_from, came, came_from, value}
+use Rattle.curp_law_logs.specs.Hashes.{behind, behind_from, came, came_from, value}
 use Rattle.curp_law_logs.proofs.Gives.{gives_fit_front}
 use Rattle.curp_law_logs.proofs.Logs.{log_front}
 use Rattle.curp_law_logs.proofs.Ranges.{Ordered, ordered_with_range, ordered_without, owned_with_range, owned_without, owns_touched}

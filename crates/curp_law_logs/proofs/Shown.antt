@@ -9,9 +9,9 @@ use Rattle.curp_cmd.specs.Hash.{hash_of}
 use Rattle.curp_cmd.specs.Store.{Contents, applied, is_update, nothing}
 use Rattle.curp_cmd.specs.declared.command.Answer.{Answer}
 use Rattle.curp_cmd.specs.declared.command.Command.{Command}
-use Rattle.curp_order.specs.Order.{answers, store_after}
+use Rattle.curp_order.specs.Order.{answers, store_after, Asked}
 use Rattle.curp_model.specs.Marks.{Mark, is_shown, is_update_mark, shown}
-use Rattle.curp_law_logs.specs.Hashes.{Asked, asked, on, updates, value}
+use Rattle.curp_law_logs.specs.Hashes.{asked, on, updates, value}
 use Rattle.curp_law_logs.proofs.Values.{answer_middle, updates_only, value_local}
 use Rattle.curp_model.proofs.Marks.{shown_append}
 

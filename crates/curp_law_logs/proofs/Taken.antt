@@ -20,7 +20,8 @@ use Rattle.curp_model.specs.Ranges.{owns_all}
 use Rattle.curp_model.specs.Table.{check}
 use Rattle.curp_model.proofs.Logs.{meaning_append}
 use Rattle.curp_law_logs.specs.Gives.{GivesFit}
-use Rattle.curp_law_logs.specs.Hashes.{Asked, NoGive, NotNew, behind, behind_from, came, gives, value}
+use Rattle.curp_law_logs.specs.Hashes.{NoGive, NotNew, behind, behind_from, came, gives, value}
+use Rattle.curp_order.specs.Order.{Asked}
 use Rattle.curp_law_logs.specs.Standing.{Carries}
 use Rattle.curp_law_logs.proofs.Behind.{behind_append, came_more}
 use Rattle.curp_law_logs.proofs.Gives.{package_pair}

@@ -13,8 +13,8 @@ use Rattle.curp_cmd.specs.Hash.{conflicts, hash_of, touches}
 use Rattle.curp_cmd.specs.declared.command.Answer.{Answer}
 use Rattle.curp_cmd.specs.declared.command.Command.{Command}
 use Rattle.curp_cmd.specs.declared.command.Command.TheVariants.{Get, Put, Delete, Incr, Append, CondPut, Multi}
-use Rattle.curp_order.specs.Order.{answers, answers_from, store_after}
-use Rattle.curp_law_logs.specs.Hashes.{Asked, In, on, value}
+use Rattle.curp_order.specs.Order.{answers, answers_from, store_after, Asked}
+use Rattle.curp_law_logs.specs.Hashes.{In, on, value}
 use Rattle.curp_cmd.proofs.Apart.{order, among, Alike, IsLocal, local, with_pairs-alike, hash_among, keys_apart, same_after, same_second}
 
 -- ---- one command

@@ -4,7 +4,8 @@ use Rattle.curp_cmd.specs.Hash.{hash_of}
 use Rattle.curp_cmd.specs.declared.entry.Entry.{Entry}
 use Rattle.curp_range.specs.Spans.{Owns}
 use Rattle.curp_model.specs.Log.{meaning}
-use Rattle.curp_law_logs.specs.Hashes.{Asked, behind, came, on, value}
+use Rattle.curp_law_logs.specs.Hashes.{behind, came, on, value}
+use Rattle.curp_order.specs.Order.{Asked}
 
 -- the log owns the hash, and there the order has a past with the values that came, and then the ops of the log behind
 pub record Follows (order : List Asked) (lo hi : ℕ) (log : List Entry) (h : ℕ) : Type 0 where

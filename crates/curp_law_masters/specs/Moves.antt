@@ -282,15 +282,15 @@ RecoveryHears w s from (body.Appended a) = HearsStored w from a.answer
 RecoveryHears w s from _ = ⊤
 
 -- the whole log in a round of storing
-abbrev pub IsWhole : RecoveryPhase → Append → Type 0
-IsWhole (Storing r) a = (a.entries ≡ r.log) × (a.round ≡ r.round)
-IsWhole _ a = ⊥
+abbrev pub IsWholeLog : RecoveryPhase → Append → Type 0
+IsWholeLog (Storing r) a = (a.entries ≡ r.log) × (a.round ≡ r.round)
+IsWholeLog _ a = ⊥
 
 -- what a recovering master says, by the kind of the message. It says nothing else
 abbrev pub RecoverySays : World → RecoveryState → NodeId → Body → Type 0
 RecoverySays w s to (body.Fence epoch) = (epoch ≡ s.order.epoch) × (to ≡ s.order.backup)
 RecoverySays w s to (body.Freeze epoch) = (epoch ≡ s.order.epoch) × (to ≡ s.order.witness)
-RecoverySays w s to (body.Append a) = (a.epoch ≡ s.order.epoch) × (a.base ≡ 0) × IsAmong to s.order.backups × IsWhole s.phase a
+RecoverySays w s to (body.Append a) = (a.epoch ≡ s.order.epoch) × (a.base ≡ 0) × IsAmong to s.order.backups × IsWholeLog s.phase a
 RecoverySays w s to (body.Recovered r) = (r.part ≡ s.order.part) × (r.epoch ≡ s.order.epoch) × (to ≡ manager_node) × IsWaiting s.phase
 RecoverySays w s to (body.Refuse r) = RefuseSays w to r
 RecoverySays w s to _ = ⊥

@@ -24,11 +24,11 @@ use Rattle.curp_model.specs.Recovery.{Asking, Fresh, MasterStage, Recovering, Re
 use Rattle.curp_model.specs.Witness.{HeldRequest, WitnessState}
 use Rattle.curp_model.specs.World.{World}
 use Rattle.curp_facts.specs.Facts.{AttemptWas, Lists}
-use Rattle.curp_facts.specs.Fits.{BackupFits, BodyFits, ClientFits, EntryAsked, IsAsked, LogThere, MasterFits, MessageFits, NextSent, PendingFits, PhaseFits, ReplyAsked, RequestsThere, ServesBy, SuspectsAsked, WitnessFits, addressee_kind, sender_kind}
+use Rattle.curp_facts.specs.Fits.{BackupFits, BodyFits, ClientFits, EntryAsked, IsOfClient, LogThere, MasterFits, MessageFits, NextSent, PendingFits, PhaseFits, ReplyAsked, RequestsThere, ServesBy, SuspectsAsked, WitnessFits, addressee_kind, sender_kind}
 use Rattle.curp_law_names.proofs.Later.{Later, adopted_later, configuration_later, given_later, node_later, of_later}
 
 module _ {w v : World} (g : Later w v) where
-  pub asked_later : (r : Request) → IsAsked w r → IsAsked v r
+  pub asked_later : (r : Request) → IsOfClient w r → IsOfClient v r
   asked_later r is = node_later g kind.Client r.id.client is
 
   pub entry_later : (e : Entry) → EntryAsked w e → EntryAsked v e
@@ -38,8 +38,8 @@ module _ {w v : World} (g : Later w v) where
   pub entries_later : (es : List Entry) → Each (EntryAsked w) es → Each (EntryAsked v) es
   entries_later es all = Each-weaker (EntryAsked w) (EntryAsked v) entry_later es all
 
-  pub requests_later : (rs : List Request) → Each (IsAsked w) rs → Each (IsAsked v) rs
-  requests_later rs all = Each-weaker (IsAsked w) (IsAsked v) asked_later rs all
+  pub requests_later : (rs : List Request) → Each (IsOfClient w) rs → Each (IsOfClient v) rs
+  requests_later rs all = Each-weaker (IsOfClient w) (IsOfClient v) asked_later rs all
 
   reply_later : (a : FenceReply) → ReplyAsked w a → ReplyAsked v a
   reply_later (Log entries) is = entries_later entries is
@@ -125,4 +125,4 @@ module _ {w v : World} (g : Later w v) where
   backup_later b ok = entries_later b.log ok
 
   pub witness_later : (x : WitnessState) → WitnessFits w x → WitnessFits v x
-  witness_later x ok = Each-weaker (λ (h : HeldRequest). IsAsked w h.request) (λ (h : HeldRequest). IsAsked v h.request) (λ (h : HeldRequest). asked_later h.request) x.held ok
+  witness_later x ok = Each-weaker (λ (h : HeldRequest). IsOfClient w h.request) (λ (h : HeldRequest). IsOfClient v h.request) (λ (h : HeldRequest). asked_later h.request) x.held ok

@@ -19,7 +19,7 @@ use Rattle.curp_model.specs.Recovery.{MasterStage}
 use Rattle.curp_model.specs.Witness.{WitnessState}
 use Rattle.curp_model.specs.World.{World}
 use Rattle.curp_facts.specs.Facts.{AtOpening, ByRecovery, ByReplacement, IsAmong, IsGiven, Lists, WasAdopted, WasSent, lists_of_order, lists_of_prepare}
-use Rattle.curp_facts.specs.Names.{IsOf, Names, OrderOk, PrepareOk}
+use Rattle.curp_facts.specs.Names.{IsOf, Names, RecoverOrderOk, PrepareOk}
 use Rattle.curp_law_names.proofs.Lists.{among_each}
 use Rattle.curp_base.proofs.Numbered.{numbered_some}
 

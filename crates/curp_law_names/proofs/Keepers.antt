@@ -30,7 +30,7 @@ use Rattle.curp_model.specs.Named.{IsNodeOf}
 use Rattle.curp_model.specs.Witness.{AfterCollection, AfterRecord, HeldRequest, WitnessState, by_room, collect, collected_at, collected_in, conflict, full_set, gc, hold, holds, least_hash, newly_held, on_witness, placed, sorted_in, started, stranger_to, survives, suspect, turned_away, unless_turned_away, verdict_body, witness_input}
 use Rattle.curp_model.specs.World.{World}
 use Rattle.curp_facts.specs.Names.{IsOf}
-use Rattle.curp_facts.specs.Fits.{BackupFits, BodyFits, EntryAsked, IsAsked, MessageFits, ReplyAsked, SuspectsAsked, WitnessFits, sender_kind}
+use Rattle.curp_facts.specs.Fits.{BackupFits, BodyFits, EntryAsked, IsOfClient, MessageFits, ReplyAsked, SuspectsAsked, WitnessFits, sender_kind}
 
 -- a node says what fits, in its own name
 pub record Said (w : World) (me : NodeId) (m : Message) : Type 0 where
@@ -94,7 +94,7 @@ module _ (w : World) where
   -- ---- witnesses
 
   abbrev HeldFits : HeldRequest → Type 0
-  HeldFits h = IsAsked w h.request
+  HeldFits h = IsOfClient w h.request
 
   placed_fits : (x : HeldRequest) (held : List HeldRequest) → HeldFits x → Each HeldFits held → Each HeldFits (placed x held)
   placed_fits x [] one all = (one, tt)
@@ -113,29 +113,29 @@ module _ (w : World) where
   survivors_fit [] all = tt
   survivors_fit (x ∷ held) all = (all.0, survivors_fit held all.1)
 
-  requests_fit : (held : List HeldRequest) → Each HeldFits held → Each (IsAsked w) (map (λ x. x.request) held)
+  requests_fit : (held : List HeldRequest) → Each HeldFits held → Each (IsOfClient w) (map (λ x. x.request) held)
   requests_fit [] all = tt
   requests_fit (x ∷ held) all = (all.0, requests_fit held all.1)
 
-  sorted_fits : (rs : List Request) (r : Request) → Each (IsAsked w) rs → IsAsked w r → Each (IsAsked w) (sorted_in rs r)
+  sorted_fits : (rs : List Request) (r : Request) → Each (IsOfClient w) rs → IsOfClient w r → Each (IsOfClient w) (sorted_in rs r)
   sorted_fits [] r all one = (one, tt)
-  sorted_fits (s ∷ rest) r all one = cond_both (nat_lt (least_hash r) (least_hash s)) (r ∷ s ∷ rest) (s ∷ sorted_in rest r) (Each (IsAsked w)) (λ y. (one, all)) (λ y. (all.0, sorted_fits rest r all.1 one))
+  sorted_fits (s ∷ rest) r all one = cond_both (nat_lt (least_hash r) (least_hash s)) (r ∷ s ∷ rest) (s ∷ sorted_in rest r) (Each (IsOfClient w)) (λ y. (one, all)) (λ y. (all.0, sorted_fits rest r all.1 one))
 
-  fold_fits : (sorted rs : List Request) → Each (IsAsked w) sorted → Each (IsAsked w) rs → Each (IsAsked w) (fold sorted_in sorted rs)
+  fold_fits : (sorted rs : List Request) → Each (IsOfClient w) sorted → Each (IsOfClient w) rs → Each (IsOfClient w) (fold sorted_in sorted rs)
   fold_fits sorted [] done all = done
   fold_fits sorted (r ∷ rs) done all = fold_fits (sorted_in sorted r) rs (sorted_fits sorted r done all.0) all.1
 
   module _ (n : ℕ) (me : IsNodeOf w kind.Witness n) (x : WitnessState) (ok : WitnessFits w x) where
-    by_room_fits : (r : Request) → IsAsked w r → (c : Option RequestId) (full : Option ℕ) → WitnessFits w (by_room x r c full).state
+    by_room_fits : (r : Request) → IsOfClient w r → (c : Option RequestId) (full : Option ℕ) → WitnessFits w (by_room x r c full).state
     by_room_fits r asked (Some held) full = suspects_fit r x.held ok
     by_room_fits r asked None (Some set) = ok
     by_room_fits r asked None None = placed_fits (newly_held r) x.held asked ok
 
-    turned_fits : (r : Request) → IsAsked w r → (o : Option Reason) → WitnessFits w (unless_turned_away x r o).state
+    turned_fits : (r : Request) → IsOfClient w r → (o : Option Reason) → WitnessFits w (unless_turned_away x r o).state
     turned_fits r asked (Some why) = ok
     turned_fits r asked None = cond_both (holds x r.id) _ _ (λ (a : AfterRecord). WitnessFits w a.state) (λ y. ok) (λ y. by_room_fits r asked (conflict x r) (full_set x r))
 
-    hold_fits : (epoch : ℕ) (r : Request) → IsAsked w r → WitnessFits w (hold x epoch r).state
+    hold_fits : (epoch : ℕ) (r : Request) → IsOfClient w r → WitnessFits w (hold x epoch r).state
     unfolding hold
     hold_fits epoch r asked = turned_fits r asked (turned_away x.mode (stranger_to epoch x.epoch))
 

@@ -19,7 +19,7 @@ use Rattle.curp_model.specs.Named.{IsNodeOf}
 use Rattle.curp_model.specs.Ranges.{opening_range}
 use Rattle.curp_model.specs.World.{World}
 use Rattle.curp_facts.specs.Facts.{AtOpening, ByRecovery, ByReplacement, IsGiven, Lists, WasAdopted, WasSent, WasTaken, lists_of_part}
-use Rattle.curp_facts.specs.Names.{AdoptedOk, ConfigurationOk, DoingOk, GivenOk, IsClientNumber, IsMasterOf, IsOf, IsAdoptedMaster, IsCarried, IsToldOf, MovingOk, NextAfter, ManagerSays, OrderOk}
+use Rattle.curp_facts.specs.Names.{AdoptedOk, ConfigurationOk, DoingOk, GivenOk, IsClientNumber, HasMasterNumber, IsOf, IsAdoptedMaster, IsCarried, IsToldOf, MovingOk, NextAfter, ManagerSays, RecoverOrderOk}
 
 -- a world after a step: the header's numbers stay, nodes and numbers grow, and what was sent was sent
 pub record Later (w v : World) : Type 0 where
@@ -77,7 +77,7 @@ module _ {w v : World} (g : Later w v) where
     epoch = (ok.epoch.0, omega (arith, ok.epoch.1, g.epoch));
     version = (ok.version.0, omega (arith, ok.version.1, g.version));
     master = of_later kind.Master l.master ok.master;
-    its_number = subst (λ (s : Shape). IsMasterOf s.parts l) (sym g.shape) ok.its_number;
+    its_number = subst (λ (s : Shape). HasMasterNumber s.parts l) (sym g.shape) ok.its_number;
     backups = Each-weaker (IsOf w kind.Backup) (IsOf v kind.Backup) (of_later kind.Backup) l.backups ok.backups;
     witnesses = Each-weaker (IsOf w kind.Witness) (IsOf v kind.Witness) (of_later kind.Witness) l.witnesses ok.witnesses;
     many_backups = subst (λ (s : Shape). length l.backups ≡ s.f) (sym g.shape) ok.many_backups;
@@ -86,7 +86,7 @@ module _ {w v : World} (g : Later w v) where
     witnesses_differ = ok.witnesses_differ;
   }
 
-  order_later : (node : NodeId) (o : Recover) → OrderOk w node o → OrderOk v node o
+  order_later : (node : NodeId) (o : Recover) → RecoverOrderOk w node o → RecoverOrderOk v node o
   order_later node o ok = record {
     before = ok.before;
     was = adopted_later ok.before ok.was;

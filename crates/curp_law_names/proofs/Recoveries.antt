@@ -17,7 +17,7 @@ use Rattle.curp_order.specs.declared.Event.{Event}
 use Rattle.curp_model.specs.Manager.{Attempted, Recovering, after_recover_numbers, install_on, part_at, recover, recover_messages, recover_order, recovers, start_on}
 use Rattle.curp_model.specs.World.{World}
 use Rattle.curp_facts.specs.Facts.{ByRecovery, IsAmong, IsGiven, Lists, WasSent, lists_of_order, lists_of_part}
-use Rattle.curp_facts.specs.Names.{Agree, GivenOk, IsOf, Names, OrderOk}
+use Rattle.curp_facts.specs.Names.{Agree, GivenOk, IsOf, Names, RecoverOrderOk}
 use Rattle.curp_law_names.proofs.Keeps.{numbered_now}
 use Rattle.curp_law_names.proofs.Later.{Later, adopted_later}
 use Rattle.curp_base.proofs.Numbered.{place as place_of}
@@ -106,7 +106,7 @@ module _ {w : World} (n : Names w) (p : ℕ) (c : PartConfig) (here : numbered w
   given : IsGiven after its
   given = ByRecovery node o sent
 
-  order_ok : OrderOk after node o
+  order_ok : RecoverOrderOk after node o
   order_ok = record {
     before = lists_of_part c;
     was = adopted_later later (lists_of_part c) (n.top c (numbered_now n p c here)).was;

@@ -32,15 +32,15 @@ use Rattle.curp_model.specs.Named.{IsNodeOf}
 use Rattle.curp_model.specs.Recovery.{Asking, Fresh, MasterStage, RecoveryPhase, RecoveryState, Recovering, Replayed, Serving, Storing, Waiting, again_in, all_complete, append_answered, appends_whole, both_there, completed_by, fence_answered, fence_of, freeze_of, log_comes, master_input, master_ordered, next_storing, on_fresh, on_master, on_recover, on_recovering, recovered_message, recovery_ordered, replay, replays, requests_come, serves, stored_comes, turns_away, turns_read_away, unanswered_log, unanswered_requests, with_complete}
 use Rattle.curp_model.specs.World.{World}
 use Rattle.curp_facts.specs.Facts.{ByRecovery, IsGiven, WasSent, lists_of_order}
-use Rattle.curp_facts.specs.Names.{IsOf, Names, OrderOk}
-use Rattle.curp_facts.specs.Fits.{BodyFits, EntryAsked, IsAsked, LogThere, MasterFits, PhaseFits, RecoveringFits, ReplyAsked, RequestsThere, sender_kind}
+use Rattle.curp_facts.specs.Names.{IsOf, Names, RecoverOrderOk}
+use Rattle.curp_facts.specs.Fits.{BodyFits, EntryAsked, IsOfClient, LogThere, MasterFits, PhaseFits, RecoveringFits, ReplyAsked, RequestsThere, sender_kind}
 use Rattle.curp_law_names.proofs.Clients.{Arrives, is_manager}
 use Rattle.curp_law_names.proofs.Keepers.{AllSaid, Said}
 use Rattle.curp_law_names.proofs.Lists.{among_each, each_among}
 use Rattle.curp_law_names.proofs.Servings.{asked_by, master_said, refuse_said, serving_hears, serving_told}
 
 -- a replay adds requests that are asked
-replay_fits : (w : World) (lo hi : ℕ) (rs : List Request) (log : List Entry) → Each (EntryAsked w) log → Each (IsAsked w) rs → Each (EntryAsked w) (replay lo hi log rs)
+replay_fits : (w : World) (lo hi : ℕ) (rs : List Request) (log : List Entry) → Each (EntryAsked w) log → Each (IsOfClient w) rs → Each (EntryAsked w) (replay lo hi log rs)
 replay_fits w lo hi [] log ok all = ok
 replay_fits w lo hi (r ∷ rs) log ok all = cond_both (replays (meaning lo hi log) r) (replay lo hi (log ++ Op r 0 ∷ []) rs) (replay lo hi log rs) (Each (EntryAsked w))
     (λ y. replay_fits w lo hi rs (log ++ Op r 0 ∷ []) (Each-append (EntryAsked w) log _ ok (all.0, tt)) all.1)
@@ -59,7 +59,7 @@ module _ (w : World) (n : Names w) (k : ℕ) (me : IsNodeOf w kind.Master k) whe
   Ordered o = WasSent w (says manager_node (master_node k) (body.Recover o))
 
   module _ (o : Recover) (sent : Ordered o) where
-    order_ok : OrderOk w (master_node k) o
+    order_ok : RecoverOrderOk w (master_node k) o
     order_ok = n.manager_says (master_node k) (body.Recover o) sent
 
     given : IsGiven w (lists_of_order (master_node k) o)
@@ -114,7 +114,7 @@ module _ (w : World) (n : Names w) (k : ℕ) (me : IsNodeOf w kind.Master k) whe
     log_goes from entries all p (Storing r) ok its = (record { ordered = sent; phase = ok }, tt)
     log_goes from entries all p (Waiting r) ok its = (record { ordered = sent; phase = ok }, tt)
 
-    requests_goes : (from : NodeId) (rs : List Request) → Each (IsAsked w) rs → (p q : RecoveryPhase) → PhaseFits w p → PhaseFits w q → Goes (requests_come k (at p) from rs q)
+    requests_goes : (from : NodeId) (rs : List Request) → Each (IsOfClient w) rs → (p q : RecoveryPhase) → PhaseFits w p → PhaseFits w q → Goes (requests_come k (at p) from rs q)
     requests_goes from rs all p (Asking log None) ok its = cond_both (same_node from o.witness) _ _ Goes (λ y. both_goes log (Some rs) its.0 all) (λ y. (record { ordered = sent; phase = ok }, tt))
     requests_goes from rs all p (Asking log (Some requests)) ok its = (record { ordered = sent; phase = ok }, tt)
     requests_goes from rs all p (Storing r) ok its = (record { ordered = sent; phase = ok }, tt)
@@ -146,7 +146,7 @@ module _ (w : World) (n : Names w) (k : ℕ) (me : IsNodeOf w kind.Master k) whe
   turned_fits : (m : MasterStage) → MasterFits w k m → (id : RequestId) → IsNodeOf w kind.Client id.client → Fits (turns_away k m id)
   turned_fits m ok id asked = (ok, (refuse_said w k me id refusal.Switching asked, tt))
 
-  turned_read_fits : (m : MasterStage) → MasterFits w k m → (r : Request) → IsAsked w r → Fits (turns_read_away k m r)
+  turned_read_fits : (m : MasterStage) → MasterFits w k m → (r : Request) → IsOfClient w r → Fits (turns_read_away k m r)
   turned_read_fits m ok r asked = cond_both (is_update r.command) _ _ Fits (λ y. (ok, tt)) (λ y. turned_fits m ok r.id asked)
 
   fresh_fits : (from to : NodeId) (b : Body) → IsOf w (sender_kind b) from → BodyFits w from to b → to ≡ master_node k → WasSent w (says from to b) → Fits (on_fresh k b)

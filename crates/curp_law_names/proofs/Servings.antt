@@ -45,7 +45,7 @@ use Rattle.curp_model.specs.World.{World}
 use Rattle.curp_facts.specs.Facts.{ByReplacement, Lists, WasSent}
 use Rattle.curp_facts.specs.Kept.{lists_of_master}
 use Rattle.curp_facts.specs.Names.{IsOf, Names}
-use Rattle.curp_facts.specs.Fits.{BodyFits, EntryAsked, IsAsked, MessageFits, NextSent, ServesBy, ServingFits, SuspectsAsked, sender_kind}
+use Rattle.curp_facts.specs.Fits.{BodyFits, EntryAsked, IsOfClient, MessageFits, NextSent, ServesBy, ServingFits, SuspectsAsked, sender_kind}
 use Rattle.curp_law_names.proofs.Clients.{is_manager}
 use Rattle.curp_law_names.proofs.Keepers.{AllSaid, Said}
 use Rattle.curp_law_names.proofs.Lists.{among_each, each_among}
@@ -155,19 +155,19 @@ module _ (w : World) (n : Names w) (k : ℕ) (me : IsNodeOf w kind.Master k) whe
   free_fits m index true ok = ok
   free_fits m index false ok = ok
 
-  executes_goes : (m : MasterState) → ServingFits w k m → (wish : Wish) (r : Request) → IsAsked w r → (b : Bool) → Goes (executes k m wish r b)
+  executes_goes : (m : MasterState) → ServingFits w k m → (wish : Wish) (r : Request) → IsOfClient w r → (b : Bool) → Goes (executes k m wish r b)
   executes_goes m ok AtOnce r asked true = let after = push_fits m ok (Op r r.first) asked in (after, (reply_said (marked_free (pushed m r r.first) (length m.log) true) after false r.id _ asked, tt))
   executes_goes m ok AtOnce r asked false = holds_goes (pushed m r r.first) (push_fits m ok (Op r r.first) asked) (length m.log)
   executes_goes m ok WhenSynced r asked b = holds_goes (marked_free (pushed m r r.first) (length m.log) b) (free_fits (pushed m r r.first) (length m.log) b (push_fits m ok (Op r r.first) asked)) (length m.log)
 
-  carries_goes : (m : MasterState) → ServingFits w k m → (wish : Wish) (r : Request) → IsAsked w r → (v : Verdict) → Goes (carries_out k m wish r v)
+  carries_goes : (m : MasterState) → ServingFits w k m → (wish : Wish) (r : Request) → IsOfClient w r → (v : Verdict) → Goes (carries_out k m wish r v)
   carries_goes m ok wish r asked (Deny why) = (ok, (refuse_said w k me r.id why asked, tt))
   carries_goes m ok wish r asked (Tell a) = (ok, (reply_said m ok true r.id a asked, tt))
   carries_goes m ok wish r asked (TellAgain a) = (ok, (reply_said m ok false r.id a asked, tt))
   carries_goes m ok wish r asked (HoldBack index) = holds_goes m ok index
   carries_goes m ok wish r asked Execute = executes_goes m ok wish r asked (is_clean m r.command)
 
-  update_goes : (m : MasterState) → ServingFits w k m → (wish : Wish) (ask : Ask) → IsAsked w ask.request → Goes (on_update k m wish ask)
+  update_goes : (m : MasterState) → ServingFits w k m → (wish : Wish) (ask : Ask) → IsOfClient w ask.request → Goes (on_update k m wish ask)
   unfolding on_update
   update_goes m ok wish ask asked = carries_goes m ok wish ask.request asked (verdict m wish ask)
 
@@ -180,10 +180,10 @@ module _ (w : World) (n : Names w) (k : ℕ) (me : IsNodeOf w kind.Master k) whe
     captured = m.captured + 1;
   }
 
-  captures_goes : (m : MasterState) → ServingFits w k m → (r : Request) (key : List ℕ) → IsAsked w r → Goes (captures_read k m r key)
+  captures_goes : (m : MasterState) → ServingFits w k m → (r : Request) (key : List ℕ) → IsOfClient w r → Goes (captures_read k m r key)
   captures_goes m ok r key asked = round_goes (captured_by m r key) (record { given = ok.given; next = ok.next; its_lo = ok.its_lo; its_hi = ok.its_hi; entries = ok.entries; reads = Each-append _ m.captures _ ok.reads (asked, tt) })
 
-  read_goes : (m : MasterState) → ServingFits w k m → (ask : Ask) → IsAsked w ask.request → Goes (on_read k m ask)
+  read_goes : (m : MasterState) → ServingFits w k m → (ask : Ask) → IsOfClient w ask.request → Goes (on_read k m ask)
   unfolding on_read
   read_goes m ok ask asked = by_command ask.request.command
     where
@@ -195,7 +195,7 @@ module _ (w : World) (n : Names w) (k : ℕ) (me : IsNodeOf w kind.Master k) whe
       by_command (Get key) = by_refusal key (read_refusal m ask)
       by_command _ = (ok, tt)
 
-  glance_goes : (m : MasterState) → ServingFits w k m → (ask : Ask) → IsAsked w ask.request → Goes (on_glance k m ask)
+  glance_goes : (m : MasterState) → ServingFits w k m → (ask : Ask) → IsOfClient w ask.request → Goes (on_glance k m ask)
   unfolding on_glance
   glance_goes m ok ask asked = by_command ask.request.command
     where
@@ -234,13 +234,13 @@ module _ (w : World) (n : Names w) (k : ℕ) (me : IsNodeOf w kind.Master k) whe
 
   -- ---- suspects
 
-  treated_fits : (m : MasterState) → ServingFits w k m → (r : Request) → IsAsked w r → (c : Check) → ServingFits w k (treated m r c)
+  treated_fits : (m : MasterState) → ServingFits w k m → (r : Request) → IsOfClient w r → (c : Check) → ServingFits w k (treated m r c)
   treated_fits m ok r asked (Known a index) = ok
   treated_fits m ok r asked (Stale first) = ok
   treated_fits m ok r asked Expired = ok
   treated_fits m ok r asked New = cond_both (owns_all (state_of m).owned (hashes r.command)) _ _ (ServingFits w k) (λ y. push_fits m ok (Op r 0) asked) (λ y. ok)
 
-  treat_fits : (rs : List Request) (m : MasterState) → ServingFits w k m → Each (IsAsked w) rs → ServingFits w k (treat m rs)
+  treat_fits : (rs : List Request) (m : MasterState) → ServingFits w k m → Each (IsOfClient w) rs → ServingFits w k (treat m rs)
   treat_fits [] m ok all = ok
   treat_fits (r ∷ rs) m ok all = treat_fits rs (treated m r (check (state_of m).table r.id)) (treated_fits m ok r all.0 (check (state_of m).table r.id)) all.1
 

@@ -12,7 +12,7 @@ use Rattle.curp_model.specs.Manager.{Shape, opening_config}
 use Rattle.curp_model.specs.World.{World, messages}
 use Rattle.curp_facts.specs.Facts.{AtOpening, ByRecovery, ByReplacement, IsGiven, Lists, WasAdopted, WasSent}
 use Rattle.curp_facts.specs.Invariant.{Invariant}
-use Rattle.curp_facts.specs.Names.{AdoptedOk, Names, OrderOk, PrepareOk}
+use Rattle.curp_facts.specs.Names.{AdoptedOk, Names, RecoverOrderOk, PrepareOk}
 use Rattle.curp_law_names.proofs.Later.{Later, adopted_later}
 use Rattle.curp_law_pairs.specs.Adopting.{Adopts}
 use Rattle.curp_facts.specs.Predecessors.{Predecessor, Predecessors}
@@ -28,7 +28,7 @@ module _ {w v : World} (names : Names w) (later_names : Names v) (s : Later w v)
   first_given : (l : Lists) → IsGiven v l → l.version ≡ 1 → IsGiven w l
   first_given _ (AtOpening k c at) one = AtOpening k c (subst (λ (x : Shape). At (opening_config x).parts k c) s.shape at)
   first_given _ (ByRecovery node o sent) one =
-      let home : OrderOk v node o = later_names.manager_says node (body.Recover o) sent in
+      let home : RecoverOrderOk v node o = later_names.manager_says node (body.Recover o) sent in
       absurd (omega (arith, one, home.older, (later_names.given home.before home.was.given).version.0))
   first_given _ (ByReplacement old p before sent) one =
       let home : PrepareOk v old.master p = later_names.manager_says old.master (body.Prepare p) sent in

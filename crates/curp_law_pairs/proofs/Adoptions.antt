@@ -15,7 +15,7 @@ use Rattle.curp_facts.specs.Facts.{IsAmong, Lists, WasAdopted, hi_of, lo_of}
 use Rattle.curp_facts.specs.Invariant.{Invariant}
 use Rattle.curp_facts.specs.Kept.{AdoptionOk, AdoptionsOk}
 use Rattle.curp_facts.specs.Said.{RecoveredSaid}
-use Rattle.curp_facts.specs.Names.{Names, OrderOk}
+use Rattle.curp_facts.specs.Names.{Names, RecoverOrderOk}
 use Rattle.curp_law_names.proofs.Lists.{each_among}
 use Rattle.curp_facts.specs.Predecessors.{Predecessor, Predecessors}
 use Rattle.curp_law_pairs.proofs.Lists.{order_first}
@@ -29,7 +29,7 @@ module _ {w : World} (names : Names w) (inv : Invariant w) where
     same_order : ok.holds.order ≡ p.order
     same_order = names.one_order l.master ok.holds.order p.order ok.holds.sent p.ordered
 
-    home : OrderOk w l.master ok.holds.order
+    home : RecoverOrderOk w l.master ok.holds.order
     home = names.manager_says l.master (body.Recover ok.holds.order) ok.holds.sent
 
     its_part : ok.holds.order.part ≡ l.part

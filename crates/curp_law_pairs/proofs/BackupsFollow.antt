@@ -13,7 +13,7 @@ use Rattle.curp_model.specs.World.{World}
 use Rattle.curp_facts.specs.Facts.{IsAmong, IsGiven, Lists, Logged, phase_log}
 use Rattle.curp_facts.specs.Invariant.{Invariant}
 use Rattle.curp_facts.specs.Kept.{BackupsFollow, KnowsNoMore}
-use Rattle.curp_facts.specs.Nodes.{AcknowledgedOk, RecoveringOk, ReplayedOk, ServingOk, StageOk}
+use Rattle.curp_facts.specs.Nodes.{AcknowledgedOk, RecovererOk, ReplayedOk, ServingOk, StageOk}
 use Rattle.curp_facts.specs.Reach.{HasStored}
 use Rattle.curp_facts.specs.Names.{Names}
 use Rattle.curp_law_pairs.proofs.Logs.{begins}
@@ -60,7 +60,7 @@ module _ {w : World} (names : Names w) (inv : Invariant w) where
     by_phase : (s : RecoveryState) (r : Replayed) → IsMaster w l.master (Recovering s) → (s.phase ≡ Storing r) ⊎ (s.phase ≡ Waiting r)
         → is_among node r.complete ≡ true → IsPrefix r.log b.log
     by_phase s r recovers phase found =
-        let ok : RecoveringOk w l.master s = inv.masters l.master (Recovering s) recovers in
+        let ok : RecovererOk w l.master s = inv.masters l.master (Recovering s) recovers in
         elim phase [
           | inl storing ↦ complete s r recovers (subst (StageOk w s) storing ok.stage) (ap phase_log storing) found
           | inr waiting ↦ complete s r recovers ((subst (StageOk w s) waiting ok.stage).0) (ap phase_log waiting) found

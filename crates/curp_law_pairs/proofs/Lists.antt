@@ -13,7 +13,7 @@ use Rattle.curp_facts.specs.Facts.{AtOpening, ByRecovery, ByReplacement, IsGiven
 use Rattle.curp_facts.specs.Invariant.{Invariant}
 use Rattle.curp_facts.specs.Reach.{IsReady}
 use Rattle.curp_facts.specs.Said.{AdoptedSaid}
-use Rattle.curp_facts.specs.Names.{Names, OrderOk, PrepareOk}
+use Rattle.curp_facts.specs.Names.{Names, RecoverOrderOk, PrepareOk}
 use Rattle.curp_facts.specs.Predecessors.{Predecessors}
 use Rattle.curp_law_pairs.proofs.Words.{said}
 use Rattle.curp_base.proofs.Lists.{at_mapped}
@@ -33,7 +33,7 @@ module _ {w : World} (names : Names w) where
       go : (n : ℕ) (l : Lists) → IsGiven w l → WasSent w (says manager_node l.master (body.Recover o)) → l.version < n → o.version ≤ l.version
       go zero l given sent low = absurd (omega (arith, low))
       go (suc n) _ (AtOpening k c at) sent low =
-          let home : OrderOk w c.master o = names.manager_says c.master (body.Recover o) sent in
+          let home : RecoverOrderOk w c.master o = names.manager_says c.master (body.Recover o) sent in
           let agree = names.agree (lists_of_part c) (lists_of_order c.master o) (AtOpening k c at) (ByRecovery c.master o sent) in
           let ok = names.given home.before home.was.given in
           absurd (omega (arith, opening_epoch w k c at, (agree.by_master refl).1, home.earlier, ok.epoch.0))

@@ -17,7 +17,7 @@ use Rattle.curp_model.specs.Recovery.{Asking, Fresh, MasterStage, Recovering, Re
 use Rattle.curp_model.specs.World.{World}
 use Rattle.curp_facts.specs.Entries.{EntryOk, LogOk}
 use Rattle.curp_facts.specs.Facts.{ByRecovery, HasLog, IsAmong, IsGiven, Lists, Logged, WasAdopted, WasSent, WasTaken, hi_of, lists_of_order, lo_of, node_log, phase_log}
-use Rattle.curp_facts.specs.Kept.{LogsOk, lists_of_master}
+use Rattle.curp_facts.specs.Kept.{LogsAreLogs, lists_of_master}
 use Rattle.curp_facts.specs.Invariant.{Invariant}
 use Rattle.curp_facts.specs.Nodes.{MasterOk, StageOk}
 use Rattle.curp_facts.specs.Reach.{HasMany, Reach}
@@ -93,5 +93,5 @@ module _ {w : World} (names : Names w) (inv : Invariant w) where
       Each-at (HasMany w n) l.backups (reach l (ready names inv l was) refl above) named.place node named.stands
 
   -- so all masters' logs are logs
-  pub logs_ok : LogsOk w
+  pub logs_ok : LogsAreLogs w
   logs_ok l given its has = (log_ok l given its has).is_log

@@ -19,7 +19,7 @@ use Rattle.curp_model.specs.Backup.{BackupState}
 use Rattle.curp_model.specs.Log.{Stands}
 use Rattle.curp_model.specs.Named.{IsBackup, IsNode, IsNodeOf}
 use Rattle.curp_model.specs.World.{World, messages}
-use Rattle.curp_facts.specs.Facts.{AcceptedOk, AppendAnswerOk, BodyOk, HasLog, IsAmong, MessageOk, ReplyOk, Served, SyncedOk, WasAdopted, hi_of, lo_of}
+use Rattle.curp_facts.specs.Facts.{AcceptedOk, AppendAnswerOk, BodyOk, HasLog, IsAmong, MessageOk, ReplyOk, HasServed, SyncedOk, WasAdopted, hi_of, lo_of}
 use Rattle.curp_facts.specs.Invariant.{Invariant}
 use Rattle.curp_facts.specs.Reach.{Reach, SyncedSaid}
 use Rattle.curp_facts.specs.Said.{AcceptedSaid, AppendHolds, GcHolds, IsGiveFrom, IsTakeOf, ReplyHolds, ReplySaid, Says}
@@ -57,7 +57,7 @@ accepted_ok from to a ok = elim ok.kept [
 ]
 
 -- a collection comes from a master that has served
-gc_served : {w : World} (place : ℕ) (from to : NodeId) (g : Gc) → GcHolds w place from to g → Served w from g.epoch
+gc_served : {w : World} (place : ℕ) (from to : NodeId) (g : Gc) → GcHolds w place from to g → HasServed w from g.epoch
 gc_served {w} place from to g ok = record {
   version = ok.lists.version;
   speaks = record { lists = ok.lists; adopted = was; its_master = ok.its_master; its_epoch = ok.its_epoch; its_version = refl };

@@ -14,7 +14,7 @@ use Rattle.curp_facts.specs.Configs.{Configs}
 use Rattle.curp_facts.specs.Facts.{AttemptOk, AttemptWas, ConfigOk, EntryWas, IsAdoptedNow, PhaseOk, SaidOk, lists_of_part}
 use Rattle.curp_facts.specs.Evidence.{EvidenceOk, IsAttempt}
 use Rattle.curp_facts.specs.Invariant.{Invariant}
-use Rattle.curp_facts.specs.Nodes.{MayCome, RecoveringOk, StageOk}
+use Rattle.curp_facts.specs.Nodes.{MayCome, RecovererOk, StageOk}
 use Rattle.curp_facts.specs.Names.{Names}
 use Rattle.curp_facts.specs.Fits.{Nodes}
 use Rattle.curp_law_pairs.specs.GivenStand.{GivenStand}
@@ -26,7 +26,7 @@ use Rattle.curp_base.proofs.Numbered.{at_place}
 module _ {w : World} (names : Names w) (inv : Invariant w) where
   -- a recovery that has a log replayed it from the two that its order named
   recoveries : (node : NodeId) (s : RecoveryState) → IsMaster w node (recovery.Recovering s) → PhaseOk w s s.phase
-  recoveries node s is = let ok : RecoveringOk w node s = inv.masters node (recovery.Recovering s) is in go s.phase ok.stage
+  recoveries node s is = let ok : RecovererOk w node s = inv.masters node (recovery.Recovering s) is in go s.phase ok.stage
     where
       go : (p : RecoveryPhase) → StageOk w s p → PhaseOk w s p
       go (Asking log requests) ok = tt

@@ -20,7 +20,7 @@ use Rattle.curp_model.specs.Table.{check}
 use Rattle.curp_model.specs.Witness.{HeldRequest, WitnessState, frozen_requests, holds}
 use Rattle.curp_model.specs.World.{World}
 use Rattle.curp_facts.specs.Entries.{EntryOk, LogOk, UpdateOk}
-use Rattle.curp_facts.specs.Facts.{Collected, HasLog, IsAmong, IsReplayed, IsWitnessed, Lists, Logged, WasAdopted, WasSent, hi_of, lo_of}
+use Rattle.curp_facts.specs.Facts.{WasCollected, HasLog, IsAmong, IsReplayed, IsWitnessed, Lists, Logged, WasAdopted, WasSent, hi_of, lo_of}
 use Rattle.curp_facts.specs.Invariant.{Invariant}
 use Rattle.curp_facts.specs.Kept.{IsCollectable}
 use Rattle.curp_facts.specs.Reach.{EarlySaid, GcSaid, HasMany, Reach}
@@ -95,7 +95,7 @@ module _ {w : World} (names : Names w) (inv : Invariant w) where
 
       module _ (other : NodeId) (named_too : IsAmong other j.witnesses) (x : WitnessState) (its_witness : IsWitness w other x) where
         -- a request that was collected is on each backup
-        collected : (epoch : ℕ) → Collected w other id epoch → Stands lo hi b.log id a
+        collected : (epoch : ℕ) → WasCollected w other id epoch → Stands lo hi b.log id a
         collected epoch c =
             let g : GcHolds w c.sent.place c.node other c.gc = said inv c.node other (body.Gc c.gc) c.sent in
             let home : g.lists.master ≡ j.master = (names.agree g.lists j g.adopted.given adopted.given).by_witness other g.its_witness named_too in

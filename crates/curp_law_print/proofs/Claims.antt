@@ -5,7 +5,7 @@ use Rattle.serde_json.specs.Written.{compact_text}
 use Rattle.curp_base.specs.Words.{At, Each}
 use Rattle.curp_base.proofs.Lists.{at_append, at_within, prefix_back, prefix_push}
 use Rattle.curp_io.specs.Text.{lines_of}
-use Rattle.curp_order.specs.Order.{IsHistory}
+use Rattle.curp_order.specs.Order.{IsHistory, Asked}
 use Rattle.curp_order.specs.declared.Event as order
 use Rattle.curp_script.specs.EventTexts.{claim_lines, event_data, event_line, history_lines, order_lines}
 use Rattle.curp_base.specs.Limits.{line_limit}
@@ -14,7 +14,6 @@ use Rattle.curp_script.specs.declared.event.EventLine.{EventLine}
 use Rattle.curp_script.specs.declared.event.EventLine.TheVariants.{Event, Place}
 use Rattle.curp_check.proofs.Stages.{no_history}
 use Rattle.curp_check.specs.Claim.{ClaimText, Claimed, claim_from, claim_in, claim_limit, may_follow, nothing_claimed, read_on, with_line}
-use Rattle.curp_check.specs.Verdict.{Asked}
 use Rattle.curp_law_print.proofs.Events.{IsEventLine, is_event_line}
 use Rattle.curp_law_print.proofs.Lines.{line_first, not_below}
 use Rattle.curp_law_print.specs.EventRanges.{AskedInRange, EventInRange}

@@ -11,7 +11,7 @@ use Rattle.curp_msg.specs.declared.config.PartConfig.{PartConfig}
 use Rattle.curp_msg.specs.declared.message.Message.{Message}
 use Rattle.curp_model.specs.Client.{Pending}
 use Rattle.curp_model.specs.Master.{AtOnce, MasterState, Open, WhenSynced, by_message, on_read, on_serving, on_update}
-use Rattle.curp_law_quiet.specs.Ways.{Answers, EarlyReply, Gives, MasterGoes, PendsOne, Reads, Syncs, Tells, Updates}
+use Rattle.curp_law_quiet.specs.Ways.{Answers, EarlyReply, Gives, MasterGoes, PendsOne, Reads, Syncs, WillTell, Updates}
 use Rattle.curp_law_quiet.proofs.Pending as pending
 use Rattle.curp_law_quiet.proofs.Rounds.{AllSent, Keeps}
 use Rattle.curp_law_quiet.proofs.Serving.{IsHeard, never_ends, read_waits, serving_keeps}
@@ -48,14 +48,14 @@ module _ (D E : Message → Type 0) (from to : NodeId) (n : ℕ) (m : MasterStat
   ends = never_ends n m bounded serves roomy D from to goes b heard
 
   module _ (p : Pending) (welcome : Welcome m p.request) where
-    update_told : Updates c p.request from to b → Tells E c (on_serving n m from b).state p.request.id
+    update_told : Updates c p.request from to b → WillTell E c (on_serving n m from b).state p.request.id
     update_told it = by b ends sent it
       where
         by : (b : Body) → on_serving n m from b ≡ by_message n m from b → AllSent E (on_serving n m from b)
-            → Updates c p.request from to b → Tells E c (on_serving n m from b).state p.request.id
+            → Updates c p.request from to b → WillTell E c (on_serving n m from b).state p.request.id
         by (body.Update ask) e sent it =
             let w = welcome_too m p.request ask.request it.1 welcome in
-            subst (λ (r : Moved MasterState). Tells E c r.state p.request.id) (sym e) (subst (λ (q : Request). Tells E c (on_update n m AtOnce ask).state q.id) it.1
+            subst (λ (r : Moved MasterState). WillTell E c r.state p.request.id) (sym e) (subst (λ (q : Request). WillTell E c (on_update n m AtOnce ask).state q.id) it.1
             (asked E n m c its_master its_epoch its_version AtOnce ask it.2 it.3 serves w.fine w.owns (subst (AllSent E) e sent)))
         by _ e sent it = absurd it
 

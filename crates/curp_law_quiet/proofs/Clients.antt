@@ -27,7 +27,7 @@ use Rattle.curp_msg.specs.declared.script.Protocol.TheVariants.{One}
 use Rattle.curp_facts.specs.Facts.{IsAmong}
 use Rattle.curp_model.specs.Client.{Accept, Attempt, ClientState, Early, Pending, accepted, asks, attempt_at, early_reply, has_accepted, if_proved, is_told, on_client, proved_answer, rejected, replaced, replied, valued, with_accept, with_early, with_evidence, with_id, without_id}
 use Rattle.curp_model.specs.Master.{MasterState}
-use Rattle.curp_law_quiet.specs.Ways.{Accepts, Answers, EarlyReply, Gives, HasEarly, OnWay, PendingGoes, PendsOne, Reads, Recorded, Records, Rejects, SyncedReply, Syncs, Tells, Updates, Value}
+use Rattle.curp_law_quiet.specs.Ways.{Accepts, Answers, EarlyReply, Gives, HasEarly, OnWay, PendingGoes, PendsOne, Reads, GetsRecorded, Records, Rejects, SyncedReply, Syncs, WillTell, Updates, ValueOf}
 use Rattle.curp_law_quiet.proofs.Lists.{among_first, among_left, among_right}
 use Rattle.curp_law_quiet.proofs.Pending as pending
 use Rattle.curp_law_quiet.proofs.Ways as ways
@@ -175,7 +175,7 @@ module _ (D E : Message → Type 0) (from to : NodeId) (m : MasterState) (c : Pa
               | inl w ↦ inl (ways.carry D E from to (body.Reply r) split (Syncs c p.request) (λ k. k) w)
               | inr a ↦ inr (answers_go a)
             ];
-            recorded = Each-weaker (Recorded D c p) (Recorded E c q) (λ x rec. pending.recorded_on D E from to (body.Reply r) split c p (reply_record p) x rec) c.witnesses u.recorded;
+            recorded = Each-weaker (GetsRecorded D c p) (GetsRecorded E c q) (λ x rec. pending.recorded_on D E from to (body.Reply r) split c p (reply_record p) x rec) c.witnesses u.recorded;
           };
           read = λ is. absurd (cc (is, update));
         }
@@ -198,7 +198,7 @@ module _ (D E : Message → Type 0) (from to : NodeId) (m : MasterState) (c : Pa
       read = λ is. elim (goes.read is) [
         | inl w ↦ inl (ways.carry D E from to (body.Reply r) split (Reads c p.request) (λ k. k) w)
         | inr g ↦ elim g [
-          | inl w ↦ inr (inl (ways.carry D E from to (body.Reply r) split (Value p.request.id) (λ k. k) w))
+          | inl w ↦ inr (inl (ways.carry D E from to (body.Reply r) split (ValueOf p.request.id) (λ k. k) w))
           | inr waits ↦ inr (inr waits)
         ]
       ];
@@ -245,7 +245,7 @@ module _ (D E : Message → Type 0) (from to : NodeId) (m : MasterState) (c : Pa
                   | inl w ↦ inl (ways.carry D E from to (body.Worth v) split (Syncs c p.request) (λ k. k) w)
                   | inr a ↦ inr (answers_go a)
                 ];
-                recorded = Each-weaker (Recorded D c p) (Recorded E c p) (λ x rec. pending.recorded_on D E from to (body.Worth v) split c p (record { records = λ x k. k; accepts = λ x k. k; rejects = λ k. k }) x rec) c.witnesses u.recorded;
+                recorded = Each-weaker (GetsRecorded D c p) (GetsRecorded E c p) (λ x rec. pending.recorded_on D E from to (body.Worth v) split c p (record { records = λ x k. k; accepts = λ x k. k; rejects = λ k. k }) x rec) c.witnesses u.recorded;
               };
               read = λ read. absurd (cc (read, update));
             }
@@ -274,7 +274,7 @@ module _ (D E : Message → Type 0) (from to : NodeId) (m : MasterState) (c : Pa
     accept_ask p = record { updates = λ k. k; syncs = λ k. k; reads = λ k. k }
 
     -- what a witness will say is said, or on its way
-    recorded_by : (p : Pending) (x : NodeId) → Recorded D c p x → Recorded E c (with_it p) x
+    recorded_by : (p : Pending) (x : NodeId) → GetsRecorded D c p x → GetsRecorded E c (with_it p) x
     recorded_by p x (inl has) = inl (accept_stays p.accepts (record { witness = from; epoch = a.epoch }) c.epoch x has)
     recorded_by p x (inr (inl asked)) = inr (inl asked)
     recorded_by p x (inr (inr (inl w))) = inr (inr (inl (ways.carry D E from to (body.Accepted a) split (Records c p.request x) (λ k. k) w)))
@@ -305,7 +305,7 @@ module _ (D E : Message → Type 0) (from to : NodeId) (m : MasterState) (c : Pa
               | inl w ↦ inl (ways.carry D E from to (body.Accepted a) split (Syncs c p.request) (λ k. k) w)
               | inr told ↦ inr (pending.answers_on D E from to (body.Accepted a) split c p m (accept_answer p) told)
             ];
-            recorded = Each-weaker (Recorded D c p) (Recorded E c (with_it p)) (recorded_by p) c.witnesses u.recorded;
+            recorded = Each-weaker (GetsRecorded D c p) (GetsRecorded E c (with_it p)) (recorded_by p) c.witnesses u.recorded;
           };
           read = λ read. absurd (cc (read, update));
         }
@@ -342,8 +342,8 @@ module _ (D E : Message → Type 0) (from to : NodeId) (m : MasterState) (c : Pa
     reject_ask p = record { updates = λ k. k; syncs = λ k. k; reads = λ k. k }
 
     -- it has asked, or asks now
-    recorded_asked : (p q : Pending) → q.asked ≡ true → q.request ≡ p.request → (x : NodeId) → Recorded D c p x
-        → Recorded E c q x
+    recorded_asked : (p q : Pending) → q.asked ≡ true → q.request ≡ p.request → (x : NodeId) → GetsRecorded D c p x
+        → GetsRecorded E c q x
     recorded_asked p q asked same x rec = inr (inl asked)
 
     abbrev asking : Pending → Pending
@@ -363,13 +363,13 @@ module _ (D E : Message → Type 0) (from to : NodeId) (m : MasterState) (c : Pa
             unproved = proved u.unproved;
             told = elim u.told [
               | inl old ↦ inl (early old)
-              | inr way ↦ inr (subst (λ (x : _). OnWay E (Updates c x) ⊎ Tells E c m x.id) (sym same) (elim way [
+              | inr way ↦ inr (subst (λ (x : _). OnWay E (Updates c x) ⊎ WillTell E c m x.id) (sym same) (elim way [
                 | inl w ↦ inl (ways.carry D E from to (body.Rejected r) split (Updates c p.request) (λ k. k) w)
                 | inr tells ↦ inr (pending.tells_on D E from to (body.Rejected r) split c p m (reject_answer p) tells)
               ]))
             ];
             asked = λ was. now update;
-            recorded = Each-weaker (Recorded D c p) (Recorded E c q) (recorded_asked p q asked same) c.witnesses u.recorded;
+            recorded = Each-weaker (GetsRecorded D c p) (GetsRecorded E c q) (recorded_asked p q asked same) c.witnesses u.recorded;
           };
       read = λ is.
           let read : is_update p.request.command ≡ false = subst (λ (x : _). is_update x.command ≡ false) same is in

@@ -14,8 +14,8 @@ use Rattle.curp_msg.specs.declared.message.Message.{Message}
 use Rattle.curp_facts.specs.Facts.{IsAmong}
 use Rattle.curp_model.specs.Client.{Attempt, Pending, all_accepted, attempt_at, has_accepted, proved_answer, proves}
 use Rattle.curp_model.specs.Master.{Captured, MasterState, from_backup}
-use Rattle.curp_law_quiet.specs.Ways.{Answers, CaptureGoes, Covered, Covers, Gives, HasEarly, HeldGoes, Kind, MasterGoes, OnWay, PendingGoes, PendsOne, ReadGoes, Recorded, Tells, Updates}
-use Rattle.curp_law_quiet.specs.Ways.Covers.{Comes, Goes, Known}
+use Rattle.curp_law_quiet.specs.Ways.{Answers, CaptureGoes, Covered, WillCover, Gives, HasEarly, HeldGoes, Kind, MasterGoes, OnWay, PendingGoes, PendsOne, ReadGoes, GetsRecorded, WillTell, Updates}
+use Rattle.curp_law_quiet.specs.Ways.WillCover.{Comes, Goes, Known}
 use Rattle.curp_law_quiet.proofs.Acks.{all_had, all_synced}
 use Rattle.curp_law_quiet.proofs.Lists.{all_tested, among_filter, among_none, each_of}
 
@@ -31,9 +31,9 @@ module _ (D : Message → Type 0) (none : (x : Message) → D x → ⊥) (n : �
 
   all_known : (long round : ℕ) → Covered D n m long round
       → Each (λ b. (long ≤ (from_backup m.acknowledged b).length) × (round ≤ (from_backup m.acknowledged b).round)) m.backups
-  all_known long round all = Each-weaker (λ b. Covers D m.acknowledged m.epoch n b long round) (λ b. (long ≤ (from_backup m.acknowledged b).length) × (round ≤ (from_backup m.acknowledged b).round)) one m.backups all
+  all_known long round all = Each-weaker (λ b. WillCover D m.acknowledged m.epoch n b long round) (λ b. (long ≤ (from_backup m.acknowledged b).length) × (round ≤ (from_backup m.acknowledged b).round)) one m.backups all
     where
-      one : (b : NodeId) → Covers D m.acknowledged m.epoch n b long round
+      one : (b : NodeId) → WillCover D m.acknowledged m.epoch n b long round
           → (long ≤ (from_backup m.acknowledged b).length) × (round ≤ (from_backup m.acknowledged b).round)
       one b (Known l r) = (l, r)
       one b (Goes w) = absurd (none w.0 w.1)
@@ -58,7 +58,7 @@ module _ (D : Message → Type 0) (none : (x : Message) → D x → ⊥) (n : �
   no_answers id (inl w) = none w.0 w.1
   no_answers id (inr h) = none_held h.index h.held
 
-  no_tells : (c : PartConfig) (id : RequestId) → Tells D c m id → ⊥
+  no_tells : (c : PartConfig) (id : RequestId) → WillTell D c m id → ⊥
   no_tells c id (inl a) = no_answers id a
   no_tells c id (inr w) = none w.0 w.1
 
@@ -94,7 +94,7 @@ module _ (D : Message → Type 0) (none : (x : Message) → D x → ⊥) (n : �
         not_asked : is_update p.request.command ≡ true → p.asked ≡ true → ⊥
         not_asked update asked = elim ((pends.update update).asked asked) [ inl w ↦ none w.0 w.1 | inr a ↦ no_answers p.request.id a ]
 
-        has : is_update p.request.command ≡ true → (x : NodeId) → Recorded D c p x
+        has : is_update p.request.command ≡ true → (x : NodeId) → GetsRecorded D c p x
             → has_accepted p.accepts c.epoch x ≡ true
         has update x (inl did) = did
         has update x (inr (inl asked)) = absurd (not_asked update asked)
@@ -103,8 +103,8 @@ module _ (D : Message → Type 0) (none : (x : Message) → D x → ⊥) (n : �
         has update x (inr (inr (inr (inr w)))) = absurd (none w.0 w.1)
 
         by_told : is_update p.request.command ≡ true
-            → HasEarly p c ⊎ (OnWay D (Updates c p.request) ⊎ Tells D c m p.request.id) → ⊥
-        by_told update (inl early) = proved early (Each-weaker (Recorded D c p) (λ x. has_accepted p.accepts c.epoch x ≡ true) (has update) c.witnesses (pends.update update).recorded) (pends.update update).unproved
+            → HasEarly p c ⊎ (OnWay D (Updates c p.request) ⊎ WillTell D c m p.request.id) → ⊥
+        by_told update (inl early) = proved early (Each-weaker (GetsRecorded D c p) (λ x. has_accepted p.accepts c.epoch x ≡ true) (has update) c.witnesses (pends.update update).recorded) (pends.update update).unproved
         by_told update (inr (inl w)) = none w.0 w.1
         by_told update (inr (inr t)) = no_tells c p.request.id t
 

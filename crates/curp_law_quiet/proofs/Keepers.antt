@@ -20,8 +20,8 @@ use Rattle.curp_model.specs.Backup.{AfterAppend, BackupState, append, is_install
 use Rattle.curp_model.specs.Client.{Pending}
 use Rattle.curp_model.specs.Master.{Acknowledged, MasterState}
 use Rattle.curp_model.specs.Witness.{WitnessState, hold, on_witness, verdict_body}
-use Rattle.curp_law_quiet.specs.Ways.{Accepts, Appends, CaptureGoes, Covered, Covers, HeldGoes, IsStored, MasterGoes, OnWay, PendsOne, Reads, Recorded, Records, Rejects, Stores, Syncs, Updates}
-use Rattle.curp_law_quiet.specs.Ways.Covers.{Comes, Goes, Known}
+use Rattle.curp_law_quiet.specs.Ways.{Accepts, Appends, CaptureGoes, Covered, WillCover, HeldGoes, HasStored, MasterGoes, OnWay, PendsOne, Reads, GetsRecorded, Records, Rejects, Stores, Syncs, Updates}
+use Rattle.curp_law_quiet.specs.Ways.WillCover.{Comes, Goes, Known}
 use Rattle.curp_law_quiet.proofs.Lists.{among_first}
 use Rattle.curp_law_quiet.proofs.Pending as pending
 use Rattle.curp_law_quiet.proofs.Ways as ways
@@ -69,10 +69,10 @@ module _ (D E : Message → Type 0) (n : ℕ) (m : MasterState) (number : ℕ) (
     unfolding on_backup
     stored_sent long round low late =
         let is : (append bs a.epoch a.base a.entries).answer ≡ Stored (length (longer bs.log a.base a.entries)) = ap (λ (k : AfterAppend). k.answer) (append_stores bs a.epoch a.base a.entries fence installed gap) in
-        (_, sent _ (among_first _ []), (refl, refl, subst (λ (s : AppendAnswer). IsStored long round a.round s) (sym is) (omega (arith, low, long_enough bs.log a.entries a.base gap), late)))
+        (_, sent _ (among_first _ []), (refl, refl, subst (λ (s : AppendAnswer). HasStored long round a.round s) (sym is) (omega (arith, low, long_enough bs.log a.entries a.base gap), late)))
 
-    cover_stored : (acks : List Acknowledged) (k : NodeId) (long round : ℕ) → Covers D acks m.epoch n k long round
-        → Covers E acks m.epoch n k long round
+    cover_stored : (acks : List Acknowledged) (k : NodeId) (long round : ℕ) → WillCover D acks m.epoch n k long round
+        → WillCover E acks m.epoch n k long round
     cover_stored acks k long round (Known l r) = Known l r
     cover_stored acks k long round (Goes w) = elim (ways.meets D E from to (body.Append a) split (Appends m.epoch k long round) w) [
       | inl it ↦ Comes (subst (λ (z : NodeId). OnWay E (Stores n z long round)) it.0 (stored_sent long round it.2 it.3))
@@ -81,7 +81,7 @@ module _ (D E : Message → Type 0) (n : ℕ) (m : MasterState) (number : ℕ) (
     cover_stored acks k long round (Comes w) = Comes (ways.carry D E from to (body.Append a) split (Stores n k long round) (λ p. p) w)
 
     covered_stored : (long round : ℕ) → Covered D n m long round → Covered E n m long round
-    covered_stored long round all = Each-weaker (λ k. Covers D m.acknowledged m.epoch n k long round) (λ k. Covers E m.acknowledged m.epoch n k long round)
+    covered_stored long round all = Each-weaker (λ k. WillCover D m.acknowledged m.epoch n k long round) (λ k. WillCover E m.acknowledged m.epoch n k long round)
         (λ k c. cover_stored m.acknowledged k long round c) m.backups all
 
     -- what a round was to bring on is brought on
@@ -118,7 +118,7 @@ module _ (D E : Message → Type 0) (m : MasterState) (c : PartConfig) (n number
           by None e = inl (_, e, (refl, mine, ap (λ (q : _). q.id) same, epoch))
           by (Some why) e = inr (_, e, (mine, ap (λ (q : _). q.id) same))
 
-      recorded_by : (p : Pending) (y : NodeId) → Recorded D c p y → Recorded E c p y
+      recorded_by : (p : Pending) (y : NodeId) → GetsRecorded D c p y → GetsRecorded E c p y
       recorded_by p y (inl has) = inl has
       recorded_by p y (inr (inl asked)) = inr (inl asked)
       recorded_by p y (inr (inr (inl w))) = elim (ways.meets D E client own (body.Record r) split (Records c p.request y) w) [

@@ -28,9 +28,9 @@ use Rattle.curp_model.specs.Master.{MasterState}
 use Rattle.curp_model.specs.Recovery.{MasterStage, master_input}
 use Rattle.curp_model.specs.Witness.{WitnessState, witness_input}
 use Rattle.curp_model.specs.World.{World, messages, moves_kind, moves_one, with_backup, with_master, with_witness}
-use Rattle.curp_law_quiet.specs.Calm.{Calm, Due, FitsIn}
+use Rattle.curp_law_quiet.specs.Calm.{Calm, IsDue, FitsIn}
 use Rattle.curp_law_quiet.specs.Grounds.{Grounds}
-use Rattle.curp_law_quiet.specs.Learns.{Brings, ClientLearns, Fetches, IsBehind, Learns}
+use Rattle.curp_law_quiet.specs.Learns.{BringsConfiguration, ClientLearns, Fetches, IsBehindEntry, Learns}
 use Rattle.curp_law_quiet.specs.Ways.{OnWay}
 use Rattle.curp_law_quiet.proofs.Clients.{IsTold}
 use Rattle.curp_law_quiet.proofs.Lists.{among_first}
@@ -113,12 +113,12 @@ module _ (n : ℕ) (from : NodeId) (cl : ClientState) where
 
 module _ (w v : World) (done : ℕ) (x : Message) (at : At (messages w) done x) (did : Delivered w v x) (c : PartConfig)
     (q : ℕ) (m : MasterState) (cl : ClientState) (calm : Calm w done c q m cl) (grounds : Grounds w done c m cl)
-    (behind : IsBehind w c cl) (learns : ClientLearns w done c) where
+    (behind : IsBehindEntry w c cl) (learns : ClientLearns w done c) where
   abbrev D : Message → Type 0
-  D = Due w done
+  D = IsDue w done
 
   abbrev E : Message → Type 0
-  E = Due v (suc done)
+  E = IsDue v (suc done)
 
   same_client : (k : ClientState) → v.clients ≡ k ∷ [] → (k2 : ClientState) → v.clients ≡ k2 ∷ [] → k2 ≡ k
   same_client k a k2 b = cc
@@ -129,19 +129,19 @@ module _ (w v : World) (done : ℕ) (x : Message) (at : At (messages w) done x) 
 
   -- neither was delivered
   carried : (more : List Message) (said : messages v ≡ messages w ++ more) (b : Body) → x.body ≡ b
-      → (Fetches x.from x.to b → ⊥) → ((serial : ℕ) → Brings c serial x.from x.to b → ⊥) → (k : ClientState)
+      → (Fetches x.from x.to b → ⊥) → ((serial : ℕ) → BringsConfiguration c serial x.from x.to b → ⊥) → (k : ClientState)
       → k.config ≡ cl.config → Learns E c k
   carried more said b e f g k same = elim (learns cl calm.client) [
     | inl has ↦ inl (ap (λ (z : Config). z.parts) same ∙ has)
     | inr way ↦ elim way [
       | inl asked ↦ inr (inl (ways.carry D E x.from x.to b (split_as more said b e) Fetches f asked))
-      | inr brings ↦ inr (inr (subst (λ (z : Config). OnWay E (Brings c z.serial)) (sym same) (ways.carry D E x.from x.to b (split_as more said b e) (Brings c cl.config.serial) (g cl.config.serial) brings)))
+      | inr brings ↦ inr (inr (subst (λ (z : Config). OnWay E (BringsConfiguration c z.serial)) (sym same) (ways.carry D E x.from x.to b (split_as more said b e) (BringsConfiguration c cl.config.serial) (g cl.config.serial) brings)))
     ]
   ]
 
   -- something else than the manager and the client
   other_learns : (b : Body) → x.body ≡ b → (x.to.kind ≡ kind.Client → ⊥) → (Fetches x.from x.to b → ⊥)
-      → ((serial : ℕ) → Brings c serial x.from x.to b → ⊥) → ClientLearns v (suc done) c
+      → ((serial : ℕ) → BringsConfiguration c serial x.from x.to b → ⊥) → ClientLearns v (suc done) c
   other_learns b e apart f g k is =
       let same : v.clients ≡ w.clients = did.clients ∙ clients_rest w x.to.kind x.to.number (input.Message x) apart in
       let own : k ≡ cl = same_client cl (same ∙ calm.client) k is in
@@ -149,7 +149,7 @@ module _ (w v : World) (done : ℕ) (x : Message) (at : At (messages w) done x) 
 
   -- the client is told something else
   told_learns : (b : Body) → x.body ≡ b → x.to.kind ≡ kind.Client → IsTold b → NoConfiguration 1 x.from cl b
-      → (Fetches x.from x.to b → ⊥) → ((serial : ℕ) → Brings c serial x.from x.to b → ⊥) → ClientLearns v (suc done) c
+      → (Fetches x.from x.to b → ⊥) → ((serial : ℕ) → BringsConfiguration c serial x.from x.to b → ⊥) → ClientLearns v (suc done) c
   told_learns b e to told other f g k is =
       let moved = client_did w v x cl did (grounds.client x (done, omega arith, at) to) calm.client in
       let own : k ≡ (on_client 1 cl x.from x.body).state = same_client _ moved.clients k is in
@@ -171,7 +171,7 @@ module _ (w v : World) (done : ℕ) (x : Message) (at : At (messages w) done x) 
         | inl has ↦ inl has
         | inr way ↦ elim way [
           | inl asked ↦ inr (inl (ways.carry D E x.from x.to (body.Configuration g) (split_as _ said (body.Configuration g) e) Fetches (λ z. z) asked))
-          | inr brings ↦ inr (inr (ways.carry D E x.from x.to (body.Configuration g) (split_as _ said (body.Configuration g) e) (Brings c cl.config.serial) (λ it. absurd (omega (arith, it.2, ltb-false cl.config.serial g.serial n))) brings))
+          | inr brings ↦ inr (inr (ways.carry D E x.from x.to (body.Configuration g) (split_as _ said (body.Configuration g) e) (BringsConfiguration c cl.config.serial) (λ it. absurd (omega (arith, it.2, ltb-false cl.config.serial g.serial n))) brings))
         ]
       ]
 
@@ -223,5 +223,5 @@ learnt_at_end w c cl is learns = elim (learns cl is) [
   | inr way ↦ elim way [ inl f ↦ absurd (none f.0 f.1) | inr b ↦ absurd (none b.0 b.1) ]
 ]
   where
-    none : (x : Message) → Due w (length (messages w)) x → ⊥
+    none : (x : Message) → IsDue w (length (messages w)) x → ⊥
     none x due = absurd (omega (arith, due.1, at_within (messages w) due.0 x due.2))

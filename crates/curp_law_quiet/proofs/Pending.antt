@@ -9,17 +9,17 @@ use Rattle.curp_msg.specs.declared.config.PartConfig.{PartConfig}
 use Rattle.curp_msg.specs.declared.message.Message.{Message}
 use Rattle.curp_model.specs.Client.{Pending}
 use Rattle.curp_model.specs.Master.{MasterState}
-use Rattle.curp_law_quiet.specs.Ways.{Accepts, Answers, EarlyReply, Gives, OnWay, PendingGoes, PendsOne, ReadGoes, Reads, Recorded, Records, Rejects, SyncedReply, Syncs, Tells, Updates, Value}
+use Rattle.curp_law_quiet.specs.Ways.{Accepts, Answers, EarlyReply, Gives, OnWay, PendingGoes, PendsOne, ReadGoes, Reads, GetsRecorded, Records, Rejects, SyncedReply, Syncs, WillTell, Updates, ValueOf}
 use Rattle.curp_law_quiet.proofs.Ways as ways
 
 module _ (D E : Message → Type 0) (m k : MasterState) (c : PartConfig) (p : Pending) where
   -- what has to go on of what is on its way to master and witnesses
   pub record GoOn : Type 0 where
-    pub told : OnWay D (Updates c p.request) ⊎ Tells D c m p.request.id
-        → OnWay E (Updates c p.request) ⊎ Tells E c k p.request.id
+    pub told : OnWay D (Updates c p.request) ⊎ WillTell D c m p.request.id
+        → OnWay E (Updates c p.request) ⊎ WillTell E c k p.request.id
     pub asked : OnWay D (Syncs c p.request) ⊎ Answers D m p.request.id
         → OnWay E (Syncs c p.request) ⊎ Answers E k p.request.id
-    pub recorded : (x : NodeId) → Recorded D c p x → Recorded E c p x
+    pub recorded : (x : NodeId) → GetsRecorded D c p x → GetsRecorded E c p x
     pub read : is_update p.request.command ≡ false → ReadGoes D m c p → ReadGoes E k c p
 
   -- then the request goes on
@@ -30,7 +30,7 @@ module _ (D E : Message → Type 0) (m k : MasterState) (c : PartConfig) (p : Pe
       unproved = u.unproved;
       told = elim u.told [ inl early ↦ inl early | inr way ↦ inr (on.told way) ];
       asked = λ was. on.asked (u.asked was);
-      recorded = Each-weaker (Recorded D c p) (Recorded E c p) on.recorded c.witnesses u.recorded;
+      recorded = Each-weaker (GetsRecorded D c p) (GetsRecorded E c p) on.recorded c.witnesses u.recorded;
     };
     read = λ is. on.read is (goes.read is);
   }
@@ -49,11 +49,11 @@ pub record NoRecord (from to : NodeId) (b : Body) (c : PartConfig) (p : Pending)
 pub record NoAnswer (from to : NodeId) (b : Body) (c : PartConfig) (p : Pending) : Type 0 where
   pub synced : SyncedReply p.request.id from to b → ⊥
   pub early : EarlyReply c.master c.epoch c.version p.request.id from to b → ⊥
-  pub value : Value p.request.id from to b → ⊥
+  pub value : ValueOf p.request.id from to b → ⊥
 
 module _ (D E : Message → Type 0) (from to : NodeId) (b : Body)
     (split : (x : Message) → D x → (x ≡ says from to b) ⊎ E x) (c : PartConfig) (p : Pending) where
-  pub recorded_on : NoRecord from to b c p → (x : NodeId) → Recorded D c p x → Recorded E c p x
+  pub recorded_on : NoRecord from to b c p → (x : NodeId) → GetsRecorded D c p x → GetsRecorded E c p x
   recorded_on none x (inl has) = inl has
   recorded_on none x (inr (inl asked)) = inr (inl asked)
   recorded_on none x (inr (inr (inl w))) = inr (inr (inl (ways.carry D E from to b split (Records c p.request x) (none.records x) w)))
@@ -65,12 +65,12 @@ module _ (D E : Message → Type 0) (from to : NodeId) (b : Body)
     answers_on none (inl w) = inl (ways.carry D E from to b split (SyncedReply p.request.id) none.synced w)
     answers_on none (inr held) = inr held
 
-    pub tells_on : NoAnswer from to b c p → Tells D c m p.request.id → Tells E c m p.request.id
+    pub tells_on : NoAnswer from to b c p → WillTell D c m p.request.id → WillTell E c m p.request.id
     tells_on none (inl a) = inl (answers_on none a)
     tells_on none (inr w) = inr (ways.carry D E from to b split (EarlyReply c.master c.epoch c.version p.request.id) none.early w)
 
     pub gives_on : NoAnswer from to b c p → Gives D m p.request.id → Gives E m p.request.id
-    gives_on none (inl w) = inl (ways.carry D E from to b split (Value p.request.id) none.value w)
+    gives_on none (inl w) = inl (ways.carry D E from to b split (ValueOf p.request.id) none.value w)
     gives_on none (inr waits) = inr waits
 
     -- nothing of it is delivered

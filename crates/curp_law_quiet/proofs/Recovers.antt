@@ -24,8 +24,8 @@ use Rattle.curp_facts.specs.Facts.{IsAmong}
 use Rattle.curp_model.specs.Log.{is_log}
 use Rattle.curp_model.specs.Recovery.{Asking, RecoveryPhase, RecoveryState, Replayed, Storing, Waiting, all_complete, append_answered, both_there, completed_by, fence_answered, log_comes, on_recover, recovered_message, replay, requests_come, stored_comes, with_complete}
 use Rattle.curp_law_masters.proofs.Lists.{each_among}
-use Rattle.curp_law_quiet.specs.Recovers.{ComesLog, ComesRequests, Completes, Fences, Freezes, GivesLog, GivesRequests, IsGivenLog, PhaseGoes, TellsRecovered}
-use Rattle.curp_law_quiet.specs.Ways.{Appends, IsStored, OnWay, Stores}
+use Rattle.curp_law_quiet.specs.Recovers.{ComesLog, ComesRequests, CompletesBackup, Fences, AsksToFreeze, GivesLog, GivesRequests, IsGivenLog, PhaseGoes, TellsRecovered}
+use Rattle.curp_law_quiet.specs.Ways.{Appends, HasStored, OnWay, Stores}
 use Rattle.curp_law_quiet.proofs.Lists.{all_tested, among_first, among_later, among_map, each_of}
 use Rattle.curp_law_quiet.proofs.Settles.{is_found}
 use Rattle.curp_law_quiet.proofs.Ways as ways
@@ -57,7 +57,7 @@ module _ (E : Message → Type 0) (q : ℕ) (o : Recover) (filled : 1 ≤ length
         refl,
         (
           none_complete o.backups filled,
-          each_among (Completes E q o r) o.backups (λ b among.
+          each_among (CompletesBackup E q o r) o.backups (λ b among.
               inr (inl (_, sent _ (among_map (λ to. says (master_node q) to (body.Append (record { epoch = o.epoch; base = 0; round = 1; entries = r.log }))) b o.backups among), (refl, refl, omega arith, omega arith)))),
         ),
       )
@@ -80,15 +80,15 @@ module _ (D E : Message → Type 0) (q : ℕ) (o : Recover) (filled : 1 ≤ leng
   log_on f g None (inr w) = inr (ways.carry D E from to b split (GivesLog q o) g w)
   log_on f g (Some log) c = tt
 
-  pub requests_on : (Freezes q o from to b → ⊥) → (GivesRequests q o from to b → ⊥)
+  pub requests_on : (AsksToFreeze q o from to b → ⊥) → (GivesRequests q o from to b → ⊥)
       → (requests : Option (List Request)) → ComesRequests D q o requests → ComesRequests E q o requests
-  requests_on f g None (inl w) = inl (ways.carry D E from to b split (Freezes q o) f w)
+  requests_on f g None (inl w) = inl (ways.carry D E from to b split (AsksToFreeze q o) f w)
   requests_on f g None (inr w) = inr (ways.carry D E from to b split (GivesRequests q o) g w)
   requests_on f g (Some requests) c = tt
 
   pub completes_on : ((k : NodeId) (long : ℕ) → Appends o.epoch k long 0 from to b → ⊥)
       → ((k : NodeId) (long : ℕ) → Stores q k long 0 from to b → ⊥) → (r : Replayed) (k : NodeId)
-      → Completes D q o r k → Completes E q o r k
+      → CompletesBackup D q o r k → CompletesBackup E q o r k
   completes_on f g r k (inl did) = inl did
   completes_on f g r k (inr (inl w)) = inr (inl (ways.carry D E from to b split (Appends o.epoch k (length r.log) 0) (f k (length r.log)) w))
   completes_on f g r k (inr (inr w)) = inr (inr (ways.carry D E from to b split (Stores q k (length r.log) 0) (g k (length r.log)) w))
@@ -97,7 +97,7 @@ module _ (D E : Message → Type 0) (q : ℕ) (o : Recover) (filled : 1 ≤ leng
   pub record NoStep : Type 0 where
     pub fences : Fences q o from to b → ⊥
     pub logs : GivesLog q o from to b → ⊥
-    pub freezes : Freezes q o from to b → ⊥
+    pub freezes : AsksToFreeze q o from to b → ⊥
     pub requests : GivesRequests q o from to b → ⊥
     pub appends : (k : NodeId) (long : ℕ) → Appends o.epoch k long 0 from to b → ⊥
     pub stored : (k : NodeId) (long : ℕ) → Stores q k long 0 from to b → ⊥
@@ -105,7 +105,7 @@ module _ (D E : Message → Type 0) (q : ℕ) (o : Recover) (filled : 1 ≤ leng
 
   pub phase_on : NoStep → (p : RecoveryPhase) → PhaseGoes D q o p → PhaseGoes E q o p
   phase_on s (Asking log requests) g = (log_on s.fences s.logs log g.0, requests_on s.freezes s.requests requests g.1, g.2)
-  phase_on s (Storing r) g = (g.0, Each-weaker (Completes D q o r) (Completes E q o r) (completes_on s.appends s.stored r) o.backups g.1)
+  phase_on s (Storing r) g = (g.0, Each-weaker (CompletesBackup D q o r) (CompletesBackup E q o r) (completes_on s.appends s.stored r) o.backups g.1)
   phase_on s (Waiting r) g = ways.carry D E from to b split (TellsRecovered o) s.told g
 
 -- ---- the log comes
@@ -128,7 +128,7 @@ module _ (D E : Message → Type 0) (q : ℕ) (o : Recover) (filled : 1 ≤ leng
       → ((log : Option (List Entry)) (requests : Option (List Request)) → p ≡ Asking log requests → ⊥)
       → PhaseGoes E q o p
   others_on (Asking log requests) g no_asking = absurd (no_asking log requests refl)
-  others_on (Storing r) g no_asking = (g.0, Each-weaker (Completes D q o r) (Completes E q o r) (completes_on D E q o filled from to (body.FenceAnswer a) split (λ k l z. z) (λ k l z. z) r) o.backups g.1)
+  others_on (Storing r) g no_asking = (g.0, Each-weaker (CompletesBackup D q o r) (CompletesBackup E q o r) (completes_on D E q o filled from to (body.FenceAnswer a) split (λ k l z. z) (λ k l z. z) r) o.backups g.1)
   others_on (Waiting r) g no_asking = ways.carry D E from to (body.FenceAnswer a) split (TellsRecovered o) (λ z. z) g
 
   pub log_goes : (s : RecoveryState) → s.order ≡ o → PhaseGoes D q o s.phase
@@ -212,24 +212,24 @@ module _ (D E : Message → Type 0) (q : ℕ) (o : Recover) (filled : 1 ≤ leng
   rests_on : (r : Replayed)
       → ((k : NodeId) → IsAmong k o.backups → Stores q k (length r.log) 0 from to (body.Appended a) → ⊥)
       → PhaseGoes D q o (Storing r) → PhaseGoes E q o (Storing r)
-  rests_on r none g = (g.0, each_among (Completes E q o r) o.backups (λ k among. one k among (Each-of k among)))
+  rests_on r none g = (g.0, each_among (CompletesBackup E q o r) o.backups (λ k among. one k among (Each-of k among)))
     where
-      Each-of : (k : NodeId) → IsAmong k o.backups → Completes D q o r k
-      Each-of k among = each_of (Completes D q o r) o.backups g.1 k among
+      Each-of : (k : NodeId) → IsAmong k o.backups → CompletesBackup D q o r k
+      Each-of k among = each_of (CompletesBackup D q o r) o.backups g.1 k among
 
-      one : (k : NodeId) → IsAmong k o.backups → Completes D q o r k → Completes E q o r k
+      one : (k : NodeId) → IsAmong k o.backups → CompletesBackup D q o r k → CompletesBackup E q o r k
       one k among (inl did) = inl did
       one k among (inr (inl w)) = inr (inl (ways.carry D E from to (body.Appended a) split (Appends o.epoch k (length r.log) 0) (λ z. z) w))
       one k among (inr (inr w)) = inr (inr (ways.carry D E from to (body.Appended a) split (Stores q k (length r.log) 0) (none k among) w))
 
   -- it has the whole log: it is complete from now on
-  more_complete : (r : Replayed) → PhaseGoes D q o (Storing r) → Each (Completes E q o (with_complete r from)) o.backups
-  more_complete r g = each_among (Completes E q o (with_complete r from)) o.backups (λ k among. one k (each_of (Completes D q o r) o.backups g.1 k among))
+  more_complete : (r : Replayed) → PhaseGoes D q o (Storing r) → Each (CompletesBackup E q o (with_complete r from)) o.backups
+  more_complete r g = each_among (CompletesBackup E q o (with_complete r from)) o.backups (λ k among. one k (each_of (CompletesBackup D q o r) o.backups g.1 k among))
     where
       same_log : (with_complete r from).log ≡ r.log
       same_log = cond_both (is_among from r.complete) _ _ (λ (k : Replayed). k.log ≡ r.log) (λ y. refl) (λ n. refl)
 
-      one : (k : NodeId) → Completes D q o r k → Completes E q o (with_complete r from) k
+      one : (k : NodeId) → CompletesBackup D q o r k → CompletesBackup E q o (with_complete r from) k
       one k (inl did) = inl (complete_stays r from k did)
       one k (inr (inl w)) = inr (inl (subst (λ (l : List Entry). OnWay E (Appends o.epoch k (length l) 0)) (sym same_log) (ways.carry D E from to (body.Appended a) split (Appends o.epoch k (length r.log) 0) (λ z. z) w)))
       one k (inr (inr w)) = elim (ways.meets D E from to (body.Appended a) split (Stores q k (length r.log) 0) w) [
@@ -237,7 +237,7 @@ module _ (D E : Message → Type 0) (q : ℕ) (o : Recover) (filled : 1 ≤ leng
         | inr later ↦ inr (inr (subst (λ (l : List Entry). OnWay E (Stores q k (length l) 0)) (sym same_log) later))
       ]
 
-  completes : (k : Replayed) → Each (Completes E q o k) o.backups → AllGo E (completed_by q o k)
+  completes : (k : Replayed) → Each (CompletesBackup E q o k) o.backups → AllGo E (completed_by q o k)
       → Goes E q o (completed_by q o k)
   completes k all sent = by (all_complete o k) refl sent
     where
@@ -264,7 +264,7 @@ module _ (D E : Message → Type 0) (q : ℕ) (o : Recover) (filled : 1 ≤ leng
         where
           none : (k : NodeId) → IsAmong k o.backups → Stores q k (length r.log) 0 from to (body.Appended a) → ⊥
           none k among it =
-              let has : (length r.log ≤ long) × (0 ≤ a.round) = subst (λ (z : AppendAnswer). IsStored (length r.log) 0 a.round z) is it.2 in
+              let has : (length r.log ≤ long) × (0 ≤ a.round) = subst (λ (z : AppendAnswer). HasStored (length r.log) 0 a.round z) is it.2 in
               let found : is_among from o.backups ≡ true = subst (λ (z : NodeId). is_among z o.backups ≡ true) (sym it.0) (is_found k o.backups among) in
               let here : (is_among from s.order.backups && nat_le (length r.log) long) ≡ true =
               subst (λ (k : Recover). (is_among from k.backups && nat_le (length r.log) long) ≡ true) (sym same) (and_from _ _ found (le-leb (length r.log) long has.0)) in
@@ -276,7 +276,7 @@ module _ (D E : Message → Type 0) (q : ℕ) (o : Recover) (filled : 1 ≤ leng
       comes long is (Storing r) e g sent = tested long is r e g _ refl sent
       comes long is (Waiting r) e g sent = rests_in (Waiting r) e (other_phase (Waiting r) (λ k z. absurd cc) g)
 
-      refused_on : (p : RecoveryPhase) → s.phase ≡ p → ((long : ℕ) → IsStored long 0 a.round a.answer → ⊥)
+      refused_on : (p : RecoveryPhase) → s.phase ≡ p → ((long : ℕ) → HasStored long 0 a.round a.answer → ⊥)
           → PhaseGoes D q o p → Goes E q o (quiet s)
       refused_on (Asking log requests) e none g = rests_in (Asking log requests) e (other_phase (Asking log requests) (λ r z. absurd cc) g)
       refused_on (Storing r) e none g = rests_in (Storing r) e (rests_on r (λ k among it. none (length r.log) it.2) g)
@@ -285,9 +285,9 @@ module _ (D E : Message → Type 0) (q : ℕ) (o : Recover) (filled : 1 ≤ leng
       by : (z : AppendAnswer) → a.answer ≡ z → AllGo E (append_answered q s from z)
           → Goes E q o (append_answered q s from z)
       by (Stored long) is sent = comes long is s.phase refl goes sent
-      by (Fenced k) is sent = refused_on s.phase refl (λ long it. subst (λ (z : AppendAnswer). IsStored long 0 a.round z) is it) goes
-      by (Gap k) is sent = refused_on s.phase refl (λ long it. subst (λ (z : AppendAnswer). IsStored long 0 a.round z) is it) goes
-      by NotInstalled is sent = refused_on s.phase refl (λ long it. subst (λ (z : AppendAnswer). IsStored long 0 a.round z) is it) goes
+      by (Fenced k) is sent = refused_on s.phase refl (λ long it. subst (λ (z : AppendAnswer). HasStored long 0 a.round z) is it) goes
+      by (Gap k) is sent = refused_on s.phase refl (λ long it. subst (λ (z : AppendAnswer). HasStored long 0 a.round z) is it) goes
+      by NotInstalled is sent = refused_on s.phase refl (λ long it. subst (λ (z : AppendAnswer). HasStored long 0 a.round z) is it) goes
 
 -- ---- at the end
 
@@ -301,9 +301,9 @@ pub none_recovers : (D : Message → Type 0) → ((x : Message) → D x → ⊥)
 none_recovers D none q o (Asking None requests) g = elim g.0 [ inl w ↦ none w.0 w.1 | inr w ↦ none w.0 w.1 ]
 none_recovers D none q o (Asking (Some log) None) g = elim g.1 [ inl w ↦ none w.0 w.1 | inr w ↦ none w.0 w.1 ]
 none_recovers D none q o (Asking (Some log) (Some requests)) g = g.2
-none_recovers D none q o (Storing r) g = cc (complete_all o r (Each-weaker (Completes D q o r) (λ b. is_among b r.complete ≡ true) has o.backups g.1), g.0)
+none_recovers D none q o (Storing r) g = cc (complete_all o r (Each-weaker (CompletesBackup D q o r) (λ b. is_among b r.complete ≡ true) has o.backups g.1), g.0)
   where
-    has : (b : NodeId) → Completes D q o r b → is_among b r.complete ≡ true
+    has : (b : NodeId) → CompletesBackup D q o r b → is_among b r.complete ≡ true
     has b (inl did) = did
     has b (inr (inl w)) = absurd (none w.0 w.1)
     has b (inr (inr w)) = absurd (none w.0 w.1)
@@ -345,5 +345,5 @@ module _ (D E : Message → Type 0) (q : ℕ) (o : Recover) (filled : 1 ≤ leng
           → Goes E q o (requests_come q s from rs p)
       by (Asking log None) e g sent = asking log e g _ refl sent
       by (Asking log (Some l)) e g sent = rests_in (Asking log (Some l)) e (logs_still log g.0, still_requests (Some l) (inr (l, refl)) g.1, g.2)
-      by (Storing r) e g sent = rests_in (Storing r) e (g.0, Each-weaker (Completes D q o r) (Completes E q o r) (completes_on D E q o filled from to (body.FrozenAnswer rs) split (λ k l z. z) (λ k l z. z) r) o.backups g.1)
+      by (Storing r) e g sent = rests_in (Storing r) e (g.0, Each-weaker (CompletesBackup D q o r) (CompletesBackup E q o r) (completes_on D E q o filled from to (body.FrozenAnswer rs) split (λ k l z. z) (λ k l z. z) r) o.backups g.1)
       by (Waiting r) e g sent = rests_in (Waiting r) e (ways.carry D E from to (body.FrozenAnswer rs) split (TellsRecovered o) (λ z. z) g)

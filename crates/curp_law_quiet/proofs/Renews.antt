@@ -34,11 +34,11 @@ use Rattle.curp_msg.specs.declared.body.FenceAnswer.{FenceAnswer}
 use Rattle.curp_model.specs.Recovery.{Asking, Fresh, MasterStage, Recovering, RecoveryPhase, RecoveryState, Replayed, Serving, Storing, Waiting, append_answered, fence_answered, on_master, on_recover, requests_come, serves}
 use Rattle.curp_model.specs.Witness.{WitnessState, frozen_requests, on_witness, start}
 use Rattle.curp_model.specs.World.{World, messages}
-use Rattle.curp_law_quiet.specs.Calm.{Due}
-use Rattle.curp_law_quiet.specs.Recovers.{Completes, GivesLog, GivesRequests, Orders, PhaseGoes, TellsRecovered}
+use Rattle.curp_law_quiet.specs.Calm.{IsDue}
+use Rattle.curp_law_quiet.specs.Recovers.{CompletesBackup, GivesLog, GivesRequests, OrdersRecovery, PhaseGoes, TellsRecovered}
 use Rattle.curp_law_quiet.specs.Renews.{IsInstalled, IsSteady, Renewal, RenewFits, RenewGrounds, Renewing, ServesIdle, TellsAdopted, WillInstall, IsRenewed, renewed}
 use Rattle.curp_law_quiet.specs.Renews.Renewal.{Adopts, Attempts, Ordered, Serves}
-use Rattle.curp_law_quiet.specs.Ways.{Appends, IsStored, OnWay, Stores}
+use Rattle.curp_law_quiet.specs.Ways.{Appends, HasStored, OnWay, Stores}
 use Rattle.curp_law_quiet.proofs.Lists.{among_cases, among_first, among_none}
 use Rattle.curp_law_quiet.proofs.Adopts.{adopts_it, fence_told, freeze_told}
 use Rattle.curp_law_quiet.proofs.Keepers.{append_stores, long_enough}
@@ -113,7 +113,7 @@ stored_told : (E : Message → Type 0) (q number : ℕ) (b : BackupState) (a : A
 unfolding on_backup
 stored_told E q number b a fence installed gap sent long round low late =
     let is : (append b a.epoch a.base a.entries).answer ≡ Stored (length (longer b.log a.base a.entries)) = ap (λ (k : AfterAppend). k.answer) (append_stores b a.epoch a.base a.entries fence installed gap) in
-    (_, sent _ (among_first _ []), (refl, refl, subst (λ (s : AppendAnswer). IsStored long round a.round s) (sym is) (omega (arith, low, long_enough b.log a.entries a.base gap), late)))
+    (_, sent _ (among_first _ []), (refl, refl, subst (λ (s : AppendAnswer). HasStored long round a.round s) (sym is) (omega (arith, low, long_enough b.log a.entries a.base gap), late)))
 
 -- an install changes nothing of what is installed, and installs what isn't
 install_keeps : (b : BackupState) (own epoch : ℕ) → b.installed ≡ Some own → install b epoch ≡ b
@@ -149,12 +149,12 @@ fits_later S T f q o from to _ fit = absurd fit
 module _ (w v : World) (done : ℕ) (x : Message) (at : At (messages w) done x) (did : Delivered w v x) (c : PartConfig)
     (q : ℕ) (o : Recover) (cl : ClientState) (re : Renewing w done c q o cl) (g : RenewGrounds w done q o) where
   abbrev D : Message → Type 0
-  D = Due w done
+  D = IsDue w done
 
   abbrev E : Message → Type 0
-  E = Due v (suc done)
+  E = IsDue v (suc done)
 
-  here : Due w done x
+  here : IsDue w done x
   here = (done, omega arith, at)
 
   fit_as : (b : Body) → x.body ≡ b → RenewFits (IsSteady w) q o x.from x.to b
@@ -198,7 +198,7 @@ module _ (w v : World) (done : ℕ) (x : Message) (at : At (messages w) done x) 
     module _ (masters : (n : ℕ) (m : MasterStage) → numbered w.masters n ≡ Some m → numbered v.masters n ≡ Some m) (parts : v.manager ≡ w.manager)
         (inst : (k : NodeId) → IsAmong k o.backups → IsInstalled w o k → IsInstalled v o k)
         (home : (k : NodeId) → IsAmong k o.backups → WillInstall w done o k → IsInstalled v o k ⊎ WillInstall v (suc done) o k)
-        (orders : OnWay D (Orders q o) → OnWay E (Orders q o)) (phases : (p : RecoveryPhase) → PhaseGoes D q o p → ((k : NodeId) → IsAmong k o.backups → IsInstalled w o k) → PhaseGoes E q o p)
+        (orders : OnWay D (OrdersRecovery q o) → OnWay E (OrdersRecovery q o)) (phases : (p : RecoveryPhase) → PhaseGoes D q o p → ((k : NodeId) → IsAmong k o.backups → IsInstalled w o k) → PhaseGoes E q o p)
         (adopted : OnWay D (TellsAdopted q) → OnWay E (TellsAdopted q)) where
       rests : Renewal w done c q o → Renewal v (suc done) c q o
       rests (Ordered fresh way homes entry doing) = Ordered (masters q Fresh fresh) (orders way)
@@ -261,7 +261,7 @@ module _ (w v : World) (done : ℕ) (x : Message) (at : At (messages w) done x) 
       (rests [] said (λ n m h. subst (λ (l : List MasterStage). numbered l n ≡ Some m) (sym moved.masters) h) moved.manager
       (λ k a i. rests_installed moved.backups k i)
       (λ k a i. inr (will_later [] said k i i.b (subst (λ (l : List BackupState). numbered l k.number ≡ Some i.b) (sym moved.backups) i.is) i.bare i.fence (other_place (body.Start s) e tt k i) (λ m b from to r same. among_none m b)))
-      (ways.carry D E x.from x.to (body.Start s) (split_as [] said (body.Start s) e) (Orders q o) (λ z. z))
+      (ways.carry D E x.from x.to (body.Start s) (split_as [] said (body.Start s) e) (OrdersRecovery q o) (λ z. z))
       (λ p goes installed. phase_on D E q o g.filled x.from x.to (body.Start s) (split_as [] said (body.Start s) e) (record { fences = λ z. z; logs = λ z. z; freezes = λ z. z; requests = λ z. z; appends = λ k l z. z; stored = λ k l z. z; told = λ z. z }) p goes)
       (ways.carry D E x.from x.to (body.Start s) (split_as [] said (body.Start s) e) (TellsAdopted q) (λ z. z)) re.renewal)
 
@@ -277,7 +277,7 @@ module _ (w v : World) (done : ℕ) (x : Message) (at : At (messages w) done x) 
       (rests [] moved.said (λ n m h. subst (λ (l : List MasterStage). numbered l n ≡ Some m) (sym moved.masters) h) moved.manager
       (λ k a i. set_installed x.to.number y.0 (install y.0 epoch) y.1 moved.backups (λ own low. let same = install_keeps y.0 o.epoch epoch own in (ap (λ (s : BackupState). s.installed) same ∙ own, omega (arith, low, ap (λ (s : BackupState). s.fence) same))) k i)
       (λ k a i. installs k i y.0 y.1 fit.1 moved)
-      (ways.carry D E x.from x.to (body.Install epoch) (split_as [] moved.said (body.Install epoch) e) (Orders q o) (λ z. z))
+      (ways.carry D E x.from x.to (body.Install epoch) (split_as [] moved.said (body.Install epoch) e) (OrdersRecovery q o) (λ z. z))
       (λ p goes installed. phase_on D E q o g.filled x.from x.to (body.Install epoch) (split_as [] moved.said (body.Install epoch) e) (record { fences = λ z. z; logs = λ z. z; freezes = λ z. z; requests = λ z. z; appends = λ k l z. z; stored = λ k l z. z; told = λ z. z }) p goes)
       (ways.carry D E x.from x.to (body.Install epoch) (split_as [] moved.said (body.Install epoch) e) (TellsAdopted q) (λ z. z)) re.renewal)
     where
@@ -318,7 +318,7 @@ module _ (w v : World) (done : ℕ) (x : Message) (at : At (messages w) done x) 
       (rests r.messages moved.said (λ n m h. subst (λ (l : List MasterStage). numbered l n ≡ Some m) (sym moved.masters) h) moved.manager
       (λ k a i. record { b = i.b; is = far k a i.b i.is; installed = i.installed; fence = i.fence })
       (λ k a i. inr (will_later r.messages moved.said k i i.b (far k a i.b i.is) i.bare i.fence (other_place b as_it tt k i) no_orders))
-      (ways.carry D E x.from x.to b split (Orders q o) (λ z. z))
+      (ways.carry D E x.from x.to b split (OrdersRecovery q o) (λ z. z))
       (λ p goes installed. fenced r.messages moved.said as_it (fence_told E q o number g.b g.backup g.unfenced g.its_log sent) p goes)
       (ways.carry D E x.from x.to b split (TellsAdopted q) (λ z. z)) re.renewal)
     where
@@ -347,7 +347,7 @@ module _ (w v : World) (done : ℕ) (x : Message) (at : At (messages w) done x) 
       fenced more said as_it told (Asking (Some l) rs) goes = (tt, requests_on D E q o g.filled x.from x.to (body.Fence o.epoch) (split_as more said (body.Fence o.epoch) as_it) (λ z. z) (λ z. z) rs goes.1, goes.2)
       fenced more said as_it told (Storing r) goes = (
         goes.0,
-        Each-weaker (Completes D q o r) (Completes E q o r)
+        Each-weaker (CompletesBackup D q o r) (CompletesBackup E q o r)
             (completes_on D E q o g.filled x.from x.to (body.Fence o.epoch) (split_as more said (body.Fence o.epoch) as_it) (λ k l z. z) (λ k l z. z) r) o.backups goes.1,
       )
       fenced more said as_it told (Waiting r) goes = ways.carry D E x.from x.to (body.Fence o.epoch) (split_as more said (body.Fence o.epoch) as_it) (TellsRecovered o) (λ z. z) goes
@@ -368,7 +368,7 @@ module _ (w v : World) (done : ℕ) (x : Message) (at : At (messages w) done x) 
       (rests r.messages moved.said (λ n m h. subst (λ (l : List MasterStage). numbered l n ≡ Some m) (sym moved.masters) h) moved.manager
       (λ k a i. rests_installed moved.backups k i)
       (λ k a i. inr (will_later r.messages moved.said k i i.b (subst (λ (l : List BackupState). numbered l k.number ≡ Some i.b) (sym moved.backups) i.is) i.bare i.fence (other_place b as_it tt k i) no_orders))
-      (ways.carry D E x.from x.to b split (Orders q o) (λ z. z))
+      (ways.carry D E x.from x.to b split (OrdersRecovery q o) (λ z. z))
       (λ p goes installed. frozen r.messages moved.said as_it (freeze_told E q o number g.x g.witness sent) p goes)
       (ways.carry D E x.from x.to b split (TellsAdopted q) (λ z. z)) re.renewal)
     where
@@ -397,7 +397,7 @@ module _ (w v : World) (done : ℕ) (x : Message) (at : At (messages w) done x) 
       frozen more said as_it told (Asking l (Some rs)) goes = (log_on D E q o g.filled x.from x.to (body.Freeze o.epoch) (split_as more said (body.Freeze o.epoch) as_it) (λ z. z) (λ z. z) l goes.0, tt, goes.2)
       frozen more said as_it told (Storing r) goes = (
         goes.0,
-        Each-weaker (Completes D q o r) (Completes E q o r)
+        Each-weaker (CompletesBackup D q o r) (CompletesBackup E q o r)
             (completes_on D E q o g.filled x.from x.to (body.Freeze o.epoch) (split_as more said (body.Freeze o.epoch) as_it) (λ k l z. z) (λ k l z. z) r) o.backups goes.1,
       )
       frozen more said as_it told (Waiting r) goes = ways.carry D E x.from x.to (body.Freeze o.epoch) (split_as more said (body.Freeze o.epoch) as_it) (TellsRecovered o) (λ z. z) goes
@@ -418,7 +418,7 @@ module _ (w v : World) (done : ℕ) (x : Message) (at : At (messages w) done x) 
       (rests r.messages moved.said (λ n m h. subst (λ (l : List MasterStage). numbered l n ≡ Some m) (sym moved.masters) h) moved.manager
       (λ k among i. set_installed x.to.number y.0 r.state y.1 moved.backups (λ own low. (keeps.0 ∙ own, omega (arith, low, keeps.1))) k i)
       (λ k among i. inr (wills k i y.0 y.1 moved (λ none low. (keeps.0 ∙ none, omega (arith, low, keeps.1))) (no_orders y.0)))
-      (ways.carry D E x.from x.to b split (Orders q o) (λ z. z))
+      (ways.carry D E x.from x.to b split (OrdersRecovery q o) (λ z. z))
       (λ p goes installed. appended fit.0 fit.2 fit.3 r.messages moved.said e
       (λ long round low late. stores_it (installed x.to fit.1) fit.2 fit.3 y.0 y.1 name (new_due w v done x at r.messages moved.said) long round low late) p goes)
       (ways.carry D E x.from x.to b split (TellsAdopted q) (λ z. z)) re.renewal)
@@ -466,9 +466,9 @@ module _ (w v : World) (done : ℕ) (x : Message) (at : At (messages w) done x) 
           → (more : List Message) (said : messages v ≡ messages w ++ more) → x.body ≡ body.Append a
           → ((long round : ℕ) → long ≤ a.base + length a.entries → round ≤ a.round → OnWay E (Stores q x.to long round)) → (p : RecoveryPhase) → PhaseGoes D q o p → PhaseGoes E q o p
       appended from epoch base more said as_it told (Asking l rs) goes = (log_on D E q o g.filled x.from x.to (body.Append a) (split_as more said (body.Append a) as_it) (λ z. z) (λ z. z) l goes.0, requests_on D E q o g.filled x.from x.to (body.Append a) (split_as more said (body.Append a) as_it) (λ z. z) (λ z. z) rs goes.1, goes.2)
-      appended from epoch base more said as_it told (Storing r) goes = (goes.0, Each-weaker (Completes D q o r) (Completes E q o r) one o.backups goes.1)
+      appended from epoch base more said as_it told (Storing r) goes = (goes.0, Each-weaker (CompletesBackup D q o r) (CompletesBackup E q o r) one o.backups goes.1)
         where
-          one : (k : NodeId) → Completes D q o r k → Completes E q o r k
+          one : (k : NodeId) → CompletesBackup D q o r k → CompletesBackup E q o r k
           one k (inl done_it) = inl done_it
           one k (inr (inl way)) = elim (ways.meets D E x.from x.to (body.Append a) (split_as more said (body.Append a) as_it) (Appends o.epoch k (length r.log) 0) way) [
             | inl it ↦ inr (inr (subst (λ (z : NodeId). OnWay E (Stores q z (length r.log) 0)) it.0 (told (length r.log) 0 it.2 it.3)))
@@ -523,12 +523,12 @@ module _ (w v : World) (done : ℕ) (x : Message) (at : At (messages w) done x) 
 
     -- something else comes before it
     before_order : (b : Body) → x.body ≡ b → IsLater b → on_master q Fresh x.from b ≡ quiet Fresh
-        → (Orders q o x.from x.to b → ⊥) → numbered w.masters q ≡ Some Fresh → OnWay D (Orders q o)
+        → (OrdersRecovery q o x.from x.to b → ⊥) → numbered w.masters q ≡ Some Fresh → OnWay D (OrdersRecovery q o)
         → ((k : NodeId) → IsAmong k o.backups → IsInstalled w o k ⊎ WillInstall w done o k) → w.manager.config.parts ≡ c ∷ [] → w.manager.doing ≡ manager.Recovering (master_node q) o ∷ [] → Renewing v (suc done) c q o cl
     before_order b e later by other fresh way homes entry doing =
         let moved = still Fresh fresh b e by in
         renews [] moved.said moved.clients (λ z. doing_after (manager.Steady ∷ []) moved.manager z) (λ m a. absurd (among_none m a))
-        (Ordered moved.master (ways.carry D E x.from x.to b (split_as [] moved.said b e) (Orders q o) other way)
+        (Ordered moved.master (ways.carry D E x.from x.to b (split_as [] moved.said b e) (OrdersRecovery q o) other way)
         (λ k a. elim (homes k a) [
           | inl i ↦ inl (rests_installed moved.backups k i)
           | inr i ↦ inr (will_later [] moved.said k i i.b (subst (λ (l : List BackupState). numbered l k.number ≡ Some i.b) (sym moved.backups) i.is) i.bare i.fence (other_place b e later k i) (λ m z from to r same. among_none m z))
@@ -594,7 +594,7 @@ module _ (w v : World) (done : ℕ) (x : Message) (at : At (messages w) done x) 
         order_is : (r : Recover) → b ≡ body.Recover r → r ≡ o
         order_is r f = let fit : (x.to ≡ master_node q) × (r ≡ o) = fit_as (body.Recover r) (e ∙ f) in fit.1
 
-        ordered_by : numbered w.masters q ≡ Some Fresh → OnWay D (Orders q o)
+        ordered_by : numbered w.masters q ≡ Some Fresh → OnWay D (OrdersRecovery q o)
             → ((k : NodeId) → IsAmong k o.backups → IsInstalled w o k ⊎ WillInstall w done o k)
             → w.manager.config.parts ≡ c ∷ [] → w.manager.doing ≡ manager.Recovering (master_node q) o ∷ []
             → (z : Body) → b ≡ z → IsMasters z → Renewing v (suc done) c q o cl
@@ -714,11 +714,11 @@ pub renewed_at_end : (w : World) (c : PartConfig) (q : ℕ) (o : Recover) (cl : 
     → Renewing w (length (messages w)) c q o cl → IsRenewed w c q o
 renewed_at_end w c q o cl re = by re.renewal
   where
-    none : (x : Message) → Due w (length (messages w)) x → ⊥
+    none : (x : Message) → IsDue w (length (messages w)) x → ⊥
     none x due = absurd (omega (arith, due.1, at_within (messages w) due.0 x due.2))
 
     by : Renewal w (length (messages w)) c q o → IsRenewed w c q o
     by (Ordered fresh way homes entry doing) = absurd (none way.0 way.1)
-    by (Attempts s is order goes installed entry doing) = absurd (none_recovers (Due w (length (messages w))) none q o s.phase goes)
+    by (Attempts s is order goes installed entry doing) = absurd (none_recovers (IsDue w (length (messages w))) none q o s.phase goes)
     by (Adopts s k is order waits way installed entry doing) = absurd (none way.0 way.1)
     by (Serves m is idle installed entry doing) = record { m = m; serves = is; idle = idle; installed = installed; adopted = entry; steady = doing }

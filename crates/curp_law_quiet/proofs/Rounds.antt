@@ -14,8 +14,8 @@ use Rattle.curp_msg.specs.declared.message.Message.{Message}
 use Rattle.curp_facts.specs.Facts.{IsAmong}
 use Rattle.curp_model.specs.Master.{Captured, MasterState, Queued, all_have, append_to, begins_round, from_backup, fresh_backups, next_round, stored_on, synced}
 use Rattle.curp_law_masters.proofs.Lists.{each_among}
-use Rattle.curp_law_quiet.specs.Ways.{Answers, CaptureGoes, Covers, Gives, HeldGoes, MasterGoes}
-use Rattle.curp_law_quiet.specs.Ways.Covers.{Goes}
+use Rattle.curp_law_quiet.specs.Ways.{Answers, CaptureGoes, WillCover, Gives, HeldGoes, MasterGoes}
+use Rattle.curp_law_quiet.specs.Ways.WillCover.{Goes}
 use Rattle.curp_law_quiet.proofs.Lists.{among_left, among_map, each_of}
 use Rattle.curp_law_quiet.proofs.Ways as ways
 use Rattle.curp_law_quiet.proofs.Ways.{NoReply, NoRound}
@@ -97,14 +97,14 @@ module _ (D E : Message → Type 0) (from to : NodeId) (b : Body)
           (among_map (append_to n (next_round changed)) k (stored_on (next_round changed)) (among_left k m.backups (fresh_backups m.phase m.backups) among))
 
       round_covers : (long round : ℕ) → long ≤ length log → round ≤ m.round + 1 → (k : NodeId) → IsAmong k m.backups
-          → Covers E m.acknowledged m.epoch n k long round
+          → WillCover E m.acknowledged m.epoch n k long round
       round_covers long round low begun k among =
           let base : ℕ = (from_backup m.acknowledged k).length in
           Goes (append_to n (next_round changed) k, append_sent k among, (refl, refl, omega (arith, length-drop base log, low), begun))
 
       pub all_covered : (long round : ℕ) → long ≤ length log → round ≤ m.round + 1
-          → Each (λ k. Covers E m.acknowledged m.epoch n k long round) m.backups
-      all_covered long round low begun = each_among (λ k. Covers E m.acknowledged m.epoch n k long round) m.backups (round_covers long round low begun)
+          → Each (λ k. WillCover E m.acknowledged m.epoch n k long round) m.backups
+      all_covered long round low begun = each_among (λ k. WillCover E m.acknowledged m.epoch n k long round) m.backups (round_covers long round low begun)
 
       pub begins : NoRound b → NoReply b
           → ((j : ℕ) → IsAmong j m.held → IsAmong j held)

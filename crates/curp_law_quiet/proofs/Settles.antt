@@ -19,8 +19,8 @@ use Rattle.curp_facts.specs.Facts.{IsAmong}
 use Rattle.curp_model.specs.Master.{Acknowledged, Captured, MasterState, Open, Phase, answer_at, between, fresh_backups, from_backup, goes_on, is_ready, moved_entry, on_appended, on_stored, raised, reply, settle, stored_on, synced, synced_replies, synced_reply, value_of}
 use Rattle.curp_law_masters.proofs.Lists.{each_among, each_filtered}
 use Rattle.curp_law_masters.proofs.Settled.{settled_state}
-use Rattle.curp_law_quiet.specs.Ways.{Answers, Appends, CaptureGoes, Covered, Covers, Gives, HeldGoes, IsCaptured, IsHeldFor, IsStored, MasterGoes, OnWay, Stores, SyncedReply, Value}
-use Rattle.curp_law_quiet.specs.Ways.Covers.{Comes, Goes, Known}
+use Rattle.curp_law_quiet.specs.Ways.{Answers, Appends, CaptureGoes, Covered, WillCover, Gives, HeldGoes, IsCaptured, IsHeldFor, HasStored, MasterGoes, OnWay, Stores, SyncedReply, ValueOf}
+use Rattle.curp_law_quiet.specs.Ways.WillCover.{Comes, Goes, Known}
 use Rattle.curp_law_quiet.proofs.Acks.{raised_own, raised_rises}
 use Rattle.curp_law_quiet.proofs.Lists.{among_cases, among_filter, among_first, among_flat, among_left, among_map, among_right, each_of}
 use Rattle.curp_law_quiet.proofs.Rounds.{AllSent, Keeps}
@@ -50,12 +50,12 @@ module _ (D E : Message → Type 0) (from to : NodeId) (a : Appended)
 
   -- what covers still does
   abbrev Overs : List Acknowledged → Type 0
-  Overs acks = (k : NodeId) → IsAmong k m.backups → (long round : ℕ) → Covers D m.acknowledged m.epoch n k long round → Covers E acks m.epoch n k long round
+  Overs acks = (k : NodeId) → IsAmong k m.backups → (long round : ℕ) → WillCover D m.acknowledged m.epoch n k long round → WillCover E acks m.epoch n k long round
 
   covered_over : (acks : List Acknowledged) → Overs acks → (long round : ℕ) → Covered D n m long round
-      → Each (λ k. Covers E acks m.epoch n k long round) m.backups
-  covered_over acks over long round all = each_among (λ k. Covers E acks m.epoch n k long round) m.backups
-      (λ k among. over k among long round (each_of (λ k. Covers D m.acknowledged m.epoch n k long round) m.backups all k among))
+      → Each (λ k. WillCover E acks m.epoch n k long round) m.backups
+  covered_over acks over long round all = each_among (λ k. WillCover E acks m.epoch n k long round) m.backups
+      (λ k among. over k among long round (each_of (λ k. WillCover D m.acknowledged m.epoch n k long round) m.backups all k among))
 
   abbrev learnt : List Acknowledged → MasterState
   learnt acks = record m { acknowledged = acks }
@@ -143,7 +143,7 @@ module _ (D E : Message → Type 0) (from to : NodeId) (a : Appended)
     settles = record {
       goes = settled_goes;
       answers = λ id o. elim o [ inl w ↦ inl (ways.carry D E from to (body.Appended a) split (SyncedReply id) (λ p. p) w) | inr h ↦ held_answers id h ];
-      gives = λ id o. elim o [ inl w ↦ inl (ways.carry D E from to (body.Appended a) split (Value id) (λ p. p) w) | inr h ↦ captured_gives id h ];
+      gives = λ id o. elim o [ inl w ↦ inl (ways.carry D E from to (body.Appended a) split (ValueOf id) (λ p. p) w) | inr h ↦ captured_gives id h ];
       same = record { part = refl; epoch = refl; version = refl; backups = refl; witnesses = refl; phase = refl };
       round = omega arith;
       captured = omega arith;
@@ -159,7 +159,7 @@ module _ (D E : Message → Type 0) (from to : NodeId) (a : Appended)
     over_raised k among l r (Goes w) = Goes (append_goes m.epoch k l r w)
     over_raised k among l r (Comes w) = elim (ways.meets D E from to (body.Appended a) split (Stores n k l r) w) [
       | inl it ↦
-          let has : (l ≤ long) × (r ≤ a.round) = subst (λ (s : AppendAnswer). IsStored l r a.round s) is it.2 in
+          let has : (l ≤ long) × (r ≤ a.round) = subst (λ (s : AppendAnswer). HasStored l r a.round s) is it.2 in
           let own = subst (λ (z : NodeId). (long ≤ (from_backup (raised m.acknowledged from long a.round) z).length) × (a.round ≤ (from_backup (raised m.acknowledged from long a.round) z).round)) it.0
           ((raised_own long a.round m.acknowledged from).length, (raised_own long a.round m.acknowledged from).round) in
           Known (omega (arith, has.0, own.0)) (omega (arith, has.1, own.1))
@@ -194,7 +194,7 @@ module _ (D E : Message → Type 0) (from to : NodeId) (a : Appended)
         by false e sent = rests (over_stranger e)
 
   -- another answer tells nothing
-  over_other : ((l r : ℕ) → IsStored l r a.round a.answer → ⊥) → Overs m.acknowledged
+  over_other : ((l r : ℕ) → HasStored l r a.round a.answer → ⊥) → Overs m.acknowledged
   over_other other k among l r (Known low late) = Known low late
   over_other other k among l r (Goes w) = Goes (append_goes m.epoch k l r w)
   over_other other k among l r (Comes w) = elim (ways.meets D E from to (body.Appended a) split (Stores n k l r) w) [
@@ -210,6 +210,6 @@ module _ (D E : Message → Type 0) (from to : NodeId) (a : Appended)
       by : (s : AppendAnswer) → a.answer ≡ s → AllSent E (on_appended n m from a.round s)
           → Keeps D E n m (on_appended n m from a.round s)
       by (Stored long) is sent = stored long is serves sent
-      by (Fenced fence) is sent = rests (over_other (λ l r it. subst (λ (s : AppendAnswer). IsStored l r a.round s) is it))
-      by (Gap long) is sent = rests (over_other (λ l r it. subst (λ (s : AppendAnswer). IsStored l r a.round s) is it))
-      by NotInstalled is sent = rests (over_other (λ l r it. subst (λ (s : AppendAnswer). IsStored l r a.round s) is it))
+      by (Fenced fence) is sent = rests (over_other (λ l r it. subst (λ (s : AppendAnswer). HasStored l r a.round s) is it))
+      by (Gap long) is sent = rests (over_other (λ l r it. subst (λ (s : AppendAnswer). HasStored l r a.round s) is it))
+      by NotInstalled is sent = rests (over_other (λ l r it. subst (λ (s : AppendAnswer). HasStored l r a.round s) is it))

@@ -28,7 +28,7 @@ use Rattle.curp_model.specs.declared.Check.TheVariants.{Expired, Stale, Known, N
 use Rattle.curp_model.specs.Master.{AtOnce, Deny, Execute, HoldBack, MasterState, Open, Phase, Switching, Tell, TellAgain, Verdict, WhenSynced, Wish, begins_round, by_check, carries_out, executes, has, holds_back, is_clean, is_idle_op, is_open, known_again, known_at, on_update, queued, reply, state_of, synced, verdict}
 use Rattle.curp_model.specs.Ranges.{owns_all}
 use Rattle.curp_model.specs.Table.{check}
-use Rattle.curp_law_quiet.specs.Ways.{Answers, MasterGoes, Tells}
+use Rattle.curp_law_quiet.specs.Ways.{Answers, MasterGoes, WillTell}
 use Rattle.curp_law_quiet.proofs.Lists.{among_first, among_inserted, inserted, inserted_cases}
 use Rattle.curp_law_quiet.proofs.Rounds as rounds
 use Rattle.curp_law_quiet.proofs.Rounds.{AllSent, Keeps}
@@ -143,7 +143,7 @@ module _ (E : Message → Type 0) (n : ℕ) (m : MasterState) (c : PartConfig) (
     (its_epoch : m.epoch ≡ c.epoch) (its_version : m.version ≡ c.version) (r : Request) where
   -- what is wanted
   abbrev pub Wanted : Wish → MasterState → Type 0
-  Wanted AtOnce k = Tells E c k r.id
+  Wanted AtOnce k = WillTell E c k r.id
   Wanted WhenSynced k = Answers E k r.id
 
   of_answers : (wish : Wish) (k : MasterState) → Answers E k r.id → Wanted wish k
@@ -153,7 +153,7 @@ module _ (E : Message → Type 0) (n : ℕ) (m : MasterState) (c : PartConfig) (
   -- it is told at once
   told : (k : MasterState) (a : Answer)
       → E (says (master_node n) (client_node r.id.client) (body.Reply (record { id = r.id; synced = false; epoch = m.epoch; version = m.version; answer = a })))
-      → Tells E c k r.id
+      → WillTell E c k r.id
   told k a sent = inr (_, sent, (sym its_master, refl, refl, refl, its_epoch, its_version))
 
   -- it is told that it is stored
@@ -186,7 +186,7 @@ module _ (E : Message → Type 0) (n : ℕ) (m : MasterState) (c : PartConfig) (
   again_wanted AtOnce a index request acknowledged at id sent = by (has index m.free) sent
     where
       by : (t : Bool) → AllSent E (carries_out n m AtOnce r (cond t (TellAgain a) (HoldBack index)))
-          → Tells E c (carries_out n m AtOnce r (cond t (TellAgain a) (HoldBack index))).state r.id
+          → WillTell E c (carries_out n m AtOnce r (cond t (TellAgain a) (HoldBack index))).state r.id
       by true sent = told m a (sent _ (among_first _ []))
       by false sent = inl (held_back index request acknowledged m.log _ refl refl at id)
 

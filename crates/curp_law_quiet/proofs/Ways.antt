@@ -9,8 +9,8 @@ use Rattle.curp_msg.specs.declared.body.Body.{Body}
 use Rattle.curp_msg.specs.declared.body.Body.TheVariants as body
 use Rattle.curp_msg.specs.declared.message.Message.{Message}
 use Rattle.curp_model.specs.Master.{Acknowledged, MasterState}
-use Rattle.curp_law_quiet.specs.Ways.{Answers, Appends, CaptureGoes, Covered, Covers, EarlyReply, Gives, HeldGoes, IsOfKind, Kind, MasterGoes, OnWay, Stores, SyncedReply, Value}
-use Rattle.curp_law_quiet.specs.Ways.Covers.{Comes, Goes, Known}
+use Rattle.curp_law_quiet.specs.Ways.{Answers, Appends, CaptureGoes, Covered, WillCover, EarlyReply, Gives, HeldGoes, IsOfKind, Kind, MasterGoes, OnWay, Stores, SyncedReply, ValueOf}
+use Rattle.curp_law_quiet.specs.Ways.WillCover.{Comes, Goes, Known}
 
 -- a message that is no part of a round
 abbrev pub NoRound : Body → Type 0
@@ -63,24 +63,24 @@ module _ (D E : Message → Type 0) (from to : NodeId) (b : Body)
       by (body.Reply r) d p = d
       by _ d p = p
 
-  pub no_value : NoReply b → (id : RequestId) → Value id from to b → ⊥
+  pub no_value : NoReply b → (id : RequestId) → ValueOf id from to b → ⊥
   no_value dull id it = by b dull it
     where
-      by : (b : Body) → NoReply b → Value id from to b → ⊥
+      by : (b : Body) → NoReply b → ValueOf id from to b → ⊥
       by (body.Worth v) d p = d
       by _ d p = p
 
   -- ---- rounds go on
 
   pub cover_goes : NoRound b → (acks : List Acknowledged) (epoch n : ℕ) (k : NodeId) (long round : ℕ)
-      → Covers D acks epoch n k long round → Covers E acks epoch n k long round
+      → WillCover D acks epoch n k long round → WillCover E acks epoch n k long round
   cover_goes dull acks epoch n k long round (Known l r) = Known l r
   cover_goes dull acks epoch n k long round (Goes w) = Goes (carry (Appends epoch k long round) (no_append dull epoch k long round) w)
   cover_goes dull acks epoch n k long round (Comes w) = Comes (carry (Stores n k long round) (no_stores dull n k long round) w)
 
   pub covered_goes : NoRound b → (n : ℕ) (m : MasterState) (long round : ℕ) → Covered D n m long round
       → Covered E n m long round
-  covered_goes dull n m long round all = Each-weaker (λ k. Covers D m.acknowledged m.epoch n k long round) (λ k. Covers E m.acknowledged m.epoch n k long round)
+  covered_goes dull n m long round all = Each-weaker (λ k. WillCover D m.acknowledged m.epoch n k long round) (λ k. WillCover E m.acknowledged m.epoch n k long round)
       (λ k c. cover_goes dull m.acknowledged m.epoch n k long round c) m.backups all
 
   pub master_goes : NoRound b → (n : ℕ) (m : MasterState) → MasterGoes D n m → MasterGoes E n m
@@ -96,5 +96,5 @@ module _ (D E : Message → Type 0) (from to : NodeId) (b : Body)
   answers_go dull m id (inr held) = inr held
 
   pub gives_go : NoReply b → (m : MasterState) (id : RequestId) → Gives D m id → Gives E m id
-  gives_go dull m id (inl w) = inl (carry (Value id) (no_value dull id) w)
+  gives_go dull m id (inl w) = inl (carry (ValueOf id) (no_value dull id) w)
   gives_go dull m id (inr waits) = inr waits

@@ -17,12 +17,13 @@ use Rattle.curp_model.specs.Backup.{BackupState}
 use Rattle.curp_model.specs.declared.Check.{Check}
 use Rattle.curp_model.specs.declared.Check.TheVariants.{Known, New}
 use Rattle.curp_model.specs.Client.{ClientState, Pending}
+use Rattle.curp_model.specs.Log.{IsOp}
 use Rattle.curp_model.specs.Master.{MasterState, from_backup, last_round, state_of, synced}
 use Rattle.curp_model.specs.Ranges.{owns_all}
 use Rattle.curp_model.specs.Table.{check}
 use Rattle.curp_model.specs.Witness.{WitnessState}
 use Rattle.curp_model.specs.World.{World}
-use Rattle.curp_law_quiet.specs.Calm.{Calm, Due}
+use Rattle.curp_law_quiet.specs.Calm.{Calm, IsDue}
 
 -- what a master knows of its backups is within its log and its rounds, and it has backups
 pub record Bounded (m : MasterState) : Type 0 where
@@ -34,11 +35,6 @@ pub record Bounded (m : MasterState) : Type 0 where
 pub record Roomy (m : MasterState) : Type 0 where
   pub round : m.round + 1 ≤ last_round
   pub captured : m.captured + 1 ≤ last_round
-
--- only ops stand in the log
-abbrev pub IsOp : Entry → Type 0
-IsOp (Op r acknowledged) = ⊤
-IsOp _ = ⊥
 
 -- the table knows nothing of the request that isn't an Op of it, and it isn't stale
 abbrev pub IsFine : MasterState → RequestId → Check → Type 0
@@ -74,7 +70,7 @@ pub record Grounds (w : World) (done : ℕ) (c : PartConfig) (m : MasterState) (
   pub welcome : (p : Pending) → cl.pending ≡ p ∷ [] → Welcome m p.request
   pub backups : (k : NodeId) → IsAmong k c.backups → IsOurs w c m k
   pub witnesses : (k : NodeId) → IsAmong k c.witnesses → IsOurWitness w k
-  pub client : (x : Message) → Due w done x → x.to.kind ≡ kind.Client → x.to ≡ client_node 1
+  pub client : (x : Message) → IsDue w done x → x.to.kind ≡ kind.Client → x.to ≡ client_node 1
 
 -- the world is calm, with some master and some client
 abbrev pub IsCalm : World → ℕ → PartConfig → ℕ → Type 0

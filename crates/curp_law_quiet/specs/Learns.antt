@@ -7,7 +7,7 @@ use Rattle.curp_msg.specs.declared.config.PartConfig.{PartConfig}
 use Rattle.curp_msg.specs.declared.message.Message.{Message}
 use Rattle.curp_model.specs.Client.{ClientState}
 use Rattle.curp_model.specs.World.{World}
-use Rattle.curp_law_quiet.specs.Calm.{Due}
+use Rattle.curp_law_quiet.specs.Calm.{IsDue}
 use Rattle.curp_law_quiet.specs.Ways.{Kind, OnWay}
 
 -- client 1 asks
@@ -16,17 +16,17 @@ Fetches from to body.Fetch = (to ≡ manager_node) × (from ≡ client_node 1)
 Fetches from to _ = ⊥
 
 -- the manager answers, with a serial above
-abbrev pub Brings : PartConfig → ℕ → Kind
-Brings c serial from to (body.Configuration g) = (to.kind ≡ kind.Client) × (g.parts ≡ c ∷ []) × (serial < g.serial)
-Brings c serial from to _ = ⊥
+abbrev pub BringsConfiguration : PartConfig → ℕ → Kind
+BringsConfiguration c serial from to (body.Configuration g) = (to.kind ≡ kind.Client) × (g.parts ≡ c ∷ []) × (serial < g.serial)
+BringsConfiguration c serial from to _ = ⊥
 
 abbrev pub Learns : (Message → Type 0) → PartConfig → ClientState → Type 0
-Learns D c cl = (cl.config.parts ≡ c ∷ []) ⊎ (OnWay D Fetches ⊎ OnWay D (Brings c cl.config.serial))
+Learns D c cl = (cl.config.parts ≡ c ∷ []) ⊎ (OnWay D Fetches ⊎ OnWay D (BringsConfiguration c cl.config.serial))
 
 -- the only client does
 abbrev pub ClientLearns : World → ℕ → PartConfig → Type 0
-ClientLearns w done c = (cl : ClientState) → w.clients ≡ cl ∷ [] → Learns (Due w done) c cl
+ClientLearns w done c = (cl : ClientState) → w.clients ≡ cl ∷ [] → Learns (IsDue w done) c cl
 
 -- the client has the present entry, or one of a lower serial
-abbrev pub IsBehind : World → PartConfig → ClientState → Type 0
-IsBehind w c cl = (cl.config.parts ≡ c ∷ []) ⊎ (cl.config.serial < w.manager.config.serial)
+abbrev pub IsBehindEntry : World → PartConfig → ClientState → Type 0
+IsBehindEntry w c cl = (cl.config.parts ≡ c ∷ []) ⊎ (cl.config.serial < w.manager.config.serial)

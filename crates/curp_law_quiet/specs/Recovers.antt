@@ -16,9 +16,9 @@ use Rattle.curp_model.specs.Recovery.{Asking, RecoveryPhase, Replayed, Storing, 
 use Rattle.curp_law_quiet.specs.Ways.{Appends, Kind, OnWay, Stores}
 
 -- the order to recover
-abbrev pub Orders : ℕ → Recover → Kind
-Orders q o from to (body.Recover r) = (to ≡ master_node q) × (r ≡ o)
-Orders q o from to _ = ⊥
+abbrev pub OrdersRecovery : ℕ → Recover → Kind
+OrdersRecovery q o from to (body.Recover r) = (to ≡ master_node q) × (r ≡ o)
+OrdersRecovery q o from to _ = ⊥
 
 -- the named backup is asked for its log
 abbrev pub Fences : ℕ → Recover → Kind
@@ -36,9 +36,9 @@ GivesLog q o from to (body.FenceAnswer a) = (from ≡ o.backup) × (to ≡ maste
 GivesLog q o from to _ = ⊥
 
 -- the named witness is asked for what it holds
-abbrev pub Freezes : ℕ → Recover → Kind
-Freezes q o from to (body.Freeze epoch) = (from ≡ master_node q) × (to ≡ o.witness)
-Freezes q o from to _ = ⊥
+abbrev pub AsksToFreeze : ℕ → Recover → Kind
+AsksToFreeze q o from to (body.Freeze epoch) = (from ≡ master_node q) × (to ≡ o.witness)
+AsksToFreeze q o from to _ = ⊥
 
 -- its answer
 abbrev pub GivesRequests : ℕ → Recover → Kind
@@ -56,7 +56,7 @@ ComesLog D q o None = OnWay D (Fences q o) ⊎ OnWay D (GivesLog q o)
 ComesLog D q o (Some log) = ⊤
 
 abbrev pub ComesRequests : (Message → Type 0) → ℕ → Recover → Option (List Request) → Type 0
-ComesRequests D q o None = OnWay D (Freezes q o) ⊎ OnWay D (GivesRequests q o)
+ComesRequests D q o None = OnWay D (AsksToFreeze q o) ⊎ OnWay D (GivesRequests q o)
 ComesRequests D q o (Some requests) = ⊤
 
 -- not both are there
@@ -65,12 +65,12 @@ NotBoth (Some log) (Some requests) = ⊥
 NotBoth _ _ = ⊤
 
 -- a fresh backup has the whole log, or will tell so
-abbrev pub Completes : (Message → Type 0) → ℕ → Recover → Replayed → NodeId → Type 0
-Completes D q o r b =
+abbrev pub CompletesBackup : (Message → Type 0) → ℕ → Recover → Replayed → NodeId → Type 0
+CompletesBackup D q o r b =
     (is_among b r.complete ≡ true) ⊎ (OnWay D (Appends o.epoch b (length r.log) 0) ⊎ OnWay D (Stores q b (length r.log) 0))
 
 -- by the phase
 abbrev pub PhaseGoes : (Message → Type 0) → ℕ → Recover → RecoveryPhase → Type 0
 PhaseGoes D q o (Asking log requests) = ComesLog D q o log × ComesRequests D q o requests × NotBoth log requests
-PhaseGoes D q o (Storing r) = (all_complete o r ≡ false) × Each (Completes D q o r) o.backups
+PhaseGoes D q o (Storing r) = (all_complete o r ≡ false) × Each (CompletesBackup D q o r) o.backups
 PhaseGoes D q o (Waiting r) = OnWay D (TellsRecovered o)

@@ -41,14 +41,14 @@ Appends epoch b long round from to (body.Append a) =
 Appends epoch b long round from to _ = ⊥
 
 -- the backup has so many, as of a round not before that one
-abbrev pub IsStored : ℕ → ℕ → ℕ → AppendAnswer → Type 0
-IsStored long round its (Stored l) = (long ≤ l) × (round ≤ its)
-IsStored long round its _ = ⊥
+abbrev pub HasStored : ℕ → ℕ → ℕ → AppendAnswer → Type 0
+HasStored long round its (Stored l) = (long ≤ l) × (round ≤ its)
+HasStored long round its _ = ⊥
 
 -- that backup tells master n so
 abbrev pub Stores : ℕ → NodeId → ℕ → ℕ → Kind
 Stores n b long round from to (body.Appended a) =
-    (from ≡ b) × (to ≡ master_node n) × IsStored long round a.round a.answer
+    (from ≡ b) × (to ≡ master_node n) × HasStored long round a.round a.answer
 Stores n b long round from to _ = ⊥
 
 -- a synced reply to the request of that id
@@ -64,9 +64,9 @@ EarlyReply master epoch version id from to (body.Reply r) =
 EarlyReply master epoch version id from to _ = ⊥
 
 -- a value of the read of that id
-abbrev pub Value : RequestId → Kind
-Value id from to (body.Worth v) = (to ≡ client_node id.client) × (v.id ≡ id)
-Value id from to _ = ⊥
+abbrev pub ValueOf : RequestId → Kind
+ValueOf id from to (body.Worth v) = (to ≡ client_node id.client) × (v.id ≡ id)
+ValueOf id from to _ = ⊥
 
 -- what is asked of a master is this request, at that epoch and version
 abbrev pub Asks : PartConfig → Request → NodeId → Ask → Type 0
@@ -107,15 +107,15 @@ Rejects id from to _ = ⊥
 
 -- a backup has acknowledged so many entries as of a round; or an append that reaches so far is on its way to it, or its
 -- answer
-pub data Covers (D : Message → Type 0) (acks : List Acknowledged) (epoch n : ℕ) (b : NodeId) (long round : ℕ)
+pub data WillCover (D : Message → Type 0) (acks : List Acknowledged) (epoch n : ℕ) (b : NodeId) (long round : ℕ)
     : Type 0 where
-  Known : long ≤ (from_backup acks b).length → round ≤ (from_backup acks b).round → Covers D acks epoch n b long round
-  Goes : OnWay D (Appends epoch b long round) → Covers D acks epoch n b long round
-  Comes : OnWay D (Stores n b long round) → Covers D acks epoch n b long round
+  Known : long ≤ (from_backup acks b).length → round ≤ (from_backup acks b).round → WillCover D acks epoch n b long round
+  Goes : OnWay D (Appends epoch b long round) → WillCover D acks epoch n b long round
+  Comes : OnWay D (Stores n b long round) → WillCover D acks epoch n b long round
 
 -- of each backup of its list
 abbrev pub Covered : (Message → Type 0) → ℕ → MasterState → ℕ → ℕ → Type 0
-Covered D n m long round = Each (λ b. Covers D m.acknowledged m.epoch n b long round) m.backups
+Covered D n m long round = Each (λ b. WillCover D m.acknowledged m.epoch n b long round) m.backups
 
 -- an entry that is held isn't synced, and a round is under way that covers it
 pub record HeldGoes (D : Message → Type 0) (n : ℕ) (m : MasterState) (index : ℕ) : Type 0 where
@@ -150,8 +150,8 @@ abbrev pub Answers : (Message → Type 0) → MasterState → RequestId → Type
 Answers D m id = OnWay D (SyncedReply id) ⊎ IsHeldFor m id
 
 -- or an unsynced one is on its way
-abbrev pub Tells : (Message → Type 0) → PartConfig → MasterState → RequestId → Type 0
-Tells D c m id = Answers D m id ⊎ OnWay D (EarlyReply c.master c.epoch c.version id)
+abbrev pub WillTell : (Message → Type 0) → PartConfig → MasterState → RequestId → Type 0
+WillTell D c m id = Answers D m id ⊎ OnWay D (EarlyReply c.master c.epoch c.version id)
 
 -- a read waits for its round
 pub record IsCaptured (m : MasterState) (id : RequestId) : Type 0 where
@@ -161,7 +161,7 @@ pub record IsCaptured (m : MasterState) (id : RequestId) : Type 0 where
 
 -- or its value is on its way
 abbrev pub Gives : (Message → Type 0) → MasterState → RequestId → Type 0
-Gives D m id = OnWay D (Value id) ⊎ IsCaptured m id
+Gives D m id = OnWay D (ValueOf id) ⊎ IsCaptured m id
 
 -- ---- requests at the client
 
@@ -174,17 +174,17 @@ pub record HasEarly (p : Pending) (c : PartConfig) : Type 0 where
   pub version : early.version ≡ c.version
 
 -- a witness was asked, and will have accepted, or the request is, or will be, asked for again
-abbrev pub Recorded : (Message → Type 0) → PartConfig → Pending → NodeId → Type 0
-Recorded D c p x =
+abbrev pub GetsRecorded : (Message → Type 0) → PartConfig → Pending → NodeId → Type 0
+GetsRecorded D c p x =
     (has_accepted p.accepts c.epoch x ≡ true) ⊎ ((p.asked ≡ true)
     ⊎ (OnWay D (Records c p.request x) ⊎ (OnWay D (Accepts c p.request.id x) ⊎ OnWay D (Rejects p.request.id))))
 
 -- an update that isn't completed
 pub record UpdateGoes (D : Message → Type 0) (m : MasterState) (c : PartConfig) (p : Pending) : Type 0 where
   pub unproved : proved_answer p ≡ None
-  pub told : HasEarly p c ⊎ (OnWay D (Updates c p.request) ⊎ Tells D c m p.request.id)
+  pub told : HasEarly p c ⊎ (OnWay D (Updates c p.request) ⊎ WillTell D c m p.request.id)
   pub asked : p.asked ≡ true → OnWay D (Syncs c p.request) ⊎ Answers D m p.request.id
-  pub recorded : Each (Recorded D c p) c.witnesses
+  pub recorded : Each (GetsRecorded D c p) c.witnesses
 
 -- a read that isn't completed
 abbrev pub ReadGoes : (Message → Type 0) → MasterState → PartConfig → Pending → Type 0

@@ -32,7 +32,7 @@ ghost use Rattle.curp_cmd.specs.declared.node.NodeId.{NodeId};
 ghost use Rattle.curp_model.specs.Manager.{recover_order};
 ghost use Rattle.curp_msg.specs.declared.body.Recover.{Recover};
 ghost use Rattle.curp_law_quiet.specs.Renews.{CanRecover, IsRenewed, RenewGrounds, Renewing, renewed};
-ghost use Rattle.curp_law_quiet.specs.Learns.{ClientLearns, IsBehind};
+ghost use Rattle.curp_law_quiet.specs.Learns.{ClientLearns, IsBehindEntry};
 
 /// A calm world stays calm by each delivery, and by each step that begins something; and where every message is
 /// delivered, no request pends.
@@ -86,7 +86,7 @@ pub fn configurations_come()
     ensures delivers { (w : World) (done : ℕ) (x : Message) → At (messages w) done x
         → (step w (steps.Deliver (suc done))).outcome.result ≡ Done
         → (c : PartConfig) (q : ℕ) (m : MasterState) (cl : ClientState) → Calm w done c q m cl → Grounds w done c m cl
-        → IsBehind w c cl
+        → IsBehindEntry w c cl
         → ClientLearns w done c → ClientLearns (step w (steps.Deliver (suc done))).world (suc done) c }
     ensures at_end { (w : World) (c : PartConfig) (cl : ClientState) → w.clients ≡ cl ∷ []
         → ClientLearns w (length (messages w)) c → cl.config.parts ≡ c ∷ [] }

@@ -34,8 +34,8 @@ use Rattle.curp_law_names.proofs.Steps.{moved_messages}
 use Rattle.curp_law_routes.proofs.Moves.{step_moves}
 use Rattle.curp_law_routes.proofs.Orders.{manager_orders}
 use Rattle.curp_law_routes.proofs.Steps.{nothing_sent}
-use Rattle.curp_law_routes.specs.Orders.{Begins, Ends, KeepsRanges, MayOrder, Orders, Stays}
-use Rattle.curp_law_routes.specs.Steps.{ByManager, ByOther, Moves}
+use Rattle.curp_law_routes.specs.Orders.{BeginsMigration, Ends, KeepsRanges, MayOrder, Orders, Stays}
+use Rattle.curp_law_routes.specs.Steps.{ByManager, ByOther, ManagerMoves}
 use Rattle.curp_law_stays.proofs.Entries.{ordered_later}
 use Rattle.curp_law_stays.proofs.Said.{has_ranges_later, ranges_later}
 use Rattle.curp_law_stays.proofs.Words.{Follows}
@@ -126,14 +126,14 @@ module _ {w v : World} (s : Follows w v) (configs : Configs w) where
       but_one = λ m its. stays_work st m (moving_now m its);
     }
 
-    begins_work : (b : Begins w r) → IsNext b.m
+    begins_work : (b : BeginsMigration w r) → IsNext b.m
     begins_work b = (
       configs.present.all b.free ∙ sym b.number,
       subst (λ (part : ℕ). is_covered (configs.present.have.ranges part) b.m.range.lo b.m.range.hi ≡ true) b.its_part
           (ap (λ spans. is_covered spans b.m.range.lo b.m.range.hi) (sym (among_each (λ (d : PartConfig). d.ranges ≡ configs.present.have.ranges d.part) w.manager.config.parts configs.present.have.has b.owner b.present)) ∙ b.covers),
     )
 
-    by_begins : Begins w r → PresentRanges v
+    by_begins : BeginsMigration w r → PresentRanges v
     unfolding kept_have before
     by_begins b = record {
       have = kept_have (subst (λ (x : Config). Each (λ (c : PartConfig). c.ranges ≡ configs.present.have.ranges c.part) x.parts) (sym b.config) configs.present.have.has);
@@ -240,7 +240,7 @@ record OfManager (w : World) : Type 0 where
   present : PresentRanges w
   told : (to : NodeId) (config : Config) → WasSent w (says manager_node to (body.Configuration config)) → HasRanges w config
 
-moved_configs : {w : World} → Known w → Routes w → Configs w → (v : World) → Moves w v → Follows w v → OfManager v
+moved_configs : {w : World} → Known w → Routes w → Configs w → (v : World) → ManagerMoves w v → Follows w v → OfManager v
 moved_configs {w} known routes configs _ (ByManager given adopted events for) s =
     let r = manager_input w.manager given in
     let o : Orders w r = manager_orders known.names known.inv routes given for in

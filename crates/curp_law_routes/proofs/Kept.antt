@@ -21,7 +21,7 @@ use Rattle.curp_law_stays.proofs.Words.{Follows}
 use Rattle.curp_facts.specs.Before.{GivesBefore, Routed}
 use Rattle.curp_facts.specs.Migrated.{Migrated}
 use Rattle.curp_facts.specs.Routes.{Routes}
-use Rattle.curp_law_routes.specs.Steps.{ByManager, ByOther, Moves}
+use Rattle.curp_law_routes.specs.Steps.{ByManager, ByOther, ManagerMoves}
 use Rattle.curp_law_routes.proofs.Before.{manager_keeps_before, others_keep_before}
 use Rattle.curp_law_routes.proofs.Migrated.{migrated}
 use Rattle.curp_law_routes.proofs.Moves.{step_moves}
@@ -32,7 +32,7 @@ module _ {w : World} (known : Known w) where
   both : Both w
   both = record { names = known.names; nodes = known.nodes }
 
-  routes_moved : Routes w → (v : World) → Moves w v → Follows w v → Names v → Routes v
+  routes_moved : Routes w → (v : World) → ManagerMoves w v → Follows w v → Names v → Routes v
   routes_moved routes _ (ByManager given adopted events for) s now = manager_step_routes known routes given for adopted events s now
   routes_moved routes _ (ByOther v b) s now = others_keep_routes s b.out b.mover routes b.sent b.all b.not_manager b.manager
 
@@ -44,7 +44,7 @@ module _ {w : World} (known : Known w) where
   arrives (input.Local order) for = tt
   arrives (input.Message m) for = (fits known m for.1, for.1)
 
-  before_moved : GivesBefore w → Routed w → (v : World) → Moves w v → Follows w v → Routed v → GivesBefore v
+  before_moved : GivesBefore w → Routed w → (v : World) → ManagerMoves w v → Follows w v → Routed v → GivesBefore v
   before_moved before a _ (ByManager given adopted events for) s b =
       let r = manager_input w.manager given in
       let all : Each (λ (m : Message). m.from ≡ manager_node) r.messages = (manager_good known.names given (arrives given for)).0 in

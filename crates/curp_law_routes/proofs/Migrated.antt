@@ -35,7 +35,7 @@ use Rattle.curp_facts.specs.Predecessors.{Predecessors}
 use Rattle.curp_law_pairs.proofs.Words.{said}
 use Rattle.curp_facts.specs.Before.{GivesBefore}
 use Rattle.curp_facts.specs.Migrated.{AllStored, Migrated, OnlyInWork, OpStored, TakeStored, WasTold}
-use Rattle.curp_facts.specs.Routes.{IsDone, IsGiveOf, IsMoving, Routes}
+use Rattle.curp_facts.specs.Routes.{IsMigrationDone, IsGiveOf, IsMoving, Routes}
 use Rattle.curp_law_logs.proofs.Records.{recorded}
 use Rattle.curp_law_routes.proofs.Stored.{adopted_ok, front_at, one_adopted, one_entry, one_give, one_take, stored_now}
 
@@ -97,17 +97,17 @@ module _ {w : World} (names : Names w) (inv : Invariant w) (chain : Predecessors
   -- ---- past the length of some backup
 
   -- a number that was given is in work or done
-  pub work_or_done : (number : ℕ) → 1 ≤ number → number < w.manager.next.migration → IsMoving w number ⊎ IsDone w number
+  pub work_or_done : (number : ℕ) → 1 ≤ number → number < w.manager.next.migration → IsMoving w number ⊎ IsMigrationDone w number
   work_or_done number low below = go w.manager.moving refl
     where
-      go : (o : Option Migration) → w.manager.moving ≡ o → IsMoving w number ⊎ IsDone w number
+      go : (o : Option Migration) → w.manager.moving ≡ o → IsMoving w number ⊎ IsMigrationDone w number
       go None is = inr (routes.done number low below (λ (k : IsMoving w number). absurd (cc (k.1, is))))
       go (Some m) is = elim (cases_eq m.number number) [
         | inl same ↦ inl (m, is, same)
         | inr other ↦ inr (routes.done number low below (λ (k : IsMoving w number). let one : k.0 ≡ m = cc (k.1, is) in other (ap (λ (x : Migration). x.number) (sym one) ∙ k.2)))
       ]
 
-  in_work_unless : (number : ℕ) → 1 ≤ number → number < w.manager.next.migration → (IsDone w number → ⊥) → IsMoving w number
+  in_work_unless : (number : ℕ) → 1 ≤ number → number < w.manager.next.migration → (IsMigrationDone w number → ⊥) → IsMoving w number
   in_work_unless number low below undone = elim (work_or_done number low below) [ inl moving ↦ moving | inr done ↦ absurd (undone done) ]
 
   module _ (c : PartConfig) (l : AdoptedLog w c) (node : NodeId) (b : BackupState) (named : IsAmong node c.backups) (is : IsBackup w node b) where
@@ -120,7 +120,7 @@ module _ {w : World} (names : Names w) (inv : Invariant w) (chain : Predecessors
         absurd (omega (arith, stored node named b is, one.1, long))
 
     -- and a give there isn't done
-    ungiven : (index number : ℕ) (p : Package) → length b.log ≤ index → At l.its.log index (Give number p) → IsDone w number → ⊥
+    ungiven : (index number : ℕ) (p : Package) → length b.log ≤ index → At l.its.log index (Give number p) → IsMigrationDone w number → ⊥
     ungiven index number p long at d =
         let s : StoredEntry w d.target (IsGiveOf number) = d.given in
         let n = stored_now names inv chain d.target (IsGiveOf number) s in

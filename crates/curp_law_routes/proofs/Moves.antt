@@ -33,7 +33,7 @@ use Rattle.curp_law_names.proofs.Lists.{among_each}
 use Rattle.curp_law_names.proofs.Named.{named}
 use Rattle.curp_law_names.proofs.Others.{Both}
 use Rattle.curp_law_names.proofs.Recoverings.{IsForMaster, master_fits}
-use Rattle.curp_law_routes.specs.Steps.{ByManager, ByOther, Moves}
+use Rattle.curp_law_routes.specs.Steps.{ByManager, ByOther, ManagerMoves}
 use Rattle.curp_base.proofs.Numbered.{place, number_within}
 use Rattle.curp_model.proofs.Batches.{all_of-kept}
 
@@ -67,15 +67,15 @@ module _ (w : World) (both : Both w) (events : List Event) where
   for_manager i (input.Local order) comes here = tt
   for_manager i (input.Message m) comes here = (for_the_manager w m comes.0 (ap (λ (n : NodeId). n.kind) here), comes.1)
 
-  nothing : Moves w (kept w events (quiet w)).world
+  nothing : ManagerMoves w (kept w events (quiet w)).world
   nothing = ByOther (kept w events (quiet w)).world (record { out = []; mover = client_node 1; sent = all_of-kept w.sent []; all = tt; not_manager = apart (client_node 1) (λ k. absurd cc); manager = refl })
 
-  by_one : {S : Type 0} (move : S → Moved World) (o : Option S) → ((x : S) → o ≡ Some x → Moves w (kept w events (move x)).world) → Moves w (kept w events (moves_one w move o)).world
+  by_one : {S : Type 0} (move : S → Moved World) (o : Option S) → ((x : S) → o ≡ Some x → ManagerMoves w (kept w events (move x)).world) → ManagerMoves w (kept w events (moves_one w move o)).world
   by_one move None moves = nothing
   by_one move (Some x) moves = moves x refl
 
   -- an input comes to a node
-  input_moves : (k : NodeKind) (i : ℕ) (given : Input) → Arrives w given → IsFor k i given → Moves w (kept w events (moves_kind w k i given)).world
+  input_moves : (k : NodeKind) (i : ℕ) (given : Input) → Arrives w given → IsFor k i given → ManagerMoves w (kept w events (moves_kind w k i given)).world
   input_moves kind.Manager i given comes here = ByManager given (adoption w.manager given) events (for_manager i given comes here)
   input_moves kind.Client i given comes here = by_one _ (numbered w.clients i) (λ c at.
       let r = client_fits w both.names i (number_within w.clients i c at) c (both.nodes.clients i c at) given comes in
@@ -97,14 +97,14 @@ module _ (w : World) (both : Both w) (events : List Event) where
 -- ---- steps
 
 module _ (w : World) (both : Both w) where
-  delivery_moves : (number : ℕ) (o : Option Message) → numbered (messages w) number ≡ o → (events : List Event) → Moves w (kept w events (effect w (delivery o))).world
+  delivery_moves : (number : ℕ) (o : Option Message) → numbered (messages w) number ≡ o → (events : List Event) → ManagerMoves w (kept w events (effect w (delivery o))).world
   delivery_moves number None at events = nothing w both events
   delivery_moves number (Some m) at events =
       let p = place (messages w) number m at in
       let sent : IsAmong m (messages w) = record { place = p.0; stands = p.2 } in
       input_moves w both events m.to.kind m.to.number (input.Message m) (among_each (MessageFits w) (messages w) both.nodes.said m sent, record { place = p.0; stands = p.2 }) refl
 
-  deed_moves : (x : Step) (events : List Event) → Moves w (kept w events (effect w (deed_of w x))).world
+  deed_moves : (x : Step) (events : List Event) → ManagerMoves w (kept w events (effect w (deed_of w x))).world
   deed_moves (steps.Deliver number) events = delivery_moves number (numbered (messages w) number) refl events
   deed_moves (steps.Stop node) events = ByOther _ (record { out = []; mover = client_node 1; sent = all_of-kept w.sent []; all = tt; not_manager = apart (client_node 1) (λ k. absurd cc); manager = refl })
   deed_moves (steps.Invoke i command) events = input_moves w both events kind.Client i (input.Local (local.Invoke command)) tt tt
@@ -118,11 +118,11 @@ module _ (w : World) (both : Both w) where
   deed_moves steps.Nudge events = input_moves w both events kind.Manager 0 (input.Local local.Nudge) tt tt
   deed_moves (steps.Expire client) events = input_moves w both events kind.Manager 0 (input.Local (local.Expire client)) tt tt
 
-  by_result : (x : Step) (why : StepResult) → Moves w (steps_by w (deed_of w x) why).world
+  by_result : (x : Step) (why : StepResult) → ManagerMoves w (steps_by w (deed_of w x) why).world
   by_result x result.Done = deed_moves x (events_of w (deed_of w x))
   by_result x _ = ByOther w (record { out = []; mover = client_node 1; sent = sym (append-nil (messages w)); all = tt; not_manager = apart (client_node 1) (λ k. absurd cc); manager = refl })
 
   -- each step is one or the other
-  pub step_moves : (x : Step) → Moves w (step w x).world
+  pub step_moves : (x : Step) → ManagerMoves w (step w x).world
   unfolding step
   step_moves x = by_result x (result_of w x)

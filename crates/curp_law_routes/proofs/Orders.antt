@@ -41,7 +41,7 @@ use Rattle.curp_law_names.proofs.Says.{each_flat}
 use Rattle.curp_law_pairs.proofs.Logs.{has_home}
 use Rattle.curp_law_pairs.proofs.Words.{said}
 use Rattle.curp_law_routes.specs.Orders.{AllMayOrder, KeepsRanges, MayOrder, Orders}
-use Rattle.curp_facts.specs.Routes.{IsDone, Routes}
+use Rattle.curp_facts.specs.Routes.{IsMigrationDone, Routes}
 use Rattle.curp_base.proofs.Numbered.{place, number_within}
 
 -- what is found by a test passes it
@@ -325,10 +325,10 @@ module _ {w : World} (names : Names w) where
 
   module _ (inv : Invariant w) (routes : Routes w) where
     -- what is said to be given is the migration in work, where it is of that number
-    given_done : (from : NodeId) (m : Migration) → w.manager.moving ≡ Some m → WasSent w (says from manager_node (body.Given m.number)) → IsDone w m.number
+    given_done : (from : NodeId) (m : Migration) → w.manager.moving ≡ Some m → WasSent w (says from manager_node (body.Given m.number)) → IsMigrationDone w m.number
     given_done from m is sent = go (said inv from manager_node (body.Given m.number) sent).0
       where
-        go : StoredEntry w from (IsGiveFrom m.number) → IsDone w m.number
+        go : StoredEntry w from (IsGiveFrom m.number) → IsMigrationDone w m.number
         go s =
             let number : ℕ = s.is.0 in
             let p : Package = s.is.1 in

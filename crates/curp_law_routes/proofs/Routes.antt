@@ -19,13 +19,13 @@ use Rattle.curp_facts.specs.Names.{IsAdoptedMaster, Names}
 use Rattle.curp_law_stays.proofs.Entries.{ordered_later}
 use Rattle.curp_law_stays.proofs.Replies.{entry_stored_later}
 use Rattle.curp_law_stays.proofs.Words.{Follows, given_later, sent_later}
-use Rattle.curp_law_routes.specs.Orders.{Begins, Ends, MayOrder, Orders, Stays}
-use Rattle.curp_facts.specs.Routes.{InWork, IsDone, IsGiveOf, IsMoving, Routes, order_of}
+use Rattle.curp_law_routes.specs.Orders.{BeginsMigration, Ends, MayOrder, Orders, Stays}
+use Rattle.curp_facts.specs.Routes.{InWork, IsMigrationDone, IsGiveOf, IsMoving, Routes, order_of}
 
 -- ---- a later world
 
 module _ {w v : World} (s : Follows w v) where
-  pub done_later : (number : ℕ) → IsDone w number → IsDone v number
+  pub done_later : (number : ℕ) → IsMigrationDone w number → IsMigrationDone v number
   done_later number d = record { source = d.source; taken = d.taken; told = sent_later s d.told; target = d.target; given = entry_stored_later s d.target (IsGiveOf number) d.given }
 
   -- what was ordered before is ordered, and by names to one partition
@@ -212,7 +212,7 @@ module _ {w v : World} (s : Follows w v) (now : Names v) (routes : Routes w) (r 
           target = subst (λ (p : ℕ). (1 ≤ p) × (p ≤ v.manager.shape.parts)) k.5 (part_now k.0.target work.target);
         }
 
-    stays_done : (number : ℕ) → 1 ≤ number → number < v.manager.next.migration → (IsMoving v number → ⊥) → IsDone v number
+    stays_done : (number : ℕ) → 1 ≤ number → number < v.manager.next.migration → (IsMoving v number → ⊥) → IsMigrationDone v number
     stays_done number low below idle = done_later s number (routes.done number low (omega (arith, below, next_stays)) (λ (k : IsMoving w number).
         let m = work_stays k.0 k.1 in idle (m.0, moving_then m.0 m.1, m.2 ∙ k.2)))
 
@@ -243,9 +243,9 @@ module _ {w v : World} (s : Follows w v) (now : Names v) (routes : Routes w) (r 
     next_ends : v.manager.next.migration ≡ w.manager.next.migration
     next_ends = next_now ∙ ends.next
 
-    ends_done : (number : ℕ) → 1 ≤ number → number < v.manager.next.migration → (IsMoving v number → ⊥) → IsDone v number
+    ends_done : (number : ℕ) → 1 ≤ number → number < v.manager.next.migration → (IsMoving v number → ⊥) → IsMigrationDone v number
     ends_done number low below idle = elim (cases_eq ends.m.number number) [
-      | inl same ↦ subst (IsDone v) same (done_later s ends.m.number ends.done)
+      | inl same ↦ subst (IsMigrationDone v) same (done_later s ends.m.number ends.done)
       | inr other ↦ done_later s number (routes.done number low (omega (arith, below, next_ends)) (λ (k : IsMoving w number).
           let one : k.0 ≡ ends.m = cc (k.1, ends.was) in absurd (other (ap (λ (x : Migration). x.number) (sym one) ∙ k.2))))
     ]
@@ -264,7 +264,7 @@ module _ {w v : World} (s : Follows w v) (now : Names v) (routes : Routes w) (r 
 
   -- ---- a migration begins
 
-  module _ (b : Begins w r) where
+  module _ (b : BeginsMigration w r) where
     begun_take : (part : ℕ) (t : TakeOut) → WasOrdered v part (body.TakeOut t) → WasOrdered w part (body.TakeOut t) ⊎ ((t ≡ order_of b.m) × (part ≡ b.m.source))
     begun_take part t k = elim (take_cases part t k) [
       | inl old ↦ inl old
@@ -341,7 +341,7 @@ module _ {w v : World} (s : Follows w v) (now : Names v) (routes : Routes w) (r 
       target = part_now b.m.target b.target;
     }
 
-    begun_done : (number : ℕ) → 1 ≤ number → number < v.manager.next.migration → (IsMoving v number → ⊥) → IsDone v number
+    begun_done : (number : ℕ) → 1 ≤ number → number < v.manager.next.migration → (IsMoving v number → ⊥) → IsMigrationDone v number
     begun_done number low below idle = elim (cases_eq b.m.number number) [
       | inl same ↦ absurd (idle (b.m, moving_then b.m b.moves, same))
       | inr other ↦ done_later s number (routes.done number low (omega (arith, below, next_begun, b.number, other)) (λ (k : IsMoving w number). absurd (cc (k.1, b.free))))

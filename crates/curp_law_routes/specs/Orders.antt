@@ -15,7 +15,7 @@ use Rattle.curp_range.specs.Spans.{is_covered}
 use Rattle.curp_model.specs.Manager.{ManagerState, Migration, moved_part}
 use Rattle.curp_model.specs.World.{World}
 use Rattle.curp_facts.specs.Facts.{IsAmong, IsMasterOf, WasOrdered}
-use Rattle.curp_facts.specs.Routes.{IsDone, order_of}
+use Rattle.curp_facts.specs.Routes.{IsMigrationDone, order_of}
 
 -- of migrations only that in work is ordered: to be taken out at a master of its source, or to be given at a master of its target;
 -- and the only configuration that is told is the manager's
@@ -47,7 +47,7 @@ pub record Stays (w : World) (r : Moved ManagerState) : Type 0 where
   pub ranges : Each (KeepsRanges w) r.state.config.parts
 
 -- a migration begins, under the next number, between two partitions
-pub record Begins (w : World) (r : Moved ManagerState) : Type 0 where
+pub record BeginsMigration (w : World) (r : Moved ManagerState) : Type 0 where
   pub m : Migration
   pub free : w.manager.moving ≡ None
   pub moves : r.state.moving ≡ Some m
@@ -71,7 +71,7 @@ pub record Ends (w : World) (r : Moved ManagerState) : Type 0 where
   pub was : w.manager.moving ≡ Some m
   pub free : r.state.moving ≡ None
   pub next : r.state.next.migration ≡ w.manager.next.migration
-  pub done : IsDone w m.number
+  pub done : IsMigrationDone w m.number
   pub moved : r.state.config.parts ≡ map (moved_part m) w.manager.config.parts
   pub parcel : Parcel
   pub given : WasOrdered w m.target (body.GiveIn parcel)
@@ -81,4 +81,4 @@ pub record Ends (w : World) (r : Moved ManagerState) : Type 0 where
 pub record Orders (w : World) (r : Moved ManagerState) : Type 0 where
   pub shape : r.state.shape ≡ w.manager.shape
   pub orders : AllMayOrder w r
-  pub change : Stays w r ⊎ (Begins w r ⊎ Ends w r)
+  pub change : Stays w r ⊎ (BeginsMigration w r ⊎ Ends w r)

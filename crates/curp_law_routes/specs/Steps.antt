@@ -21,7 +21,7 @@ pub record MovesBeside (w v : World) : Type 0 where
   pub manager : v.manager ≡ w.manager
 
 -- an input has come to the manager, or the manager stays as it is
-pub data Moves (w : World) : World → Type 0 where
+pub data ManagerMoves (w : World) : World → Type 0 where
   ByManager : (given : Input) (adopted : Option Attempted) (events : List Event) → IsFor w manager_node given
-      → Moves w (kept w events (within (with_manager w adopted) (manager_input w.manager given))).world
-  ByOther : (v : World) → MovesBeside w v → Moves w v
+      → ManagerMoves w (kept w events (within (with_manager w adopted) (manager_input w.manager given))).world
+  ByOther : (v : World) → MovesBeside w v → ManagerMoves w v

@@ -21,10 +21,10 @@ use Rattle.curp_model.specs.Named.{IsBackup, IsWitness}
 use Rattle.curp_model.specs.Recovery.{replay}
 use Rattle.curp_model.specs.Witness.{WitnessState, frozen_requests}
 use Rattle.curp_model.specs.World.{World}
-use Rattle.curp_facts.specs.Facts.{Collected, FenceReplyOk, FencedLogOk, FrozenOk, IsAmong, IsGiven, Lists, WasSent, Sources, replay_of}
+use Rattle.curp_facts.specs.Facts.{WasCollected, FenceReplyOk, FencedLogOk, FrozenOk, IsAmong, IsGiven, Lists, WasSent, ReplaySources, replay_of}
 use Rattle.curp_facts.specs.Growth.{BackupGrows, Dropped}
 use Rattle.curp_facts.specs.Nodes.{BackupOk}
-use Rattle.curp_facts.specs.Reach.{IsThere}
+use Rattle.curp_facts.specs.Reach.{BackupIsThere}
 use Rattle.curp_facts.specs.Said.{AcceptedSaid, AppendHolds, AppendSaid, AppendedSaid, ProbedSaid}
 use Rattle.curp_law_stays.proofs.Words.{Follows, backup_later, given_later, log_later, one_state, sent_later, there, witness_later, event_at}
 use Rattle.curp_msg.specs.declared.body.Probed.{Probed}
@@ -79,7 +79,7 @@ module _ {w v : World} (s : Follows w v) where
       same : (e : ℕ) → ok.x.epoch ≡ Some e → e ≡ a.epoch
       same e h = let its = ok.its_epoch in cc
 
-      dropped : Dropped v from.number ok.x a.id → Collected v from a.id a.epoch
+      dropped : Dropped v from.number ok.x a.id → WasCollected v from a.id a.epoch
       dropped d = record {
         node = d.from;
         gc = d.gc;
@@ -110,8 +110,8 @@ module _ {w v : World} (s : Follows w v) where
 
   -- what a recovery stands on stays as it is, and so does its replay
   pub sources_later : BackupsOk w → (l : Lists) → IsGiven w l → (backup witness : NodeId) (epoch : ℕ) → IsAmong backup l.backups → l.epoch < epoch
-      → (sources : Sources w backup witness epoch)
-      → (later : Sources v backup witness epoch) × (later.b.log ≡ sources.b.log) × ((lo hi : ℕ) → replay_of lo hi later ≡ replay_of lo hi sources)
+      → (sources : ReplaySources w backup witness epoch)
+      → (later : ReplaySources v backup witness epoch) × (later.b.log ≡ sources.b.log) × ((lo hi : ℕ) → replay_of lo hi later ≡ replay_of lo hi sources)
   sources_later backups l given backup witness epoch named earlier sources =
       let b = backup_later s backup sources.b sources.its_backup in
       let x = witness_later s witness sources.x sources.its_witness in
@@ -147,7 +147,7 @@ module _ {w v : World} (s : Follows w v) where
   fence_reply_later backups from epoch _ ok = tt
 
   -- what each backup's log begins with stays so
-  pub fronts_later : (nodes : List NodeId) (front : List Entry) → Each (IsThere w) nodes → Each (λ node. (f : BackupState) → IsBackup w node f → IsPrefix front f.log) nodes
+  pub fronts_later : (nodes : List NodeId) (front : List Entry) → Each (BackupIsThere w) nodes → Each (λ node. (f : BackupState) → IsBackup w node f → IsPrefix front f.log) nodes
       → Each (λ node. (f : BackupState) → IsBackup v node f → IsPrefix front f.log) nodes
   fronts_later [] front there fronts = tt
   fronts_later (node ∷ nodes) front there fronts = (first, fronts_later nodes front there.1 fronts.1)

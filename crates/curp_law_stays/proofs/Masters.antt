@@ -14,9 +14,9 @@ use Rattle.curp_model.specs.Recovery.{Asking, Fresh, MasterStage, Recovering, Re
 use Rattle.curp_model.specs.World.{World}
 use Rattle.curp_facts.specs.Facts.{ReplayOk, WasSent}
 use Rattle.curp_facts.specs.Invariant.{Invariant}
-use Rattle.curp_facts.specs.Nodes.{AcknowledgedOk, CameLog, CameRequests, CapturedOk, HasSentAll, MasterOk, RecoveringOk, ReplayedOk, ServingOk, StageOk, SwitchOk}
+use Rattle.curp_facts.specs.Nodes.{AcknowledgedOk, CameLog, CameRequests, CapturedOk, HasSentAll, MasterOk, RecovererOk, ReplayedOk, ServingOk, StageOk, SwitchOk}
 use Rattle.curp_facts.specs.Reach.{HasStored}
-use Rattle.curp_facts.specs.Names.{OrderOk}
+use Rattle.curp_facts.specs.Names.{RecoverOrderOk}
 use Rattle.curp_law_stays.proofs.Entries.{log_ok_later, updates_later}
 use Rattle.curp_law_stays.proofs.Keepers.{fenced_later, frozen_later, sources_later}
 use Rattle.curp_law_stays.proofs.Words.{Follows, adopted_later, event_at, hi_later, lo_later, sent_later, stored_later}
@@ -66,7 +66,7 @@ module _ {w v : World} (s : Follows w v) where
 
   -- ---- recoveries
 
-  pub replay_later : Invariant w → (node : NodeId) (x : RecoveryState) (r : Replayed) → OrderOk w node x.order → ReplayOk w x r → ReplayOk v x r
+  pub replay_later : Invariant w → (node : NodeId) (x : RecoveryState) (r : Replayed) → RecoverOrderOk w node x.order → ReplayOk w x r → ReplayOk v x r
   replay_later inv node x r home ok =
       let later = sources_later s inv.backups home.before home.was.given x.order.backup x.order.witness x.order.epoch home.its_backup home.earlier ok.sources in
       record {
@@ -75,7 +75,7 @@ module _ {w v : World} (s : Follows w v) where
         its_cut = ok.its_cut ∙ ap length (sym later.1);
       }
 
-  pub replayed_later : Invariant w → (node : NodeId) (x : RecoveryState) (r : Replayed) → OrderOk w node x.order → ReplayedOk w x r → ReplayedOk v x r
+  pub replayed_later : Invariant w → (node : NodeId) (x : RecoveryState) (r : Replayed) → RecoverOrderOk w node x.order → ReplayedOk w x r → ReplayedOk v x r
   replayed_later inv node x r home ok = record {
     replayed = replay_later inv node x r home ok.replayed;
     log = log_ok_later s x.order.part r.log ok.log;
@@ -90,12 +90,12 @@ module _ {w v : World} (s : Follows w v) where
   came_requests_later x None ok = tt
   came_requests_later x (Some requests) ok = (frozen_later s x.order.witness requests ok.0, updates_later s requests ok.1)
 
-  pub stage_later : Invariant w → (node : NodeId) (x : RecoveryState) (p : RecoveryPhase) → OrderOk w node x.order → StageOk w x p → StageOk v x p
+  pub stage_later : Invariant w → (node : NodeId) (x : RecoveryState) (p : RecoveryPhase) → RecoverOrderOk w node x.order → StageOk w x p → StageOk v x p
   stage_later inv node x (Asking log requests) home ok = (came_log_later inv x log ok.0, came_requests_later x requests ok.1)
   stage_later inv node x (Storing r) home ok = replayed_later inv node x r home ok
   stage_later inv node x (Waiting r) home ok = (replayed_later inv node x r home ok.0, ok.1)
 
-  pub recovering_ok_later : Invariant w → (node : NodeId) (x : RecoveryState) → SaysNoMore w v node → RecoveringOk w node x → RecoveringOk v node x
+  pub recovering_ok_later : Invariant w → (node : NodeId) (x : RecoveryState) → SaysNoMore w v node → RecovererOk w node x → RecovererOk v node x
   recovering_ok_later inv node x quiet ok = record {
     ordered = sent_later s ok.ordered;
     stage = stage_later inv node x x.phase (s.names.manager_says node (body.Recover x.order) ok.ordered) ok.stage;

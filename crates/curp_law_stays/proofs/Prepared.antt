@@ -20,7 +20,7 @@ use Rattle.curp_facts.specs.Invariant.{Invariant}
 use Rattle.curp_facts.specs.Nodes.{MasterOk}
 use Rattle.curp_facts.specs.Said.{RecoveredSaid}
 use Rattle.curp_law_logs.proofs.Logs.{take_grows}
-use Rattle.curp_facts.specs.Names.{OrderOk}
+use Rattle.curp_facts.specs.Names.{RecoverOrderOk}
 use Rattle.curp_law_stays.proofs.Keepers.{fronts_later, sources_later}
 use Rattle.curp_law_stays.proofs.Words.{Follows, given_later, log_later, master_later, message_at, one_state, reach_later, sent_later, there}
 
@@ -101,7 +101,7 @@ module _ {w v : World} (s : Follows w v) where
 
   abbrev pub recovered_later : Invariant w → (from : NodeId) (epoch : ℕ) → RecoveredOk w from epoch → RecoveredOk v from epoch
   recovered_later inv from epoch ok =
-      let home : OrderOk w from ok.order = s.names.manager_says from (body.Recover ok.order) ok.sent in
+      let home : RecoverOrderOk w from ok.order = s.names.manager_says from (body.Recover ok.order) ok.sent in
       let later = sources_later s inv.backups home.before home.was.given ok.order.backup ok.order.witness epoch home.its_backup (omega (arith, home.earlier, ok.its_epoch)) ok.sources in
       record {
         order = ok.order;
@@ -115,7 +115,7 @@ module _ {w v : World} (s : Follows w v) where
   pub recovered_said_later : Invariant w → (from : NodeId) (r : Recovered) → RecoveredSaid w from r → RecoveredSaid v from r
   recovered_said_later inv from r ok =
       let o = log_later s from ok.l ok.its_log in
-      let home : OrderOk w from ok.holds.order = s.names.manager_says from (body.Recover ok.holds.order) ok.holds.sent in
+      let home : RecoverOrderOk w from ok.holds.order = s.names.manager_says from (body.Recover ok.holds.order) ok.holds.sent in
       let later = sources_later s inv.backups home.before home.was.given ok.holds.order.backup ok.holds.order.witness r.epoch home.its_backup (omega (arith, home.earlier, ok.holds.its_epoch)) ok.holds.sources in
       record {
         holds = recovered_later inv from r.epoch ok.holds;

@@ -16,7 +16,7 @@ use Rattle.curp_model.specs.Witness.{WitnessState}
 use Rattle.curp_model.specs.World.{World, messages}
 use Rattle.curp_facts.specs.Facts.{HasLog, IsGiven, Lists, Logged, WasAdopted, WasSent, hi_of, lo_of, node_log}
 use Rattle.curp_facts.specs.Growth.{BackupGrows, Dropped, Grows, LogGrows, MasterGrows, Steady, WitnessGrows}
-use Rattle.curp_facts.specs.Reach.{HasMany, HasStored, IsReady, IsThere, Reach, Whole}
+use Rattle.curp_facts.specs.Reach.{HasMany, HasStored, IsReady, BackupIsThere, Reach, Whole}
 use Rattle.curp_law_logs.proofs.Reaches.{many_grows, reach_grows}
 use Rattle.curp_facts.specs.Names.{IsOf, Names}
 use Rattle.curp_law_names.proofs.Later as names
@@ -112,8 +112,8 @@ module _ {w v : World} (s : Follows w v) where
   -- ---- how far logs reach
 
   -- the backups of lists that were given are there
-  pub there : (l : Lists) → IsGiven w l → Each (IsThere w) l.backups
-  there l given = Each-weaker (IsOf w kind.Backup) (IsThere w) (λ node of. is_there node of.0 of.1) l.backups (s.names.given l given).backups
+  pub there : (l : Lists) → IsGiven w l → Each (BackupIsThere w) l.backups
+  there l given = Each-weaker (IsOf w kind.Backup) (BackupIsThere w) (λ node of. is_there node of.0 of.1) l.backups (s.names.given l given).backups
     where
       found : {A : Type 0} (xs : List A) (n : ℕ) → 1 ≤ n → n ≤ length xs → (x : A) × (numbered xs n ≡ Some x)
       found xs zero low high = absurd (omega (arith, low))
@@ -124,13 +124,13 @@ module _ {w v : World} (s : Follows w v) where
           go (y ∷ ys) zero low = (y, refl)
           go (y ∷ ys) (suc k) low = go ys k (omega (arith, low))
 
-      is_there : (node : NodeId) → node.kind ≡ kind.Backup → (1 ≤ node.number) × (node.number ≤ length w.backups) → IsThere w node
+      is_there : (node : NodeId) → node.kind ≡ kind.Backup → (1 ≤ node.number) × (node.number ≤ length w.backups) → BackupIsThere w node
       is_there node its_kind within = let f = found w.backups node.number within.0 within.1 in (f.0, record { its_kind = its_kind; its_state = f.1 })
 
   pub many_later : (l : Lists) → IsGiven w l → (n : ℕ) → Each (HasMany w n) l.backups → Each (HasMany v n) l.backups
   many_later l given n many = go l.backups (there l given) many
     where
-      go : (nodes : List NodeId) → Each (IsThere w) nodes → Each (HasMany w n) nodes → Each (HasMany v n) nodes
+      go : (nodes : List NodeId) → Each (BackupIsThere w) nodes → Each (HasMany w n) nodes → Each (HasMany v n) nodes
       go [] there many = tt
       go (node ∷ nodes) there many = (many_grows w v s.grows n node there.0 many.0, go nodes there.1 many.1)
 

@@ -12,7 +12,7 @@ use Rattle.curp_model.specs.declared.Mode.{Mode}
 use Rattle.curp_model.specs.declared.Mode.TheVariants.{Idle, Normal, Frozen}
 use Rattle.curp_model.specs.Witness.{WitnessState, by_room, by_request, conflict, full_set, hold, holds, is_full, stranger_to, suspect, turned_away, unless_turned_away, HeldRequest, AfterRecord, HoldsInOrder}
 use Rattle.curp_model.proofs.Tables.{ids_same, ids_total}
-use Rattle.curp_law_trip.specs.Holding.{Fits, HasNoConflict, HasRoomFor, IsAlikeButMarks, IsConflict, IsNewTo, HoldsId, RejectsWith, IsLeastConflict, IsLeastFull, IsOfEpoch, IsOpen, IsStranger, unmarked}
+use Rattle.curp_law_trip.specs.Holding.{FitsSet, HasNoConflict, HasRoomForRequest, IsAlikeButMarks, IsConflict, IsNewTo, HoldsId, RejectsWith, IsLeastConflict, IsLeastFull, IsOfEpoch, IsOpen, IsStranger, unmarked}
 use Rattle.curp_cmd.proofs.Ids.{same_id-self, same_id-true}
 use Rattle.curp_law_trip.proofs.Searches.{Found, any_found, any_of, first_found, first_least, first_number, no_number, none_passes, one_least}
 
@@ -102,10 +102,10 @@ module _ (w : WitnessState) (r : Request) where
 
   -- ---- room
 
-  fits : (s : ℕ) → is_full w r s ≡ false → Fits w r s
+  fits : (s : ℕ) → is_full w r s ≡ false → FitsSet w r s
   fits s e = omega (arith, ltb-false _ _ e)
 
-  fits_not : (s : ℕ) → is_full w r s ≡ true → ¬ (Fits w r s)
+  fits_not : (s : ℕ) → is_full w r s ≡ true → ¬ (FitsSet w r s)
   fits_not s e h = absurd (omega (arith, ltb-true _ _ e, h))
 
   full_some : (s : ℕ) → full_set w r ≡ Some s → IsLeastFull w r s
@@ -113,10 +113,10 @@ module _ (w : WitnessState) (r : Request) where
       let f = first_number (is_full w r) w.sets 0 s e in
       record { set = omega (arith, f.below); full = fits_not s f.passes; least = λ t l. fits t (f.before t (omega arith) l) }
 
-  full_none : full_set w r ≡ None → HasRoomFor w r
+  full_none : full_set w r ≡ None → HasRoomForRequest w r
   full_none e s l = fits s (no_number (is_full w r) w.sets 0 e s (omega arith) (omega (arith, l)))
 
-  room_is : HasRoomFor w r → full_set w r ≡ None
+  room_is : HasRoomForRequest w r → full_set w r ≡ None
   room_is room = go (full_set w r) refl
     where
       go : (o : Option ℕ) → full_set w r ≡ o → o ≡ None
@@ -144,7 +144,7 @@ module _ (w : WitnessState) (r : Request) where
   Why epoch (Some reason.Frozen) = (w.mode ≡ Frozen) × IsOfEpoch w epoch
   Why epoch (Some (reason.Conflict id)) = IsNewTo w epoch r × (conflict w r ≡ Some id)
   Why epoch (Some (reason.SetFull set)) = IsNewTo w epoch r × HasNoConflict w r × IsLeastFull w r set
-  Why epoch None = IsOpen w epoch × (HoldsId w r.id ⊎ (HasNoConflict w r × HasRoomFor w r))
+  Why epoch None = IsOpen w epoch × (HoldsId w r.id ⊎ (HasNoConflict w r × HasRoomForRequest w r))
 
   by_room_why : (epoch : ℕ) → IsOpen w epoch → ¬ (HoldsId w r.id) → (c : Option RequestId) (full : Option ℕ) → conflict w r ≡ c → full_set w r ≡ full → Why epoch (by_room w r c full).reason
   by_room_why epoch looks not_held (Some id) full e f = (record { looks = looks; not_held = not_held }, e)
@@ -205,7 +205,7 @@ module _ (w : WitnessState) (r : Request) where
   pub set_full_so : (epoch set : ℕ) → IsNewTo w epoch r × HasNoConflict w r × IsLeastFull w r set → RejectsWith w epoch r (reason.SetFull set)
   set_full_so epoch set p = ap (λ (v : AfterRecord). v.reason) (not_held_so epoch p.0.looks (held_isnt p.0.not_held) None (Some set) (no_conflict_is p.1) (least_full_is set p.2))
 
-  pub accepted_so : (epoch : ℕ) → IsOpen w epoch × (HoldsId w r.id ⊎ (HasNoConflict w r × HasRoomFor w r)) → (hold w epoch r).reason ≡ None
+  pub accepted_so : (epoch : ℕ) → IsOpen w epoch × (HoldsId w r.id ⊎ (HasNoConflict w r × HasRoomForRequest w r)) → (hold w epoch r).reason ≡ None
   accepted_so epoch p = elim (cases_Bool (holds w r.id)) [
     | inl y ↦ ap (λ (v : AfterRecord). v.reason) (held_so epoch p.0 y)
     | inr n ↦ elim (p.1) [

@@ -75,18 +75,18 @@ pub record IsLeastConflict (w : WitnessState) (r : Request) (id : RequestId) : T
 -- ---- room
 
 -- the slots of set s that are taken, with those that the request needs there, are no more than there are
-abbrev pub Fits : WitnessState → Request → ℕ → Type 0
-Fits w r s = used w s + in_set w.sets s (hashes r.command) ≤ w.ways
+abbrev pub FitsSet : WitnessState → Request → ℕ → Type 0
+FitsSet w r s = used w s + in_set w.sets s (hashes r.command) ≤ w.ways
 
 -- every set has room for the request
-abbrev pub HasRoomFor : WitnessState → Request → Type 0
-HasRoomFor w r = (s : ℕ) → s < w.sets → Fits w r s
+abbrev pub HasRoomForRequest : WitnessState → Request → Type 0
+HasRoomForRequest w r = (s : ℕ) → s < w.sets → FitsSet w r s
 
 -- the least set that has no room for the request
 pub record IsLeastFull (w : WitnessState) (r : Request) (s : ℕ) : Type 0 where
   pub set : s < w.sets
-  pub full : ¬ (Fits w r s)
-  pub least : (t : ℕ) → t < s → Fits w r t
+  pub full : ¬ (FitsSet w r s)
+  pub least : (t : ℕ) → t < s → FitsSet w r t
 
 -- ---- what a conflict changes
 

@@ -15,7 +15,7 @@ use Rattle.curp_law_trip.specs.Reading.{ReadMeetsNothing}
 use Rattle.curp_law_trip.specs.Trip.{MeetsNothing, Trip}
 
 -- those who take part are nodes of the world, in their states there
-pub record StandsIn (w : World) (t : Trip) : Type 0 where
+pub record TakePart (w : World) (t : Trip) : Type 0 where
   pub client : numbered w.clients t.client.number ≡ Some t.client.state
   pub master : numbered w.masters t.master.number ≡ Some (Serving t.master.state)
   pub witnesses : Each (λ (x : Node WitnessState). numbered w.witnesses x.number ≡ Some x.state) t.witnesses
@@ -24,7 +24,7 @@ pub record StandsIn (w : World) (t : Trip) : Type 0 where
 pub record IsTripIn (w : World) (n : ℕ) (command : Command) (t : Trip) : Type 0 where
   pub its_client : t.client.number ≡ n
   pub its_command : t.command ≡ command
-  pub stands : StandsIn w t
+  pub stands : TakePart w t
 
 -- the update meets nothing where client n of the world invokes it
 pub record MeetsNothingIn (w : World) (n : ℕ) (command : Command) : Type 0 where

@@ -29,7 +29,7 @@ use Rattle.curp_model.specs.Ranges.{owns_all}
 use Rattle.curp_cmd.specs.Hash.{hashes}
 use Rattle.curp_model.specs.Table.{check}
 use Rattle.curp_model.specs.Witness.{WitnessState, on_witness}
-use Rattle.curp_law_trip.specs.Holding.{HasNoConflict, HasRoomFor}
+use Rattle.curp_law_trip.specs.Holding.{HasNoConflict, HasRoomForRequest}
 
 -- ---- who takes part
 
@@ -177,7 +177,7 @@ pub record WitnessIsLive (part : PartConfig) (w : WitnessState) : Type 0 where
 pub record WitnessIsFree (part : PartConfig) (r : Request) (w : WitnessState) : Type 0 where
   pub live : WitnessIsLive part w
   pub no_conflict : HasNoConflict w r
-  pub room : HasRoomFor w r
+  pub room : HasRoomForRequest w r
 
 -- the update meets nothing that is in its way
 pub record MeetsNothing (t : Trip) : Type 0 where

@@ -27,7 +27,7 @@ ghost use Rattle.curp_model.specs.Client.{ClientState, NumbersAreUsed, client_in
 ghost use Rattle.curp_model.specs.Manager.{Shape, opening_config};
 ghost use Rattle.curp_model.specs.Witness.{HoldsInOrder, WitnessState, fresh_witness, hold, on_witness};
 ghost use Rattle.curp_model.specs.World.{opening};
-ghost use Rattle.curp_law_trip.specs.Holding.{AcceptsRecord, ChangesNothing, HasNoConflict, HasRoomFor, HoldsId};
+ghost use Rattle.curp_law_trip.specs.Holding.{AcceptsRecord, ChangesNothing, HasNoConflict, HasRoomForRequest, HoldsId};
 ghost use Rattle.curp_law_trip.specs.Holding.{IsAlikeButMarks, IsLeastConflict, IsLeastFull, IsNewTo, IsOfEpoch};
 ghost use Rattle.curp_law_trip.specs.Holding.{IsOpen, IsStranger, RejectsWith};
 ghost use Rattle.curp_law_trip.specs.Meeting.{CanBeFast, CanGlance, MeetsNothingIn, ReadMeetsNothingIn};
@@ -50,7 +50,7 @@ pub fn rejected_exactly()
     ensures set_full { (w : WitnessState) (epoch : ℕ) (r : Request) (set : ℕ)
         → RejectsWith w epoch r (reason.SetFull set) ↔ (IsNewTo w epoch r × HasNoConflict w r × IsLeastFull w r set) }
     ensures accepted { (w : WitnessState) (epoch : ℕ) (r : Request)
-        → AcceptsRecord w epoch r ↔ (IsOpen w epoch × (HoldsId w r.id ⊎ (HasNoConflict w r × HasRoomFor w r))) }
+        → AcceptsRecord w epoch r ↔ (IsOpen w epoch × (HoldsId w r.id ⊎ (HasNoConflict w r × HasRoomForRequest w r))) }
     ensures rejection_stands { (w : WitnessState) (epoch : ℕ) (r : Request) (why : Reason) → RejectsWith w epoch r why
         → ((id : RequestId) → why ≢ reason.Conflict id) → ChangesNothing w epoch r }
     ensures conflict_marks { (w : WitnessState) (epoch : ℕ) (r : Request) (id : RequestId)

@@ -99,7 +99,7 @@ same_next : (a b : ℕ) → ((a + 1) == (b + 1)) ≡ (a == b)
 same_next a b = grind (arith, nat_tests)
 
 its_number : (part earlier : ℕ) (c : Cut) (b : Bool) → is_cut_at part earlier c ≡ b → cuts_at part (earlier + 1) (mark_of c) ≡ b
-its_number part earlier c b e = ap (λ r. (c.part == part) && r) (same_next c.earlier earlier) ∙ e
+its_number part earlier c b e = ap (λ r. (c.tenure.part == part) && r) (same_next c.earlier earlier) ∙ e
 
 -- a mark that comes late stands before the adoption of its number
 put_in_turn : (part earlier n : ℕ) (cuts : List Cut) (slots : List Slot) (s : Slot) → AreOfRequests slots → s.dropped ≡ false

@@ -4,7 +4,7 @@ use Rattle.curp_model.specs.Marks.{Mark}
 use Rattle.curp_line.specs.declared.cuts.Cut.{Cut}
 use Rattle.curp_line.specs.declared.slot.Slot.{Slot}
 
-pub record Content : Type 0 where
+pub record Marking : Type 0 where
   pub marks : List Mark
   pub spare : ℕ
 

@@ -3,8 +3,8 @@ ghost use Rattle.std.specs.List.{position_or_len};
 ghost use Rattle.curp_line.specs.Cuts.{how_many, is_cut_at, is_cut_of, is_cut_to};
 
 use crate::epochs::{CutEpoch, add_epoch, count_of, count_to};
-use curp_base::NoMemory;
-use curp_cmd::NodeId;
+use crate::tenure::Tenure;
+use curp_base::{NoMemory, Reserved};
 use std::alloc::Global;
 use std::collections::HashMap;
 use std::marker::Model;
@@ -12,9 +12,7 @@ use std::marker::Model;
 /// An adoption, before or behind which marks stand. It is of no request.
 #[derive(Clone, Copy)]
 pub struct Cut {
-    pub master: NodeId,
-    pub part: u32,
-    pub epoch: u32,
+    pub tenure: Tenure,
     /// How often the partition was adopted before.
     pub earlier: usize,
     /// The length of the log that was recovered.
@@ -27,14 +25,14 @@ pub struct Cut {
 /// choice. An adoption moves the epochs above its own, and those of higher partitions.
 #[derive(Drop)]
 pub struct Cuts {
-    list: Vec<Cut>,
+    list: Reserved<Cut>,
     // The place of each in the list, by its partition and how often that was adopted before.
     places: HashMap<(u32, usize), usize>,
-    epochs: Vec<CutEpoch>,
+    epochs: Reserved<CutEpoch>,
 }
 
 impl Model for Cuts {
-    ghost use Rattle.std.specs.Prelude.{◌==◌, ◌&&◌, ◌-◌, min, vec_len, vec_capacity};
+    ghost use Rattle.std.specs.Prelude.{◌==◌, ◌&&◌, min};
     ghost use Rattle.std.specs.HashMap.{get, spare};
     ghost use Rattle.curp_line.specs.Content.{Adoptions};
     ghost use Rattle.curp_line.specs.Cuts.{AreFound};
@@ -43,8 +41,7 @@ impl Model for Cuts {
 
     ghost view = { λ c. record {
       cuts = c.list.items;
-      spare = min (vec_capacity c.list - vec_len c.list)
-          (min (spare c.places) (vec_capacity c.epochs - vec_len c.epochs));
+      spare = min c.list.spare (min (spare c.places) c.epochs.spare);
     } };
 
     ghost invariant = { λ c. AreFound
@@ -59,9 +56,9 @@ impl Cuts {
         ensures { result.cuts ≡ [] }
     {
         Cuts {
-            list: Vec::new(alloc),
+            list: Reserved::new(alloc),
             places: HashMap::new(alloc),
-            epochs: Vec::new(alloc),
+            epochs: Reserved::new(alloc),
         }
     }
 
@@ -71,9 +68,9 @@ impl Cuts {
         ensures room { OnOk result (cuts ≤ self.new.spare) }
         ensures kept { self.old.spare ≤ self.new.spare }
     {
-        self.list.reserve(cuts)?;
+        self.list.reserve(cuts as u64)?;
         self.places.reserve(cuts)?;
-        self.epochs.reserve(cuts)
+        self.epochs.reserve(cuts as u64)
     }
 
     /// How many adoptions there are.
@@ -84,25 +81,22 @@ impl Cuts {
     }
 
     /// Adds an adoption of the partition behind the others. It takes no memory, since there is room.
-    pub fn add(&mut self, master: NodeId, part: u32, epoch: u32, length: u64)
+    pub fn add(&mut self, tenure: Tenure, length: u64)
         requires { 1 ≤ self.old.spare }
         ensures cuts { self.new.cuts ≡ self.old.cuts ++ record {
-          master = master;
-          part = part;
-          epoch = epoch;
-          earlier = how_many (is_cut_of part) self.old.cuts;
+          tenure = tenure;
+          earlier = how_many (is_cut_of tenure.part) self.old.cuts;
           length = length;
         } ∷ [] }
         ensures spare { self.old.spare ≤ self.new.spare + 1 }
     {
+        let Tenure { part, epoch, .. } = tenure;
         let earlier = count_of(&self.epochs, part);
         let replaced: Result<_, _> = self.places.insert((part, earlier), self.list.len());
         replaced.unwrap();
         add_epoch(&mut self.epochs, CutEpoch { part, epoch });
-        self.list.push_reserved(Cut {
-            master,
-            part,
-            epoch,
+        self.list.push(Cut {
+            tenure,
             earlier,
             length,
         });

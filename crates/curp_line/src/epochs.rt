@@ -1,7 +1,9 @@
 //! The epochs of adoptions, in ascending order, so that those of a partition stand together.
-ghost use Rattle.std.specs.Prelude.{◌≡◌, ◌+◌, ◌<◌, ◌≤◌, if◌then◌else◌, Bool, length, vec_len, vec_capacity};
+ghost use Rattle.std.specs.Prelude.{◌≡◌, ◌+◌, ◌≤◌, if◌then◌else◌, Bool, length};
 ghost use Rattle.std.specs.List.{insert};
 ghost use Rattle.curp_line.specs.Cuts.{EpochsAscend, how_many, is_below, is_epoch_of, is_epoch_to, is_through, is_up_to};
+
+use curp_base::Reserved;
 
 /// The partition and the epoch of an adoption.
 #[derive(Clone, Copy)]
@@ -54,15 +56,14 @@ pub fn count_to(epochs: &[CutEpoch], part: u32, epoch: u32) -> usize
 }
 
 /// Adds an epoch. It takes no memory.
-pub fn add_epoch(epochs: &mut Vec<CutEpoch>, added: CutEpoch)
+pub fn add_epoch(epochs: &mut Reserved<CutEpoch>, added: CutEpoch)
     requires ascend { EpochsAscend epochs.old.items }
-    requires room { vec_len epochs.old < vec_capacity epochs.old }
+    requires room { 1 ≤ epochs.old.spare }
     ensures items { (test : CutEpoch → Bool)
         → how_many test epochs.new.items ≡ how_many test epochs.old.items + (if test added then 1 else 0) }
     ensures ascend { EpochsAscend epochs.new.items }
-    ensures len { vec_len epochs.new ≡ vec_len epochs.old + 1 }
-    ensures capacity { vec_capacity epochs.new ≡ vec_capacity epochs.old }
+    ensures spare { epochs.old.spare ≤ epochs.new.spare + 1 }
 {
     let gap = count_up_to(epochs, added.part, added.epoch);
-    epochs.insert(gap, added).unwrap();
+    epochs.insert(gap, added);
 }

@@ -14,5 +14,7 @@ mod line;
 mod mark;
 mod slot;
 mod slots;
+mod tenure;
 
 pub use line::Line;
+pub use tenure::Tenure;

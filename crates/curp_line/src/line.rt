@@ -6,8 +6,9 @@ use crate::cuts::Cuts;
 use crate::mark::{KeptMark, MarkPlace};
 use crate::slot::in_order;
 use crate::slots::Slots;
+use crate::tenure::Tenure;
 use curp_base::NoMemory;
-use curp_cmd::{Command, NodeId, Request, RequestId};
+use curp_cmd::{Command, Request, RequestId};
 use curp_msg::Completed;
 use std::alloc::Global;
 use std::marker::Model;
@@ -30,10 +31,10 @@ pub struct Line {
 impl Model for Line {
     ghost use Rattle.std.specs.Prelude.{length, min};
     ghost use Rattle.curp_base.specs.Words.{Each};
-    ghost use Rattle.curp_line.specs.Content.{Content};
+    ghost use Rattle.curp_line.specs.Content.{Marking};
     ghost use Rattle.curp_line.specs.Slots.{StandsWithin, marks_from};
 
-    ghost Value = { Content };
+    ghost Value = { Marking };
 
     ghost view = { λ l. record {
       marks = marks_from 0 l.cuts.cuts l.slots.slots;
@@ -68,61 +69,43 @@ impl Line {
 
     /// Adds the mark of an update that the master pushed, at its index in the log. It takes no memory, since there is
     /// room, and looks at no other mark.
-    pub fn executed(
-        &mut self,
-        master: NodeId,
-        part: u32,
-        epoch: u32,
-        index: u64,
-        id: RequestId,
-        command: Command,
-    )
+    pub fn executed(&mut self, tenure: Tenure, index: u64, id: RequestId, command: Command)
         requires { 1 ≤ self.old.spare }
-        ensures marks { self.new.marks ≡ self.old.marks ++ executed master part epoch index id command ∷ [] }
+        ensures marks { self.new.marks ≡ self.old.marks ++ executed tenure.master tenure.part tenure.epoch index id command ∷ [] }
         ensures spare { self.old.spare ≤ self.new.spare + 1 }
     {
         let place = MarkPlace::Executed { index };
-        self.push(KeptMark::new(master, part, epoch, place, id, command));
+        self.push(KeptMark::new(tenure, place, id, command));
     }
 
     /// Adds the mark of a read whose value the master captured, when its log had that length. It takes no memory, since
     /// there is room, and looks at no other mark.
     pub fn looked(
         &mut self,
-        master: NodeId,
-        part: u32,
-        epoch: u32,
+        tenure: Tenure,
         capture: u64,
         length: u64,
         id: RequestId,
         command: Command,
     )
         requires { 1 ≤ self.old.spare }
-        ensures marks { self.new.marks ≡ self.old.marks ++ looked master part epoch capture length id command ∷ [] }
+        ensures marks { self.new.marks ≡ self.old.marks ++ looked tenure.master tenure.part tenure.epoch capture length id command ∷ [] }
         ensures spare { self.old.spare ≤ self.new.spare + 1 }
     {
         let place = MarkPlace::Looked { capture, length };
-        self.push(KeptMark::new(master, part, epoch, place, id, command));
+        self.push(KeptMark::new(tenure, place, id, command));
     }
 
     /// Adds the mark of a read that the master answered at once: before the partition's first adoption behind that of the
     /// master, and to the end where there is none. It takes no memory, since there is room, and looks at no other mark.
-    pub fn quick(
-        &mut self,
-        master: NodeId,
-        part: u32,
-        epoch: u32,
-        capture: u64,
-        id: RequestId,
-        command: Command,
-    )
+    pub fn quick(&mut self, tenure: Tenure, capture: u64, id: RequestId, command: Command)
         requires { 1 ≤ self.old.spare }
-        ensures marks { self.new.marks ≡ with_quick (quick master part epoch capture id command) self.old.marks }
+        ensures marks { self.new.marks ≡ with_quick (quick tenure.master tenure.part tenure.epoch capture id command) self.old.marks }
         ensures spare { self.old.spare ≤ self.new.spare + 1 }
     {
-        let cuts_before = self.cuts.place_behind(part, epoch);
+        let cuts_before = self.cuts.place_behind(tenure.part, tenure.epoch);
         let place = MarkPlace::Quick { capture };
-        let mark = KeptMark::new(master, part, epoch, place, id, command);
+        let mark = KeptMark::new(tenure, place, id, command);
         self.slots.push(mark, cuts_before);
     }
 
@@ -140,15 +123,15 @@ impl Line {
     /// adoption gets a mark behind what is left, and each replayed request that isn't completed one at its index in the
     /// new log. It takes no memory, since there is room, and looks at the marks of that partition and of those requests
     /// alone.
-    pub fn adopted(&mut self, master: NodeId, part: u32, epoch: u32, cut: u64, replayed: &[Request])
+    pub fn adopted(&mut self, tenure: Tenure, cut: u64, replayed: &[Request])
         requires room { 1 + length replayed.now ≤ self.old.spare }
         requires fits { cut + length replayed.now < 2 ^ 64 }
-        ensures marks { self.new.marks ≡ adopted master part epoch cut replayed.now self.old.marks }
+        ensures marks { self.new.marks ≡ adopted tenure.master tenure.part tenure.epoch cut replayed.now self.old.marks }
         ensures spare { self.old.spare ≤ self.new.spare + 1 + length replayed.now }
     {
-        self.drop_past(part, cut);
-        self.cut(master, part, epoch, cut);
-        self.replay(master, part, epoch, cut, replayed);
+        self.drop_past(tenure.part, cut);
+        self.cut(tenure, cut);
+        self.replay(tenure, cut, replayed);
     }
 
     /// The requests in the order that the world shows: all updates, and each completed read where its value was captured
@@ -170,13 +153,13 @@ impl Line {
         self.slots.push(mark, cuts_before);
     }
 
-    fn cut(&mut self, master: NodeId, part: u32, epoch: u32, length: u64)
+    fn cut(&mut self, tenure: Tenure, length: u64)
         requires { 1 ≤ self.old.spare }
         ensures marks { self.new.marks
-            ≡ self.old.marks ++ cut_mark master part epoch (adoptions part self.old.marks + 1) length ∷ [] }
+            ≡ self.old.marks ++ cut_mark tenure.master tenure.part tenure.epoch (adoptions tenure.part self.old.marks + 1) length ∷ [] }
         ensures spare { self.old.spare ≤ self.new.spare + 1 }
     {
-        self.cuts.add(master, part, epoch, length);
+        self.cuts.add(tenure, length);
     }
 
     fn drop_past(&mut self, part: u32, cut: u64)
@@ -186,16 +169,16 @@ impl Line {
         self.slots.drop_past(part, cut);
     }
 
-    fn replay(&mut self, master: NodeId, part: u32, epoch: u32, cut: u64, replayed: &[Request])
+    fn replay(&mut self, tenure: Tenure, cut: u64, replayed: &[Request])
         requires room { length replayed.now ≤ self.old.spare }
         requires fits { cut + length replayed.now < 2 ^ 64 }
-        ensures marks { self.new.marks ≡ replayed_marks master part epoch cut replayed.now self.old.marks }
+        ensures marks { self.new.marks ≡ replayed_marks tenure.master tenure.part tenure.epoch cut replayed.now self.old.marks }
         ensures spare { self.old.spare ≤ self.new.spare + length replayed.now }
     {
         for (at, request) in replayed.iter().enumerate() {
             if !self.has_completed(&request.id) {
                 let index = cut + at as u64;
-                self.executed(master, part, epoch, index, request.id, request.command);
+                self.executed(tenure, index, request.id, request.command);
             }
         }
     }

@@ -2,7 +2,8 @@ ghost use Rattle.std.specs.Prelude.{◌≡◌, true, false};
 ghost use Rattle.curp_model.specs.Marks.{is_dropped, is_flagged, is_shown};
 ghost use Rattle.curp_line.specs.Standing.{place_of};
 
-use curp_cmd::{Command, NodeId, RequestId};
+use crate::tenure::Tenure;
+use curp_cmd::{Command, RequestId};
 use curp_msg::Completed;
 use std::marker::Model;
 
@@ -20,9 +21,7 @@ pub enum MarkPlace {
 /// A mark that is kept.
 #[derive(Drop)]
 pub struct KeptMark {
-    master: NodeId,
-    part: u32,
-    epoch: u32,
+    tenure: Tenure,
     place: MarkPlace,
     id: RequestId,
     command: Command,
@@ -36,9 +35,9 @@ impl Model for KeptMark {
     ghost Value = { Mark };
 
     ghost view = { λ m. record {
-      master = m.master;
-      part = m.part;
-      epoch = m.epoch;
+      master = m.tenure.master;
+      part = m.tenure.part;
+      epoch = m.tenure.epoch;
       place = place_of m.place;
       id = m.id;
       command = m.command;
@@ -48,18 +47,11 @@ impl Model for KeptMark {
 
 impl KeptMark {
     /// A mark whose request hasn't completed.
-    pub fn new(
-        master: NodeId,
-        part: u32,
-        epoch: u32,
-        place: MarkPlace,
-        id: RequestId,
-        command: Command,
-    ) -> KeptMark
+    pub fn new(tenure: Tenure, place: MarkPlace, id: RequestId, command: Command) -> KeptMark
         ensures { result ≡ record {
-          master = master;
-          part = part;
-          epoch = epoch;
+          master = tenure.master;
+          part = tenure.part;
+          epoch = tenure.epoch;
           place = place_of place;
           id = id;
           command = command;
@@ -67,9 +59,7 @@ impl KeptMark {
         } }
     {
         KeptMark {
-            master,
-            part,
-            epoch,
+            tenure,
             place,
             id,
             command,
@@ -86,7 +76,7 @@ impl KeptMark {
     pub fn part(&self) -> u32
         ensures { result ≡ self.now.part }
     {
-        self.part
+        self.tenure.part
     }
 
     pub fn command(&self) -> Command
@@ -119,7 +109,9 @@ impl KeptMark {
         match (completed.by, self.place) {
             (None, MarkPlace::Executed { .. }) => true,
             (Some(by), MarkPlace::Looked { capture, .. } | MarkPlace::Quick { capture }) => {
-                self.master == by.master && self.epoch == by.epoch && capture == by.number
+                self.tenure.master == by.master
+                    && self.tenure.epoch == by.epoch
+                    && capture == by.number
             }
             _ => false,
         }
@@ -134,7 +126,7 @@ impl KeptMark {
             MarkPlace::Looked { length, .. } => cut < length,
             MarkPlace::Quick { .. } => false,
         };
-        self.part == part && !self.completed && is_past
+        self.tenure.part == part && !self.completed && is_past
     }
 
     /// Whether the order shows it.

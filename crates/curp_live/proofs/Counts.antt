@@ -9,7 +9,7 @@ use Rattle.curp_msg.specs.Script.{IsHeader}
 use Rattle.curp_model.specs.World.{opening, opening_client, opening_master, shape_of}
 use Rattle.curp_opening.specs.Nodes.{states}
 use Rattle.curp_live.specs.Opening.{IsOpening}
-use Rattle.curp_live.specs.declared.nodes.Nodes.{Nodes}
+use Rattle.curp_live.specs.declared.nodes.LiveNodes.{LiveNodes}
 use Rattle.curp_base.proofs.Numbered.{length-numbers}
 
 -- as many as there are states
@@ -20,7 +20,7 @@ few_keepers : (h : Header) → IsHeader h → h.parts * h.f ≤ 16 * 5
 few_keepers h is = mul-le-mul is.parts.1 is.f.1
 
 -- there are few nodes of each kind
-pub record AreFew (nodes : Nodes) : Type 0 where
+pub record AreFew (nodes : LiveNodes) : Type 0 where
   pub clients : length nodes.clients.items + 1 < 2 ^ 32
   pub masters : length nodes.masters.items + 1 < 2 ^ 32
   pub backups : length nodes.backups.items + 1 < 2 ^ 32
@@ -44,7 +44,7 @@ module _ (h : Header) where
   unfolding opening
   witness_count = length-replicate (h.parts * h.f) _
 
-pub few_nodes : (h : Header) (nodes : Nodes) → IsHeader h → IsOpening h nodes → AreFew nodes
+pub few_nodes : (h : Header) (nodes : LiveNodes) → IsHeader h → IsOpening h nodes → AreFew nodes
 few_nodes h nodes is opened = record {
   clients = omega (arith, is.clients.1, long_states nodes.clients.items _ h.clients opened.clients (client_count h));
   masters = omega (arith, is.parts.1, long_states nodes.masters.items _ h.parts opened.masters (master_count h));

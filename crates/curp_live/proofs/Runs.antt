@@ -12,21 +12,11 @@ use Rattle.curp_turns.specs.Turns.{Journal}
 use Rattle.curp_turns.specs.Work.{recoveries_in}
 use Rattle.curp_gather.specs.Journals.{AreOf, IsBackupJournal, IsClientJournal, IsManagerJournal, IsMasterJournal, IsWitnessJournal, journal_of, journals_of}
 use Rattle.curp_gather.specs.declared.journals.Journals.{Journals}
-use Rattle.curp_words.specs.Plan.{IsLivePlan}
+use Rattle.curp_words.specs.Plan.{IsLivePlan, live_header}
 use Rattle.curp_words.specs.declared.order.LivePlan.{LivePlan}
-use Rattle.curp_live.specs.Live.{DidAll, DidInOrder, IsLiveRun, live_header}
+use Rattle.curp_live.specs.Live.{DidAll, DidInOrder, IsLiveRun}
 use Rattle.curp_live.specs.Opening.{AreAllAnew}
 use Rattle.curp_live.proofs.Begun.{IsWhole, all_whole, name_at, number_at, rise, state_at, whole}
-
--- a plan's header is one
-pub is_header : (plan : LivePlan) → IsLivePlan plan → IsHeader (live_header plan)
-is_header plan is = record {
-  clients = (is.clients.0, omega (arith, is.clients.1));
-  f = is.f;
-  parts = is.parts;
-  sets = is.sets;
-  ways = is.ways;
-}
 
 module _ (h : Header) (j : Journals) (are : AreAllAnew h j) where
   all : Each IsWhole (journals_of j)
@@ -115,7 +105,7 @@ module _ (h : Header) (j : Journals) (are : AreAllAnew h j) where
 pub live_run : (plan : LivePlan) (work : List (List Command)) (j : Journals) → IsLivePlan plan → AreAllAnew (live_header plan) j
     → DidInOrder work j.clients.items → recoveries_in j.manager.items ≡ plan.recoveries → IsLiveRun plan work j
 live_run plan work j is are did recoveries = record {
-  are = are_of (live_header plan) j are (is_header plan is);
+  are = are_of (live_header plan) j are is.header;
   did = did_all (live_header plan) j are work did;
   recoveries = recoveries;
   none_ended = none_ended (live_header plan) j are;

@@ -7,7 +7,7 @@ use Rattle.curp_cmd.specs.declared.command.Command.{Command}
 use Rattle.curp_cmd.specs.declared.node.NodeId.{NodeId}
 use Rattle.curp_cmd.specs.declared.node.NodeKind.{NodeKind}
 use Rattle.curp_msg.specs.Moved.{Node}
-use Rattle.curp_journal.specs.Journal.{Log}
+use Rattle.curp_journal.specs.Journal.{NodeJournal}
 use Rattle.curp_journal.specs.declared.item.Item.{Item}
 use Rattle.curp_model.specs.Client.{ClientState}
 use Rattle.curp_turns.specs.Work.{DidWork}
@@ -55,12 +55,12 @@ outputs_more xs ys k x y in_xs in_ys is_x is_y same before =
     rw add-one (same_next (outputs_of xs) (outputs_of ys) k x.done at_x (subst (λ done. At (outputs_of ys) k done) (sym one) at_y) before)
 
 -- the journals of the nodes so far
-abbrev pub SoFar : {N : Type 0} → NodeKind → List N → List (Log N) → Type 0
-SoFar {N} kind nodes logs = (k : ℕ) (node : N) (log : Log N) → At nodes k node → At logs k log
+abbrev pub SoFar : {N : Type 0} → NodeKind → List N → List (NodeJournal N) → Type 0
+SoFar {N} kind nodes logs = (k : ℕ) (node : N) (log : NodeJournal N) → At nodes k node → At logs k log
     → IsAnew (record { kind = kind; number = k + 1 }) node log
 
 -- one more
-pub anew_more : {N : Type 0} (kind : NodeKind) (nodes : List N) (logs : List (Log N)) (node : N) (log : Log N)
+pub anew_more : {N : Type 0} (kind : NodeKind) (nodes : List N) (logs : List (NodeJournal N)) (node : N) (log : NodeJournal N)
     → length logs < length nodes → node ≡ get_or nodes (length logs) node
     → IsAnew (record { kind = kind; number = length logs + 1 }) node log → SoFar kind nodes logs → SoFar kind nodes (logs ++ log ∷ [])
 anew_more {N} kind nodes logs node log within is new before k x y at_node at_log = by_case (at_push_cases logs log k y at_log)
@@ -76,22 +76,22 @@ anew_more {N} kind nodes logs node log within is new before k x y at_node at_log
         (subst (λ b. IsAnew (record { kind = kind; number = length logs + 1 }) node b) one new))
 
 -- the journal that was made again of a node's is begun with the node
-pub begun_anew : {N : Type 0} (id name : NodeId) (node : N) (items : List Item) (log : Log N) → name ≡ id
+pub begun_anew : {N : Type 0} (id name : NodeId) (node : N) (items : List Item) (log : NodeJournal N) → name ≡ id
     → log ≡ record { id = name; opening = node; items = items; ended = false } → AllOwn id log.items → IsAnew id node log
 begun_anew {N} id name node items log same is own = record {
-  its_name = ap (λ (l : Log N). l.id) is ∙ same;
-  begins = ap (λ (l : Log N). l.opening) is;
-  runs = ap (λ (l : Log N). l.ended) is;
+  its_name = ap (λ (l : NodeJournal N). l.id) is ∙ same;
+  begins = ap (λ (l : NodeJournal N). l.opening) is;
+  runs = ap (λ (l : NodeJournal N). l.ended) is;
   own = own;
 }
 
 -- the clients so far did their lists of work
-abbrev pub DidSoFar : List (List Command) → List (Log (Node ClientState)) → ℕ → Type 0
-DidSoFar work clients t = (k : ℕ) (log : Log (Node ClientState)) (commands : List Command) → k < t → At clients k log → At work k commands
+abbrev pub DidSoFar : List (List Command) → List (NodeJournal (Node ClientState)) → ℕ → Type 0
+DidSoFar work clients t = (k : ℕ) (log : NodeJournal (Node ClientState)) (commands : List Command) → k < t → At clients k log → At work k commands
     → DidWork (k + 1) commands log.items
 
 -- one more
-pub did_more : (work : List (List Command)) (clients : List (Log (Node ClientState))) (t : ℕ) (log : Log (Node ClientState)) (commands : List Command)
+pub did_more : (work : List (List Command)) (clients : List (NodeJournal (Node ClientState))) (t : ℕ) (log : NodeJournal (Node ClientState)) (commands : List Command)
     → At clients t log → At work t commands → DidWork (t + 1) commands log.items → DidSoFar work clients t → DidSoFar work clients (t + 1)
 did_more work clients t log commands at_log at_list did before k a b below there listed = by_case (below_or_at k t below)
   where
@@ -101,5 +101,5 @@ did_more work clients t log commands at_log at_list did before k a b below there
         let here : At clients t a = subst (λ n. At clients n a) same there in
         let list : At work t b = subst (λ n. At work n b) same listed in
         subst (λ (n : ℕ). DidWork (n + 1) b a.items) (sym same)
-        (subst (λ (x : Log (Node ClientState)). DidWork (t + 1) b x.items) (at_same clients t log a at_log here)
+        (subst (λ (x : NodeJournal (Node ClientState)). DidWork (t + 1) b x.items) (at_same clients t log a at_log here)
         (subst (λ (x : List Command). DidWork (t + 1) x log.items) (at_same work t commands b at_list list) did))

@@ -3,37 +3,25 @@ use Rattle.std.specs.Prelude.{◌≡◌, ◌+◌, ℕ, true, false, List, length
 use Rattle.curp_base.specs.Words.{At}
 use Rattle.curp_cmd.specs.declared.command.Command.{Command}
 use Rattle.curp_msg.specs.Moved.{Node}
-use Rattle.curp_msg.specs.declared.script.Header.{Header}
-use Rattle.curp_journal.specs.Journal.{Log}
+use Rattle.curp_journal.specs.Journal.{NodeJournal}
 use Rattle.curp_model.specs.Client.{ClientState}
 use Rattle.curp_turns.specs.Turns.{Journal}
 use Rattle.curp_turns.specs.Work.{DidWork, recoveries_in}
 use Rattle.curp_gather.specs.Journals.{AreOf, journals_of}
 use Rattle.curp_gather.specs.declared.journals.Journals.{Journals}
+use Rattle.curp_words.specs.Plan.{live_header}
 use Rattle.curp_words.specs.declared.order.LivePlan.{LivePlan}
 
--- the header: clients are fast
-abbrev pub live_header : LivePlan → Header
-live_header plan = record {
-  clients = plan.clients;
-  f = plan.f;
-  fast = true;
-  parts = plan.parts;
-  protocol = plan.protocol;
-  sets = plan.sets;
-  ways = plan.ways;
-}
-
 -- there is a client for each list of commands; it invoked the commands of its list in order, and each completed
-pub record DidAll (work : List (List Command)) (clients : List (Log (Node ClientState))) : Type 0 where
+pub record DidAll (work : List (List Command)) (clients : List (NodeJournal (Node ClientState))) : Type 0 where
   pub count : length clients ≡ length work
-  pub each : (k : ℕ) (log : Log (Node ClientState)) (commands : List Command) → At clients k log → At work k commands
+  pub each : (k : ℕ) (log : NodeJournal (Node ClientState)) (commands : List Command) → At clients k log → At work k commands
       → (log.opening.number ≡ k + 1) × DidWork (k + 1) commands log.items
 
 -- the same, where the clients are taken to have the numbers from 1 on
-pub record DidInOrder (work : List (List Command)) (clients : List (Log (Node ClientState))) : Type 0 where
+pub record DidInOrder (work : List (List Command)) (clients : List (NodeJournal (Node ClientState))) : Type 0 where
   pub count : length clients ≡ length work
-  pub each : (k : ℕ) (log : Log (Node ClientState)) (commands : List Command) → At clients k log → At work k commands
+  pub each : (k : ℕ) (log : NodeJournal (Node ClientState)) (commands : List Command) → At clients k log → At work k commands
       → DidWork (k + 1) commands log.items
 
 -- the journals are of the header's nodes, all work was done, as many recoveries were ordered as the plan asks, and no node stopped

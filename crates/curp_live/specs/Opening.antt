@@ -7,16 +7,16 @@ use Rattle.curp_cmd.specs.declared.node.NodeKind.{NodeKind}
 use Rattle.curp_cmd.specs.declared.node.NodeKind.TheVariants as kind
 use Rattle.curp_msg.specs.declared.machine.Done.{Done}
 use Rattle.curp_msg.specs.declared.script.Header.{Header}
-use Rattle.curp_journal.specs.Journal.{Log}
+use Rattle.curp_journal.specs.Journal.{NodeJournal}
 use Rattle.curp_journal.specs.declared.item.Item.{Item}
 use Rattle.curp_model.specs.World.{opening}
 use Rattle.curp_merge.specs.Merging.{IsOwn}
 use Rattle.curp_opening.specs.Nodes.{HasNumbers, states}
 use Rattle.curp_gather.specs.declared.journals.Journals.{Journals}
-use Rattle.curp_live.specs.declared.nodes.Nodes.{Nodes}
+use Rattle.curp_live.specs.declared.nodes.LiveNodes.{LiveNodes}
 
 -- the nodes of a header's world before any step
-pub record IsOpening (h : Header) (nodes : Nodes) : Type 0 where
+pub record IsOpening (h : Header) (nodes : LiveNodes) : Type 0 where
   pub manager : nodes.manager ≡ (opening h).manager
   pub clients : states nodes.clients.items ≡ (opening h).clients
   pub masters : states nodes.masters.items ≡ (opening h).masters
@@ -36,21 +36,21 @@ abbrev pub AllOwn : NodeId → List Item → Type 0
 AllOwn node items = (t : ℕ) (item : Item) → At items t item → IsOwn node item.input
 
 -- the journal of that node, begun in that state: the node didn't stop, and what came to it is its own
-pub record IsAnew {N : Type 0} (id : NodeId) (node : N) (log : Log N) : Type 0 where
+pub record IsAnew {N : Type 0} (id : NodeId) (node : N) (log : NodeJournal N) : Type 0 where
   pub its_name : log.id ≡ id
   pub begins : log.opening ≡ node
   pub runs : log.ended ≡ false
   pub own : AllOwn id log.items
 
 -- the journals of nodes of a kind, in the order of their numbers, from 1
-pub record AreAnew {N : Type 0} (kind : NodeKind) (nodes : List N) (logs : List (Log N)) : Type 0 where
+pub record AreAnew {N : Type 0} (kind : NodeKind) (nodes : List N) (logs : List (NodeJournal N)) : Type 0 where
   pub count : length logs ≡ length nodes
-  pub each : (k : ℕ) (node : N) (log : Log N) → At nodes k node → At logs k log
+  pub each : (k : ℕ) (node : N) (log : NodeJournal N) → At nodes k node → At logs k log
       → IsAnew (record { kind = kind; number = k + 1 }) node log
 
 -- the journals of all nodes of a header's world, begun before any step
 pub record AreAllAnew (h : Header) (journals : Journals) : Type 0 where
-  pub nodes : Nodes
+  pub nodes : LiveNodes
   pub opening : IsOpening h nodes
   pub manager : IsAnew manager_node nodes.manager journals.manager
   pub clients : AreAnew kind.Client nodes.clients.items journals.clients.items

@@ -1,12 +1,12 @@
 ghost use Rattle.std.specs.Prelude.{◌≡◌, ◌+◌, ◌<◌, ◌^◌, length, map, IfOk, IfSome, IsTrue};
 ghost use Rattle.curp_msg.specs.Script.{IsHeader};
 ghost use Rattle.curp_gather.specs.Journals.{AreOf};
-ghost use Rattle.curp_live.specs.Live.{IsLiveRun, live_header};
+ghost use Rattle.curp_live.specs.Live.{IsLiveRun};
 ghost use Rattle.curp_live.specs.Opening.{AreAllAnew, AreAnew};
 ghost use Rattle.curp_words.specs.Plan.{IsLivePlan};
 
 use crate::anew::{OfKind, anew, both_anew};
-use crate::nodes::Nodes;
+use crate::nodes::LiveNodes;
 use crate::work::{did_all, recovery_count};
 use curp_base::NoMemory;
 use curp_cmd::{Command, NodeId, NodeKind};
@@ -16,21 +16,6 @@ use curp_nodes::{BackupNode, ClientNode, MasterNode, WitnessNode};
 use curp_seat::Kept;
 use curp_words::LivePlan;
 use std::alloc::Global;
-
-/// The header of a plan's run.
-pub(crate) fn header_of(plan: &LivePlan) -> Header
-    ensures { result ≡ live_header plan.now }
-{
-    Header {
-        clients: plan.clients,
-        f: plan.f,
-        fast: true,
-        parts: plan.parts,
-        protocol: plan.protocol,
-        sets: plan.sets,
-        ways: plan.ways,
-    }
-}
 
 /// The same journals of nodes as at opening. None where they differ from a run of the plan in which the work was done.
 pub(crate) fn checked(
@@ -43,7 +28,7 @@ pub(crate) fn checked(
     requires work { length work.now ≡ plan.now.clients }
     ensures { IfOk result (λ checked. IfSome checked (IsLiveRun plan.now (map (λ list. list.items) work.now))) }
 {
-    let Some(journals) = all_as_at_opening(alloc, &header_of(plan), taken)? else {
+    let Some(journals) = all_as_at_opening(alloc, &plan.header(), taken)? else {
         return Ok(None);
     };
     if did_all(work, &journals.clients)
@@ -78,7 +63,7 @@ fn all_as_at_opening(
     requires { IsHeader header.now }
     ensures { IfOk result (λ made. IfSome made (λ journals. AreAllAnew header.now journals)) }
 {
-    let nodes = Nodes::opening(alloc, header)?;
+    let nodes = LiveNodes::opening(alloc, header)?;
     let Some(manager) = anew(alloc, NodeId::manager(), nodes.manager, &taken.manager)? else {
         return Ok(None);
     };

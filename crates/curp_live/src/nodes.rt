@@ -16,7 +16,7 @@ use std::alloc::Global;
 
 /// The nodes of a world.
 #[derive(Drop)]
-pub(crate) struct Nodes {
+pub(crate) struct LiveNodes {
     pub manager: ManagerNode,
     pub clients: Vec<ClientNode>,
     pub masters: Vec<MasterNode>,
@@ -24,17 +24,17 @@ pub(crate) struct Nodes {
     pub witnesses: Vec<WitnessNode>,
 }
 
-impl Nodes {
+impl LiveNodes {
     /// Those of a header, before any step.
     #[tactic(auto, unfolding(curp_model::specs::World::opening))]
-    pub(crate) fn opening(alloc: Global, header: &Header) -> Result<Nodes, NoMemory>
+    pub(crate) fn opening(alloc: Global, header: &Header) -> Result<LiveNodes, NoMemory>
         requires { IsHeader header.now }
         ensures { IfOk result (λ nodes. IsOpening header.now nodes) }
     {
         let manager = curp_opening::manager(alloc, header)?;
         let (clients, masters) = clients_and_masters(alloc, header, manager.config())?;
         let (backups, witnesses) = keepers(alloc, header)?;
-        Ok(Nodes {
+        Ok(LiveNodes {
             manager,
             clients,
             masters,

@@ -4,7 +4,7 @@ ghost use Rattle.curp_msg.specs.Script.{IsHeader};
 use crate::board::{Board, End};
 use crate::floor::Floor;
 use crate::job::jobs;
-use crate::nodes::Nodes;
+use crate::nodes::LiveNodes;
 use crate::seats::Seats;
 use curp_base::NoMemory;
 use curp_cmd::Command;
@@ -27,7 +27,7 @@ pub(crate) fn once<R: Threads + Wait + Sync, G: Gate + Sync>(
     requires { IsHeader header.now }
 {
     let floor = Floor {
-        seats: Seats::new(alloc, Nodes::opening(alloc, header)?)?,
+        seats: Seats::new(alloc, LiveNodes::opening(alloc, header)?)?,
         board: Board::new(command_count(work)),
     };
     run_all(rt, alloc, &floor, work, gate)?;

@@ -2,7 +2,7 @@ ghost use Rattle.std.specs.Prelude.{◌≡◌, length, map, IfOk, IfSome};
 ghost use Rattle.curp_live.specs.Live.{IsLiveRun};
 ghost use Rattle.curp_words.specs.Plan.{IsLivePlan};
 
-use crate::checked::{checked, header_of};
+use crate::checked::checked;
 use crate::once::once;
 use curp_base::NoMemory;
 use curp_cmd::Command;
@@ -45,6 +45,6 @@ fn tried<R: Threads + Wait + Sync, G: Gate + Sync>(
     requires work { length work.now ≡ plan.now.clients }
     ensures { IfOk result (λ tried. IfSome tried (IsLiveRun plan.now (map (λ list. list.items) work.now))) }
 {
-    let taken = once(rt, alloc, &header_of(plan), work, gate)?;
+    let taken = once(rt, alloc, &plan.header(), work, gate)?;
     checked(alloc, plan, work, &taken)
 }

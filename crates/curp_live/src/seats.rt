@@ -1,6 +1,6 @@
 use crate::board::End;
 use crate::master::MasterSeat;
-use crate::nodes::Nodes;
+use crate::nodes::LiveNodes;
 use curp_base::NoMemory;
 use curp_cmd::{NodeId, NodeKind};
 use curp_gather::Journals;
@@ -23,7 +23,7 @@ pub(crate) struct Seats {
 }
 
 impl Seats {
-    pub(crate) fn new(alloc: Global, nodes: Nodes) -> Result<Seats, NoMemory> {
+    pub(crate) fn new(alloc: Global, nodes: LiveNodes) -> Result<Seats, NoMemory> {
         let manager = Kept::begin(alloc, nodes.manager, NodeId::manager());
         let masters = seated(alloc, NodeKind::Master, nodes.masters)?;
         Ok(Seats {

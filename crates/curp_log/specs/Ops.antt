@@ -7,11 +7,6 @@ use Rattle.curp_cmd.specs.declared.entry.Entry.{Entry}
 use Rattle.curp_cmd.specs.declared.entry.Entry.TheVariants.{Op}
 use Rattle.curp_model.specs.Log.{meaning}
 
--- the entry is an Op
-abbrev pub IsOp : Entry → Type 0
-IsOp (Op request acknowledged) = ⊤
-IsOp _ = ⊥
-
 -- the request of an entry, if it is an Op
 abbrev pub request_of : Option Entry → Option Request
 request_of (Some (Op request acknowledged)) = Some request

@@ -8,11 +8,11 @@ use Rattle.curp_cmd.specs.declared.entry.Entry.{Entry}
 use Rattle.curp_cmd.specs.declared.entry.Entry.TheVariants.{Take}
 use Rattle.curp_model.specs.Log.{IsLog, LastGive, LastTake, LogState, after_entry, log_opening, meaning}
 use Rattle.curp_log.specs.Ops.{answer_of}
-use Rattle.curp_log.specs.declared.state.Given.{Given}
+use Rattle.curp_log.specs.declared.state.LatestGive.{LatestGive}
 use Rattle.curp_log.specs.declared.state.State.{State}
 
 -- the last migration that was given
-abbrev pub given_of : Option Given → Option LastGive
+abbrev pub given_of : Option LatestGive → Option LastGive
 given_of None = None
 given_of (Some g) = Some (record { migration = g.migration; index = g.index })
 

@@ -7,9 +7,8 @@ ghost use Rattle.curp_cmd.specs.declared.command.RequestId.{RequestId};
 ghost use Rattle.curp_cmd.specs.declared.entry.Entry.{Entry};
 ghost use Rattle.curp_cmd.specs.declared.entry.Entry.TheVariants.{Op};
 ghost use Rattle.curp_model.specs.declared.Check.TheVariants.{New};
-ghost use Rattle.curp_model.specs.Log.{after_entry, fits_at, is_log, meaning};
+ghost use Rattle.curp_model.specs.Log.{after_entry, fits_at, is_log, meaning, IsOp};
 ghost use Rattle.curp_model.specs.Table.{check};
-ghost use Rattle.curp_log.specs.Ops.{IsOp};
 
 /// What an entry more means behind a log, and that it is a log where the entry fits.
 pub fn entry_more()

@@ -19,5 +19,5 @@ mod log;
 mod packing;
 mod state;
 
-pub use log::{Log, Taken, is_log};
-pub use state::Given;
+pub use log::{Log, TakenPackage, is_log};
+pub use state::LatestGive;

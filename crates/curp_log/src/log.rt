@@ -13,7 +13,7 @@ ghost use Rattle.curp_log.specs.State.{given_of, take_index};
 ghost use Rattle.curp_log.specs.Taken.{taken_of};
 
 use crate::packing::{pairs_in, same_package};
-use crate::state::{Given, State};
+use crate::state::{LatestGive, State};
 use curp_base::{NoMemory, copies_of, past};
 use curp_cmd::{Answer, Command, Entry, Hashes, Package, Request, RequestId, Store, room};
 use curp_model::Check;
@@ -41,7 +41,7 @@ pub struct Log {
 
 /// The last package that was taken: the migration, the package, and the index of its entry.
 #[derive(Clone, Copy)]
-pub struct Taken<'a> {
+pub struct TakenPackage<'a> {
     pub migration: u32,
     pub package: &'a Package,
     pub index: u64,
@@ -250,12 +250,12 @@ impl Log {
     }
 
     /// The last package that was taken, if one was.
-    pub fn package(&self) -> Option<Taken<'_>>
+    pub fn package(&self) -> Option<TakenPackage<'_>>
         ensures { taken_of result ≡ (meaning self.now.lo self.now.hi self.now.entries).taken }
     {
         let index = self.taken?;
         match &self.entries[index as usize] {
-            Entry::Take { migration, package } => Some(Taken {
+            Entry::Take { migration, package } => Some(TakenPackage {
                 migration: *migration,
                 package,
                 index,
@@ -265,7 +265,7 @@ impl Log {
     }
 
     /// The last migration that was given, if one was.
-    pub fn given(&self) -> Option<Given>
+    pub fn given(&self) -> Option<LatestGive>
         ensures { given_of result ≡ (meaning self.now.lo self.now.hi self.now.entries).given }
     {
         self.state.given

@@ -20,7 +20,7 @@ use std::alloc::Global;
 
 /// The last migration that was given, and the index of its entry.
 #[derive(Clone, Copy, PartialEq, Eq)]
-pub struct Given {
+pub struct LatestGive {
     pub migration: u32,
     pub index: u64,
 }
@@ -31,7 +31,7 @@ pub struct State {
     pub store: Store,
     pub table: Table,
     pub ranges: Ranges,
-    pub given: Option<Given>,
+    pub given: Option<LatestGive>,
 }
 
 impl State {
@@ -124,7 +124,7 @@ impl State {
         put_pairs(&mut self.store, given.pairs.as_slice());
         self.table.merge(&given.table, index);
         self.ranges.unite(given.lo, given.hi);
-        self.given = Some(Given { migration, index });
+        self.given = Some(LatestGive { migration, index });
     }
 }
 

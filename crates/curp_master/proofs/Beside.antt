@@ -17,7 +17,7 @@ use Rattle.curp_log.specs.Ops.{answer_at}
 use Rattle.curp_model.specs.Log.{answer_after, entry_touches, is_touched}
 use Rattle.curp_tail.specs.declared.tail.TailEntry.{TailEntry}
 use Rattle.curp_tail.specs.Tail.{tail_of}
-use Rattle.curp_master.specs.Journal.{IsBeside, Journaled, free_with, journal_of, with_entry}
+use Rattle.curp_master.specs.MasterLog.{IsBeside, KeptLog, free_with, kept_log_of, with_entry}
 
 -- the last entry's answer is that behind the others
 answer_of_last : (lo hi : ℕ) (entries : List Entry) (r : Request) (acknowledged : ℕ)
@@ -32,7 +32,7 @@ answer_of_last lo hi entries r acknowledged =
     in
     rw (last, front) refl
 
-pub answered : (j pushed : Journaled) (is_free : Bool) (index : ℕ) (r : Request) (answer : Option Answer)
+pub answered : (j pushed : KeptLog) (is_free : Bool) (index : ℕ) (r : Request) (answer : Option Answer)
     → pushed ≡ with_entry j (Op r r.first) is_free → index ≡ length j.entries → answer ≡ answer_at pushed.lo pushed.hi pushed.entries index
     → answer ≡ Some (answer_after j.lo j.hi j.entries r.command)
 answered j pushed is_free index r answer its there told =
@@ -54,11 +54,11 @@ free_stands entries e free is_free stand = go is_free
     go true = Each-append (λ index. index < length (entries ++ e ∷ [])) free (length entries ∷ []) old ((let m = more in omega arith), tt)
     go false = old
 
--- the parts of a journal to which an entry is pushed
-pub pushed_journal : (j : Journaled) (log : Content) (free : List ℕ) (e : Entry) (is_free : Bool)
+-- the parts of a master_log to which an entry is pushed
+pub pushed_log : (j : KeptLog) (log : Content) (free : List ℕ) (e : Entry) (is_free : Bool)
     → log.lo ≡ j.lo → log.hi ≡ j.hi → log.entries ≡ j.entries ++ e ∷ [] → free ≡ free_with j.free (length j.entries) is_free
-    → journal_of log j.synced free ≡ with_entry j e is_free
-pushed_journal j log free e is_free low high longer its_free = λ i. record {
+    → kept_log_of log j.synced free ≡ with_entry j e is_free
+pushed_log j log free e is_free low high longer its_free = λ i. record {
   lo = low i;
   hi = high i;
   entries = longer i;
@@ -67,7 +67,7 @@ pushed_journal j log free e is_free low high longer its_free = λ i. record {
 }
 
 -- and what stands beside it
-pub beside_push : (j : Journaled) (told : ℕ) (tail pushed : List TailEntry) (e : Entry) (is_free : Bool) → IsBeside j told tail
+pub beside_push : (j : KeptLog) (told : ℕ) (tail pushed : List TailEntry) (e : Entry) (is_free : Bool) → IsBeside j told tail
     → pushed ≡ tail_of (j.entries ++ e ∷ []) told → IsBeside (with_entry j e is_free) told pushed
 beside_push j told tail pushed e is_free beside its_tail =
     record { its_tail = its_tail; covers = beside.covers; stand = free_stands j.entries e j.free is_free beside.stand }

@@ -26,7 +26,7 @@ use Rattle.curp_model.proofs.Tables.{check_other, has_acknowledge, has_note, not
 use Rattle.curp_msg.specs.Moved.{Makes, Node, quiet}
 use Rattle.curp_msg.specs.declared.message.Message.{Message}
 use Rattle.curp_master.specs.Built.{move_of}
-use Rattle.curp_master.specs.Journal.{JournalState}
+use Rattle.curp_master.specs.MasterLog.{MasterLogState}
 use Rattle.curp_master.specs.Rounds.{at_round}
 use Rattle.curp_master.specs.Suspects.{HasOpRoom, IsTreated, brings, keeping, news, one_treated}
 use Rattle.curp_master.proofs.Ends.{lasts}
@@ -66,24 +66,24 @@ nobody : MasterState
 nobody = beginning 0 0 0 [] [] 0 0 [] 0
 
 -- those that are left are treated behind the others, and there is room for them
-pub record Treats (was : JournalState) (waited : List Queued) (all : List Request) (is : JournalState) (queue : Queueing) (rest : List Request) : Type 0 where
+pub record Treats (was : MasterLogState) (waited : List Queued) (all : List Request) (is : MasterLogState) (queue : Queueing) (rest : List Request) : Type 0 where
   pub treated : (m : MasterState) → treat (keeping m is.kept queue.waiting) rest ≡ treat (keeping m was.kept waited) all
   pub synced : is.kept.synced ≡ was.kept.synced
   pub room : HasOpRoom is (length (news is.kept.lo is.kept.hi is.kept.entries rest))
   pub spare : length rest ≤ queue.spare
 
 -- what the first of those left takes
-first_room : (is : JournalState) (r : Request) (more : List Request) → HasOpRoom is (length (news is.kept.lo is.kept.hi is.kept.entries (r ∷ more)))
+first_room : (is : MasterLogState) (r : Request) (more : List Request) → HasOpRoom is (length (news is.kept.lo is.kept.hi is.kept.entries (r ∷ more)))
     → let there = brings is.kept.lo is.kept.hi is.kept.entries r in
     HasOpRoom is (length there + length (news is.kept.lo is.kept.hi (is.kept.entries ++ there) more))
 first_room is r more room =
     let there = brings is.kept.lo is.kept.hi is.kept.entries r in
     subst (HasOpRoom is) (length-append there (news is.kept.lo is.kept.hi (is.kept.entries ++ there) more)) room
 
-less_room : (is : JournalState) (a b : ℕ) → HasOpRoom is (a + b) → HasOpRoom is a
+less_room : (is : MasterLogState) (a b : ℕ) → HasOpRoom is (a + b) → HasOpRoom is a
 less_room is a b room = record { in_log = omega (arith, room.in_log); in_tail = omega (arith, room.in_tail); in_marks = omega (arith, room.in_marks) }
 
-module _ (was is : JournalState) (waited : List Queued) (queue : Queueing) (all rest more : List Request) (r : Request) (goes : Treats was waited all is queue rest) (first : rest ≡ r ∷ more) where
+module _ (was is : MasterLogState) (waited : List Queued) (queue : Queueing) (all rest more : List Request) (r : Request) (goes : Treats was waited all is queue rest) (first : rest ≡ r ∷ more) where
   whole : HasOpRoom is (length (news is.kept.lo is.kept.hi is.kept.entries (r ∷ more)))
   whole = subst (λ (rs : List Request). HasOpRoom is (length (news is.kept.lo is.kept.hi is.kept.entries rs))) first goes.room
 
@@ -93,7 +93,7 @@ module _ (was is : JournalState) (waited : List Queued) (queue : Queueing) (all 
   pub spare_for_one : 1 ≤ queue.spare
   spare_for_one = let long : length rest ≡ length more + 1 = ap length first ∙ omega arith in omega (arith, goes.spare)
 
-  pub treats_more : (after : JournalState) (next : Queueing) → IsTreated r is queue.waiting after next.waiting → queue.spare ≤ next.spare + 1 → Treats was waited all after next more
+  pub treats_more : (after : MasterLogState) (next : Queueing) → IsTreated r is queue.waiting after next.waiting → queue.spare ≤ next.spare + 1 → Treats was waited all after next more
   treats_more after next one less = record {
     treated = λ m. ap (λ (k : MasterState). treat k more) (sym (one.treated m)) ∙ ap (treat (keeping m is.kept queue.waiting)) (sym first) ∙ goes.treated m;
     synced = one.synced ∙ goes.synced;

@@ -1,5 +1,5 @@
 pub mod Built
-pub mod Journal
+pub mod MasterLog
 pub mod Moving
 pub mod Rounds
 pub mod Settling

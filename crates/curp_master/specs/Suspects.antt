@@ -6,7 +6,7 @@ use Rattle.curp_cmd.specs.declared.entry.Entry.TheVariants.{Op}
 use Rattle.curp_model.specs.Log.{fits_at, meaning}
 use Rattle.curp_model.specs.Master.{MasterState, Queued, state_of, treated}
 use Rattle.curp_model.specs.Table.{check}
-use Rattle.curp_master.specs.Journal.{HasRoom, JournalState, Journaled}
+use Rattle.curp_master.specs.MasterLog.{HasRoom, MasterLogState, KeptLog}
 
 -- what a suspect brings behind a log: an Op by which nothing is acknowledged, where it can come next
 abbrev pub brings : ℕ → ℕ → List Entry → Request → List Entry
@@ -18,7 +18,7 @@ news lo hi entries [] = []
 news lo hi entries (r ∷ rs) = let more = brings lo hi entries r in more ++ news lo hi (entries ++ more) rs
 
 -- the master with that log and that queue
-abbrev pub keeping : MasterState → Journaled → List Queued → MasterState
+abbrev pub keeping : MasterState → KeptLog → List Queued → MasterState
 keeping m j queue = record m { lo = j.lo; hi = j.hi; log = j.entries; free = j.free; queue = queue }
 
 -- what becomes of one suspect
@@ -26,11 +26,11 @@ abbrev pub one_treated : MasterState → Request → MasterState
 one_treated m r = treated m r (check (state_of m).table r.id)
 
 -- there is room for so many Ops: each takes one unit, and one more for each of at most four pairs
-abbrev pub HasOpRoom : JournalState → ℕ → Type 0
+abbrev pub HasOpRoom : MasterLogState → ℕ → Type 0
 HasOpRoom j ops = HasRoom j (5 * ops)
 
 -- a log and a queue before and after a suspect, which takes no more room than for what it brings
-pub record IsTreated (r : Request) (before : JournalState) (was : List Queued) (after : JournalState) (is : List Queued) : Type 0 where
+pub record IsTreated (r : Request) (before : MasterLogState) (was : List Queued) (after : MasterLogState) (is : List Queued) : Type 0 where
   pub treated : (m : MasterState) → one_treated (keeping m before.kept was) r ≡ keeping m after.kept is
   pub synced : after.kept.synced ≡ before.kept.synced
   pub room : (more : ℕ) → HasOpRoom before (length (brings before.kept.lo before.kept.hi before.kept.entries r) + more) → HasOpRoom after more

@@ -15,7 +15,7 @@ impl Master {
         if !self.phase.is_open() {
             return Ok(Done::quiet(self.alloc));
         }
-        let synced = self.journal.synced();
+        let synced = self.master_log.synced();
         let ids = self.queue.due(synced)?;
         let sent = messages::gc_each(self.alloc, self.number, &self.witnesses, self.epoch, &ids)?;
         self.queue.leave(synced);

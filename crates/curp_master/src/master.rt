@@ -5,7 +5,7 @@ ghost use Rattle.curp_model.specs.Master as master;
 ghost use Rattle.curp_model.specs.Master.{beginning, on_serving, serving_ordered};
 ghost use Rattle.curp_msg.specs.Moved.{Moves, numbered_move};
 
-use crate::journal::Journal;
+use crate::master_log::MasterLog;
 use crate::shell::Shell;
 use curp_base::NoMemory;
 use curp_cmd::{Command, NodeId};
@@ -27,7 +27,7 @@ pub struct Master {
     pub(crate) version: u32,
     pub(crate) backups: Vec<NodeId>,
     pub(crate) witnesses: Vec<NodeId>,
-    pub(crate) journal: Journal,
+    pub(crate) master_log: MasterLog,
     pub(crate) acknowledged: Vec<Acknowledged>,
     pub(crate) settled: u64,
     pub(crate) round: u64,
@@ -54,22 +54,22 @@ impl Model for Master {
         version = m.version;
         backups = m.backups.items;
         witnesses = m.witnesses.items;
-        lo = m.journal.kept.lo;
-        hi = m.journal.kept.hi;
-        log = m.journal.kept.entries;
+        lo = m.master_log.kept.lo;
+        hi = m.master_log.kept.hi;
+        log = m.master_log.kept.entries;
         acknowledged = m.acknowledged.items;
         settled = m.settled;
         round = m.round;
         captures = m.captures.waiting;
         captured = m.captures.count;
         held = m.held.numbers;
-        free = m.journal.kept.free;
+        free = m.master_log.kept.free;
         queue = m.queue.waiting;
         phase = phase_of m.phase;
       };
     } };
 
-    ghost invariant = { λ m. m.journal.kept.synced ≡ stored_by_all m.acknowledged.items m.backups.items };
+    ghost invariant = { λ m. m.master_log.kept.synced ≡ stored_by_all m.acknowledged.items m.backups.items };
 }
 
 impl Master {
@@ -122,7 +122,7 @@ impl Master {
             version,
             backups,
             witnesses,
-            journal: Journal::new(alloc, log, synced),
+            master_log: MasterLog::new(alloc, log, synced),
             acknowledged,
             settled,
             round,
@@ -175,21 +175,21 @@ impl Master {
         ensures hi { result.now.hi ≡ self.now.state.hi }
         ensures entries { result.now.entries ≡ self.now.state.log }
     {
-        self.journal.log()
+        self.master_log.log()
     }
 
     /// Entries below it are stored on all backups.
     pub fn synced(&self) -> u64
         ensures { result ≡ master.synced self.now.state }
     {
-        self.journal.synced()
+        self.master_log.synced()
     }
 
     /// Whether no entry that isn't synced touches the command.
     pub(crate) fn is_clean(&self, command: &Command) -> bool
         ensures { result ≡ master.is_clean self.now.state command.now }
     {
-        self.journal.is_clean(command)
+        self.master_log.is_clean(command)
     }
 
     pub fn number(&self) -> u32

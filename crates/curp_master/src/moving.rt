@@ -32,7 +32,7 @@ impl Master {
         ensures moves { Moves self.old self.new result
             (move_of self.old (on_expire self.old.number self.old.state client)) }
     {
-        if self.journal.log().table().is_gone(client) {
+        if self.master_log.log().table().is_gone(client) {
             return Ok(Done::quiet(self.alloc));
         }
         self.push_moved(Entry::Expire { client })
@@ -59,7 +59,7 @@ impl Master {
             (state_of self.now.state).taken
             ≡ by_retelling self.now.number self.now.state (push_take self.now.number self.now.state take.now) told) }
     {
-        match self.journal.log().package() {
+        match self.master_log.log().package() {
             Some(last) if take.migration == last.migration => Ok(Retelling::Again {
                 index: last.index,
                 message: messages::taken(self.alloc, self.number, last.migration, last.package)?,
@@ -87,8 +87,8 @@ impl Master {
     fn package(&self, take: &TakeOut) -> Result<Option<Package>, NoMemory>
         ensures { IfOk result (IsTakenOut (state_of self.now.state) take.now) }
     {
-        if owns_range(self.journal.log(), take) {
-            Ok(Some(self.journal.log().pack(take.lo, take.hi)?))
+        if owns_range(self.master_log.log(), take) {
+            Ok(Some(self.master_log.log().pack(take.lo, take.hi)?))
         } else {
             Ok(None)
         }
@@ -102,7 +102,7 @@ impl Master {
         if !self.phase.is_open() {
             return Ok(Done::quiet(self.alloc));
         }
-        match self.journal.log().given() {
+        match self.master_log.log().given() {
             Some(last) if parcel.migration <= last.migration => {
                 self.tell_again(last.index, messages::given(self.number, parcel.migration))
             }
@@ -134,11 +134,11 @@ impl Master {
         ensures moves { Moves self.old self.new result
             (move_of self.old (pushes self.old.number self.old.state entry)) }
     {
-        self.journal.reserve(room(&entry))?;
+        self.master_log.reserve(room(&entry))?;
         let Some(round) = self.next_round(from_ref(&entry))? else {
             return Ok(Done::quiet(self.alloc));
         };
-        self.journal.push(entry, false);
+        self.master_log.push(entry, false);
         self.round = round.number;
         Ok(Done::sends(round.appends))
     }

@@ -56,7 +56,7 @@ impl Master {
         if !self.phase.is_open() {
             return Some(Refusal::Switching);
         }
-        match self.journal.log().check(&ask.request.id) {
+        match self.master_log.log().check(&ask.request.id) {
             Check::Expired => return Some(Refusal::Expired),
             Check::Stale { first } => return Some(Refusal::Stale { first }),
             Check::Known { .. } | Check::New => {}
@@ -66,7 +66,7 @@ impl Master {
                 current: self.version,
             });
         }
-        if !self.journal.log().owns(&ask.request.command) {
+        if !self.master_log.log().owns(&ask.request.command) {
             return Some(Refusal::NotOwner);
         }
         None
@@ -89,7 +89,7 @@ impl Master {
             request.id,
             request.command,
             self.value(key),
-            self.journal.log().len(),
+            self.master_log.log().len(),
             round.number,
         );
         self.captures.push(captured);
@@ -121,6 +121,6 @@ impl Master {
     fn value(&self, key: &Key) -> Answer
         ensures { result ≡ Answer.Found (store.get (state_of self.now.state).store key.now) }
     {
-        Answer::Found(self.journal.log().store().get(key))
+        Answer::Found(self.master_log.log().store().get(key))
     }
 }

@@ -69,7 +69,7 @@ impl Master {
             ≡ append_to self.now.number (at_round self.now.state round more.now) backup.now) }
     {
         let base = length_from(&self.acknowledged, backup);
-        let entries = suffix_with(self.alloc, self.journal.log(), base, more)?;
+        let entries = suffix_with(self.alloc, self.master_log.log(), base, more)?;
         Ok(messages::append(
             self.number,
             *backup,

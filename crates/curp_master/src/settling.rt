@@ -48,7 +48,7 @@ impl Master {
         ensures moves { Moves self.old self.new result (move_of self.old
             (prepares_in self.old.number (acknowledging self.old.state acknowledged.items) self.old.state.phase)) }
     {
-        let long = self.journal.log().len();
+        let long = self.master_log.log().len();
         match self.phase.ready_version(long, &acknowledged) {
             None => {
                 self.acknowledge(acknowledged);
@@ -79,7 +79,7 @@ impl Master {
         ensures number { self.new.number ≡ self.old.number }
         ensures state { self.new.state ≡ acknowledging self.old.state acknowledged.items }
     {
-        self.journal
+        self.master_log
             .settle(least_length(&acknowledged, &self.backups));
         self.acknowledged = acknowledged;
     }
@@ -89,7 +89,7 @@ impl Master {
         ensures number { self.new.number ≡ self.old.number }
         ensures state { self.new.state ≡ (settle self.old.number self.old.state).state }
     {
-        let synced = self.journal.synced();
+        let synced = self.master_log.synced();
         self.held.remove_below(synced);
         self.captures
             .remove_ready(&self.acknowledged, &self.backups);
@@ -116,7 +116,7 @@ impl Master {
             acknowledged,
             backups,
         )?;
-        let moved = newly_synced(self.journal.log().entries(), self.settled, synced);
+        let moved = newly_synced(self.master_log.log().entries(), self.settled, synced);
         messages::tell_moved(&mut sent, self.alloc, self.number, moved)?;
         Ok(sent)
     }
@@ -141,7 +141,7 @@ impl Master {
         ensures { OnOk result (sent.new.items ≡ sent.old.items ++ synced_reply self.now.number
             (record self.now.state { version = version }) index (slice_get self.now.state.log index)) }
     {
-        let log = self.journal.log();
+        let log = self.master_log.log();
         if let (Some(request), Some(answer)) = (log.request(index), log.answer(index)) {
             let reply = self.reply_to(version, true, request.id, &answer);
             sent.push(messages::reply(self.number, Boxed::new(self.alloc, reply)?))?;

@@ -11,7 +11,7 @@ ghost use Rattle.curp_master.specs.Built.{move_of};
 ghost use Rattle.curp_master.specs.Suspects.{HasOpRoom, IsTreated, brings, keeping, news};
 
 use crate::Master;
-use crate::journal::Journal;
+use crate::master_log::MasterLog;
 use curp_base::NoMemory;
 use curp_cmd::laws::names_one_to_four_keys;
 use curp_cmd::{Answer, Entry, Request};
@@ -40,7 +40,7 @@ impl Master {
         ensures moves { Moves self.old self.new result
             (move_of self.old (treats self.old.number self.old.state suspects.now)) }
     {
-        let news = news(self.alloc, self.journal.log(), suspects)?;
+        let news = news(self.alloc, self.master_log.log(), suspects)?;
         if news.is_empty() {
             self.take_in(suspects, 0)?;
             return Ok(Done::quiet(self.alloc));
@@ -64,8 +64,8 @@ impl Master {
             return Err(AllocError);
         };
         self.queue.reserve(suspects.len() as u64)?;
-        self.journal.reserve(units)?;
-        treat_each(&mut self.journal, &mut self.queue, suspects);
+        self.master_log.reserve(units)?;
+        treat_each(&mut self.master_log, &mut self.queue, suspects);
         Ok(())
     }
 }
@@ -115,48 +115,48 @@ fn unacknowledging(request: &Request) -> Entry
 }
 
 // Each suspect in turn. It takes no memory, since there is room.
-fn treat_each(journal: &mut Journal, queue: &mut Queue, suspects: &[Request])
-    requires room { HasOpRoom journal.old
-        (length (news journal.old.kept.lo journal.old.kept.hi journal.old.kept.entries suspects.now)) }
+fn treat_each(master_log: &mut MasterLog, queue: &mut Queue, suspects: &[Request])
+    requires room { HasOpRoom master_log.old
+        (length (news master_log.old.kept.lo master_log.old.kept.hi master_log.old.kept.entries suspects.now)) }
     requires spare { length suspects.now ≤ queue.old.spare }
-    ensures treated { (m : MasterState) → treat (keeping m journal.old.kept queue.old.waiting) suspects.now
-        ≡ keeping m journal.new.kept queue.new.waiting }
-    ensures synced { journal.new.kept.synced ≡ journal.old.kept.synced }
+    ensures treated { (m : MasterState) → treat (keeping m master_log.old.kept queue.old.waiting) suspects.now
+        ≡ keeping m master_log.new.kept queue.new.waiting }
+    ensures synced { master_log.new.kept.synced ≡ master_log.old.kept.synced }
 {
     for suspect in suspects {
-        treat(journal, queue, suspect);
+        treat(master_log, queue, suspect);
     }
 }
 
 // By the duplicate check of its id.
-fn treat(journal: &mut Journal, queue: &mut Queue, suspect: &Request)
-    requires room { HasOpRoom journal.old
-        (length (brings journal.old.kept.lo journal.old.kept.hi journal.old.kept.entries suspect.now)) }
+fn treat(master_log: &mut MasterLog, queue: &mut Queue, suspect: &Request)
+    requires room { HasOpRoom master_log.old
+        (length (brings master_log.old.kept.lo master_log.old.kept.hi master_log.old.kept.entries suspect.now)) }
     requires spare { 1 ≤ queue.old.spare }
-    ensures treated { IsTreated suspect.now journal.old queue.old.waiting journal.new queue.new.waiting }
+    ensures treated { IsTreated suspect.now master_log.old queue.old.waiting master_log.new queue.new.waiting }
     ensures spare { queue.old.spare ≤ queue.new.spare + 1 }
 {
-    let length = journal.log().len();
-    match journal.log().check(&suspect.id) {
+    let length = master_log.log().len();
+    match master_log.log().check(&suspect.id) {
         Check::Known { index, .. } => queue.add(suspect.id, index + 1),
         Check::Stale { .. } | Check::Expired => queue.add(suspect.id, length),
-        Check::New => treat_new(journal, queue, suspect),
+        Check::New => treat_new(master_log, queue, suspect),
     }
 }
 
 // One that is new is pushed, where its hashes are owned.
-fn treat_new(journal: &mut Journal, queue: &mut Queue, suspect: &Request)
-    requires new { check (meaning journal.old.kept.lo journal.old.kept.hi journal.old.kept.entries).table suspect.now.id
+fn treat_new(master_log: &mut MasterLog, queue: &mut Queue, suspect: &Request)
+    requires new { check (meaning master_log.old.kept.lo master_log.old.kept.hi master_log.old.kept.entries).table suspect.now.id
         ≡ New }
-    requires room { HasOpRoom journal.old
-        (length (brings journal.old.kept.lo journal.old.kept.hi journal.old.kept.entries suspect.now)) }
+    requires room { HasOpRoom master_log.old
+        (length (brings master_log.old.kept.lo master_log.old.kept.hi master_log.old.kept.entries suspect.now)) }
     requires spare { 1 ≤ queue.old.spare }
-    ensures treated { IsTreated suspect.now journal.old queue.old.waiting journal.new queue.new.waiting }
+    ensures treated { IsTreated suspect.now master_log.old queue.old.waiting master_log.new queue.new.waiting }
     ensures spare { queue.old.spare ≤ queue.new.spare + 1 }
 {
-    if journal.log().owns(&suspect.command) {
+    if master_log.log().owns(&suspect.command) {
         names_one_to_four_keys(&suspect.command);
-        journal.push(unacknowledging(suspect), false);
-        queue.add(suspect.id, journal.log().len());
+        master_log.push(unacknowledging(suspect), false);
+        queue.add(suspect.id, master_log.log().len());
     }
 }

@@ -108,7 +108,7 @@ impl Master {
         ensures state { OnOk result (self.new.state ≡ taken_up self.old.state) }
         ensures err { OnErr result (self.new ≡ self.old) }
     {
-        self.journal.settle_anew(synced)?;
+        self.master_log.settle_anew(synced)?;
         if let Phase::Switching(switch) = replace(&mut self.phase, Phase::Open) {
             self.version = switch.version;
             self.backups = switch.backups.into_vec();

@@ -8,12 +8,12 @@ ghost use Rattle.curp_model.specs.Master.{state_of, verdict};
 ghost use Rattle.curp_model.specs.Table.{check};
 ghost use Rattle.curp_msg.specs.Moved.{Moves};
 ghost use Rattle.curp_master.specs.Built.{move_of};
-ghost use Rattle.curp_master.specs.Journal.{CanPush};
+ghost use Rattle.curp_master.specs.MasterLog.{CanPush};
 ghost use Rattle.curp_master.specs.Rounds.{IsNextRound};
 ghost use Rattle.curp_master.specs.Updates.{new_verdict, pushes_held};
 ghost use Rattle.curp_rounds.specs.Verdicts.{verdict_of, wish_of};
 
-use crate::journal::op_of;
+use crate::master_log::op_of;
 use crate::replies::reply_room;
 use crate::{Master, Round};
 use curp_base::NoMemory;
@@ -46,7 +46,7 @@ impl Master {
         if !self.phase.is_open() {
             return Verdict::Deny(Refusal::Switching);
         }
-        match self.journal.log().check(&ask.request.id) {
+        match self.master_log.log().check(&ask.request.id) {
             Check::Expired => Verdict::Deny(Refusal::Expired),
             Check::Stale { first } => Verdict::Deny(Refusal::Stale { first }),
             Check::Known { answer, index } => self.known_at(wish, answer, index),
@@ -62,11 +62,11 @@ impl Master {
         if index < self.synced() {
             return Verdict::Tell(answer);
         }
-        if self.journal.log().request(index).is_none() || self.held.contains(index) {
+        if self.master_log.log().request(index).is_none() || self.held.contains(index) {
             return Verdict::Deny(Refusal::InProgress);
         }
         match wish {
-            Wish::AtOnce if self.journal.is_free(index) => Verdict::TellAgain(answer),
+            Wish::AtOnce if self.master_log.is_free(index) => Verdict::TellAgain(answer),
             _ => Verdict::HoldBack(index),
         }
     }
@@ -82,7 +82,7 @@ impl Master {
                 current: self.version,
             });
         }
-        if !self.journal.log().owns(&ask.request.command) {
+        if !self.master_log.log().owns(&ask.request.command) {
             return Verdict::Deny(Refusal::NotOwner);
         }
         Verdict::Execute
@@ -129,11 +129,11 @@ impl Master {
     {
         // All room is taken before anything changes.
         self.queue.reserve(1)?;
-        self.journal.reserve(op_room(request))?;
+        self.master_log.reserve(op_room(request))?;
         let unanswered = self.reply_to(self.version, false, request.id, &Answer::Done);
         let (mut reply, mut sent) = reply_room(self.alloc, unanswered)?;
-        let answer = self.journal.push_op(request, true);
-        self.queue.add(request.id, self.journal.log().len());
+        let answer = self.master_log.push_op(request, true);
+        self.queue.add(request.id, self.master_log.log().len());
         reply.set(self.reply_to(self.version, false, request.id, &answer));
         sent.push_reserved(messages::reply(self.number, reply));
         Ok(Done::sends(sent))
@@ -147,12 +147,12 @@ impl Master {
     {
         self.held.reserve(1)?;
         self.queue.reserve(1)?;
-        self.journal.reserve(op_room(request))?;
+        self.master_log.reserve(op_room(request))?;
         let Some(round) = self.round_with_op(request)? else {
             return Ok(Done::quiet(self.alloc));
         };
-        let index = self.journal.log().len();
-        self.journal.push(op_of(request), is_free);
+        let index = self.master_log.log().len();
+        self.master_log.push(op_of(request), is_free);
         self.queue.add(request.id, index + 1);
         self.held.insert(index);
         self.round = round.number;

@@ -16,7 +16,7 @@ use Rattle.curp_turns.specs.Legal.{LegalFrom, deed_for}
 use Rattle.curp_turns.specs.Turns.{AreApart, Did, InOrder, IsKnown, Journal, Placed, Precedes, Turn, of, said, sent_by, turn_stamp, turns_of}
 use Rattle.curp_turns.proofs.Turns.{of_here, of_there, said-snoc}
 use Rattle.curp_merge.specs.Merging.{AreJournals, Delivers, Merged, NameTaken, turn_weight, weight_sent}
-use Rattle.curp_merge.specs.Weaving.{CanBeGiven, Comes, Counted, DeliversBy, IsCounted, IsFirst, IsSent, IsStepOf, NamesInput, NamesTurn, NoneLeft, Numbers, SentBefore, Woven}
+use Rattle.curp_merge.specs.Weaving.{CanBeGiven, ComesFirst, Counted, DeliversBy, TurnIsCounted, NoneComesBefore, NamedWasSent, IsStepOf, NamesInput, NamesTurn, NoneLeft, Numbers, SentBefore, Woven}
 use Rattle.curp_merge.proofs.Left.{all_left, all_weigh, left_after, length-push}
 use Rattle.curp_merge.proofs.Naming.{counted_more, delivers_more, delivers_sent}
 use Rattle.curp_merge.proofs.Stamps.{turn_of_item, turns_rise}
@@ -34,7 +34,7 @@ legal-snoc before (t ∷ ss) (q ∷ ps) s p legal is =
 
 -- ---- which turn precedes which
 
-not_later : (stamp place other there later : ℕ) → Comes stamp place other there → other ≤ later → Comes stamp place later there
+not_later : (stamp place other there later : ℕ) → ComesFirst stamp place other there → other ≤ later → ComesFirst stamp place later there
 not_later stamp place other there later comes most =
     elim comes [
       | inl before ↦ inl (omega (arith, before, most))
@@ -53,7 +53,7 @@ module _ (journals : List Journal) (apart : AreApart journals) where
       (same, at_same journals k a b (subst (λ (n : ℕ). At journals n a) same at_a) at_b)
 
   -- by the places of the journals
-  precedes : (i k : ℕ) (a b : Journal) (t u : Turn) → At journals i a → At journals k b → Comes (turn_stamp t) i (turn_stamp u) k
+  precedes : (i k : ℕ) (a b : Journal) (t u : Turn) → At journals i a → At journals k b → ComesFirst (turn_stamp t) i (turn_stamp u) k
       → Precedes journals (record { node = a.id; turn = t }) (record { node = b.id; turn = u })
   precedes i k a b t u at_a at_b comes = elim comes [
     | inl before ↦ inl before
@@ -122,7 +122,7 @@ module _ (journals : List Journal) (rows : List (List ℕ)) (ss : List Step) (ne
       ]
 
   -- where the turn stands then
-  counted_here : IsCounted taken j.id turn (length row) next
+  counted_here : TurnIsCounted taken j.id turn (length row) next
   counted_here = record {
     pre = woven.placed;
     post = [];
@@ -152,7 +152,7 @@ module _ (journals : List Journal) (rows : List (List ℕ)) (ss : List Step) (ne
       → turn ≡ Did item → item.input ≡ arrived.Message named → Delivers woven.placed named s
   names_here s item named given made did came =
       let before : SentBefore journals rows item.input = (subst (λ (x : Turn). CanBeGiven journals rows j.id x) did given).1 in
-      let sent : IsSent journals rows named = subst (λ (a : Arrived). SentBefore journals rows a) came before in
+      let sent : NamedWasSent journals rows named = subst (λ (a : Arrived). SentBefore journals rows a) came before in
       let input : NamesInput journals rows item.input s = subst (λ (x : Turn). NamesTurn journals rows x s) did made in
       let delivers : DeliversBy journals rows named s = subst (λ (a : Arrived). NamesInput journals rows a s) came input in
       let at = turn_of_item sent.journal sent.t sent.item sent.taken in
@@ -201,7 +201,7 @@ module _ (journals : List Journal) (rows : List (List ℕ)) (ss : List Step) (ne
       let at_j : At (turns_of j) (length row + 1) after = subst (λ (x : ℕ). At (turns_of j) x after) n (subst (λ (x : Journal). At (turns_of x) (length r) after) e at) in
       (at_j, turns_rise j (length row) (length row + 1) turn after (are.stamped k j stands) its_turn at_j (omega arith))
 
-  module _ (first : IsFirst journals rows (length journals) k (turn_stamp turn)) where
+  module _ (first : NoneComesBefore journals rows (length journals) k (turn_stamp turn)) where
     here_precedes : (i : ℕ) (a : Journal) (r : List ℕ) (after : Turn) → At journals i a → At new_rows i r → At (turns_of a) (length r) after
         → Precedes journals here (record { node = a.id; turn = after })
     here_precedes i a r after at at_r at_after =

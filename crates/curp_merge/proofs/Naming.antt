@@ -5,7 +5,7 @@ use Rattle.curp_msg.specs.declared.script.Step.{Step}
 use Rattle.curp_journal.specs.declared.arrived.Named.{Named}
 use Rattle.curp_turns.specs.Turns.{Did, Journal, Placed, Turn, of}
 use Rattle.curp_merge.specs.Merging.{Delivers, IsNumberIn}
-use Rattle.curp_merge.specs.Weaving.{DeliversBy, IsCounted, IsSent}
+use Rattle.curp_merge.specs.Weaving.{DeliversBy, TurnIsCounted, NamedWasSent}
 use Rattle.curp_base.proofs.Numbered.{at_place}
 
 -- a turn more stands behind those that are there
@@ -14,7 +14,7 @@ parts_more placed pre post q p parts = ap (λ (ps : List Placed). ps ++ p ∷ []
 
 -- a turn stays where it stands
 pub counted_more : (placed : List Placed) (p : Placed) (node : NodeId) (turn : Turn) (t before : ℕ)
-    → IsCounted placed node turn t before → IsCounted (placed ++ p ∷ []) node turn t before
+    → TurnIsCounted placed node turn t before → TurnIsCounted (placed ++ p ∷ []) node turn t before
 counted_more placed p node turn t before c = record {
   pre = c.pre;
   post = c.post ++ p ∷ [];
@@ -39,8 +39,8 @@ number_more placed p named number is = record {
 pub delivers_more : (placed : List Placed) (p : Placed) (named : Named) (s : Step) → Delivers placed named s → Delivers (placed ++ p ∷ []) named s
 delivers_more placed p named s d = record { number = d.number; step_is = d.step_is; is = number_more placed p named d.number d.is }
 
-module _ (journals : List Journal) (rows : List (List ℕ)) (placed : List Placed) (named : Named) (s : IsSent journals rows named)
-    (c : IsCounted placed s.journal.id (Did s.item) s.t s.before) where
+module _ (journals : List Journal) (rows : List (List ℕ)) (placed : List Placed) (named : Named) (s : NamedWasSent journals rows named)
+    (c : TurnIsCounted placed s.journal.id (Did s.item) s.t s.before) where
   -- a message that was sent has the number that the rows say
   number_sent : IsNumberIn placed named (s.before + named.place)
   number_sent =

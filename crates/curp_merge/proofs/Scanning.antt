@@ -6,7 +6,7 @@ use Rattle.std.proofs.lemmas.Option.{slice_get_read}
 use Rattle.curp_base.specs.Words.{At}
 use Rattle.curp_base.proofs.Lists.{at_same, at_some, at_within}
 use Rattle.curp_turns.specs.Turns.{Journal, Turn, turn_stamp, turns_of}
-use Rattle.curp_merge.specs.Weaving.{BestSoFar, Comes, IsBest, IsDue, IsFirst, NoneBelow, NoneLeft, is_less, next_stamp}
+use Rattle.curp_merge.specs.Weaving.{BestSoFar, ComesFirst, IsBest, IsDue, NoneComesBefore, NoTurnLeft, NoneLeft, is_less, next_stamp}
 
 -- an element that was read of a list
 pub read_at : {A : Type 0} (xs : List A) (i : ℕ) (x : A) → i < length xs → x ≡ get_or xs i x → At xs i x
@@ -38,7 +38,7 @@ has_none j taken is =
 -- ---- one journal more
 
 module _ (journals : List Journal) (rows : List (List ℕ)) (n : ℕ) (j : Journal) (row : List ℕ) (stands : At journals n j) (its_row : At rows n row) where
-  none_more : length (turns_of j) ≤ length row → NoneBelow journals rows n → NoneBelow journals rows (n + 1)
+  none_more : length (turns_of j) ≤ length row → NoTurnLeft journals rows n → NoTurnLeft journals rows (n + 1)
   none_more past none i other r below at at_r =
       elim (cases_eq i n) [
         | inl same ↦
@@ -48,8 +48,8 @@ module _ (journals : List Journal) (rows : List (List ℕ)) (n : ℕ) (j : Journ
         | inr ne ↦ none i other r (omega (arith, below, ne)) at at_r
       ]
 
-  first_more : (place stamp : ℕ) → ((turn : Turn) → At (turns_of j) (length row) turn → Comes stamp place (turn_stamp turn) n)
-      → IsFirst journals rows n place stamp → IsFirst journals rows (n + 1) place stamp
+  first_more : (place stamp : ℕ) → ((turn : Turn) → At (turns_of j) (length row) turn → ComesFirst stamp place (turn_stamp turn) n)
+      → NoneComesBefore journals rows n place stamp → NoneComesBefore journals rows (n + 1) place stamp
   first_more place stamp here first i other r turn below at at_r at_turn =
       elim (cases_eq i n) [
         | inl same ↦
@@ -91,14 +91,14 @@ module _ (journals : List Journal) (rows : List (List ℕ)) (n : ℕ) (j : Journ
           first = first_more best.0 best.1 (λ other at. not_below best.0 best.1 (turn_stamp other) is.among (omega (arith, same_stamp other at, most))) is.first;
         }
       where
-        not_below : (place stamp other : ℕ) → place < n → stamp ≤ other → Comes stamp place other n
+        not_below : (place stamp other : ℕ) → place < n → stamp ≤ other → ComesFirst stamp place other n
         not_below place stamp other among most =
             elim (cases_lt stamp other) [
               | inl less ↦ inl less
               | inr more ↦ inr (omega (arith, most, more), omega (arith, among))
             ]
 
-    before_new : (best : Option (ℕ × ℕ)) → is_less best (turn_stamp turn) ≡ true → BestSoFar journals rows n best → IsFirst journals rows n n (turn_stamp turn)
+    before_new : (best : Option (ℕ × ℕ)) → is_less best (turn_stamp turn) ≡ true → BestSoFar journals rows n best → NoneComesBefore journals rows n n (turn_stamp turn)
     before_new None test so_far i other r next below at at_r at_next = absurd (omega (arith, so_far i other r below at at_r, at_within (turns_of other) (length r) next at_next))
     before_new (Some best) test so_far i other r next below at at_r at_next =
         let is : IsBest journals rows n best.0 best.1 = so_far in
@@ -125,4 +125,4 @@ pub best_is_due : (journals : List Journal) (rows : List (List ℕ)) (n place st
 best_is_due journals rows n place stamp all best = record { stamp = stamp; is = subst (λ (k : ℕ). IsBest journals rows k place stamp) all best }
 
 pub none_is_all : (journals : List Journal) (rows : List (List ℕ)) (n : ℕ) → n ≡ length journals → BestSoFar journals rows n None → NoneLeft journals rows
-none_is_all journals rows n all none = subst (λ (k : ℕ). NoneBelow journals rows k) all none
+none_is_all journals rows n all none = subst (λ (k : ℕ). NoTurnLeft journals rows k) all none

@@ -21,7 +21,7 @@ use Rattle.curp_journal.proofs.Replays.{stamp_above}
 use Rattle.curp_turns.specs.Turns.{AreApart, Did, Journal, turn_stamp, turns_of}
 use Rattle.curp_merge.specs.Held.{AllHeld, IsHeld, held_by, journal_of, kept_at}
 use Rattle.curp_merge.specs.Merging.{AreJournals}
-use Rattle.curp_merge.specs.Weaving.{IsFirst, IsNumberBy, IsNumberOf, IsSent, SentBefore, Woven}
+use Rattle.curp_merge.specs.Weaving.{NoneComesBefore, IsNumberBy, IsNumberOf, NamedWasSent, SentBefore, Woven}
 use Rattle.curp_merge.proofs.Stamps.{turn_of_item, turns_rise}
 
 -- ---- searches
@@ -115,7 +115,7 @@ kept journals named is =
 
 module _ (journals : List Journal) (rows : List (List ℕ)) (ss : List Step) (next : ℕ) (are : AreJournals journals) (woven : Woven journals rows ss next) (lengths : length rows ≡ length journals) where
   -- an item with a lesser stamp than the due one was taken
-  taken_before : (k stamp : ℕ) (first : IsFirst journals rows (length journals) k stamp) (i : ℕ) (j : Journal) (row : List ℕ) (t : ℕ) (item : Item)
+  taken_before : (k stamp : ℕ) (first : NoneComesBefore journals rows (length journals) k stamp) (i : ℕ) (j : Journal) (row : List ℕ) (t : ℕ) (item : Item)
       → At journals i j → At rows i row → At j.items t item → item.stamp < stamp → t < length row
   taken_before k stamp first i j row t item stands its_row at less =
       elim (cases_lt t (length row)) [
@@ -138,7 +138,7 @@ module _ (journals : List Journal) (rows : List (List ℕ)) (ss : List Step) (ne
       ]
 
   pub was_sent : AllHeld journals → next < 2 ^ 64 → (k : ℕ) (j : Journal) (row : List ℕ) (item : Item)
-      → At journals k j → At rows k row → At j.items (length row) item → IsFirst journals rows (length journals) k item.stamp → SentBefore journals rows item.input
+      → At journals k j → At rows k row → At j.items (length row) item → NoneComesBefore journals rows (length journals) k item.stamp → SentBefore journals rows item.input
   was_sent held fits k j row item stands its_row at first = go item.input refl
     where
       go : (input : Arrived) → item.input ≡ input → SentBefore journals rows input
@@ -172,7 +172,7 @@ module _ (journals : List Journal) (rows : List (List ℕ)) (ss : List Step) (ne
 
 -- ---- the number of what was sent
 
-module _ (journals : List Journal) (rows : List (List ℕ)) (named : Named) (from : ℕ) (s : IsSent journals rows named) (apart : AreApart journals)
+module _ (journals : List Journal) (rows : List (List ℕ)) (named : Named) (from : ℕ) (s : NamedWasSent journals rows named) (apart : AreApart journals)
     (is : Some from ≡ position (λ (j : Journal). same_node j.id named.from) journals) where
   sender_place : from ≡ s.place
   sender_place =
@@ -198,13 +198,13 @@ module _ (journals : List Journal) (rows : List (List ℕ)) (named : Named) (fro
     pub before_is : get_or befores (named.step - 1) 0 ≡ s.before
     before_is = get_or_from_slice_get befores (named.step - 1) s.before 0 counted_at
 
-pub number_is : (journals : List Journal) (rows : List (List ℕ)) (named : Named) (s : IsSent journals rows named) → IsNumberOf journals rows named.message (s.before + named.place)
+pub number_is : (journals : List Journal) (rows : List (List ℕ)) (named : Named) (s : NamedWasSent journals rows named) → IsNumberOf journals rows named.message (s.before + named.place)
 number_is journals rows named s sent numbers =
     at_place sent (s.before + s.i) (s.before + named.place) named.message (omega (arith, s.place_is))
     (numbers s.place s.journal s.row s.t s.before (Did s.item) s.i named.message s.stands s.its_row s.counted (turn_of_item s.journal s.t s.item s.taken) s.sent)
 
 -- the rows give the message of that name no other number
-pub only_number : (journals : List Journal) (rows : List (List ℕ)) (named : Named) (s : IsSent journals rows named) → AreApart journals → IsNumberBy journals rows named (s.before + named.place)
+pub only_number : (journals : List Journal) (rows : List (List ℕ)) (named : Named) (s : NamedWasSent journals rows named) → AreApart journals → IsNumberBy journals rows named (s.before + named.place)
 only_number journals rows named s apart k j row t before stands its_row counted its_name step_is =
     let same : k ≡ s.place = apart k s.place j s.journal stands s.stands (its_name ∙ sym s.its_name) in
     let e : row ≡ s.row = at_same rows s.place row s.row (subst (λ (n : ℕ). At rows n row) same its_row) s.its_row in

@@ -26,21 +26,21 @@ abbrev pub next_stamp : Journal → ℕ → Option ℕ
 next_stamp j taken = option_map turn_stamp (slice_get (turns_of j) taken)
 
 -- no turn is left of the first n journals
-abbrev pub NoneBelow : List Journal → List (List ℕ) → ℕ → Type 0
-NoneBelow journals rows n = (i : ℕ) (j : Journal) (row : List ℕ) → i < n → At journals i j → At rows i row → length (turns_of j) ≤ length row
+abbrev pub NoTurnLeft : List Journal → List (List ℕ) → ℕ → Type 0
+NoTurnLeft journals rows n = (i : ℕ) (j : Journal) (row : List ℕ) → i < n → At journals i j → At rows i row → length (turns_of j) ≤ length row
 
 -- no turn is left
 abbrev pub NoneLeft : List Journal → List (List ℕ) → Type 0
-NoneLeft journals rows = NoneBelow journals rows (length journals)
+NoneLeft journals rows = NoTurnLeft journals rows (length journals)
 
 -- a stamp of the journal at a place comes before another, or is that one
-abbrev pub Comes : ℕ → ℕ → ℕ → ℕ → Type 0
-Comes stamp place other there = (stamp < other) ⊎ ((stamp ≡ other) × (place ≤ there))
+abbrev pub ComesFirst : ℕ → ℕ → ℕ → ℕ → Type 0
+ComesFirst stamp place other there = (stamp < other) ⊎ ((stamp ≡ other) × (place ≤ there))
 
 -- no next turn of the first n journals comes before this stamp of the journal at that place
-abbrev pub IsFirst : List Journal → List (List ℕ) → ℕ → ℕ → ℕ → Type 0
-IsFirst journals rows n place stamp = (i : ℕ) (j : Journal) (row : List ℕ) (turn : Turn)
-    → i < n → At journals i j → At rows i row → At (turns_of j) (length row) turn → Comes stamp place (turn_stamp turn) i
+abbrev pub NoneComesBefore : List Journal → List (List ℕ) → ℕ → ℕ → ℕ → Type 0
+NoneComesBefore journals rows n place stamp = (i : ℕ) (j : Journal) (row : List ℕ) (turn : Turn)
+    → i < n → At journals i j → At rows i row → At (turns_of j) (length row) turn → ComesFirst stamp place (turn_stamp turn) i
 
 -- the next turn of the journal at a place
 pub record IsNext (journals : List Journal) (rows : List (List ℕ)) (place : ℕ) (turn : Turn) : Type 0 where
@@ -56,11 +56,11 @@ pub record IsBest (journals : List Journal) (rows : List (List ℕ)) (n place st
   pub next : IsNext journals rows place turn
   pub among : place < n
   pub stamp_is : stamp ≡ turn_stamp turn
-  pub first : IsFirst journals rows n place stamp
+  pub first : NoneComesBefore journals rows n place stamp
 
 -- the best so far, if any of the first n journals has a next turn
 abbrev pub BestSoFar : List Journal → List (List ℕ) → ℕ → Option (ℕ × ℕ) → Type 0
-BestSoFar journals rows n None = NoneBelow journals rows n
+BestSoFar journals rows n None = NoTurnLeft journals rows n
 BestSoFar journals rows n (Some best) = IsBest journals rows n best.0 best.1
 
 -- the stamp is less than the best so far, or there is none yet
@@ -124,7 +124,7 @@ NamesTurn journals rows (Quits stamp) step = ⊤
 -- ---- what a node can be given
 
 -- an item that was taken sent the named message, and its number is below 2^64
-pub record IsSent (journals : List Journal) (rows : List (List ℕ)) (named : Named) : Type 0 where
+pub record NamedWasSent (journals : List Journal) (rows : List (List ℕ)) (named : Named) : Type 0 where
   pub place : ℕ
   pub journal : Journal
   pub row : List ℕ
@@ -145,7 +145,7 @@ pub record IsSent (journals : List Journal) (rows : List (List ℕ)) (named : Na
 -- what came is an order, or an item that was taken sent it
 abbrev pub SentBefore : List Journal → List (List ℕ) → Arrived → Type 0
 SentBefore journals rows (arrived.Local order stamp) = ⊤
-SentBefore journals rows (arrived.Message named) = IsSent journals rows named
+SentBefore journals rows (arrived.Message named) = NamedWasSent journals rows named
 
 -- a node can be given what came to it by the turn
 abbrev pub CanBeGiven : List Journal → List (List ℕ) → NodeId → Turn → Type 0
@@ -153,7 +153,7 @@ CanBeGiven journals rows node (Did item) = IsOwn node item.input × SentBefore j
 CanBeGiven journals rows node (Quits stamp) = ⊤
 
 -- the journal has a turn behind so many, and its node can be given what came to it then
-pub record IsReady (journals : List Journal) (rows : List (List ℕ)) (j : Journal) (taken : ℕ) : Type 0 where
+pub record CanBeTaken (journals : List Journal) (rows : List (List ℕ)) (j : Journal) (taken : ℕ) : Type 0 where
   pub turn : Turn
   pub its_turn : At (turns_of j) taken turn
   pub given : CanBeGiven journals rows j.id turn
@@ -170,7 +170,7 @@ abbrev pub turns_left : List Journal → List (List ℕ) → ℕ
 turns_left journals rows = sum_left (λ turn. 1) journals rows
 
 -- the turn of a node stands behind so many of its turns, and behind turns that sent so many messages
-pub record IsCounted (placed : List Placed) (node : NodeId) (turn : Turn) (t before : ℕ) : Type 0 where
+pub record TurnIsCounted (placed : List Placed) (node : NodeId) (turn : Turn) (t before : ℕ) : Type 0 where
   pub pre : List Placed
   pub post : List Placed
   pub parts : placed ≡ pre ++ (record { node = node; turn = turn } ∷ post)
@@ -180,7 +180,7 @@ pub record IsCounted (placed : List Placed) (node : NodeId) (turn : Turn) (t bef
 -- so stands each turn that was taken, as its row says
 abbrev pub Counted : List Journal → List (List ℕ) → List Placed → Type 0
 Counted journals rows placed = (k : ℕ) (j : Journal) (row : List ℕ) (t before : ℕ) (turn : Turn)
-    → At journals k j → At rows k row → At row t before → At (turns_of j) t turn → IsCounted placed j.id turn t before
+    → At journals k j → At rows k row → At row t before → At (turns_of j) t turn → TurnIsCounted placed j.id turn t before
 
 -- So far the steps are a merge of the turns that the rows count, and `next` messages were sent. Those turns precede all
 -- that are left

@@ -5,42 +5,42 @@ ghost use Rattle.curp_turns.specs.Turns.{turns_of};
 ghost use Rattle.curp_msg.specs.Weight.{weight_of};
 ghost use Rattle.curp_merge.specs.Merging.{turn_count, turn_weight, weight_sent};
 
-use crate::Line;
+use crate::Strand;
 use curp_journal::Item;
 use curp_msg::{Message, weight};
 
 /// How many items and last stops there are. It stands still at 2^64 - 1.
-pub(crate) fn turn_count(lines: &[Line<'_>]) -> u64
-    ensures { result ≡ min (turn_count lines.now) (2 ^ 64 - 1) }
+pub(crate) fn turn_count(strands: &[Strand<'_>]) -> u64
+    ensures { result ≡ min (turn_count strands.now) (2 ^ 64 - 1) }
 {
     let mut total: u64 = 0;
-    for line in lines {
-        total = total.saturating_add(turns_in(line));
+    for strand in strands {
+        total = total.saturating_add(turns_in(strand));
     }
     total
 }
 
-fn turns_in(line: &Line<'_>) -> u64
-    ensures { result ≡ min (length (turns_of line.now)) (2 ^ 64 - 1) }
+fn turns_in(strand: &Strand<'_>) -> u64
+    ensures { result ≡ min (length (turns_of strand.now)) (2 ^ 64 - 1) }
 {
-    (line.items().len() as u64).saturating_add(u64::from(line.ended()))
+    (strand.items().len() as u64).saturating_add(u64::from(strand.ended()))
 }
 
 /// How much all that was sent weighs. It stands still at 2^64 - 1.
-pub(crate) fn weight_sent(lines: &[Line<'_>]) -> u64
-    ensures { result ≡ min (weight_sent lines.now) (2 ^ 64 - 1) }
+pub(crate) fn weight_sent(strands: &[Strand<'_>]) -> u64
+    ensures { result ≡ min (weight_sent strands.now) (2 ^ 64 - 1) }
 {
     let mut total: u64 = 0;
-    for line in lines {
-        total = total.saturating_add(line_weight(line));
+    for strand in strands {
+        total = total.saturating_add(strand_weight(strand));
     }
     total
 }
 
-fn line_weight(line: &Line<'_>) -> u64
-    ensures { result ≡ min (sum (map turn_weight (turns_of line.now))) (2 ^ 64 - 1) }
+fn strand_weight(strand: &Strand<'_>) -> u64
+    ensures { result ≡ min (sum (map turn_weight (turns_of strand.now))) (2 ^ 64 - 1) }
 {
-    items_weight(line.items())
+    items_weight(strand.items())
 }
 
 fn items_weight(items: &[Item]) -> u64

@@ -2,21 +2,21 @@ ghost use Rattle.std.specs.Prelude.{◌≡◌, length, IfNone, IfSome};
 ghost use Rattle.curp_journal.specs.Journal.{last_stamp};
 ghost use Rattle.curp_merge.specs.Weaving.{IsDue, NoneLeft, is_less, next_stamp};
 
-use crate::Line;
+use crate::Strand;
 use crate::track::Track;
 use curp_journal::Item;
 
-/// The place of the line whose next turn has the least stamp, the first of those. None where all turns were taken.
-pub(crate) fn due(lines: &[Line<'_>], tracks: &[Track]) -> Option<usize>
-    requires { length tracks.now ≡ length lines.now }
-    ensures none { IfNone result (NoneLeft lines.now tracks.now) }
-    ensures some { IfSome result (IsDue lines.now tracks.now) }
+/// The place of the strand whose next turn has the least stamp, the first of those. None where all turns were taken.
+pub(crate) fn due(strands: &[Strand<'_>], tracks: &[Track]) -> Option<usize>
+    requires { length tracks.now ≡ length strands.now }
+    ensures none { IfNone result (NoneLeft strands.now tracks.now) }
+    ensures some { IfSome result (IsDue strands.now tracks.now) }
 {
     let mut best: Option<(usize, u64)> = None;
-    for at in 0..lines.len() {
+    for at in 0..strands.len() {
         let track = &tracks[at];
-        let line = &lines[at];
-        if let Some(stamp) = next_stamp(line, track.len()) {
+        let strand = &strands[at];
+        if let Some(stamp) = next_stamp(strand, track.len()) {
             if is_less(&best, stamp) {
                 best = Some((at, stamp));
             }
@@ -37,16 +37,16 @@ fn is_less(best: &Option<(usize, u64)>, stamp: u64) -> bool
     }
 }
 
-/// The stamp of the next turn of a line of which so many were taken.
-fn next_stamp(line: &Line<'_>, taken: usize) -> Option<u64>
-    ensures { result ≡ next_stamp line.now taken }
+/// The stamp of the next turn of a strand of which so many were taken.
+fn next_stamp(strand: &Strand<'_>, taken: usize) -> Option<u64>
+    ensures { result ≡ next_stamp strand.now taken }
 {
-    let items = line.items();
+    let items = strand.items();
     if taken < items.len() {
         let item = &items[taken];
         return Some(item.stamp);
     }
-    if line.ended() && taken == items.len() {
+    if strand.ended() && taken == items.len() {
         return Some(last_stamp(items));
     }
     None

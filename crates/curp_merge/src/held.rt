@@ -6,7 +6,7 @@ ghost use Rattle.curp_cmd.specs.Node.{same_node};
 ghost use Rattle.curp_turns.specs.Turns.{Journal};
 ghost use Rattle.curp_merge.specs.Held.{held_by, journal_of, kept_at};
 
-use crate::Line;
+use crate::Strand;
 use curp_base::NoMemory;
 use curp_cmd::NodeId;
 use curp_journal::{Item, Named};
@@ -14,10 +14,10 @@ use curp_same::Same;
 use std::alloc::Global;
 
 /// Whether the sender's journal holds that message by its name.
-pub(crate) fn is_held(lines: &[Line<'_>], named: &Named) -> bool
-    ensures { IsTrue result ↔ (kept_at lines.now named.now ≡ Some named.now) }
+pub(crate) fn is_held(strands: &[Strand<'_>], named: &Named) -> bool
+    ensures { IsTrue result ↔ (kept_at strands.now named.now ≡ Some named.now) }
 {
-    match item_of(lines, named) {
+    match item_of(strands, named) {
         Some(item) => is_held_by(item, named),
         None => false,
     }
@@ -35,12 +35,12 @@ fn is_held_by(item: &Item, named: &Named) -> bool
 /// What the sender's journal holds by the message's name, copied.
 pub(crate) fn kept_at(
     alloc: Global,
-    lines: &[Line<'_>],
+    strands: &[Strand<'_>],
     named: &Named,
 ) -> Result<Option<Named>, NoMemory>
-    ensures { IfOk result (λ kept. kept ≡ kept_at lines.now named.now) }
+    ensures { IfOk result (λ kept. kept ≡ kept_at strands.now named.now) }
 {
-    match item_of(lines, named) {
+    match item_of(strands, named) {
         Some(item) => kept_by(alloc, item, named),
         None => Ok(None),
     }
@@ -62,17 +62,17 @@ fn kept_by(alloc: Global, item: &Item, named: &Named) -> Result<Option<Named>, N
 }
 
 /// The sender's item of the number that the message's name has.
-fn item_of<'a>(lines: &'a [Line<'_>], named: &Named) -> Option<&'a Item>
+fn item_of<'a>(strands: &'a [Strand<'_>], named: &Named) -> Option<&'a Item>
     ensures { option_copied result
-        ≡ option_and_then (λ (j : Journal). numbered j.items named.now.step) (journal_of lines.now named.now.from) }
+        ≡ option_and_then (λ (j : Journal). numbered j.items named.now.step) (journal_of strands.now named.now.from) }
 {
-    numbered(line_of(lines, named.from)?.items(), named.step)
+    numbered(strand_of(strands, named.from)?.items(), named.step)
 }
 
-fn line_of<'a, 'b>(lines: &'a [Line<'b>], node: NodeId) -> Option<&'a Line<'b>>
-    ensures { option_copied result ≡ journal_of lines.now node }
+fn strand_of<'a, 'b>(strands: &'a [Strand<'b>], node: NodeId) -> Option<&'a Strand<'b>>
+    ensures { option_copied result ≡ journal_of strands.now node }
 {
-    lines.iter().find(|line| line.id() == node)
+    strands.iter().find(|strand| strand.id() == node)
 }
 
 /// The item of that number, counted from 1.

@@ -4,7 +4,7 @@ ghost use Rattle.curp_base.specs.Words.{At};
 ghost use Rattle.curp_turns.specs.Turns.{Journal};
 ghost use Rattle.curp_merge.specs.Held.{AllHeld, IsHeld, IsMismatch, IsOther, ItemsHeld};
 
-use crate::Line;
+use crate::Strand;
 use crate::held::{is_held, kept_at};
 use curp_base::NoMemory;
 use curp_cmd::NodeId;
@@ -23,32 +23,36 @@ pub(crate) struct Mismatch {
 /// The first such item, if there is one.
 pub(crate) fn first_mismatch(
     alloc: Global,
-    lines: &[Line<'_>],
+    strands: &[Strand<'_>],
 ) -> Result<Option<Mismatch>, NoMemory>
-    ensures { IfOk result (λ found. MatchOption found (AllHeld lines.now)
-        (λ m. IsMismatch lines.now m.node m.step m.got m.kept)) }
+    ensures { IfOk result (λ found. MatchOption found (AllHeld strands.now)
+        (λ m. IsMismatch strands.now m.node m.step m.got m.kept)) }
 {
-    for at in 0..lines.len() {
-        if let Some(mismatch) = mismatch_in(alloc, lines, at)? {
+    for at in 0..strands.len() {
+        if let Some(mismatch) = mismatch_in(alloc, strands, at)? {
             return Ok(Some(mismatch));
         }
     }
     Ok(None)
 }
 
-fn mismatch_in(alloc: Global, lines: &[Line<'_>], at: usize) -> Result<Option<Mismatch>, NoMemory>
-    requires { at < length lines.now }
+fn mismatch_in(
+    alloc: Global,
+    strands: &[Strand<'_>],
+    at: usize,
+) -> Result<Option<Mismatch>, NoMemory>
+    requires { at < length strands.now }
     ensures { IfOk result (λ found. MatchOption found
-        ((j : Journal) → At lines.now at j → ItemsHeld lines.now j.items)
-        (λ m. IsMismatch lines.now m.node m.step m.got m.kept)) }
+        ((j : Journal) → At strands.now at j → ItemsHeld strands.now j.items)
+        (λ m. IsMismatch strands.now m.node m.step m.got m.kept)) }
 {
-    let line = &lines[at];
-    let items = line.items();
+    let strand = &strands[at];
+    let items = strand.items();
     for index in 0..items.len() {
         let item = &items[index];
-        if let Some((got, kept)) = other(alloc, lines, &item.input)? {
+        if let Some((got, kept)) = other(alloc, strands, &item.input)? {
             return Ok(Some(Mismatch {
-                node: line.id(),
+                node: strand.id(),
                 step: index as u64 + 1,
                 got,
                 kept,
@@ -61,18 +65,18 @@ fn mismatch_in(alloc: Global, lines: &[Line<'_>], at: usize) -> Result<Option<Mi
 /// The message that came and what its sender's journal holds by its name, where these aren't the same.
 fn other(
     alloc: Global,
-    lines: &[Line<'_>],
+    strands: &[Strand<'_>],
     input: &Arrived,
 ) -> Result<Option<(Named, Option<Named>)>, NoMemory>
-    ensures { IfOk result (λ found. MatchOption found (IsHeld lines.now input.now)
-        (λ other. IsOther lines.now input.now other.0 other.1)) }
+    ensures { IfOk result (λ found. MatchOption found (IsHeld strands.now input.now)
+        (λ other. IsOther strands.now input.now other.0 other.1)) }
 {
     let Arrived::Message(named) = input else {
         return Ok(None);
     };
-    if is_held(lines, named) {
+    if is_held(strands, named) {
         return Ok(None);
     }
-    let kept = kept_at(alloc, lines, named)?;
+    let kept = kept_at(alloc, strands, named)?;
     Ok(Some((named.copy(alloc)?, kept)))
 }

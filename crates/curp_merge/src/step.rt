@@ -4,10 +4,10 @@ ghost use Rattle.curp_cmd.specs.Node.{manager_node, same_node};
 ghost use Rattle.curp_cmd.specs.declared.node.NodeKind.TheVariants as kind;
 ghost use Rattle.curp_turns.specs.Turns.{AreApart, Journal, sent_by, turns_of};
 ghost use Rattle.curp_merge.specs.Merging.{IsOwn, is_order_of};
-ghost use Rattle.curp_merge.specs.Weaving.{IsNextStep, IsNumberBy, IsNumberOf, IsOrderTo, IsReady, IsSent};
+ghost use Rattle.curp_merge.specs.Weaving.{IsNextStep, IsNumberBy, IsNumberOf, IsOrderTo, CanBeTaken, NamedWasSent};
 ghost use Rattle.curp_merge.specs.Weaving.{IsStepForInput, NamesInput, NamesTurn, SentBefore};
 
-use crate::Line;
+use crate::Strand;
 use crate::track::Track;
 use curp_cmd::NodeId;
 use curp_journal::{Arrived, Named};
@@ -20,43 +20,48 @@ pub(crate) struct Made {
     pub(crate) sent: u64,
 }
 
-/// The step of the next turn of a line of which so many were taken.
-pub(crate) fn next_step(lines: &[Line<'_>], tracks: &[Track], line: &Line<'_>, taken: usize) -> Made
-    requires apart { AreApart lines.now }
-    requires one_manager { line.now.id.kind ≡ kind.Manager → line.now.id ≡ manager_node }
-    requires ready { IsReady lines.now tracks.now line.now taken }
-    ensures step { IsNextStep lines.now tracks.now line.now taken result.step }
-    ensures names { IfSome (slice_get (turns_of line.now) taken)
-        (λ turn. NamesTurn lines.now tracks.now turn result.step) }
-    ensures sent { IfSome (slice_get (turns_of line.now) taken) (λ turn. result.sent ≡ length (sent_by turn)) }
+/// The step of the next turn of a strand of which so many were taken.
+pub(crate) fn next_step(
+    strands: &[Strand<'_>],
+    tracks: &[Track],
+    strand: &Strand<'_>,
+    taken: usize,
+) -> Made
+    requires apart { AreApart strands.now }
+    requires one_manager { strand.now.id.kind ≡ kind.Manager → strand.now.id ≡ manager_node }
+    requires ready { CanBeTaken strands.now tracks.now strand.now taken }
+    ensures step { IsNextStep strands.now tracks.now strand.now taken result.step }
+    ensures names { IfSome (slice_get (turns_of strand.now) taken)
+        (λ turn. NamesTurn strands.now tracks.now turn result.step) }
+    ensures sent { IfSome (slice_get (turns_of strand.now) taken) (λ turn. result.sent ≡ length (sent_by turn)) }
 {
-    let items = line.items();
+    let items = strand.items();
     if taken == items.len() {
         return Made {
-            step: Step::Stop { node: line.id() },
+            step: Step::Stop { node: strand.id() },
             sent: 0,
         };
     }
     let item = &items[taken];
     Made {
-        step: step_of(lines, tracks, line.id(), &item.input),
+        step: step_of(strands, tracks, strand.id(), &item.input),
         sent: item.done.sent.len() as u64,
     }
 }
 
 /// The step that gives the node what came to it.
-fn step_of(lines: &[Line<'_>], tracks: &[Track], node: NodeId, input: &Arrived) -> Step
-    requires apart { AreApart lines.now }
+fn step_of(strands: &[Strand<'_>], tracks: &[Track], node: NodeId, input: &Arrived) -> Step
+    requires apart { AreApart strands.now }
     requires one_manager { node.kind ≡ kind.Manager → node ≡ manager_node }
     requires own { IsOwn node input.now }
-    requires sent { SentBefore lines.now tracks.now input.now }
-    ensures step { IsStepForInput lines.now tracks.now node input.now result }
-    ensures names { NamesInput lines.now tracks.now input.now result }
+    requires sent { SentBefore strands.now tracks.now input.now }
+    ensures step { IsStepForInput strands.now tracks.now node input.now result }
+    ensures names { NamesInput strands.now tracks.now input.now result }
 {
     match input {
         Arrived::Local(order, _) => order_step(node, order),
         Arrived::Message(named) => Step::Deliver {
-            message: number_of(lines, tracks, named),
+            message: number_of(strands, tracks, named),
         },
     }
 }
@@ -110,13 +115,13 @@ fn order_step(node: NodeId, order: &Local) -> Step
 }
 
 /// The number of a message that was sent before: 1 for the first of all.
-fn number_of(lines: &[Line<'_>], tracks: &[Track], named: &Named) -> u64
-    requires apart { AreApart lines.now }
-    requires sent { IsSent lines.now tracks.now named.now }
-    ensures number { IsNumberOf lines.now tracks.now named.now.message result }
-    ensures names { IsNumberBy lines.now tracks.now named.now result }
+fn number_of(strands: &[Strand<'_>], tracks: &[Track], named: &Named) -> u64
+    requires apart { AreApart strands.now }
+    requires sent { NamedWasSent strands.now tracks.now named.now }
+    ensures number { IsNumberOf strands.now tracks.now named.now.message result }
+    ensures names { IsNumberBy strands.now tracks.now named.now result }
 {
-    let Some(from) = place_of(lines, named.from) else {
+    let Some(from) = place_of(strands, named.from) else {
         unreachable!()
     };
     let track = &tracks[from];
@@ -125,9 +130,9 @@ fn number_of(lines: &[Line<'_>], tracks: &[Track], named: &Named) -> u64
     before + named.place
 }
 
-/// The place of the node's line.
-fn place_of(lines: &[Line<'_>], node: NodeId) -> Option<usize>
-    ensures { result ≡ position (λ (j : Journal). same_node j.id node) lines.now }
+/// The place of the node's strand.
+fn place_of(strands: &[Strand<'_>], node: NodeId) -> Option<usize>
+    ensures { result ≡ position (λ (j : Journal). same_node j.id node) strands.now }
 {
-    lines.iter().position(|line| line.id() == node)
+    strands.iter().position(|strand| strand.id() == node)
 }

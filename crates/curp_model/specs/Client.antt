@@ -1,6 +1,6 @@
 -- The client (after CURP's client and RIFL's numbers): it sends an update to the master and to all witnesses, and completes
 -- it by one synced reply, or by an unsynced one with the accepts of all witnesses.
-use Rattle.std.specs.Prelude.{◌≤◌, ℕ, ◌+◌, ◌-◌, ◌^◌, ◌==◌, ◌&&◌, nat_le, nat_lt, min, if◌then◌else◌, Bool, true, false, not, List, [], ◌∷◌, ◌++◌, length, map, fold, Option, Some, None, Result, Ok}
+use Rattle.std.specs.Prelude.{◌≤◌, ◌<◌, ℕ, ◌+◌, ◌-◌, ◌^◌, ◌==◌, ◌&&◌, nat_le, nat_lt, min, if◌then◌else◌, Bool, true, false, not, List, [], ◌∷◌, ◌++◌, length, map, fold, Option, Some, None, Result, Ok, ⊤}
 use Rattle.std.specs.List.{filter, list_any, list_all}
 use Rattle.std.specs.Option.{ok_or}
 use Rattle.curp_base.specs.Cases.{◌>>=◌, refuse_if}
@@ -75,6 +75,11 @@ pub record Pending : Type 0 where
   pub accepts : List Accept
   pub glimpses : List Glimpse
   pub lives : List Accept
+
+-- the numbers of pending requests strictly rise
+abbrev pub NumbersRise : List Pending → Type 0
+NumbersRise [] = ⊤
+NumbersRise (p ∷ rest) = Each (λ (q : Pending). p.request.id.seq < q.request.id.seq) rest × NumbersRise rest
 
 -- `fast` clients use the witnesses for updates, those of protocol 2 for reads; `last` is the number of the last request, at
 -- first 0; pending requests ascend

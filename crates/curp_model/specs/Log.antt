@@ -1,5 +1,5 @@
 -- The log, and what it means: the fold of its entries (after RIFL's kept records; takes and gives are this project's own).
-use Rattle.std.specs.Prelude.{◌≡◌, ◌≤◌, ℕ, ◌+◌, ◌==◌, nat_eq, not, ◌&&◌, if◌then◌else◌, Bool, true, false, IsTrue, List, [], ◌∷◌, fold, take, Option, Some, None, ◌⊎◌}
+use Rattle.std.specs.Prelude.{◌≡◌, ◌≤◌, ℕ, ◌+◌, ◌==◌, nat_eq, not, ◌&&◌, if◌then◌else◌, Bool, true, false, IsTrue, List, [], ◌∷◌, fold, take, Option, Some, None, ◌⊎◌, ⊤}
 use Rattle.std.specs.FinMap as map
 use Rattle.std.specs.List.{filter, list_any}
 use Rattle.std.specs.Option.{option_eq}
@@ -62,6 +62,13 @@ abbrev pub package_of : LogState → (lo hi : ℕ) → lo ≤ hi → Package
 package_of s lo hi ordered = record { lo = lo; hi = hi; pairs = filter (is_pair_in lo hi) (map.entries s.store); table = table.packed s.table; ordered = ordered }
 
 -- ---- entries
+
+-- the entry is an Op
+abbrev pub IsOp : Entry → Type 0
+IsOp (Op request acknowledged) = ⊤
+IsOp (Take migration taken) = ⊥
+IsOp (Give migration given) = ⊥
+IsOp (Expire client) = ⊥
 
 -- an op is executed, and its answer recorded (RIFL)
 abbrev pub after_op : LogState → ℕ → Request → ℕ → LogState

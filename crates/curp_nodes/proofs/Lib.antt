@@ -1,2 +1,1 @@
 pub mod Adoptions
-pub mod Told

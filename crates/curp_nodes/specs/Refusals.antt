@@ -27,7 +27,6 @@ use Rattle.curp_msg.specs.declared.answer.Refusal.{Refusal}
 use Rattle.curp_cmd.specs.declared.command.Command.TheVariants.{Get}
 use Rattle.curp_msg.specs.declared.body.Body.TheVariants as body
 use Rattle.curp_msg.specs.declared.config.PartConfig.{PartConfig}
-use Rattle.curp_msg.specs.declared.machine.Done.{Done}
 use Rattle.curp_msg.specs.declared.machine.Input.TheVariants as input
 use Rattle.curp_msg.specs.declared.machine.Local.{Local}
 use Rattle.curp_msg.specs.declared.machine.Local.TheVariants as local
@@ -44,11 +43,6 @@ use Rattle.curp_model.specs.Table.{is_gone}
 use Rattle.curp_model.specs.Witness.{WitnessState, on_witness}
 use Rattle.curp_range.specs.Spans.{is_covered}
 use Rattle.curp_nodes.specs.Machines.{client_machine, master_machine, backup_machine, witness_machine}
-
--- a refusal is told by its number, which isn't 0; without one, memory was wanting
-abbrev pub Tells : ℕ → Result Done AllocError → Type 0
-Tells refusal (Ok done) = (refusal ≢ 0) × (done ≡ record { refused = refusal; sent = []; completed = None })
-Tells refusal (Err no_memory) = refusal ≡ 0
 
 -- ---- orders to clients
 

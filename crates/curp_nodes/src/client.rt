@@ -1,7 +1,7 @@
 ghost use Rattle.std.specs.Prelude.{◌≡◌, length, IfOk};
 ghost use Rattle.curp_client.specs.Requests.{least_of};
 ghost use Rattle.curp_model.specs.Client.{NumbersAreUsed, fresh_client};
-ghost use Rattle.curp_nodes.specs.Refusals.{Tells};
+ghost use Rattle.curp_config.specs.Refusals.{TellsRefusal};
 
 use curp_base::NoMemory;
 use curp_client::Client;
@@ -129,7 +129,7 @@ impl ClientNode {
 
 // What a node tells of an order that wasn't made: the number of its refusal, else want of memory.
 fn told(alloc: Global, refusal: u8) -> Result<Done, NoMemory>
-    ensures { Tells refusal result }
+    ensures { TellsRefusal refusal result }
 {
     if refusal == 0 {
         return Err(AllocError);

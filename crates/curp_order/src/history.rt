@@ -2,7 +2,7 @@ ghost use Rattle.std.specs.Prelude.{◌≡◌, ◌+◌, ◌≤◌, [], ◌∷◌
 ghost use Rattle.curp_order.specs.Recorded.{invocation, completion};
 
 use crate::Event;
-use curp_base::NoMemory;
+use curp_base::{NoMemory, Reserved};
 use curp_cmd::{Answer, Command, RequestId};
 use std::alloc::Global;
 use std::marker::Model;
@@ -11,16 +11,15 @@ use std::marker::Model;
 /// room.
 #[derive(Drop)]
 pub struct History {
-    events: Vec<Event>,
+    events: Reserved<Event>,
 }
 
 impl Model for History {
-    ghost use Rattle.std.specs.Prelude.{◌-◌, vec_len, vec_capacity};
     ghost use Rattle.curp_order.specs.Recorded.{Recorded};
 
     ghost Value = { Recorded };
 
-    ghost view = { λ h. record { events = h.events.items; spare = vec_capacity h.events - vec_len h.events } };
+    ghost view = { λ h. record { events = h.events.items; spare = h.events.spare } };
 }
 
 impl History {
@@ -29,7 +28,7 @@ impl History {
         ensures { result.events ≡ [] }
     {
         History {
-            events: Vec::new(alloc),
+            events: Reserved::new(alloc),
         }
     }
 
@@ -39,7 +38,7 @@ impl History {
         ensures room { OnOk result (events ≤ self.new.spare) }
         ensures kept { self.old.spare ≤ self.new.spare }
     {
-        self.events.reserve(events as usize)
+        self.events.reserve(events)
     }
 
     /// A client invoked a command, or a request has its answer, or both in this order. It takes no memory.
@@ -52,10 +51,10 @@ impl History {
         ensures { self.new.events ≡ (self.old.events ++ invocation invoked) ++ completion completed }
     {
         if let Some((id, command)) = invoked {
-            self.events.push_reserved(Event::Invoke { id, command });
+            self.events.push(Event::Invoke { id, command });
         }
         if let Some((id, answer)) = completed {
-            self.events.push_reserved(Event::Complete { id, answer });
+            self.events.push(Event::Complete { id, answer });
         }
     }
 

@@ -3,7 +3,7 @@ ghost use Rattle.std.specs.Prelude.{[], ◌∷◌, IfOk, OnOk, OnErr};
 ghost use Rattle.curp_range.specs.Spans.{is_in, is_owned, without, with_range, SpansAscend, Covers, Lacks, Meets};
 
 use crate::spans;
-use curp_base::NoMemory;
+use curp_base::{NoMemory, Reserved};
 use std::alloc::Global;
 use std::marker::Model;
 
@@ -11,16 +11,15 @@ use std::marker::Model;
 /// A range from `lo` to `hi` has both of them.
 #[derive(Drop)]
 pub struct Ranges {
-    spans: Vec<(u64, u64)>,
+    spans: Reserved<(u64, u64)>,
 }
 
 impl Model for Ranges {
-    ghost use Rattle.std.specs.Prelude.{◌-◌, vec_len, vec_capacity};
     ghost use Rattle.curp_range.specs.Spans.{RangeSet, SpansAscend};
 
     ghost Value = { RangeSet };
 
-    ghost view = { λ r. record { spans = r.spans.items; spare = vec_capacity r.spans - vec_len r.spans } };
+    ghost view = { λ r. record { spans = r.spans.items; spare = r.spans.spare } };
 
     ghost invariant = { λ r. SpansAscend r.spans.items };
 }
@@ -46,7 +45,9 @@ impl Ranges {
         ensures { IfOk result (λ ranges. ranges.spans ≡ (lo, hi) ∷ []) }
     {
         let spans = Vec::from_slice(alloc, &[(lo, hi)])?;
-        Ok(Ranges { spans })
+        Ok(Ranges {
+            spans: Reserved::from_vec(spans),
+        })
     }
 
     /// Whether the hash is owned.
@@ -78,7 +79,7 @@ impl Ranges {
         ensures spans { result.items ≡ self.spans }
         ensures ascend { SpansAscend self.spans }
     {
-        self.spans
+        self.spans.into_vec()
     }
 
     /// A value that owns the same hashes.
@@ -86,7 +87,9 @@ impl Ranges {
         ensures { IfOk result (λ copy. copy.spans ≡ self.now.spans) }
     {
         let spans = Vec::from_slice(alloc, &self.spans)?;
-        Ok(Ranges { spans })
+        Ok(Ranges {
+            spans: Reserved::from_vec(spans),
+        })
     }
 
     /// Makes room for so many more spans.
@@ -96,7 +99,7 @@ impl Ranges {
         ensures kept { self.old.spare ≤ self.new.spare }
         ensures err { OnErr result (self.new ≡ self.old) }
     {
-        self.spans.reserve(spare as usize)
+        self.spans.reserve(spare)
     }
 
     /// Owns the hashes of the range no longer, if it owned each of them. It takes no memory.

@@ -1,8 +1,10 @@
 //! The spans of `Ranges`: pairs of a first and a last hash, in ascending order, of which no two touch.
-ghost use Rattle.std.specs.Prelude.{◌≡◌, ℕ, ◌+◌, ◌<◌, ◌≤◌, ◌&&◌, ◌||◌, not, IsTrue, ◌↔◌};
-ghost use Rattle.std.specs.Prelude.{MatchBool, vec_len, vec_capacity};
+ghost use Rattle.std.specs.Prelude.{◌≡◌, ℕ, ◌+◌, ◌≤◌, ◌&&◌, ◌||◌, not, IsTrue, ◌↔◌};
+ghost use Rattle.std.specs.Prelude.{MatchBool};
 ghost use Rattle.curp_range.specs.Spans.{is_in, is_owned, SpansAscend, Covers, Lacks, Meets};
 ghost use Rattle.curp_range.specs.Places.{IsSpanPlace, IsSpanOf};
+
+use curp_base::Reserved;
 
 /// How many spans end before the hash.
 fn ended_before(spans: &[(u64, u64)], hash: u64) -> usize
@@ -47,15 +49,14 @@ fn span_of(spans: &[(u64, u64)], lo: u64, hi: u64) -> usize
 }
 
 /// Cuts the range out of the span that has it.
-pub(crate) fn cut(spans: &mut Vec<(u64, u64)>, lo: u64, hi: u64)
+pub(crate) fn cut(spans: &mut Reserved<(u64, u64)>, lo: u64, hi: u64)
     requires ascend { SpansAscend spans.old.items }
     requires ordered { lo ≤ hi }
     requires owned { Covers spans.old.items lo hi }
-    requires room { vec_len spans.old < vec_capacity spans.old }
+    requires room { 1 ≤ spans.old.spare }
     ensures ascend { SpansAscend spans.new.items }
     ensures owned { (h : ℕ) → is_owned spans.new.items h ≡ (is_owned spans.old.items h && not (is_in lo hi h)) }
-    ensures len { vec_len spans.new ≤ vec_len spans.old + 1 }
-    ensures capacity { vec_capacity spans.new ≡ vec_capacity spans.old }
+    ensures spare { spans.old.spare ≤ spans.new.spare + 1 }
 {
     let at = span_of(spans, lo, hi);
     let (first, last) = spans[at];
@@ -63,24 +64,23 @@ pub(crate) fn cut(spans: &mut Vec<(u64, u64)>, lo: u64, hi: u64)
         (false, false) => {
             spans.remove(at);
         }
-        (true, false) => spans[at] = (first, lo - 1),
-        (false, true) => spans[at] = (hi + 1, last),
+        (true, false) => spans.set(at, (first, lo - 1)),
+        (false, true) => spans.set(at, (hi + 1, last)),
         (true, true) => {
-            spans[at] = (first, lo - 1);
-            spans.insert(at + 1, (hi + 1, last)).unwrap();
+            spans.set(at, (first, lo - 1));
+            spans.insert(at + 1, (hi + 1, last));
         }
     }
 }
 
 /// Adds the range, as one span with those that it meets or touches.
-pub(crate) fn join(spans: &mut Vec<(u64, u64)>, lo: u64, hi: u64)
+pub(crate) fn join(spans: &mut Reserved<(u64, u64)>, lo: u64, hi: u64)
     requires ascend { SpansAscend spans.old.items }
     requires ordered { lo ≤ hi }
-    requires room { vec_len spans.old < vec_capacity spans.old }
+    requires room { 1 ≤ spans.old.spare }
     ensures ascend { SpansAscend spans.new.items }
     ensures owned { (h : ℕ) → is_owned spans.new.items h ≡ (is_owned spans.old.items h || is_in lo hi h) }
-    ensures len { vec_len spans.new ≤ vec_len spans.old + 1 }
-    ensures capacity { vec_capacity spans.new ≡ vec_capacity spans.old }
+    ensures spare { spans.old.spare ≤ spans.new.spare + 1 }
 {
     let at = ended_before(spans, lo.saturating_sub(1));
     let (mut first, mut last) = (lo, hi);
@@ -90,5 +90,5 @@ pub(crate) fn join(spans: &mut Vec<(u64, u64)>, lo: u64, hi: u64)
         first = first.min(met.0);
         last = last.max(met.1);
     }
-    spans.insert(at, (first, last)).unwrap();
+    spans.insert(at, (first, last));
 }

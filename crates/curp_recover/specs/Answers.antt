@@ -8,8 +8,8 @@ use Rattle.curp_model.specs.Master.{last_round}
 use Rattle.curp_model.specs.Recovery.{RecoveryPhase, Asking, Storing, Waiting, Replayed, appends_whole, next_storing}
 use Rattle.curp_msg.specs.declared.body.Recover.{Recover}
 use Rattle.curp_msg.specs.declared.message.Message.{Message}
-use Rattle.curp_recover.specs.declared.error.RecoverError.{RecoverError}
-use Rattle.curp_recover.specs.declared.error.RecoverError.TheVariants as error
+use Rattle.curp_recover.specs.declared.error.RecoveryError.{RecoveryError}
+use Rattle.curp_recover.specs.declared.error.RecoveryError.TheVariants as error
 use Rattle.curp_recover.specs.declared.phase.Phase.{Phase}
 use Rattle.curp_recover.specs.declared.phase.Phase.TheVariants as phase
 
@@ -52,7 +52,7 @@ finished_log (Waiting r) = Some r.log
 finished_log _ = None
 
 -- an input is ignored exactly where it isn't waited for
-abbrev pub TellsIgnored : {A : Type 0} → Bool → Phase → Result A RecoverError → Type 0
+abbrev pub TellsIgnored : {A : Type 0} → Bool → Phase → Result A RecoveryError → Type 0
 TellsIgnored waited phase (Ok done) = waited ≡ true
 TellsIgnored waited phase (Err (error.Ignored told)) = (waited ≡ false) × (told ≡ phase)
 TellsIgnored waited phase (Err error.NoMemory) = waited ≡ true

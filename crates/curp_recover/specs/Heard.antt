@@ -6,8 +6,8 @@ use Rattle.curp_model.specs.Recovery.{MasterStage, Recovering, RecoveryState, Se
 use Rattle.curp_msg.specs.Moved.{Moved, within}
 use Rattle.curp_msg.specs.declared.body.Body.{Body}
 use Rattle.curp_msg.specs.declared.machine.Done.{Done}
-use Rattle.curp_recover.specs.declared.error.RecoverError.{RecoverError}
-use Rattle.curp_recover.specs.declared.error.RecoverError.TheVariants as error
+use Rattle.curp_recover.specs.declared.error.RecoveryError.{RecoveryError}
+use Rattle.curp_recover.specs.declared.error.RecoveryError.TheVariants as error
 
 -- it serves
 abbrev pub is_serving : MasterStage → Bool
@@ -24,7 +24,7 @@ abbrev pub unadopted : ℕ → RecoveryState → NodeId → Body → Moved Recov
 unadopted n s from b = within (recovery_in s) (on_master n (Recovering s) from b)
 
 -- what isn't waited for is heard, and does nothing
-abbrev pub heard : Result Done RecoverError → Result Done AllocError
+abbrev pub heard : Result Done RecoveryError → Result Done AllocError
 heard (Ok done) = Ok done
 heard (Err (error.Ignored told)) = Ok (record { refused = 0; sent = []; completed = None })
 heard (Err error.NoMemory) = Err (record {})

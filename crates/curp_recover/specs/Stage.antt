@@ -7,8 +7,8 @@ use Rattle.curp_msg.specs.declared.body.Recover.{Recover}
 use Rattle.curp_recover.specs.declared.stage.Awaited.{Awaited}
 use Rattle.curp_recover.specs.declared.stage.Awaited.TheVariants as awaited
 use Rattle.curp_recover.specs.declared.stage.ReplayedLog.{ReplayedLog}
-use Rattle.curp_recover.specs.declared.stage.Stage.{Stage}
-use Rattle.curp_recover.specs.declared.stage.Stage.TheVariants as stage
+use Rattle.curp_recover.specs.declared.stage.RecoveryStage.{RecoveryStage}
+use Rattle.curp_recover.specs.declared.stage.RecoveryStage.TheVariants as stage
 
 -- a replayed log
 abbrev pub replayed_of : ReplayedLog → Replayed
@@ -20,7 +20,7 @@ replayed_phase r awaited.Storing = Storing (replayed_of r)
 replayed_phase r awaited.Adoption = Waiting (replayed_of r)
 
 -- the phase
-abbrev pub phase_of : Stage → RecoveryPhase
+abbrev pub phase_of : RecoveryStage → RecoveryPhase
 phase_of (stage.Asking log requests) = Asking log requests
 phase_of (stage.Replayed replayed awaited) = replayed_phase replayed awaited
 
@@ -30,6 +30,6 @@ IsLogOf o None = ⊤
 IsLogOf o (Some entries) = is_log o.lo o.hi entries ≡ true
 
 -- a log that came is one, and a replayed log is from the order's range
-abbrev pub IsStage : Recover → Stage → Type 0
+abbrev pub IsStage : Recover → RecoveryStage → Type 0
 IsStage o (stage.Asking log requests) = IsLogOf o log
 IsStage o (stage.Replayed replayed awaited) = (replayed.log.lo ≡ o.lo) × (replayed.log.hi ≡ o.hi)

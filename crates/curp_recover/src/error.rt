@@ -3,20 +3,20 @@ use curp_base::NoMemory;
 
 /// Why a recovery doesn't take what comes.
 #[derive(Clone, Copy, Debug, PartialEq, Eq)]
-pub enum RecoverError {
+pub enum RecoveryError {
     /// It is in a phase that doesn't wait for it, or it has it already.
     Ignored { phase: Phase },
     /// There was no memory for the replayed log or its messages.
     NoMemory,
 }
 
-impl From<NoMemory> for RecoverError {
+impl From<NoMemory> for RecoveryError {
     ghost use Rattle.std.specs.Prelude.{◌≡◌};
-    ghost use Rattle.curp_recover.specs.declared.error.RecoverError.TheVariants.{NoMemory};
+    ghost use Rattle.curp_recover.specs.declared.error.RecoveryError.TheVariants.{NoMemory};
 
     ghost from_gives = { λ _ error. error ≡ NoMemory };
 
-    fn from(_no_memory: NoMemory) -> RecoverError {
-        RecoverError::NoMemory
+    fn from(_no_memory: NoMemory) -> RecoveryError {
+        RecoveryError::NoMemory
     }
 }

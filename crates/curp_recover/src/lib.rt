@@ -19,7 +19,7 @@ mod replay;
 mod stage;
 mod turned;
 
-pub use error::RecoverError;
+pub use error::RecoveryError;
 pub use phase::Phase;
 pub use recovery::Recovery;
 pub use turned::turned_away;

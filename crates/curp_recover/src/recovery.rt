@@ -13,9 +13,9 @@ ghost use Rattle.curp_recover.specs.Answers.{finished_log, phase_name, replayed_
 ghost use Rattle.curp_recover.specs.Heard.{heard, is_serving, unadopted};
 
 use crate::replay::replayed;
-use crate::stage::{Awaited, ReplayedLog, Stage, awaited_after};
+use crate::stage::{Awaited, RecoveryStage, ReplayedLog, awaited_after};
 use crate::turned::turned_away;
-use crate::{Phase, RecoverError, messages};
+use crate::{Phase, RecoveryError, messages};
 use curp_base::{Items, NoMemory, TryCopy, copies_of};
 use curp_cmd::{Entry, NodeId, Request};
 use curp_log::{Log, is_log};
@@ -29,7 +29,7 @@ pub struct Recovery {
     alloc: Global,
     number: u32,
     order: Recover,
-    stage: Stage,
+    stage: RecoveryStage,
 }
 
 impl Model for Recovery {
@@ -52,7 +52,7 @@ impl Recovery {
     {
         let order = order.try_copy(alloc)?;
         let asked = messages::unanswered(alloc, number, &order, &None, &None)?;
-        let stage = Stage::Asking {
+        let stage = RecoveryStage::Asking {
             log: None,
             requests: None,
         };
@@ -106,24 +106,24 @@ impl Recovery {
     }
 
     /// The log of the named backup comes. Once the requests are there too, the replayed log goes to each fresh backup.
-    pub fn on_log(&mut self, entries: Vec<Entry>) -> Result<Done, RecoverError>
+    pub fn on_log(&mut self, entries: Vec<Entry>) -> Result<Done, RecoveryError>
         requires is_log { is_log self.old.state.order.lo self.old.state.order.hi entries.items ≡ true }
         ensures moves { Moves self.old self.new result (numbered_move self.old.number
             (log_comes self.old.number self.old.state self.old.state.order.backup entries.items self.old.state.phase)) }
         ensures ignored { TellsIgnored (awaits_log self.old.state.phase) (phase_name self.old.state.phase) result }
     {
         match &self.stage {
-            Stage::Asking {
+            RecoveryStage::Asking {
                 log: None,
                 requests: None,
             } => {
-                self.stage = Stage::Asking {
+                self.stage = RecoveryStage::Asking {
                     log: Some(Items::new(entries)),
                     requests: None,
                 };
                 Ok(Done::quiet(self.alloc))
             }
-            Stage::Asking {
+            RecoveryStage::Asking {
                 log: None,
                 requests: Some(requests),
             } => {
@@ -136,24 +136,24 @@ impl Recovery {
     }
 
     /// The requests of the named witness come. Once the log is there too, the replayed log goes to each fresh backup.
-    pub fn on_frozen(&mut self, requests: Vec<Request>) -> Result<Done, RecoverError>
+    pub fn on_frozen(&mut self, requests: Vec<Request>) -> Result<Done, RecoveryError>
         ensures moves { Moves self.old self.new result (numbered_move self.old.number
             (requests_come self.old.number self.old.state self.old.state.order.witness requests.items
             self.old.state.phase)) }
         ensures ignored { TellsIgnored (awaits_requests self.old.state.phase) (phase_name self.old.state.phase) result }
     {
         match &self.stage {
-            Stage::Asking {
+            RecoveryStage::Asking {
                 log: None,
                 requests: None,
             } => {
-                self.stage = Stage::Asking {
+                self.stage = RecoveryStage::Asking {
                     log: None,
                     requests: Some(Items::new(requests)),
                 };
                 Ok(Done::quiet(self.alloc))
             }
-            Stage::Asking {
+            RecoveryStage::Asking {
                 log: Some(log),
                 requests: None,
             } => {
@@ -172,14 +172,14 @@ impl Recovery {
         backup: &NodeId,
         length: u64,
         round: u64,
-    ) -> Result<Done, RecoverError>
+    ) -> Result<Done, RecoveryError>
         ensures moves { Moves self.old self.new result (numbered_move self.old.number
             (stored_comes self.old.number self.old.state backup.now length self.old.state.phase)) }
         ensures ignored { TellsIgnored (awaits_backups self.old.state.phase) (phase_name self.old.state.phase) result }
     {
         let (alloc, number, order) = (self.alloc, self.number, &self.order);
         match &mut self.stage {
-            Stage::Replayed {
+            RecoveryStage::Replayed {
                 replayed,
                 awaited: awaited @ Awaited::Storing,
             } => {
@@ -197,21 +197,21 @@ impl Recovery {
 
     /// What it waits for is asked, sent or told again. Appends go in a new round to the backups that aren't complete, and
     /// none do where the number of the round would pass 2^64 - 1. It is never ignored.
-    pub fn again(&mut self) -> Result<Done, RecoverError>
+    pub fn again(&mut self) -> Result<Done, RecoveryError>
         ensures moves { Moves self.old self.new result (numbered_move self.old.number
             (again_in self.old.number self.old.state self.old.state.phase)) }
         ensures ignored { TellsIgnored true (phase_name self.old.state.phase) result }
     {
         let (alloc, number, order) = (self.alloc, self.number, &self.order);
         let sent = match &mut self.stage {
-            Stage::Asking { log, requests } => {
+            RecoveryStage::Asking { log, requests } => {
                 messages::unanswered(alloc, number, order, log, requests)?
             }
-            Stage::Replayed {
+            RecoveryStage::Replayed {
                 replayed,
                 awaited: Awaited::Storing,
             } => replayed.send_again(alloc, number, order)?,
-            Stage::Replayed {
+            RecoveryStage::Replayed {
                 awaited: Awaited::Adoption,
                 ..
             } => messages::told(alloc, number, order, true)?,
@@ -233,7 +233,7 @@ impl Recovery {
             stage,
         } = self;
         match stage {
-            Stage::Replayed {
+            RecoveryStage::Replayed {
                 replayed,
                 awaited: Awaited::Adoption,
             } => Ok(replayed.log),
@@ -250,12 +250,12 @@ impl Recovery {
         ensures { result ≡ phase_name self.now.state.phase }
     {
         match &self.stage {
-            Stage::Asking { .. } => Phase::Asking,
-            Stage::Replayed {
+            RecoveryStage::Asking { .. } => Phase::Asking,
+            RecoveryStage::Replayed {
                 awaited: Awaited::Storing,
                 ..
             } => Phase::Storing,
-            Stage::Replayed {
+            RecoveryStage::Replayed {
                 awaited: Awaited::Adoption,
                 ..
             } => Phase::Waiting,
@@ -267,8 +267,8 @@ impl Recovery {
         ensures { result ≡ round_in self.now.state.phase }
     {
         match &self.stage {
-            Stage::Asking { .. } => 0,
-            Stage::Replayed { replayed, .. } => replayed.round,
+            RecoveryStage::Asking { .. } => 0,
+            RecoveryStage::Replayed { replayed, .. } => replayed.round,
         }
     }
 
@@ -277,8 +277,8 @@ impl Recovery {
         ensures { result ≡ option_map (λ r. r.cut) (replayed_in self.now.state.phase) }
     {
         match &self.stage {
-            Stage::Asking { .. } => None,
-            Stage::Replayed { replayed, .. } => Some(replayed.cut),
+            RecoveryStage::Asking { .. } => None,
+            RecoveryStage::Replayed { replayed, .. } => Some(replayed.cut),
         }
     }
 
@@ -288,8 +288,8 @@ impl Recovery {
             ≡ option_map (λ r. r.log) (replayed_in self.now.state.phase) }
     {
         match &self.stage {
-            Stage::Asking { .. } => None,
-            Stage::Replayed { replayed, .. } => Some(&replayed.log),
+            RecoveryStage::Asking { .. } => None,
+            RecoveryStage::Replayed { replayed, .. } => Some(&replayed.log),
         }
     }
 
@@ -328,7 +328,7 @@ impl Recovery {
             && (same_node from.now self.now.state.order.backup
             && is_log self.now.state.order.lo self.now.state.order.hi entries.now))) }
     {
-        let awaits = matches!(&self.stage, Stage::Asking { log: None, .. });
+        let awaits = matches!(&self.stage, RecoveryStage::Asking { log: None, .. });
         if !awaits || *from != self.order.backup {
             return Ok(false);
         }
@@ -360,16 +360,20 @@ impl Recovery {
 
     // ----
 
-    fn ignored(&self) -> RecoverError
-        ensures { result ≡ RecoverError.Ignored (phase_name self.now.state.phase) }
+    fn ignored(&self) -> RecoveryError
+        ensures { result ≡ RecoveryError.Ignored (phase_name self.now.state.phase) }
     {
-        RecoverError::Ignored {
+        RecoveryError::Ignored {
             phase: self.phase(),
         }
     }
 
     // What is there once the log and the requests are, and the appends of the first round.
-    fn storing(&self, entries: &[Entry], requests: &[Request]) -> Result<(Stage, Done), NoMemory>
+    fn storing(
+        &self,
+        entries: &[Entry],
+        requests: &[Request],
+    ) -> Result<(RecoveryStage, Done), NoMemory>
         requires is_log { is_log self.now.state.order.lo self.now.state.order.hi entries.now ≡ true }
         ensures stage { IfOk result (λ stored. IsStage self.now.state.order stored.0) }
         ensures state { IfOk result (λ stored. record { order = self.now.state.order; phase = phase_of stored.0 }
@@ -394,7 +398,7 @@ impl Recovery {
             round: 1,
             complete: Vec::new(self.alloc),
         };
-        let stage = Stage::Replayed {
+        let stage = RecoveryStage::Replayed {
             replayed,
             awaited: Awaited::Storing,
         };
@@ -403,12 +407,12 @@ impl Recovery {
 }
 
 /// What isn't waited for is heard, and does nothing.
-fn heard(alloc: Global, told: Result<Done, RecoverError>) -> Result<Done, NoMemory>
+fn heard(alloc: Global, told: Result<Done, RecoveryError>) -> Result<Done, NoMemory>
     ensures { result ≡ heard told }
 {
     match told {
         Ok(done) => Ok(done),
-        Err(RecoverError::Ignored { .. }) => Ok(Done::quiet(alloc)),
-        Err(RecoverError::NoMemory) => Err(AllocError),
+        Err(RecoveryError::Ignored { .. }) => Ok(Done::quiet(alloc)),
+        Err(RecoveryError::NoMemory) => Err(AllocError),
     }
 }

@@ -35,7 +35,7 @@ pub enum Awaited {
 
 /// What a recovery has so far.
 #[derive(Drop)]
-pub enum Stage {
+pub enum RecoveryStage {
     /// The log and the requests, as far as they are there.
     Asking {
         log: Option<Items<Entry>>,

@@ -1,9 +1,11 @@
 -- What the calls make of the lists, as the definitions have it.
 use Rattle.std.proofs.Common.{◌≡◌, ℕ, cond, List, [], ◌∷◌, map, fold, Option, Some, None, is_some, refl, ap, sym, ◌∙◌}
 use Rattle.std.specs.BTreeSet.{insert_key}
-use Rattle.std.specs.FinMap.Entries.{find, put, is_sorted, below_all}
+use Rattle.std.specs.FinMap.Entries.{find, put}
 use Rattle.std.specs.Ordering.{nat_cmp}
+use Rattle.curp_base.specs.Places.{put_once}
 use Rattle.curp_base.specs.Words.{KeysAscend}
+use Rattle.curp_base.proofs.Values.{ascend_values}
 use Rattle.curp_cmd.specs.RequestId.{id_cmp}
 use Rattle.curp_cmd.specs.declared.command.Answer.{Answer}
 use Rattle.curp_cmd.specs.declared.command.RequestId.{RequestId}
@@ -12,7 +14,6 @@ use Rattle.curp_model.proofs.Tables.{by_check}
 use Rattle.curp_model.specs.declared.Check.{Check}
 use Rattle.curp_model.specs.declared.Check.TheVariants.{New}
 use Rattle.curp_model.specs.Table.{Noted, Table, check, known, merge, note, note_once, of_use, raise_first}
-use Rattle.curp_rifl.specs.Places.{put_once}
 use Rattle.curp_rifl.specs.Records.{Record, with_firsts, with_records}
 
 none_of : (o : Option Noted) → known o ≡ New → o ≡ None
@@ -53,13 +54,5 @@ merged t part index =
 
 -- ---- what a migration takes along
 
-answers_below : (id : RequestId) (es : List Record) → below_all id_cmp id (map (λ (e : Record). (e.0, e.1.answer)) es) ≡ below_all id_cmp id es
-answers_below id [] = refl
-answers_below id (e ∷ es) = rw (answers_below id es) refl
-
-answers_sorted : (es : List Record) → is_sorted id_cmp (map (λ (e : Record). (e.0, e.1.answer)) es) ≡ is_sorted id_cmp es
-answers_sorted [] = refl
-answers_sorted (e ∷ es) = rw (answers_below e.0 es, answers_sorted es) refl
-
 pub ascend_answers : (es : List Record) → KeysAscend id_cmp es → KeysAscend id_cmp (map (λ (e : Record). (e.0, e.1.answer)) es)
-ascend_answers es s = rw (answers_sorted es) s
+ascend_answers es s = ascend_values id_cmp (λ (n : Noted). n.answer) es s

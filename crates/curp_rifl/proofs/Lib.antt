@@ -1,5 +1,4 @@
 pub mod Changes
 pub mod Marks
 pub mod Picked
-pub mod Places
 pub mod Runs

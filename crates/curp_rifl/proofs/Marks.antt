@@ -1,9 +1,8 @@
 -- What a change of one client makes of first numbers and of the clients that are gone.
-use Rattle.std.proofs.Common.{◌≡◌, ℕ, zero, suc, ◌≤◌, ◌==◌, nat_lt, Bool, true, false, cond, List, [], ◌∷◌, map, max, get_or, set, Option, Some, None, is_some, unwrap_or, refl, ap, sym, subst, ◌∙◌, arith}
+use Rattle.std.proofs.Common.{◌≡◌, ℕ, zero, suc, ◌≤◌, ◌==◌, nat_lt, Bool, true, false, cond, List, [], ◌∷◌, map, max, Option, Some, None, is_some, unwrap_or, refl, ap, sym, subst, ◌∙◌, arith}
 use Rattle.std.specs.BTreeSet.{insert_key}
-use Rattle.std.specs.Cmp.{nat_cmp_total}
-use Rattle.std.specs.FinMap.Entries.{by_order, find, put, is_sorted-put}
-use Rattle.std.specs.List.{filter, insert, list_any}
+use Rattle.std.specs.FinMap.Entries.{by_order, find, put}
+use Rattle.std.specs.List.{filter, list_any}
 use Rattle.std.specs.Ordering.{eq_by_cmp, nat_cmp, match_ordering}
 use Rattle.std.specs.declared.cmp.Ordering.{Ordering}
 use Rattle.std.specs.declared.cmp.Ordering.TheVariants.{Less, Equal, Greater}
@@ -12,11 +11,9 @@ use Rattle.curp_base.specs.Words.{Ascend, KeysAscend}
 use Rattle.curp_base.proofs.Rising.{keyed}
 use Rattle.curp_model.specs.Table.{raise_first}
 use Rattle.curp_rifl.specs.declared.clients.ClientMark.{ClientMark}
-use Rattle.curp_rifl.specs.declared.clients.Presence.TheVariants.{Present, Gone}
-use Rattle.curp_rifl.specs.Clients.{Client, firsts_of, gone_of, has_first, has_left}
-use Rattle.curp_rifl.specs.Places.{IsKeyAt, IsKeyGap}
-use Rattle.curp_rifl.proofs.Picked.{picked, pick, ascend_picked_values, find_picked, put_picked, insert_picked, set_picked}
-use Rattle.curp_rifl.proofs.Places.{found_at, none_in_gap, put_in_gap, put_at}
+use Rattle.curp_rifl.specs.declared.clients.Presence.TheVariants.{Gone}
+use Rattle.curp_rifl.specs.Clients.{Client, firsts_of, gone_of, has_first, has_left, mark_in}
+use Rattle.curp_rifl.proofs.Picked.{picked, pick, ascend_picked_values, find_picked, put_picked, put_unseen}
 
 abbrev left_of : ClientMark → Bool
 left_of m = has_left m.presence
@@ -80,9 +77,6 @@ numbered_first : (n : ℕ) → unwrap_or (cond (nat_lt 0 n) (Some n) None) 0 ≡
 numbered_first zero = refl
 numbered_first (suc n) = rw (above_zero n) refl
 
-abbrev mark_in : Option ClientMark → ClientMark
-mark_in o = unwrap_or o (record { first = 0; presence = Present })
-
 first_in : (o : Option ClientMark) → (mark_in o).first ≡ unwrap_or (pick has_first first_of_mark o) 0
 first_in None = refl
 first_in (Some m) = sym (numbered_first m.first)
@@ -95,6 +89,14 @@ left_in (Some m) = go (has_left m.presence)
     go true = refl
     go false = refl
 
+same_first : (o : Option ClientMark) → pick has_first first_of_mark (Some (record { first = (mark_in o).first; presence = Gone })) ≡ pick has_first first_of_mark o
+same_first None = refl
+same_first (Some m) = refl
+
+same_left : (first : ℕ) (o : Option ClientMark) → pick left_of nothing_of (Some (record { first = first; presence = (mark_in o).presence })) ≡ pick left_of nothing_of o
+same_left first None = refl
+same_left first (Some m) = refl
+
 module _ (es : List Client) (s : KeysAscend nat_cmp es) (client : ℕ) where
   pub marked_first : (mark_in (find nat_cmp client es)).first ≡ unwrap_or (find nat_cmp client (firsts_of es)) 0
   marked_first = first_in (find nat_cmp client es) ∙ ap (λ (o : Option ℕ). unwrap_or o 0) (sym (find_picked has_first first_of_mark client es s))
@@ -106,78 +108,33 @@ module _ (es : List Client) (s : KeysAscend nat_cmp es) (client : ℕ) where
       ∙ ap (λ (xs : List (ℕ × Unit {0})). is_some (find nat_cmp client xs)) (sym (gone_keyed es))
       ∙ sym (any_keyed (gone_of es) client)
 
-  -- ---- a client that is there
+  -- ---- what changes of it
 
-  module _ (at : ℕ) (d : Client) (p : IsKeyAt nat_cmp es client at) where
-    abbrev there : ClientMark
-    there = (get_or es at d).1
+  abbrev mark : ClientMark
+  mark = mark_in (find nat_cmp client es)
 
-    pub ascend_at : (m : ClientMark) → KeysAscend nat_cmp (set es at ((get_or es at d).0, m))
-    ascend_at m = subst (λ (xs : List Client). KeysAscend nat_cmp xs) (sym (put_at nat_cmp nat_cmp_total es client m at d p)) (is_sorted-put nat_cmp nat_cmp_total client m es s)
+  pub raised : (first : ℕ) → 1 ≤ first → firsts_of (put nat_cmp client (record { first = max first mark.first; presence = mark.presence }) es) ≡ raise_first (firsts_of es) client first
+  raised zero some = absurd (omega arith)
+  raised (suc n) some =
+      let passes : nat_lt 0 (max (suc n) mark.first) ≡ true = grind (arith, nat_tests) in
+      put_picked has_first first_of_mark client (record { first = max (suc n) mark.first; presence = mark.presence }) es passes s
+      ∙ ap (λ (x : ℕ). put nat_cmp client (max (suc n) x) (firsts_of es)) marked_first
 
-    pub raised_at : (first : ℕ) → 1 ≤ first → firsts_of (set es at ((get_or es at d).0, record { first = max first there.first; presence = there.presence })) ≡ raise_first (firsts_of es) client first
-    raised_at zero some = absurd (omega arith)
-    raised_at (suc n) some =
-        let m : ClientMark = record { first = max (suc n) there.first; presence = there.presence } in
-        let some : nat_lt 0 (max (suc n) there.first) ≡ true = grind (arith, nat_tests) in
-        let number : there.first ≡ unwrap_or (find nat_cmp client (firsts_of es)) 0 =
-        ap (λ (o : Option ClientMark). (mark_in o).first) (sym (found_at nat_cmp nat_cmp_total es client at d p)) ∙ marked_first in
-        ap firsts_of (put_at nat_cmp nat_cmp_total es client m at d p)
-        ∙ put_picked has_first first_of_mark client m es some s
-        ∙ ap (λ (x : ℕ). put nat_cmp client (max (suc n) x) (firsts_of es)) number
+  pub raised_gone : (first : ℕ) → gone_of (put nat_cmp client (record { first = first; presence = mark.presence }) es) ≡ gone_of es
+  raised_gone first = same_keys _ _
+      (gone_keyed (put nat_cmp client (record { first = first; presence = mark.presence }) es)
+      ∙ put_unseen left_of nothing_of client (record { first = first; presence = mark.presence }) es (same_left first (find nat_cmp client es)) s
+      ∙ sym (gone_keyed es))
 
-    pub raised_gone_at : (first : ℕ) → gone_of (set es at ((get_or es at d).0, record { first = first; presence = there.presence })) ≡ gone_of es
-    raised_gone_at first = same_keys _ _
-        (gone_keyed (set es at ((get_or es at d).0, record { first = first; presence = there.presence }))
-        ∙ set_picked left_of nothing_of es at (record { first = first; presence = there.presence }) d p.within refl refl
-        ∙ sym (gone_keyed es))
+  abbrev gone : ClientMark
+  gone = record { first = mark.first; presence = Gone }
 
-    pub left_at : gone_of (set es at ((get_or es at d).0, record { first = there.first; presence = Gone })) ≡ insert_key nat_cmp (gone_of es) client
-    left_at =
-        let m : ClientMark = record { first = there.first; presence = Gone } in
-        same_keys _ _
-        (gone_keyed (set es at ((get_or es at d).0, m))
-        ∙ ap (picked left_of nothing_of) (put_at nat_cmp nat_cmp_total es client m at d p)
-        ∙ put_picked left_of nothing_of client m es refl s
-        ∙ ap (put nat_cmp client (tt {0})) (sym (gone_keyed es))
-        ∙ sym (keyed_insert (gone_of es) client))
+  pub left_gone : gone_of (put nat_cmp client gone es) ≡ insert_key nat_cmp (gone_of es) client
+  left_gone = same_keys _ _
+      (gone_keyed (put nat_cmp client gone es)
+      ∙ put_picked left_of nothing_of client gone es refl s
+      ∙ ap (put nat_cmp client (tt {0})) (sym (gone_keyed es))
+      ∙ sym (keyed_insert (gone_of es) client))
 
-    pub left_firsts_at : firsts_of (set es at ((get_or es at d).0, record { first = there.first; presence = Gone })) ≡ firsts_of es
-    left_firsts_at = set_picked has_first first_of_mark es at (record { first = there.first; presence = Gone }) d p.within refl refl
-
-  -- ---- a client that comes
-
-  module _ (gap : ℕ) (g : IsKeyGap nat_cmp es client gap) where
-    pub ascend_in_gap : (m : ClientMark) → KeysAscend nat_cmp (insert es gap (client, m))
-    ascend_in_gap m = subst (λ (xs : List Client). KeysAscend nat_cmp xs) (sym (put_in_gap nat_cmp nat_cmp_total es client m gap g)) (is_sorted-put nat_cmp nat_cmp_total client m es s)
-
-    pub raised_in_gap : (first : ℕ) → 1 ≤ first → firsts_of (insert es gap (client, record { first = first; presence = Present })) ≡ raise_first (firsts_of es) client first
-    raised_in_gap zero some = absurd (omega arith)
-    raised_in_gap (suc n) some =
-        let m : ClientMark = record { first = suc n; presence = Present } in
-        let none : 0 ≡ unwrap_or (find nat_cmp client (firsts_of es)) 0 =
-        ap (λ (o : Option ClientMark). (mark_in o).first) (sym (none_in_gap nat_cmp nat_cmp_total es client gap g)) ∙ marked_first in
-        let same : suc n ≡ max (suc n) 0 = omega arith in
-        ap firsts_of (put_in_gap nat_cmp nat_cmp_total es client m gap g)
-        ∙ put_picked has_first first_of_mark client m es (above_zero n) s
-        ∙ ap (λ (x : ℕ). put nat_cmp client x (firsts_of es)) same
-        ∙ ap (λ (x : ℕ). put nat_cmp client (max (suc n) x) (firsts_of es)) none
-
-    pub raised_gone_in_gap : (first : ℕ) → gone_of (insert es gap (client, record { first = first; presence = Present })) ≡ gone_of es
-    raised_gone_in_gap first = same_keys _ _
-        (gone_keyed (insert es gap (client, record { first = first; presence = Present }))
-        ∙ insert_picked left_of nothing_of es gap client (record { first = first; presence = Present }) refl
-        ∙ sym (gone_keyed es))
-
-    pub left_in_gap : gone_of (insert es gap (client, record { first = 0; presence = Gone })) ≡ insert_key nat_cmp (gone_of es) client
-    left_in_gap =
-        let m : ClientMark = record { first = 0; presence = Gone } in
-        same_keys _ _
-        (gone_keyed (insert es gap (client, m))
-        ∙ ap (picked left_of nothing_of) (put_in_gap nat_cmp nat_cmp_total es client m gap g)
-        ∙ put_picked left_of nothing_of client m es refl s
-        ∙ ap (put nat_cmp client (tt {0})) (sym (gone_keyed es))
-        ∙ sym (keyed_insert (gone_of es) client))
-
-    pub left_firsts_in_gap : firsts_of (insert es gap (client, record { first = 0; presence = Gone })) ≡ firsts_of es
-    left_firsts_in_gap = insert_picked has_first first_of_mark es gap client (record { first = 0; presence = Gone }) refl
+  pub left_firsts : firsts_of (put nat_cmp client gone es) ≡ firsts_of es
+  left_firsts = put_unseen has_first first_of_mark client gone es (same_first (find nat_cmp client es)) s

@@ -1,11 +1,7 @@
 -- Lists without a run of their items.
-use Rattle.std.proofs.Common.{◌≡◌, inl, inr, ℕ, zero, suc, ◌+◌, ◌-◌, ◌<◌, ◌≤◌, ◌==◌, ◌&&◌, ◌||◌, nat_lt, nat_le, not, Bool, true, false, List, [], ◌∷◌, ◌++◌, length, get_or, take, drop, refl, ap, ◌∙◌, arith}
-use Rattle.std.proofs.Math.Seq.{paste}
+use Rattle.std.proofs.Common.{◌≡◌, inl, inr, ℕ, zero, suc, ◌<◌, ◌≤◌, ◌==◌, ◌&&◌, ◌||◌, nat_lt, nat_le, not, Bool, true, false, List, [], ◌∷◌, ◌++◌, length, get_or, take, drop, refl, ap, arith}
 use Rattle.std.proofs.lemmas.Bool.{cases_lt}
 use Rattle.std.proofs.lemmas.Bool.Decides.{nat_tests}
-use Rattle.std.proofs.lemmas.List.{take_rest, length-drop}
-use Rattle.std.proofs.lemmas.List.Edits.{take-paste}
-use Rattle.std.specs.FinMap.Entries.{is_sorted-where_key}
 use Rattle.std.specs.List.{filter}
 use Rattle.std.specs.List.Sorted.{IsPartitionedBy, IsPartitionPoint}
 use Rattle.std.specs.Ordering.{nat_cmp, ordering_then}
@@ -17,19 +13,8 @@ use Rattle.curp_cmd.specs.declared.command.Answer.TheVariants.{Done}
 use Rattle.curp_cmd.specs.declared.command.RequestId.{RequestId}
 use Rattle.curp_model.proofs.Tables.{ids_total}
 use Rattle.curp_model.specs.Table.{is_below}
-use Rattle.curp_rifl.proofs.Places.{less_at}
+use Rattle.curp_base.proofs.Places.{less_at}
 use Rattle.curp_rifl.specs.Records.{Record, is_before, is_up_to, is_before_first}
-
--- the items behind a run are moved to its start, and the rest is cut off
-pub run_dropped : {A : Type 0} (xs : List A) (start end n : ℕ) → n ≡ length xs → start ≤ end → end ≤ n → take (n - (end - start)) (paste xs start (drop end xs) (n - end)) ≡ take start xs ++ drop end xs
-run_dropped xs start end n size ordered within =
-    let left : length (drop end xs) ≡ length xs - end = length-drop end xs in
-    let count : n - (end - start) ≡ start + (n - end) = omega arith in
-    let behind : n - end ≡ length xs - end = omega arith in
-    ap (λ k. take k (paste xs start (drop end xs) (n - end))) count
-    ∙ take-paste xs start (drop end xs) (n - end) (omega arith) (omega arith)
-    ∙ ap (λ k. take start xs ++ take k (drop end xs)) behind
-    ∙ ap (λ ys. take start xs ++ ys) (take_rest xs end)
 
 -- where the test fails just from one place up to another, it leaves out that run
 pub filter_run : {A : Type 0} (p : A → Bool) (xs : List A) (start end : ℕ) → start ≤ end → end ≤ length xs
@@ -146,7 +131,3 @@ module _ (es : List Record) (client : ℕ) (start end : ℕ) (within : start ≤
 
       behind_run : (id : RequestId) → nat_le id.client client ≡ false → not (id.client == client) ≡ true
       behind_run id e = grind (arith, nat_tests)
-
--- what is picked from records by their ids ascends
-pub ascend_picked : (p : RequestId → Bool) (es : List Record) → KeysAscend id_cmp es → KeysAscend id_cmp (filter (λ (e : Record). p e.0) es)
-ascend_picked p es s = is_sorted-where_key id_cmp p es s

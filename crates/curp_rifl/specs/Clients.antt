@@ -1,5 +1,5 @@
 -- What is kept of clients, as the definition has it: two lists out of one.
-use Rattle.std.specs.Prelude.{ℕ, nat_lt, Bool, true, false, List, [], map}
+use Rattle.std.specs.Prelude.{ℕ, nat_lt, Bool, true, false, List, [], map, Option, unwrap_or}
 use Rattle.std.specs.List.{filter}
 use Rattle.curp_model.specs.Table.{Table}
 use Rattle.curp_rifl.specs.declared.clients.ClientMark.{ClientMark}
@@ -9,6 +9,10 @@ use Rattle.curp_rifl.specs.declared.clients.Presence.TheVariants.{Present, Gone}
 -- a client, with what is kept of it
 abbrev pub Client : Type 0
 Client = ℕ × ClientMark
+
+-- what is kept of a client, or of one that isn't known
+abbrev pub mark_in : Option ClientMark → ClientMark
+mark_in known = unwrap_or known (record { first = 0; presence = Present })
 
 -- it has acknowledged a number
 abbrev pub has_first : ClientMark → Bool

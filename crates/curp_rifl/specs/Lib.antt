@@ -1,4 +1,3 @@
 pub mod Clients
-pub mod Places
 pub mod Records
 pub mod Stored

@@ -1,10 +1,10 @@
 -- What is kept of requests and of clients, list by list.
 use Rattle.std.specs.Prelude.{ℕ, ◌||◌, nat_lt, nat_le, Bool, List, fold}
+use Rattle.curp_base.specs.Places.{put_once}
 use Rattle.curp_cmd.specs.RequestId.{id_cmp}
 use Rattle.curp_cmd.specs.declared.command.Answer.{Answer}
 use Rattle.curp_cmd.specs.declared.command.RequestId.{RequestId}
 use Rattle.curp_model.specs.Table.{Noted, is_below, raise_first}
-use Rattle.curp_rifl.specs.Places.{put_once}
 
 -- a request, with its answer and the index of its entry
 abbrev pub Record : Type 0

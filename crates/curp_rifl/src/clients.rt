@@ -1,16 +1,15 @@
 //! What is kept of clients: first numbers, and which clients are gone.
-ghost use Rattle.std.specs.Prelude.{◌≡◌, ◌+◌, ◌==◌, ◌<◌, ◌≤◌, IfOk, length, fold, unwrap_or, vec_len, vec_capacity};
+ghost use Rattle.std.specs.Prelude.{◌≡◌, ◌+◌, ◌==◌, ◌≤◌, IfOk, length, fold, unwrap_or};
 ghost use Rattle.std.specs.BTreeSet.{insert_key};
 ghost use Rattle.std.specs.FinMap.Entries.{find};
 ghost use Rattle.std.specs.List.{list_any};
 ghost use Rattle.std.specs.Ordering.{nat_cmp};
 ghost use Rattle.curp_base.specs.Words.{Ascend, KeysAscend};
 ghost use Rattle.curp_model.specs.Table.{raise_first};
-ghost use Rattle.curp_rifl.specs.Clients.{firsts_of, gone_of, has_left};
+ghost use Rattle.curp_rifl.specs.Clients.{firsts_of, gone_of, has_left, mark_in};
 ghost use Rattle.curp_rifl.specs.Records.{with_firsts};
 
-use crate::ascending::{place_of, value_of};
-use curp_base::NoMemory;
+use curp_base::{NoMemory, ReservedPairs};
 use std::alloc::Global;
 
 /// Whether a client is gone for good.
@@ -40,51 +39,41 @@ impl ClientMark {
 }
 
 /// What is kept of the client, by one binary search.
-pub fn mark_of(clients: &[(u32, ClientMark)], client: u32) -> ClientMark
-    requires { KeysAscend nat_cmp clients.now }
-    ensures first { result.first ≡ unwrap_or (find nat_cmp client (firsts_of clients.now)) 0 }
-    ensures gone { has_left result.presence ≡ list_any (λ c. c == client) (gone_of clients.now) }
+pub fn mark_of(clients: &ReservedPairs<u32, ClientMark>, client: u32) -> ClientMark
+    ensures mark { result ≡ mark_in (find nat_cmp client clients.now.items) }
+    ensures first { result.first ≡ unwrap_or (find nat_cmp client (firsts_of clients.now.items)) 0 }
+    ensures gone { has_left result.presence ≡ list_any (λ c. c == client) (gone_of clients.now.items) }
+    ensures ascend { KeysAscend nat_cmp clients.now.items }
 {
-    value_of(clients, &client).unwrap_or(ClientMark {
+    clients.value_of(&client).unwrap_or(ClientMark {
         first: 0,
         presence: Presence::Present,
     })
 }
 
 /// The client's first number counts from this one on, if it isn't larger already. It takes no memory.
-pub fn raise_first(clients: &mut Vec<(u32, ClientMark)>, client: u32, first: u32)
-    requires ascend { KeysAscend nat_cmp clients.old.items }
-    requires room { vec_len clients.old < vec_capacity clients.old }
+pub fn raise_first(clients: &mut ReservedPairs<u32, ClientMark>, client: u32, first: u32)
+    requires { 1 ≤ clients.old.spare }
     ensures firsts { firsts_of clients.new.items ≡ raise_first (firsts_of clients.old.items) client first }
     ensures gone { gone_of clients.new.items ≡ gone_of clients.old.items }
-    ensures ascend { KeysAscend nat_cmp clients.new.items }
-    ensures len { vec_len clients.new ≤ vec_len clients.old + 1 }
-    ensures capacity { vec_capacity clients.new ≡ vec_capacity clients.old }
+    ensures spare { clients.old.spare ≤ clients.new.spare + 1 }
 {
-    if first == 0 {
-        return;
-    }
-    match place_of(clients, &client) {
-        Ok(at) => clients[at].1.first = first.max(clients[at].1.first),
-        Err(gap) => {
-            let mark = ClientMark {
-                first,
-                presence: Presence::Present,
-            };
-            clients.insert(gap, (client, mark)).unwrap()
-        }
+    if first > 0 {
+        let mark = mark_of(clients, client);
+        let raised = ClientMark {
+            first: first.max(mark.first),
+            presence: mark.presence,
+        };
+        clients.put(client, raised);
     }
 }
 
 /// The first numbers that come are counted too. It takes no memory.
-pub fn raise_firsts(clients: &mut Vec<(u32, ClientMark)>, raised: &[(u32, u32)])
-    requires ascend { KeysAscend nat_cmp clients.old.items }
-    requires room { vec_len clients.old + length raised.now ≤ vec_capacity clients.old }
+pub fn raise_firsts(clients: &mut ReservedPairs<u32, ClientMark>, raised: &[(u32, u32)])
+    requires { length raised.now ≤ clients.old.spare }
     ensures firsts { firsts_of clients.new.items ≡ with_firsts (firsts_of clients.old.items) raised.now }
     ensures gone { gone_of clients.new.items ≡ gone_of clients.old.items }
-    ensures ascend { KeysAscend nat_cmp clients.new.items }
-    ensures len { vec_len clients.new ≤ vec_len clients.old + length raised.now }
-    ensures capacity { vec_capacity clients.new ≡ vec_capacity clients.old }
+    ensures spare { clients.old.spare ≤ clients.new.spare + length raised.now }
 {
     for (client, first) in raised {
         raise_first(clients, *client, *first);
@@ -92,36 +81,26 @@ pub fn raise_firsts(clients: &mut Vec<(u32, ClientMark)>, raised: &[(u32, u32)])
 }
 
 /// The client is gone for good. It takes no memory.
-pub fn mark_gone(clients: &mut Vec<(u32, ClientMark)>, client: u32)
-    requires ascend { KeysAscend nat_cmp clients.old.items }
-    requires room { vec_len clients.old < vec_capacity clients.old }
+pub fn mark_gone(clients: &mut ReservedPairs<u32, ClientMark>, client: u32)
+    requires { 1 ≤ clients.old.spare }
     ensures firsts { firsts_of clients.new.items ≡ firsts_of clients.old.items }
     ensures gone { gone_of clients.new.items ≡ insert_key nat_cmp (gone_of clients.old.items) client }
-    ensures ascend { KeysAscend nat_cmp clients.new.items }
-    ensures len { vec_len clients.new ≤ vec_len clients.old + 1 }
-    ensures capacity { vec_capacity clients.new ≡ vec_capacity clients.old }
+    ensures spare { clients.old.spare ≤ clients.new.spare + 1 }
 {
-    match place_of(clients, &client) {
-        Ok(at) => clients[at].1.presence = Presence::Gone,
-        Err(gap) => {
-            let mark = ClientMark {
-                first: 0,
-                presence: Presence::Gone,
-            };
-            clients.insert(gap, (client, mark)).unwrap()
-        }
-    }
+    let mark = mark_of(clients, client);
+    let gone = ClientMark {
+        first: mark.first,
+        presence: Presence::Gone,
+    };
+    clients.put(client, gone);
 }
 
 /// The clients that come are gone too. It takes no memory.
-pub fn mark_all_gone(clients: &mut Vec<(u32, ClientMark)>, gone: &[u32])
-    requires ascend { KeysAscend nat_cmp clients.old.items }
-    requires room { vec_len clients.old + length gone.now ≤ vec_capacity clients.old }
+pub fn mark_all_gone(clients: &mut ReservedPairs<u32, ClientMark>, gone: &[u32])
+    requires { length gone.now ≤ clients.old.spare }
     ensures firsts { firsts_of clients.new.items ≡ firsts_of clients.old.items }
     ensures gone { gone_of clients.new.items ≡ fold (insert_key nat_cmp) (gone_of clients.old.items) gone.now }
-    ensures ascend { KeysAscend nat_cmp clients.new.items }
-    ensures len { vec_len clients.new ≤ vec_len clients.old + length gone.now }
-    ensures capacity { vec_capacity clients.new ≡ vec_capacity clients.old }
+    ensures spare { clients.old.spare ≤ clients.new.spare + length gone.now }
 {
     for client in gone {
         mark_gone(clients, *client);

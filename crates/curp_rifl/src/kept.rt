@@ -3,12 +3,12 @@ use std::marker::Model;
 
 /// The answer to a request, and the index of its entry.
 #[derive(Clone, Copy)]
-pub struct Kept {
+pub struct NotedAnswer {
     answer: Answer,
     index: u64,
 }
 
-impl Model for Kept {
+impl Model for NotedAnswer {
     ghost use Rattle.curp_model.specs.Table.{Noted};
 
     ghost Value = { Noted };
@@ -20,12 +20,12 @@ impl Model for Kept {
 
 ghost use Rattle.std.specs.Prelude.{◌≡◌};
 
-impl Kept {
-    pub fn new(answer: Answer, index: u64) -> Kept
+impl NotedAnswer {
+    pub fn new(answer: Answer, index: u64) -> NotedAnswer
         ensures answer { result.answer ≡ answer }
         ensures index { result.index ≡ index }
     {
-        Kept { answer, index }
+        NotedAnswer { answer, index }
     }
 
     pub fn answer(&self) -> Answer

@@ -9,7 +9,6 @@
 //!   then goes through the table once.
 #![tactic(auto)]
 
-mod ascending;
 mod clients;
 mod kept;
 mod records;

@@ -3,13 +3,12 @@ ghost use Rattle.curp_model.specs.Table.{acknowledge, check, expire, merge, no_r
 ghost use Rattle.curp_model.specs.declared.Check.TheVariants.{New};
 ghost use Rattle.curp_rifl.specs.Stored.{room_of};
 
-use crate::ascending::{put_once, value_of};
 use crate::clients::{
     ClientMark, firsts_in, gone_in, mark_all_gone, mark_gone, mark_of, raise_first, raise_firsts,
 };
-use crate::kept::Kept;
+use crate::kept::NotedAnswer;
 use crate::records::{add_records, answers_of, drop_below, drop_client, keep_of_use};
-use curp_base::{AscendingKeys, AscendingPairs, NoMemory};
+use curp_base::{AscendingKeys, AscendingPairs, NoMemory, ReservedPairs};
 use curp_cmd::{Answer, RequestId, TablePart};
 use curp_model::Check;
 use std::alloc::Global;
@@ -21,25 +20,21 @@ use std::marker::Model;
 #[derive(Drop)]
 pub struct Table {
     alloc: Global,
-    // In ascending order of the ids.
-    records: Vec<(RequestId, Kept)>,
-    // In ascending order of the clients.
-    clients: Vec<(u32, ClientMark)>,
+    records: ReservedPairs<RequestId, NotedAnswer>,
+    clients: ReservedPairs<u32, ClientMark>,
 }
 
 impl Model for Table {
-    ghost use Rattle.std.specs.Prelude.{◌-◌, min, vec_len, vec_capacity};
+    ghost use Rattle.std.specs.Prelude.{min};
     ghost use Rattle.curp_rifl.specs.Clients.{firsts_of, gone_of};
-    ghost use Rattle.curp_rifl.specs.Stored.{StoredTable, IsAscending};
+    ghost use Rattle.curp_rifl.specs.Stored.{StoredTable};
 
     ghost Value = { StoredTable };
 
     ghost view = { λ t. record {
       table = record { records = t.records.items; firsts = firsts_of t.clients.items; gone = gone_of t.clients.items };
-      spare = min (vec_capacity t.records - vec_len t.records) (vec_capacity t.clients - vec_len t.clients);
+      spare = min t.records.spare t.clients.spare;
     } };
-
-    ghost invariant = { λ t. IsAscending t.records.items t.clients.items };
 }
 
 impl Table {
@@ -49,8 +44,8 @@ impl Table {
     {
         Table {
             alloc,
-            records: Vec::new(alloc),
-            clients: Vec::new(alloc),
+            records: ReservedPairs::new(alloc),
+            clients: ReservedPairs::new(alloc),
         }
     }
 
@@ -60,8 +55,8 @@ impl Table {
         ensures room { OnOk result (spare ≤ self.new.spare) }
         ensures kept { self.old.spare ≤ self.new.spare }
     {
-        self.records.reserve(spare as usize)?;
-        self.clients.reserve(spare as usize)
+        self.records.reserve(spare)?;
+        self.clients.reserve(spare)
     }
 
     /// The duplicate check (RIFL). It makes no more than two binary searches.
@@ -76,7 +71,7 @@ impl Table {
         if id.seq < mark.first {
             return Check::Stale { first: mark.first };
         }
-        match value_of(&self.records, id) {
+        match self.records.value_of(id) {
             Some(kept) => Check::Known {
                 answer: kept.answer(),
                 index: kept.index(),
@@ -99,7 +94,7 @@ impl Table {
         ensures table { self.new.table ≡ note self.old.table id answer index }
         ensures spare { self.old.spare ≤ self.new.spare + 1 }
     {
-        put_once(&mut self.records, id, Kept::new(answer, index));
+        self.records.put_once(id, NotedAnswer::new(answer, index));
     }
 
     /// The client has the answers to all its requests below that number, so their records are dropped (RIFL). It takes
@@ -121,7 +116,7 @@ impl Table {
         ensures table { self.new.table ≡ acknowledge (note self.old.table id answer index) id.client first }
         ensures spare { self.old.spare ≤ self.new.spare + 1 }
     {
-        put_once(&mut self.records, id, Kept::new(answer, index));
+        self.records.put_once(id, NotedAnswer::new(answer, index));
         drop_below(&mut self.records, id.client, first);
         raise_first(&mut self.clients, id.client, first);
     }
@@ -140,9 +135,9 @@ impl Table {
     pub fn pack(&self) -> Result<TablePart, NoMemory>
         ensures { IfOk result (λ part. part ≡ packed self.now.table) }
     {
-        let records = answers_of(self.alloc, &self.records)?;
-        let firsts = firsts_in(self.alloc, &self.clients)?;
-        let gone = gone_in(self.alloc, &self.clients)?;
+        let records = answers_of(self.alloc, self.records.as_slice())?;
+        let firsts = firsts_in(self.alloc, self.clients.as_slice())?;
+        let gone = gone_in(self.alloc, self.clients.as_slice())?;
         Ok(TablePart {
             records: AscendingPairs::new(records),
             firsts: AscendingPairs::new(firsts),

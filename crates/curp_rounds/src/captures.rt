@@ -5,7 +5,7 @@ ghost use Rattle.curp_rounds.specs.Captures.{value_at};
 
 use crate::acknowledged::Acknowledged;
 use crate::captured::Captured;
-use curp_base::NoMemory;
+use curp_base::{NoMemory, Reserved};
 use curp_cmd::NodeId;
 use curp_msg::Message;
 use std::alloc::Global;
@@ -15,12 +15,12 @@ use std::marker::Model;
 /// and for how many more there is room.
 #[derive(Drop)]
 pub struct Captures {
-    waiting: Vec<Captured>,
+    waiting: Reserved<Captured>,
     count: u64,
 }
 
 impl Model for Captures {
-    ghost use Rattle.std.specs.Prelude.{◌-◌, ◌≤◌, vec_len, vec_capacity};
+    ghost use Rattle.std.specs.Prelude.{◌≤◌};
     ghost use Rattle.curp_base.specs.Words.{Each};
     ghost use Rattle.curp_rounds.specs.Captures.{Captures};
 
@@ -29,7 +29,7 @@ impl Model for Captures {
     ghost view = { λ c. record {
       waiting = c.waiting.items;
       count = c.count;
-      spare = vec_capacity c.waiting - vec_len c.waiting;
+      spare = c.waiting.spare;
     } };
 
     ghost invariant = { λ c. Each (λ capture. capture.number ≤ c.count) c.waiting.items };
@@ -42,7 +42,7 @@ impl Captures {
         ensures count { result.count ≡ 0 }
     {
         Captures {
-            waiting: Vec::new(alloc),
+            waiting: Reserved::new(alloc),
             count: 0,
         }
     }
@@ -79,7 +79,7 @@ impl Captures {
         ensures count { self.new.count ≡ capture.number }
     {
         self.count = capture.number();
-        self.waiting.push_reserved(capture);
+        self.waiting.push(capture);
     }
 
     /// Uses the next number for a read that doesn't wait.
@@ -123,7 +123,11 @@ impl Captures {
 }
 
 // Takes out the captures that all these backups have acknowledged.
-fn remove_ready(captures: &mut Vec<Captured>, acknowledged: &[Acknowledged], backups: &[NodeId])
+fn remove_ready(
+    captures: &mut Reserved<Captured>,
+    acknowledged: &[Acknowledged],
+    backups: &[NodeId],
+)
     ensures { captures.new.items
         ≡ filter (λ c. not (all_have acknowledged.now backups.now c.length c.round)) captures.old.items }
 {

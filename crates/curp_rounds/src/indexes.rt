@@ -7,24 +7,23 @@ ghost use Rattle.curp_base.specs.Words.{Each};
 ghost use Rattle.curp_model.specs.Master.{has};
 ghost use Rattle.curp_rounds.specs.Indexes.{IsBetween};
 
-use curp_base::NoMemory;
+use curp_base::{NoMemory, Reserved};
 use std::alloc::Global;
 use std::marker::Model;
 
 /// Indexes of entries, in ascending order. Contracts see them, and for how many more there is room.
 #[derive(Drop)]
 pub struct Indexes {
-    numbers: Vec<u64>,
+    numbers: Reserved<u64>,
 }
 
 impl Model for Indexes {
-    ghost use Rattle.std.specs.Prelude.{◌-◌, vec_len, vec_capacity};
     ghost use Rattle.std.specs.List.Sorted.{IsNonDecreasing};
     ghost use Rattle.curp_rounds.specs.Indexes.{IndexList};
 
     ghost Value = { IndexList };
 
-    ghost view = { λ i. record { numbers = i.numbers.items; spare = vec_capacity i.numbers - vec_len i.numbers } };
+    ghost view = { λ i. record { numbers = i.numbers.items; spare = i.numbers.spare } };
 
     ghost invariant = { λ i. IsNonDecreasing i.numbers.items };
 }
@@ -35,7 +34,7 @@ impl Indexes {
         ensures { result.numbers ≡ [] }
     {
         Indexes {
-            numbers: Vec::new(alloc),
+            numbers: Reserved::new(alloc),
         }
     }
 
@@ -44,7 +43,7 @@ impl Indexes {
         ensures numbers { self.new.numbers ≡ self.old.numbers }
         ensures room { OnOk result (more ≤ self.new.spare) }
     {
-        self.numbers.reserve(more as usize)
+        self.numbers.reserve(more)
     }
 
     /// Puts an index at its place, unless it is there.
@@ -53,7 +52,7 @@ impl Indexes {
         ensures { self.new.numbers ≡ insert_key nat_cmp self.old.numbers index }
     {
         if let Err(at) = place(&self.numbers, index) {
-            self.numbers.insert(at, index).unwrap();
+            self.numbers.insert(at, index);
         }
     }
 
@@ -64,7 +63,7 @@ impl Indexes {
         ensures numbers { self.new.numbers ≡ self.old.numbers ++ index ∷ [] }
         ensures spare { self.old.spare ≤ self.new.spare + 1 }
     {
-        self.numbers.push_reserved(index);
+        self.numbers.push(index);
     }
 
     /// Whether the index is among them.
@@ -79,7 +78,7 @@ impl Indexes {
         ensures { result.now ≡ filter (λ number. nat_lt number limit) self.now.numbers }
     {
         let count = self.numbers.partition_point(|number| *number < limit);
-        &self.numbers[..count]
+        &self.numbers.as_slice()[..count]
     }
 
     /// Takes those below a limit out.
@@ -87,7 +86,7 @@ impl Indexes {
         ensures { self.new.numbers ≡ filter (λ number. not (nat_lt number limit)) self.old.numbers }
     {
         let count = self.numbers.partition_point(|number| *number < limit);
-        self.numbers.drain(..count);
+        self.numbers.drop_run(0, count);
     }
 }
 

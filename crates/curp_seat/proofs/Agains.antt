@@ -6,7 +6,7 @@ use Rattle.curp_cmd.specs.declared.node.NodeId.{NodeId}
 use Rattle.curp_msg.specs.Moved.{Moved}
 use Rattle.curp_msg.specs.declared.machine.Input.{Input}
 use Rattle.curp_journal.specs.Given.{given}
-use Rattle.curp_journal.specs.Journal.{IsJournal, Log, after, last_stamp, made, next_stamp, replayed}
+use Rattle.curp_journal.specs.Journal.{IsJournal, NodeJournal, after, last_stamp, made, next_stamp, replayed}
 use Rattle.curp_journal.specs.declared.arrived.Arrived.{Arrived}
 use Rattle.curp_journal.specs.declared.item.Item.{Item}
 use Rattle.curp_journal.proofs.Replays.{last_above, replays_on, stamped, taken_again}
@@ -18,17 +18,17 @@ read_at {A} xs ys k x same within is =
 
 module _ {N : Type 0} (machine : N → Input → Moved N) (id : NodeId) (opening : N) (items : List Item) where
   -- the new journal after so many items
-  abbrev pub so_far : ℕ → Log N
+  abbrev pub so_far : ℕ → NodeJournal N
   so_far t = record { id = id; opening = opening; items = replayed machine opening 0 (take t items); ended = false }
 
-  pub one_again : (t : ℕ) (item : Item) (old new : Log N) (arrived : Arrived) → At items t item → old ≡ so_far t → arrived ≡ item.input
+  pub one_again : (t : ℕ) (item : Item) (old new : NodeJournal N) (arrived : Arrived) → At items t item → old ≡ so_far t → arrived ≡ item.input
       → new ≡ record old { items = old.items ++ made machine (after machine old.opening old.items) (last_stamp 0 old.items) arrived ∷ [] }
       → new ≡ so_far (t + 1)
   one_again t item old new arrived at old_is arrived_is new_is =
       (rw (old_is, arrived_is) at new_is)
       ∙ ap (λ (xs : List Item). record { id = id; opening = opening; items = xs; ended = false }) (replays_on machine opening items t item at)
 
-  pub none_refused_again : (t : ℕ) (item : Item) (old : Log N) (arrived : Arrived) (n : ℕ) → IsJournal machine opening items → last_stamp 0 items < 2 ^ 64
+  pub none_refused_again : (t : ℕ) (item : Item) (old : NodeJournal N) (arrived : Arrived) (n : ℕ) → IsJournal machine opening items → last_stamp 0 items < 2 ^ 64
       → At items t item → old ≡ so_far t → arrived ≡ item.input
       → (next_stamp (last_stamp 0 old.items) arrived < 2 ^ 64 → n ≡ (machine (after machine old.opening old.items) (given arrived)).refused)
       → n ≡ 0

@@ -1,6 +1,6 @@
 ghost use Rattle.std.specs.Prelude.{◌≡◌, ◌≢◌, ◌+◌, ◌^◌, ◌<◌, ◌≤◌, ◌++◌, [], ◌∷◌, false, true, length, slice_get, IfOk, IfSome, OnErr};
 ghost use Rattle.curp_journal.specs.Given.{given};
-ghost use Rattle.curp_journal.specs.Journal.{IsJournal, Log, Stamped, after, last_stamp, made, next_stamp};
+ghost use Rattle.curp_journal.specs.Journal.{IsJournal, NodeJournal, Stamped, after, last_stamp, made, next_stamp};
 ghost use Rattle.curp_journal.specs.Sending.{named_of};
 
 use crate::Sent;
@@ -29,9 +29,9 @@ pub struct Kept<N: Core> {
 
 impl<N: Core> Model for Kept<N> {
     ghost use Rattle.std.specs.Prelude.{◌<◌, ◌^◌};
-    ghost use Rattle.curp_journal.specs.Journal.{IsReplay, Log};
+    ghost use Rattle.curp_journal.specs.Journal.{IsReplay, NodeJournal};
 
-    ghost Value = { Log N };
+    ghost Value = { NodeJournal N };
 
     ghost view = { λ k. record { id = k.id; opening = k.opening.value; items = k.items.items; ended = k.ended } };
 

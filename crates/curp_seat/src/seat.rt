@@ -42,7 +42,7 @@ pub enum Worked<E> {
     NoMemory,
 }
 
-enum Next<E> {
+enum NextInput<E> {
     Input(Arrived),
     End(E),
 }
@@ -84,19 +84,19 @@ impl<N: Core, E: Copy + Send> Seat<N, E> {
     /// Waits for an input or a stop, and makes one step under the node's lock.
     pub fn work<R: Wait, G: Gate>(&self, rt: &R, gate: &G) -> Worked<E> {
         match self.next(rt) {
-            Next::End(end) => Worked::Stopped { end },
-            Next::Input(arrived) => self.running.lock(rt).make(gate, arrived),
+            NextInput::End(end) => Worked::Stopped { end },
+            NextInput::Input(arrived) => self.running.lock(rt).make(gate, arrived),
         }
     }
 
-    fn next<R: Wait>(&self, rt: &R) -> Next<E> {
+    fn next<R: Wait>(&self, rt: &R) -> NextInput<E> {
         let mut inbox = self.inbox.lock(rt);
         for _ in rt.forever() {
             if let Some(end) = inbox.end {
-                return Next::End(end);
+                return NextInput::End(end);
             }
             if let Some(arrived) = inbox.waiting.pop_front() {
-                return Next::Input(arrived);
+                return NextInput::Input(arrived);
             }
             inbox = self.came.wait(rt, inbox);
         }

@@ -11,7 +11,7 @@ use Rattle.curp_cmd.specs.declared.command.Request.{Request}
 use Rattle.curp_cmd.specs.declared.command.RequestId.{RequestId}
 use Rattle.curp_model.specs.Witness.{least_hash}
 use Rattle.curp_slots.specs.Hashed.{LeastHashesApart, requests_of}
-use Rattle.curp_slots.specs.Holding.{SlotsTell, Takes, chosen_of, ids_with, slots_of}
+use Rattle.curp_slots.specs.Holding.{SlotsTell, TakeSlots, chosen_of, ids_with, slots_of}
 use Rattle.curp_slots.specs.Register.{Registered}
 use Rattle.curp_slots.specs.Slots.{SlotTable, owner}
 use Rattle.curp_slots.specs.declared.set.Slot.{Slot}
@@ -65,10 +65,10 @@ one_each (r ∷ rs) one some =
     (least_of_none (least_hash r) rs (omega (arith, more, most)) some.1, one_each rs (λ h. let all = one h in omega (arith, all, fewer h r rs)) some.1)
 
 -- where all are chosen
-pub takes_all : (t : SlotTable) (register : Registered) → SlotsTell t register → Takes t.sets (requests_of register.held)
+pub takes_all : (t : SlotTable) (register : Registered) → SlotsTell t register → TakeSlots t.sets (requests_of register.held)
 takes_all t register w =
-    subst (λ (rs : List Request). Takes t.sets rs) (filter_all (requests_of register.held))
-    (subst (λ (sets : List (List Slot)). Takes sets (chosen_of (λ id. true) (requests_of register.held))) (each_same t.sets) (w.takes (λ id. true)))
+    subst (λ (rs : List Request). TakeSlots t.sets rs) (filter_all (requests_of register.held))
+    (subst (λ (sets : List (List Slot)). TakeSlots sets (chosen_of (λ id. true) (requests_of register.held))) (each_same t.sets) (w.takes (λ id. true)))
   where
     each_same : (sets : List (List Slot)) → map (slots_of (λ id. true)) sets ≡ sets
     each_same [] = refl

@@ -17,7 +17,7 @@ use Rattle.curp_model.specs.Witness.{WitnessState, collect, conflict, full_set, 
 use Rattle.curp_model.specs.declared.Mode.{Mode}
 use Rattle.curp_slots.specs.Collection.{suspected_of, what_remains}
 use Rattle.curp_slots.specs.Hashed.{requests_of}
-use Rattle.curp_slots.specs.Holding.{SlotsTell, Takes, chosen_of, ids_with, slots_of, used_by, with_owners_marked}
+use Rattle.curp_slots.specs.Holding.{SlotsTell, TakeSlots, chosen_of, ids_with, slots_of, used_by, with_owners_marked}
 use Rattle.curp_slots.specs.Register.{IdsAscend, Registered, is_held}
 use Rattle.curp_slots.specs.Slots.{HasSlotsFor, SlotTable, has_no_room, least_full, least_owner, lesser, owner, slots_left, with_slots}
 use Rattle.curp_slots.specs.declared.set.Slot.{Slot}
@@ -101,7 +101,7 @@ none_owned sets (k ∷ hs) none h among =
     go false e first among rest = rest among
 
 -- a request takes a slot for each of its hashes, which no other has
-module _ (sets : List (List Slot)) (requests all : List Request) (told : Takes sets requests) (r : Request) (hs : List ℕ) (is : hs ≡ hashes r.command) (put : IsPut r requests all)
+module _ (sets : List (List Slot)) (requests all : List Request) (told : TakeSlots sets requests) (r : Request) (hs : List ℕ) (is : hs ≡ hashes r.command) (put : IsPut r requests all)
     (alone : (h : ℕ) → list_any (λ x. x == h) hs ≡ true → ids_with h requests ≡ []) (some_sets : 1 ≤ length sets) (some : 1 ≤ length hs) where
   owns_more : (h : ℕ) → ids_with h all ≡ option_to_list (owner (with_slots sets hs r.id) h)
   owns_more h =
@@ -118,7 +118,7 @@ module _ (sets : List (List Slot)) (requests all : List Request) (told : Takes s
       go false e None no_owner = told.owners h ∙ ap option_to_list no_owner
       go false e (Some id) owned = told.owners h ∙ ap option_to_list owned
 
-  pub takes_more : Takes (with_slots sets hs r.id) all
+  pub takes_more : TakeSlots (with_slots sets hs r.id) all
   takes_more =
       let size = sizes_kept sets hs r.id in
       record {
@@ -142,10 +142,10 @@ module _ (t : SlotTable) (register : Registered) (w : SlotsTell t register) (r :
   alone : (h : ℕ) → list_any (λ x. x == h) hs ≡ true → ids_with h (requests_of register.held) ≡ []
   alone h among = (takes_all t register w).owners h ∙ ap option_to_list (none_owned t.sets hs none h among)
 
-  takes_chosen : (c : RequestId → Bool) → Takes (map (slots_of c) (with_slots t.sets hs r.id)) (chosen_of c (requests_of (placed (newly_held r) register.held)))
+  takes_chosen : (c : RequestId → Bool) → TakeSlots (map (slots_of c) (with_slots t.sets hs r.id)) (chosen_of c (requests_of (placed (newly_held r) register.held)))
   takes_chosen c = go (c r.id) refl
     where
-      go : (b : Bool) → c r.id ≡ b → Takes (map (slots_of c) (with_slots t.sets hs r.id)) (chosen_of c (requests_of (placed (newly_held r) register.held)))
+      go : (b : Bool) → c r.id ≡ b → TakeSlots (map (slots_of c) (with_slots t.sets hs r.id)) (chosen_of c (requests_of (placed (newly_held r) register.held)))
       go true e =
           rw (all_chosen c r.id t.sets hs e)
           (takes_more (map (slots_of c) t.sets) (chosen_of c (requests_of register.held)) (chosen_of c (requests_of (placed (newly_held r) register.held))) (w.takes c) r hs is
@@ -193,7 +193,7 @@ module _ (listed ids : List RequestId) (same : (id : RequestId) → has_id id li
   requests_left : requests_of (map survives (what_remains listed register.held)) ≡ chosen_of remains (requests_of register.held)
   requests_left = map-map (λ (x : HeldRequest). x.request) survives (what_remains listed register.held) ∙ map_filter (λ (x : HeldRequest). x.request) (λ (r : Request). remains r.id) (λ (x : HeldRequest). remains x.request.id) (λ x. refl) register.held
 
-  takes_left : SlotsTell t register → (c : RequestId → Bool) → Takes (map (slots_of c) (map (slots_left listed) t.sets)) (chosen_of c (requests_of (map survives (what_remains listed register.held))))
+  takes_left : SlotsTell t register → (c : RequestId → Bool) → TakeSlots (map (slots_of c) (map (slots_left listed) t.sets)) (chosen_of c (requests_of (map survives (what_remains listed register.held))))
   takes_left w c =
       let slots : map (slots_of c) (map (slots_left listed) t.sets) ≡ map (slots_of (λ id. remains id && c id)) t.sets =
       map-map (slots_of c) (slots_left listed) t.sets ∙ λ i. map (λ (ss : List Slot). filter_both (λ (s : Slot). c s.id) (λ (s : Slot). remains s.id) ss i) t.sets in

@@ -2,7 +2,6 @@ pub mod Accepting
 pub mod Filling
 pub mod Gaps
 pub mod Holdings
-pub mod Ids
 pub mod Registers
 pub mod Sortings
 pub mod Taken

@@ -12,8 +12,7 @@ use Rattle.curp_base.specs.Words.{Each}
 use Rattle.curp_cmd.specs.declared.command.Request.{Request}
 use Rattle.curp_model.specs.Witness.{HeldRequest, by_least_hash, least_hash, sorted_in}
 use Rattle.curp_slots.specs.Hashed.{LeastHashesApart, least_places, request_at, requests_of}
-use Rattle.curp_slots.specs.Register.{IsFilled, held_at, held_by}
-use Rattle.curp_slots.specs.declared.register.Place.{Place}
+use Rattle.curp_slots.specs.Register.{IsFilled, Place, held_at, held_by}
 
 put_inserts : {V : Type 0} (es : List (ℕ × V)) (k : ℕ) (v : V) → insert_entry nat_cmp es k v ≡ put nat_cmp k v es
 put_inserts [] k v = refl
@@ -27,12 +26,12 @@ put_inserts {V} (e ∷ es) k v = go (nat_cmp k e.0) (put_inserts es k v)
 
 -- one place more is sorted in
 pub sorted_more : (kept : List HeldRequest) (es : List Place) (sorted : List (ℕ × ℕ)) (at : ℕ) (d : Place) → at < length es → sorted ≡ least_places kept (take at es)
-    → insert_entry nat_cmp sorted (least_hash (held_at kept (get_or es at d)).request) (get_or es at d).at ≡ least_places kept (take (at + 1) es)
+    → insert_entry nat_cmp sorted (least_hash (held_at kept (get_or es at d)).request) (get_or es at d).1 ≡ least_places kept (take (at + 1) es)
 sorted_more kept es sorted at d within so_far =
     let e : Place = get_or es at d in
-    put_inserts sorted (least_hash (held_at kept e).request) e.at
-    ∙ ap (put nat_cmp (least_hash (held_at kept e).request) e.at) so_far
-    ∙ sym (fold-append (λ (done : List (ℕ × ℕ)) (f : Place). put nat_cmp (least_hash (held_at kept f).request) f.at done) [] (take at es) (e ∷ []))
+    put_inserts sorted (least_hash (held_at kept e).request) e.1
+    ∙ ap (put nat_cmp (least_hash (held_at kept e).request) e.1) so_far
+    ∙ sym (fold-append (λ (done : List (ℕ × ℕ)) (f : Place). put nat_cmp (least_hash (held_at kept f).request) f.1 done) [] (take at es) (e ∷ []))
     ∙ ap (least_places kept) (sym (take_more es at d within))
 
 -- ---- what stands at the places
@@ -95,12 +94,12 @@ module _ (kept : List HeldRequest) where
       (put_without (least_hash s) (least_hash r) at es (λ same. apart.0 (sym same)) w.0, all_without r rs at es is apart.1 w.1)
 
   sorts : (es : List Place) (done : List (ℕ × ℕ)) → HashedPlaces done → LeastHashesApart (requests_of (held_by kept es)) → Each (λ (s : Request). Without (least_hash s) done) (requests_of (held_by kept es))
-      → at_places (fold (λ (d : List (ℕ × ℕ)) (e : Place). put nat_cmp (least_hash (held_at kept e).request) e.at d) done es) ≡ fold sorted_in (at_places done) (requests_of (held_by kept es))
+      → at_places (fold (λ (d : List (ℕ × ℕ)) (e : Place). put nat_cmp (least_hash (held_at kept e).request) e.1 d) done es) ≡ fold sorted_in (at_places done) (requests_of (held_by kept es))
   sorts [] done h apart w = refl
   sorts (e ∷ es) done h apart w =
-      sorts es (put nat_cmp (least_hash (request_at kept e.at)) e.at done) (put_hashed e.at done h) apart.1
-      (all_without (request_at kept e.at) (requests_of (held_by kept es)) e.at done refl apart.0 w.1)
-      ∙ ap (λ (rs : List Request). fold sorted_in rs (requests_of (held_by kept es))) (put_sorts e.at done h w.0)
+      sorts es (put nat_cmp (least_hash (request_at kept e.1)) e.1 done) (put_hashed e.1 done h) apart.1
+      (all_without (request_at kept e.1) (requests_of (held_by kept es)) e.1 done refl apart.0 w.1)
+      ∙ ap (λ (rs : List Request). fold sorted_in rs (requests_of (held_by kept es))) (put_sorts e.1 done h w.0)
 
   none_yet : (rs : List Request) → Each (λ (s : Request). Without (least_hash s) []) rs
   none_yet [] = tt
@@ -122,9 +121,9 @@ put_within n k at (e ∷ es) below all = go (nat_cmp k e.0) (put_within n k at e
     go Greater rest = (all.0, rest)
 
 folded_within : (kept : List HeldRequest) (es : List Place) (done : List (ℕ × ℕ)) → Each (IsFilled kept) es → Each (λ (m : ℕ). m < length kept) (map (λ (e : ℕ × ℕ). e.1) done)
-    → Each (λ (m : ℕ). m < length kept) (map (λ (e : ℕ × ℕ). e.1) (fold (λ (d : List (ℕ × ℕ)) (e : Place). put nat_cmp (least_hash (held_at kept e).request) e.at d) done es))
+    → Each (λ (m : ℕ). m < length kept) (map (λ (e : ℕ × ℕ). e.1) (fold (λ (d : List (ℕ × ℕ)) (e : Place). put nat_cmp (least_hash (held_at kept e).request) e.1 d) done es))
 folded_within kept [] done f all = all
-folded_within kept (e ∷ es) done f all = folded_within kept es (put nat_cmp (least_hash (held_at kept e).request) e.at done) f.1 (put_within (length kept) (least_hash (held_at kept e).request) e.at done f.0.within all)
+folded_within kept (e ∷ es) done f all = folded_within kept es (put nat_cmp (least_hash (held_at kept e).request) e.1 done) f.1 (put_within (length kept) (least_hash (held_at kept e).request) e.1 done f.0.within all)
 
 pub places_within : (kept : List HeldRequest) (es : List Place) → Each (IsFilled kept) es → Each (λ (m : ℕ). m < length kept) (map (λ (e : ℕ × ℕ). e.1) (least_places kept es))
 places_within kept es f = folded_within kept es [] f tt

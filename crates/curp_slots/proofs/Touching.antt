@@ -22,8 +22,7 @@ use Rattle.curp_slots.specs.Holding.{ids_with, with_owner_marked, with_owners_ma
 use Rattle.curp_slots.specs.Register.{IdsAscend, marked, marked_at}
 use Rattle.curp_slots.specs.Slots.{least_owner, lesser, owner}
 use Rattle.curp_slots.specs.declared.set.Slot.{Slot}
-use Rattle.curp_slots.proofs.Ids.{less_not_same_back}
-use Rattle.curp_slots.proofs.Registers.{marked_request}
+use Rattle.curp_slots.proofs.Registers.{less_not_same_back, marked_request}
 use Rattle.curp_base.proofs.Lists.{map_alike}
 
 -- ---- a common hash, from either side

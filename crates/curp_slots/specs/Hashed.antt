@@ -5,8 +5,7 @@ use Rattle.std.specs.Ordering.{nat_cmp}
 use Rattle.curp_base.specs.Words.{Each}
 use Rattle.curp_cmd.specs.declared.command.Request.{Request}
 use Rattle.curp_model.specs.Witness.{HeldRequest, least_hash}
-use Rattle.curp_slots.specs.Register.{held_at, nobody}
-use Rattle.curp_slots.specs.declared.register.Place.{Place}
+use Rattle.curp_slots.specs.Register.{Place, held_at, nobody}
 
 -- the requests that are held
 abbrev pub requests_of : List HeldRequest → List Request
@@ -23,4 +22,4 @@ request_at kept at = (slice_index_or kept at nobody).request
 
 -- each place with the least hash of what stands there, in ascending order of these
 abbrev pub least_places : List HeldRequest → List Place → List (ℕ × ℕ)
-least_places kept index = fold (λ done e. put nat_cmp (least_hash (held_at kept e).request) e.at done) [] index
+least_places kept index = fold (λ done e. put nat_cmp (least_hash (held_at kept e).request) e.1 done) [] index

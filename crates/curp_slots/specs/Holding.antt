@@ -21,7 +21,7 @@ abbrev pub used_by : ℕ → List Request → ℕ → ℕ
 used_by sets requests s = sum (map (λ r. in_set sets s (hashes r.command)) requests)
 
 -- requests take the slots of their hashes, and no others are taken; a hash is one request's at most
-pub record Takes (sets : List (List Slot)) (requests : List Request) : Type 0 where
+pub record TakeSlots (sets : List (List Slot)) (requests : List Request) : Type 0 where
   pub owners : (hash : ℕ) → ids_with hash requests ≡ option_to_list (owner sets hash)
   pub sizes : (s : ℕ) → s < length sets → taken_in sets s ≡ used_by (length sets) requests s
   pub filled : length requests ≤ sum (map (λ set. length set) sets)
@@ -41,7 +41,7 @@ pub record SlotsTell (table : SlotTable) (register : Registered) : Type 0 where
   pub within : (s : ℕ) → s < length table.sets → taken_in table.sets s ≤ table.ways
   pub room : length table.sets * table.ways ≤ register.room
   pub ascend : IdsAscend register.held
-  pub takes : (chosen : RequestId → Bool) → Takes (map (slots_of chosen) table.sets) (chosen_of chosen (requests_of register.held))
+  pub takes : (chosen : RequestId → Bool) → TakeSlots (map (slots_of chosen) table.sets) (chosen_of chosen (requests_of register.held))
   pub hashed : Each (λ (r : Request). 1 ≤ length (hashes r.command)) (requests_of register.held)
 
 -- the request that has the slot is marked, if one has it

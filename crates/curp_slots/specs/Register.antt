@@ -1,13 +1,13 @@
 -- The requests that a witness holds, each at its place, and an index of the places by their ids.
 use Rattle.std.specs.Prelude.{◌≡◌, ◌⊎◌, ℕ, ◌+◌, ◌==◌, ◌<◌, ◌≤◌, nat_le, if◌then◌else◌, Bool, true, false, List, [], ◌∷◌, ◌++◌, length, map, slice_index_or, slice_set, ⊤}
 use Rattle.std.specs.List.{filter, list_any}
-use Rattle.std.specs.declared.cmp.Ordering.TheVariants.{Less, Greater}
-use Rattle.curp_base.specs.Words.{Each}
+use Rattle.std.specs.declared.cmp.Ordering.TheVariants.{Less}
+use Rattle.curp_base.specs.Reserving.{Reserving}
+use Rattle.curp_base.specs.Words.{Each, KeysAscend}
 use Rattle.curp_cmd.specs.RequestId.{id_cmp, same_id}
 use Rattle.curp_cmd.specs.declared.command.Command.TheVariants.{Get}
 use Rattle.curp_cmd.specs.declared.command.RequestId.{RequestId}
 use Rattle.curp_model.specs.Witness.{HeldRequest}
-use Rattle.curp_slots.specs.declared.register.Place.{Place}
 
 -- ---- held requests
 
@@ -35,10 +35,9 @@ pub record Registered : Type 0 where
 
 -- ---- an index
 
--- the ids strictly rise
-abbrev pub PlacesAscend : List Place → Type 0
-PlacesAscend [] = ⊤
-PlacesAscend (e ∷ es) = Each (λ (f : Place). id_cmp e.id f.id ≡ Less) es × PlacesAscend es
+-- the id of a request, and its place
+abbrev pub Place : Type 0
+Place = RequestId × ℕ
 
 -- what stands at no place
 abbrev pub nobody : HeldRequest
@@ -46,7 +45,7 @@ nobody = record { request = record { id = record { client = 0; seq = 0 }; first 
 
 -- what stands at the place
 abbrev pub held_at : List HeldRequest → Place → HeldRequest
-held_at kept e = slice_index_or kept e.at nobody
+held_at kept e = slice_index_or kept e.1 nobody
 
 -- what is held, in the order of the index
 abbrev pub held_by : List HeldRequest → List Place → List HeldRequest
@@ -54,24 +53,24 @@ held_by kept index = map (held_at kept) index
 
 -- the place is that of the request with its id
 pub record IsFilled (kept : List HeldRequest) (e : Place) : Type 0 where
-  pub within : e.at < length kept
-  pub its_id : (held_at kept e).request.id ≡ e.id
+  pub within : e.1 < length kept
+  pub its_id : (held_at kept e).request.id ≡ e.0
 
 -- how often a place is free or in the index
 abbrev pub times : ℕ → List ℕ → List Place → ℕ
-times at free index = length (filter (λ f. f == at) free) + length (filter (λ e. e.at == at) index)
+times at free index = length (filter (λ f. f == at) free) + length (filter (λ e. e.1 == at) index)
 
 -- an index of what is held, and room for so many in each list; a place is free or in the index, and that once
-pub record IsRegister (room : ℕ) (kept : List HeldRequest) (kept_room : ℕ) (free : List ℕ) (free_room : ℕ) (index : List Place) (index_room : ℕ) : Type 0 where
-  pub ascend : PlacesAscend index
-  pub places : Each (IsFilled kept) index
-  pub within : Each (λ at. at < length kept) free
-  pub once : (at : ℕ) → times at free index ≤ 1
-  pub as_many : length kept ≡ length free + length index
+pub record IsRegister (room : ℕ) (kept : List HeldRequest) (kept_room : ℕ) (free : Reserving ℕ) (index : Reserving Place) : Type 0 where
+  pub ascend : KeysAscend id_cmp index.items
+  pub places : Each (IsFilled kept) index.items
+  pub within : Each (λ at. at < length kept) free.items
+  pub once : (at : ℕ) → times at free.items index.items ≤ 1
+  pub as_many : length kept ≡ length free.items + length index.items
   pub kept_within : length kept ≤ room
   pub kept_fits : room ≤ kept_room
-  pub free_fits : room ≤ free_room
-  pub index_fits : room ≤ index_room
+  pub free_fits : room ≤ length free.items + free.spare
+  pub index_fits : room ≤ length index.items + index.spare
 
 -- a free place is given, or where none is free the one behind the others
 abbrev pub IsPlaceGiven : ℕ → List ℕ → List ℕ → ℕ → Type 0
@@ -80,14 +79,3 @@ IsPlaceGiven size free left at = (free ≡ left ++ at ∷ []) ⊎ ((free ≡ [])
 -- what is put at a place, or behind the others
 abbrev pub put_at : List HeldRequest → ℕ → HeldRequest → List HeldRequest
 put_at kept at x = if at == length kept then kept ++ x ∷ [] else slice_set kept at x
-
--- the place at that position is the one of the id
-pub record IsIdAt (index : List Place) (id : RequestId) (at : ℕ) : Type 0 where
-  pub within : at < length index
-  pub has_id : (d : Place) → (slice_index_or index at d).id ≡ id
-
--- no place has the id, which would stand at that position
-pub record IsIdGap (index : List Place) (id : RequestId) (at : ℕ) : Type 0 where
-  pub within : at ≤ length index
-  pub less_before : (k : ℕ) (d : Place) → k < at → id_cmp (slice_index_or index k d).id id ≡ Less
-  pub greater_from : (k : ℕ) (d : Place) → at ≤ k → k < length index → id_cmp (slice_index_or index k d).id id ≡ Greater

@@ -1,26 +1,19 @@
-ghost use Rattle.std.specs.Prelude.{◌≡◌, ◌<◌, ◌≤◌, ◌+◌, ◌^◌, ◌++◌, [], ◌∷◌, length, false, map, vec_capacity, IfOk, IfErr};
+ghost use Rattle.std.specs.Prelude.{◌≡◌, ◌<◌, ◌≤◌, ◌+◌, ◌^◌, ◌++◌, [], ◌∷◌, length, false, map, vec_capacity, IfOk};
 ghost use Rattle.std.specs.BTreeMap.{values};
 ghost use Rattle.curp_base.specs.Words.{Each};
 ghost use Rattle.curp_model.specs.Witness.{by_least_hash, newly_held, placed, survives};
 ghost use Rattle.curp_slots.specs.Collection.{places_freed, suspected_of, what_remains};
 ghost use Rattle.curp_slots.specs.Hashed.{LeastHashesApart, least_places, request_at, requests_of};
-ghost use Rattle.curp_slots.specs.Register.{IdsAscend, IsFilled, IsIdGap, IsIdAt, IsPlaceGiven, PlacesAscend, held_by, marked_at, is_held, put_at};
+ghost use Rattle.curp_slots.specs.Register.{IdsAscend, IsFilled, IsPlaceGiven, held_by, marked_at, is_held, put_at};
 
 use crate::hashes::least_hash;
 use crate::kept::KeptRequest;
 use crate::listed::Listed;
-use curp_base::NoMemory;
+use curp_base::{NoMemory, Reserved, ReservedPairs};
 use curp_cmd::{Request, RequestId};
 use std::alloc::Global;
 use std::collections::BTreeMap;
 use std::marker::Model;
-
-/// Where the request with an id stands among those in the order of arrival.
-#[derive(Clone, Copy)]
-pub struct Place {
-    pub id: RequestId,
-    pub at: u32,
-}
 
 /// The requests that a witness holds. Contracts see them in ascending order of their ids, and for how many there is
 /// room.
@@ -30,9 +23,9 @@ pub struct Register {
     // Each stays where it was put.
     kept: Vec<KeptRequest>,
     // The places in `kept` of what was dropped.
-    free: Vec<u32>,
-    // In ascending order of the ids.
-    index: Vec<Place>,
+    free: Reserved<u32>,
+    // The place of each by its id.
+    index: ReservedPairs<RequestId, u32>,
 }
 
 impl Model for Register {
@@ -43,8 +36,7 @@ impl Model for Register {
 
     ghost view = { λ r. record { room = r.room; held = held_by r.kept.items r.index.items } };
 
-    ghost invariant = { λ r. IsRegister r.room r.kept.items (vec_capacity r.kept)
-        r.free.items (vec_capacity r.free) r.index.items (vec_capacity r.index) };
+    ghost invariant = { λ r. IsRegister r.room r.kept.items (vec_capacity r.kept) r.free r.index };
 }
 
 impl Register {
@@ -53,8 +45,8 @@ impl Register {
         ensures { IfOk result (λ register. register ≡ record { room = room; held = [] }) }
     {
         let kept = Vec::with_capacity(alloc, room as usize)?;
-        let free = Vec::with_capacity(alloc, room as usize)?;
-        let index = Vec::with_capacity(alloc, room as usize)?;
+        let free = Reserved::with_room(alloc, room as u64)?;
+        let index = ReservedPairs::with_room(alloc, room as u64)?;
         Ok(Register {
             room,
             kept,
@@ -67,7 +59,7 @@ impl Register {
     pub fn holds(&self, id: &RequestId) -> bool
         ensures { result ≡ is_held id.now self.now.held }
     {
-        find(&self.index, id).is_ok()
+        self.index.value_of(id).is_some()
     }
 
     /// Holds a request more. It takes no memory, since there is room.
@@ -77,11 +69,8 @@ impl Register {
         ensures value { self.new ≡ record self.old { held = placed (newly_held request.now) self.old.held } }
         ensures ascend { IdsAscend self.new.held }
     {
-        if let Err(gap) = find(&self.index, &request.id) {
-            let at = put(&mut self.kept, &mut self.free, request);
-            let place = Place { id: request.id, at };
-            self.index.insert(gap, place).unwrap();
-        }
+        let at = put(&mut self.kept, &mut self.free, request);
+        self.index.put(request.id, at);
     }
 
     /// Marks the request with that id, if it is held.
@@ -89,9 +78,8 @@ impl Register {
         ensures value { self.new ≡ record self.old { held = map (marked_at id.now) self.old.held } }
         ensures ascend { IdsAscend self.new.held }
     {
-        if let Ok(place) = find(&self.index, id) {
-            let at = self.index[place].at as usize;
-            self.kept[at].mark();
+        if let Some(at) = self.index.value_of(id) {
+            self.kept[at as usize].mark();
         }
     }
 
@@ -99,7 +87,7 @@ impl Register {
     pub fn suspects(&self, alloc: Global, listed: &Listed) -> Result<Vec<Request>, NoMemory>
         ensures { IfOk result (λ requests. requests.items ≡ suspected_of (what_remains listed.now self.now.held)) }
     {
-        suspects_at(alloc, &self.kept, &self.index, listed)
+        suspects_at(alloc, &self.kept, self.index.as_slice(), listed)
     }
 
     /// Drops the listed requests. What remains has survived one more collection. It takes no memory.
@@ -107,8 +95,8 @@ impl Register {
         ensures value { self.new ≡ record self.old { held = map survives (what_remains listed.now self.old.held) } }
         ensures ascend { IdsAscend self.new.held }
     {
-        free_places(&self.index, listed, &mut self.free);
-        self.index.retain(|place| !listed.has(&place.id));
+        free_places(self.index.as_slice(), listed, &mut self.free);
+        self.index.retain(|place| !listed.has(&place.0));
         survive_all(&mut self.kept);
     }
 
@@ -117,20 +105,20 @@ impl Register {
         requires { LeastHashesApart (requests_of self.now.held) }
         ensures { IfOk result (λ requests. requests.items ≡ by_least_hash (requests_of self.now.held)) }
     {
-        let sorted = places_by_hash(alloc, &self.kept, &self.index)?;
+        let sorted = places_by_hash(alloc, &self.kept, self.index.as_slice())?;
         requests_at(alloc, &self.kept, &sorted)
     }
 }
 
 /// Puts the request where one was dropped, or else behind the others, and gives the place.
-fn put(kept: &mut Vec<KeptRequest>, free: &mut Vec<u32>, request: &Request) -> u32
+fn put(kept: &mut Vec<KeptRequest>, free: &mut Reserved<u32>, request: &Request) -> u32
     requires within { Each (λ at. at < length kept.old.items) free.old.items }
     requires room { length free.old.items ≡ 0 → length kept.old.items < vec_capacity kept.old }
     requires few { length kept.old.items < 2 ^ 32 }
     ensures kept { kept.new.items ≡ put_at kept.old.items result (newly_held request.now) }
     ensures kept_room { vec_capacity kept.new ≡ vec_capacity kept.old }
     ensures free { IsPlaceGiven (length kept.old.items) free.old.items free.new.items result }
-    ensures free_room { vec_capacity free.new ≡ vec_capacity free.old }
+    ensures free_room { length free.old.items + free.old.spare ≤ length free.new.items + free.new.spare }
 {
     let newly_held = KeptRequest::new(request);
     if let Some(at) = free.pop() {
@@ -143,14 +131,14 @@ fn put(kept: &mut Vec<KeptRequest>, free: &mut Vec<u32>, request: &Request) -> u
 }
 
 /// Adds the places of the listed requests to those that are free.
-fn free_places(index: &[Place], listed: &Listed, free: &mut Vec<u32>)
-    requires { length free.old.items + length index.now ≤ vec_capacity free.old }
+fn free_places(index: &[(RequestId, u32)], listed: &Listed, free: &mut Reserved<u32>)
+    requires { length index.now ≤ free.old.spare }
     ensures items { free.new.items ≡ free.old.items ++ places_freed listed.now index.now }
-    ensures room { vec_capacity free.new ≡ vec_capacity free.old }
+    ensures room { length free.new.items + free.new.spare ≡ length free.old.items + free.old.spare }
 {
-    for place in index {
-        if listed.has(&place.id) {
-            free.push_reserved(place.at);
+    for (id, at) in index {
+        if listed.has(id) {
+            free.push(*at);
         }
     }
 }
@@ -169,7 +157,7 @@ fn survive_all(kept: &mut Vec<KeptRequest>)
 fn suspects_at(
     alloc: Global,
     kept: &[KeptRequest],
-    index: &[Place],
+    index: &[(RequestId, u32)],
     listed: &Listed,
 ) -> Result<Vec<Request>, NoMemory>
     requires { Each (IsFilled kept.now) index.now }
@@ -177,11 +165,11 @@ fn suspects_at(
         requests.items ≡ suspected_of (what_remains listed.now (held_by kept.now index.now))) }
 {
     let mut suspects = Vec::new(alloc);
-    for place in index {
-        if listed.has(&place.id) {
+    for (id, at) in index {
+        if listed.has(id) {
             continue;
         }
-        if let Some(suspect) = kept[place.at as usize].suspect() {
+        if let Some(suspect) = kept[*at as usize].suspect() {
             suspects.push(*suspect)?;
         }
     }
@@ -192,16 +180,16 @@ fn suspects_at(
 fn places_by_hash(
     alloc: Global,
     kept: &[KeptRequest],
-    index: &[Place],
+    index: &[(RequestId, u32)],
 ) -> Result<BTreeMap<u64, u32>, NoMemory>
     requires { Each (IsFilled kept.now) index.now }
     ensures sorted { IfOk result (λ sorted. sorted.entries ≡ least_places kept.now index.now) }
     ensures within { IfOk result (λ sorted. Each (λ at. at < length kept.now) (values sorted)) }
 {
     let mut sorted = BTreeMap::new(alloc);
-    for place in index {
-        let request = kept[place.at as usize].request();
-        sorted.insert(least_hash(request), place.at)?;
+    for (_, at) in index {
+        let request = kept[*at as usize].request();
+        sorted.insert(least_hash(request), *at)?;
     }
     Ok(sorted)
 }
@@ -220,13 +208,4 @@ fn requests_at(
         requests.push(*kept[*at as usize].request())?;
     }
     Ok(requests)
-}
-
-/// Where the place of the request with the id stands in the index, or where it would go.
-fn find(index: &[Place], id: &RequestId) -> Result<usize, usize>
-    requires { PlacesAscend index.now }
-    ensures found { IfOk result (IsIdAt index.now id.now) }
-    ensures absent { IfErr result (IsIdGap index.now id.now) }
-{
-    index.binary_search_by_key(id, |place| place.id)
 }

@@ -1,5 +1,5 @@
 -- What is kept beside the entries of a tail, as entries come and go.
-use Rattle.std.proofs.Common.{◌≡◌, ℕ, zero, suc, ◌+◌, ◌==◌, ◌&&◌, ◌||◌, ◌<◌, ◌≤◌, Bool, true, false, cond, nat_le, List, [], ◌∷◌, ◌++◌, length, get_or, take, drop, is_some, Option, Some, None, refl, ap, sym, ◌∙◌, append_assoc, length-append, subst, arith}
+use Rattle.std.proofs.Common.{◌≡◌, ℕ, zero, suc, ◌+◌, ◌==◌, ◌&&◌, ◌||◌, ◌<◌, Bool, true, false, cond, nat_le, List, [], ◌∷◌, ◌++◌, length, get_or, take, drop, is_some, Option, Some, None, refl, ap, sym, ◌∙◌, append_assoc, length-append, subst, arith}
 use Rattle.std.specs.List.{filter, list_any}
 use Rattle.std.proofs.lemmas.Bool.Decides.{nat_tests}
 use Rattle.std.proofs.lemmas.List.Folds.{list_any_more}
@@ -57,14 +57,6 @@ dirty_by_range tail hash last ranges found covers last_is ranges_are is absent c
 
 pub one_longer : (tail : List TailEntry) (e : TailEntry) → length (tail ++ e ∷ []) ≡ length tail + 1
 one_longer tail e = length-append tail (e ∷ [])
-
-pub ranges_longer : (ranges : List Moved) (index : ℕ) (touched : Touched) → length (ranges ++ moved_of index touched) ≤ length ranges + 1
-ranges_longer ranges index touched = rw length-append (few touched)
-  where
-    few : (t : Touched) → length ranges + length (moved_of index t) ≤ length ranges + 1
-    few (Hashes hs) = omega arith
-    few (Range lo hi) = omega arith
-    few Nothing = omega arith
 
 pub ranges_push : (tail : List TailEntry) (e : TailEntry) → ranges_in (tail ++ e ∷ []) ≡ ranges_in tail ++ moved_of e.index e.touched
 ranges_push [] e = end (moved_of e.index e.touched)

@@ -8,7 +8,7 @@ use Rattle.curp_tail.specs.declared.touched.Touched.TheVariants.{Hashes, Range, 
 use Rattle.curp_tail.specs.declared.tail.Moved.{Moved}
 
 -- the entries that are kept, in the order of their places, and for how many more hashes there is room
-pub record Kept : Type 0 where
+pub record TailContent : Type 0 where
   pub entries : List TailEntry
   pub spare : ℕ
 

@@ -1,4 +1,4 @@
-ghost use Rattle.std.specs.Prelude.{◌≡◌, ℕ, ◌+◌, ◌*◌, ◌<◌, ◌≤◌, ◌^◌, ◌==◌, nat_le, nat_eq, if◌then◌else◌, [], ◌∷◌, ◌++◌, length, drop, filter, vec_capacity, Some, OnOk, OnErr};
+ghost use Rattle.std.specs.Prelude.{◌≡◌, ℕ, ◌+◌, ◌*◌, ◌<◌, ◌≤◌, ◌^◌, ◌==◌, nat_le, nat_eq, if◌then◌else◌, [], ◌∷◌, ◌++◌, length, drop, filter, Some, OnOk, OnErr};
 ghost use Rattle.std.specs.HashMap.{get, spare};
 ghost use Rattle.std.specs.List.{list_any};
 ghost use Rattle.std.specs.VecDeque.{deque_capacity};
@@ -9,7 +9,7 @@ ghost use Rattle.curp_tail.specs.Tail.{IndexesRise, is_dirty, tail_from, touched
 ghost use Rattle.curp_tail.specs.Kept.{LastsAre, is_this, moved_of, names, ranges_in, without_last};
 
 use crate::Touched;
-use curp_base::NoMemory;
+use curp_base::{NoMemory, Reserved};
 use curp_cmd::{Command, Entry, Hashes};
 use std::alloc::{AllocError, Global};
 use std::collections::{HashMap, VecDeque};
@@ -45,21 +45,21 @@ pub struct Tail {
     entries: VecDeque<TailEntry>,
     // Of each hash that a command of an entry names, the last such entry.
     lasts: HashMap<u64, u64>,
-    ranges: Vec<Moved>,
+    ranges: Reserved<Moved>,
 }
 
 impl Model for Tail {
-    ghost use Rattle.std.specs.Prelude.{◌-◌, min, nat_eq, length, vec_len, vec_capacity};
+    ghost use Rattle.std.specs.Prelude.{◌-◌, min, nat_eq, length};
     ghost use Rattle.std.specs.HashMap.{get, spare};
     ghost use Rattle.std.specs.VecDeque.{deque_capacity};
-    ghost use Rattle.curp_tail.specs.Kept.{Kept, IsTail};
+    ghost use Rattle.curp_tail.specs.Kept.{TailContent, IsTail};
 
-    ghost Value = { Kept };
+    ghost Value = { TailContent };
 
     ghost view = { λ t. record {
       entries = t.entries.items;
       spare = min (deque_capacity t.entries - length t.entries.items)
-          (min (vec_capacity t.ranges - vec_len t.ranges) (spare t.lasts));
+          (min t.ranges.spare (spare t.lasts));
     } };
 
     ghost invariant = { λ t. IsTail t.entries.items (get nat_eq t.lasts) t.ranges.items };
@@ -73,7 +73,7 @@ impl Tail {
         Tail {
             entries: VecDeque::new(alloc),
             lasts: HashMap::new(alloc),
-            ranges: Vec::new(alloc),
+            ranges: Reserved::new(alloc),
         }
     }
 
@@ -102,7 +102,7 @@ impl Tail {
         // No command names more than four keys.
         let hashes = (entries as usize).checked_mul(4).ok_or(AllocError)?;
         self.entries.reserve(hashes)?;
-        self.ranges.reserve(hashes)?;
+        self.ranges.reserve(hashes as u64)?;
         self.lasts.reserve(hashes)
     }
 
@@ -155,13 +155,13 @@ fn covers(ranges: &[Moved], hash: u64) -> bool
 fn keep_all(
     kept: &mut VecDeque<TailEntry>,
     lasts: &mut HashMap<u64, u64>,
-    ranges: &mut Vec<Moved>,
+    ranges: &mut Reserved<Moved>,
     entries: &[Entry],
     index: u64,
 )
     requires fits { index + length entries.now < 2 ^ 64 }
     requires kept_room { length kept.old.items + length entries.now ≤ deque_capacity kept.old }
-    requires ranges_room { length ranges.old.items + length entries.now ≤ vec_capacity ranges.old }
+    requires ranges_room { length entries.now ≤ ranges.old.spare }
     requires lasts_room { 4 * length entries.now ≤ spare lasts.old }
     requires lasts_are { LastsAre (get nat_eq lasts.old) kept.old.items }
     requires ranges_are { ranges.old.items ≡ ranges_in kept.old.items }
@@ -169,8 +169,7 @@ fn keep_all(
     ensures lasts { LastsAre (get nat_eq lasts.new) kept.new.items }
     ensures ranges { ranges.new.items ≡ ranges_in kept.new.items }
     ensures kept_capacity { deque_capacity kept.new ≡ deque_capacity kept.old }
-    ensures ranges_capacity { vec_capacity ranges.new ≡ vec_capacity ranges.old }
-    ensures ranges_longer { length ranges.new.items ≤ length ranges.old.items + length entries.now }
+    ensures ranges_spare { ranges.old.spare ≤ ranges.new.spare + length entries.now }
     ensures lasts_spare { spare lasts.old ≤ spare lasts.new + 4 * length entries.now }
 {
     for (at, entry) in entries.iter().enumerate() {
@@ -182,17 +181,17 @@ fn keep_all(
 fn keep(
     kept: &mut VecDeque<TailEntry>,
     lasts: &mut HashMap<u64, u64>,
-    ranges: &mut Vec<Moved>,
+    ranges: &mut Reserved<Moved>,
     entry: &Entry,
     index: u64,
 )
     requires kept_room { length kept.old.items < deque_capacity kept.old }
-    requires ranges_room { length ranges.old.items < vec_capacity ranges.old }
+    requires ranges_room { 1 ≤ ranges.old.spare }
     requires lasts_room { 4 ≤ spare lasts.old }
     ensures items { kept.new.items ≡ kept.old.items ++ record { index = index; touched = touched_of entry.now } ∷ [] }
     ensures kept_capacity { deque_capacity kept.new ≡ deque_capacity kept.old }
     ensures ranges { ranges.new.items ≡ ranges.old.items ++ moved_of index (touched_of entry.now) }
-    ensures ranges_capacity { vec_capacity ranges.new ≡ vec_capacity ranges.old }
+    ensures ranges_spare { ranges.old.spare ≤ ranges.new.spare + 1 }
     ensures lasts { (hash : ℕ) → get nat_eq lasts.new hash
         ≡ (if names hash (touched_of entry.now) then Some index else get nat_eq lasts.old hash) }
     ensures lasts_spare { spare lasts.old ≤ spare lasts.new + 4 }
@@ -204,21 +203,21 @@ fn keep(
 
 fn keep_beside(
     lasts: &mut HashMap<u64, u64>,
-    ranges: &mut Vec<Moved>,
+    ranges: &mut Reserved<Moved>,
     touched: &Touched,
     index: u64,
 )
-    requires ranges_room { length ranges.old.items < vec_capacity ranges.old }
+    requires ranges_room { 1 ≤ ranges.old.spare }
     requires lasts_room { 4 ≤ spare lasts.old }
     ensures ranges { ranges.new.items ≡ ranges.old.items ++ moved_of index touched.now }
-    ensures ranges_capacity { vec_capacity ranges.new ≡ vec_capacity ranges.old }
+    ensures ranges_spare { ranges.old.spare ≤ ranges.new.spare + 1 }
     ensures lasts { (hash : ℕ) → get nat_eq lasts.new hash
         ≡ (if names hash touched.now then Some index else get nat_eq lasts.old hash) }
     ensures lasts_spare { spare lasts.old ≤ spare lasts.new + 4 }
 {
     match touched {
         Touched::Hashes(hashes) => note_all(lasts, hashes, index),
-        Touched::Range { lo, hi } => ranges.push_reserved(Moved {
+        Touched::Range { lo, hi } => ranges.push(Moved {
             index,
             lo: *lo,
             hi: *hi,

@@ -4,7 +4,7 @@ ghost use Rattle.std.specs.Prelude.{◌≤◌};
 use crate::build::{A, id, key, message, must, op, put, request, serving, value};
 use curp_base::past;
 use curp_cmd::{Answer, Command, Entry, NodeId, Package, Request, Value, room};
-use curp_log::{Given, Log, is_log};
+use curp_log::{LatestGive, Log, is_log};
 use curp_master::Master;
 use curp_model::Check;
 use curp_msg::{Body, TakeOut};
@@ -201,7 +201,7 @@ fn a_range_comes_with_its_pairs(rt: HostRuntime) {
     try_key(&rt, &log, b"a", Some(value(&rt, b"1")));
     try_key(&rt, &log, b"b", None);
     assert!(rt; log.ranges().spans() == [(0, 9), (A, A)].as_slice());
-    let given = Given {
+    let given = LatestGive {
         migration: 7,
         index: 1,
     };

@@ -2,7 +2,7 @@
 
 use crate::build::{id, key, must, request};
 use curp_cmd::{Answer, Command, NodeId, NodeKind, Request, RequestId};
-use curp_line::Line;
+use curp_line::{Line, Tenure};
 use curp_msg::{Capture, Completed};
 use std::alloc::Global;
 use std::process::Abort;
@@ -30,15 +30,29 @@ fn read(rt: &impl Abort) -> Command {
     Command::Get(key(rt, b"k"))
 }
 
+// The master's time over the first partition, of that epoch.
+fn of_first(master: NodeId, epoch: u32) -> Tenure {
+    Tenure {
+        master,
+        part: 1,
+        epoch,
+    }
+}
+
 fn executed(rt: &impl Abort, line: &mut Line, part: u32, index: u64, id: RequestId) {
     must(rt, line.reserve(1));
-    line.executed(FIRST, part, 1, index, id, update(rt));
+    let tenure = Tenure {
+        master: FIRST,
+        part,
+        epoch: 1,
+    };
+    line.executed(tenure, index, id, update(rt));
 }
 
 // The read at that capture, where the log had that length.
 fn looked(rt: &impl Abort, line: &mut Line, capture: u64, length: u64, id: RequestId) {
     must(rt, line.reserve(1));
-    line.looked(FIRST, 1, 1, capture, length, id, read(rt));
+    line.looked(of_first(FIRST, 1), capture, length, id, read(rt));
 }
 
 fn updated(line: &mut Line, id: RequestId) {
@@ -92,7 +106,7 @@ fn an_adoption_keeps_what_completed_or_was_recovered(rt: HostRuntime) {
     updated(&mut line, id(1, 2));
     must(&rt, line.reserve(3));
     let both = [replayed(&rt, id(2, 2)), replayed(&rt, id(1, 2))];
-    line.adopted(SECOND, 1, 2, 2, &both);
+    line.adopted(of_first(SECOND, 2), 2, &both);
     let order = [id(1, 1), id(2, 1), id(1, 2), id(2, 2)];
     assert!(rt; ids(&rt, rt.alloc(), &line).as_slice() == order.as_slice());
     read_by(&mut line, id(3, 2), 2);
@@ -104,13 +118,17 @@ fn an_adoption_keeps_what_completed_or_was_recovered(rt: HostRuntime) {
 // The master adopts the partition in that epoch, and replays one update.
 fn adopted(rt: &impl Abort, line: &mut Line, master: NodeId, epoch: u32, id: RequestId) {
     must(rt, line.reserve(2));
-    line.adopted(master, 1, epoch, u64::from(epoch), &[replayed(rt, id)]);
+    line.adopted(
+        of_first(master, epoch),
+        u64::from(epoch),
+        &[replayed(rt, id)],
+    );
 }
 
 // The master answers a read at once, by which it completes.
 fn read_at_once(rt: &impl Abort, line: &mut Line, by: Capture, id: RequestId) {
     must(rt, line.reserve(1));
-    line.quick(by.master, 1, by.epoch, by.number, id, read(rt));
+    line.quick(of_first(by.master, by.epoch), by.number, id, read(rt));
     line.completed(&Completed {
         id,
         answer: Answer::Found(None),
@@ -182,7 +200,12 @@ fn holds_ten_thousand_marks(rt: HostRuntime) {
             replayed(&rt, nth(9_998 - 4 * n)),
             replayed(&rt, nth(9_996 - 4 * n)),
         ];
-        line.adopted(SECOND, 0, 2 + n, cut, &both);
+        let tenure = Tenure {
+            master: SECOND,
+            part: 0,
+            epoch: 2 + n,
+        };
+        line.adopted(tenure, cut, &both);
     }
     assert_eq!(rt; must(&rt, line.order()).len(), 8_064);
     assert!(rt; line.reserve(u64::MAX).is_err());

@@ -79,6 +79,57 @@ fn a_script_of_protocol_2_is_played(rt: HostRuntime) -> Result<(), Fail> {
     Ok(())
 }
 
+// Whether each of so many steps has a line.
+fn has_steps(text: &str, steps: usize) -> bool {
+    text.lines().filter(|line| line.starts_with('s')).count() == steps
+}
+
+#[test]
+fn the_longest_script_is_played(rt: HostRuntime) -> Result<(), Fail> {
+    let sink = printed(
+        rt.alloc(),
+        &[
+            "make",
+            "--steps",
+            "200000",
+            "--clients",
+            "64",
+            "--parts",
+            "8",
+            "--recoveries",
+            "0",
+        ],
+    )?;
+    assert!(rt; has_steps(text_of(&sink), 200_000));
+    Ok(())
+}
+
+#[test]
+fn a_run_has_64_recoveries(rt: HostRuntime) -> Result<(), Fail> {
+    let sink = printed(
+        rt.alloc(),
+        &[
+            "make",
+            "--steps",
+            "6500",
+            "--clients",
+            "64",
+            "--parts",
+            "16",
+            "--f",
+            "5",
+            "--sets",
+            "1024",
+            "--ways",
+            "16",
+            "--recoveries",
+            "64",
+        ],
+    )?;
+    assert!(rt; has_steps(text_of(&sink), 6_500));
+    Ok(())
+}
+
 #[test]
 fn the_script_of_the_default_plan(rt: HostRuntime) -> Result<(), Fail> {
     let (_, steps) = make(rt.alloc(), &MakePlan::default())?;

@@ -8,7 +8,7 @@ ghost use Rattle.curp_test_threads.specs.Lines.{IsLine};
 use curp_base::NoMemory;
 use curp_cmd::{NodeId, NodeKind};
 use curp_journal::{Arrived, Item, Named};
-use curp_merge::{GatherError, Line, merge};
+use curp_merge::{GatherError, Strand, merge};
 use curp_msg::{Body, Done, Local, Message, Step};
 use curp_same::Same;
 use std::alloc::Global;
@@ -80,7 +80,7 @@ fn is_same(a: &Named, b: &Named) -> bool {
         && a.message.same(&b.message)
 }
 
-fn merged(alloc: Global, first: Line<'_>, second: Line<'_>) -> Result<Vec<Step>, GatherError>
+fn merged(alloc: Global, first: Strand<'_>, second: Strand<'_>) -> Result<Vec<Step>, GatherError>
     requires apart { first.id ≢ second.id }
     requires first { IsLine first }
     requires second { IsLine second }
@@ -125,8 +125,8 @@ fn is_mismatch(alloc: Global, stamp: u64, epoch: u32) -> Result<bool, NoMemory>
 {
     let master = [ordered(question(alloc)?)];
     let backup = [took(alloc, stamp + 1, named(1, stamp, epoch))];
-    let master = Line::new(NodeId::master(1), &master, false);
-    let backup = Line::new(NodeId::backup(1), &backup, false);
+    let master = Strand::new(NodeId::master(1), &master, false);
+    let backup = Strand::new(NodeId::backup(1), &backup, false);
     let taken = named(1, stamp, epoch);
     Ok(is_told(merged(alloc, master, backup), &taken))
 }
@@ -172,8 +172,8 @@ fn are_crossed(alloc: Global, second: u32) -> Result<bool, NoMemory> {
         took(alloc, 2, named(2, 1, second)),
         took(alloc, 3, named(1, 1, 1)),
     ];
-    let master = Line::new(NodeId::master(1), &master, false);
-    let backup = Line::new(NodeId::backup(1), &backup, false);
+    let master = Strand::new(NodeId::master(1), &master, false);
+    let backup = Strand::new(NodeId::backup(1), &backup, false);
     Ok(are_steps(merged(alloc, backup, master), &CROSSED))
 }
 
@@ -209,8 +209,8 @@ const STOPPED: [Step; 3] = [
 fn stops_follow_their_items(rt: HostRuntime) {
     let alloc = rt.alloc();
     let master = [ordered(Vec::new(alloc))];
-    let master = Line::new(NodeId::master(1), &master, true);
-    let backup = Line::new(NodeId::backup(1), &[], true);
+    let master = Strand::new(NodeId::master(1), &master, true);
+    let backup = Strand::new(NodeId::backup(1), &[], true);
     assert!(rt; are_steps(merged(alloc, master, backup), &STOPPED));
 }
 
@@ -229,7 +229,7 @@ const BY_LINES: [Step; 3] = [
 fn equal_stamps_go_by_lines(rt: HostRuntime) {
     let alloc = rt.alloc();
     let (first, second) = ([ordered(Vec::new(alloc))], [ordered(Vec::new(alloc))]);
-    let first = Line::new(NodeId::master(2), &first, true);
-    let second = Line::new(NodeId::master(1), &second, false);
+    let first = Strand::new(NodeId::master(2), &first, true);
+    let second = Strand::new(NodeId::master(1), &second, false);
     assert!(rt; are_steps(merged(alloc, first, second), &BY_LINES));
 }

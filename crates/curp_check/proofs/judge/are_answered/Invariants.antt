@@ -2,8 +2,8 @@ use Rattle.std.proofs.Common.{take}
 use Rattle.std.specs.BTreeMap.{get}
 use Rattle.curp_base.specs.Words.{Each}
 use Rattle.curp_cmd.specs.RequestId.{id_cmp}
-use Rattle.curp_check.specs.Found.{IsAnswered}
+use Rattle.curp_check.specs.Found.{HasAnswerOfPlace}
 use Rattle.curp_check.proofs.judge.are_answered.Given as goal
 
 abbrev pub invariant-loop-event : goal.invariant-loop-event
-invariant-loop-event l = Each (IsAnswered (get id_cmp l.places) l.answers) (take l.event-index l.history)
+invariant-loop-event l = Each (HasAnswerOfPlace (get id_cmp l.places) l.answers) (take l.event-index l.history)

@@ -3,7 +3,7 @@ use Rattle.std.specs.BTreeMap.{get}
 use Rattle.curp_base.specs.Words.{Each}
 use Rattle.curp_cmd.specs.RequestId.{id_cmp}
 use Rattle.curp_cmd.specs.declared.command.Answer.{Answer}
-use Rattle.curp_check.specs.Found.{IsAnswered}
+use Rattle.curp_check.specs.Found.{HasAnswerOfPlace}
 use Rattle.curp_check.proofs.Verdicts.{answered_from_each, each_from_answered, each_from_stand, found_from_in_time, fourth_broken, in_time_from_found, is_order, second_broken, stand_from_each, third_broken}
 use Rattle.curp_check.proofs.Tests.{fails, yes}
 use Rattle.curp_check.proofs.judge.verdict_at.Goals as goal
@@ -24,7 +24,7 @@ returns-then-not-are_answered c =
     let stand = stand_from_each events order find c.requires.found (yes c.are_placed.result c.are_placed.ensures c.if-not-are_placed.false) in
     third_broken events order c.requires.invoked stand
     (λ holds. fails c.are_answered.result c.are_answered.ensures c.if-not-are_answered.true
-    (subst (λ (given : List Answer). Each (IsAnswered find given) events) (sym (c.deref.ensures.value ∙ c.in_ok-answers.ensures)) (each_from_answered events order find c.requires.found holds)))
+    (subst (λ (given : List Answer). Each (HasAnswerOfPlace find given) events) (sym (c.deref.ensures.value ∙ c.in_ok-answers.ensures)) (each_from_answered events order find c.requires.found holds)))
 
 pub returns-then-not-are_in_time : goal.returns-then-not-are_in_time
 returns-then-not-are_in_time c =
@@ -34,7 +34,7 @@ returns-then-not-are_in_time c =
     let stand = stand_from_each events order find c.requires.found (yes c.are_placed.result c.are_placed.ensures c.if-not-are_placed.false) in
     let each = yes c.are_answered.result c.are_answered.ensures c.if-not-are_answered.false in
     let answered = answered_from_each events order find c.requires.found
-    (subst (λ (given : List Answer). Each (IsAnswered find given) events) (c.deref.ensures.value ∙ c.in_ok-answers.ensures) each) in
+    (subst (λ (given : List Answer). Each (HasAnswerOfPlace find given) events) (c.deref.ensures.value ∙ c.in_ok-answers.ensures) each) in
     fourth_broken events order c.requires.invoked stand answered
     (λ holds. fails c.are_in_time.result c.are_in_time.ensures c.if-not-are_in_time.true (found_from_in_time events order find c.requires.found holds))
 
@@ -46,6 +46,6 @@ returns c =
     let stand = stand_from_each events order find c.requires.found (yes c.are_placed.result c.are_placed.ensures c.if-not-are_placed.false) in
     let each = yes c.are_answered.result c.are_answered.ensures c.if-not-are_answered.false in
     let answered = answered_from_each events order find c.requires.found
-    (subst (λ (given : List Answer). Each (IsAnswered find given) events) (c.deref.ensures.value ∙ c.in_ok-answers.ensures) each) in
+    (subst (λ (given : List Answer). Each (HasAnswerOfPlace find given) events) (c.deref.ensures.value ∙ c.in_ok-answers.ensures) each) in
     is_order events order c.requires.invoked stand answered
     (in_time_from_found events order find c.requires.found (yes c.are_in_time.result c.are_in_time.ensures c.if-not-are_in_time.false))

@@ -5,7 +5,7 @@ use Rattle.curp_cluster.proofs.marks.add_ops.Given as goal
 -- the marks so far and those of the entries that are left are all of them, and there is room
 abbrev pub invariant-loop-at : goal.invariant-loop-at
 invariant-loop-at l = record {
-  marks : l.marks.marks ++ op_marks l.node l.part l.epoch (l.index + l.at) (drop l.at l.entries) ≡ l.fn.marks.marks ++ op_marks l.node l.part l.epoch l.index l.entries;
+  marks : l.marks.marks ++ op_marks l.tenure.master l.tenure.part l.tenure.epoch (l.index + l.at) (drop l.at l.entries) ≡ l.fn.marks.marks ++ op_marks l.tenure.master l.tenure.part l.tenure.epoch l.index l.entries;
   room : length (drop l.at l.entries) ≤ l.marks.spare;
   spare : l.fn.marks.spare + length (drop l.at l.entries) ≤ l.marks.spare + length l.entries;
 }

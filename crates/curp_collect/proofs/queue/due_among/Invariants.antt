@@ -5,4 +5,4 @@ use Rattle.curp_collect.proofs.queue.due_among.Given as goal
 
 -- the due ids so far
 abbrev pub invariant-loop-id : goal.invariant-loop-id
-invariant-loop-id l = l.due.items ≡ filter (is_come_of l.waits l.synced) (take l.id-index l.order)
+invariant-loop-id l = l.due.items ≡ filter (is_come_of l.waits.items l.synced) (take l.id-index l.order)

@@ -15,30 +15,30 @@ both_ok (Err e) P Q R f p q = tt
 
 pub merge-requires : goal.merge-requires
 merge-requires c =
-    rw (c.deref.ensures.value, c.in_ok-lines.ensures.lines) (ready c.args._header.now c.args.journals.now c.requires c.in_ok-lines.ensures.replayed)
+    rw (c.deref.ensures.value, c.in_ok-strands.ensures.strands) (ready c.args._header.now c.args.journals.now c.requires c.in_ok-strands.ensures.replayed)
 
 pub returns-clause-script : goal.returns-clause-script
 returns-clause-script c =
-    let same : c.deref.result.now ≡ journals_of c.args.journals.now = c.deref.ensures.value ∙ c.in_ok-lines.ensures.lines in
+    let same : c.deref.result.now ≡ journals_of c.args.journals.now = c.deref.ensures.value ∙ c.in_ok-strands.ensures.strands in
     both_ok c.merge.result _ _ _
     (λ steps merged light.
-    scripted c.args._header.now c.args.journals.now c.requires legal_runs c.in_ok-lines.ensures.replayed steps.items
+    scripted c.args._header.now c.args.journals.now c.requires legal_runs c.in_ok-strands.ensures.replayed steps.items
     (subst (λ (ls : List Journal). weight_sent ls ≤ weight_limit) same light) (subst (λ (ls : List Journal). Merged ls steps.items) same merged))
     c.merge.ensures.merged c.merge.ensures.light
 
 pub returns-clause-counted : goal.returns-clause-counted
 returns-clause-counted c =
-    let same : c.deref.result.now ≡ journals_of c.args.journals.now = c.deref.ensures.value ∙ c.in_ok-lines.ensures.lines in
+    let same : c.deref.result.now ≡ journals_of c.args.journals.now = c.deref.ensures.value ∙ c.in_ok-strands.ensures.strands in
     subst (λ (ls : List Journal). IfOk c.merge.result (λ steps. length steps.items ≡ turn_count ls)) same c.merge.ensures.steps
 
 pub returns-clause-held : goal.returns-clause-held
 returns-clause-held c =
-    let same : c.deref.result.now ≡ journals_of c.args.journals.now = c.deref.ensures.value ∙ c.in_ok-lines.ensures.lines in
+    let same : c.deref.result.now ≡ journals_of c.args.journals.now = c.deref.ensures.value ∙ c.in_ok-strands.ensures.strands in
     subst (λ (ls : List Journal). IfOk c.merge.result (λ steps. AllHeld ls)) same c.merge.ensures.held
 
 pub returns-clause-light : goal.returns-clause-light
 returns-clause-light c =
-    let same : c.deref.result.now ≡ journals_of c.args.journals.now = c.deref.ensures.value ∙ c.in_ok-lines.ensures.lines in
+    let same : c.deref.result.now ≡ journals_of c.args.journals.now = c.deref.ensures.value ∙ c.in_ok-strands.ensures.strands in
     subst (λ (ls : List Journal). IfOk c.merge.result (λ steps. weight_sent ls ≤ weight_limit)) same c.merge.ensures.light
 
 pub returns-clause-few : goal.returns-clause-few
@@ -46,5 +46,5 @@ returns-clause-few c = both_ok c.merge.result _ _ _ (λ steps count few. omega (
 
 pub returns-clause-cause : goal.returns-clause-cause
 returns-clause-cause c =
-    let same : c.deref.result.now ≡ journals_of c.args.journals.now = c.deref.ensures.value ∙ c.in_ok-lines.ensures.lines in
+    let same : c.deref.result.now ≡ journals_of c.args.journals.now = c.deref.ensures.value ∙ c.in_ok-strands.ensures.strands in
     subst (λ (ls : List Journal). IfErr c.merge.result (IsCause ls)) same c.merge.ensures.cause

@@ -6,10 +6,9 @@ use Rattle.curp_line.proofs.Ascending.{ascend_insert, how_many_insert}
 use Rattle.curp_line.proofs.epochs.add_epoch.Goals as goal
 
 -- where it goes
-inserted : (c : goal.After-unwrap) → c.insert.new.self.items ≡ insert c.args.epochs.now.items (how_many (is_up_to c.args.added.part c.args.added.epoch) c.args.epochs.now.items) c.args.added
+inserted : (c : goal.After-insert) → c.insert.new.self.items ≡ insert c.args.epochs.now.items (how_many (is_up_to c.args.added.part c.args.added.epoch) c.args.epochs.now.items) c.args.added
 inserted c =
-    let items = rw c.unwrap.ensures at c.insert.ensures.items in
-    items ∙ ap (λ n. insert c.args.epochs.now.items n c.args.added) (c.count_up_to-gap.ensures.count ∙ ap (λ (es : List CutEpoch). how_many (is_up_to c.args.added.part c.args.added.epoch) es) c.deref.ensures.value)
+    c.insert.ensures.items ∙ ap (λ n. insert c.args.epochs.now.items n c.args.added) (c.count_up_to-gap.ensures.count ∙ ap (λ (es : List CutEpoch). how_many (is_up_to c.args.added.part c.args.added.epoch) es) c.deref.ensures.value)
 
 pub returns-clause-items : goal.returns-clause-items
 returns-clause-items c = λ test. ap (λ (es : List CutEpoch). how_many test es) (inserted c) ∙ how_many_insert test c.args.epochs.now.items _ c.args.added

@@ -12,5 +12,5 @@ loop-suspect-preserved c =
     let first : drop at all ≡ c.suspect-item.result ∷ drop (at + 1) all =
     drop_index all at c.suspect-item.result within ∙ ap (λ (r : Request). r ∷ drop (at + 1) all) (sym c.suspect-item.is)
     in
-    treats_more c.args.journal.now c.loop-suspect.journal c.args.queue.now.waiting c.loop-suspect.queue all (drop at all) (drop (at + 1) all) c.suspect-item.result
-    c.loop-suspect.invariant first c.treat.new.journal c.treat.new.queue c.treat.ensures.treated c.treat.ensures.spare
+    treats_more c.args.master_log.now c.loop-suspect.master_log c.args.queue.now.waiting c.loop-suspect.queue all (drop at all) (drop (at + 1) all) c.suspect-item.result
+    c.loop-suspect.invariant first c.treat.new.master_log c.treat.new.queue c.treat.ensures.treated c.treat.ensures.spare

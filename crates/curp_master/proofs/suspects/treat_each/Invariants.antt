@@ -4,4 +4,4 @@ use Rattle.curp_master.proofs.suspects.treat_each.Given as goal
 
 -- those that are left are treated behind the others, and there is room for them
 abbrev pub invariant-loop-suspect : goal.invariant-loop-suspect
-invariant-loop-suspect l = Treats l.fn.journal l.fn.queue.waiting l.fn.suspects l.journal l.queue (drop l.suspect-index l.suspects)
+invariant-loop-suspect l = Treats l.fn.master_log l.fn.queue.waiting l.fn.suspects l.master_log l.queue (drop l.suspect-index l.suspects)

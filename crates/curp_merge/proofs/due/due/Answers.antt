@@ -8,12 +8,12 @@ use Rattle.curp_merge.proofs.due.due.Goals.{in-Some+then-is_less, in-Some+else-i
 
 pub loop-at-preserved : goal.loop-at-preserved
 loop-at-preserved c =
-    let journals = c.args.lines.now in
+    let journals = c.args.strands.now in
     let rows = c.args.tracks.now in
     let n = c.loop-at.at in
-    let j = c.index-lines-at.result in
+    let j = c.index-strands-at.result in
     let row = c.index-tracks-at.result in
-    let stands = read_at journals n j (omega arith) c.index-lines-at.is in
+    let stands = read_at journals n j (omega arith) c.index-strands-at.is in
     let its_row = read_at rows n row (omega arith) c.index-tracks-at.is in
     let taken : c.len.result ≡ length row = c.len.ensures in
     elim c.match-next_stamp.branch [
@@ -36,7 +36,7 @@ loop-at-preserved c =
 
 pub returns-in-Some-best-clause-some : goal.returns-in-Some-best-clause-some
 returns-in-Some-best-clause-some c =
-    let journals = c.args.lines.now in
+    let journals = c.args.strands.now in
     let rows = c.args.tracks.now in
     best_is_due journals rows c.loop-at.at c.in-Some-best.at c.in-Some-best._stamp (omega arith)
     (subst (λ b. BestSoFar journals rows c.loop-at.at b) c.in-Some-best.is c.loop-at.invariant)

@@ -6,4 +6,4 @@ use Rattle.curp_merge.proofs.mismatch.first_mismatch.Given as goal
 
 -- all is held that came to the nodes so far
 abbrev pub invariant-loop-at : goal.invariant-loop-at
-invariant-loop-at l = (k : ℕ) (j : Journal) → k < l.at → At l.lines k j → ItemsHeld l.lines j.items
+invariant-loop-at l = (k : ℕ) (j : Journal) → k < l.at → At l.strands k j → ItemsHeld l.strands j.items

@@ -6,4 +6,4 @@ use Rattle.curp_merge.proofs.mismatch.mismatch_in.Given as goal
 
 -- what came by the items so far is held
 abbrev pub invariant-loop-index : goal.invariant-loop-index
-invariant-loop-index l = (t : ℕ) (item : Item) → t < l.index → At l.items t item → IsHeld l.lines item.input
+invariant-loop-index l = (t : ℕ) (item : Item) → t < l.index → At l.items t item → IsHeld l.strands item.input

@@ -8,7 +8,7 @@ use Rattle.curp_merge.proofs.step.next_step.Goals as goal
 
 pub returns-clause-names : goal.returns-clause-names
 returns-clause-names c =
-    let j = c.args.line.now in
+    let j = c.args.strand.now in
     let taken = c.args.taken in
     let item = c.index-items-taken.result in
     let many = ap (λ items. length items) c.items-items.ensures in
@@ -19,4 +19,4 @@ returns-clause-names c =
     ] in
     let read = read_at c.items-items.result.now taken item below c.index-items-taken.is in
     let at : At j.items taken item = subst (λ items. At items taken item) c.items-items.ensures read in
-    subst (λ turn. IfSome turn (λ turn. NamesTurn c.args.lines.now c.args.tracks.now turn c.step_of.result)) (sym (turn_of_item j taken item at)) c.step_of.ensures.names
+    subst (λ turn. IfSome turn (λ turn. NamesTurn c.args.strands.now c.args.tracks.now turn c.step_of.result)) (sym (turn_of_item j taken item at)) c.step_of.ensures.names

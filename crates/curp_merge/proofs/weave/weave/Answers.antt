@@ -6,7 +6,7 @@ use Rattle.curp_merge.proofs.weave.weave.Goals as goal
 
 pub loop-at-init : goal.loop-at-init
 loop-at-init c =
-    let journals = c.args.lines.now in
+    let journals = c.args.strands.now in
     let rows = c.in_ok-tracks.tracks.items in
     let empty = c.in_ok-tracks.ensures in
     record {
@@ -16,5 +16,5 @@ loop-at-init c =
 
 pub returns : goal.returns
 returns c =
-    woven_whole c.args.lines.now c.loop-at.tracks.items c.loop-at.steps.items c.loop-at.next c.loop-at.invariant.woven c.loop-at.invariant.lengths
-    (subst (λ (rs : List (List ℕ)). NoneLeft c.args.lines.now rs) c.deref.ensures.value c.in_default.ensures.none)
+    woven_whole c.args.strands.now c.loop-at.tracks.items c.loop-at.steps.items c.loop-at.next c.loop-at.invariant.woven c.loop-at.invariant.lengths
+    (subst (λ (rs : List (List ℕ)). NoneLeft c.args.strands.now rs) c.deref.ensures.value c.in_default.ensures.none)

@@ -1,4 +1,4 @@
-use Rattle.std.proofs.Common.{rules, ◌≡◌, ◌+◌, ◌<◌, ◌≤◌, length, get_or, sym, ap, ◌∙◌, arith}
+use Rattle.std.proofs.Common.{◌≡◌, ◌+◌, ◌<◌, ◌≤◌, length, get_or, sym, ap, ◌∙◌, arith}
 use Rattle.std.proofs.lemmas.List.{get_or_default}
 use Rattle.curp_range.proofs.Ascending.{ends}
 use Rattle.curp_range.proofs.Joins.{IsJoined, joining_more, joining_all}
@@ -12,12 +12,11 @@ met-preserved c =
     let front : c.remove-met.result.0 ≤ c.met.last + 1 = omega (arith, ap (λ s. s.0) read) in
     record {
       joining = rw (c.remove-met.ensures.items, c.min-first.ensures, c.max-last.ensures) (joining_more _ _ _ _ _ _ _ _ c.met.invariant.joining within c.remove-met.ensures.value front);
-      len = omega arith;
-      capacity = search rules;
+      spare = omega arith;
     }
 
 -- the loop ends at the end of the spans, or at a span that lies apart. The last hash of all has none behind it
-next : (c : goal.After-unwrap) → c.ended_before-at.result < length c.met.spans.items → c.met.last + 1 < (get_or c.met.spans.items c.ended_before-at.result (0, 0)).0
+next : (c : goal.After-insert) → c.ended_before-at.result < length c.met.spans.items → c.met.last + 1 < (get_or c.met.spans.items c.ended_before-at.result (0, 0)).0
 next c within = elim c.met-test.branch [
   | then-met-test+else-index-saturating_add w ↦
       let bounds = ends 0 _ _ c.ended_before-at.result (0, 0) c.met.invariant.joining.ascend within in
@@ -25,8 +24,8 @@ next c within = elim c.met-test.branch [
   | else-met-test w ↦ absurd (omega arith)
 ]
 
-joined : (c : goal.After-unwrap) → IsJoined c.args.spans.now.items c.args.lo c.args.hi c.insert.new.self.items
-joined c = rw (c.insert.ensures.items, c.unwrap.ensures) (joining_all _ _ _ _ _ _ _ (0, 0) c.met.invariant.joining (next c))
+joined : (c : goal.After-insert) → IsJoined c.args.spans.now.items c.args.lo c.args.hi c.insert.new.self.items
+joined c = rw c.insert.ensures.items (joining_all _ _ _ _ _ _ _ (0, 0) c.met.invariant.joining (next c))
 
 pub returns-clause-ascend : goal.returns-clause-ascend
 returns-clause-ascend c = (joined c).ascend

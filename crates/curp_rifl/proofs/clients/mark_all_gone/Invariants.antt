@@ -1,7 +1,6 @@
-use Rattle.std.proofs.Common.{◌≡◌, ◌+◌, ◌≤◌, drop, fold, vec_len, vec_capacity}
+use Rattle.std.proofs.Common.{◌≡◌, ◌+◌, ◌≤◌, drop, fold}
 use Rattle.std.specs.BTreeSet.{insert_key}
 use Rattle.std.specs.Ordering.{nat_cmp}
-use Rattle.curp_base.specs.Words.{KeysAscend}
 use Rattle.curp_rifl.specs.Clients.{firsts_of, gone_of}
 use Rattle.curp_rifl.proofs.clients.mark_all_gone.Given as goal
 
@@ -10,7 +9,5 @@ abbrev pub invariant-loop-client : goal.invariant-loop-client
 invariant-loop-client l = record {
   firsts : firsts_of l.clients.items ≡ firsts_of l.fn.clients.items;
   gone : fold (insert_key nat_cmp) (gone_of l.clients.items) (drop l.client-index l.gone) ≡ fold (insert_key nat_cmp) (gone_of l.fn.clients.items) l.gone;
-  ascend : KeysAscend nat_cmp l.clients.items;
-  len : vec_len l.clients ≤ vec_len l.fn.clients + l.client-index;
-  capacity : vec_capacity l.clients ≡ vec_capacity l.fn.clients;
+  spare : l.fn.clients.spare ≤ l.clients.spare + l.client-index;
 }

@@ -1,6 +1,4 @@
-use Rattle.std.proofs.Common.{◌≡◌, ◌+◌, ◌≤◌, drop, vec_len, vec_capacity}
-use Rattle.std.specs.Ordering.{nat_cmp}
-use Rattle.curp_base.specs.Words.{KeysAscend}
+use Rattle.std.proofs.Common.{◌≡◌, ◌+◌, ◌≤◌, drop}
 use Rattle.curp_rifl.specs.Clients.{firsts_of, gone_of}
 use Rattle.curp_rifl.specs.Records.{with_firsts}
 use Rattle.curp_rifl.proofs.clients.raise_firsts.Given as goal
@@ -10,7 +8,5 @@ abbrev pub invariant-loop-client : goal.invariant-loop-client
 invariant-loop-client l = record {
   firsts : with_firsts (firsts_of l.clients.items) (drop l.client-index l.raised) ≡ with_firsts (firsts_of l.fn.clients.items) l.raised;
   gone : gone_of l.clients.items ≡ gone_of l.fn.clients.items;
-  ascend : KeysAscend nat_cmp l.clients.items;
-  len : vec_len l.clients ≤ vec_len l.fn.clients + l.client-index;
-  capacity : vec_capacity l.clients ≡ vec_capacity l.fn.clients;
+  spare : l.fn.clients.spare ≤ l.clients.spare + l.client-index;
 }

@@ -4,5 +4,5 @@ use Rattle.curp_slots.specs.Register.{held_by}
 use Rattle.curp_slots.proofs.register.suspects_at.Given as goal
 
 -- the suspects so far
-abbrev pub invariant-loop-place : goal.invariant-loop-place
-invariant-loop-place l = l.suspects.items ≡ suspected_of (what_remains l.listed (held_by l.kept (take l.place-index l.index)))
+abbrev pub invariant-loop-id : goal.invariant-loop-id
+invariant-loop-id l = l.suspects.items ≡ suspected_of (what_remains l.listed (held_by l.kept (take l.id-index l.index)))

@@ -1,9 +1,9 @@
-use Rattle.std.proofs.Common.{◌≡◌, ◌+◌, ◌≤◌, ◌∙◌, ◌++◌, List, length, cond, Some, ap, sym, arith}
+use Rattle.std.proofs.Common.{◌≡◌, ◌+◌, ◌∙◌, ◌++◌, List, length, cond, Some, ap, sym, arith}
 use Rattle.curp_tail.specs.declared.tail.Moved.{Moved}
 use Rattle.curp_tail.specs.declared.tail.TailEntry.{TailEntry}
 use Rattle.curp_tail.specs.Tail.{touched_of}
 use Rattle.curp_tail.specs.Kept.{last_with, moved_of, names, ranges_in}
-use Rattle.curp_tail.proofs.Kept.{last_push, one_longer, ranges_longer, ranges_push}
+use Rattle.curp_tail.proofs.Kept.{last_push, one_longer, ranges_push}
 use Rattle.curp_tail.proofs.Tails.{added_more}
 use Rattle.curp_tail.proofs.tail.keep_all.Goals as goal
 
@@ -14,7 +14,6 @@ pub loop-at-preserved : goal.loop-at-preserved
 loop-at-preserved c =
     let e = added_of c in
     let more : length c.keep.new.kept.items ≡ length c.loop-at.kept.items + 1 = ap (λ (es : List TailEntry). length es) c.keep.ensures.items ∙ one_longer c.loop-at.kept.items e in
-    let more_ranges : length c.keep.new.ranges.items ≤ length c.loop-at.ranges.items + 1 = rw c.keep.ensures.ranges (ranges_longer c.loop-at.ranges.items e.index e.touched) in
     record {
       added =
           c.keep.ensures.items
@@ -30,10 +29,9 @@ loop-at-preserved c =
           ∙ sym (ranges_push c.loop-at.kept.items e)
           ∙ ap (λ (es : List TailEntry). ranges_in es) (sym c.keep.ensures.items);
       kept_room = omega (arith, more, c.keep.ensures.kept_capacity, c.loop-at.invariant.kept_room);
-      ranges_room = omega (arith, more_ranges, c.keep.ensures.ranges_capacity, c.loop-at.invariant.ranges_room);
+      ranges_room = omega (arith, c.keep.ensures.ranges_spare, c.loop-at.invariant.ranges_room);
       lasts_room = omega (arith, c.keep.ensures.lasts_spare, c.loop-at.invariant.lasts_room);
       kept_capacity = c.keep.ensures.kept_capacity ∙ c.loop-at.invariant.kept_capacity;
-      ranges_capacity = c.keep.ensures.ranges_capacity ∙ c.loop-at.invariant.ranges_capacity;
-      ranges_longer = omega (arith, more_ranges, c.loop-at.invariant.ranges_longer);
+      ranges_spare = omega (arith, c.keep.ensures.ranges_spare, c.loop-at.invariant.ranges_spare);
       lasts_spare = omega (arith, c.keep.ensures.lasts_spare, c.loop-at.invariant.lasts_spare);
     }

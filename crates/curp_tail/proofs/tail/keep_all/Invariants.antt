@@ -1,4 +1,4 @@
-use Rattle.std.proofs.Common.{◌≡◌, ◌+◌, ◌-◌, ◌*◌, ◌≤◌, ◌++◌, length, take, nat_eq, vec_capacity}
+use Rattle.std.proofs.Common.{◌≡◌, ◌+◌, ◌-◌, ◌*◌, ◌≤◌, ◌++◌, length, take, nat_eq}
 use Rattle.std.specs.HashMap.{get, spare}
 use Rattle.std.specs.VecDeque.{deque_capacity}
 use Rattle.curp_tail.specs.Tail.{tail_from}
@@ -12,10 +12,9 @@ invariant-loop-at l = record {
   lasts : LastsAre (get nat_eq l.lasts) l.kept.items;
   ranges_are : l.ranges.items ≡ ranges_in l.kept.items;
   kept_room : length l.kept.items + (length l.entries - l.at) ≤ deque_capacity l.kept;
-  ranges_room : length l.ranges.items + (length l.entries - l.at) ≤ vec_capacity l.ranges;
+  ranges_room : length l.entries - l.at ≤ l.ranges.spare;
   lasts_room : 4 * (length l.entries - l.at) ≤ spare l.lasts;
   kept_capacity : deque_capacity l.kept ≡ deque_capacity l.initial.kept;
-  ranges_capacity : vec_capacity l.ranges ≡ vec_capacity l.initial.ranges;
-  ranges_longer : length l.ranges.items ≤ length l.initial.ranges.items + l.at;
+  ranges_spare : l.initial.ranges.spare ≤ l.ranges.spare + l.at;
   lasts_spare : spare l.initial.lasts ≤ spare l.lasts + 4 * l.at;
 }

@@ -7,4 +7,4 @@ pub returns : goal.returns
 returns c =
     rw (← c.self.view_is)
     (subst (λ (ids : List RequestId). IfOk c.due_among.result (λ due. due.items ≡ ids)) (due_is c.self.inside.order.items c.self.inside.waits.items c.self.invariant c.args.synced)
-    (rw (c.deref.ensures.value, c.deref-2.ensures.value) at c.due_among.ensures))
+    (rw c.deref.ensures.value at c.due_among.ensures))

@@ -1,6 +1,6 @@
 use Rattle.std.proofs.Common.{◌≡◌, List, [], length, ap, ◌∙◌}
 use Rattle.curp_model.specs.Master.{Acknowledged, Open}
-use Rattle.curp_master.specs.Journal.{journal_of}
+use Rattle.curp_master.specs.MasterLog.{kept_log_of}
 use Rattle.curp_rounds.specs.Backups.{all_at, all_set}
 use Rattle.curp_rounds.proofs.Acks.{set_at}
 use Rattle.curp_master.proofs.master.Master.begin.Goals as goal
@@ -9,7 +9,7 @@ pub returns-clause-state : goal.returns-clause-state
 returns-clause-state c =
     let its = c.shell.view_is in
     let round = c.args.round in
-    let kept : c.new.result.kept ≡ journal_of c.args.log c.least_length-synced.result [] = c.new.ensures in
+    let kept : c.new.result.kept ≡ kept_log_of c.args.log c.least_length-synced.result [] = c.new.ensures in
     let long : c.len-settled.result ≡ length c.args.log.entries = c.len-settled.ensures.value in
     let all : c.set_all.new.all.items ≡ all_at c.args.shell.backups (length c.args.log.entries) round =
     c.set_all.ensures

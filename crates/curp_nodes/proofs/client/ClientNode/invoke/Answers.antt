@@ -2,7 +2,7 @@ use Rattle.std.proofs.Common.{ap, sym, ◌∙◌, rules}
 use Rattle.curp_model.specs.Client.{ClientState, invoke}
 use Rattle.curp_msg.specs.Moved.{Node, numbered_move, refuses_within}
 use Rattle.curp_nodes.specs.Refusals.{invoke_refuses}
-use Rattle.curp_nodes.proofs.Told.{tells_moves}
+use Rattle.curp_config.proofs.Told.{tells_moves}
 use Rattle.curp_nodes.proofs.client.ClientNode.invoke.Goals as goal
 use Rattle.curp_nodes.proofs.client.ClientNode.invoke.Goals.{in-Ok, in-Err}
 

@@ -12,7 +12,7 @@ pub returns-clause-table : goal.returns-clause-table
 returns-clause-table c =
     let before : Table = record { records = c.self.inside.records.items; firsts = firsts_of c.self.inside.clients.items; gone = gone_of c.self.inside.clients.items } in
     let new : check before c.args.id ≡ New = subst (λ (s : StoredTable). check s.table c.args.id ≡ New) (sym c.self.view_is) c.requires.new in
-    let done : c.put_once.new.pairs.items ≡ (note before c.args.id c.args.answer c.args.index).records =
+    let done : c.put_once.new.self.items ≡ (note before c.args.id c.args.answer c.args.index).records =
     c.put_once.ensures.items ∙ noted before c.args.id c.new.result c.args.answer c.args.index c.new.ensures.answer c.new.ensures.index new in
     rw (← c.self.view_is)
     (λ i. record {

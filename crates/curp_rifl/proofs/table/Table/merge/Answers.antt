@@ -17,7 +17,7 @@ returns-clause-table c =
     rw (← c.raise_firsts.ensures.gone, ← c.as_slice-3.ensures.value) c.mark_all_gone.ensures.gone in
     let kept : c.keep_of_use.new.records.items
     ≡ filter (λ (e : Record). is_of_use (clients_alone c.mark_all_gone.new.clients.items) e.0) c.add_records.new.records.items =
-    rw (← c.deref.ensures.value) c.keep_of_use.ensures.items in
+    c.keep_of_use.ensures.items in
     rw (← c.self.view_is)
     ((λ i. record { records = kept i; firsts = firsts_of c.mark_all_gone.new.clients.items; gone = gone_of c.mark_all_gone.new.clients.items })
     ∙ (λ i. of_use (record { records = records i; firsts = firsts i; gone = gone i }))

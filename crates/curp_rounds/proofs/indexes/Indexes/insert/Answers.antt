@@ -8,12 +8,12 @@ use Rattle.curp_rounds.proofs.indexes.Indexes.insert.Goals as goal
 pub invariant_of-self : goal.invariant_of-self
 invariant_of-self c =
     let between : IsBetween c.self.inside.numbers.items c.args.index c.in-Err.at = rw (← c.deref.ensures.value) c.in-Err.ensures.absent in
-    rw (c.insert.ensures.items, c.unwrap.ensures) (rise_put c.self.inside.numbers.items c.args.index c.in-Err.at c.self.invariant between)
+    rw c.insert.ensures.items (rise_put c.self.inside.numbers.items c.args.index c.in-Err.at c.self.invariant between)
 
 pub returns-in-Err : goal.returns-in-Err
 returns-in-Err c =
     let between : IsBetween c.self.inside.numbers.items c.args.index c.in-Err.at = rw (← c.deref.ensures.value) c.in-Err.ensures.absent in
-    rw (c.insert.ensures.items, c.unwrap.ensures) (put_between c.self.inside.numbers.items c.args.index c.in-Err.at between)
+    rw c.insert.ensures.items (put_between c.self.inside.numbers.items c.args.index c.in-Err.at between)
     ∙ ap (λ i. insert_key nat_cmp i.numbers c.args.index) c.self.view_is
 
 -- it was there

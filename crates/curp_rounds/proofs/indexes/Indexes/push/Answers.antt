@@ -5,4 +5,4 @@ use Rattle.curp_rounds.proofs.indexes.Indexes.push.Goals as goal
 
 pub invariant_of-self : goal.invariant_of-self
 invariant_of-self c =
-    rw c.push_reserved.ensures.items (rise_push c.self.inside.numbers.items c.args.index c.self.invariant (rw (ap (λ (i : IndexList). i.numbers) c.self.view_is) c.requires.last))
+    rw c.push.ensures.items (rise_push c.self.inside.numbers.items c.args.index c.self.invariant (rw (ap (λ (i : IndexList). i.numbers) c.self.view_is) c.requires.last))

@@ -5,7 +5,7 @@ use Rattle.curp_rounds.proofs.indexes.Indexes.remove_below.Goals as goal
 
 pub invariant_of-self : goal.invariant_of-self
 invariant_of-self c =
-    rw (c.drop-drain.ensures.items, c.drain.ensures.kept)
+    rw c.drop_run.ensures.items
     (IsNonDecreasingBy-drop (λ n. n) c.partition_point-count.result c.self.inside.numbers.items c.self.invariant)
 
 pub returns : goal.returns
@@ -15,5 +15,5 @@ returns c =
     (rw c.deref.ensures.value (IsPartitionedBy-ltb (λ n. n) c.self.inside.numbers.items c.args.limit c.self.invariant)) (λ a r f called. search rules)
     in
     rw (← c.self.view_is)
-    (c.drop-drain.ensures.items ∙ c.drain.ensures.kept
+    (c.drop_run.ensures.items
     ∙ rest_not_below c.self.inside.numbers.items c.args.limit c.partition_point-count.result (rw c.deref.ensures.value at point))
