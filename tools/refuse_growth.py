@@ -1,0 +1,118 @@
+#!/usr/bin/env python3
+"""Refuses each growth of memory in turn, in runs of the program, and looks at what comes of it.
+
+    tools/refuse_growth.py CURP       CURP is the program, as `rt run` in crates/curp leaves it in crates/curp/out/curp
+
+For each row it runs the program once for each call of the allocator, with that call refused: by a small library that
+stands before the C library's allocator, and refuses its call of one number (it is compiled by cc). Each run has to end
+with status 6 (out of memory), with a front of the row's output; where a refusal is made good (as by a smaller growth, or
+in the C library itself), with the row's own status and output. It prints a table, and ends with 1 where a run did
+anything else. Runs on threads aren't among these: where a thread finds no memory, `live` may stand still.
+"""
+
+import os
+import subprocess
+import sys
+import tempfile
+from pathlib import Path
+
+TOP = Path(__file__).resolve().parent.parent
+
+SHIM = r"""
+#define _GNU_SOURCE
+#include <dlfcn.h>
+#include <errno.h>
+#include <stdatomic.h>
+#include <stddef.h>
+#include <stdlib.h>
+
+extern void *__libc_malloc(size_t);
+extern void *__libc_calloc(size_t, size_t);
+extern void *__libc_realloc(void *, size_t);
+extern void *__libc_memalign(size_t, size_t);
+
+static atomic_long calls;
+static long refused = -1;
+
+static int refuses(void) {
+    if (refused == -1) {
+        const char *text = getenv("REFUSED_CALL");
+        refused = text ? atol(text) : 0;
+    }
+    if (atomic_fetch_add(&calls, 1) + 1 != refused) return 0;
+    errno = ENOMEM;
+    return 1;
+}
+
+void *malloc(size_t size) { return refuses() ? NULL : __libc_malloc(size); }
+void *calloc(size_t count, size_t size) { return refuses() ? NULL : __libc_calloc(count, size); }
+void *realloc(void *old, size_t size) { return refuses() ? NULL : __libc_realloc(old, size); }
+void *memalign(size_t align, size_t size) { return refuses() ? NULL : __libc_memalign(align, size); }
+void *aligned_alloc(size_t align, size_t size) { return refuses() ? NULL : __libc_memalign(align, size); }
+int posix_memalign(void **to, size_t align, size_t size) {
+    if (refuses()) return ENOMEM;
+    *to = __libc_memalign(align, size);
+    return *to ? 0 : ENOMEM;
+}
+"""
+
+PLAYED = ["retry-after-recovery", "migration-there-and-back", "recovery-replays", "replace-a-witness"]
+MOST = 20_000
+
+
+def shim_in(folder):
+    """The library that refuses a call, compiled."""
+    source, library = folder / "refuse.c", folder / "refuse.so"
+    source.write_text(SHIM)
+    subprocess.run(["cc", "-O1", "-shared", "-fPIC", "-o", library, source], check=True)
+    return library
+
+
+def run(curp, words, script, library, call):
+    """The status and the output of one run, with that call refused."""
+    settings = {"LD_PRELOAD": str(library), "REFUSED_CALL": str(call)}
+    child = subprocess.run([curp, *words], input=script, capture_output=True, env=settings, timeout=60)
+    return child.returncode, child.stdout, child.stderr
+
+
+def look_at(name, curp, words, script, library):
+    """Refuses each call in turn until none is left, and tells what came of it."""
+    status, whole, _ = run(curp, words, script, library, 0)
+    refused = last = 0
+    statuses, faults = {}, []
+    for call in range(1, MOST):
+        ended, out, err = run(curp, words, script, library, call)
+        statuses[ended] = statuses.get(ended, 0) + 1
+        is_whole = ended == status and out == whole
+        is_cut = ended == 6 and whole.startswith(out) and err == b"curp: out of memory\n"
+        if is_cut:
+            refused += 1
+            last = call
+        elif not is_whole:
+            faults.append((call, ended, err))
+        if is_whole and call > 2 * last + 64:
+            break
+    told = ", ".join(f"{status}: {count}" for status, count in sorted(statuses.items()))
+    print(f"| {name} | {call} | {refused} | {told} |", flush=True)
+    for call, ended, err in faults[:10]:
+        print(f"  call {call}: status {ended}, {err!r}")
+    return not faults
+
+
+def main():
+    if len(sys.argv) != 2:
+        sys.exit(__doc__)
+    curp = os.path.abspath(sys.argv[1])
+    print("| row | calls refused | ended by it, with a front of the output | statuses |")
+    print("|---|---|---|---|")
+    with tempfile.TemporaryDirectory() as folder:
+        library = shim_in(Path(folder))
+        good = True
+        for name in PLAYED:
+            script = (TOP / "examples" / f"{name}.script").read_bytes()
+            good &= look_at(name, curp, ["play"], script, library)
+    sys.exit(0 if good else 1)
+
+
+if __name__ == "__main__":
+    main()
