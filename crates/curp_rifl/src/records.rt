@@ -1,5 +1,5 @@
 //! The records of requests that are done, in ascending order of the ids, so that those of a client stand together.
-ghost use Rattle.std.specs.Prelude.{◌≡◌, ◌+◌, ◌==◌, ◌≤◌, true, false, not, length, map, IfOk};
+ghost use Rattle.std.specs.Prelude.{◌≡◌, ◌+◌, ◌==◌, ◌≤◌, ◌++◌, true, false, not, drop, length, map, take, IfOk};
 ghost use Rattle.std.specs.List.{filter};
 ghost use Rattle.std.specs.List.Sorted.{IsPartitionPoint};
 ghost use Rattle.curp_base.specs.Words.{KeysAscend};
@@ -47,6 +47,18 @@ fn count_before_first(records: &[(RequestId, NotedAnswer)], client: u32, first: 
     })
 }
 
+/// Drops the records from one place up to another. Where there are none between them, no record is moved.
+fn drop_run(records: &mut ReservedPairs<RequestId, NotedAnswer>, start: usize, end: usize)
+    requires ordered { start ≤ end }
+    requires within { end ≤ length records.old.items }
+    ensures items { records.new.items ≡ take start records.old.items ++ drop end records.old.items }
+    ensures spare { records.old.spare ≤ records.new.spare }
+{
+    if start < end {
+        records.drop_run(start, end);
+    }
+}
+
 /// Drops the client's records below that number.
 pub fn drop_below(records: &mut ReservedPairs<RequestId, NotedAnswer>, client: u32, first: u32)
     ensures items { records.new.items ≡ filter (λ e. not (is_below client first e.0)) records.old.items }
@@ -54,7 +66,7 @@ pub fn drop_below(records: &mut ReservedPairs<RequestId, NotedAnswer>, client: u
 {
     let start = count_before(records.as_slice(), client);
     let end = count_before_first(records.as_slice(), client, first);
-    records.drop_run(start, end);
+    drop_run(records, start, end);
 }
 
 /// Drops all records of the client.
@@ -64,7 +76,7 @@ pub fn drop_client(records: &mut ReservedPairs<RequestId, NotedAnswer>, client: 
 {
     let start = count_before(records.as_slice(), client);
     let end = count_up_to(records.as_slice(), client);
-    records.drop_run(start, end);
+    drop_run(records, start, end);
 }
 
 /// Adds the records whose ids have none, as those of the entry with that index. It takes no memory.
