@@ -220,6 +220,16 @@ frame_again m frame rest f =
     ∙ ap (λ (r : Result Message FrameError). r >>= λ m. okay (m, 4 + n)) front
     ∙ ap (λ (k : ℕ). okay (m, k)) (sym (frame_length m frame f))
 
+-- no frame begins another
+pub one_frame : (a b : Message) (of_a of_b after_a after_b : List ℕ) → Frame a of_a → Frame b of_b → of_a ++ after_a ≡ of_b ++ after_b → (a ≡ b) × (of_a ≡ of_b) × (after_a ≡ after_b)
+one_frame a b of_a of_b after_a after_b f g e =
+    let both = okay_is (a, length of_a) (b, length of_b) (sym (frame_again a of_a after_a f) ∙ ap frame_in e ∙ frame_again b of_b after_b g) in
+    let long : length of_a ≡ length of_b = ap (λ (p : Message × ℕ). p.1) both in (
+      ap (λ (p : Message × ℕ). p.0) both,
+      sym (take_at of_a after_a (length of_a) refl) ∙ ap (take (length of_a)) e ∙ take_at of_b after_b (length of_a) (sym long),
+      sym (drop_at of_a after_a (length of_a) refl) ∙ ap (drop (length of_a)) e ∙ drop_at of_b after_b (length of_a) (sym long),
+    )
+
 -- the same of bytes that are cut behind the length
 pub framed_at : (bytes : List ℕ) (n : ℕ) → 4 ≤ length bytes → n ≡ from_be_bytes w32 (take 4 bytes) → 11 ≤ n → n ≤ content_limit → n ≤ length (drop 4 bytes) → frame_in bytes ≡ (message_in (take n (drop 4 bytes)) >>= λ m. okay (m, 4 + n))
 framed_at bytes n four is least most long =

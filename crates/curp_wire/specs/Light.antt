@@ -17,6 +17,8 @@ use Rattle.curp_msg.specs.declared.answer.Reason.{Reason}
 use Rattle.curp_msg.specs.declared.answer.Reason.TheVariants as reason
 use Rattle.curp_msg.specs.declared.body.Body.{Body}
 use Rattle.curp_msg.specs.declared.body.Body.TheVariants as body
+use Rattle.curp_msg.specs.declared.body.Recover.{Recover}
+use Rattle.curp_msg.specs.declared.config.Config.{Config}
 use Rattle.curp_msg.specs.declared.config.PartConfig.{PartConfig}
 use Rattle.curp_msg.specs.declared.message.Message.{Message}
 
@@ -62,6 +64,13 @@ are_light_nodes nodes = nat_le (length nodes) node_limit && list_all is_node nod
 abbrev pub is_light_part : PartConfig → Bool
 is_light_part part = is_node part.master && are_light_nodes part.backups && are_light_nodes part.witnesses
 
+abbrev pub is_light_config : Config → Bool
+is_light_config config = nat_le (length config.parts) part_limit && list_all is_light_part config.parts
+
+abbrev pub is_light_recover : Recover → Bool
+is_light_recover recover =
+    is_node recover.backup && is_node recover.witness && are_light_nodes recover.backups && are_light_nodes recover.witnesses
+
 abbrev pub is_light_reason : Reason → Bool
 is_light_reason (reason.Conflict held) = is_light_id held
 is_light_reason _ = true
@@ -80,7 +89,7 @@ is_light_body (body.Update ask) = is_light_request ask.request
 is_light_body (body.Sync ask) = is_light_request ask.request
 is_light_body (body.Read ask) = is_light_request ask.request
 is_light_body (body.Record r) = is_light_request r.request
-is_light_body (body.Configuration config) = nat_le (length config.parts) part_limit && list_all is_light_part config.parts
+is_light_body (body.Configuration config) = is_light_config config
 is_light_body (body.Reply reply) = is_light_id reply.id
 is_light_body (body.Worth worth) = is_light_id worth.id
 is_light_body (body.Refuse refuse) = is_light_id refuse.id
@@ -89,8 +98,7 @@ is_light_body (body.Rejected rejected) = is_light_id rejected.id && is_light_rea
 is_light_body (body.Append append) = list_all is_light_entry append.entries
 is_light_body (body.Gc gc) = list_all is_light_id gc.ids
 is_light_body (body.Collected collected) = is_light_collection collected.answer
-is_light_body (body.Recover recover) =
-    is_node recover.backup && is_node recover.witness && are_light_nodes recover.backups && are_light_nodes recover.witnesses
+is_light_body (body.Recover recover) = is_light_recover recover
 is_light_body (body.FenceAnswer answer) = is_light_reply answer.answer
 is_light_body (body.FrozenAnswer requests) = list_all is_light_request requests
 is_light_body (body.Prepare prepare) = are_light_nodes prepare.backups && are_light_nodes prepare.witnesses

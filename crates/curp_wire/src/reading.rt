@@ -4,8 +4,8 @@ ghost use Rattle.std.specs.Int.{w32, from_be_bytes};
 ghost use Rattle.curp_msg.specs.declared.message.Message.{Message};
 ghost use Rattle.curp_wire.specs.Frame.{Frame, content_limit, frame_in, message_in};
 
-use crate::CONTENT_LIMIT;
 use crate::error::FrameError;
+use crate::limits::CONTENT_LIMIT;
 use crate::message::{is_tag, read_message};
 use curp_items::Reader;
 use curp_msg::Message;

@@ -1,0 +1,10 @@
+//! Laws of frames. Each is the contract of a function that does nothing: a caller has it by calling that function.
+ghost use Rattle.std.specs.Prelude.{◌≡◌, ◌++◌, ℕ, List};
+ghost use Rattle.curp_msg.specs.declared.message.Message.{Message};
+ghost use Rattle.curp_wire.specs.Frame.{Frame};
+
+/// No frame begins another's: so a message that was written is read back, whatever follows its frame.
+pub fn no_frame_begins_another()
+    ensures { (a b : Message) (of_a of_b after_a after_b : List ℕ) → Frame a of_a → Frame b of_b
+        → of_a ++ after_a ≡ of_b ++ after_b → (a ≡ b) × (of_a ≡ of_b) × (after_a ≡ after_b) }
+{}
