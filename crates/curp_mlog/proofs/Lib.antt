@@ -1,0 +1,13 @@
+pub mod Deciding
+pub mod Gates
+pub mod Going
+pub mod Headers
+pub mod OrderSpellings
+pub mod Parsing
+pub mod Reading
+pub mod Running
+pub mod Settling
+pub mod Spellings
+pub mod Stopping
+pub mod Unique
+pub mod Walking
