@@ -1,5 +1,5 @@
 #!/usr/bin/env python3
-"""Makes the specs of crates/curp_rows, and the table of the tests of crates/curp_test_texts, out of the examples in this folder.
+"""Makes the specs of crates/curp_rows, and the table of the tests of crates/curp_test_runs, out of the examples in this folder.
 
 An example is NAME.script, a header and steps, a JSON line each, and NAME.out, all that `curp play` writes for it. Its
 spec has the header and the steps as terms, and the output as lines. specs/Lib.antt, which names all specs, is made too.
@@ -18,7 +18,7 @@ from pathlib import Path
 
 EXAMPLES = Path(__file__).resolve().parent
 SPECS = EXAMPLES.parent / "crates" / "curp_rows" / "specs"
-TABLE = EXAMPLES.parent / "crates" / "curp_test_texts" / "src" / "examples" / "rows.rt"
+TABLE = EXAMPLES.parent / "crates" / "curp_test_runs" / "src" / "examples" / "rows.rt"
 MADE = "-- Made by examples/to_specs.py"
 USES = {
     "Example": "use Rattle.curp_rows.specs.Example.{Example, lines}",
@@ -163,7 +163,7 @@ def row_of(script):
 
 
 def table_made():
-    """The table of the tests of crates/curp_test_texts, as one text."""
+    """The table of the tests of crates/curp_test_runs, as one text."""
     rows = "".join(row_of(script) for script in sorted(EXAMPLES.glob("*.script")))
     head = f"// Made by examples/{Path(__file__).name}: a row for each example. The line feed behind its script is none of it."
     return f'{head}\npub(crate) const ROWS: &str = r#"{rows}"#;\n'

@@ -3,13 +3,14 @@
 
     tools/limits.py CURP       CURP is the program, as `rt run` in crates/curp leaves it in crates/curp/out/curp
 
-Each run has to end with the status and the line on standard error that its row names. It prints a table, and ends with 1
+Each run has to end with the status and the first line on standard error that its row names. It prints a table, and ends with 1
 where a run ended otherwise.
 """
 
 import os
 import pty
 import resource
+import select
 import subprocess
 import sys
 import tempfile
@@ -95,6 +96,28 @@ def folder_as_input(curp):
         os.close(folder)
 
 
+def line_by_line(curp):
+    """The text of each step has to come before the next line is sent."""
+    with tempfile.TemporaryFile() as error:
+        child = subprocess.Popen(
+            [curp, "play"], stdin=subprocess.PIPE, stdout=subprocess.PIPE, stderr=error, bufsize=0
+        )
+        child.stdin.write(f"{HEADER}\n".encode())
+        for step in range(1, 9):
+            child.stdin.write(f"{INVOKE}\n".encode())
+            told = [child.stdout.readline() for _ in range(3)] if select.select([child.stdout], [], [], 10)[0] else []
+            if told[:1] != [f"s{step} done\n".encode()]:
+                child.kill()
+                break
+        child.stdin.close()
+        child.stdout.read()
+        return ended(child, error)
+
+
+def wrong_words(curp):
+    return run(curp, ["play", "make"], stdin=subprocess.DEVNULL, stdout=subprocess.DEVNULL)
+
+
 def terminal(curp):
     ours, theirs = pty.openpty()
     with tempfile.TemporaryFile() as error:
@@ -118,6 +141,8 @@ ROWS = [
     ("standard input closed", closed_input, 4, "curp: reading failed\n"),
     ("a folder as standard input", folder_as_input, 4, "curp: reading failed\n"),
     ("a terminal", terminal, 0, ""),
+    ("a script that is sent line by line", line_by_line, 0, ""),
+    ("words that are none", wrong_words, 2, "curp: this can't stand there: make\n"),
 ]
 
 
@@ -126,13 +151,14 @@ def main():
         sys.exit(__doc__)
     curp = os.path.abspath(sys.argv[1])
     good = True
-    print("| run | status | line on standard error |")
+    print("| run | status | first line on standard error |")
     print("|---|---|---|")
     for name, act, status, line in ROWS:
         code, error = act(curp)
-        is_right = code == status and (error == line if line.endswith("\n") or not line else error.startswith(line))
+        is_right = code == status and (error.startswith(line) if line else not error)
         good &= is_right
-        print(f"| {name} | {code} | {error.strip() or '-'} |" + ("" if is_right else f" wanted {status}, {line!r}"))
+        first = error.split("\n")[0]
+        print(f"| {name} | {code} | {first or '-'} |" + ("" if is_right else f" wanted {status}, {line!r}"))
     sys.exit(0 if good else 1)
 
 

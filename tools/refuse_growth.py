@@ -6,7 +6,8 @@
 For each row it runs the program once for each call of the allocator, with that call refused: by a small library that
 stands before the C library's allocator, and refuses its call of one number (it is compiled by cc). Each run has to end
 with status 6 (out of memory), with a front of the row's output; where a refusal is made good (as by a smaller growth, or
-in the C library itself), with the row's own status and output. It prints a table, and ends with 1 where a run did
+in the C library itself), with the row's own status and output; words that are no command line may end with their own
+status and lines, but the one on which word is wrong. It prints a table, and ends with 1 where a run did
 anything else. Runs on threads aren't among these: where a thread finds no memory, `live` may stand still.
 """
 
@@ -57,6 +58,22 @@ int posix_memalign(void **to, size_t align, size_t size) {
 """
 
 PLAYED = ["retry-after-recovery", "migration-there-and-back", "recovery-replays", "replace-a-witness"]
+# Beside the examples that are played: words of the command line, and what stands on standard input.
+OTHERS = {
+    "a made script": (["make", "--steps", "100", "--clients", "2", "--recoveries", "1"], b""),
+    "a made script in numbers": (["make", "--steps", "100", "--clients", "2", "--recoveries", "1", "--summary"], b""),
+    "requests of Redis' protocol": (
+        ["resp", "--f", "1", "--every", "1"],
+        b"*3\r\n$3\r\nSET\r\n$1\r\na\r\n$1\r\n1\r\n*2\r\n$3\r\nget\r\n$1\r\na\r\n",
+    ),
+    "a history and its order": (
+        ["check"],
+        b'{"cmd":["put","61","31"],"ev":"invoke","id":[1,1]}\n'
+        b'{"ans":["done"],"ev":"complete","id":[1,1]}\n'
+        b'{"cmd":["put","61","31"],"ev":"place","id":[1,1]}\n',
+    ),
+    "words that are none": (["make", "--f", "1", "--f", "1"], b""),
+}
 MOST = 20_000
 
 
@@ -77,15 +94,17 @@ def run(curp, words, script, library, call):
 
 def look_at(name, curp, words, script, library):
     """Refuses each call in turn until none is left, and tells what came of it."""
-    status, whole, _ = run(curp, words, script, library, 0)
+    status, whole, told = run(curp, words, script, library, 0)
+    # Where no memory was left to find which word is wrong, the line on it is left out.
+    errors = {told, told.split(b"\n", 1)[-1]} if status == 2 else {told}
     refused = last = 0
     statuses, faults = {}, []
     for call in range(1, MOST):
         ended, out, err = run(curp, words, script, library, call)
         statuses[ended] = statuses.get(ended, 0) + 1
-        is_whole = ended == status and out == whole
+        is_whole = ended == status and out == whole and err in errors
         is_cut = ended == 6 and whole.startswith(out) and err == b"curp: out of memory\n"
-        if is_cut:
+        if is_cut or is_whole and err != told:
             refused += 1
             last = call
         elif not is_whole:
@@ -111,6 +130,8 @@ def main():
         for name in PLAYED:
             script = (TOP / "examples" / f"{name}.script").read_bytes()
             good &= look_at(name, curp, ["play"], script, library)
+        for name, (words, script) in OTHERS.items():
+            good &= look_at(name, curp, words, script, library)
     sys.exit(0 if good else 1)
 
 

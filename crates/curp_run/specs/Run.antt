@@ -3,6 +3,7 @@ use Rattle.std.specs.Prelude.{◌≡◌, ◌⊎◌, ℕ, Option, List, String, d
 use Rattle.std.specs.declared.alloc.Global.{Global}
 use Rattle.std.specs.declared.io.ErrorKind.{ErrorKind}
 use Rattle.std.specs.declared.io.ErrorKind.TheVariants as kind
+use Rattle.clap.specs.Walk.{Text}
 use Rattle.curp_base.specs.Words.{Each}
 use Rattle.curp_io.specs.Streams.{Rose}
 use Rattle.curp_law_print.specs.Ranges.{StepInRange}
@@ -13,9 +14,13 @@ use Rattle.curp_script.specs.Printed.{NamesNode}
 use Rattle.curp_words.specs.Words.{order_in}
 use Rattle.curp_words.specs.declared.order.Order.{Order}
 
--- what the arguments of the program ask for: the words behind its name, which is the first of them
+-- the words behind the program's name, which is the first of its arguments
+abbrev pub words_of : List (String Global) → List Text
+words_of arguments = map string_bytes (drop 1 arguments)
+
+-- what the arguments of the program ask for
 abbrev pub asked : List (String Global) → Option Order
-asked arguments = order_in (map string_bytes (drop 1 arguments))
+asked arguments = order_in (words_of arguments)
 
 -- words that are no text are no command line; any other error of reading them is want of memory
 abbrev pub unread_words : ErrorKind → Status

@@ -1,6 +1,6 @@
-ghost use Rattle.std.specs.Prelude.{◌≡◌, ◌⊎◌, drop, map, string_bytes, Some, None, Err, IfOk};
+ghost use Rattle.std.specs.Prelude.{◌≡◌, ◌⊎◌, Some, None, Err, IfOk};
 ghost use Rattle.clap.specs.Walk.{texts};
-ghost use Rattle.curp_run.specs.Run.{asked};
+ghost use Rattle.curp_run.specs.Run.{asked, words_of};
 ghost use Rattle.curp_words.specs.Plan.{fits};
 ghost use Rattle.curp_words.specs.declared.order.WordsError.TheVariants as WordsError;
 
@@ -10,7 +10,7 @@ use std::alloc::Global;
 
 /// The words behind the program's name, which is the first argument.
 pub(crate) fn words_in(alloc: Global, arguments: &[String]) -> Result<Vec<&str>, NoMemory>
-    ensures { IfOk result (λ words. texts words.items ≡ map string_bytes (drop 1 arguments.now)) }
+    ensures { IfOk result (λ words. texts words.items ≡ words_of arguments.now) }
 {
     let mut words = Vec::new(alloc);
     let behind = past(arguments, 1);

@@ -3,15 +3,21 @@
 //!
 //! `live_script` prints the script into memory, writes it, and plays just these bytes by `play_script`. A made script
 //! is written line by line, as its steps are made; nothing but the world is kept.
+//!
+//! `complaints_of` gives all lines of standard error as one value, exact over how a run ended and what is wrong with its
+//! words; printing it takes no memory. `run_to_end` runs the arguments, prints that value, and ends with the number of
+//! the status; `start` is the same for the arguments of the process and the standard streams.
 #![tactic(auto)]
 
 mod arguments;
 mod command;
+mod complaints;
 mod live;
 mod process;
 mod script;
 
 pub use command::run;
+pub use complaints::{Blame, Complaints, complaints_of};
 pub use live::live_script;
-pub use process::start;
+pub use process::{run_to_end, start};
 pub use script::make_script;

@@ -1,93 +1,90 @@
-ghost use Rattle.std.specs.Prelude.{◌≡◌};
+ghost use Rattle.std.specs.Prelude.{◌≡◌, ◌≢◌, ◌⊎◌, Some, None, true};
 ghost use Rattle.std.specs.Process.{exit_status};
 ghost use Rattle.std.specs.IoError.{error_kind};
+ghost use Rattle.curp_io.specs.Streams.{Rose, SameCount};
 ghost use Rattle.curp_play.specs.Status.{TellsStatus, code_of};
-ghost use Rattle.curp_run.specs.Run.{unread_words};
+ghost use Rattle.curp_run.specs.Run.{asked, unread_words};
+ghost use Rattle.curp_run.specs.declared.complaints.Blame.TheVariants.{Unknown};
+ghost use Rattle.curp_words.specs.declared.order.LivePlan.{LivePlan};
+ghost use Rattle.curp_words.specs.declared.order.MakePlan.{MakePlan};
+ghost use Rattle.curp_words.specs.declared.order.Output.{Output};
 
-use crate::arguments::words_in;
 use crate::command::run;
-use curp_io::{StdSink, StdSource};
+use crate::complaints::{Complaints, complaints_of};
+use curp_io::{Sink, Source, StdSink, StdSource};
 use curp_play::Status;
-use curp_seat::OpenGate;
-use curp_words::blamed;
+use curp_seat::{Gate, OpenGate};
+use std::alloc::Global;
 use std::process::ExitCode;
 use std::rt::Env;
 use std::sync::Wait;
 use std::thread::Threads;
 use std::{env, io};
 
-// What a newcomer can write behind `curp make`.
-const OPTIONS: &str =
-    "make takes --number, --f, --sets, --ways, --clients, --parts, --protocol, --steps and \
-    --recoveries, each with a number, and --summary; live takes the same but --steps and \
-    --summary, --recoveries with 0 alone, and --commands with a number; play takes --history; \
-    check takes none; resp takes --f and --every, each with a number, and --script";
-
-/// Does all that `main` does: runs the command line over the standard streams, writes what there is to complain of to
-/// standard error, and says with which number the process ends. Where the words are no command line, one more line
-/// says which word it is about, and one which options there are.
+/// Does all that `main` does: runs the arguments of the process over the standard streams, as `run_to_end`. Words that are
+/// no text are no command line.
 pub fn start(
     rt: &(impl Env + Input + Print + Eprint + AllocGlobal + Threads + Wait + Sync),
 ) -> ExitCode
     ensures { TellsStatus (exit_status result) }
 {
-    let status = match run_process(rt) {
-        Ok(status) => status,
-        Err(error) => of_unread_words(&error),
-    };
-    finish(rt, status)
+    let mut source = StdSource::new(rt.reader());
+    let mut sink = StdSink::new(io::writer(rt));
+    match arguments_of(rt) {
+        Ok(arguments) => run_to_end(
+            rt,
+            rt.alloc(),
+            &arguments,
+            &mut source,
+            &mut sink,
+            rt,
+            &OpenGate,
+        ),
+        Err(error) => told(rt, &Complaints::of_status(of_unread_words(&error))),
+    }
 }
 
-/// Runs the arguments of the process over the standard streams.
-fn run_process(
-    rt: &(impl Env + Input + Print + Eprint + AllocGlobal + Threads + Wait + Sync),
-) -> io::Result<Status> {
+/// The arguments of the process.
+fn arguments_of(rt: &(impl Env + AllocGlobal)) -> io::Result<Vec<String>> {
     let mut arguments = Vec::new(rt.alloc());
     for argument in env::args(rt)? {
         arguments.push(argument)?;
     }
-    let mut source = StdSource::new(rt.reader());
-    let mut sink = StdSink::new(io::writer(rt));
-    let status = run(
-        rt,
-        rt.alloc(),
-        &arguments,
-        &mut source,
-        &mut sink,
-        &OpenGate,
-    );
-    if status == Status::Usage {
-        tell_blame(rt, &arguments);
-    }
-    Ok(status)
+    Ok(arguments)
 }
 
-/// Says which word it is about that the words are no command line. Where standard error can't be written, or there is
-/// no memory, the number with which the process ends still tells.
-fn tell_blame(rt: &(impl Eprint + AllocGlobal), arguments: &[String]) {
-    let Ok(words) = words_in(rt.alloc(), arguments) else {
-        return;
-    };
-    let Ok(place) = blamed(rt.alloc(), &words) else {
-        return;
-    };
-    let _ = match place.and_then(|place| words.get(place)) {
-        Some(word) => eprintln!(rt; "curp: this can't stand there: {word}"),
-        None => eprintln!(rt; "curp: something is missing at the end"),
-    };
-}
-
-/// Writes the complaint of a status, if it has one, to standard error.
-fn finish(rt: &impl Eprint, status: Status) -> ExitCode
-    ensures { exit_status result ≡ code_of status }
+/// Does what the arguments say, as `run`, prints what there is to complain of, and gives the number of how it ended.
+pub fn run_to_end<R: Threads + Wait + Sync, G: Gate + Sync, S: Source, K: Sink, E: Eprint>(
+    rt: &R,
+    alloc: Global,
+    arguments: &[String],
+    source: &mut S,
+    sink: &mut K,
+    errors: &E,
+    gate: &G,
+) -> ExitCode
+    ensures status { TellsStatus (exit_status result) }
+    // With 2 exactly for words that are no command line, unless there was no memory to tell.
+    ensures usage { exit_status result ≡ 2 → asked arguments.now ≡ None }
+    ensures no_order { asked arguments.now ≡ None → (exit_status result ≡ 2) ⊎ (exit_status result ≡ 6) }
+    // With 4 exactly where reading failed, and with 5 exactly where writing failed.
+    ensures read_fault { exit_status result ≡ 4 → Rose (S.faults source.old) (S.faults source.new) }
+    ensures no_read_fault { exit_status result ≢ 4 → SameCount (S.faults source.old) (S.faults source.new) }
+    ensures write_fault { exit_status result ≡ 5 → Rose (K.faults sink.old) (K.faults sink.new) }
+    ensures no_write_fault { exit_status result ≢ 5 → SameCount (K.faults sink.old) (K.faults sink.new) }
 {
-    if let Some(complaint) = status.complaint() {
-        // Where standard error can't be written, the number still tells.
-        let _ = eprintln!(rt; "{complaint}");
-    }
-    if status == Status::Usage {
-        let _ = eprintln!(rt; "curp: {OPTIONS}");
-    }
+    let status = run(rt, alloc, arguments, source, sink, gate);
+    let found = complaints_of(alloc, status, arguments);
+    let complaints = found.unwrap_or(Complaints::of_status(status));
+    told(errors, &complaints)
+}
+
+/// Prints what there is to complain of. Where it can't be printed, the number still tells.
+fn told(errors: &impl Eprint, complaints: &Complaints<'_>) -> ExitCode
+    ensures { exit_status result ≡ code_of complaints.now.status }
+{
+    let status = complaints.status;
+    let _ = eprint!(errors; "{complaints}");
     ExitCode::from(status)
 }
 

@@ -261,15 +261,15 @@ fn a_package_is_what_the_range_has(rt: HostRuntime) {
     drop(master);
 }
 
-// 9,998 Ops of seven clients, and then the lower half of the hashes leaves, and a client goes.
-fn ten_thousand(rt: &impl Abort, alloc: Global) -> Master {
+// 29,998 Ops of six clients, each of a key of its own; then all hashes leave, and a client goes.
+fn thirty_thousand(rt: &impl Abort, alloc: Global) -> Master {
     let mut log = begin(rt, alloc, u64::MAX);
-    for seq in 1..=9_998u32 {
+    for seq in 1..=29_998u32 {
         let key = (u64::from(seq) << 32).to_be_bytes();
-        let request = request(seq % 7, seq, put(rt, &key, &[7; 128]));
+        let request = request(1 + seq / 5_000, seq, put(rt, &key, &[7; 128]));
         push_op(rt, &mut log, &request, 0);
     }
-    let mut master = after_take(rt, alloc, log, 1, (0, u64::MAX / 2));
+    let mut master = after_take(rt, alloc, log, 1, (0, u64::MAX));
     order(rt, &mut master, Body::ExpireClient { client: 3 });
     master
 }
@@ -280,15 +280,29 @@ fn taken_sizes(log: &Log) -> Option<(usize, usize)> {
     Some((part.pairs.len(), part.table.records.len()))
 }
 
+// A log to which the last package comes.
+fn given_last(rt: &impl Abort, alloc: Global, log: &Log) -> Log {
+    let mut other = begin(rt, alloc, 0);
+    if let Some(taken) = log.package() {
+        push_give(rt, &mut other, 1, must(rt, taken.package.copy(alloc)));
+    }
+    other
+}
+
 #[test]
-fn holds_ten_thousand_entries(rt: HostRuntime) {
-    let master = ten_thousand(&rt, rt.alloc());
+fn holds_thirty_thousand_entries(rt: HostRuntime) {
+    let master = thirty_thousand(&rt, rt.alloc());
     let log = master.log();
-    assert_eq!(rt; log.len(), 10_000);
-    assert_eq!(rt; suffix_len(&rt, log, 0), 10_000);
-    assert_eq!(rt; taken_sizes(log), Some((4_991, 9_998)));
-    assert!(rt; log.check(&id(2, 9_998)) == known(Answer::Done, 9_997));
+    assert_eq!(rt; log.len(), 30_000);
+    assert_eq!(rt; suffix_len(&rt, log, 0), 30_000);
+    assert_eq!(rt; taken_sizes(log), Some((29_998, 29_998)));
+    assert!(rt; log.check(&id(6, 29_998)) == known(Answer::Done, 29_997));
     try_is_log(&rt, rt.alloc(), u64::MAX, log.entries(), true);
+    let other = given_last(&rt, rt.alloc(), log);
+    assert!(rt; other.check(&id(6, 29_998)) == known(Answer::Done, 0));
+    let whole = pack(&rt, &other, 0, u64::MAX);
+    assert_eq!(rt; whole.pairs.len(), 29_998);
+    drop(other);
     drop(master);
 }
 

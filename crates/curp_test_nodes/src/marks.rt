@@ -176,29 +176,29 @@ fn nth(n: u32) -> RequestId {
     id(n % 64, n / 64)
 }
 
-// 10,000 updates in two partitions, of which half of those of the one complete.
-fn ten_thousand(rt: &impl Abort, alloc: Global) -> Line {
+// 30,000 updates in two partitions, of which half of those of the one complete.
+fn thirty_thousand(rt: &impl Abort, alloc: Global) -> Line {
     let mut line = Line::new(alloc);
-    for n in 0..10_000_u32 {
+    for n in 0..30_000_u32 {
         executed(rt, &mut line, n % 2, u64::from(n / 2), nth(n));
     }
-    for n in 0..2_500_u32 {
+    for n in 0..7_500_u32 {
         updated(&mut line, nth(4 * n));
     }
     line
 }
 
-// The first log that is adopted for the one partition has a thousand entries, so 2,000 of the others are dropped; 64 of
+// The first log that is adopted for the one partition has a thousand entries, so 7,000 of the others are dropped; 64 of
 // these are replayed, each by a master of its own, and with it one that completed.
 #[test]
-fn holds_ten_thousand_marks(rt: HostRuntime) {
-    let mut line = ten_thousand(&rt, rt.alloc());
+fn holds_thirty_thousand_marks(rt: HostRuntime) {
+    let mut line = thirty_thousand(&rt, rt.alloc());
     for n in 0..64_u32 {
         must(&rt, line.reserve(3));
         let cut = u64::from(1_000 + n);
         let both = [
-            replayed(&rt, nth(9_998 - 4 * n)),
-            replayed(&rt, nth(9_996 - 4 * n)),
+            replayed(&rt, nth(29_998 - 4 * n)),
+            replayed(&rt, nth(29_996 - 4 * n)),
         ];
         let tenure = Tenure {
             master: SECOND,
@@ -207,6 +207,6 @@ fn holds_ten_thousand_marks(rt: HostRuntime) {
         };
         line.adopted(tenure, cut, &both);
     }
-    assert_eq!(rt; must(&rt, line.order()).len(), 8_064);
+    assert_eq!(rt; must(&rt, line.order()).len(), 23_064);
     assert!(rt; line.reserve(u64::MAX).is_err());
 }

@@ -36,13 +36,13 @@ fn gives_due_ids_in_the_order_of_adding(rt: HostRuntime) {
     try_due(&rt, &queue, u64::MAX, &[id(2, 1), id(1, 1), id(3, 1)]);
 }
 
-fn twenty_thousand(rt: &impl Abort, alloc: Global) -> Queue {
+fn forty_thousand(rt: &impl Abort, alloc: Global) -> Queue {
     let mut queue = Queue::new(alloc);
-    for number in 0..20000 {
+    for number in 0..40000 {
         add(
             rt,
             &mut queue,
-            id(number % 64, 20000 - number),
+            id(number % 64, 40000 - number),
             u64::from(number),
         );
     }
@@ -51,9 +51,9 @@ fn twenty_thousand(rt: &impl Abort, alloc: Global) -> Queue {
 
 #[test]
 fn takes_many_ids(rt: HostRuntime) {
-    let mut queue = twenty_thousand(&rt, rt.alloc());
+    let mut queue = forty_thousand(&rt, rt.alloc());
     queue.leave(9999);
-    let due = must(&rt, queue.due(19998));
-    assert_eq!(rt; due.len(), 9999);
-    assert_eq!(rt; due[0], id(10000 % 64, 10000));
+    let due = must(&rt, queue.due(39998));
+    assert_eq!(rt; due.len(), 29999);
+    assert_eq!(rt; due[0], id(10000 % 64, 30000));
 }

@@ -160,12 +160,12 @@ fn numbers(rt: &impl Abort, alloc: Global, log: &Log) -> Vec<u32> {
 }
 
 #[test]
-fn recovers_ten_thousand_entries(rt: HostRuntime) {
-    let said = after_puts(&rt, rt.alloc(), 10_000);
+fn recovers_a_hundred_thousand_entries(rt: HostRuntime) {
+    let said = after_puts(&rt, rt.alloc(), 100_000);
     let [Said::Append(_, entries, _)] = said.as_slice() else {
         panic!(rt; "not sent");
     };
-    assert_eq!(rt; *entries, 10_001);
+    assert_eq!(rt; *entries, 100_001);
 }
 
 // What is said where a log of so many puts comes, and one request behind them.

@@ -136,14 +136,14 @@ fn takes_in_a_package(rt: HostRuntime) {
     drop(table);
 }
 
-// Each of 64 clients has acknowledged its first hundred requests.
-fn ten_thousand(rt: &impl Abort, alloc: Global) -> Table {
+// Each of 64 clients has acknowledged the first hundred of its 500 requests.
+fn thirty_two_thousand(rt: &impl Abort, alloc: Global) -> Table {
     let mut table = Table::new(alloc);
-    for number in 0..10_000_u32 {
+    for number in 0..32_000_u32 {
         finish(
             rt,
             &mut table,
-            id(number % 64, number / 64 + 1),
+            id(number / 500, number % 500 + 1),
             u64::from(number),
         );
     }
@@ -160,9 +160,9 @@ fn merged(rt: &impl Abort, alloc: Global, part: &TablePart) -> Table {
 }
 
 #[test]
-fn holds_ten_thousand_records(rt: HostRuntime) {
-    let part = pack(&rt, &ten_thousand(&rt, rt.alloc()));
-    assert_eq!(rt; part.records.len(), 3600);
+fn holds_thirty_two_thousand_records(rt: HostRuntime) {
+    let part = pack(&rt, &thirty_two_thousand(&rt, rt.alloc()));
+    assert_eq!(rt; part.records.len(), 25_600);
     assert_eq!(rt; part.firsts.len(), 64);
     let table = merged(&rt, rt.alloc(), &part);
     drop(part);
@@ -173,7 +173,7 @@ fn holds_ten_thousand_records(rt: HostRuntime) {
     for client in 0..64 {
         assert!(rt; table.check(&id(client, 100)) == Check::Stale { first: 101 });
         assert!(rt; table.check(&id(client, 101)) == done);
-        assert!(rt; table.check(&id(client, 158)) == Check::New);
+        assert!(rt; table.check(&id(client, 501)) == Check::New);
     }
     drop(table);
 }

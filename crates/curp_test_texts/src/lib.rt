@@ -1,24 +1,11 @@
-//! Tests of scripts, texts, command lines and served commands by the public calls.
+//! Tests of lines, scripts, texts and command lines by the public calls: what is read, refused and printed, with no
+//! world behind it.
 #![tactic(auto)]
 
-#[cfg(test)]
-mod check;
-#[cfg(test)]
-mod examples;
-#[cfg(test)]
-mod hostile;
-#[cfg(test)]
-mod play;
-#[cfg(test)]
-mod played;
 #[cfg(test)]
 mod report;
 #[cfg(test)]
 mod script;
-#[cfg(test)]
-mod served;
-#[cfg(test)]
-mod sessions;
 #[cfg(test)]
 mod streams;
 #[cfg(test)]

@@ -159,6 +159,8 @@ make|--summary: 1 3 64 4 8 2 1 4000 3 Summary
 make|--protocol|2: 1 3 64 4 8 2 2 4000 3 Script
 --protocol=1|make: 1 3 64 4 8 2 1 4000 3 Script
 make|--f|03: 1 3 64 4 8 2 1 4000 3 Script
+make|--number|1|--f|2|--sets|3|--ways|4|--clients|5|--parts|6|--protocol|2|--steps|7: 1 2 3 4 5 6 2 7 3 Script
+make|--number|1|--f|2|--sets|3|--ways|4|--clients|5|--parts|6|--protocol|2|--steps|7|--recoveries|8|--summary: 1 2 3 4 5 6 2 7 8 Summary
 live: 1 3 64 4 8 2 1 50 0 Live
 live|--number|0|--f|1|--sets|1|--ways|1: 0 1 1 1 8 2 1 50 0 Live
 live|--clients|1|--parts|1|--commands|1|--recoveries|0: 1 3 64 4 1 1 1 1 0 Live
@@ -167,6 +169,7 @@ live|--f|5|--sets|1024|--ways|16|--clients|16: 1 5 1024 16 16 2 1 50 0 Live
 --parts=16|live|--commands=100: 1 3 64 4 8 16 1 100 0 Live
 live|--protocol|2: 1 3 64 4 8 2 2 50 0 Live
 --commands|5|live: 1 3 64 4 8 2 1 5 0 Live
+live|--number|1|--f|2|--sets|3|--ways|4|--clients|5|--parts|6|--protocol|2|--commands|7|--recoveries|0: 1 2 3 4 5 6 2 7 0 Live
 resp: 3 0 Replies
 resp|--f|1|--every|1000000: 1 1000000 Replies
 resp|--every|0: 3 0 Replies

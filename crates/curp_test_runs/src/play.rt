@@ -90,6 +90,33 @@ fn all_messages_of_64_clients_are_delivered(rt: HostRuntime) -> Result<(), Fail>
     Ok(())
 }
 
+const READ: &str = "{\"client\":1,\"cmd\":[\"get\",\"61\"],\"do\":\"invoke\"}";
+
+// So many reads of one client, one after the other. Each has four messages: the client asks the master, which asks the
+// backup, which answers, and then the master answers.
+fn reads(alloc: Global, count: u64) -> Result<String, NoMemory> {
+    let mut script = format!(in alloc; "{HEADER}\n")?;
+    for read in 0..count {
+        writeln!(script, "{READ}")?;
+        let sent = read.wrapping_mul(4);
+        deliver(&mut script, sent.wrapping_add(1), sent.wrapping_add(4))?;
+    }
+    Ok(script)
+}
+
+// 150,000 steps, 120,000 messages, and 30,000 reads that complete; then the order has a line, and one for each.
+#[test]
+fn thirty_thousand_reads_are_in_the_order(rt: HostRuntime) -> Result<(), Fail> {
+    let script = reads(rt.alloc(), 30_000)?;
+    let (status, sink) = played(rt.alloc(), &script)?;
+    assert!(rt; status == Status::Ok);
+    let text = text_of(&sink);
+    assert!(rt; text.lines().count() == 150_000 + 120_000 + 30_000 + 1 + 30_000);
+    assert!(rt; text.contains("\norder 30000\n1.1 get 61 -> none\n"));
+    assert!(rt; text.ends_with("\n1.30000 get 61 -> none\n"));
+    Ok(())
+}
+
 fn nine_invocations(alloc: Global) -> Result<String, NoMemory> {
     let mut script = format!(in alloc; "{HEADER}\n")?;
     for _ in 1..=9 {
@@ -273,6 +300,15 @@ fn lines_have_up_to_65536_bytes(rt: HostRuntime) -> Result<(), Fail> {
     assert!(rt; ends(rt.alloc(), &longer)? == Status::LineTooLong { line: 1 });
     let second = format!(in rt.alloc(); "{longest}\n{longer}\n")?;
     assert!(rt; ends(rt.alloc(), &second)? == Status::LineTooLong { line: 2 });
+    Ok(())
+}
+
+#[test]
+fn a_line_may_have_each_length(rt: HostRuntime) -> Result<(), Fail> {
+    for thousands in 1..=65 {
+        let header = header_of(rt.alloc(), thousands * 1_000)?;
+        assert!(rt; ends(rt.alloc(), &header)? == Status::Ok, "{thousands}");
+    }
     Ok(())
 }
 
