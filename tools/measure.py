@@ -314,6 +314,23 @@ def full_set_part(curp):
     ]
 
 
+def frame_part():
+    """What was measured apart, in November 2026, by a program that writes and reads one message over and over."""
+    rows = [
+        ("an update", "frame", 62, "5,200,000", "2,800,000"),
+        ("an update", "JSON", 168, "2,700,000", "620,000"),
+        ("an append of 16 operations", "frame", 743, "1,100,000", "120,000"),
+        ("an append of 16 operations", "JSON", 2031, "370,000", "47,000"),
+    ]
+    return [
+        "## Messages as bytes",
+        "How often a second one processor writes a message as its frame, tested with `is_light` before, and reads it of "
+        "the frame; beside it what `serde_json` takes to print the same message from a `Value`, with keys and values in "
+        "hexadecimal, and to read it as one. These figures weren't made by `tools/measure.py`.",
+        table(["message", "as", "bytes", "written", "read"], rows),
+    ]
+
+
 def main():
     if len(sys.argv) != 2:
         sys.exit(__doc__)
@@ -324,7 +341,7 @@ def main():
         "makes this page and its pictures; the times are of one run on one machine, and the counts are the same on every "
         "machine. Memory below 17 MB isn't told apart.",
     ]
-    parts += plan_part(curp) + recovery_part(curp) + round_trip_part(curp) + full_set_part(curp)
+    parts += plan_part(curp) + recovery_part(curp) + round_trip_part(curp) + full_set_part(curp) + frame_part()
     PAGE.write_text("\n\n".join(parts) + "\n", encoding="utf-8")
 
 

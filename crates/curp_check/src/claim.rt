@@ -62,7 +62,8 @@ impl Claim {
     /// bad `id`. Where it is refused, nothing is changed.
     pub fn add(&mut self, line: &EventLine) -> Result<(), LineError>
         ensures added { OnOk result (with_line self.old line.now ≡ Ok self.new) }
-        ensures refused { IfErr result (λ reason. reason ≢ LineError.NoMemory → with_line self.old line.now ≡ Err reason) }
+        ensures refused { IfErr result (λ reason. reason ≢ LineError.NoMemory
+            → with_line self.old line.now ≡ Err reason) }
         ensures err { OnErr result (self.new ≡ self.old) }
         ensures bad_id { (e : order.Event) → line.now ≡ EventLine.Event e → self.old.order ≡ []
             → (with_line self.old line.now ≡ Err (LineError.BadField FieldName.Id))

@@ -1,5 +1,5 @@
 -- What is kept of a step is the step of the definition.
-use Rattle.std.proofs.Common.{◌≡◌, ◌≢◌, nat_le, ◌==◌, ℕ, ◌+◌, ◌-◌, ◌^◌, Bool, true, false, List, [], ◌∷◌, ◌++◌, length, Option, Some, None, is_some, Result, Ok, Err, IfOk, OnErr, OnOk, append-nil, arith, refl, ap, sym, ◌∙◌, subst}
+use Rattle.std.proofs.Common.{◌≡◌, ◌≢◌, nat_le, ◌==◌, ℕ, ◌+◌, ◌-◌, ◌^◌, Bool, true, false, List, [], ◌∷◌, ◌++◌, length, Option, Some, None, is_some, Result, Err, append-nil, arith, refl, ap, sym, ◌∙◌, subst}
 use Rattle.std.proofs.lemmas.Bool.Decides.{nat_tests}
 use Rattle.std.specs.Option.{ok_or, option_map}
 use Rattle.curp_base.specs.Cases.{◌>>=◌, refuse_if}
@@ -26,7 +26,7 @@ use Rattle.curp_msg.specs.declared.outcome.StepResult.TheVariants as result
 use Rattle.curp_order.specs.Recorded.{invocation}
 use Rattle.curp_order.specs.declared.Event.{Event}
 use Rattle.curp_order.specs.declared.Event.TheVariants as event
-use Rattle.curp_cluster.specs.Given.{CanGet, barrier, gift_deed, goes, hands, input_in, invoked_by, taken_by}
+use Rattle.curp_cluster.specs.Given.{CanGet, Steps, barrier, gift_deed, goes, hands, input_in, invoked_by, taken_by}
 use Rattle.curp_cluster.specs.Marks.{due_marks, marks_by}
 use Rattle.curp_cluster.specs.Nodes.{NodeStates, nodes_of, seen, with_nodes}
 use Rattle.curp_cluster.specs.declared.given.Gift.{Gift}
@@ -121,8 +121,9 @@ event_is w to (gift.Order order) given can is there taken =
 -- ---- a world that is seen
 
 -- a step that isn't made
-pub nothing_done : (w : World) (s : Stepped) (why : StepResult) → s ≡ refused w why → (w ≡ s.world) × ((refused w why).outcome ≡ s.outcome)
-nothing_done w s why is = (sym (ap (λ (x : Stepped). x.world) is), sym (ap (λ (x : Stepped). x.outcome) is))
+pub nothing_done : (w : World) (s : Stepped) (o : Outcome) (why : StepResult) → s ≡ refused w why → o ≡ (refused w why).outcome
+    → (w ≡ s.world) × (o ≡ s.outcome)
+nothing_done w s o why is told = (sym (ap (λ (x : Stepped). x.world) is), told ∙ sym (ap (λ (x : Stepped). x.outcome) is))
 
 -- one that stops a node
 pub node_stopped : (nodes : NodeStates) (stopped stopped' : List NodeId) (sent : List (List Message)) (history : List Event) (marks : List Mark) (w : World) (node : NodeId) (s : Stepped)
@@ -244,17 +245,6 @@ seen_same nodes nodes' stopped sent sent' history history' marks marks' w n s e 
 
 -- ---- answers of calls
 
--- what holds in any case, holds by an error
-pub in_any_case : {A E P : Type 0} (r : Result A E) → P → OnErr r P
-in_any_case (Ok a) p = tt
-in_any_case (Err e) p = p
-
--- the world after a call, by what is the same step
-pub state_by : {A E : Type 0} (r : Result A E) (w : World) (s t : Stepped) → s ≡ t → OnOk r (w ≡ s.world) → OnOk r (w ≡ t.world)
-state_by (Ok a) w s t e h = h ∙ ap (λ (x : Stepped). x.world) e
-state_by (Err a) w s t e h = tt
-
--- and what it did
-pub outcome_by : {E : Type 0} (r : Result Outcome E) (s t : Stepped) → s ≡ t → IfOk r (λ o. o ≡ s.outcome) → IfOk r (λ o. o ≡ t.outcome)
-outcome_by (Ok a) s t e h = h ∙ ap (λ (x : Stepped). x.outcome) e
-outcome_by (Err a) s t e h = tt
+-- by an error, all is as it was
+pub as_before : {E : Type 0} (r : Result Outcome E) (e : E) (w v : World) (s : Stepped) → r ≡ Err e → v ≡ w → Steps w v r s
+as_before r e w v s is same = subst (λ (x : Result Outcome _). Steps w v x s) (sym is) same

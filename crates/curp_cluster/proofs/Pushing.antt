@@ -14,7 +14,11 @@ use Rattle.curp_cmd.specs.declared.node.NodeId.{NodeId}
 use Rattle.curp_model.specs.declared.Check.{Check}
 use Rattle.curp_model.specs.declared.Check.TheVariants.{Expired, Stale, Known, New}
 use Rattle.curp_model.specs.Log.{LastGive, LastTake}
-use Rattle.curp_model.specs.Master.{MasterState, Acknowledged, AtOnce, Deny, Execute, HoldBack, Open, Phase, Switch, Switching, Tell, TellAgain, Verdict, WhenSynced, Wish, adopted_in, all_have, captures_read, carries_out, collect_in, executes, give_after, glance_command, glance_of, goes_on, is_clean, is_open, last_round, on_appended, on_collected, on_expire, on_give, on_glance, on_read, on_serving, on_stored, on_take, on_update, prepare_in, prepares, push_take, raised, read_command, read_of, read_refusal, serving_ordered, settle, state_of, stored_on, sync_in, synced, take_after, told_again, treat, treated, treats, unless_it_ends, verdict}
+use Rattle.curp_model.specs.Master.{MasterState, Acknowledged, Open, Phase, Switch, Switching, adopted_in, all_have, captures_read, carries_out, collect_in, executes, give_after, glance_command, glance_of, goes_on, is_clean, is_open, last_round, on_appended, on_collected, on_expire, on_give, on_glance, on_read, on_serving, on_stored, on_take, on_update, prepare_in, prepares, push_take, raised, read_command, read_of, read_refusal, serving_ordered, settle, state_of, stored_on, sync_in, synced, take_after, told_again, treat, treated, treats, unless_it_ends, verdict}
+use Rattle.curp_model.specs.declared.Verdict.TheVariants.{Deny, Execute, HoldBack, Tell, TellAgain}
+use Rattle.curp_model.specs.declared.Verdict.{Verdict}
+use Rattle.curp_model.specs.declared.Wish.TheVariants.{AtOnce, WhenSynced}
+use Rattle.curp_model.specs.declared.Wish.{Wish}
 use Rattle.curp_model.specs.Ranges.{owns_all}
 use Rattle.curp_model.specs.Recovery.{Fresh, MasterStage, Recovering, Serving, master_input, on_master, master_ordered}
 use Rattle.curp_model.specs.Table.{check, is_gone}

@@ -1,5 +1,5 @@
 -- One input to one node: a message, or an order.
-use Rattle.std.specs.Prelude.{◌≡◌, ℕ, nat_lt, ◌==◌, if◌then◌else◌, Bool, false, not, List, [], ◌∷◌, Option, Some, None, ⊤}
+use Rattle.std.specs.Prelude.{◌≡◌, ℕ, nat_lt, ◌==◌, if◌then◌else◌, Bool, false, not, List, [], ◌∷◌, Option, Some, None, Result, Ok, Err, ⊤}
 use Rattle.std.specs.Option.{option_map}
 use Rattle.curp_base.specs.Cases.{first_case, only_if}
 use Rattle.curp_base.specs.Words.{numbered}
@@ -17,6 +17,7 @@ use Rattle.curp_msg.specs.declared.machine.Input.TheVariants as input
 use Rattle.curp_msg.specs.declared.machine.Local.{Local}
 use Rattle.curp_msg.specs.declared.machine.Local.TheVariants as local
 use Rattle.curp_msg.specs.declared.message.Message.{Message}
+use Rattle.curp_msg.specs.declared.outcome.Outcome.{Outcome}
 use Rattle.curp_msg.specs.declared.outcome.StepResult.{StepResult}
 use Rattle.curp_msg.specs.declared.outcome.StepResult.TheVariants as result
 use Rattle.curp_msg.specs.declared.script.Step.{Step}
@@ -78,6 +79,11 @@ taken_by number = if number == 0 then result.Done else result.Refused number
 abbrev pub goes : World → Deed → Option StepResult → StepResult
 goes w deed (Some why) = why
 goes w deed None = taken_by (effect w deed).refused
+
+-- the call made the step, and its outcome is handed out; by an error, as by want of memory, nothing has changed
+abbrev pub Steps : {E : Type 0} → (old new : World) → Result Outcome E → Stepped → Type 0
+Steps old new (Ok outcome) s = (new ≡ s.world) × (outcome ≡ s.outcome)
+Steps old new (Err why) s = new ≡ old
 
 -- a node is handed what it is to get, if it can be
 abbrev pub hands : World → NodeId → Gift → Stepped

@@ -1,10 +1,10 @@
-ghost use Rattle.std.specs.Prelude.{◌≡◌, ◌≤◌, ◌<◌, ◌^◌, ◌++◌, ◌+◌, length, OnOk, OnErr, IfOk, IsSome, Some};
+ghost use Rattle.std.specs.Prelude.{◌≡◌, ◌≤◌, ◌<◌, ◌^◌, ◌++◌, ◌+◌, length, IfOk, IsSome, Some};
 ghost use Rattle.std.specs.Option.{option_copied, option_map};
 ghost use Rattle.curp_base.specs.Words.{all_of, numbered};
 ghost use Rattle.curp_msg.specs.Script.{IsHeader};
 ghost use Rattle.curp_model.specs.World as world;
 ghost use Rattle.curp_order.specs.Recorded.{invocation};
-ghost use Rattle.curp_cluster.specs.Given.{CanGet, barrier, expires_nobody, hands, input_in, input_of};
+ghost use Rattle.curp_cluster.specs.Given.{CanGet, Steps, barrier, expires_nobody, hands, input_in, input_of};
 
 use crate::given::{Gift, Given};
 use crate::marks::{Due, flag};
@@ -127,9 +127,7 @@ impl Cluster {
 
     /// Makes a step. Where it can't be made the outcome tells why.
     pub fn step(&mut self, step: &Step) -> Result<Outcome, NoMemory>
-        ensures state { OnOk result (self.new ≡ (world.step self.old step.now).world) }
-        ensures outcome { IfOk result (λ outcome. outcome ≡ (world.step self.old step.now).outcome) }
-        ensures err { OnErr result (self.new ≡ self.old) }
+        ensures { Steps self.old self.new result (world.step self.old step.now) }
     {
         if let Some((to, order)) = order_of(step) {
             if self.expires_nobody(step) {
@@ -147,9 +145,7 @@ impl Cluster {
 
     // The message of that number comes to its addressee.
     fn deliver(&mut self, message: u64) -> Result<Outcome, NoMemory>
-        ensures state { OnOk result (self.new ≡ (world.step self.old (Step.Deliver message)).world) }
-        ensures outcome { IfOk result (λ outcome. outcome ≡ (world.step self.old (Step.Deliver message)).outcome) }
-        ensures err { OnErr result (self.new ≡ self.old) }
+        ensures { Steps self.old self.new result (world.step self.old (Step.Deliver message)) }
     {
         match self.addressee(message) {
             None => Ok(self.silent(StepResult::NoMessage)),
@@ -177,9 +173,7 @@ impl Cluster {
     // The node of that name is handed what it is to get, unless something is in the way.
     fn hand(&mut self, to: NodeId, gift: &Gift) -> Result<Outcome, NoMemory>
         requires { CanGet self.old to gift.now }
-        ensures state { OnOk result (self.new ≡ (hands self.old to gift.now).world) }
-        ensures outcome { IfOk result (λ outcome. outcome ≡ (hands self.old to gift.now).outcome) }
-        ensures err { OnErr result (self.new ≡ self.old) }
+        ensures { Steps self.old self.new result (hands self.old to gift.now) }
     {
         if let Some(why) = self.barrier(to) {
             return Ok(self.silent(why));
@@ -226,9 +220,7 @@ impl Cluster {
 
     // The node of that name gets nothing more.
     fn stop(&mut self, node: NodeId) -> Result<Outcome, NoMemory>
-        ensures state { OnOk result (self.new ≡ (world.step self.old (Step.Stop node)).world) }
-        ensures outcome { IfOk result (λ outcome. outcome ≡ (world.step self.old (Step.Stop node)).outcome) }
-        ensures err { OnErr result (self.new ≡ self.old) }
+        ensures { Steps self.old self.new result (world.step self.old (Step.Stop node)) }
     {
         if !self.has_node(node) {
             return Ok(self.silent(StepResult::NoNode));

@@ -4,7 +4,7 @@ ghost use Rattle.curp_base.specs.Words.{numbered, all_of};
 ghost use Rattle.curp_model.specs.World.{sent_at, with_batch};
 ghost use Rattle.curp_cluster.specs.Batches.{Rise, NumberStandsAt, IsGapAt, IsBatchOf, weight_of_all};
 
-use curp_base::{Items, NoMemory};
+use curp_base::{Items, NoMemory, Reserved};
 use curp_msg::{Message, weight};
 use std::alloc::{AllocError, Global};
 use std::marker::Model;
@@ -15,25 +15,23 @@ const MOST: u64 = 1 << 63;
 /// Every message that was ever sent, as the steps sent them. Messages are numbered from 1.
 #[derive(Drop)]
 pub(crate) struct Sent {
-    batches: Vec<Items<Message>>,
+    batches: Reserved<Items<Message>>,
     // The number of the first message of each batch.
-    firsts: Vec<u64>,
+    firsts: Reserved<u64>,
     next: u64,
     // What all messages weigh.
     weight: u64,
 }
 
 impl Model for Sent {
-    ghost use Rattle.std.specs.Prelude.{◌-◌, ◌^◌, nat_le, if◌then◌else◌, vec_len, vec_capacity, min};
+    ghost use Rattle.std.specs.Prelude.{◌^◌, nat_le, if◌then◌else◌, min};
     ghost use Rattle.curp_cluster.specs.Batches.{Batched, IsIndexOf};
 
     ghost Value = { Batched };
 
     ghost view = { λ s. record {
       lists = s.batches.items;
-      spare = if nat_le s.next (2 ^ 63)
-          then min (vec_capacity s.batches - vec_len s.batches) (vec_capacity s.firsts - vec_len s.firsts)
-          else 0;
+      spare = if nat_le s.next (2 ^ 63) then min s.batches.spare s.firsts.spare else 0;
     } };
 
     ghost invariant = { λ s. IsIndexOf s.firsts.items s.batches.items s.next s.weight };
@@ -44,8 +42,8 @@ impl Sent {
         ensures { result.lists ≡ [] }
     {
         Sent {
-            batches: Vec::new(alloc),
-            firsts: Vec::new(alloc),
+            batches: Reserved::new(alloc),
+            firsts: Reserved::new(alloc),
             next: 1,
             weight: 0,
         }
@@ -76,8 +74,8 @@ impl Sent {
         self.next += messages.len() as u64;
         let added = weight_of_all(messages.as_slice());
         self.weight = self.weight.saturating_add(added);
-        self.firsts.push_reserved(first);
-        self.batches.push_reserved(messages);
+        self.firsts.push(first);
+        self.batches.push(messages);
     }
 
     /// How many messages were sent.

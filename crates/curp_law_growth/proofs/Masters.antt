@@ -28,7 +28,11 @@ use Rattle.curp_range.specs.Spans.{is_covered}
 use Rattle.curp_model.specs.declared.Check.{Check}
 use Rattle.curp_model.specs.declared.Check.TheVariants.{Expired, Stale, Known, New}
 use Rattle.curp_model.specs.Log.{LastGive, LastTake}
-use Rattle.curp_model.specs.Master.{MasterState, Phase, Open, Switching, Switch, Wish, AtOnce, WhenSynced, Verdict, Deny, Tell, TellAgain, HoldBack, Execute, adopted_in, all_have, by_message, carries_out, collect_in, executes, give_after, goes_on, is_clean, is_open, last_round, on_appended, on_collected, on_expire, on_give, on_read, on_serving, on_stored, on_take, on_update, prepare_in, prepares, push_take, raised, read_command, read_of, read_refusal, serving_ordered, settle, state_of, stored_on, switch_to, sync_in, synced, take_after, told_again, treat, treated, treats, unless_it_ends, verdict, answers_at_once, glance_command, glance_of, on_glance}
+use Rattle.curp_model.specs.Master.{MasterState, Phase, Open, Switching, Switch, adopted_in, all_have, by_message, carries_out, collect_in, executes, give_after, goes_on, is_clean, is_open, last_round, on_appended, on_collected, on_expire, on_give, on_read, on_serving, on_stored, on_take, on_update, prepare_in, prepares, push_take, raised, read_command, read_of, read_refusal, serving_ordered, settle, state_of, stored_on, switch_to, sync_in, synced, take_after, told_again, treat, treated, treats, unless_it_ends, verdict, answers_at_once, glance_command, glance_of, on_glance}
+use Rattle.curp_model.specs.declared.Verdict.TheVariants.{Deny, Tell, TellAgain, HoldBack, Execute}
+use Rattle.curp_model.specs.declared.Verdict.{Verdict}
+use Rattle.curp_model.specs.declared.Wish.TheVariants.{AtOnce, WhenSynced}
+use Rattle.curp_model.specs.declared.Wish.{Wish}
 use Rattle.curp_cmd.specs.Node.{is_among}
 use Rattle.curp_base.specs.Words.{rises_past}
 use Rattle.curp_msg.specs.declared.answer.Refusal.{Refusal}

@@ -30,7 +30,11 @@ use Rattle.curp_msg.specs.declared.machine.Local.TheVariants as local
 use Rattle.curp_msg.specs.declared.message.Message.{Message}
 use Rattle.curp_range.specs.Spans.{is_covered}
 use Rattle.curp_model.specs.Log.{LastGive, LastTake, package_of}
-use Rattle.curp_model.specs.Master.{MasterState, Phase, Open, Switching, Switch, Wish, AtOnce, WhenSynced, Verdict, Deny, Tell, TellAgain, HoldBack, Execute, Captured, Queued, adopted_in, all_have, append_to, begins_round, between, by_message, captures_read, carries_out, collect_in, collects, executes, give_after, goes_on, holds_back, is_clean, is_due, is_open, is_ready, last_round, marked_free, moved_entry, next_round, on_appended, on_collected, on_expire, on_give, on_read, on_serving, on_stored, on_take, on_update, prepare_in, prepares, push_take, pushed, raised, read_command, read_of, read_refusal, serving_ordered, settle, state_of, stored_on, switch_to, sync_in, synced, synced_replies, synced_reply, take_after, told_again, treat, treats, unless_it_ends, value_of, verdict, glance_command, glance_of, on_glance}
+use Rattle.curp_model.specs.Master.{MasterState, Phase, Open, Switching, Switch, Captured, Queued, adopted_in, all_have, append_to, begins_round, between, by_message, captures_read, carries_out, collect_in, collects, executes, give_after, goes_on, holds_back, is_clean, is_due, is_open, is_ready, last_round, marked_free, moved_entry, next_round, on_appended, on_collected, on_expire, on_give, on_read, on_serving, on_stored, on_take, on_update, prepare_in, prepares, push_take, pushed, raised, read_command, read_of, read_refusal, serving_ordered, settle, state_of, stored_on, switch_to, sync_in, synced, synced_replies, synced_reply, take_after, told_again, treat, treats, unless_it_ends, value_of, verdict, glance_command, glance_of, on_glance}
+use Rattle.curp_model.specs.declared.Verdict.TheVariants.{Deny, Tell, TellAgain, HoldBack, Execute}
+use Rattle.curp_model.specs.declared.Verdict.{Verdict}
+use Rattle.curp_model.specs.declared.Wish.TheVariants.{AtOnce, WhenSynced}
+use Rattle.curp_model.specs.declared.Wish.{Wish}
 use Rattle.curp_cmd.specs.Node.{is_among, manager_node, master_node}
 use Rattle.curp_base.specs.Words.{rises_past}
 use Rattle.curp_msg.specs.declared.answer.Refusal.{Refusal}

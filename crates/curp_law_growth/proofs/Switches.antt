@@ -27,7 +27,11 @@ use Rattle.curp_msg.specs.declared.machine.Local.TheVariants as local
 use Rattle.curp_msg.specs.declared.message.Message.{Message}
 use Rattle.curp_facts.specs.Facts.{IsOnlyExpire}
 use Rattle.curp_facts.specs.Growth.{IsSilent}
-use Rattle.curp_model.specs.Master.{MasterState, Phase, Open, Switching, Switch, Wish, AtOnce, WhenSynced, Verdict, Deny, Execute, adopted_in, all_have, append_to, begins_round, by_message, carries_out, collect_in, give_after, goes_on, is_open, last_round, next_round, on_appended, on_collected, on_expire, on_read, on_serving, on_stored, on_update, prepare_in, prepares, raised, read_command, read_of, read_refusal, serving_ordered, settle, state_of, stored_on, sync_in, take_after, treats, unless_it_ends, verdict, glance_command, glance_of, on_glance}
+use Rattle.curp_model.specs.Master.{MasterState, Phase, Open, Switching, Switch, adopted_in, all_have, append_to, begins_round, by_message, carries_out, collect_in, give_after, goes_on, is_open, last_round, next_round, on_appended, on_collected, on_expire, on_read, on_serving, on_stored, on_update, prepare_in, prepares, raised, read_command, read_of, read_refusal, serving_ordered, settle, state_of, stored_on, sync_in, take_after, treats, unless_it_ends, verdict, glance_command, glance_of, on_glance}
+use Rattle.curp_model.specs.declared.Verdict.TheVariants.{Deny, Execute}
+use Rattle.curp_model.specs.declared.Verdict.{Verdict}
+use Rattle.curp_model.specs.declared.Wish.TheVariants.{AtOnce, WhenSynced}
+use Rattle.curp_model.specs.declared.Wish.{Wish}
 use Rattle.curp_model.specs.Table.{is_gone}
 use Rattle.curp_base.proofs.Lists.{Each-image}
 

@@ -39,7 +39,11 @@ use Rattle.curp_msg.specs.declared.machine.Local.TheVariants as local
 use Rattle.curp_msg.specs.declared.message.Message.{Message}
 use Rattle.curp_range.specs.Spans.{is_covered}
 use Rattle.curp_model.specs.Log.{LastGive, LastTake}
-use Rattle.curp_model.specs.Master.{Acknowledged, AtOnce, Captured, Deny, Execute, HoldBack, MasterState, Open, Phase, Switch, Switching, Tell, TellAgain, Verdict, WhenSynced, Wish, adopted_in, all_have, append_to, begins_round, between, by_message, by_read_check, captures_read, carries_out, collect_in, collects, executes, from_backup, give_after, goes_on, holds_back, is_clean, is_open, is_ready, last_round, marked_free, moved_entry, next_round, on_appended, on_collected, on_expire, on_read, on_serving, on_stored, on_update, prepare_in, prepares, push_take, pushed, raised, read_command, read_of, read_refusal, serving_ordered, settle, state_of, stored_on, sync_in, synced, synced_replies, synced_reply, take_after, told_again, treat, treated, treats, unless_it_ends, value_of, verdict, answers_with}
+use Rattle.curp_model.specs.Master.{Acknowledged, Captured, MasterState, Open, Phase, Switch, Switching, adopted_in, all_have, append_to, begins_round, between, by_message, by_read_check, captures_read, carries_out, collect_in, collects, executes, from_backup, give_after, goes_on, holds_back, is_clean, is_open, is_ready, last_round, marked_free, moved_entry, next_round, on_appended, on_collected, on_expire, on_read, on_serving, on_stored, on_update, prepare_in, prepares, push_take, pushed, raised, read_command, read_of, read_refusal, serving_ordered, settle, state_of, stored_on, sync_in, synced, synced_replies, synced_reply, take_after, told_again, treat, treated, treats, unless_it_ends, value_of, verdict, answers_with}
+use Rattle.curp_model.specs.declared.Verdict.TheVariants.{Deny, Execute, HoldBack, Tell, TellAgain}
+use Rattle.curp_model.specs.declared.Verdict.{Verdict}
+use Rattle.curp_model.specs.declared.Wish.TheVariants.{AtOnce, WhenSynced}
+use Rattle.curp_model.specs.declared.Wish.{Wish}
 use Rattle.curp_model.specs.Ranges.{owns_all}
 use Rattle.curp_model.specs.Table.{check, is_gone}
 use Rattle.curp_model.specs.declared.Check.{Check}

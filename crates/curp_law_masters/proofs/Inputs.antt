@@ -5,7 +5,8 @@ use Rattle.curp_cmd.specs.declared.node.NodeId.{NodeId}
 use Rattle.curp_msg.specs.declared.body.Body.{Body}
 use Rattle.curp_msg.specs.declared.body.Body.TheVariants as body
 use Rattle.curp_facts.specs.Nodes.{ServingOk}
-use Rattle.curp_model.specs.Master.{AtOnce, MasterState, Switch, Switching, WhenSynced, by_message, on_serving}
+use Rattle.curp_model.specs.Master.{MasterState, Switch, Switching, by_message, on_serving}
+use Rattle.curp_model.specs.declared.Wish.TheVariants.{AtOnce, WhenSynced}
 use Rattle.curp_model.specs.World.{World}
 use Rattle.curp_law_masters.specs.Moves.{Hears, ServingMove}
 use Rattle.curp_law_masters.proofs.Acknowledging.{appended_moves}

@@ -27,7 +27,11 @@ use Rattle.curp_facts.specs.Nodes.{IsOpAt, ServingOk}
 use Rattle.curp_facts.specs.Reach.{Tells}
 use Rattle.curp_model.specs.declared.Check.{Check}
 use Rattle.curp_model.specs.declared.Check.TheVariants.{Expired, Stale, Known, New}
-use Rattle.curp_model.specs.Master.{AtOnce, Deny, Execute, HoldBack, MasterState, Open, Phase, Switching, Tell, TellAgain, Verdict, WhenSynced, Wish, answers_with, by_check, carries_out, executes, has, holds_back, is_clean, is_idle_op, is_open, known_again, known_at, marked_free, on_update, pushed, reply, state_of, synced, verdict}
+use Rattle.curp_model.specs.Master.{MasterState, Open, Phase, Switching, answers_with, by_check, carries_out, executes, has, holds_back, is_clean, is_idle_op, is_open, known_again, known_at, marked_free, on_update, pushed, reply, state_of, synced, verdict}
+use Rattle.curp_model.specs.declared.Verdict.TheVariants.{Deny, Execute, HoldBack, Tell, TellAgain}
+use Rattle.curp_model.specs.declared.Verdict.{Verdict}
+use Rattle.curp_model.specs.declared.Wish.TheVariants.{AtOnce, WhenSynced}
+use Rattle.curp_model.specs.declared.Wish.{Wish}
 use Rattle.curp_model.specs.Ranges.{owns_all}
 use Rattle.curp_model.specs.Table.{check}
 use Rattle.curp_model.specs.World.{World}

@@ -37,7 +37,11 @@ use Rattle.curp_range.specs.Spans.{is_covered}
 use Rattle.curp_model.specs.declared.Check.{Check}
 use Rattle.curp_model.specs.declared.Check.TheVariants.{Expired, Known, New, Stale}
 use Rattle.curp_model.specs.Log.{LastGive, LastTake, package_of}
-use Rattle.curp_model.specs.Master.{AtOnce, Captured, Deny, Execute, HoldBack, MasterState, Open, Phase, Switch, Switching, Tell, TellAgain, Verdict, WhenSynced, Wish, adopted_in, all_have, append_to, appends, begins_round, between, by_message, captures_read, carries_out, collect_in, collects, executes, fresh_backups, give_after, goes_on, holds_back, is_clean, is_open, is_ready, marked_free, moved_entry, on_appended, on_collected, on_expire, on_read, on_serving, on_update, prepare_in, prepares, pushed, push_take, raised, read_command, read_of, read_refusal, refuse, reply, serving_ordered, settle, state_of, stored_on, switch_to, sync_in, synced, synced_replies, synced_reply, take_after, told_again, treat, treated, unless_it_ends, value_of, verdict, glance_command, glance_of, on_glance}
+use Rattle.curp_model.specs.Master.{Captured, MasterState, Open, Phase, Switch, Switching, adopted_in, all_have, append_to, appends, begins_round, between, by_message, captures_read, carries_out, collect_in, collects, executes, fresh_backups, give_after, goes_on, holds_back, is_clean, is_open, is_ready, marked_free, moved_entry, on_appended, on_collected, on_expire, on_read, on_serving, on_update, prepare_in, prepares, pushed, push_take, raised, read_command, read_of, read_refusal, refuse, reply, serving_ordered, settle, state_of, stored_on, switch_to, sync_in, synced, synced_replies, synced_reply, take_after, told_again, treat, treated, unless_it_ends, value_of, verdict, glance_command, glance_of, on_glance}
+use Rattle.curp_model.specs.declared.Verdict.TheVariants.{Deny, Execute, HoldBack, Tell, TellAgain}
+use Rattle.curp_model.specs.declared.Verdict.{Verdict}
+use Rattle.curp_model.specs.declared.Wish.TheVariants.{AtOnce, WhenSynced}
+use Rattle.curp_model.specs.declared.Wish.{Wish}
 use Rattle.curp_model.specs.Named.{IsNodeOf}
 use Rattle.curp_model.specs.Ranges.{owns_all}
 use Rattle.curp_model.specs.Table.{check, is_gone}

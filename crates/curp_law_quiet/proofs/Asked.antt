@@ -10,7 +10,8 @@ use Rattle.curp_msg.specs.declared.body.Body.TheVariants as body
 use Rattle.curp_msg.specs.declared.config.PartConfig.{PartConfig}
 use Rattle.curp_msg.specs.declared.message.Message.{Message}
 use Rattle.curp_model.specs.Client.{Pending}
-use Rattle.curp_model.specs.Master.{AtOnce, MasterState, Open, WhenSynced, by_message, on_read, on_serving, on_update}
+use Rattle.curp_model.specs.Master.{MasterState, Open, by_message, on_read, on_serving, on_update}
+use Rattle.curp_model.specs.declared.Wish.TheVariants.{AtOnce, WhenSynced}
 use Rattle.curp_law_quiet.specs.Ways.{Answers, EarlyReply, Gives, MasterGoes, PendsOne, Reads, Syncs, WillTell, Updates}
 use Rattle.curp_law_quiet.proofs.Pending as pending
 use Rattle.curp_law_quiet.proofs.Rounds.{AllSent, Keeps}

@@ -29,9 +29,13 @@ use Rattle.curp_msg.specs.declared.body.Body.TheVariants as body
 use Rattle.curp_msg.specs.declared.config.PartConfig.{PartConfig}
 use Rattle.curp_msg.specs.declared.message.Message.{Message}
 use Rattle.curp_facts.specs.Facts.{IsAmong}
-use Rattle.curp_model.specs.Master.{AtOnce, Captured, Deny, Execute, HoldBack, MasterState, Open, Phase, Switching, Tell, TellAgain, Verdict, WhenSynced, Wish, append_to, begins_round, between, by_message, carries_out, executes, from_backup, fresh_backups, goes_on, is_clean, is_open, is_ready, moved_entry, marked_free, next_round, on_appended, on_collected, on_read, on_update, pushed, read_command, read_of, read_refusal, settle, state_of, stored_on, synced, synced_replies, synced_reply, treat, value_of, verdict}
+use Rattle.curp_model.specs.Master.{Captured, MasterState, Open, Phase, Switching, append_to, begins_round, between, by_message, carries_out, executes, from_backup, fresh_backups, goes_on, is_clean, is_open, is_ready, moved_entry, marked_free, next_round, on_appended, on_collected, on_read, on_update, pushed, read_command, read_of, read_refusal, settle, state_of, stored_on, synced, synced_replies, synced_reply, treat, value_of, verdict}
+use Rattle.curp_model.specs.declared.Verdict.TheVariants.{Deny, Execute, HoldBack, Tell, TellAgain}
+use Rattle.curp_model.specs.declared.Verdict.{Verdict}
+use Rattle.curp_model.specs.declared.Wish.TheVariants.{AtOnce, WhenSynced}
+use Rattle.curp_model.specs.declared.Wish.{Wish}
 use Rattle.curp_law_masters.proofs.Lists.{each_among}
-use Rattle.curp_law_quiet.specs.Calm.{MessageFits}
+use Rattle.curp_law_quiet.specs.Calm.{IsAwaited}
 use Rattle.curp_law_quiet.proofs.Serving.{IsHeard, Treated, treated_all}
 use Rattle.curp_model.specs.Log.{IsOp}
 
@@ -54,7 +58,7 @@ module _ (c : PartConfig) (n : ℕ) (m : MasterState) (its_master : c.master ≡
     (its_epoch : m.epoch ≡ c.epoch) (its_backups : m.backups ≡ c.backups) (serves : m.phase ≡ Open) where
   -- what the master says
   abbrev pub Said : Message → Type 0
-  Said x = MessageFits c x × BeginsAt m x.to x.body
+  Said x = IsAwaited c x × BeginsAt m x.to x.body
 
   fresh_said : (p : Phase) → p ≡ Open → (k : MasterState) (backups : List NodeId)
       → Each (λ b. Said (append_to n k b)) (fresh_backups p backups)

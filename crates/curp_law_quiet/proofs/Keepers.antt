@@ -20,7 +20,7 @@ use Rattle.curp_model.specs.Backup.{AfterAppend, BackupState, append, is_install
 use Rattle.curp_model.specs.Client.{Pending}
 use Rattle.curp_model.specs.Master.{Acknowledged, MasterState}
 use Rattle.curp_model.specs.Witness.{WitnessState, hold, on_witness, verdict_body}
-use Rattle.curp_law_quiet.specs.Ways.{Accepts, Appends, CaptureGoes, Covered, WillCover, HeldGoes, HasStored, MasterGoes, OnWay, PendsOne, Reads, GetsRecorded, Records, Rejects, Stores, Syncs, Updates}
+use Rattle.curp_law_quiet.specs.Ways.{Accepts, Appends, CaptureGoes, Covered, WillCover, HeldGoes, AnswersStored, MasterGoes, OnWay, PendsOne, Reads, GetsRecorded, Records, Rejects, Stores, Syncs, Updates}
 use Rattle.curp_law_quiet.specs.Ways.WillCover.{Comes, Goes, Known}
 use Rattle.curp_law_quiet.proofs.Lists.{among_first}
 use Rattle.curp_law_quiet.proofs.Pending as pending
@@ -69,7 +69,7 @@ module _ (D E : Message → Type 0) (n : ℕ) (m : MasterState) (number : ℕ) (
     unfolding on_backup
     stored_sent long round low late =
         let is : (append bs a.epoch a.base a.entries).answer ≡ Stored (length (longer bs.log a.base a.entries)) = ap (λ (k : AfterAppend). k.answer) (append_stores bs a.epoch a.base a.entries fence installed gap) in
-        (_, sent _ (among_first _ []), (refl, refl, subst (λ (s : AppendAnswer). HasStored long round a.round s) (sym is) (omega (arith, low, long_enough bs.log a.entries a.base gap), late)))
+        (_, sent _ (among_first _ []), (refl, refl, subst (λ (s : AppendAnswer). AnswersStored long round a.round s) (sym is) (omega (arith, low, long_enough bs.log a.entries a.base gap), late)))
 
     cover_stored : (acks : List Acknowledged) (k : NodeId) (long round : ℕ) → WillCover D acks m.epoch n k long round
         → WillCover E acks m.epoch n k long round

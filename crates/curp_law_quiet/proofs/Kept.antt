@@ -24,7 +24,7 @@ use Rattle.curp_model.specs.Master.{MasterState, on_serving}
 use Rattle.curp_model.specs.Recovery.{MasterStage, Serving}
 use Rattle.curp_model.specs.Witness.{WitnessState, on_witness, verdict_body}
 use Rattle.curp_model.specs.World.{World, messages}
-use Rattle.curp_law_quiet.specs.Calm.{Calm, IsDue, MessageFits, FitsIn, NoGap}
+use Rattle.curp_law_quiet.specs.Calm.{Calm, IsUndelivered, IsAwaited, FitsIn, NoGap}
 use Rattle.curp_law_quiet.specs.Ways.{PendsOne}
 use Rattle.curp_law_quiet.proofs.Asked as asked
 use Rattle.curp_law_quiet.proofs.Clients as clients
@@ -45,7 +45,7 @@ each_of_sent P xs all x a = Each-at P xs all a.place x a.stands
 
 module _ (w v : World) (done : ℕ) (x : Message) (at : At (messages w) done x) (did : Delivered w v x) (c : PartConfig)
     (q : ℕ) (m : MasterState) (cl : ClientState) (calm : Calm w done c q m cl) (grounds : Grounds w done c m cl) where
-  here : IsDue w done x
+  here : IsUndelivered w done x
   here = (done, omega arith, at)
 
   -- ---- to the master
@@ -63,9 +63,9 @@ module _ (w v : World) (done : ℕ) (x : Message) (at : At (messages w) done x) 
       let r : Moved MasterState = on_serving q m x.from x.body in
       let moved : MasterDid w v q r = master_did w v x q m did (to ∙ calm.its_master) calm.master in
       let split = splits w v done x at r.messages moved.said in
-      let sent : AllSent (IsDue v (suc done)) r = new_due w v done x at r.messages moved.said in
-      let keeps : Keeps (IsDue w done) (IsDue v (suc done)) q m r = serving_keeps q m grounds.bounded calm.serves grounds.roomy (IsDue w done) (IsDue v (suc done)) x.from x.to calm.goes x.body heard split sent in
-      let ends = never_ends q m grounds.bounded calm.serves grounds.roomy (IsDue w done) x.from x.to calm.goes x.body heard in
+      let sent : AllSent (IsUndelivered v (suc done)) r = new_due w v done x at r.messages moved.said in
+      let keeps : Keeps (IsUndelivered w done) (IsUndelivered v (suc done)) q m r = serving_keeps q m grounds.bounded calm.serves grounds.roomy (IsUndelivered w done) (IsUndelivered v (suc done)) x.from x.to calm.goes x.body heard split sent in
+      let ends = never_ends q m grounds.bounded calm.serves grounds.roomy (IsUndelivered w done) x.from x.to calm.goes x.body heard in
       let said = subst (λ (k : Moved MasterState). Each (fits.Said c q m calm.its_master calm.epoch calm.backups calm.serves) k.messages) (sym ends)
       (fits.said c q m calm.its_master calm.epoch calm.backups calm.serves grounds.ops x.from x.body heard) in
       let new = each_of_sent (fits.Said c q m calm.its_master calm.epoch calm.backups calm.serves) r.messages said in (
@@ -86,7 +86,7 @@ module _ (w v : World) (done : ℕ) (x : Message) (at : At (messages w) done x) 
           fits = λ y due. elim (due_from w v done x at r.messages moved.said y due) [ inl old ↦ calm.fits y old | inr is ↦ (new y is).0 ];
           no_gaps = λ y due. gap_kept y.to y.body moved.backups (elim (due_from w v done x at r.messages moved.said y due) [ inl old ↦ calm.no_gaps y old | inr is ↦ new_gap y.from y.to y.body (new y is).0 (new y is).1 ]);
           goes = keeps.goes;
-          pends = asked.pends (IsDue w done) (IsDue v (suc done)) x.from x.to q m c calm.its_master calm.epoch calm.version grounds.bounded calm.serves grounds.roomy calm.goes x.body heard split sent cl.pending grounds.welcome calm.pends;
+          pends = asked.pends (IsUndelivered w done) (IsUndelivered v (suc done)) x.from x.to q m c calm.its_master calm.epoch calm.version grounds.bounded calm.serves grounds.roomy calm.goes x.body heard split sent cl.pending grounds.welcome calm.pends;
         },
       )
 
@@ -110,7 +110,7 @@ module _ (w v : World) (done : ℕ) (x : Message) (at : At (messages w) done x) 
       let moved : ClientDid w v r = client_did w v x cl did (grounds.client x here its_kind) calm.client in
       let split = splits w v done x at r.messages moved.said in
       let knows = clients.knows c 1 x.from cl calm.fast calm.protocol x.body told brings in
-      let says_all = each_of_sent (IsSync c) r.messages (clients.client_says (IsDue w done) m c 1 x.from cl x.body told calm.pends) in (
+      let says_all = each_of_sent (IsSync c) r.messages (clients.client_says (IsUndelivered w done) m c 1 x.from cl x.body told calm.pends) in (
         m,
         r.state,
         record {
@@ -127,8 +127,8 @@ module _ (w v : World) (done : ℕ) (x : Message) (at : At (messages w) done x) 
           serves = calm.serves;
           fits = λ y due. elim (due_from w v done x at r.messages moved.said y due) [ inl old ↦ calm.fits y old | inr is ↦ (sync_fits y.from y.to y.body (says_all y is)).0 ];
           no_gaps = λ y due. elim (due_from w v done x at r.messages moved.said y due) [ inl old ↦ gap_kept y.to y.body moved.backups (calm.no_gaps y old) | inr is ↦ (sync_fits y.from y.to y.body (says_all y is)).1 ];
-          goes = ways.master_goes (IsDue w done) (IsDue v (suc done)) x.from x.to x.body split (told_dull x.body told) q m calm.goes;
-          pends = clients.client_hears (IsDue w done) (IsDue v (suc done)) x.from x.to m c 1 cl x.body told split calm.pends (new_due w v done x at r.messages moved.said);
+          goes = ways.master_goes (IsUndelivered w done) (IsUndelivered v (suc done)) x.from x.to x.body split (told_dull x.body told) q m calm.goes;
+          pends = clients.client_hears (IsUndelivered w done) (IsUndelivered v (suc done)) x.from x.to m c 1 cl x.body told split calm.pends (new_due w v done x at r.messages moved.said);
         },
       )
 
@@ -138,8 +138,8 @@ module _ (w v : World) (done : ℕ) (x : Message) (at : At (messages w) done x) 
   module _ (number : ℕ) (y : WitnessState) (to : x.to ≡ witness_node number)
       (is : numbered w.witnesses number ≡ Some y) where
     witness_kept : (r : Moved WitnessState) → on_witness number y x.from x.body ≡ r → ways.NoRound x.body
-        → (PendsOne (IsDue w done) m c cl.pending → PendsOne (IsDue v (suc done)) m c cl.pending)
-        → ((z : Message) → IsAmong z r.messages → MessageFits c z × NoGap v z.to z.body) → IsCalm v (suc done) c q
+        → (PendsOne (IsUndelivered w done) m c cl.pending → PendsOne (IsUndelivered v (suc done)) m c cl.pending)
+        → ((z : Message) → IsAmong z r.messages → IsAwaited c z × NoGap v z.to z.body) → IsCalm v (suc done) c q
     witness_kept r e dull on new =
         let moved : WitnessDid w v r = subst (WitnessDid w v) e (witness_did w v x number y did to is) in
         let split = splits w v done x at r.messages moved.said in (
@@ -159,7 +159,7 @@ module _ (w v : World) (done : ℕ) (x : Message) (at : At (messages w) done x) 
             serves = calm.serves;
             fits = λ z due. elim (due_from w v done x at r.messages moved.said z due) [ inl old ↦ calm.fits z old | inr a ↦ (new z a).0 ];
             no_gaps = λ z due. elim (due_from w v done x at r.messages moved.said z due) [ inl old ↦ gap_kept z.to z.body moved.backups (calm.no_gaps z old) | inr a ↦ (new z a).1 ];
-            goes = ways.master_goes (IsDue w done) (IsDue v (suc done)) x.from x.to x.body split dull q m calm.goes;
+            goes = ways.master_goes (IsUndelivered w done) (IsUndelivered v (suc done)) x.from x.to x.body split dull q m calm.goes;
             pends = on calm.pends;
           },
         )
@@ -212,10 +212,10 @@ module _ (w v : World) (done : ℕ) (x : Message) (at : At (messages w) done x) 
         omega (arith, ap length e, length-append ours.b.log (drop (length ours.b.log - a.base) a.entries))
 
     answer_fits : (y : Message) → IsAmong y (on_backup x.to.number ours.b (master_node q) (body.Append a)).messages
-        → MessageFits c y × NoGap v y.to y.body
+        → IsAwaited c y × NoGap v y.to y.body
     unfolding on_backup
     answer_fits y among = elim (among_cases y _ [] among) [
-      | inl same ↦ subst (λ (z : Message). MessageFits c z × NoGap v z.to z.body) same (sym calm.its_master, tt)
+      | inl same ↦ subst (λ (z : Message). IsAwaited c z × NoGap v z.to z.body) same (sym calm.its_master, tt)
       | inr none ↦ absurd (among_none y none)
     ]
 
@@ -225,7 +225,7 @@ module _ (w v : World) (done : ℕ) (x : Message) (at : At (messages w) done x) 
         let moved : BackupDid w v x.to.number r = subst (λ (k : Moved BackupState). BackupDid w v x.to.number k)
         (ap (λ (f : NodeId). on_backup x.to.number ours.b f x.body) (fit.1 ∙ calm.its_master) ∙ ap (λ (k : Body). on_backup x.to.number ours.b (master_node q) k) is_append)
         (backup_did w v x x.to.number ours.b did ours.name ours.is) in
-        let split : (y : Message) → IsDue w done y → (y ≡ says (master_node q) (backup_node x.to.number) (body.Append a)) ⊎ IsDue v (suc done) y =
+        let split : (y : Message) → IsUndelivered w done y → (y ≡ says (master_node q) (backup_node x.to.number) (body.Append a)) ⊎ IsUndelivered v (suc done) y =
         λ y due. elim (splits w v done x at r.messages moved.said y due) [ inl same ↦ inl (same ∙ whole) | inr later ↦ inr later ] in
         let sent = new_due w v done x at r.messages moved.said in (
           m,
@@ -247,8 +247,8 @@ module _ (w v : World) (done : ℕ) (x : Message) (at : At (messages w) done x) 
               | inl old ↦ grown_log x.to.number ours.b r.state ours.is moved.backups longer_log y.to y.body (calm.no_gaps y old)
               | inr is ↦ (answer_fits y is).1
             ];
-            goes = keepers.append_goes (IsDue w done) (IsDue v (suc done)) q m x.to.number ours.b a split (omega (arith, ours.fence, fit.2)) (ours.installed ∙ ap Some (sym fit.2)) gap sent calm.goes;
-            pends = keepers.append_pends (IsDue w done) (IsDue v (suc done)) q m x.to.number ours.b a split (omega (arith, ours.fence, fit.2)) (ours.installed ∙ ap Some (sym fit.2)) gap sent c cl.pending calm.pends;
+            goes = keepers.append_goes (IsUndelivered w done) (IsUndelivered v (suc done)) q m x.to.number ours.b a split (omega (arith, ours.fence, fit.2)) (ours.installed ∙ ap Some (sym fit.2)) gap sent calm.goes;
+            pends = keepers.append_pends (IsUndelivered w done) (IsUndelivered v (suc done)) q m x.to.number ours.b a split (omega (arith, ours.fence, fit.2)) (ours.installed ∙ ap Some (sym fit.2)) gap sent c cl.pending calm.pends;
           },
         )
 
@@ -269,10 +269,10 @@ module _ (w v : World) (done : ℕ) (x : Message) (at : At (messages w) done x) 
 
     record_answer : (y : Message)
         → IsAmong y (on_witness x.to.number its_witness.x (client_node 1) (body.Record k)).messages
-        → MessageFits c y × NoGap v y.to y.body
+        → IsAwaited c y × NoGap v y.to y.body
     unfolding on_witness
     record_answer y among = elim (among_cases y _ [] among) [
-      | inl same ↦ subst (λ (z : Message). MessageFits c z × NoGap v z.to z.body) same (verdict_fits _)
+      | inl same ↦ subst (λ (z : Message). IsAwaited c z × NoGap v z.to z.body) same (verdict_fits _)
       | inr none ↦ absurd (among_none y none)
     ]
       where
@@ -285,21 +285,21 @@ module _ (w v : World) (done : ℕ) (x : Message) (at : At (messages w) done x) 
     record_kept =
         let r : Moved WitnessState = on_witness x.to.number its_witness.x (client_node 1) (body.Record k) in
         let moved : WitnessDid w v r = subst (WitnessDid w v) record_moved (witness_did w v x x.to.number its_witness.x did its_witness.name its_witness.is) in
-        let split : (y : Message) → IsDue w done y → (y ≡ says (client_node 1) (witness_node x.to.number) (body.Record k)) ⊎ IsDue v (suc done) y =
+        let split : (y : Message) → IsUndelivered w done y → (y ≡ says (client_node 1) (witness_node x.to.number) (body.Record k)) ⊎ IsUndelivered v (suc done) y =
         λ y due. elim (splits w v done x at r.messages moved.said y due) [ inl same ↦ inl (same ∙ whole_record) | inr later ↦ inr later ] in
         witness_kept x.to.number its_witness.x its_witness.name its_witness.is r record_moved (subst ways.NoRound (sym is_record) tt)
-        (keepers.record_pends (IsDue w done) (IsDue v (suc done)) m c 1 x.to.number its_witness.x k split (new_due w v done x at r.messages moved.said) cl.pending) record_answer
+        (keepers.record_pends (IsUndelivered w done) (IsUndelivered v (suc done)) m c 1 x.to.number its_witness.x k split (new_due w v done x at r.messages moved.said) cl.pending) record_answer
 
   -- ---- a collection, at a witness
 
   dull_pends : (r : Moved WitnessState) → messages v ≡ messages w ++ r.messages → (b : Body) → x.body ≡ b
       → ((p : Pending) → pending.NoAsk x.from x.to b c p) → ((p : Pending) → pending.NoRecord x.from x.to b c p)
       → ((p : Pending) → pending.NoAnswer x.from x.to b c p)
-      → PendsOne (IsDue w done) m c cl.pending → PendsOne (IsDue v (suc done)) m c cl.pending
+      → PendsOne (IsUndelivered w done) m c cl.pending → PendsOne (IsUndelivered v (suc done)) m c cl.pending
   dull_pends r said b is ask rec none goes =
-      let split : (y : Message) → IsDue w done y → (y ≡ says x.from x.to b) ⊎ IsDue v (suc done) y =
+      let split : (y : Message) → IsUndelivered w done y → (y ≡ says x.from x.to b) ⊎ IsUndelivered v (suc done) y =
       λ y due. elim (splits w v done x at r.messages said y due) [ inl same ↦ inl (same ∙ λ i. record { from = x.from; to = x.to; body = is i }) | inr later ↦ inr later ] in
-      pending.pends_on (IsDue w done) (IsDue v (suc done)) m m c (λ p. pending.all_on (IsDue w done) (IsDue v (suc done)) x.from x.to b split c p m (ask p) (rec p) (none p)) cl.pending goes
+      pending.pends_on (IsUndelivered w done) (IsUndelivered v (suc done)) m m c (λ p. pending.all_on (IsUndelivered w done) (IsUndelivered v (suc done)) x.from x.to b split c p m (ask p) (rec p) (none p)) cl.pending goes
 
   module _ (k : Gc) (is_gc : x.body ≡ body.Gc k) where
     gc_fit : IsAmong x.to c.witnesses × (x.from ≡ c.master)
@@ -312,10 +312,10 @@ module _ (w v : World) (done : ℕ) (x : Message) (at : At (messages w) done x) 
     gc_moved = ap (λ (b : Body). on_witness x.to.number gc_witness.x x.from b) is_gc
 
     gc_answer : (y : Message) → IsAmong y (on_witness x.to.number gc_witness.x x.from (body.Gc k)).messages
-        → MessageFits c y × NoGap v y.to y.body
+        → IsAwaited c y × NoGap v y.to y.body
     unfolding on_witness
     gc_answer y among = elim (among_cases y _ [] among) [
-      | inl same ↦ subst (λ (z : Message). MessageFits c z × NoGap v z.to z.body) same (gc_fit.1, tt)
+      | inl same ↦ subst (λ (z : Message). IsAwaited c z × NoGap v z.to z.body) same (gc_fit.1, tt)
       | inr none ↦ absurd (among_none y none)
     ]
 
@@ -333,7 +333,7 @@ module _ (w v : World) (done : ℕ) (x : Message) (at : At (messages w) done x) 
       let fit : (x.to ≡ manager_node) × (x.from ≡ client_node 1) = subst (FitsIn c x.from x.to) is (calm.fits x here) in
       let moved : FetchDid w v x.from = fetch_did w v x did fit.0 is in
       let more : List Message = says manager_node x.from (body.Configuration w.manager.config) ∷ [] in
-      let split : (y : Message) → IsDue w done y → (y ≡ says x.from x.to body.Fetch) ⊎ IsDue v (suc done) y =
+      let split : (y : Message) → IsUndelivered w done y → (y ≡ says x.from x.to body.Fetch) ⊎ IsUndelivered v (suc done) y =
       λ y due. elim (splits w v done x at more moved.said y due) [ inl same ↦ inl (same ∙ λ i. record { from = x.from; to = x.to; body = is i }) | inr later ↦ inr later ] in (
         m,
         cl,
@@ -352,7 +352,7 @@ module _ (w v : World) (done : ℕ) (x : Message) (at : At (messages w) done x) 
           fits = λ y due. elim (due_from w v done x at more moved.said y due) [
             | inl old ↦ calm.fits y old
             | inr is ↦ elim (among_cases y _ [] is) [
-              | inl same ↦ subst (MessageFits c) same (ap (λ (n : NodeId). n.kind) fit.1, calm.manager)
+              | inl same ↦ subst (IsAwaited c) same (ap (λ (n : NodeId). n.kind) fit.1, calm.manager)
               | inr none ↦ absurd (among_none y none)
             ]
           ];
@@ -363,8 +363,8 @@ module _ (w v : World) (done : ℕ) (x : Message) (at : At (messages w) done x) 
               | inr none ↦ absurd (among_none y none)
             ]
           ];
-          goes = ways.master_goes (IsDue w done) (IsDue v (suc done)) x.from x.to body.Fetch split tt q m calm.goes;
-          pends = pending.pends_on (IsDue w done) (IsDue v (suc done)) m m c (λ p. pending.all_on (IsDue w done) (IsDue v (suc done)) x.from x.to body.Fetch split c p m
+          goes = ways.master_goes (IsUndelivered w done) (IsUndelivered v (suc done)) x.from x.to body.Fetch split tt q m calm.goes;
+          pends = pending.pends_on (IsUndelivered w done) (IsUndelivered v (suc done)) m m c (λ p. pending.all_on (IsUndelivered w done) (IsUndelivered v (suc done)) x.from x.to body.Fetch split c p m
               (record { updates = λ z. z; syncs = λ z. z; reads = λ z. z }) (record { records = λ y z. z; accepts = λ y z. z; rejects = λ z. z }) (record { synced = λ z. z; early = λ z. z; value = λ z. z })) cl.pending calm.pends;
         },
       )

@@ -9,7 +9,7 @@ use Rattle.curp_msg.specs.declared.script.Step.TheVariants as steps
 use Rattle.curp_model.specs.Client.{ClientState}
 use Rattle.curp_model.specs.Master.{MasterState}
 use Rattle.curp_model.specs.World.{World, messages, step}
-use Rattle.curp_law_quiet.specs.Calm.{Calm, IsDue}
+use Rattle.curp_law_quiet.specs.Calm.{Calm, IsUndelivered}
 use Rattle.curp_law_quiet.specs.Grounds.{Grounds, IsCalm}
 use Rattle.curp_law_quiet.proofs.Ends.{none_pends}
 use Rattle.curp_law_quiet.proofs.Kept.{kept}
@@ -23,10 +23,10 @@ pub delivers_on : (w : World) (done : ℕ) (x : Message) → At (messages w) don
 delivers_on w done x at made c q m cl calm grounds = kept w (step w (steps.Deliver (suc done))).world done x at (delivered w done x at made) c q m cl calm grounds
 
 -- where every message is delivered, none is on its way
-nothing_due : (w : World) → (x : Message) → IsDue w (length (messages w)) x → ⊥
+nothing_due : (w : World) → (x : Message) → IsUndelivered w (length (messages w)) x → ⊥
 nothing_due w x due = absurd (omega (arith, due.1, at_within (messages w) due.0 x due.2))
 
 -- then no request pends
 pub none_left : (w : World) (c : PartConfig) (q : ℕ) (m : MasterState) (cl : ClientState)
     → Calm w (length (messages w)) c q m cl → 1 ≤ length m.backups → cl.pending ≡ []
-none_left w c q m cl calm some = none_pends (IsDue w (length (messages w))) (nothing_due w) q m calm.goes some c cl.pending calm.pends
+none_left w c q m cl calm some = none_pends (IsUndelivered w (length (messages w))) (nothing_due w) q m calm.goes some c cl.pending calm.pends

@@ -28,7 +28,7 @@ use Rattle.curp_model.specs.Master.{MasterState}
 use Rattle.curp_model.specs.Recovery.{MasterStage, master_input}
 use Rattle.curp_model.specs.Witness.{WitnessState, witness_input}
 use Rattle.curp_model.specs.World.{World, messages, moves_kind, moves_one, with_backup, with_master, with_witness}
-use Rattle.curp_law_quiet.specs.Calm.{Calm, IsDue, FitsIn}
+use Rattle.curp_law_quiet.specs.Calm.{Calm, IsUndelivered, FitsIn}
 use Rattle.curp_law_quiet.specs.Grounds.{Grounds}
 use Rattle.curp_law_quiet.specs.Learns.{BringsConfiguration, ClientLearns, Fetches, IsBehindEntry, Learns}
 use Rattle.curp_law_quiet.specs.Ways.{OnWay}
@@ -115,10 +115,10 @@ module _ (w v : World) (done : ℕ) (x : Message) (at : At (messages w) done x) 
     (q : ℕ) (m : MasterState) (cl : ClientState) (calm : Calm w done c q m cl) (grounds : Grounds w done c m cl)
     (behind : IsBehindEntry w c cl) (learns : ClientLearns w done c) where
   abbrev D : Message → Type 0
-  D = IsDue w done
+  D = IsUndelivered w done
 
   abbrev E : Message → Type 0
-  E = IsDue v (suc done)
+  E = IsUndelivered v (suc done)
 
   same_client : (k : ClientState) → v.clients ≡ k ∷ [] → (k2 : ClientState) → v.clients ≡ k2 ∷ [] → k2 ≡ k
   same_client k a k2 b = cc
@@ -223,5 +223,5 @@ learnt_at_end w c cl is learns = elim (learns cl is) [
   | inr way ↦ elim way [ inl f ↦ absurd (none f.0 f.1) | inr b ↦ absurd (none b.0 b.1) ]
 ]
   where
-    none : (x : Message) → IsDue w (length (messages w)) x → ⊥
+    none : (x : Message) → IsUndelivered w (length (messages w)) x → ⊥
     none x due = absurd (omega (arith, due.1, at_within (messages w) due.0 x due.2))

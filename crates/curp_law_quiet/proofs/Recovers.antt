@@ -25,7 +25,7 @@ use Rattle.curp_model.specs.Log.{is_log}
 use Rattle.curp_model.specs.Recovery.{Asking, RecoveryPhase, RecoveryState, Replayed, Storing, Waiting, all_complete, append_answered, both_there, completed_by, fence_answered, log_comes, on_recover, recovered_message, replay, requests_come, stored_comes, with_complete}
 use Rattle.curp_law_masters.proofs.Lists.{each_among}
 use Rattle.curp_law_quiet.specs.Recovers.{ComesLog, ComesRequests, CompletesBackup, Fences, AsksToFreeze, GivesLog, GivesRequests, IsGivenLog, PhaseGoes, TellsRecovered}
-use Rattle.curp_law_quiet.specs.Ways.{Appends, HasStored, OnWay, Stores}
+use Rattle.curp_law_quiet.specs.Ways.{Appends, AnswersStored, OnWay, Stores}
 use Rattle.curp_law_quiet.proofs.Lists.{all_tested, among_first, among_later, among_map, each_of}
 use Rattle.curp_law_quiet.proofs.Settles.{is_found}
 use Rattle.curp_law_quiet.proofs.Ways as ways
@@ -264,7 +264,7 @@ module _ (D E : Message → Type 0) (q : ℕ) (o : Recover) (filled : 1 ≤ leng
         where
           none : (k : NodeId) → IsAmong k o.backups → Stores q k (length r.log) 0 from to (body.Appended a) → ⊥
           none k among it =
-              let has : (length r.log ≤ long) × (0 ≤ a.round) = subst (λ (z : AppendAnswer). HasStored (length r.log) 0 a.round z) is it.2 in
+              let has : (length r.log ≤ long) × (0 ≤ a.round) = subst (λ (z : AppendAnswer). AnswersStored (length r.log) 0 a.round z) is it.2 in
               let found : is_among from o.backups ≡ true = subst (λ (z : NodeId). is_among z o.backups ≡ true) (sym it.0) (is_found k o.backups among) in
               let here : (is_among from s.order.backups && nat_le (length r.log) long) ≡ true =
               subst (λ (k : Recover). (is_among from k.backups && nat_le (length r.log) long) ≡ true) (sym same) (and_from _ _ found (le-leb (length r.log) long has.0)) in
@@ -276,7 +276,7 @@ module _ (D E : Message → Type 0) (q : ℕ) (o : Recover) (filled : 1 ≤ leng
       comes long is (Storing r) e g sent = tested long is r e g _ refl sent
       comes long is (Waiting r) e g sent = rests_in (Waiting r) e (other_phase (Waiting r) (λ k z. absurd cc) g)
 
-      refused_on : (p : RecoveryPhase) → s.phase ≡ p → ((long : ℕ) → HasStored long 0 a.round a.answer → ⊥)
+      refused_on : (p : RecoveryPhase) → s.phase ≡ p → ((long : ℕ) → AnswersStored long 0 a.round a.answer → ⊥)
           → PhaseGoes D q o p → Goes E q o (quiet s)
       refused_on (Asking log requests) e none g = rests_in (Asking log requests) e (other_phase (Asking log requests) (λ r z. absurd cc) g)
       refused_on (Storing r) e none g = rests_in (Storing r) e (rests_on r (λ k among it. none (length r.log) it.2) g)
@@ -285,9 +285,9 @@ module _ (D E : Message → Type 0) (q : ℕ) (o : Recover) (filled : 1 ≤ leng
       by : (z : AppendAnswer) → a.answer ≡ z → AllGo E (append_answered q s from z)
           → Goes E q o (append_answered q s from z)
       by (Stored long) is sent = comes long is s.phase refl goes sent
-      by (Fenced k) is sent = refused_on s.phase refl (λ long it. subst (λ (z : AppendAnswer). HasStored long 0 a.round z) is it) goes
-      by (Gap k) is sent = refused_on s.phase refl (λ long it. subst (λ (z : AppendAnswer). HasStored long 0 a.round z) is it) goes
-      by NotInstalled is sent = refused_on s.phase refl (λ long it. subst (λ (z : AppendAnswer). HasStored long 0 a.round z) is it) goes
+      by (Fenced k) is sent = refused_on s.phase refl (λ long it. subst (λ (z : AppendAnswer). AnswersStored long 0 a.round z) is it) goes
+      by (Gap k) is sent = refused_on s.phase refl (λ long it. subst (λ (z : AppendAnswer). AnswersStored long 0 a.round z) is it) goes
+      by NotInstalled is sent = refused_on s.phase refl (λ long it. subst (λ (z : AppendAnswer). AnswersStored long 0 a.round z) is it) goes
 
 -- ---- at the end
 

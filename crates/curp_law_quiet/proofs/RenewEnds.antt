@@ -9,7 +9,7 @@ use Rattle.curp_msg.specs.declared.script.Protocol.TheVariants.{One}
 use Rattle.curp_model.specs.Client.{ClientState, Pending}
 use Rattle.curp_model.specs.Master.{Captured}
 use Rattle.curp_model.specs.World.{World, messages}
-use Rattle.curp_law_quiet.specs.Calm.{Calm, IsDue}
+use Rattle.curp_law_quiet.specs.Calm.{Calm, IsUndelivered}
 use Rattle.curp_law_quiet.specs.Renews.{IsRenewed, renewed}
 use Rattle.curp_law_quiet.specs.Ways.{CaptureGoes, HeldGoes, PendsOne}
 
@@ -31,11 +31,11 @@ renewed_calm w c q o re cl client fast protocol empty = record {
   fits = λ x due. absurd (none x due);
   no_gaps = λ x due. absurd (none x due);
   goes = record {
-    held = subst (λ (xs : List ℕ). Each (HeldGoes (IsDue w (length (messages w))) q re.m) xs) (sym re.idle.held) tt;
-    captures = subst (λ (xs : List Captured). Each (CaptureGoes (IsDue w (length (messages w))) q re.m) xs) (sym re.idle.captures) tt;
+    held = subst (λ (xs : List ℕ). Each (HeldGoes (IsUndelivered w (length (messages w))) q re.m) xs) (sym re.idle.held) tt;
+    captures = subst (λ (xs : List Captured). Each (CaptureGoes (IsUndelivered w (length (messages w))) q re.m) xs) (sym re.idle.captures) tt;
   };
-  pends = subst (λ (ps : List Pending). PendsOne (IsDue w (length (messages w))) re.m (renewed c q o) ps) (sym empty) tt;
+  pends = subst (λ (ps : List Pending). PendsOne (IsUndelivered w (length (messages w))) re.m (renewed c q o) ps) (sym empty) tt;
 }
   where
-    none : (x : Message) → IsDue w (length (messages w)) x → ⊥
+    none : (x : Message) → IsUndelivered w (length (messages w)) x → ⊥
     none x due = absurd (omega (arith, due.1, at_within (messages w) due.0 x due.2))

@@ -34,11 +34,11 @@ use Rattle.curp_msg.specs.declared.body.FenceAnswer.{FenceAnswer}
 use Rattle.curp_model.specs.Recovery.{Asking, Fresh, MasterStage, Recovering, RecoveryPhase, RecoveryState, Replayed, Serving, Storing, Waiting, append_answered, fence_answered, on_master, on_recover, requests_come, serves}
 use Rattle.curp_model.specs.Witness.{WitnessState, frozen_requests, on_witness, start}
 use Rattle.curp_model.specs.World.{World, messages}
-use Rattle.curp_law_quiet.specs.Calm.{IsDue}
+use Rattle.curp_law_quiet.specs.Calm.{IsUndelivered}
 use Rattle.curp_law_quiet.specs.Recovers.{CompletesBackup, GivesLog, GivesRequests, OrdersRecovery, PhaseGoes, TellsRecovered}
-use Rattle.curp_law_quiet.specs.Renews.{IsInstalled, IsSteady, Renewal, RenewFits, RenewGrounds, Renewing, ServesIdle, TellsAdopted, WillInstall, IsRenewed, renewed}
+use Rattle.curp_law_quiet.specs.Renews.{IsInstalled, IsSteady, Renewal, RenewFits, RenewGrounds, Renewing, ServesIdle, TellsRenewed, WillInstall, IsRenewed, renewed}
 use Rattle.curp_law_quiet.specs.Renews.Renewal.{Adopts, Attempts, Ordered, Serves}
-use Rattle.curp_law_quiet.specs.Ways.{Appends, HasStored, OnWay, Stores}
+use Rattle.curp_law_quiet.specs.Ways.{Appends, AnswersStored, OnWay, Stores}
 use Rattle.curp_law_quiet.proofs.Lists.{among_cases, among_first, among_none}
 use Rattle.curp_law_quiet.proofs.Adopts.{adopts_it, fence_told, freeze_told}
 use Rattle.curp_law_quiet.proofs.Keepers.{append_stores, long_enough}
@@ -113,7 +113,7 @@ stored_told : (E : Message → Type 0) (q number : ℕ) (b : BackupState) (a : A
 unfolding on_backup
 stored_told E q number b a fence installed gap sent long round low late =
     let is : (append b a.epoch a.base a.entries).answer ≡ Stored (length (longer b.log a.base a.entries)) = ap (λ (k : AfterAppend). k.answer) (append_stores b a.epoch a.base a.entries fence installed gap) in
-    (_, sent _ (among_first _ []), (refl, refl, subst (λ (s : AppendAnswer). HasStored long round a.round s) (sym is) (omega (arith, low, long_enough b.log a.entries a.base gap), late)))
+    (_, sent _ (among_first _ []), (refl, refl, subst (λ (s : AppendAnswer). AnswersStored long round a.round s) (sym is) (omega (arith, low, long_enough b.log a.entries a.base gap), late)))
 
 -- an install changes nothing of what is installed, and installs what isn't
 install_keeps : (b : BackupState) (own epoch : ℕ) → b.installed ≡ Some own → install b epoch ≡ b
@@ -149,12 +149,12 @@ fits_later S T f q o from to _ fit = absurd fit
 module _ (w v : World) (done : ℕ) (x : Message) (at : At (messages w) done x) (did : Delivered w v x) (c : PartConfig)
     (q : ℕ) (o : Recover) (cl : ClientState) (re : Renewing w done c q o cl) (g : RenewGrounds w done q o) where
   abbrev D : Message → Type 0
-  D = IsDue w done
+  D = IsUndelivered w done
 
   abbrev E : Message → Type 0
-  E = IsDue v (suc done)
+  E = IsUndelivered v (suc done)
 
-  here : IsDue w done x
+  here : IsUndelivered w done x
   here = (done, omega arith, at)
 
   fit_as : (b : Body) → x.body ≡ b → RenewFits (IsSteady w) q o x.from x.to b
@@ -199,7 +199,7 @@ module _ (w v : World) (done : ℕ) (x : Message) (at : At (messages w) done x) 
         (inst : (k : NodeId) → IsAmong k o.backups → IsInstalled w o k → IsInstalled v o k)
         (home : (k : NodeId) → IsAmong k o.backups → WillInstall w done o k → IsInstalled v o k ⊎ WillInstall v (suc done) o k)
         (orders : OnWay D (OrdersRecovery q o) → OnWay E (OrdersRecovery q o)) (phases : (p : RecoveryPhase) → PhaseGoes D q o p → ((k : NodeId) → IsAmong k o.backups → IsInstalled w o k) → PhaseGoes E q o p)
-        (adopted : OnWay D (TellsAdopted q) → OnWay E (TellsAdopted q)) where
+        (adopted : OnWay D (TellsRenewed q) → OnWay E (TellsRenewed q)) where
       rests : Renewal w done c q o → Renewal v (suc done) c q o
       rests (Ordered fresh way homes entry doing) = Ordered (masters q Fresh fresh) (orders way)
           (λ k a. elim (homes k a) [ inl i ↦ inl (inst k a i) | inr i ↦ home k a i ])
@@ -263,7 +263,7 @@ module _ (w v : World) (done : ℕ) (x : Message) (at : At (messages w) done x) 
       (λ k a i. inr (will_later [] said k i i.b (subst (λ (l : List BackupState). numbered l k.number ≡ Some i.b) (sym moved.backups) i.is) i.bare i.fence (other_place (body.Start s) e tt k i) (λ m b from to r same. among_none m b)))
       (ways.carry D E x.from x.to (body.Start s) (split_as [] said (body.Start s) e) (OrdersRecovery q o) (λ z. z))
       (λ p goes installed. phase_on D E q o g.filled x.from x.to (body.Start s) (split_as [] said (body.Start s) e) (record { fences = λ z. z; logs = λ z. z; freezes = λ z. z; requests = λ z. z; appends = λ k l z. z; stored = λ k l z. z; told = λ z. z }) p goes)
-      (ways.carry D E x.from x.to (body.Start s) (split_as [] said (body.Start s) e) (TellsAdopted q) (λ z. z)) re.renewal)
+      (ways.carry D E x.from x.to (body.Start s) (split_as [] said (body.Start s) e) (TellsRenewed q) (λ z. z)) re.renewal)
 
   -- ---- an install
 
@@ -279,7 +279,7 @@ module _ (w v : World) (done : ℕ) (x : Message) (at : At (messages w) done x) 
       (λ k a i. installs k i y.0 y.1 fit.1 moved)
       (ways.carry D E x.from x.to (body.Install epoch) (split_as [] moved.said (body.Install epoch) e) (OrdersRecovery q o) (λ z. z))
       (λ p goes installed. phase_on D E q o g.filled x.from x.to (body.Install epoch) (split_as [] moved.said (body.Install epoch) e) (record { fences = λ z. z; logs = λ z. z; freezes = λ z. z; requests = λ z. z; appends = λ k l z. z; stored = λ k l z. z; told = λ z. z }) p goes)
-      (ways.carry D E x.from x.to (body.Install epoch) (split_as [] moved.said (body.Install epoch) e) (TellsAdopted q) (λ z. z)) re.renewal)
+      (ways.carry D E x.from x.to (body.Install epoch) (split_as [] moved.said (body.Install epoch) e) (TellsRenewed q) (λ z. z)) re.renewal)
     where
       installs : (k : NodeId) (i : WillInstall w done o k) (s : BackupState) → numbered w.backups x.to.number ≡ Some s
           → epoch ≡ o.epoch → BackupDid w v x.to.number (quiet (install s epoch))
@@ -320,7 +320,7 @@ module _ (w v : World) (done : ℕ) (x : Message) (at : At (messages w) done x) 
       (λ k a i. inr (will_later r.messages moved.said k i i.b (far k a i.b i.is) i.bare i.fence (other_place b as_it tt k i) no_orders))
       (ways.carry D E x.from x.to b split (OrdersRecovery q o) (λ z. z))
       (λ p goes installed. fenced r.messages moved.said as_it (fence_told E q o number g.b g.backup g.unfenced g.its_log sent) p goes)
-      (ways.carry D E x.from x.to b split (TellsAdopted q) (λ z. z)) re.renewal)
+      (ways.carry D E x.from x.to b split (TellsRenewed q) (λ z. z)) re.renewal)
     where
       answer_fits : x.from ≡ master_node q → (y : Message)
           → IsAmong y (on_backup o.backup.number g.b (master_node q) (body.Fence o.epoch)).messages
@@ -370,7 +370,7 @@ module _ (w v : World) (done : ℕ) (x : Message) (at : At (messages w) done x) 
       (λ k a i. inr (will_later r.messages moved.said k i i.b (subst (λ (l : List BackupState). numbered l k.number ≡ Some i.b) (sym moved.backups) i.is) i.bare i.fence (other_place b as_it tt k i) no_orders))
       (ways.carry D E x.from x.to b split (OrdersRecovery q o) (λ z. z))
       (λ p goes installed. frozen r.messages moved.said as_it (freeze_told E q o number g.x g.witness sent) p goes)
-      (ways.carry D E x.from x.to b split (TellsAdopted q) (λ z. z)) re.renewal)
+      (ways.carry D E x.from x.to b split (TellsRenewed q) (λ z. z)) re.renewal)
     where
       answer_fits : (y : Message)
           → IsAmong y (on_witness o.witness.number g.x (master_node q) (body.Freeze o.epoch)).messages
@@ -421,7 +421,7 @@ module _ (w v : World) (done : ℕ) (x : Message) (at : At (messages w) done x) 
       (ways.carry D E x.from x.to b split (OrdersRecovery q o) (λ z. z))
       (λ p goes installed. appended fit.0 fit.2 fit.3 r.messages moved.said e
       (λ long round low late. stores_it (installed x.to fit.1) fit.2 fit.3 y.0 y.1 name (new_due w v done x at r.messages moved.said) long round low late) p goes)
-      (ways.carry D E x.from x.to b split (TellsAdopted q) (λ z. z)) re.renewal)
+      (ways.carry D E x.from x.to b split (TellsRenewed q) (λ z. z)) re.renewal)
     where
       answer_fits : (s : BackupState) (y : Message)
           → IsAmong y (on_backup x.to.number s (master_node q) (body.Append a)).messages
@@ -549,12 +549,12 @@ module _ (w v : World) (done : ℕ) (x : Message) (at : At (messages w) done x) 
 
     -- one that waits to hear of its adoption rests
     adopting_rests : (s : RecoveryState) (k : Replayed) → numbered w.masters q ≡ Some (Recovering s) → s.order ≡ o
-        → s.phase ≡ Waiting k → OnWay D (TellsAdopted q) → ((k : NodeId) → IsAmong k o.backups → IsInstalled w o k)
-        → w.manager.config.parts ≡ renewed c q o ∷ [] → w.manager.doing ≡ manager.Steady ∷ [] → (b : Body) → x.body ≡ b → IsWaited b → (TellsAdopted q x.from x.to b → ⊥) → Renewing v (suc done) c q o cl
+        → s.phase ≡ Waiting k → OnWay D (TellsRenewed q) → ((k : NodeId) → IsAmong k o.backups → IsInstalled w o k)
+        → w.manager.config.parts ≡ renewed c q o ∷ [] → w.manager.doing ≡ manager.Steady ∷ [] → (b : Body) → x.body ≡ b → IsWaited b → (TellsRenewed q x.from x.to b → ⊥) → Renewing v (suc done) c q o cl
     adopting_rests s k is order waits way installed entry doing b e waited other =
         let moved = still (Recovering s) is b e (on_waiting q s k x.from b waits waited) in
         renews [] moved.said moved.clients (λ z. doing_after (manager.Steady ∷ []) moved.manager z) (λ m a. absurd (among_none m a))
-        (Adopts s k moved.master order waits (ways.carry D E x.from x.to b (split_as [] moved.said b e) (TellsAdopted q) other way) (installed_after moved.backups installed) (entry_after _ moved.manager entry) (doing_after _ moved.manager doing))
+        (Adopts s k moved.master order waits (ways.carry D E x.from x.to b (split_as [] moved.said b e) (TellsRenewed q) other way) (installed_after moved.backups installed) (entry_after _ moved.manager entry) (doing_after _ moved.manager doing))
 
     -- it hears of it, and serves
     adopting_serves : (s : RecoveryState) (k : Replayed) → numbered w.masters q ≡ Some (Recovering s) → s.order ≡ o
@@ -621,7 +621,7 @@ module _ (w v : World) (done : ℕ) (x : Message) (at : At (messages w) done x) 
         attempts_by s is order goes installed entry doing _ f h = absurd h
 
         adopts_by : (s : RecoveryState) (k : Replayed) → numbered w.masters q ≡ Some (Recovering s) → s.order ≡ o
-            → s.phase ≡ Waiting k → OnWay D (TellsAdopted q)
+            → s.phase ≡ Waiting k → OnWay D (TellsRenewed q)
             → ((k : NodeId) → IsAmong k o.backups → IsInstalled w o k)
             → w.manager.config.parts ≡ renewed c q o ∷ [] → w.manager.doing ≡ manager.Steady ∷ [] → (z : Body) → b ≡ z → IsMasters z → Renewing v (suc done) c q o cl
         adopts_by s k is order waits way installed entry doing (body.Adopted a) f h = adopting_serves s k is order waits installed entry doing a (e ∙ f)
@@ -683,7 +683,7 @@ module _ (w v : World) (done : ℕ) (x : Message) (at : At (messages w) done x) 
       by (Attempts s is order goes installed entry doing) = let k = (g.told x here told).1 s is in adopts_now s k.0 is order k.1 installed entry doing
       by (Adopts s k is order waits way installed entry doing) = steady_again entry doing (λ more said same.
           let moved = moved_to _ refl in
-          Adopts s k (moved.masters q (Recovering s) is) order waits (ways.carry D E x.from x.to (body.Recovered r) (split_as more said (body.Recovered r) e) (TellsAdopted q) (λ z. z) way) (λ node a. inst moved node (installed node a))
+          Adopts s k (moved.masters q (Recovering s) is) order waits (ways.carry D E x.from x.to (body.Recovered r) (split_as more said (body.Recovered r) e) (TellsRenewed q) (λ z. z) way) (λ node a. inst moved node (installed node a))
           (ap (λ (z : ManagerState). z.config.parts) same ∙ entry) (ap (λ (z : ManagerState). z.doing) same ∙ doing))
       by (Serves m is idle installed entry doing) = steady_again entry doing (λ more said same.
           let moved = moved_to _ refl in
@@ -714,11 +714,11 @@ pub renewed_at_end : (w : World) (c : PartConfig) (q : ℕ) (o : Recover) (cl : 
     → Renewing w (length (messages w)) c q o cl → IsRenewed w c q o
 renewed_at_end w c q o cl re = by re.renewal
   where
-    none : (x : Message) → IsDue w (length (messages w)) x → ⊥
+    none : (x : Message) → IsUndelivered w (length (messages w)) x → ⊥
     none x due = absurd (omega (arith, due.1, at_within (messages w) due.0 x due.2))
 
     by : Renewal w (length (messages w)) c q o → IsRenewed w c q o
     by (Ordered fresh way homes entry doing) = absurd (none way.0 way.1)
-    by (Attempts s is order goes installed entry doing) = absurd (none_recovers (IsDue w (length (messages w))) none q o s.phase goes)
+    by (Attempts s is order goes installed entry doing) = absurd (none_recovers (IsUndelivered w (length (messages w))) none q o s.phase goes)
     by (Adopts s k is order waits way installed entry doing) = absurd (none way.0 way.1)
     by (Serves m is idle installed entry doing) = record { m = m; serves = is; idle = idle; installed = installed; adopted = entry; steady = doing }

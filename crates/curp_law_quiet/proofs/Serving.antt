@@ -25,7 +25,8 @@ use Rattle.curp_msg.specs.declared.body.Body.TheVariants as body
 use Rattle.curp_msg.specs.declared.message.Message.{Message}
 use Rattle.curp_model.specs.declared.Check.{Check}
 use Rattle.curp_model.specs.declared.Check.TheVariants.{Expired, Stale, Known, New}
-use Rattle.curp_model.specs.Master.{AtOnce, Captured, MasterState, Open, Phase, Switching, WhenSynced, begins_round, by_message, by_read_check, captures_read, is_open, last_round, on_collected, on_read, on_serving, read_command, read_of, read_refusal, state_of, treat, treated, treats, unless_it_ends}
+use Rattle.curp_model.specs.Master.{Captured, MasterState, Open, Phase, Switching, begins_round, by_message, by_read_check, captures_read, is_open, last_round, on_collected, on_read, on_serving, read_command, read_of, read_refusal, state_of, treat, treated, treats, unless_it_ends}
+use Rattle.curp_model.specs.declared.Wish.TheVariants.{AtOnce, WhenSynced}
 use Rattle.curp_model.specs.Ranges.{owns_all}
 use Rattle.curp_model.specs.Table.{check}
 use Rattle.curp_law_quiet.specs.Ways.{Gives, MasterGoes}

@@ -19,7 +19,7 @@ use Rattle.curp_facts.specs.Facts.{IsAmong}
 use Rattle.curp_model.specs.Master.{Acknowledged, Captured, MasterState, Open, Phase, answer_at, between, fresh_backups, from_backup, goes_on, is_ready, moved_entry, on_appended, on_stored, raised, reply, settle, stored_on, synced, synced_replies, synced_reply, value_of}
 use Rattle.curp_law_masters.proofs.Lists.{each_among, each_filtered}
 use Rattle.curp_law_masters.proofs.Settled.{settled_state}
-use Rattle.curp_law_quiet.specs.Ways.{Answers, Appends, CaptureGoes, Covered, WillCover, Gives, HeldGoes, IsCaptured, IsHeldFor, HasStored, MasterGoes, OnWay, Stores, SyncedReply, ValueOf}
+use Rattle.curp_law_quiet.specs.Ways.{Answers, Appends, CaptureGoes, Covered, WillCover, Gives, HeldGoes, IsCaptured, IsHeldFor, AnswersStored, MasterGoes, OnWay, Stores, SyncedReply, ValueOf}
 use Rattle.curp_law_quiet.specs.Ways.WillCover.{Comes, Goes, Known}
 use Rattle.curp_law_quiet.proofs.Acks.{raised_own, raised_rises}
 use Rattle.curp_law_quiet.proofs.Lists.{among_cases, among_filter, among_first, among_flat, among_left, among_map, among_right, each_of}
@@ -159,7 +159,7 @@ module _ (D E : Message → Type 0) (from to : NodeId) (a : Appended)
     over_raised k among l r (Goes w) = Goes (append_goes m.epoch k l r w)
     over_raised k among l r (Comes w) = elim (ways.meets D E from to (body.Appended a) split (Stores n k l r) w) [
       | inl it ↦
-          let has : (l ≤ long) × (r ≤ a.round) = subst (λ (s : AppendAnswer). HasStored l r a.round s) is it.2 in
+          let has : (l ≤ long) × (r ≤ a.round) = subst (λ (s : AppendAnswer). AnswersStored l r a.round s) is it.2 in
           let own = subst (λ (z : NodeId). (long ≤ (from_backup (raised m.acknowledged from long a.round) z).length) × (a.round ≤ (from_backup (raised m.acknowledged from long a.round) z).round)) it.0
           ((raised_own long a.round m.acknowledged from).length, (raised_own long a.round m.acknowledged from).round) in
           Known (omega (arith, has.0, own.0)) (omega (arith, has.1, own.1))
@@ -194,7 +194,7 @@ module _ (D E : Message → Type 0) (from to : NodeId) (a : Appended)
         by false e sent = rests (over_stranger e)
 
   -- another answer tells nothing
-  over_other : ((l r : ℕ) → HasStored l r a.round a.answer → ⊥) → Overs m.acknowledged
+  over_other : ((l r : ℕ) → AnswersStored l r a.round a.answer → ⊥) → Overs m.acknowledged
   over_other other k among l r (Known low late) = Known low late
   over_other other k among l r (Goes w) = Goes (append_goes m.epoch k l r w)
   over_other other k among l r (Comes w) = elim (ways.meets D E from to (body.Appended a) split (Stores n k l r) w) [
@@ -210,6 +210,6 @@ module _ (D E : Message → Type 0) (from to : NodeId) (a : Appended)
       by : (s : AppendAnswer) → a.answer ≡ s → AllSent E (on_appended n m from a.round s)
           → Keeps D E n m (on_appended n m from a.round s)
       by (Stored long) is sent = stored long is serves sent
-      by (Fenced fence) is sent = rests (over_other (λ l r it. subst (λ (s : AppendAnswer). HasStored l r a.round s) is it))
-      by (Gap long) is sent = rests (over_other (λ l r it. subst (λ (s : AppendAnswer). HasStored l r a.round s) is it))
-      by NotInstalled is sent = rests (over_other (λ l r it. subst (λ (s : AppendAnswer). HasStored l r a.round s) is it))
+      by (Fenced fence) is sent = rests (over_other (λ l r it. subst (λ (s : AppendAnswer). AnswersStored l r a.round s) is it))
+      by (Gap long) is sent = rests (over_other (λ l r it. subst (λ (s : AppendAnswer). AnswersStored l r a.round s) is it))
+      by NotInstalled is sent = rests (over_other (λ l r it. subst (λ (s : AppendAnswer). AnswersStored l r a.round s) is it))

@@ -40,7 +40,7 @@ use Rattle.curp_model.specs.Recovery.{MasterStage, Serving, master_input, master
 use Rattle.curp_model.specs.World.{World, Deed, Gives, deed_of, messages, moves, moves_one, result_of, step, steps_by, with_client, with_master}
 use Rattle.curp_law_steps.proofs.Moving.{its_result}
 use Rattle.curp_law_masters.proofs.Lists.{each_among}
-use Rattle.curp_law_quiet.specs.Calm.{Calm, IsDue, MessageFits, FitsIn, NoGap}
+use Rattle.curp_law_quiet.specs.Calm.{Calm, IsUndelivered, IsAwaited, FitsIn, NoGap}
 use Rattle.curp_law_quiet.specs.Ways.{EarlyReply, PendingGoes, PendsOne, Reads, GetsRecorded, Syncs, Updates}
 use Rattle.curp_law_quiet.proofs.Fits.{BeginsAt, Said, round_of}
 use Rattle.curp_law_quiet.proofs.Pending.{all_on, pends_on, recorded_on}
@@ -55,13 +55,13 @@ use Rattle.curp_law_quiet.specs.Grounds.{Grounds, IsCalm}
 -- what was on its way still is, and what was sent is
 module _ (w v : World) (done : ℕ) (more : List Message) (said : messages v ≡ messages w ++ more)
     (low : done ≤ length (messages w)) where
-  pub still_due : (y : Message) → IsDue w done y → IsDue v done y
+  pub still_due : (y : Message) → IsUndelivered w done y → IsUndelivered v done y
   still_due y due = (due.0, due.1, subst (λ (l : List Message). At l due.0 y) (sym said) (at_append (messages w) more due.0 y due.2))
 
-  pub sent_due : (y : Message) → IsAmong y more → IsDue v done y
+  pub sent_due : (y : Message) → IsAmong y more → IsUndelivered v done y
   sent_due y a = (length (messages w) + a.place, omega (arith, low), subst (λ (l : List Message). At l (length (messages w) + a.place) y) (sym said) (at_append_right (messages w) more a.place (length (messages w) + a.place) y refl a.stands))
 
-  pub due_was : (y : Message) → IsDue v done y → IsDue w done y ⊎ IsAmong y more
+  pub due_was : (y : Message) → IsUndelivered v done y → IsUndelivered w done y ⊎ IsAmong y more
   due_was y due = elim (at_append_cases (messages w) more due.0 y (subst (λ (l : List Message). At l due.0 y) said due.2)) [
     | inl old ↦ inl (due.0, due.1, old)
     | inr new ↦ inr (record { place = new.0; stands = new.2 })
@@ -166,44 +166,44 @@ module _ (w v : World) (done : ℕ) (low : done ≤ length (messages w)) (c : Pa
     out_is update e = ap (λ (f : Bool). sent_by 1 f cl.protocol (is_update command) r c) calm.fast ∙ ap (λ (p : Protocol). sent_by 1 true p (is_update command) r c) calm.protocol ∙ ap (λ (u : Bool). sent_by 1 true One u r c) e
 
     sent_it : (update : Bool) → is_update command ≡ update → (y : Message) → IsAmong y (sent_by 1 true One update r c)
-        → IsDue v done y
+        → IsUndelivered v done y
     sent_it update e y a = sent_due w v done out said low y (subst (λ (l : List Message). IsAmong y l) (sym (out_is update e)) a)
 
     abbrev fresh : Pending
     fresh = record { request = r; attempts = attempt_at c ∷ []; asked = false; early = []; accepts = []; glimpses = []; lives = [] }
 
-    record_sent : is_update command ≡ true → (x : NodeId) → IsAmong x c.witnesses → GetsRecorded (IsDue v done) c fresh x
+    record_sent : is_update command ≡ true → (x : NodeId) → IsAmong x c.witnesses → GetsRecorded (IsUndelivered v done) c fresh x
     record_sent e x a = inr (inr (inl (
       says (client_node 1) x (body.Record (record { request = r; epoch = c.epoch })),
       sent_it true e _ (among_later _ _ _ (among_map (λ to. says (client_node 1) to (body.Record (record { request = r; epoch = c.epoch }))) x c.witnesses a)),
       (refl, refl, refl, refl),
     )))
 
-    goes : PendingGoes (IsDue v done) m c fresh
+    goes : PendingGoes (IsUndelivered v done) m c fresh
     goes = record {
       sent_once = refl;
       update = λ e. record {
         unproved = refl;
         told = inr (inl (_, sent_it true e _ (among_first _ _), (refl, refl, refl, refl)));
         asked = λ asked. absurd cc;
-        recorded = each_among (GetsRecorded (IsDue v done) c fresh) c.witnesses (record_sent e);
+        recorded = each_among (GetsRecorded (IsUndelivered v done) c fresh) c.witnesses (record_sent e);
       };
       read = λ e. inl (_, sent_it false e _ (among_first _ _), (refl, refl, refl, refl));
     }
 
     fits_out : (update : Bool) → is_update command ≡ update → (y : Message)
-        → IsAmong y (sent_by 1 true One update r c) → MessageFits c y × NoGap v y.to y.body
-    fits_out update e y a = each_of (λ (z : Message). MessageFits c z × NoGap v z.to z.body) (sent_by 1 true One update r c) (all update) y a
+        → IsAmong y (sent_by 1 true One update r c) → IsAwaited c y × NoGap v y.to y.body
+    fits_out update e y a = each_of (λ (z : Message). IsAwaited c z × NoGap v z.to z.body) (sent_by 1 true One update r c) (all update) y a
       where
-        all : (u : Bool) → Each (λ (z : Message). MessageFits c z × NoGap v z.to z.body) (sent_by 1 true One u r c)
+        all : (u : Bool) → Each (λ (z : Message). IsAwaited c z × NoGap v z.to z.body) (sent_by 1 true One u r c)
         all true = (
           (refl, tt),
-          Each-map (λ (z : Message). MessageFits c z × NoGap v z.to z.body) (λ to. says (client_node 1) to (body.Record (record { request = r; epoch = c.epoch }))) c.witnesses
+          Each-map (λ (z : Message). IsAwaited c z × NoGap v z.to z.body) (λ to. says (client_node 1) to (body.Record (record { request = r; epoch = c.epoch }))) c.witnesses
               (each_among (λ to. (IsAmong to c.witnesses × (client_node 1 ≡ client_node 1)) × ⊤) c.witnesses (λ to among. ((among, refl), tt))),
         )
         all false = ((refl, tt), tt)
 
-    new_fits : (y : Message) → IsAmong y out → MessageFits c y × NoGap v y.to y.body
+    new_fits : (y : Message) → IsAmong y out → IsAwaited c y × NoGap v y.to y.body
     new_fits y a = fits_out (is_update command) refl y (subst (λ (l : List Message). IsAmong y l) (out_is (is_update command) refl) a)
 
     -- an update or a read is invoked
@@ -228,8 +228,8 @@ module _ (w v : World) (done : ℕ) (low : done ≤ length (messages w)) (c : Pa
           | inl old ↦ gap_stays y.to y.body (did.backups ∙ ap (λ (k : Moved World). k.state.backups) moved) (calm.no_gaps y old)
           | inr new ↦ (new_fits y new).1
         ];
-        goes = ways.master_goes (IsDue w done) (IsDue v done) (client_node 1) (client_node 1) body.Fetch (λ y due. inr (still_due w v done out said low y due)) tt q m calm.goes;
-        pends = subst (λ (ps : List Pending). PendsOne (IsDue v done) m c (ps ++ fresh ∷ [])) (sym empty) goes;
+        goes = ways.master_goes (IsUndelivered w done) (IsUndelivered v done) (client_node 1) (client_node 1) body.Fetch (λ y due. inr (still_due w v done out said low y due)) tt q m calm.goes;
+        pends = subst (λ (ps : List Pending). PendsOne (IsUndelivered v done) m c (ps ++ fresh ∷ [])) (sym empty) goes;
       },
     )
 
@@ -246,14 +246,14 @@ module _ (w v : World) (done : ℕ) (low : done ≤ length (messages w)) (c : Pa
     order_said : messages v ≡ messages w ++ r.messages
     order_said = did.said ∙ ap (λ (k : Moved World). messages w ++ k.messages) at_master
 
-    order_split : (y : Message) → IsDue w done y → (y ≡ says (client_node 1) (client_node 1) body.Fetch) ⊎ IsDue v done y
+    order_split : (y : Message) → IsUndelivered w done y → (y ≡ says (client_node 1) (client_node 1) body.Fetch) ⊎ IsUndelivered v done y
     order_split y due = inr (still_due w v done r.messages order_said low y due)
 
-    order_sent : AllSent (IsDue v done) r
+    order_sent : AllSent (IsUndelivered v done) r
     order_sent = sent_due w v done r.messages order_said low
 
-    pub order_calm : Keeps (IsDue w done) (IsDue v done) q m r
-        → ((y : Message) → IsAmong y r.messages → MessageFits c y × NoGap w y.to y.body) → IsCalm v done c q
+    pub order_calm : Keeps (IsUndelivered w done) (IsUndelivered v done) q m r
+        → ((y : Message) → IsAmong y r.messages → IsAwaited c y × NoGap w y.to y.body) → IsCalm v done c q
     order_calm keeps new = (
       r.state,
       cl,
@@ -272,21 +272,21 @@ module _ (w v : World) (done : ℕ) (low : done ≤ length (messages w)) (c : Pa
         fits = λ y due. elim (due_was w v done r.messages order_said low y due) [ inl old ↦ calm.fits y old | inr a ↦ (new y a).0 ];
         no_gaps = λ y due. gap_stays y.to y.body (did.backups ∙ ap (λ (k : Moved World). k.state.backups) at_master) (elim (due_was w v done r.messages order_said low y due) [ inl old ↦ calm.no_gaps y old | inr a ↦ (new y a).1 ]);
         goes = keeps.goes;
-        pends = pends_on (IsDue w done) (IsDue v done) m r.state c (λ p. record {
+        pends = pends_on (IsUndelivered w done) (IsUndelivered v done) m r.state c (λ p. record {
           told = λ way. elim way [
-            | inl k ↦ inl (carry (IsDue w done) (IsDue v done) (client_node 1) (client_node 1) body.Fetch order_split (Updates c p.request) (λ z. z) k)
+            | inl k ↦ inl (carry (IsUndelivered w done) (IsUndelivered v done) (client_node 1) (client_node 1) body.Fetch order_split (Updates c p.request) (λ z. z) k)
             | inr tells ↦ elim tells [
               | inl a ↦ inr (inl (keeps.answers p.request.id a))
-              | inr k ↦ inr (inr (carry (IsDue w done) (IsDue v done) (client_node 1) (client_node 1) body.Fetch order_split (EarlyReply c.master c.epoch c.version p.request.id) (λ z. z) k))
+              | inr k ↦ inr (inr (carry (IsUndelivered w done) (IsUndelivered v done) (client_node 1) (client_node 1) body.Fetch order_split (EarlyReply c.master c.epoch c.version p.request.id) (λ z. z) k))
             ]
           ];
           asked = λ way. elim way [
-            | inl k ↦ inl (carry (IsDue w done) (IsDue v done) (client_node 1) (client_node 1) body.Fetch order_split (Syncs c p.request) (λ z. z) k)
+            | inl k ↦ inl (carry (IsUndelivered w done) (IsUndelivered v done) (client_node 1) (client_node 1) body.Fetch order_split (Syncs c p.request) (λ z. z) k)
             | inr a ↦ inr (keeps.answers p.request.id a)
           ];
-          recorded = recorded_on (IsDue w done) (IsDue v done) (client_node 1) (client_node 1) body.Fetch order_split c p (record { records = λ y z. z; accepts = λ y z. z; rejects = λ z. z });
+          recorded = recorded_on (IsUndelivered w done) (IsUndelivered v done) (client_node 1) (client_node 1) body.Fetch order_split c p (record { records = λ y z. z; accepts = λ y z. z; rejects = λ z. z });
           read = λ reads way. elim way [
-            | inl k ↦ inl (carry (IsDue w done) (IsDue v done) (client_node 1) (client_node 1) body.Fetch order_split (Reads c p.request) (λ z. z) k)
+            | inl k ↦ inl (carry (IsUndelivered w done) (IsUndelivered v done) (client_node 1) (client_node 1) body.Fetch order_split (Reads c p.request) (λ z. z) k)
             | inr g ↦ inr (keeps.gives p.request.id g)
           ];
         }) cl.pending calm.pends;
@@ -312,7 +312,7 @@ module _ (w v : World) (done : ℕ) (low : done ≤ length (messages w)) (c : Pa
         let split = order_split local.Sync (begins_round q m) syncs did in
         let all = round_of c q m calm.its_master calm.epoch calm.backups calm.serves m refl refl refl refl in
         order_calm local.Sync (begins_round q m) syncs did
-        (begins (IsDue w done) (IsDue v done) (client_node 1) (client_node 1) body.Fetch split q m calm.goes grounds.bounded m.log m.held m.captures m.captured m.free m.queue (order_sent local.Sync (begins_round q m) syncs did) (prefix_self m.log) tt tt
+        (begins (IsUndelivered w done) (IsUndelivered v done) (client_node 1) (client_node 1) body.Fetch split q m calm.goes grounds.bounded m.log m.held m.captures m.captured m.free m.queue (order_sent local.Sync (begins_round q m) syncs did) (prefix_self m.log) tt tt
         (λ j a. a) (λ j a. inl a) (λ k a. a) (λ k a. inl a) (omega arith))
         (λ y a. let one = each_of (Said c q m calm.its_master calm.epoch calm.backups calm.serves) (begins_round q m).messages all y a in (one.0, gap_of y.from y.to y.body one.0 one.1))
       where
@@ -326,9 +326,9 @@ module _ (w v : World) (done : ℕ) (low : done ≤ length (messages w)) (c : Pa
 
     pub collect_calm : Gave w v (master_node q) (input.Local local.Collect) → IsCalm v done c q
     collect_calm did = order_calm local.Collect (collects q m) collects_open did
-        (grows (IsDue w done) (IsDue v done) (client_node 1) (client_node 1) body.Fetch (order_split local.Collect (collects q m) collects_open did) q m calm.goes grounds.bounded tt tt m.log m.free _ (prefix_self m.log) _)
-        (each_of (λ (z : Message). MessageFits c z × NoGap w z.to z.body) (collects q m).messages
-        (Each-map (λ (z : Message). MessageFits c z × NoGap w z.to z.body) (λ to. says (master_node q) to _) m.witnesses
+        (grows (IsUndelivered w done) (IsUndelivered v done) (client_node 1) (client_node 1) body.Fetch (order_split local.Collect (collects q m) collects_open did) q m calm.goes grounds.bounded tt tt m.log m.free _ (prefix_self m.log) _)
+        (each_of (λ (z : Message). IsAwaited c z × NoGap w z.to z.body) (collects q m).messages
+        (Each-map (λ (z : Message). IsAwaited c z × NoGap w z.to z.body) (λ to. says (master_node q) to _) m.witnesses
         (each_among (λ to. (IsAmong to c.witnesses × (master_node q ≡ c.master)) × ⊤) m.witnesses (λ to a. ((subst (λ (l : List NodeId). IsAmong to l) calm.witnesses a, sym calm.its_master), tt)))))
 
   -- ---- the client asks for the configuration
@@ -344,7 +344,7 @@ module _ (w v : World) (done : ℕ) (low : done ≤ length (messages w)) (c : Pa
     fetch_said : messages v ≡ messages w ++ says (client_node 1) manager_node body.Fetch ∷ []
     fetch_said = did.said ∙ ap (λ (k : Moved World). messages w ++ k.messages) fetch_moved
 
-    fetch_split : (y : Message) → IsDue w done y → (y ≡ says (client_node 1) (client_node 1) body.Fetch) ⊎ IsDue v done y
+    fetch_split : (y : Message) → IsUndelivered w done y → (y ≡ says (client_node 1) (client_node 1) body.Fetch) ⊎ IsUndelivered v done y
     fetch_split y due = inr (still_due w v done _ fetch_said low y due)
 
     pub fetch_calm : IsCalm v done c q
@@ -365,14 +365,14 @@ module _ (w v : World) (done : ℕ) (low : done ≤ length (messages w)) (c : Pa
         serves = calm.serves;
         fits = λ y due. elim (due_was w v done _ fetch_said low y due) [
           | inl old ↦ calm.fits y old
-          | inr a ↦ elim (among_cases y _ [] a) [ inl same ↦ subst (MessageFits c) same (refl, refl) | inr none ↦ absurd (among_none y none) ]
+          | inr a ↦ elim (among_cases y _ [] a) [ inl same ↦ subst (IsAwaited c) same (refl, refl) | inr none ↦ absurd (among_none y none) ]
         ];
         no_gaps = λ y due. elim (due_was w v done _ fetch_said low y due) [
           | inl old ↦ gap_stays y.to y.body (did.backups ∙ ap (λ (k : Moved World). k.state.backups) fetch_moved) (calm.no_gaps y old)
           | inr a ↦ elim (among_cases y _ [] a) [ inl same ↦ subst (λ (z : Message). NoGap v z.to z.body) same tt | inr none ↦ absurd (among_none y none) ]
         ];
-        goes = ways.master_goes (IsDue w done) (IsDue v done) (client_node 1) (client_node 1) body.Fetch fetch_split tt q m calm.goes;
-        pends = pends_on (IsDue w done) (IsDue v done) m m c (λ p. all_on (IsDue w done) (IsDue v done) (client_node 1) (client_node 1) body.Fetch fetch_split c p m
+        goes = ways.master_goes (IsUndelivered w done) (IsUndelivered v done) (client_node 1) (client_node 1) body.Fetch fetch_split tt q m calm.goes;
+        pends = pends_on (IsUndelivered w done) (IsUndelivered v done) m m c (λ p. all_on (IsUndelivered w done) (IsUndelivered v done) (client_node 1) (client_node 1) body.Fetch fetch_split c p m
             (record { updates = λ z. z; syncs = λ z. z; reads = λ z. z }) (record { records = λ y z. z; accepts = λ y z. z; rejects = λ z. z }) (record { synced = λ z. z; early = λ z. z; value = λ z. z })) cl.pending calm.pends;
       },
     )

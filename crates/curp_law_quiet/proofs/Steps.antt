@@ -23,7 +23,7 @@ use Rattle.curp_model.specs.Recovery.{MasterStage, Serving, master_input, on_mas
 use Rattle.curp_model.specs.Witness.{WitnessState, on_witness, witness_input}
 use Rattle.curp_model.specs.World.{World, Deed, Gives, deed_of, delivery, messages, moves, result_of, moves_one, step, steps_by, with_backup, with_batch, with_client, with_manager, with_master, with_witness}
 use Rattle.curp_law_steps.proofs.Moving.{its_result}
-use Rattle.curp_law_quiet.specs.Calm.{IsDue}
+use Rattle.curp_law_quiet.specs.Calm.{IsUndelivered}
 
 -- the world has moved by a message
 pub record Delivered (w v : World) (x : Message) : Type 0 where
@@ -58,24 +58,24 @@ delivered w done x at made = go (deed_of w (steps.Deliver (suc done))) (ap deliv
 module _ (w v : World) (done : ℕ) (x : Message) (at : At (messages w) done x) (more : List Message)
     (said : messages v ≡ messages w ++ more) where
   -- what was is what was delivered, or still is
-  pub splits : (y : Message) → IsDue w done y → (y ≡ x) ⊎ IsDue v (suc done) y
+  pub splits : (y : Message) → IsUndelivered w done y → (y ≡ x) ⊎ IsUndelivered v (suc done) y
   splits y due = by (due.0) due.1 due.2
     where
-      later : (k : ℕ) → done < k → At (messages w) k y → IsDue v (suc done) y
+      later : (k : ℕ) → done < k → At (messages w) k y → IsUndelivered v (suc done) y
       later k low h = (k, omega (arith, low), subst (λ (l : List Message). At l k y) (sym said) (at_append (messages w) more k y h))
 
-      by : (k : ℕ) → done ≤ k → At (messages w) k y → (y ≡ x) ⊎ IsDue v (suc done) y
+      by : (k : ℕ) → done ≤ k → At (messages w) k y → (y ≡ x) ⊎ IsUndelivered v (suc done) y
       by k low h = elim (cases_lt done k) [
         | inl less ↦ inr (later k less h)
         | inr more ↦ inl (let same : k ≡ done = omega (arith, low, more) in at_same (messages w) done y x (subst (λ (i : ℕ). At (messages w) i y) same h) at)
       ]
 
   -- what is sent is on its way
-  pub new_due : (y : Message) → IsAmong y more → IsDue v (suc done) y
+  pub new_due : (y : Message) → IsAmong y more → IsUndelivered v (suc done) y
   new_due y a = (length (messages w) + a.place, omega (arith, at_within (messages w) done x at), subst (λ (l : List Message). At l (length (messages w) + a.place) y) (sym said) (at_append_right (messages w) more a.place (length (messages w) + a.place) y refl a.stands))
 
   -- nothing else is
-  pub due_from : (y : Message) → IsDue v (suc done) y → IsDue w done y ⊎ IsAmong y more
+  pub due_from : (y : Message) → IsUndelivered v (suc done) y → IsUndelivered w done y ⊎ IsAmong y more
   due_from y due = elim (at_append_cases (messages w) more due.0 y (subst (λ (l : List Message). At l due.0 y) said due.2)) [
     | inl old ↦ inl (due.0, omega (arith, due.1), old)
     | inr new ↦ inr (record { place = new.0; stands = new.2 })

@@ -25,7 +25,11 @@ use Rattle.curp_msg.specs.declared.config.PartConfig.{PartConfig}
 use Rattle.curp_facts.specs.Facts.{IsAmong}
 use Rattle.curp_model.specs.declared.Check.{Check}
 use Rattle.curp_model.specs.declared.Check.TheVariants.{Expired, Stale, Known, New}
-use Rattle.curp_model.specs.Master.{AtOnce, Deny, Execute, HoldBack, MasterState, Open, Phase, Switching, Tell, TellAgain, Verdict, WhenSynced, Wish, begins_round, by_check, carries_out, executes, has, holds_back, is_clean, is_idle_op, is_open, known_again, known_at, on_update, queued, reply, state_of, synced, verdict}
+use Rattle.curp_model.specs.Master.{MasterState, Open, Phase, Switching, begins_round, by_check, carries_out, executes, has, holds_back, is_clean, is_idle_op, is_open, known_again, known_at, on_update, queued, reply, state_of, synced, verdict}
+use Rattle.curp_model.specs.declared.Verdict.TheVariants.{Deny, Execute, HoldBack, Tell, TellAgain}
+use Rattle.curp_model.specs.declared.Verdict.{Verdict}
+use Rattle.curp_model.specs.declared.Wish.TheVariants.{AtOnce, WhenSynced}
+use Rattle.curp_model.specs.declared.Wish.{Wish}
 use Rattle.curp_model.specs.Ranges.{owns_all}
 use Rattle.curp_model.specs.Table.{check}
 use Rattle.curp_law_quiet.specs.Ways.{Answers, MasterGoes, WillTell}

@@ -18,8 +18,8 @@ use Rattle.curp_model.specs.World.{World, messages}
 use Rattle.curp_law_quiet.specs.Ways.{MasterGoes, PendsOne}
 
 -- a message was sent and isn't delivered, where the first `done` messages are
-abbrev pub IsDue : World → ℕ → Message → Type 0
-IsDue w done x = (k : ℕ) × (done ≤ k) × At (messages w) k x
+abbrev pub IsUndelivered : World → ℕ → Message → Type 0
+IsUndelivered w done x = (k : ℕ) × (done ≤ k) × At (messages w) k x
 
 -- what may be on its way, by its kind: to whom it goes, and from whom it comes
 abbrev pub FitsIn : PartConfig → NodeId → NodeId → Body → Type 0
@@ -41,8 +41,8 @@ FitsIn c from to body.Fetch = (to ≡ manager_node) × (from ≡ client_node 1)
 FitsIn c from to _ = ⊥
 
 -- the message fits
-abbrev pub MessageFits : PartConfig → Message → Type 0
-MessageFits c x = FitsIn c x.from x.to x.body
+abbrev pub IsAwaited : PartConfig → Message → Type 0
+IsAwaited c x = FitsIn c x.from x.to x.body
 
 -- its backup has what an append begins behind
 abbrev pub NoGap : World → NodeId → Body → Type 0
@@ -63,7 +63,7 @@ pub record Calm (w : World) (done : ℕ) (c : PartConfig) (q : ℕ) (m : MasterS
   pub backups : m.backups ≡ c.backups
   pub witnesses : m.witnesses ≡ c.witnesses
   pub serves : m.phase ≡ Open
-  pub fits : (x : Message) → IsDue w done x → MessageFits c x
-  pub no_gaps : (x : Message) → IsDue w done x → NoGap w x.to x.body
-  pub goes : MasterGoes (IsDue w done) q m
-  pub pends : PendsOne (IsDue w done) m c cl.pending
+  pub fits : (x : Message) → IsUndelivered w done x → IsAwaited c x
+  pub no_gaps : (x : Message) → IsUndelivered w done x → NoGap w x.to x.body
+  pub goes : MasterGoes (IsUndelivered w done) q m
+  pub pends : PendsOne (IsUndelivered w done) m c cl.pending

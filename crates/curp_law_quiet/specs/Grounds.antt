@@ -23,7 +23,7 @@ use Rattle.curp_model.specs.Ranges.{owns_all}
 use Rattle.curp_model.specs.Table.{check}
 use Rattle.curp_model.specs.Witness.{WitnessState}
 use Rattle.curp_model.specs.World.{World}
-use Rattle.curp_law_quiet.specs.Calm.{Calm, IsDue}
+use Rattle.curp_law_quiet.specs.Calm.{Calm, IsUndelivered}
 
 -- what a master knows of its backups is within its log and its rounds, and it has backups
 pub record Bounded (m : MasterState) : Type 0 where
@@ -70,7 +70,7 @@ pub record Grounds (w : World) (done : ℕ) (c : PartConfig) (m : MasterState) (
   pub welcome : (p : Pending) → cl.pending ≡ p ∷ [] → Welcome m p.request
   pub backups : (k : NodeId) → IsAmong k c.backups → IsOurs w c m k
   pub witnesses : (k : NodeId) → IsAmong k c.witnesses → IsOurWitness w k
-  pub client : (x : Message) → IsDue w done x → x.to.kind ≡ kind.Client → x.to ≡ client_node 1
+  pub client : (x : Message) → IsUndelivered w done x → x.to.kind ≡ kind.Client → x.to ≡ client_node 1
 
 -- the world is calm, with some master and some client
 abbrev pub IsCalm : World → ℕ → PartConfig → ℕ → Type 0

@@ -7,7 +7,7 @@ use Rattle.curp_msg.specs.declared.config.PartConfig.{PartConfig}
 use Rattle.curp_msg.specs.declared.message.Message.{Message}
 use Rattle.curp_model.specs.Client.{ClientState}
 use Rattle.curp_model.specs.World.{World}
-use Rattle.curp_law_quiet.specs.Calm.{IsDue}
+use Rattle.curp_law_quiet.specs.Calm.{IsUndelivered}
 use Rattle.curp_law_quiet.specs.Ways.{Kind, OnWay}
 
 -- client 1 asks
@@ -25,7 +25,7 @@ Learns D c cl = (cl.config.parts ≡ c ∷ []) ⊎ (OnWay D Fetches ⊎ OnWay D 
 
 -- the only client does
 abbrev pub ClientLearns : World → ℕ → PartConfig → Type 0
-ClientLearns w done c = (cl : ClientState) → w.clients ≡ cl ∷ [] → Learns (IsDue w done) c cl
+ClientLearns w done c = (cl : ClientState) → w.clients ≡ cl ∷ [] → Learns (IsUndelivered w done) c cl
 
 -- the client has the present entry, or one of a lower serial
 abbrev pub IsBehindEntry : World → PartConfig → ClientState → Type 0

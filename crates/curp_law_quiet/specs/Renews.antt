@@ -21,7 +21,7 @@ use Rattle.curp_model.specs.Master.{MasterState, Open}
 use Rattle.curp_model.specs.Recovery.{Fresh, Recovering, RecoveryState, Replayed, Serving, Waiting}
 use Rattle.curp_model.specs.Witness.{WitnessState}
 use Rattle.curp_model.specs.World.{World, messages}
-use Rattle.curp_law_quiet.specs.Calm.{IsDue}
+use Rattle.curp_law_quiet.specs.Calm.{IsUndelivered}
 use Rattle.curp_law_quiet.specs.Recovers.{OrdersRecovery, PhaseGoes, TellsRecovered as TellsIt}
 use Rattle.curp_law_quiet.specs.Ways.{Kind, OnWay}
 
@@ -42,9 +42,9 @@ RenewFits S q o from to (body.Adopted a) = (to ≡ master_node q) × S
 RenewFits S q o from to _ = ⊥
 
 -- the master is told that it is adopted
-abbrev pub TellsAdopted : ℕ → Kind
-TellsAdopted q from to (body.Adopted a) = to ≡ master_node q
-TellsAdopted q from to _ = ⊥
+abbrev pub TellsRenewed : ℕ → Kind
+TellsRenewed q from to (body.Adopted a) = to ≡ master_node q
+TellsRenewed q from to _ = ⊥
 
 -- a fresh backup of the order is installed at its epoch, and not fenced above
 pub record IsInstalled (w : World) (o : Recover) (k : NodeId) : Type 0 where
@@ -82,16 +82,16 @@ pub record ServesIdle (m : MasterState) (o : Recover) : Type 0 where
 
 -- how far it is: the order hasn't come; it is on its way; it is adopted, and will hear of it; it serves
 pub data Renewal (w : World) (done : ℕ) (c : PartConfig) (q : ℕ) (o : Recover) : Type 0 where
-  Ordered : numbered w.masters q ≡ Some Fresh → OnWay (IsDue w done) (OrdersRecovery q o)
+  Ordered : numbered w.masters q ≡ Some Fresh → OnWay (IsUndelivered w done) (OrdersRecovery q o)
       → ((k : NodeId) → IsAmong k o.backups → IsInstalled w o k ⊎ WillInstall w done o k)
       → w.manager.config.parts ≡ c ∷ [] → w.manager.doing ≡ manager.Recovering (master_node q) o ∷ [] → Renewal w done c q o
   Attempts : (s : RecoveryState) → numbered w.masters q ≡ Some (Recovering s) → s.order ≡ o
-      → PhaseGoes (IsDue w done) q o s.phase
+      → PhaseGoes (IsUndelivered w done) q o s.phase
       → ((k : NodeId) → IsAmong k o.backups → IsInstalled w o k)
       → w.manager.config.parts ≡ c ∷ [] → w.manager.doing ≡ manager.Recovering (master_node q) o ∷ [] → Renewal w done c q o
   Adopts : (s : RecoveryState) (r : Replayed) → numbered w.masters q ≡ Some (Recovering s) → s.order ≡ o
       → s.phase ≡ Waiting r
-      → OnWay (IsDue w done) (TellsAdopted q) → ((k : NodeId) → IsAmong k o.backups → IsInstalled w o k)
+      → OnWay (IsUndelivered w done) (TellsRenewed q) → ((k : NodeId) → IsAmong k o.backups → IsInstalled w o k)
       → w.manager.config.parts ≡ renewed c q o ∷ [] → w.manager.doing ≡ manager.Steady ∷ [] → Renewal w done c q o
   Serves : (m : MasterState) → numbered w.masters q ≡ Some (Serving m) → ServesIdle m o
       → ((k : NodeId) → IsAmong k o.backups → IsInstalled w o k)
@@ -104,7 +104,7 @@ IsSteady w = w.manager.doing ≡ manager.Steady ∷ []
 -- the world is being renewed
 pub record Renewing (w : World) (done : ℕ) (c : PartConfig) (q : ℕ) (o : Recover) (cl : ClientState) : Type 0 where
   pub client : w.clients ≡ cl ∷ []
-  pub fits : (x : Message) → IsDue w done x → RenewFits (IsSteady w) q o x.from x.to x.body
+  pub fits : (x : Message) → IsUndelivered w done x → RenewFits (IsSteady w) q o x.from x.to x.body
   pub renewal : Renewal w done c q o
 
 -- what is used of what holds of every script
@@ -121,11 +121,11 @@ pub record RenewGrounds (w : World) (done : ℕ) (q : ℕ) (o : Recover) : Type 
   pub witness : o.witness ≡ witness_node o.witness.number
   pub x : WitnessState
   pub its_witness : numbered w.witnesses o.witness.number ≡ Some x
-  pub backups : (y : Message) → IsDue w done y → y.to.kind ≡ kind.Backup
+  pub backups : (y : Message) → IsUndelivered w done y → y.to.kind ≡ kind.Backup
       → (s : BackupState) × (numbered w.backups y.to.number ≡ Some s)
-  pub witnesses : (y : Message) → IsDue w done y → y.to.kind ≡ kind.Witness
+  pub witnesses : (y : Message) → IsUndelivered w done y → y.to.kind ≡ kind.Witness
       → (s : WitnessState) × (numbered w.witnesses y.to.number ≡ Some s)
-  pub told : (y : Message) → IsDue w done y → TellsIt o y.from y.to y.body
+  pub told : (y : Message) → IsUndelivered w done y → TellsIt o y.from y.to y.body
       → (numbered w.masters q ≡ Some Fresh → ⊥) × ((s : RecoveryState) → numbered w.masters q ≡ Some (Recovering s) → (r : Replayed) × (s.phase ≡ Waiting r))
   pub serial : w.manager.config.serial < last_number
   pub ops : (m : MasterState) → numbered w.masters q ≡ Some (Serving m) → (index : ℕ) (e : Entry) → At m.log index e

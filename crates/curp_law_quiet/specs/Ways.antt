@@ -41,14 +41,14 @@ Appends epoch b long round from to (body.Append a) =
 Appends epoch b long round from to _ = ⊥
 
 -- the backup has so many, as of a round not before that one
-abbrev pub HasStored : ℕ → ℕ → ℕ → AppendAnswer → Type 0
-HasStored long round its (Stored l) = (long ≤ l) × (round ≤ its)
-HasStored long round its _ = ⊥
+abbrev pub AnswersStored : ℕ → ℕ → ℕ → AppendAnswer → Type 0
+AnswersStored long round its (Stored l) = (long ≤ l) × (round ≤ its)
+AnswersStored long round its _ = ⊥
 
 -- that backup tells master n so
 abbrev pub Stores : ℕ → NodeId → ℕ → ℕ → Kind
 Stores n b long round from to (body.Appended a) =
-    (from ≡ b) × (to ≡ master_node n) × HasStored long round a.round a.answer
+    (from ≡ b) × (to ≡ master_node n) × AnswersStored long round a.round a.answer
 Stores n b long round from to _ = ⊥
 
 -- a synced reply to the request of that id

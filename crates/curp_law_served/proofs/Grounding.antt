@@ -26,7 +26,7 @@ use Rattle.curp_model.specs.Recovery.{Serving}
 use Rattle.curp_model.specs.World.{World}
 use Rattle.curp_law_kept.proofs.Known.{fits}
 use Rattle.curp_law_served.proofs.Homes.{witness_there}
-use Rattle.curp_law_quiet.specs.Calm.{Calm, IsDue}
+use Rattle.curp_law_quiet.specs.Calm.{Calm, IsUndelivered}
 use Rattle.curp_law_quiet.specs.Grounds.{Grounds, IsOurs, IsOurWitness, Roomy, Welcome}
 use Rattle.curp_model.specs.Log.{IsOp}
 use Rattle.curp_law_served.specs.Served.{most_steps}
@@ -148,7 +148,7 @@ module _ {w : World} (known : Known w) (f n : ℕ) (follows : Follows f w n) (fe
       let there = witness_there w k of in
       record { name = named_by k kind.Witness of.0; x = there.0; is = there.1.its_state }
 
-  told : (x : Message) → IsDue w done x → x.to.kind ≡ kind.Client → x.to ≡ client_node 1
+  told : (x : Message) → IsUndelivered w done x → x.to.kind ≡ kind.Client → x.to ≡ client_node 1
   told x due is =
       let of = (fits known x (record { place = due.0; stands = due.2 })).addressee in
       let one : length w.clients ≡ 1 = ap (λ (cs : List ClientState). length cs) calm.client in

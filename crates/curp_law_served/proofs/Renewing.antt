@@ -30,7 +30,7 @@ use Rattle.curp_model.specs.World.{World}
 use Rattle.curp_law_kept.proofs.Known.{fits}
 use Rattle.curp_law_kept.proofs.MastersHeard.{backup_log_ok}
 use Rattle.curp_law_served.proofs.Homes.{backup_there, ordered_backup_home, witness_there}
-use Rattle.curp_law_quiet.specs.Calm.{IsDue}
+use Rattle.curp_law_quiet.specs.Calm.{IsUndelivered}
 use Rattle.curp_law_quiet.specs.Recovers.{TellsRecovered}
 use Rattle.curp_law_quiet.specs.Renews.{CanRecover, RenewGrounds}
 use Rattle.curp_law_served.specs.Served.{most_steps}
@@ -78,7 +78,7 @@ module _ {w : World} (known : Known w) (f n : ℕ) (follows : Follows f w n) (fe
       let home = ordered_backup_home known.names (master_node q) o ordered (lists_of_order (master_node q) o) given (subst (λ (x : NodeId). IsAmong x o.backups) own a) in
       absurd (omega (arith, home.1))
 
-  there : (y : Message) → IsDue w done y → (k : NodeKind) → y.to.kind ≡ k → IsOf w k y.to
+  there : (y : Message) → IsUndelivered w done y → (k : NodeKind) → y.to.kind ≡ k → IsOf w k y.to
   there y due k is =
       let of = (fits known y (record { place = due.0; stands = due.2 })).addressee in
       (is, subst (λ (x : NodeKind). IsNodeOf w x y.to.number) (sym of.0 ∙ is) of.1)
@@ -91,7 +91,7 @@ module _ {w : World} (known : Known w) (f n : ℕ) (follows : Follows f w n) (fe
       let late : 1 < o.epoch = omega (arith, order.earlier, before_ok.epoch) in
       (known.names.agree (lists_of_order from k.order) (lists_of_order (master_node q) o) (ByRecovery from k.order k.ordered) given).by_late_epoch (omega (arith, late, same, k.its_epoch)) (sym k.its_epoch ∙ same)
 
-  told : (y : Message) → IsDue w done y → TellsRecovered o y.from y.to y.body
+  told : (y : Message) → IsUndelivered w done y → TellsRecovered o y.from y.to y.body
       → (numbered w.masters q ≡ Some Fresh → ⊥) × ((s : RecoveryState) → numbered w.masters q ≡ Some (Recovering s) → (r : Replayed) × (s.phase ≡ Waiting r))
   told y due tells = by y.body (record { place = due.0; stands = due.2 }) tells
     where

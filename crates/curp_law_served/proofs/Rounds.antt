@@ -34,7 +34,11 @@ use Rattle.curp_range.specs.Spans.{is_covered}
 use Rattle.curp_model.specs.declared.Check.{Check}
 use Rattle.curp_model.specs.declared.Check.TheVariants.{Expired, Stale, Known, New}
 use Rattle.curp_model.specs.Log.{LastGive, LastTake, is_log}
-use Rattle.curp_model.specs.Master.{AtOnce, Deny, Execute, HoldBack, MasterState, Open, Phase, Switch, Switching, Tell, TellAgain, Verdict, WhenSynced, Wish, adopted_in, all_have, by_message, carries_out, collect_in, executes, give_after, glance_command, glance_of, goes_on, is_clean, is_open, last_round, on_appended, on_collected, on_expire, on_give, on_glance, on_read, on_serving, on_stored, on_take, on_update, prepare_in, prepares, push_take, raised, read_command, read_of, read_refusal, serving_ordered, settle, state_of, stored_on, sync_in, synced, take_after, told_again, treat, treated, treats, unless_it_ends, verdict}
+use Rattle.curp_model.specs.Master.{MasterState, Open, Phase, Switch, Switching, adopted_in, all_have, by_message, carries_out, collect_in, executes, give_after, glance_command, glance_of, goes_on, is_clean, is_open, last_round, on_appended, on_collected, on_expire, on_give, on_glance, on_read, on_serving, on_stored, on_take, on_update, prepare_in, prepares, push_take, raised, read_command, read_of, read_refusal, serving_ordered, settle, state_of, stored_on, sync_in, synced, take_after, told_again, treat, treated, treats, unless_it_ends, verdict}
+use Rattle.curp_model.specs.declared.Verdict.TheVariants.{Deny, Execute, HoldBack, Tell, TellAgain}
+use Rattle.curp_model.specs.declared.Verdict.{Verdict}
+use Rattle.curp_model.specs.declared.Wish.TheVariants.{AtOnce, WhenSynced}
+use Rattle.curp_model.specs.declared.Wish.{Wish}
 use Rattle.curp_model.specs.Ranges.{owns_all}
 use Rattle.curp_model.specs.Recovery.{Asking, Fresh, MasterStage, Recovering, RecoveryPhase, RecoveryState, Replayed, Serving, Storing, Waiting, again_in, all_complete, append_answered, both_there, completed_by, fence_answered, log_comes, master_input, master_ordered, on_fresh, on_master, on_recover, on_recovering, recovery_ordered, requests_come, serves, stored_comes, turns_read_away, with_complete}
 use Rattle.curp_model.specs.Table.{check, is_gone}

@@ -19,7 +19,8 @@ use Rattle.curp_msg.specs.declared.config.PartConfig.{PartConfig}
 use Rattle.curp_msg.specs.declared.message.Message.{Message}
 use Rattle.curp_model.specs.Client.{Accept, ClientState, Early, Glimpse, Pending, attempt_at, invoke, sends_first, sent_by, with_id, with_pending}
 use Rattle.curp_model.specs.Log.{answer_after}
-use Rattle.curp_model.specs.Master.{AtOnce, MasterState, last_round, marked_free, on_serving, on_update, pushed, reply, unless_it_ends}
+use Rattle.curp_model.specs.Master.{MasterState, last_round, marked_free, on_serving, on_update, pushed, reply, unless_it_ends}
+use Rattle.curp_model.specs.declared.Wish.TheVariants.{AtOnce}
 use Rattle.curp_model.specs.Master.{answers_at_once, captures_read, glance_command, glance_of, on_glance, read_refusal}
 use Rattle.curp_model.specs.Witness.{WitnessState, is_live, on_witness, verdict_body}
 use Rattle.curp_law_trip.specs.Holding.{IsOpen}

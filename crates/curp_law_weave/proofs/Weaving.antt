@@ -45,7 +45,7 @@ use Rattle.curp_law_weave.specs.NodeStates.{ABackup, AClient, AManager, AMaster,
 use Rattle.curp_turns.specs.Legal.{LegalFrom, deed_for}
 use Rattle.curp_turns.specs.Turns.{Did, IsKnown, Journal, Placed, Quits, Turn, of, said, turns_of}
 use Rattle.curp_turns.proofs.Turns.{of-append, of_first, of_here, of_there, said-append, said-snoc}
-use Rattle.curp_law_weave.specs.Run.{IsJournalOf, IsMade, IsMessage, Legal, RunOf, Runs, TakesFirst}
+use Rattle.curp_law_weave.specs.Run.{IsJournalOf, IsMade, IsArrivedMessage, Legal, RunOf, Runs, TakesFirst}
 use Rattle.curp_law_weave.proofs.Expiring.{expired_client}
 use Rattle.curp_law_weave.proofs.Moves.{Moves, gives_done, manager_there, move_says, moved, stop_done, stop_is, stop_world}
 use Rattle.curp_law_weave.proofs.Turns.{HasQuit, ending, item_next, items_in, items_in-did, items_in-quits, none_after, quit_more, quit_now}
@@ -111,7 +111,7 @@ module _ (w : World) where
         let is : IsNode w k = subst (IsNode w) d.2 between.addressee in
         there_by k.kind k.number is
 
-  message_there : Both w → (k : NodeId) (a : Arrived) (t : Step) → IsMessage a → deed_of w t ≡ Gives k (given a) → There w k
+  message_there : Both w → (k : NodeId) (a : Arrived) (t : Step) → IsArrivedMessage a → deed_of w t ≡ Gives k (given a) → There w k
   message_there both k (arrived.Local order stamp) t is e = absurd is
   message_there both k (arrived.Message named) t is e = addressee_there k named.message both t e
 
@@ -370,7 +370,7 @@ module _ (h : Header) (w : World) (before : List Placed) (woven : Woven h w befo
       | inr takes ↦
           let turns_are : Did item ∷ rest ≡ map Did items ++ ending last ended = subst (λ (ts : List Turn). ts ++ Did item ∷ rest ≡ map Did items ++ ending last ended) (woven.none_are k none) turns in
           let same : takes.item ≡ item = first_same items item takes.item last ended rest turns_are takes.first in
-          message_there w woven.both k item.input s (subst (λ (i : Item). IsMessage i.input) same takes.message) deed
+          message_there w woven.both k item.input s (subst (λ (i : Item). IsArrivedMessage i.input) same takes.message) deed
     ]
   ]
 

@@ -65,15 +65,15 @@ IsNoStop _ = ⊤
 -- ---- what is asked of lists alone
 
 -- what came is a message
-abbrev pub IsMessage : Arrived → Type 0
-IsMessage (arrived.Local order stamp) = ⊥
-IsMessage (arrived.Message named) = ⊤
+abbrev pub IsArrivedMessage : Arrived → Type 0
+IsArrivedMessage (arrived.Local order stamp) = ⊥
+IsArrivedMessage (arrived.Message named) = ⊤
 
 -- there is a first item, and what came then is a message
 pub record TakesFirst (items : List Item) : Type 0 where
   pub item : Item
   pub first : first_of items ≡ Some item
-  pub message : IsMessage item.input
+  pub message : IsArrivedMessage item.input
 
 -- A journal that a node of the header's worlds can have: replayed from the state that the node begins with, it gives
 -- itself; a node that isn't there at opening takes a message first; and the manager doesn't stop

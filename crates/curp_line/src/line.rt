@@ -71,7 +71,8 @@ impl Line {
     /// room, and looks at no other mark.
     pub fn executed(&mut self, tenure: Tenure, index: u64, id: RequestId, command: Command)
         requires { 1 ≤ self.old.spare }
-        ensures marks { self.new.marks ≡ self.old.marks ++ executed tenure.master tenure.part tenure.epoch index id command ∷ [] }
+        ensures marks { self.new.marks
+            ≡ self.old.marks ++ executed tenure.master tenure.part tenure.epoch index id command ∷ [] }
         ensures spare { self.old.spare ≤ self.new.spare + 1 }
     {
         let place = MarkPlace::Executed { index };
@@ -89,7 +90,8 @@ impl Line {
         command: Command,
     )
         requires { 1 ≤ self.old.spare }
-        ensures marks { self.new.marks ≡ self.old.marks ++ looked tenure.master tenure.part tenure.epoch capture length id command ∷ [] }
+        ensures marks { self.new.marks
+            ≡ self.old.marks ++ looked tenure.master tenure.part tenure.epoch capture length id command ∷ [] }
         ensures spare { self.old.spare ≤ self.new.spare + 1 }
     {
         let place = MarkPlace::Looked { capture, length };
@@ -100,7 +102,8 @@ impl Line {
     /// master, and to the end where there is none. It takes no memory, since there is room, and looks at no other mark.
     pub fn quick(&mut self, tenure: Tenure, capture: u64, id: RequestId, command: Command)
         requires { 1 ≤ self.old.spare }
-        ensures marks { self.new.marks ≡ with_quick (quick tenure.master tenure.part tenure.epoch capture id command) self.old.marks }
+        ensures marks { self.new.marks
+            ≡ with_quick (quick tenure.master tenure.part tenure.epoch capture id command) self.old.marks }
         ensures spare { self.old.spare ≤ self.new.spare + 1 }
     {
         let cuts_before = self.cuts.place_behind(tenure.part, tenure.epoch);
@@ -126,7 +129,8 @@ impl Line {
     pub fn adopted(&mut self, tenure: Tenure, cut: u64, replayed: &[Request])
         requires room { 1 + length replayed.now ≤ self.old.spare }
         requires fits { cut + length replayed.now < 2 ^ 64 }
-        ensures marks { self.new.marks ≡ adopted tenure.master tenure.part tenure.epoch cut replayed.now self.old.marks }
+        ensures marks { self.new.marks
+            ≡ adopted tenure.master tenure.part tenure.epoch cut replayed.now self.old.marks }
         ensures spare { self.old.spare ≤ self.new.spare + 1 + length replayed.now }
     {
         self.drop_past(tenure.part, cut);
@@ -172,7 +176,8 @@ impl Line {
     fn replay(&mut self, tenure: Tenure, cut: u64, replayed: &[Request])
         requires room { length replayed.now ≤ self.old.spare }
         requires fits { cut + length replayed.now < 2 ^ 64 }
-        ensures marks { self.new.marks ≡ replayed_marks tenure.master tenure.part tenure.epoch cut replayed.now self.old.marks }
+        ensures marks { self.new.marks
+            ≡ replayed_marks tenure.master tenure.part tenure.epoch cut replayed.now self.old.marks }
         ensures spare { self.old.spare ≤ self.new.spare + length replayed.now }
     {
         for (at, request) in replayed.iter().enumerate() {

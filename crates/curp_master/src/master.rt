@@ -11,9 +11,10 @@ use curp_base::NoMemory;
 use curp_cmd::{Command, NodeId};
 use curp_collect::Queue;
 use curp_log::Log;
+use curp_model::Wish;
 use curp_msg::{Body, Done, Local, Message};
 use curp_rounds::acknowledged::{Acknowledged, least_length, set_all};
-use curp_rounds::{Captured, Captures, Indexes, Phase, Wish};
+use curp_rounds::{Captured, Captures, Indexes, Phase};
 use std::alloc::Global;
 use std::marker::Model;
 

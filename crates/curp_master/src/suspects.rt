@@ -146,8 +146,7 @@ fn treat(master_log: &mut MasterLog, queue: &mut Queue, suspect: &Request)
 
 // One that is new is pushed, where its hashes are owned.
 fn treat_new(master_log: &mut MasterLog, queue: &mut Queue, suspect: &Request)
-    requires new { check (meaning master_log.old.kept.lo master_log.old.kept.hi master_log.old.kept.entries).table suspect.now.id
-        ≡ New }
+    requires new { check (meaning master_log.old.kept.lo master_log.old.kept.hi master_log.old.kept.entries).table suspect.now.id ≡ New }
     requires room { HasOpRoom master_log.old
         (length (brings master_log.old.kept.lo master_log.old.kept.hi master_log.old.kept.entries suspect.now)) }
     requires spare { 1 ≤ queue.old.spare }

@@ -2,7 +2,6 @@ ghost use Rattle.std.specs.Prelude.{◌≡◌, ◌≢◌, ◌∷◌, [], true, I
 ghost use Rattle.curp_cmd.specs.Entry.{room_of};
 ghost use Rattle.curp_cmd.specs.declared.entry.Entry.TheVariants.{Op};
 ghost use Rattle.curp_model.specs.declared.Check.TheVariants.{New};
-ghost use Rattle.curp_model.specs.Master as master;
 ghost use Rattle.curp_model.specs.Master.{carries_out, executes, holds_back, is_clean, known_at, on_update};
 ghost use Rattle.curp_model.specs.Master.{state_of, verdict};
 ghost use Rattle.curp_model.specs.Table.{check};
@@ -11,23 +10,22 @@ ghost use Rattle.curp_master.specs.Built.{move_of};
 ghost use Rattle.curp_master.specs.MasterLog.{CanPush};
 ghost use Rattle.curp_master.specs.Rounds.{IsNextRound};
 ghost use Rattle.curp_master.specs.Updates.{new_verdict, pushes_held};
-ghost use Rattle.curp_rounds.specs.Verdicts.{verdict_of, wish_of};
 
 use crate::master_log::op_of;
 use crate::replies::reply_room;
 use crate::{Master, Round};
 use curp_base::NoMemory;
 use curp_cmd::{Answer, Request, room};
-use curp_model::Check;
+use curp_model::{Check, Verdict, Wish};
 use curp_msg::{Ask, Done, Refusal};
-use curp_rounds::{Verdict, Wish, messages};
+use curp_rounds::messages;
 use std::slice::from_ref;
 
 impl Master {
     #[tactic(auto, unfolding(curp_model::specs::Master::on_update))]
     pub(crate) fn on_update(&mut self, wish: Wish, ask: &Ask) -> Result<Done, NoMemory>
         ensures moves { Moves self.old self.new result
-            (move_of self.old (on_update self.old.number self.old.state (wish_of wish) ask.now)) }
+            (move_of self.old (on_update self.old.number self.old.state wish ask.now)) }
     {
         let verdict = self.verdict(wish, ask);
         self.carry_out(wish, &ask.request, verdict)
@@ -35,7 +33,7 @@ impl Master {
 
     // By the first of the rules that holds.
     fn verdict(&self, wish: Wish, ask: &Ask) -> Verdict
-        ensures verdict { verdict_of result ≡ verdict self.now.state (wish_of wish) ask.now }
+        ensures verdict { result ≡ verdict self.now.state wish ask.now }
         ensures can_push { result ≡ Verdict.Execute → CanPush (state_of self.now.state) ask.now.request }
     {
         if ask.epoch != self.epoch {
@@ -56,7 +54,7 @@ impl Master {
 
     // Of a request that stands in the log.
     fn known_at(&self, wish: Wish, answer: Answer, index: u64) -> Verdict
-        ensures verdict { verdict_of result ≡ known_at self.now.state (wish_of wish) answer index }
+        ensures verdict { result ≡ known_at self.now.state wish answer index }
         ensures known { result ≢ Verdict.Execute }
     {
         if index < self.synced() {
@@ -74,7 +72,7 @@ impl Master {
     // Of a request that doesn't.
     fn new_at(&self, ask: &Ask) -> Verdict
         requires { check (state_of self.now.state).table ask.now.request.id ≡ New }
-        ensures verdict { verdict_of result ≡ new_verdict self.now.state ask.now }
+        ensures verdict { result ≡ new_verdict self.now.state ask.now }
         ensures can_push { result ≡ Verdict.Execute → CanPush (state_of self.now.state) ask.now.request }
     {
         if ask.version != self.version {
@@ -96,7 +94,7 @@ impl Master {
     ) -> Result<Done, NoMemory>
         requires { verdict ≡ Verdict.Execute → CanPush (state_of self.old.state) request.now }
         ensures moves { Moves self.old self.new result (move_of self.old
-            (carries_out self.old.number self.old.state (wish_of wish) request.now (verdict_of verdict))) }
+            (carries_out self.old.number self.old.state wish request.now verdict)) }
     {
         match verdict {
             Verdict::Deny(why) => self.tell(messages::refuse(self.number, request.id, why)),
@@ -110,7 +108,7 @@ impl Master {
     fn execute(&mut self, wish: Wish, request: &Request) -> Result<Done, NoMemory>
         requires { CanPush (state_of self.old.state) request.now }
         ensures moves { Moves self.old self.new result (move_of self.old
-            (executes self.old.number self.old.state (wish_of wish) request.now
+            (executes self.old.number self.old.state wish request.now
             (is_clean self.old.state request.now.command))) }
     {
         let is_clean = self.is_clean(&request.command);
@@ -125,7 +123,7 @@ impl Master {
     fn push_free(&mut self, request: &Request) -> Result<Done, NoMemory>
         requires { CanPush (state_of self.old.state) request.now }
         ensures moves { Moves self.old self.new result
-            (move_of self.old (executes self.old.number self.old.state master.AtOnce request.now true)) }
+            (move_of self.old (executes self.old.number self.old.state Wish.AtOnce request.now true)) }
     {
         // All room is taken before anything changes.
         self.queue.reserve(1)?;

@@ -39,6 +39,10 @@ use Rattle.curp_msg.specs.declared.message.Message.{Message}
 use Rattle.curp_range.specs.Spans.{is_covered}
 use Rattle.curp_model.specs.declared.Check.{Check}
 use Rattle.curp_model.specs.declared.Check.TheVariants.{Expired, Stale, Known, New}
+use Rattle.curp_model.specs.declared.Verdict.{Verdict}
+use Rattle.curp_model.specs.declared.Verdict.TheVariants.{Deny, Tell, TellAgain, HoldBack, Execute}
+use Rattle.curp_model.specs.declared.Wish.{Wish}
+use Rattle.curp_model.specs.declared.Wish.TheVariants.{AtOnce, WhenSynced}
 use Rattle.curp_model.specs.Log.{LogState, LastTake, LastGive, meaning, answer_after, is_touched, package_of}
 use Rattle.curp_model.specs.Ranges.{owns_all}
 use Rattle.curp_model.specs.Table.{check, is_gone}
@@ -226,11 +230,6 @@ queue_id m id long = record m { queue = queued m.queue id long }
 
 -- ---- updates
 
--- whether a client wants its answer at once, or only a synced one
-pub data Wish : Type 0 where
-  AtOnce : Wish
-  WhenSynced : Wish
-
 -- ---- what becomes of a request, by the first of six rules that holds
 
 -- rule 1: the client knows another epoch
@@ -248,15 +247,6 @@ by_version m ask = only_if (not (ask.version == m.version)) (refusal.Version m.v
 -- rule 5: a hash of the command isn't owned
 abbrev pub by_owner : MasterState → Ask → Option Refusal
 by_owner m ask = only_if (not (owns_all (state_of m).owned (hashes ask.request.command))) refusal.NotOwner
-
--- what becomes of an update: it is refused, told that it is stored, told its free answer again, held back from then on until
--- all backups have it, or executed
-pub data Verdict : Type 0 where
-  Deny : (why : Refusal) → Verdict
-  Tell : (answer : Answer) → Verdict
-  TellAgain : (answer : Answer) → Verdict
-  HoldBack : (index : ℕ) → Verdict
-  Execute : Verdict
 
 -- the entry at an index is an Op, and waits for no synced reply yet
 abbrev pub is_idle_op : MasterState → ℕ → Option Entry → Bool

@@ -8,13 +8,13 @@ use Rattle.curp_resp.specs.declared.requests.NextRequest.{NextRequest}
 use Rattle.curp_resp.specs.declared.requests.NextRequest.TheVariants as next
 
 -- the bytes read ahead, how many bytes were passed over before them, and the answer that repeats
-pub record Progress : Type 0 where
+pub record RequestsRead : Type 0 where
   pub ahead : List ℕ
   pub passed : ℕ
   pub failed : Option NextRequest
 
 -- before the first call
-abbrev pub nothing_read : Progress
+abbrev pub nothing_read : RequestsRead
 nothing_read = record { ahead = []; passed = 0; failed = None }
 
 -- the request that stands first was given by its meaning, and the rest is left

@@ -39,9 +39,9 @@ pub struct Requests {
 
 impl Model for Requests {
     ghost use Rattle.std.specs.Prelude.{◌<◌, ◌^◌};
-    ghost use Rattle.curp_resp.specs.Next.{Progress};
+    ghost use Rattle.curp_resp.specs.Next.{RequestsRead};
 
-    ghost Value = { Progress };
+    ghost Value = { RequestsRead };
 
     ghost view = { λ r. record { ahead = r.window.bytes; passed = r.window.passed; failed = r.failed } };
 

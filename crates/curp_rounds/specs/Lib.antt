@@ -2,4 +2,3 @@ pub mod Backups
 pub mod Captures
 pub mod Indexes
 pub mod Phases
-pub mod Verdicts

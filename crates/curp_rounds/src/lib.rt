@@ -7,7 +7,7 @@
 //!   takes no memory, and `reserve` makes its room. `Indexes` ascend: `insert`, `push`, `contains`, `below`,
 //!   `remove_below`: exact.
 //! - `Phase`: whether the master is open, to which backups a round goes, and how far the next list is: exact.
-//!   `messages`: each message, in the master's name. `Verdict`: what becomes of an update.
+//!   `messages`: each message, in the master's name.
 #![tactic(auto)]
 
 pub mod acknowledged;
@@ -16,10 +16,8 @@ mod captures;
 mod indexes;
 pub mod messages;
 mod phase;
-mod verdict;
 
 pub use captured::Captured;
 pub use captures::Captures;
 pub use indexes::Indexes;
 pub use phase::{Phase, Switch};
-pub use verdict::{Verdict, Wish};

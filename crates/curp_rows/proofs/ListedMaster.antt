@@ -28,7 +28,11 @@ use Rattle.curp_msg.specs.declared.body.Body.TheVariants as body
 use Rattle.curp_msg.specs.declared.body.TakeOut.{TakeOut}
 use Rattle.curp_msg.specs.declared.message.Message.{Message}
 use Rattle.curp_model.specs.Log.{LastTake}
-use Rattle.curp_model.specs.Master.{MasterState, Captured, Phase, Open, Switching, Wish, AtOnce, WhenSynced, Verdict, Deny, Execute, is_open, state_of, synced, is_clean, stored_on, begins_round, reply, answers_with, by_epoch, by_phase, by_version, by_check, verdict, pushed, marked_free, executes, carries_out, on_update, by_read_check, read_refusal, read_of, read_command, on_read, glance_of, glance_command, on_glance, synced_reply, is_ready, value_of, moved_entry, between, settle, raised, prepares, goes_on, on_appended, adopted_in, told_again, push_take, take_after, on_take, unless_it_ends, by_message, on_serving}
+use Rattle.curp_model.specs.Master.{MasterState, Captured, Phase, Open, Switching, is_open, state_of, synced, is_clean, stored_on, begins_round, reply, answers_with, by_epoch, by_phase, by_version, by_check, verdict, pushed, marked_free, executes, carries_out, on_update, by_read_check, read_refusal, read_of, read_command, on_read, glance_of, glance_command, on_glance, synced_reply, is_ready, value_of, moved_entry, between, settle, raised, prepares, goes_on, on_appended, adopted_in, told_again, push_take, take_after, on_take, unless_it_ends, by_message, on_serving}
+use Rattle.curp_model.specs.declared.Verdict.TheVariants.{Deny, Execute}
+use Rattle.curp_model.specs.declared.Verdict.{Verdict}
+use Rattle.curp_model.specs.declared.Wish.TheVariants.{AtOnce, WhenSynced}
+use Rattle.curp_model.specs.declared.Wish.{Wish}
 use Rattle.curp_model.specs.Ranges.{owns_all}
 use Rattle.curp_model.specs.Recovery as recovery
 use Rattle.curp_model.specs.Recovery.{RecoveryState, RecoveryPhase, Asking, Storing, Waiting, both_there, log_comes, fence_answered, on_recovering, on_master, MasterStage}

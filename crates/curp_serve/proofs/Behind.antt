@@ -13,7 +13,7 @@ use Rattle.curp_msg.specs.declared.script.Step.{Step}
 use Rattle.curp_model.specs.World.{World, opening, world}
 use Rattle.curp_law_served.specs.Served.{AreServed, Limit, Served, TooLarge, TooManySteps, after, answer_behind, answered, header_of, in_turn, serve}
 use Rattle.curp_serve.specs.Ended.{Ended, going, limit_of}
-use Rattle.curp_serve.specs.Serving.{HasServed, IsServing, answer_in, serving}
+use Rattle.curp_serve.specs.Serving.{LedBy, IsServing, answer_in, serving}
 use Rattle.curp_serve.specs.declared.served.ServeError.{ServeError}
 use Rattle.curp_serve.specs.declared.served.ServeError.TheVariants as error
 use Rattle.curp_serve.specs.declared.stepper.Stop.{Stop}
@@ -132,7 +132,7 @@ module _ (pushes : Pushes) (header : Header) (every : ℕ) (s : Served) (k : Opt
     whole = λ free. whole free ∙ behind_it its.commands (its.whole none);
   }
 
-  module _ (commands : List Command) (has : HasServed commands (serving header every s k)) where
+  module _ (commands : List Command) (has : LedBy commands (serving header every s k)) where
     state_is : s ≡ after header.f every commands
     state_is = ap (λ (o : Option Limit). record s { stopped = o }) (its.free ∙ sym (ap (option_and_then limit_of) none)) ∙ has.is
 

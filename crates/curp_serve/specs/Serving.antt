@@ -31,7 +31,7 @@ abbrev pub next : Serving → Command → Served
 next s command = serve s.every command s.state
 
 -- these commands have led to its state
-pub record HasServed (commands : List Command) (s : Serving) : Type 0 where
+pub record LedBy (commands : List Command) (s : Serving) : Type 0 where
   pub are : AreServed s.f commands
   pub is : s.state ≡ after s.f s.every commands
 

@@ -9,7 +9,7 @@ ghost use Rattle.curp_msg.specs.Script.{IsRun};
 ghost use Rattle.curp_msg.specs.Limits.{step_limit};
 ghost use Rattle.curp_script.specs.Printed.{NamesNode};
 ghost use Rattle.curp_serve.specs.Ended.{limit_of};
-ghost use Rattle.curp_serve.specs.Serving.{HasServed, answer_in, begins, limit_in, next};
+ghost use Rattle.curp_serve.specs.Serving.{LedBy, answer_in, begins, limit_in, next};
 
 use crate::stepper::{Stepper, Stop};
 use curp_base::NoMemory;
@@ -57,7 +57,7 @@ impl Served {
         requires some { 1 ≤ f }
         requires few { f ≤ 5 }
         ensures ok { IfOk result (λ served. served ≡ begins f every) }
-        ensures no_command { IfOk result (HasServed []) }
+        ensures no_command { IfOk result (LedBy []) }
     {
         let header = Header {
             clients: 1,
@@ -92,9 +92,9 @@ impl Served {
         // command completed before the next one begins, with the answer of one thread.
         ensures run { IsRun (header_of self.now.f) result.now }
         ensures named { Each NamesNode result.now }
-        ensures world { (commands : List Command) → HasServed commands self.now
+        ensures world { (commands : List Command) → LedBy commands self.now
             → world (header_of self.now.f) result.now ≡ self.now.state.world }
-        ensures history { (commands : List Command) → HasServed commands self.now → self.now.state.stopped ≡ None
+        ensures history { (commands : List Command) → LedBy commands self.now → self.now.state.stopped ≡ None
             → (world (header_of self.now.f) result.now).history ≡ in_turn (answered commands) }
     {
         curp_law_served::served();
@@ -123,16 +123,16 @@ impl Served {
         ensures every { self.new.every ≡ self.old.every }
 
         // Behind commands it has served this one too, with the answer of one thread.
-        ensures served { (commands : List Command) → HasServed commands self.old → result ≢ Err ServeError.NoMemory
-            → HasServed (commands ++ command ∷ []) self.new }
-        ensures one_thread { (commands : List Command) (answer : Answer) → HasServed commands self.old
+        ensures served { (commands : List Command) → LedBy commands self.old → result ≢ Err ServeError.NoMemory
+            → LedBy (commands ++ command ∷ []) self.new }
+        ensures one_thread { (commands : List Command) (answer : Answer) → LedBy commands self.old
             → answer_in result ≡ Some answer → answer ≡ answer_behind commands command }
 
         // The run of its steps shows the commands before it, each completed before the next, and it too where there is
         // an answer.
-        ensures keeps { (commands : List Command) → HasServed commands self.old → result ≢ Err ServeError.NoMemory
+        ensures keeps { (commands : List Command) → LedBy commands self.old → result ≢ Err ServeError.NoMemory
             → IsPrefix (in_turn (answered commands)) (world (header_of self.new.f) self.new.state.steps).history }
-        ensures shows { (commands : List Command) (answer : Answer) → HasServed commands self.old
+        ensures shows { (commands : List Command) (answer : Answer) → LedBy commands self.old
             → answer_in result ≡ Some answer → (world (header_of self.new.f) self.new.state.steps).history
             ≡ in_turn (answered (commands ++ command ∷ [])) }
     {

@@ -17,7 +17,7 @@ use Rattle.curp_resp.specs.Reply.{protocol_error}
 use Rattle.curp_resp.specs.declared.asked.Asked.{Asked}
 use Rattle.curp_resp.specs.declared.asked.Asked.TheVariants as asked
 use Rattle.curp_resp.proofs.Fronts.{one_place, one_stands_first, request_some}
-use Rattle.curp_session.specs.Answering.{Aim, ArePrintable, Finishes, Stands, aim_of, ended_by, if_replies, so_far}
+use Rattle.curp_session.specs.Answering.{Aim, AreReadBack, Finishes, IsSession, aim_of, ended_by, if_replies, so_far}
 use Rattle.curp_session.specs.Session.{EndsSession, Session, answered_by, fresh, most_requests, reads, reads_all, status_of_limit, text_by, unless_stopped}
 use Rattle.curp_words.specs.declared.order.RespOutput.TheVariants as output
 use Rattle.curp_words.specs.declared.order.RespPlan.{RespPlan}
@@ -115,11 +115,11 @@ free_by (Some why) e = absurd cc
 
 -- it was answered
 pub stands_on : (aim : Aim) (tells : Bool) (held new : List ℕ) (old state : Served) (count : ℕ) (bytes rest : List ℕ) (passed then : ℕ) (given : Asked)
-    → (h : Stands aim tells held old count bytes passed) → GivesRequest bytes passed given rest then → let next = reads aim.every given h.now in
+    → (h : IsSession aim tells held old count bytes passed) → GivesRequest bytes passed given rest then → let next = reads aim.every given h.now in
     count ≢ most_requests → Ok tt ≡ ended_by next.served.stopped → state ≡ next.served
-    → (aim.output ≡ output.Script → ArePrintable old.steps → ArePrintable next.served.steps)
+    → (aim.output ≡ output.Script → AreReadBack old.steps → AreReadBack next.served.steps)
     → (tells ≡ true → held ≡ aim.before ++ so_far aim.output aim.f h.now → new ≡ aim.before ++ so_far aim.output aim.f next)
-    → Stands aim tells new state (count + 1) rest then
+    → IsSession aim tells new state (count + 1) rest then
 stands_on aim tells held new old state count bytes rest passed then given h g room limit is printable wrote =
     let next = reads aim.every given h.now in
     let d = next_due aim h.now h.due bytes rest passed then given h.decomposes h.leads g in
@@ -138,7 +138,7 @@ stands_on aim tells held new old state count bytes rest passed then given h g ro
       leads = ap (λ (o : Option Limit). unless_stopped o next (reads_all aim.every (map meaning d.more))) (sym free) ∙ d.leads;
       passes = g.counted ∙ place_further aim.size (length bytes) (length rest) (length g.spelled) passed h.passes size h.within;
       within = omega (arith, size, h.within);
-      printable = λ script. subst (λ (s : Served). ArePrintable s.steps) (sym is) (printable script (h.printable script));
+      printable = λ script. subst (λ (s : Served). AreReadBack s.steps) (sym is) (printable script (h.printable script));
       wrote = λ told. wrote told (h.wrote told);
     }
 
@@ -150,9 +150,9 @@ limit_in (Some why) e h = (why, refl, cc)
 
 -- a limit was met, or it was cut short
 pub finishes_there : (aim : Aim) (tells : Bool) (held new : List ℕ) (old : Served) (count : ℕ) (bytes rest : List ℕ) (passed then : ℕ) (given : Asked) (stop : Status)
-    → (h : Stands aim tells held old count bytes passed) → GivesRequest bytes passed given rest then → let next = reads aim.every given h.now in
+    → (h : IsSession aim tells held old count bytes passed) → GivesRequest bytes passed given rest then → let next = reads aim.every given h.now in
     (is_cut_short stop ≡ false → Err stop ≡ ended_by next.served.stopped)
-    → (aim.output ≡ output.Script → is_cut_short stop ≡ false → ArePrintable old.steps → ArePrintable next.served.steps)
+    → (aim.output ≡ output.Script → is_cut_short stop ≡ false → AreReadBack old.steps → AreReadBack next.served.steps)
     → (tells ≡ true → is_cut_short stop ≡ false → held ≡ aim.before ++ so_far aim.output aim.f h.now → new ≡ aim.before ++ so_far aim.output aim.f next)
     → (tells ≡ true → held ≡ aim.before ++ so_far aim.output aim.f h.now → HoldsPart aim.before new (so_far aim.output aim.f next))
     → Finishes aim tells new stop
@@ -180,7 +180,7 @@ finishes_there aim tells held new old count bytes rest passed then given stop h 
           (text_grows aim.output aim.f aim.whole aim.rest));
       printable = λ script still.
           let met = limit_in next.served.stopped stop (limit still) in
-          subst (λ (k : Session). ArePrintable k.served.steps) (whole (Some met.0) met.1) (printable script still (h.printable script));
+          subst (λ (k : Session). AreReadBack k.served.steps) (whole (Some met.0) met.1) (printable script still (h.printable script));
     }
   where
     on : (k : Session) (more : List (List (List ℕ))) (o : Option Limit)
@@ -190,7 +190,7 @@ finishes_there aim tells held new old count bytes rest passed then given stop h 
 
 -- nothing more is written, and it was cut short
 pub finishes_cut : (aim : Aim) (tells : Bool) (held : List ℕ) (old : Served) (count : ℕ) (bytes : List ℕ) (passed : ℕ) (stop : Status)
-    → Stands aim tells held old count bytes passed → is_cut_short stop ≡ true → Finishes aim tells held stop
+    → IsSession aim tells held old count bytes passed → is_cut_short stop ≡ true → Finishes aim tells held stop
 finishes_cut aim tells held old count bytes passed stop h cut = record {
   ends = λ still. both (is_cut_short stop) cut still;
   wrote = λ told still. both (is_cut_short stop) cut still;
@@ -203,7 +203,7 @@ finishes_cut aim tells held old count bytes passed stop h cut = record {
 
 -- the input is at its end
 pub finishes_end : (aim : Aim) (tells : Bool) (held : List ℕ) (old : Served) (count : ℕ) (bytes : List ℕ) (passed : ℕ)
-    → Stands aim tells held old count bytes passed → bytes ≡ [] → Finishes aim tells held status.Ok
+    → IsSession aim tells held old count bytes passed → bytes ≡ [] → Finishes aim tells held status.Ok
 finishes_end aim tells held old count bytes passed h none =
     let last = none_due aim h.now h.due bytes h.decomposes h.leads (none_first bytes none) in
     let rest : aim.rest ≡ [] = sym last.0 ∙ none in
@@ -215,7 +215,7 @@ finishes_end aim tells held old count bytes passed h none =
           ∙ ap (λ (t : List ℕ). aim.before ++ t) (sym (text_ended aim.output aim.f aim.whole aim.rest free rest));
       front = λ told. part_held aim.before held (so_far aim.output aim.f aim.whole) (text_by aim.output aim.f aim.whole aim.rest)
           (h.wrote told ∙ ap (λ (k : Session). aim.before ++ so_far aim.output aim.f k) last.1) (text_grows aim.output aim.f aim.whole aim.rest);
-      printable = λ script still. subst (λ (s : Served). ArePrintable s.steps) (sym h.at.served ∙ ap (λ (k : Session). k.served) last.1) (h.printable script);
+      printable = λ script still. subst (λ (s : Served). AreReadBack s.steps) (sym h.at.served ∙ ap (λ (k : Session). k.served) last.1) (h.printable script);
     }
 
 -- the bytes break off
@@ -224,10 +224,10 @@ record Broken (aim : Aim) (tells : Bool) (held : List ℕ) (at : ℕ) : Type 0 w
   pub some : aim.rest ≢ []
   pub place : (place : ℕ) → BreaksOff aim.rest place → at ≡ place_behind (aim.size - length aim.rest) place
   pub wrote : tells ≡ true → held ≡ aim.before ++ so_far aim.output aim.f aim.whole
-  pub printable : aim.output ≡ output.Script → ArePrintable aim.whole.served.steps
+  pub printable : aim.output ≡ output.Script → AreReadBack aim.whole.served.steps
 
 broken : (aim : Aim) (tells : Bool) (held : List ℕ) (old : Served) (count : ℕ) (bytes rest : List ℕ) (passed at : ℕ)
-    → Stands aim tells held old count bytes passed → RefusesBytes bytes passed at rest → Broken aim tells held at
+    → IsSession aim tells held old count bytes passed → RefusesBytes bytes passed at rest → Broken aim tells held at
 broken aim tells held old count bytes rest passed at h r =
     let last = none_due aim h.now h.due bytes h.decomposes h.leads r.broken.none in
     let its = subst (λ (b : List ℕ). BreaksOff b r.place) last.0 r.broken in
@@ -238,12 +238,12 @@ broken aim tells held old count bytes rest passed at h r =
           r.told ∙ place_there aim.size (length bytes) r.place passed h.passes ∙ ap (λ (b : List ℕ). place_behind (aim.size - length b) r.place) last.0
           ∙ ap (λ (p : ℕ). place_behind (aim.size - length aim.rest) p) (one_place aim.rest r.place other its.longest breaks.longest);
       wrote = λ told. h.wrote told ∙ ap (λ (k : Session). aim.before ++ so_far aim.output aim.f k) last.1;
-      printable = λ script. subst (λ (s : Served). ArePrintable s.steps) (sym h.at.served ∙ ap (λ (k : Session). k.served) last.1) (h.printable script);
+      printable = λ script. subst (λ (s : Served). AreReadBack s.steps) (sym h.at.served ∙ ap (λ (k : Session). k.served) last.1) (h.printable script);
     }
 
 -- and that was replied
 pub finishes_broken : (aim : Aim) (tells : Bool) (held new : List ℕ) (old : Served) (count : ℕ) (bytes rest : List ℕ) (passed at : ℕ)
-    → Stands aim tells held old count bytes passed → RefusesBytes bytes passed at rest
+    → IsSession aim tells held old count bytes passed → RefusesBytes bytes passed at rest
     → (tells ≡ true → new ≡ held ++ if_replies aim.output protocol_error) → Finishes aim tells new (status.BadRequest at)
 finishes_broken aim tells held new old count bytes rest passed at h r more =
     let b = broken aim tells held old count bytes rest passed at h r in
@@ -261,7 +261,7 @@ finishes_broken aim tells held new old count bytes rest passed at h r more =
 
 -- or that was cut short
 pub broken_cut : (aim : Aim) (tells : Bool) (held new : List ℕ) (old : Served) (count : ℕ) (bytes rest : List ℕ) (passed at : ℕ) (stop : Status)
-    → Stands aim tells held old count bytes passed → RefusesBytes bytes passed at rest → is_cut_short stop ≡ true
+    → IsSession aim tells held old count bytes passed → RefusesBytes bytes passed at rest → is_cut_short stop ≡ true
     → (tells ≡ true → HoldsPart held new (if_replies aim.output protocol_error)) → Finishes aim tells new stop
 broken_cut aim tells held new old count bytes rest passed at stop h r cut more =
     let b = broken aim tells held old count bytes rest passed at h r in
@@ -277,7 +277,7 @@ broken_cut aim tells held new old count bytes rest passed at stop h r cut more =
 
 pub stands_first : (plan : RespPlan) (requests : List (List (List ℕ))) (rest input before held : List ℕ) (tells : Bool) → Decomposes requests input rest
     → (tells ≡ true → held ≡ before ++ so_far plan.output plan.f (fresh plan.f))
-    → Stands (aim_of plan requests rest input before) tells held (begun plan.f) 0 input 0
+    → IsSession (aim_of plan requests rest input before) tells held (begun plan.f) 0 input 0
 stands_first plan requests rest input before held tells d wrote = record {
   now = fresh plan.f;
   at = record { served = refl; counted = refl; free = refl };

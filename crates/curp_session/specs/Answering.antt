@@ -37,7 +37,7 @@ due_of output.Replies answer steps = reply_to answer
 due_of output.Script answer steps = lines_text steps
 
 -- steps that can be printed, and are read back then
-pub record ArePrintable (steps : List Step) : Type 0 where
+pub record AreReadBack (steps : List Step) : Type 0 where
   pub named : Each NamesNode steps
   pub in_range : Each StepInRange steps
   pub few : length steps ≤ step_limit
@@ -90,7 +90,7 @@ pub record IsAt (now : Session) (state : Served) (count : ℕ) : Type 0 where
 
 -- Some requests are due, which the bytes begin with and which lead from here to the whole session. A sink that tells
 -- holds what is written so far.
-pub record Stands (aim : Aim) (tells : Bool) (held : List ℕ) (state : Served) (count : ℕ) (bytes : List ℕ)
+pub record IsSession (aim : Aim) (tells : Bool) (held : List ℕ) (state : Served) (count : ℕ) (bytes : List ℕ)
     (passed : ℕ) : Type 0 where
   pub now : Session
   pub at : IsAt now state count
@@ -99,7 +99,7 @@ pub record Stands (aim : Aim) (tells : Bool) (held : List ℕ) (state : Served) 
   pub leads : reads_all aim.every (map meaning due) now ≡ aim.whole
   pub passes : passed ≡ place_behind 0 (aim.size - length bytes)
   pub within : length bytes ≤ aim.size
-  pub printable : aim.output ≡ output.Script → ArePrintable state.steps
+  pub printable : aim.output ≡ output.Script → AreReadBack state.steps
   pub wrote : tells ≡ true → held ≡ aim.before ++ so_far aim.output aim.f now
 
 -- it has come to its end with this status, or was cut short
@@ -109,10 +109,10 @@ pub record Finishes (aim : Aim) (tells : Bool) (held : List ℕ) (result : Statu
   pub wrote : tells ≡ true → is_cut_short result ≡ false
       → held ≡ aim.before ++ text_by aim.output aim.f aim.whole aim.rest
   pub front : tells ≡ true → HoldsPart aim.before held (text_by aim.output aim.f aim.whole aim.rest)
-  pub printable : aim.output ≡ output.Script → is_cut_short result ≡ false → ArePrintable aim.whole.served.steps
+  pub printable : aim.output ≡ output.Script → is_cut_short result ≡ false → AreReadBack aim.whole.served.steps
 
 -- the next request was answered, or there was none, or it ended there
 abbrev pub AnswersNext : Aim → Bool → List ℕ → Served → ℕ → List ℕ → ℕ → Result Bool Status → Type 0
-AnswersNext aim tells held state count bytes passed (Ok true) = Stands aim tells held state count bytes passed
+AnswersNext aim tells held state count bytes passed (Ok true) = IsSession aim tells held state count bytes passed
 AnswersNext aim tells held state count bytes passed (Ok false) = Finishes aim tells held status.Ok
 AnswersNext aim tells held state count bytes passed (Err stop) = Finishes aim tells held stop

@@ -15,7 +15,7 @@ ghost use Rattle.curp_script.specs.Printed.{NamesNode};
 ghost use Rattle.curp_script.specs.Script.{Whole};
 ghost use Rattle.curp_script.specs.Texts.{line_text, lines_text};
 ghost use Rattle.curp_serve.specs.Serving.{answer_in, begins, limit_in, next};
-ghost use Rattle.curp_session.specs.Answering.{Aim, AnswersNext, ArePrintable, Finishes, IsAt, IsOfAnswering, Stands, aim_of, due_of, ended_by, if_replies, so_far};
+ghost use Rattle.curp_session.specs.Answering.{Aim, AnswersNext, AreReadBack, Finishes, IsAt, IsOfAnswering, IsSession, aim_of, due_of, ended_by, if_replies, so_far};
 ghost use Rattle.curp_session.specs.Session.{EndsSession, Session, answered_by, fresh, most_requests, reads, reply_to, session, session_text};
 ghost use Rattle.curp_words.specs.Plan.{IsRespPlan};
 
@@ -153,7 +153,7 @@ fn answer_next<S: Source, K: Sink>(
     ensures next { (aim : Aim) (tells : Bool) → aim.output ≡ output → aim.f ≡ served.old.f
         → aim.every ≡ served.old.every
         → S.tells source.old ≡ true → (tells ≡ true → K.tells sink.old ≡ true)
-        → Stands aim tells (K.held sink.old) served.old.state count (requests.old.ahead
+        → IsSession aim tells (K.held sink.old) served.old.state count (requests.old.ahead
         ++ S.left source.old) requests.old.passed
         → AnswersNext aim tells (K.held sink.new) served.new.state (count + 1)
         (requests.new.ahead ++ S.left source.new) requests.new.passed result }
@@ -205,8 +205,8 @@ fn answer<K: Sink>(
         → K.held sink.old ≡ before ++ so_far output served.old.f k
         → HoldsPart before (K.held sink.new) (so_far output served.old.f (reads served.old.every asked k)) }
     ensures printable { (k : Session) → IsAt k served.old.state count → output ≡ RespOutput.Script
-        → is_cut_short (ended result) ≡ false → ArePrintable served.old.state.steps
-        → ArePrintable (reads served.old.every asked k).served.steps }
+        → is_cut_short (ended result) ≡ false → AreReadBack served.old.state.steps
+        → AreReadBack (reads served.old.every asked k).served.steps }
     ensures counted { OnOk result (count ≢ most_requests) }
     ensures going { OnOk result (served.new.is_spent ≡ false) }
     ensures f { served.new.f ≡ served.old.f }
@@ -245,7 +245,7 @@ fn answer_command<K: Sink>(
         → HoldsPart before (K.held sink.new)
         (so_far output served.old.f (answered_by served.old.every (Asked.Command command) k)) }
     ensures printable { output ≡ RespOutput.Script → is_cut_short (ended result) ≡ false
-        → ArePrintable served.old.state.steps → ArePrintable (next served.old command).steps }
+        → AreReadBack served.old.state.steps → AreReadBack (next served.old command).steps }
     ensures going { OnOk result (served.new.is_spent ≡ false) }
     ensures f { served.new.f ≡ served.old.f }
     ensures every { served.new.every ≡ served.old.every }
@@ -389,7 +389,7 @@ fn write_due<K: Sink>(
     ensures fault { result ≡ Err Status.WriteFault → Rose (K.faults sink.old) (K.faults sink.new) }
     ensures no_fault { result ≢ Err Status.WriteFault → SameCount (K.faults sink.old) (K.faults sink.new) }
     ensures printable { output ≡ RespOutput.Script → Each StepInRange (take before served.now.state.steps)
-        → OnOk result (ArePrintable served.now.state.steps) }
+        → OnOk result (AreReadBack served.now.state.steps) }
 {
     match output {
         RespOutput::Replies => write_reply(alloc, answer, sink),

@@ -18,7 +18,7 @@ use Rattle.curp_cmd.specs.RequestId.{id_cmp, same_id}
 use Rattle.curp_cmd.specs.declared.command.Request.{Request}
 use Rattle.curp_cmd.specs.declared.command.RequestId.{RequestId}
 use Rattle.curp_model.specs.Witness.{placed, HeldRequest}
-use Rattle.curp_slots.specs.Register.{IdsAscend, IsFilled, IsPlaceGiven, Place, held_at, held_by, is_held, marked, marked_at, nobody, put_at, times}
+use Rattle.curp_slots.specs.Register.{IdsAscend, IsFilled, IsPlaceGiven, IndexPlace, held_at, held_by, is_held, marked, marked_at, nobody, put_at, times}
 use Rattle.curp_model.proofs.Tables.{greater_back, ids_total, less_not_self}
 
 pub less_not_same_back : (a b : RequestId) → id_cmp a b ≡ Less → same_id b a ≡ false
@@ -30,15 +30,15 @@ each_get P (x ∷ xs) zero d all l = all.0
 each_get P (x ∷ xs) (suc k) d all l = each_get P xs k d all.1 (omega arith)
 
 -- the ids of what is held rise as those of the index
-pub ids_ascend : (kept : List HeldRequest) (es : List Place) → KeysAscend id_cmp es → Each (IsFilled kept) es → IdsAscend (held_by kept es)
+pub ids_ascend : (kept : List HeldRequest) (es : List IndexPlace) → KeysAscend id_cmp es → Each (IsFilled kept) es → IdsAscend (held_by kept es)
 ids_ascend kept [] s f = tt
 ids_ascend kept (e ∷ es) s f = (first es (left _ _ s) f.1, ids_ascend kept es (right _ _ s) f.1)
   where
-    first : (fs : List Place) → T (below_all id_cmp e.0 fs) → Each (IsFilled kept) fs → Each (λ (y : HeldRequest). id_cmp (held_at kept e).request.id y.request.id ≡ Less) (held_by kept fs)
+    first : (fs : List IndexPlace) → T (below_all id_cmp e.0 fs) → Each (IsFilled kept) fs → Each (λ (y : HeldRequest). id_cmp (held_at kept e).request.id y.request.id ≡ Less) (held_by kept fs)
     first [] below filled = tt
     first (g ∷ fs) below filled = (rw (f.0.its_id, filled.0.its_id) (is_less _ (left _ _ below)), first fs (right _ _ below) filled.1)
 
-pub held_in_index : (id : RequestId) (kept : List HeldRequest) (es : List Place) → Each (IsFilled kept) es → is_held id (held_by kept es) ≡ is_some (find id_cmp id es)
+pub held_in_index : (id : RequestId) (kept : List HeldRequest) (es : List IndexPlace) → Each (IsFilled kept) es → is_held id (held_by kept es) ≡ is_some (find id_cmp id es)
 held_in_index id kept [] f = refl
 held_in_index id kept (e ∷ es) f = (λ i. (ap (same_id id) f.0.its_id ∙ sym (tied_same id e.0)) i || held_in_index id kept es f.1 i) ∙ go (eq_by_cmp id_cmp id e.0)
   where
@@ -47,7 +47,7 @@ held_in_index id kept (e ∷ es) f = (λ i. (ap (same_id id) f.0.its_id ∙ sym 
     go false = refl
 
 -- what isn't held isn't in the index
-pub none_held : (id : RequestId) (kept : List HeldRequest) (es : List Place) → Each (IsFilled kept) es → is_held id (held_by kept es) ≡ false → find id_cmp id es ≡ None
+pub none_held : (id : RequestId) (kept : List HeldRequest) (es : List IndexPlace) → Each (IsFilled kept) es → is_held id (held_by kept es) ≡ false → find id_cmp id es ≡ None
 none_held id kept es f absent = go (find id_cmp id es) (sym (held_in_index id kept es f) ∙ absent)
   where
     go : (o : Option ℕ) → is_some o ≡ false → o ≡ None
@@ -61,7 +61,7 @@ last_is [] x = refl
 last_is (y ∷ kept) x = last_is kept x
 
 -- put into the index it comes to its place
-placed_put : (kept : List HeldRequest) (x : HeldRequest) (p : Place) (es : List Place) → held_at kept p ≡ x → x.request.id ≡ p.0 → Each (IsFilled kept) es → held_by kept (put id_cmp p.0 p.1 es) ≡ placed x (held_by kept es)
+placed_put : (kept : List HeldRequest) (x : HeldRequest) (p : IndexPlace) (es : List IndexPlace) → held_at kept p ≡ x → x.request.id ≡ p.0 → Each (IsFilled kept) es → held_by kept (put id_cmp p.0 p.1 es) ≡ placed x (held_by kept es)
 placed_put kept x p [] here id f = ap (λ y. y ∷ []) here
 placed_put kept x p (e ∷ es) here id f =
     go (id_cmp p.0 e.0) (placed_put kept x p es here id f.1)
@@ -81,26 +81,26 @@ filter_push b xs x = ap (λ (ns : List ℕ). length ns) (filter-append (λ (f : 
     one true = refl
     one false = refl
 
-counted : (t : Bool) (e : Place) (es : List Place) → length (cond t (e ∷ es) es) ≡ length es + cond t 1 0
+counted : (t : Bool) (e : IndexPlace) (es : List IndexPlace) → length (cond t (e ∷ es) es) ≡ length es + cond t 1 0
 counted true e es = omega arith
 counted false e es = omega arith
 
-filter_put : (b : ℕ) (p : Place) (es : List Place) → find id_cmp p.0 es ≡ None → length (filter (λ (e : Place). e.1 == b) (put id_cmp p.0 p.1 es)) ≡ length (filter (λ (e : Place). e.1 == b) es) + cond (p.1 == b) 1 0
+filter_put : (b : ℕ) (p : IndexPlace) (es : List IndexPlace) → find id_cmp p.0 es ≡ None → length (filter (λ (e : IndexPlace). e.1 == b) (put id_cmp p.0 p.1 es)) ≡ length (filter (λ (e : IndexPlace). e.1 == b) es) + cond (p.1 == b) 1 0
 filter_put b p [] none = counted (p.1 == b) p []
 filter_put b p (e ∷ es) none = go (id_cmp p.0 e.0) none (filter_put b p es)
   where
     go : (r : Ordering) → cond (is_eq r) (Some e.1) (find id_cmp p.0 es) ≡ None
-        → (find id_cmp p.0 es ≡ None → length (filter (λ (e : Place). e.1 == b) (put id_cmp p.0 p.1 es)) ≡ length (filter (λ (e : Place). e.1 == b) es) + cond (p.1 == b) 1 0)
-        → length (filter (λ (e : Place). e.1 == b) (by_order r ((p.0, p.1) ∷ e ∷ es) ((e.0, p.1) ∷ es) (e ∷ put id_cmp p.0 p.1 es))) ≡ length (filter (λ (e : Place). e.1 == b) (e ∷ es)) + cond (p.1 == b) 1 0
-    go Less none rest = counted (p.1 == b) p (filter (λ (e : Place). e.1 == b) (e ∷ es))
+        → (find id_cmp p.0 es ≡ None → length (filter (λ (e : IndexPlace). e.1 == b) (put id_cmp p.0 p.1 es)) ≡ length (filter (λ (e : IndexPlace). e.1 == b) es) + cond (p.1 == b) 1 0)
+        → length (filter (λ (e : IndexPlace). e.1 == b) (by_order r ((p.0, p.1) ∷ e ∷ es) ((e.0, p.1) ∷ es) (e ∷ put id_cmp p.0 p.1 es))) ≡ length (filter (λ (e : IndexPlace). e.1 == b) (e ∷ es)) + cond (p.1 == b) 1 0
+    go Less none rest = counted (p.1 == b) p (filter (λ (e : IndexPlace). e.1 == b) (e ∷ es))
     go Equal none rest = absurd cc
     go Greater none rest =
-        let with_put = counted (e.1 == b) e (filter (λ (e : Place). e.1 == b) (put id_cmp p.0 p.1 es)) in
-        let without = counted (e.1 == b) e (filter (λ (e : Place). e.1 == b) es) in
+        let with_put = counted (e.1 == b) e (filter (λ (e : IndexPlace). e.1 == b) (put id_cmp p.0 p.1 es)) in
+        let without = counted (e.1 == b) e (filter (λ (e : IndexPlace). e.1 == b) es) in
         let more = rest none in
         omega (arith, with_put, without, more)
 
-each_put : (P : Place → Type 0) (p : Place) (es : List Place) → P p → find id_cmp p.0 es ≡ None → Each P es → Each P (put id_cmp p.0 p.1 es)
+each_put : (P : IndexPlace → Type 0) (p : IndexPlace) (es : List IndexPlace) → P p → find id_cmp p.0 es ≡ None → Each P es → Each P (put id_cmp p.0 p.1 es)
 each_put P p [] own none all = (own, tt)
 each_put P p (e ∷ es) own none all = go (id_cmp p.0 e.0) none (λ none. each_put P p es own none all.1)
   where
@@ -109,15 +109,15 @@ each_put P p (e ∷ es) own none all = go (id_cmp p.0 e.0) none (λ none. each_p
     go Equal none rest = absurd cc
     go Greater none rest = (all.0, rest none)
 
-none_at : (b : ℕ) (es : List Place) → length (filter (λ (e : Place). e.1 == b) es) ≡ 0 → Each (λ (e : Place). e.1 ≢ b) es
+none_at : (b : ℕ) (es : List IndexPlace) → length (filter (λ (e : IndexPlace). e.1 == b) es) ≡ 0 → Each (λ (e : IndexPlace). e.1 ≢ b) es
 none_at b [] none = tt
 none_at b (e ∷ es) none = go (e.1 == b) refl none (none_at b es)
   where
-    go : (t : Bool) → (e.1 == b) ≡ t → length (cond t (e ∷ filter (λ (e : Place). e.1 == b) es) (filter (λ (e : Place). e.1 == b) es)) ≡ 0 → (length (filter (λ (e : Place). e.1 == b) es) ≡ 0 → Each (λ (e : Place). e.1 ≢ b) es) → Each (λ (e : Place). e.1 ≢ b) (e ∷ es)
+    go : (t : Bool) → (e.1 == b) ≡ t → length (cond t (e ∷ filter (λ (e : IndexPlace). e.1 == b) es) (filter (λ (e : IndexPlace). e.1 == b) es)) ≡ 0 → (length (filter (λ (e : IndexPlace). e.1 == b) es) ≡ 0 → Each (λ (e : IndexPlace). e.1 ≢ b) es) → Each (λ (e : IndexPlace). e.1 ≢ b) (e ∷ es)
     go true t none rest = absurd (omega arith)
     go false t none rest = ((λ same. absurd (grind (arith, nat_tests))), rest none)
 
-none_from : (b : ℕ) (es : List Place) → Each (λ (e : Place). e.1 ≢ b) es → length (filter (λ (e : Place). e.1 == b) es) ≡ 0
+none_from : (b : ℕ) (es : List IndexPlace) → Each (λ (e : IndexPlace). e.1 ≢ b) es → length (filter (λ (e : IndexPlace). e.1 == b) es) ≡ 0
 none_from b [] all = refl
 none_from b (e ∷ es) all = let no : (e.1 == b) ≡ false = other e.1 all.0 in rw no (none_from b es all.1)
   where
@@ -133,7 +133,7 @@ front_has P [] n all = tt
 front_has P (m ∷ ns) n all = (all.0, front_has P ns n all.1)
 
 -- what is known where a place is given
-module _ (kept : List HeldRequest) (x : HeldRequest) (p : Place) (free left : List ℕ) (es : List Place) (f : Each (IsFilled kept) es) (inside : Each (λ (at : ℕ). at < length kept) free)
+module _ (kept : List HeldRequest) (x : HeldRequest) (p : IndexPlace) (free left : List ℕ) (es : List IndexPlace) (f : Each (IsFilled kept) es) (inside : Each (λ (at : ℕ). at < length kept) free)
     (once : (at : ℕ) → times at free es ≤ 1) (given : IsPlaceGiven (length kept) free left p.1) (none : find id_cmp p.0 es ≡ None) where
   freed_below : free ≡ left ++ p.1 ∷ [] → p.1 < length kept
   freed_below e = last_has (λ (at : ℕ). at < length kept) left p.1 (subst (λ (ns : List ℕ). Each (λ (at : ℕ). at < length kept) ns) e inside)
@@ -144,13 +144,13 @@ module _ (kept : List HeldRequest) (x : HeldRequest) (p : Place) (free left : Li
     | inr e ↦ omega (arith, e.2)
   ]
 
-  given_apart : Each (λ (e : Place). e.1 ≢ p.1) es
+  given_apart : Each (λ (e : IndexPlace). e.1 ≢ p.1) es
   given_apart = elim given [
     | inl e ↦
         let here : (p.1 == p.1) ≡ true = self p.1 in
         let count = ap (λ (ns : List ℕ). length (filter (λ (f : ℕ). f == p.1) ns)) e ∙ filter_push p.1 left p.1 ∙ ap (λ (t : Bool). length (filter (λ (f : ℕ). f == p.1) left) + cond t 1 0) here in
         none_at p.1 es (omega (arith, count, once p.1))
-    | inr e ↦ Each-weaker (IsFilled kept) (λ (e : Place). e.1 ≢ p.1) (λ g h same. absurd (omega (arith, same, h.within, e.2))) es f
+    | inr e ↦ Each-weaker (IsFilled kept) (λ (e : IndexPlace). e.1 ≢ p.1) (λ g h same. absurd (omega (arith, same, h.within, e.2))) es f
   ]
     where
       self : (n : ℕ) → (n == n) ≡ true
@@ -163,7 +163,7 @@ module _ (kept : List HeldRequest) (x : HeldRequest) (p : Place) (free left : Li
       go true t = let last : p.1 ≡ length kept = grind (arith, nat_tests) in rw last (last_is kept x)
       go false t = let other : p.1 ≢ length kept = grind (arith, nat_tests) in get_or-set_same kept p.1 x nobody (omega (arith, given_most))
 
-  put_other : (e : Place) → e.1 < length kept → e.1 ≢ p.1 → held_at (put_at kept p.1 x) e ≡ held_at kept e
+  put_other : (e : IndexPlace) → e.1 < length kept → e.1 ≢ p.1 → held_at (put_at kept p.1 x) e ≡ held_at kept e
   put_other e within other = go (p.1 == length kept)
     where
       go : (t : Bool) → get_or (cond t (kept ++ x ∷ []) (set kept p.1 x)) e.1 nobody ≡ get_or kept e.1 nobody
@@ -190,14 +190,14 @@ module _ (kept : List HeldRequest) (x : HeldRequest) (p : Place) (free left : Li
     | inr e ↦ omega (arith, e.0, e.1)
   ]
 
-  kept_others : (gs : List Place) → Each (IsFilled kept) gs → Each (λ (e : Place). e.1 ≢ p.1) gs → Each (IsFilled (put_at kept p.1 x)) gs
+  kept_others : (gs : List IndexPlace) → Each (IsFilled kept) gs → Each (λ (e : IndexPlace). e.1 ≢ p.1) gs → Each (IsFilled (put_at kept p.1 x)) gs
   kept_others [] g a = tt
   kept_others (e ∷ gs) g a = (
     record { within = omega (arith, size_least, g.0.within); its_id = ap (λ (y : HeldRequest). y.request.id) (put_other e g.0.within a.0) ∙ g.0.its_id },
     kept_others gs g.1 a.1,
   )
 
-  held_others : (gs : List Place) → Each (IsFilled kept) gs → Each (λ (e : Place). e.1 ≢ p.1) gs → held_by (put_at kept p.1 x) gs ≡ held_by kept gs
+  held_others : (gs : List IndexPlace) → Each (IsFilled kept) gs → Each (λ (e : IndexPlace). e.1 ≢ p.1) gs → held_by (put_at kept p.1 x) gs ≡ held_by kept gs
   held_others [] g a = refl
   held_others (e ∷ gs) g a = λ i. put_other e g.0.within a.0 i ∷ held_others gs g.1 a.1 i
 
@@ -224,10 +224,10 @@ module _ (kept : List HeldRequest) (x : HeldRequest) (p : Place) (free left : Li
         | inr e ↦ new (p.1 == b) refl more (ap (λ (ns : List ℕ). length (filter (λ (f : ℕ). f == b) ns)) e.1)
       ]
     where
-      new : (t : Bool) → (p.1 == b) ≡ t → length (filter (λ (e : Place). e.1 == b) (put id_cmp p.0 p.1 es)) ≡ length (filter (λ (e : Place). e.1 == b) es) + cond t 1 0 → length (filter (λ (f : ℕ). f == b) left) ≡ 0 → times b left (put id_cmp p.0 p.1 es) ≤ 1
+      new : (t : Bool) → (p.1 == b) ≡ t → length (filter (λ (e : IndexPlace). e.1 == b) (put id_cmp p.0 p.1 es)) ≡ length (filter (λ (e : IndexPlace). e.1 == b) es) + cond t 1 0 → length (filter (λ (f : ℕ). f == b) left) ≡ 0 → times b left (put id_cmp p.0 p.1 es) ≤ 1
       new true t more empty =
           let same : p.1 ≡ b = grind (arith, nat_tests) in
-          let zero : length (filter (λ (e : Place). e.1 == b) es) ≡ 0 = none_from b es (subst (λ (n : ℕ). Each (λ (e : Place). e.1 ≢ n) es) same given_apart) in
+          let zero : length (filter (λ (e : IndexPlace). e.1 == b) es) ≡ 0 = none_from b es (subst (λ (n : ℕ). Each (λ (e : IndexPlace). e.1 ≢ n) es) same given_apart) in
           omega (arith, more, empty, zero)
       new false t more empty = omega (arith, more, empty, once b)
 
@@ -282,7 +282,7 @@ none_marked id (x ∷ held) none = go (same_id id x.request.id) refl none (none_
 abbrev pub with_mark : List HeldRequest → ℕ → List HeldRequest
 with_mark kept at = set kept at (marked (get_or kept at nobody))
 
-filled_marked : (kept : List HeldRequest) (at : ℕ) (e : Place) → IsFilled kept e → IsFilled (with_mark kept at) e
+filled_marked : (kept : List HeldRequest) (at : ℕ) (e : IndexPlace) → IsFilled kept e → IsFilled (with_mark kept at) e
 filled_marked kept at e f = record {
   within = rw (length-set kept at (marked (get_or kept at nobody))) f.within;
   its_id = elim (cases_eq at e.1) [
@@ -295,21 +295,21 @@ filled_marked kept at e f = record {
   ];
 }
 
-pub all_filled_marked : (kept : List HeldRequest) (at : ℕ) (es : List Place) → Each (IsFilled kept) es → Each (IsFilled (with_mark kept at)) es
+pub all_filled_marked : (kept : List HeldRequest) (at : ℕ) (es : List IndexPlace) → Each (IsFilled kept) es → Each (IsFilled (with_mark kept at)) es
 all_filled_marked kept at es f = Each-weaker (IsFilled kept) (IsFilled (with_mark kept at)) (filled_marked kept at) es f
 
 -- what the index says of its own ids
-each_found : (es : List Place) → KeysAscend id_cmp es → Each (λ (e : Place). find id_cmp e.0 es ≡ Some e.1) es
+each_found : (es : List IndexPlace) → KeysAscend id_cmp es → Each (λ (e : IndexPlace). find id_cmp e.0 es ≡ Some e.1) es
 each_found [] s = tt
 each_found (e ∷ es) s = (rw (tied_itself ids_total e.0) refl, later es (left _ _ s) (each_found es (right _ _ s)))
   where
-    later : (fs : List Place) → T (below_all id_cmp e.0 fs) → Each (λ (f : Place). find id_cmp f.0 es ≡ Some f.1) fs → Each (λ (f : Place). find id_cmp f.0 (e ∷ es) ≡ Some f.1) fs
+    later : (fs : List IndexPlace) → T (below_all id_cmp e.0 fs) → Each (λ (f : IndexPlace). find id_cmp f.0 es ≡ Some f.1) fs → Each (λ (f : IndexPlace). find id_cmp f.0 (e ∷ es) ≡ Some f.1) fs
     later [] below all = tt
     later (f ∷ fs) below all =
         let apart : id_cmp f.0 e.0 ≡ Greater = greater_back e.0 f.0 (is_less _ (left _ _ below)) in
         (rw apart all.0, later fs (right _ _ below) all.1)
 
-pub filled_found : (kept : List HeldRequest) (es : List Place) (id : RequestId) (at : ℕ) → Each (IsFilled kept) es → find id_cmp id es ≡ Some at → IsFilled kept (id, at)
+pub filled_found : (kept : List HeldRequest) (es : List IndexPlace) (id : RequestId) (at : ℕ) → Each (IsFilled kept) es → find id_cmp id es ≡ Some at → IsFilled kept (id, at)
 filled_found kept [] id at f found = absurd cc
 filled_found kept (e ∷ es) id at f found = go (eq_by_cmp id_cmp id e.0) (tied_same id e.0) found (filled_found kept es id at f.1)
   where
@@ -320,8 +320,8 @@ filled_found kept (e ∷ es) id at f found = go (eq_by_cmp id_cmp id e.0) (tied_
         record { within = subst (λ (n : ℕ). n < length kept) its f.0.within; its_id = ap (λ (n : ℕ). (get_or kept n nobody).request.id) (sym its) ∙ f.0.its_id ∙ own }
     go false tied found rest = rest found
 
-module _ (kept : List HeldRequest) (es : List Place) (id : RequestId) (at : ℕ) (s : KeysAscend id_cmp es) (f : Each (IsFilled kept) es) (found : find id_cmp id es ≡ Some at) where
-  marked_one : (e : Place) → IsFilled kept e → find id_cmp e.0 es ≡ Some e.1 → held_at (with_mark kept at) e ≡ marked_at id (held_at kept e)
+module _ (kept : List HeldRequest) (es : List IndexPlace) (id : RequestId) (at : ℕ) (s : KeysAscend id_cmp es) (f : Each (IsFilled kept) es) (found : find id_cmp id es ≡ Some at) where
+  marked_one : (e : IndexPlace) → IsFilled kept e → find id_cmp e.0 es ≡ Some e.1 → held_at (with_mark kept at) e ≡ marked_at id (held_at kept e)
   marked_one e filled its = elim (cases_eq at e.1) [
     | inl same ↦
         let here : held_at (with_mark kept at) e ≡ marked (held_at kept e) = rw same (get_or-set_same kept e.1 (marked (get_or kept e.1 nobody)) nobody filled.within) in
@@ -340,6 +340,6 @@ module _ (kept : List HeldRequest) (es : List Place) (id : RequestId) (at : ℕ)
   pub held_marked : held_by (with_mark kept at) es ≡ map (marked_at id) (held_by kept es)
   held_marked = go es f (each_found es s)
     where
-      go : (gs : List Place) → Each (IsFilled kept) gs → Each (λ (e : Place). find id_cmp e.0 es ≡ Some e.1) gs → held_by (with_mark kept at) gs ≡ map (marked_at id) (held_by kept gs)
+      go : (gs : List IndexPlace) → Each (IsFilled kept) gs → Each (λ (e : IndexPlace). find id_cmp e.0 es ≡ Some e.1) gs → held_by (with_mark kept at) gs ≡ map (marked_at id) (held_by kept gs)
       go [] filled its = refl
       go (g ∷ gs) filled its = λ i. marked_one g filled.0 its.0 i ∷ go gs filled.1 its.1 i

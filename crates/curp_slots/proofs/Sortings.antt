@@ -12,7 +12,7 @@ use Rattle.curp_base.specs.Words.{Each}
 use Rattle.curp_cmd.specs.declared.command.Request.{Request}
 use Rattle.curp_model.specs.Witness.{HeldRequest, by_least_hash, least_hash, sorted_in}
 use Rattle.curp_slots.specs.Hashed.{LeastHashesApart, least_places, request_at, requests_of}
-use Rattle.curp_slots.specs.Register.{IsFilled, Place, held_at, held_by}
+use Rattle.curp_slots.specs.Register.{IsFilled, IndexPlace, held_at, held_by}
 
 put_inserts : {V : Type 0} (es : List (ℕ × V)) (k : ℕ) (v : V) → insert_entry nat_cmp es k v ≡ put nat_cmp k v es
 put_inserts [] k v = refl
@@ -25,13 +25,13 @@ put_inserts {V} (e ∷ es) k v = go (nat_cmp k e.0) (put_inserts es k v)
     go Greater rest = ap (λ (fs : List (ℕ × V)). e ∷ fs) rest
 
 -- one place more is sorted in
-pub sorted_more : (kept : List HeldRequest) (es : List Place) (sorted : List (ℕ × ℕ)) (at : ℕ) (d : Place) → at < length es → sorted ≡ least_places kept (take at es)
+pub sorted_more : (kept : List HeldRequest) (es : List IndexPlace) (sorted : List (ℕ × ℕ)) (at : ℕ) (d : IndexPlace) → at < length es → sorted ≡ least_places kept (take at es)
     → insert_entry nat_cmp sorted (least_hash (held_at kept (get_or es at d)).request) (get_or es at d).1 ≡ least_places kept (take (at + 1) es)
 sorted_more kept es sorted at d within so_far =
-    let e : Place = get_or es at d in
+    let e : IndexPlace = get_or es at d in
     put_inserts sorted (least_hash (held_at kept e).request) e.1
     ∙ ap (put nat_cmp (least_hash (held_at kept e).request) e.1) so_far
-    ∙ sym (fold-append (λ (done : List (ℕ × ℕ)) (f : Place). put nat_cmp (least_hash (held_at kept f).request) f.1 done) [] (take at es) (e ∷ []))
+    ∙ sym (fold-append (λ (done : List (ℕ × ℕ)) (f : IndexPlace). put nat_cmp (least_hash (held_at kept f).request) f.1 done) [] (take at es) (e ∷ []))
     ∙ ap (least_places kept) (sym (take_more es at d within))
 
 -- ---- what stands at the places
@@ -93,8 +93,8 @@ module _ (kept : List HeldRequest) where
   all_without r (s ∷ rs) at es is apart w =
       (put_without (least_hash s) (least_hash r) at es (λ same. apart.0 (sym same)) w.0, all_without r rs at es is apart.1 w.1)
 
-  sorts : (es : List Place) (done : List (ℕ × ℕ)) → HashedPlaces done → LeastHashesApart (requests_of (held_by kept es)) → Each (λ (s : Request). Without (least_hash s) done) (requests_of (held_by kept es))
-      → at_places (fold (λ (d : List (ℕ × ℕ)) (e : Place). put nat_cmp (least_hash (held_at kept e).request) e.1 d) done es) ≡ fold sorted_in (at_places done) (requests_of (held_by kept es))
+  sorts : (es : List IndexPlace) (done : List (ℕ × ℕ)) → HashedPlaces done → LeastHashesApart (requests_of (held_by kept es)) → Each (λ (s : Request). Without (least_hash s) done) (requests_of (held_by kept es))
+      → at_places (fold (λ (d : List (ℕ × ℕ)) (e : IndexPlace). put nat_cmp (least_hash (held_at kept e).request) e.1 d) done es) ≡ fold sorted_in (at_places done) (requests_of (held_by kept es))
   sorts [] done h apart w = refl
   sorts (e ∷ es) done h apart w =
       sorts es (put nat_cmp (least_hash (request_at kept e.1)) e.1 done) (put_hashed e.1 done h) apart.1
@@ -105,7 +105,7 @@ module _ (kept : List HeldRequest) where
   none_yet [] = tt
   none_yet (r ∷ rs) = (tt, none_yet rs)
 
-  pub requests_sorted : (es : List Place) → LeastHashesApart (requests_of (held_by kept es)) → at_places (least_places kept es) ≡ by_least_hash (requests_of (held_by kept es))
+  pub requests_sorted : (es : List IndexPlace) → LeastHashesApart (requests_of (held_by kept es)) → at_places (least_places kept es) ≡ by_least_hash (requests_of (held_by kept es))
   requests_sorted es apart = sorts es [] tt apart (none_yet (requests_of (held_by kept es)))
 
 -- ---- the places are within
@@ -120,15 +120,15 @@ put_within n k at (e ∷ es) below all = go (nat_cmp k e.0) (put_within n k at e
     go Equal rest = (below, all.1)
     go Greater rest = (all.0, rest)
 
-folded_within : (kept : List HeldRequest) (es : List Place) (done : List (ℕ × ℕ)) → Each (IsFilled kept) es → Each (λ (m : ℕ). m < length kept) (map (λ (e : ℕ × ℕ). e.1) done)
-    → Each (λ (m : ℕ). m < length kept) (map (λ (e : ℕ × ℕ). e.1) (fold (λ (d : List (ℕ × ℕ)) (e : Place). put nat_cmp (least_hash (held_at kept e).request) e.1 d) done es))
+folded_within : (kept : List HeldRequest) (es : List IndexPlace) (done : List (ℕ × ℕ)) → Each (IsFilled kept) es → Each (λ (m : ℕ). m < length kept) (map (λ (e : ℕ × ℕ). e.1) done)
+    → Each (λ (m : ℕ). m < length kept) (map (λ (e : ℕ × ℕ). e.1) (fold (λ (d : List (ℕ × ℕ)) (e : IndexPlace). put nat_cmp (least_hash (held_at kept e).request) e.1 d) done es))
 folded_within kept [] done f all = all
 folded_within kept (e ∷ es) done f all = folded_within kept es (put nat_cmp (least_hash (held_at kept e).request) e.1 done) f.1 (put_within (length kept) (least_hash (held_at kept e).request) e.1 done f.0.within all)
 
-pub places_within : (kept : List HeldRequest) (es : List Place) → Each (IsFilled kept) es → Each (λ (m : ℕ). m < length kept) (map (λ (e : ℕ × ℕ). e.1) (least_places kept es))
+pub places_within : (kept : List HeldRequest) (es : List IndexPlace) → Each (IsFilled kept) es → Each (λ (m : ℕ). m < length kept) (map (λ (e : ℕ × ℕ). e.1) (least_places kept es))
 places_within kept es f = folded_within kept es [] f tt
 
-pub filled_taken : (kept : List HeldRequest) (n : ℕ) (es : List Place) → Each (IsFilled kept) es → Each (IsFilled kept) (take n es)
+pub filled_taken : (kept : List HeldRequest) (n : ℕ) (es : List IndexPlace) → Each (IsFilled kept) es → Each (IsFilled kept) (take n es)
 filled_taken kept zero es f = tt
 filled_taken kept (suc n) [] f = tt
 filled_taken kept (suc n) (e ∷ es) f = (f.0, filled_taken kept n es f.1)

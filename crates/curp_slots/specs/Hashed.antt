@@ -5,7 +5,7 @@ use Rattle.std.specs.Ordering.{nat_cmp}
 use Rattle.curp_base.specs.Words.{Each}
 use Rattle.curp_cmd.specs.declared.command.Request.{Request}
 use Rattle.curp_model.specs.Witness.{HeldRequest, least_hash}
-use Rattle.curp_slots.specs.Register.{Place, held_at, nobody}
+use Rattle.curp_slots.specs.Register.{IndexPlace, held_at, nobody}
 
 -- the requests that are held
 abbrev pub requests_of : List HeldRequest → List Request
@@ -21,5 +21,5 @@ abbrev pub request_at : List HeldRequest → ℕ → Request
 request_at kept at = (slice_index_or kept at nobody).request
 
 -- each place with the least hash of what stands there, in ascending order of these
-abbrev pub least_places : List HeldRequest → List Place → List (ℕ × ℕ)
+abbrev pub least_places : List HeldRequest → List IndexPlace → List (ℕ × ℕ)
 least_places kept index = fold (λ done e. put nat_cmp (least_hash (held_at kept e).request) e.1 done) [] index

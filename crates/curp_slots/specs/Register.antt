@@ -36,32 +36,32 @@ pub record Registered : Type 0 where
 -- ---- an index
 
 -- the id of a request, and its place
-abbrev pub Place : Type 0
-Place = RequestId × ℕ
+abbrev pub IndexPlace : Type 0
+IndexPlace = RequestId × ℕ
 
 -- what stands at no place
 abbrev pub nobody : HeldRequest
 nobody = record { request = record { id = record { client = 0; seq = 0 }; first = 0; command = Get [] }; survived = 0; suspected = false }
 
 -- what stands at the place
-abbrev pub held_at : List HeldRequest → Place → HeldRequest
+abbrev pub held_at : List HeldRequest → IndexPlace → HeldRequest
 held_at kept e = slice_index_or kept e.1 nobody
 
 -- what is held, in the order of the index
-abbrev pub held_by : List HeldRequest → List Place → List HeldRequest
+abbrev pub held_by : List HeldRequest → List IndexPlace → List HeldRequest
 held_by kept index = map (held_at kept) index
 
 -- the place is that of the request with its id
-pub record IsFilled (kept : List HeldRequest) (e : Place) : Type 0 where
+pub record IsFilled (kept : List HeldRequest) (e : IndexPlace) : Type 0 where
   pub within : e.1 < length kept
   pub its_id : (held_at kept e).request.id ≡ e.0
 
 -- how often a place is free or in the index
-abbrev pub times : ℕ → List ℕ → List Place → ℕ
+abbrev pub times : ℕ → List ℕ → List IndexPlace → ℕ
 times at free index = length (filter (λ f. f == at) free) + length (filter (λ e. e.1 == at) index)
 
 -- an index of what is held, and room for so many in each list; a place is free or in the index, and that once
-pub record IsRegister (room : ℕ) (kept : List HeldRequest) (kept_room : ℕ) (free : Reserving ℕ) (index : Reserving Place) : Type 0 where
+pub record IsRegister (room : ℕ) (kept : List HeldRequest) (kept_room : ℕ) (free : Reserving ℕ) (index : Reserving IndexPlace) : Type 0 where
   pub ascend : KeysAscend id_cmp index.items
   pub places : Each (IsFilled kept) index.items
   pub within : Each (λ at. at < length kept) free.items

@@ -18,7 +18,7 @@ use Rattle.clap.specs.declared.builder.value_parser.Reading.TheVariants.{AsWritt
 use Rattle.clap.specs.declared.error.kind.ErrorKind.TheVariants as kind
 use Rattle.clap.specs.declared.parser.matches.ValueSource.TheVariants.{CommandLine}
 use Rattle.curp_words.specs.Command.{bare_rule, flag_rule, valued_rule}
-use Rattle.curp_words.specs.Words.{GivenOptions, Options, Reading, given_from, gives, is_among, is_given, is_once, is_well_formed, with_next, with_option}
+use Rattle.curp_words.specs.Words.{GivenOptions, Options, OptionsRead, given_from, gives, is_among, is_given, is_once, is_well_formed, with_next, with_option}
 
 -- ---- tests
 
@@ -263,7 +263,7 @@ module _ (c : List Rule) where
     twice_more : (x : Text × Text) (given : GivenOptions) → is_once given ≡ false → is_once (x ∷ given) ≡ false
     twice_more x given twice = ap (λ b. not (is_given x.0 given) && b) twice ∙ and_false (not (is_given x.0 given))
 
-    abbrev IsStillTwice : Option Reading → Type 0
+    abbrev IsStillTwice : Option OptionsRead → Type 0
     IsStillTwice None = ⊤
     IsStillTwice (Some reading) = is_once reading.given ≡ false
 
@@ -287,7 +287,7 @@ module _ (c : List Rule) where
     next_twice (Some name) given word (Some p) twice = tt
 
     go_on_twice : (words : List Text) → ((waiting : Option Text) (given : GivenOptions) → is_once given ≡ false → IsTwice (given_from options waiting given words))
-        → (o : Option Reading) → IsStillTwice o → IsTwice (option_and_then (λ (reading : Reading). given_from options reading.waiting reading.given words) o)
+        → (o : Option OptionsRead) → IsStillTwice o → IsTwice (option_and_then (λ (reading : OptionsRead). given_from options reading.waiting reading.given words) o)
     go_on_twice words rest None h = tt
     go_on_twice words rest (Some reading) h = rest reading.waiting reading.given h
 
@@ -466,10 +466,10 @@ module _ (c : List Rule) where
         ]
 
       -- what follows where the words were read as far as this
-      abbrev go_on : List Text → Option Reading → Option GivenOptions
-      go_on rest o = option_and_then (λ (reading : Reading). given_from options reading.waiting reading.given rest) o
+      abbrev go_on : List Text → Option OptionsRead → Option GivenOptions
+      go_on rest o = option_and_then (λ (reading : OptionsRead). given_from options reading.waiting reading.given rest) o
 
-      abbrev flag_given : Text → GivenOptions → Bool → Option Reading
+      abbrev flag_given : Text → GivenOptions → Bool → Option OptionsRead
       flag_given name given b = cond b (Some (gives ((name, codes "true") ∷ given))) None
 
       idle_option : (h : Held) (given : GivenOptions) (word name : Text) (v : Option Text) (rest : List Text) (is : IsOption word name v) (next : Rest rest)

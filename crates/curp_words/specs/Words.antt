@@ -87,20 +87,20 @@ abbrev pub is_well_formed : Text → Bool
 is_well_formed word = is_some (long_of word) || not (is_some (strip_byte 45 word))
 
 -- what is given by the words so far, and the option that waits for its value
-pub record Reading : Type 0 where
+pub record OptionsRead : Type 0 where
   pub given : GivenOptions
   pub waiting : Option Text
 
 -- so much is given, and no option waits
-abbrev pub gives : GivenOptions → Reading
+abbrev pub gives : GivenOptions → OptionsRead
 gives given = record { given = given; waiting = None }
 
 -- a word with no hyphen is the value that an option waits for, and else it stands for itself
-abbrev pub with_bare : Option Text → GivenOptions → Text → Reading
+abbrev pub with_bare : Option Text → GivenOptions → Text → OptionsRead
 with_bare waiting given word = gives ((unwrap_or waiting (codes "command"), word) ∷ given)
 
 -- an option: its value is behind `=`, or it is the next word, or it has none
-abbrev pub with_option : Options → GivenOptions → Text → Option Text → Option Reading
+abbrev pub with_option : Options → GivenOptions → Text → Option Text → Option OptionsRead
 with_option options given name (Some value) =
     if is_among options.valued name then Some (gives ((name, value) ∷ given)) else None
 with_option options given name None =
@@ -108,7 +108,7 @@ with_option options given name None =
     else (if is_among options.flags name then Some (gives ((name, codes "true") ∷ given)) else None)
 
 -- no option stands where another one waits for its value
-abbrev pub with_next : Options → Option Text → GivenOptions → Text → Option (Text × Option Text) → Option Reading
+abbrev pub with_next : Options → Option Text → GivenOptions → Text → Option (Text × Option Text) → Option OptionsRead
 with_next options waiting given word None = Some (with_bare waiting given word)
 with_next options None given word (Some option) = with_option options given option.0 option.1
 with_next options (Some name) given word (Some option) = None
@@ -118,7 +118,7 @@ abbrev pub given_from : Options → Option Text → GivenOptions → List Text �
 given_from options None given [] = Some given
 given_from options (Some name) given [] = None
 given_from options waiting given (word ∷ words) =
-    option_and_then (λ (reading : Reading). given_from options reading.waiting reading.given words)
+    option_and_then (λ (reading : OptionsRead). given_from options reading.waiting reading.given words)
     (with_next options waiting given word (long_of word))
 
 -- and nothing is given twice

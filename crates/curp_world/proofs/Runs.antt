@@ -11,9 +11,10 @@ use Rattle.curp_law_line.specs.Line.{StandsIn}
 use Rattle.curp_law_line.proofs.Growing.{stands_self}
 use Rattle.curp_law_linear.specs.Grows.{completed_in_order}
 use Rattle.curp_script.specs.declared.error.FieldName.{FieldName}
-use Rattle.curp_model.specs.World.{World, step, run, opening, result_of, world}
+use Rattle.curp_model.specs.World.{Stepped, World, step, run, opening, result_of, world}
 use Rattle.curp_msg.specs.declared.outcome.Outcome.{Outcome}
 use Rattle.curp_msg.specs.declared.outcome.StepResult.{StepResult}
+use Rattle.curp_cluster.specs.Given.{Steps}
 use Rattle.curp_world.specs.Reached.{Reached}
 
 pub run_more : (w : World) (ss : List Step) (s : Step) → run w (ss ++ s ∷ []) ≡ (step (run w ss) s).world
@@ -33,17 +34,32 @@ reached_next w s named r = record {
 }
 
 -- a step that may have failed for memory leads on, or leaves the world as it is
-pub reached_after : {A E : Type 0} (result : Result A E) (w v : World) (s : Step) → IsStep s → Reached w → OnOk result (v ≡ (step w s).world) → OnErr result (v ≡ w) → Reached v
-reached_after (Ok a) w v s named r ok err = subst Reached (sym ok) (reached_next w s named r)
-reached_after (Err e) w v s named r ok err = subst Reached (sym err) r
+pub reached_after : {E : Type 0} (result : Result Outcome E) (w v : World) (s : Step) → IsStep s → Reached w
+    → Steps w v result (step w s) → Reached v
+reached_after (Ok o) w v s named r steps = subst Reached (sym steps.0) (reached_next w s named r)
+reached_after (Err e) w v s named r same = subst Reached (sym same) r
 
 -- what is completed stands after it as before
-pub grows_after : {A E : Type 0} (result : Result A E) (w v : World) (s : Step) → IsStep s → Reached w
+pub grows_after : {E : Type 0} (result : Result Outcome E) (w v : World) (s : Step) → IsStep s → Reached w
     → ((h : Header) (steps : List Step) → IsRun h steps → (s : Step) → IsStep s → StandsIn (completed_in_order (world h steps)) (completed_in_order (step (world h steps) s).world))
-    → OnOk result (v ≡ (step w s).world) → OnErr result (v ≡ w) → StandsIn (completed_in_order w) (completed_in_order v)
-grows_after (Ok a) w v s named r grows ok err =
-    rw ok (subst (λ (x : World). StandsIn (completed_in_order x) (completed_in_order (step x s).world)) r.is (grows r.header r.steps r.run s named))
-grows_after (Err e) w v s named r grows ok err = rw err (stands_self (completed_in_order w))
+    → Steps w v result (step w s) → StandsIn (completed_in_order w) (completed_in_order v)
+grows_after (Ok o) w v s named r grows steps =
+    rw steps.0 (subst (λ (x : World). StandsIn (completed_in_order x) (completed_in_order (step x s).world)) r.is (grows r.header r.steps r.run s named))
+grows_after (Err e) w v s named r grows same = rw same (stands_self (completed_in_order w))
+
+-- the world after it, and its outcome
+pub state_after : {E : Type 0} (result : Result Outcome E) (w v : World) (s : Stepped) → Steps w v result s → OnOk result (v ≡ s.world)
+state_after (Ok o) w v s steps = steps.0
+state_after (Err e) w v s same = tt
+
+pub outcome_after : {E : Type 0} (result : Result Outcome E) (w v : World) (s : Stepped) → Steps w v result s
+    → IfOk result (λ o. o ≡ s.outcome)
+outcome_after (Ok o) w v s steps = steps.1
+outcome_after (Err e) w v s same = tt
+
+pub same_after : {E : Type 0} (result : Result Outcome E) (w v : World) (s : Stepped) → Steps w v result s → OnErr result (v ≡ w)
+same_after (Ok o) w v s steps = tt
+same_after (Err e) w v s same = same
 
 -- ---- headers
 

@@ -1,7 +1,7 @@
 use Rattle.std.proofs.Common.{◌≡◌, ◌≤◌, ◌+◌, ◌-◌, ◌++◌, List, ℕ, None, true, false}
 use Rattle.curp_io.specs.Streams.{SameCount}
 use Rattle.curp_resp.specs.Input.{Decomposes}
-use Rattle.curp_session.specs.Answering.{Stands, aim_of}
+use Rattle.curp_session.specs.Answering.{IsSession, aim_of}
 use Rattle.curp_session.specs.Session.{most_requests}
 use Rattle.curp_session.proofs.session.answer_begun.Given as goal
 
@@ -19,7 +19,7 @@ invariant-answers g l = record {
   sink_faults : SameCount (g.K.Sink.faults l.fn.sink) (g.K.Sink.faults l.sink);
   stands : (requests : List (List (List ℕ))) (rest : List ℕ) → g.S.Source.tells l.fn.source ≡ true
       → Decomposes requests (g.S.Source.left l.fn.source) rest
-      → Stands (aim_of l.fn.plan requests rest (g.S.Source.left l.fn.source) (g.K.Sink.held l.fn.sink)) (g.K.Sink.tells l.fn.sink)
+      → IsSession (aim_of l.fn.plan requests rest (g.S.Source.left l.fn.source) (g.K.Sink.held l.fn.sink)) (g.K.Sink.tells l.fn.sink)
       (g.K.Sink.held l.sink) l.served.state l.count (l.requests.ahead ++ g.S.Source.left l.source) l.requests.passed;
 }
 

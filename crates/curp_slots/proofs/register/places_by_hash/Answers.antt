@@ -1,15 +1,15 @@
 use Rattle.std.proofs.Common.{◌≡◌, ◌<◌, ℕ, List, get_or, length, map, take, sym, subst, ◌∙◌}
 use Rattle.curp_base.specs.Words.{Each}
 use Rattle.std.proofs.lemmas.List.{get_or_default}
-use Rattle.curp_slots.specs.Register.{IsFilled, Place, held_at, nobody}
+use Rattle.curp_slots.specs.Register.{IsFilled, IndexPlace, held_at, nobody}
 use Rattle.curp_slots.proofs.Registers.{each_get}
 use Rattle.curp_slots.proofs.Sortings.{filled_taken, places_within, sorted_more}
 use Rattle.curp_slots.proofs.register.places_by_hash.Goals as goal
 
 pub loop-at-preserved : goal.loop-at-preserved
 loop-at-preserved c =
-    let none : Place = (record { client = 0; seq = 0 }, 0) in
-    let p : Place = get_or c.args.index.now c.loop-at.at-index none in
+    let none : IndexPlace = (record { client = 0; seq = 0 }, 0) in
+    let p : IndexPlace = get_or c.args.index.now c.loop-at.at-index none in
     let filled : IsFilled c.args.kept.now p = each_get (IsFilled c.args.kept.now) c.args.index.now c.loop-at.at-index none c.requires c.loop-at-test.true in
     let held : c.index-kept-at.result ≡ held_at c.args.kept.now p = c.index-kept-at.is ∙ get_or_default c.args.kept.now p.1 c.index-kept-at.result nobody filled.within in
     c.in_ok-insert.ensures.entries

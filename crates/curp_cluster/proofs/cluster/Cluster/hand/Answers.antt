@@ -1,4 +1,4 @@
-use Rattle.std.proofs.Common.{◌≡◌, ◌++◌, ◌+◌, ◌≤◌, List, true, length, arith, ap, sym, ◌∙◌, subst}
+use Rattle.std.proofs.Common.{◌≡◌, ◌++◌, ◌+◌, ◌≤◌, List, true, length, arith, ap, rules, sym, ◌∙◌, subst}
 use Rattle.curp_base.specs.Words.{all_of, numbered}
 use Rattle.curp_model.specs.Marks.{Mark}
 use Rattle.curp_model.specs.World.{Stepped, World, completion, has_node, refused, with_batch}
@@ -9,7 +9,7 @@ use Rattle.curp_order.specs.declared.Event.{Event}
 use Rattle.curp_cluster.specs.Given.{input_in, input_of}
 use Rattle.curp_cluster.specs.Marks.{DueMarks, HasRoomFor, IsSound, due_marks, marks_by, told_due, master_at, most_due, most_marks}
 use Rattle.curp_cluster.specs.Nodes.{seen}
-use Rattle.curp_cluster.proofs.Keeping.{hands_done, hands_refused, in_any_case, seen_same}
+use Rattle.curp_cluster.proofs.Keeping.{as_before, hands_done, hands_refused, seen_same}
 use Rattle.curp_cluster.proofs.Marking.{has_room}
 use Rattle.curp_cluster.proofs.Stepping.{passed}
 use Rattle.curp_cluster.proofs.cluster.Cluster.hand.Goals as goal
@@ -36,8 +36,8 @@ mark-requires c =
     (subst (λ (d : DueMarks). IsSound d (master_at to.kind to.number i.nodes.masters)) due c.in_ok-due.ensures.sound)
     (subst (λ (d : DueMarks). most_due d (most_marks given) ≤ spare) due room))
 
-pub returns-clause-state : goal.returns-clause-state
-returns-clause-state c =
+pub returns : goal.returns
+returns c =
     let i = c.self.inside in
     let sent = i.sent.lists in
     let done = c.in_ok-done.done in
@@ -52,46 +52,24 @@ returns-clause-state c =
     let adds = c.mark.ensures
     ∙ ap (λ (d : DueMarks). marks_by d c.args.to c.give.new.self.masters c.reserve-3.new.self.marks) c.in_ok-due.ensures.value
     ∙ ap (λ (marks : List Mark). marks_by (due_marks i.nodes c.args.to (input_of c.given_of-given.result)) c.args.to c.give.new.self.masters marks) c.reserve-3.ensures.marks in
-    (hands_done i.nodes c.give.new.self i.stopped sent c.keep.new.sent.lists i.history.events c.keep.new.history.events
+    hands_done i.nodes c.give.new.self i.stopped sent c.keep.new.sent.lists i.history.events c.keep.new.history.events
     i.marks.marks c.mark.new.marks.marks c.flag.new.marks.marks c.args.self.now
     c.args.to c.args.gift.now (input_of c.given_of-given.result) done event c.keep.result
     c.in_ok-done.ensures.moves c.self.view_is c.requires passes (passed c.args.self.now c.args.to passes) given c.if-done-ne0.false
-    c.invoked-invoked.ensures sends records adds c.flag.ensures outcome).0
-
-pub returns-clause-outcome : goal.returns-clause-outcome
-returns-clause-outcome c =
-    let i = c.self.inside in
-    let sent = i.sent.lists in
-    let done = c.in_ok-done.done in
-    let event = c.invoked-invoked.result in
-    let passes = sym c.in_default.ensures in
-    let given = ap (λ (lists : List (List Message)). input_in (all_of lists) c.args.gift.now) (sym c.reserve.ensures.lists) ∙ c.given_of-given.ensures in
-    let sends = c.keep.ensures.sent ∙ ap (λ (lists : List (List Message)). with_batch lists done.sent) c.reserve.ensures.lists in
-    let records = c.keep.ensures.history
-    ∙ ap (λ (events : List Event). (events ++ invocation event) ++ completion done.completed) c.reserve-2.ensures.events in
-    let outcome = c.keep.ensures.outcome ∙ ap (λ (lists : List (List Message)).
-    record { result = Done; first = length (all_of lists) + 1; sent = length done.sent; completed = done.completed }) c.reserve.ensures.lists in
-    let adds = c.mark.ensures
-    ∙ ap (λ (d : DueMarks). marks_by d c.args.to c.give.new.self.masters c.reserve-3.new.self.marks) c.in_ok-due.ensures.value
-    ∙ ap (λ (marks : List Mark). marks_by (due_marks i.nodes c.args.to (input_of c.given_of-given.result)) c.args.to c.give.new.self.masters marks) c.reserve-3.ensures.marks in
-    (hands_done i.nodes c.give.new.self i.stopped sent c.keep.new.sent.lists i.history.events c.keep.new.history.events
-    i.marks.marks c.mark.new.marks.marks c.flag.new.marks.marks c.args.self.now
-    c.args.to c.args.gift.now (input_of c.given_of-given.result) done event c.keep.result
-    c.in_ok-done.ensures.moves c.self.view_is c.requires passes (passed c.args.self.now c.args.to passes) given c.if-done-ne0.false
-    c.invoked-invoked.ensures sends records adds c.flag.ensures outcome).1
+    c.invoked-invoked.ensures sends records adds c.flag.ensures outcome
 
 -- by an error, and where the node refuses, all is as it was
-pub returns-in_err-done-clause-err : goal.returns-in_err-done-clause-err
-returns-in_err-done-clause-err c =
+pub returns-in_err-done : goal.returns-in_err-done
+returns-in_err-done c =
     let i = c.self.inside in
     let was : World = seen i.nodes i.stopped i.sent.lists i.history.events i.marks.marks in
-    in_any_case c.from_residual-in_err-done.result
+    as_before c.from_residual-in_err-done.result c.in_err-done.field-0.0 _ _ _ (search rules)
     (seen_same i.nodes c.give.new.self i.stopped i.sent.lists c.reserve.new.self.lists i.history.events c.reserve-2.new.self.events
     i.marks.marks c.reserve-3.new.self.marks c.args.self.now
     (c.in_err-done.ensures.moves was) c.reserve.ensures.lists c.reserve-2.ensures.events c.reserve-3.ensures.marks c.self.view_is)
 
-pub returns-then-done-ne0-clause-state : goal.returns-then-done-ne0-clause-state
-returns-then-done-ne0-clause-state c =
+pub returns-then-done-ne0 : goal.returns-then-done-ne0
+returns-then-done-ne0 c =
     let i = c.self.inside in
     let passes = sym c.in_default.ensures in
     let given = ap (λ (lists : List (List Message)). input_in (all_of lists) c.args.gift.now) (sym c.reserve.ensures.lists) ∙ c.given_of-given.ensures in
@@ -100,19 +78,8 @@ returns-then-done-ne0-clause-state c =
     (c.in_ok-done.ensures.refused c.if-done-ne0.true) c.reserve.ensures.lists c.reserve-2.ensures.events c.reserve-3.ensures.marks c.self.view_is in
     let refuses = hands_refused i.nodes c.give.new.self i.stopped i.sent.lists i.history.events i.marks.marks c.args.self.now
     c.args.to c.args.gift.now (input_of c.given_of-given.result) c.in_ok-done.done c.in_ok-done.ensures.moves c.self.view_is c.requires passes given
-    c.if-done-ne0.true in
-    same ∙ sym (ap (λ (x : Stepped). x.world) refuses)
-
-pub returns-then-done-ne0-clause-outcome : goal.returns-then-done-ne0-clause-outcome
-returns-then-done-ne0-clause-outcome c =
-    let i = c.self.inside in
-    let passes = sym c.in_default.ensures in
-    let given = ap (λ (lists : List (List Message)). input_in (all_of lists) c.args.gift.now) (sym c.reserve.ensures.lists) ∙ c.given_of-given.ensures in
-    let same = seen_same i.nodes c.give.new.self i.stopped i.sent.lists c.reserve.new.self.lists i.history.events c.reserve-2.new.self.events
-    i.marks.marks c.reserve-3.new.self.marks c.args.self.now
-    (c.in_ok-done.ensures.refused c.if-done-ne0.true) c.reserve.ensures.lists c.reserve-2.ensures.events c.reserve-3.ensures.marks c.self.view_is in
-    let refuses = hands_refused i.nodes c.give.new.self i.stopped i.sent.lists i.history.events i.marks.marks c.args.self.now
-    c.args.to c.args.gift.now (input_of c.given_of-given.result) c.in_ok-done.done c.in_ok-done.ensures.moves c.self.view_is c.requires passes given
-    c.if-done-ne0.true in
-    c.silent-then-done-ne0.ensures ∙ ap (λ (w : World). (refused w (Refused c.in_ok-done.done.refused)).outcome) same
-    ∙ sym (ap (λ (x : Stepped). x.outcome) refuses)
+    c.if-done-ne0.true in (
+      same ∙ sym (ap (λ (x : Stepped). x.world) refuses),
+      c.silent-then-done-ne0.ensures ∙ ap (λ (w : World). (refused w (Refused c.in_ok-done.done.refused)).outcome) same
+          ∙ sym (ap (λ (x : Stepped). x.outcome) refuses),
+    )

@@ -26,7 +26,7 @@ invariant_of-self c =
     = plus_if_within c.is_recovery_due-is_recovery.result c.self.inside.recoveries c.self.inside.plan.recoveries fewer is.recoveries in
     record {
       plan = is.plan;
-      masters = rw c.in-Ok.ensures.state there;
+      masters = rw c.in-Ok.ensures.0 there;
       made = omega (arith, room);
       recoveries = rw c.plus_if-self-inside.ensures few;
       refused = rw c.plus_if-self-inside-in-Ok.ensures (plus_if_most _ c.self.inside.refused c.self.inside.made is.refused);
@@ -66,7 +66,7 @@ returns-in-Ok-clause-state c =
     let completes : c.is_some.result ≡ is_some c.in-Ok.outcome.completed = c.is_some.ensures in
     let next = state_is_next seen c.choice-choice.result c.choice-choice.new.words c.step.new.self c.in-Ok.outcome
     c.plus_if-self-inside.result c.plus_if-self-inside-in-Ok.result c.plus_if-self-inside-in-Ok-2.result
-    chosen c.in-Ok.ensures.state c.in-Ok.ensures.outcome
+    chosen c.in-Ok.ensures.0 c.in-Ok.ensures.1
     (c.plus_if-self-inside.ensures ∙ ap (λ (so : Bool). plus_if so c.self.inside.recoveries) due)
     (c.plus_if-self-inside-in-Ok.ensures ∙ ap (λ (so : Bool). plus_if (not so) c.self.inside.refused) c.is_done.ensures)
     (c.plus_if-self-inside-in-Ok-2.ensures ∙ ap (λ (so : Bool). plus_if so c.self.inside.completed) completes) in

@@ -1,6 +1,6 @@
 use Rattle.std.proofs.Common.{Err, Ok, Some, ap, subst, sym, ◌∙◌}
 use Rattle.curp_law_served.specs.Served.{Served, serve}
-use Rattle.curp_serve.specs.Serving.{HasServed, Serving, serving}
+use Rattle.curp_serve.specs.Serving.{LedBy, Serving, serving}
 use Rattle.curp_serve.proofs.Behind.{is_right, its_steps, keeps_on, none_of, serves_on, shows_on, tells_more, told_of}
 use Rattle.curp_serve.proofs.served.Served.serve.Goals as goal
 
@@ -21,7 +21,7 @@ invariant_of-self-2 c =
 pub returns-in-Err-clause-one_thread : goal.returns-in-Err-clause-one_thread
 returns-in-Err-clause-one_thread c = λ commands answer has told.
     let is = c.self.inside in
-    let before : HasServed commands (serving is.header is.every is.stepper is.stop) = subst (HasServed commands) (sym c.self.view_is) has in
+    let before : LedBy commands (serving is.header is.every is.stepper is.stop) = subst (LedBy commands) (sym c.self.view_is) has in
     let next : Served = serve is.every c.args.command is.stepper in
     is_right c.served.ensures.pushes is.header is.every is.stepper is.stop c.self.invariant
     (none_of is.stop (ap (λ (s : Serving). s.is_spent) c.self.view_is ∙ c.requires)) c.args.command c.names_one_to_four_keys.ensures commands before
@@ -32,7 +32,7 @@ returns-in-Err-clause-one_thread c = λ commands answer has told.
 pub returns-in-Err-clause-keeps : goal.returns-in-Err-clause-keeps
 returns-in-Err-clause-keeps c = λ commands has more.
     let is = c.self.inside in
-    let before : HasServed commands (serving is.header is.every is.stepper is.stop) = subst (HasServed commands) (sym c.self.view_is) has in
+    let before : LedBy commands (serving is.header is.every is.stepper is.stop) = subst (LedBy commands) (sym c.self.view_is) has in
     let next : Served = serve is.every c.args.command is.stepper in
     keeps_on c.served.ensures.pushes is.header is.every is.stepper is.stop c.self.invariant
     (none_of is.stop (ap (λ (s : Serving). s.is_spent) c.self.view_is ∙ c.requires)) c.args.command c.names_one_to_four_keys.ensures commands before
@@ -42,7 +42,7 @@ returns-in-Err-clause-keeps c = λ commands has more.
 pub returns-in-Err-clause-shows : goal.returns-in-Err-clause-shows
 returns-in-Err-clause-shows c = λ commands answer has told.
     let is = c.self.inside in
-    let before : HasServed commands (serving is.header is.every is.stepper is.stop) = subst (HasServed commands) (sym c.self.view_is) has in
+    let before : LedBy commands (serving is.header is.every is.stepper is.stop) = subst (LedBy commands) (sym c.self.view_is) has in
     let next : Served = serve is.every c.args.command is.stepper in
     let more = tells_more c.refusal.result answer told in
     shows_on c.served.ensures.pushes is.header is.every is.stepper is.stop c.self.invariant

@@ -4,7 +4,7 @@ use Rattle.std.specs.FinMap.Entries.{find, is_sorted-put}
 use Rattle.curp_cmd.specs.RequestId.{id_cmp}
 use Rattle.curp_model.proofs.Tables.{ids_total}
 use Rattle.curp_model.specs.Witness.{newly_held, HeldRequest}
-use Rattle.curp_slots.specs.Register.{IsRegister, Place, held_at, is_held}
+use Rattle.curp_slots.specs.Register.{IsRegister, IndexPlace, held_at, is_held}
 use Rattle.curp_slots.proofs.Registers.{added, as_many_added, filled_added, ids_ascend, none_held, once_added, size_added, size_within, within_added}
 use Rattle.curp_slots.proofs.register.Register.add.Goals as goal
 
@@ -30,7 +30,7 @@ invariant_of-self c =
     let kept = c.self.inside.kept.items in
     let free = c.self.inside.free.items in
     let index = c.self.inside.index.items in
-    let p : Place = (c.args.request.now.id, c.put-at.result) in
+    let p : IndexPlace = (c.args.request.now.id, c.put-at.result) in
     let x = newly_held c.args.request.now in
     let few : length index < c.self.inside.room = omega (arith, ap (λ r. length r.held) c.self.view_is, ap (λ r. r.room) c.self.view_is, length-map index (held_at kept), c.requires.room) in
     let more = size_added kept x p free c.put-at.new.free.items index v.places v.within v.once c.put-at.ensures.free (absent c) v.ascend in
@@ -52,7 +52,7 @@ returns-clause-value c =
     let v = c.self.invariant in
     let kept = c.self.inside.kept.items in
     let index = c.self.inside.index.items in
-    let p : Place = (c.args.request.now.id, c.put-at.result) in
+    let p : IndexPlace = (c.args.request.now.id, c.put-at.result) in
     let held = added kept (newly_held c.args.request.now) p c.self.inside.free.items c.put-at.new.free.items index v.places v.within v.once c.put-at.ensures.free (absent c) refl in
     rw (← c.self.view_is, c.put-at.ensures.kept, c.put.ensures.items) (ap (λ (h : List HeldRequest). record { room = c.self.inside.room; held = h }) held)
 

@@ -5,7 +5,7 @@ use Rattle.curp_base.proofs.Lists.{Each-append}
 use Rattle.curp_cmd.specs.RequestId.{has_id}
 use Rattle.curp_model.specs.Witness.{HeldRequest, survives}
 use Rattle.curp_slots.specs.Collection.{places_freed, places_left}
-use Rattle.curp_slots.specs.Register.{IsRegister, Place}
+use Rattle.curp_slots.specs.Register.{IsRegister, IndexPlace}
 use Rattle.curp_slots.proofs.Collections.{as_many_left, ascend_left, filled_left, freed_within, held_left, times_left, within_survived}
 use Rattle.curp_slots.proofs.Registers.{ids_ascend}
 use Rattle.curp_slots.proofs.register.Register.collect.Goals as goal
@@ -14,7 +14,7 @@ pub free_places-requires : goal.free_places-requires
 free_places-requires c = let v = c.self.invariant in omega (arith, v.as_many, v.kept_within, v.free_fits, ap length c.as_slice.ensures.value)
 
 left_is : (c : goal.After-survive_all) → c.retain.new.self.items ≡ places_left c.args.listed.now c.self.inside.index.items
-left_is c = filter_same _ (λ (e : Place). not (has_id e.0 c.args.listed.now)) _ (λ x b f' k. search (rules, tests)) _ _ c.retain.ensures.filtered
+left_is c = filter_same _ (λ (e : IndexPlace). not (has_id e.0 c.args.listed.now)) _ (λ x b f' k. search (rules, tests)) _ _ c.retain.ensures.filtered
 
 pub invariant_of-self : goal.invariant_of-self
 invariant_of-self c =
