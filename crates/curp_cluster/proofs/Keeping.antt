@@ -26,7 +26,7 @@ use Rattle.curp_msg.specs.declared.outcome.StepResult.TheVariants as result
 use Rattle.curp_order.specs.Recorded.{invocation}
 use Rattle.curp_order.specs.declared.Event.{Event}
 use Rattle.curp_order.specs.declared.Event.TheVariants as event
-use Rattle.curp_cluster.specs.Given.{CanGet, Steps, barrier, gift_deed, goes, hands, input_in, invoked_by, taken_by}
+use Rattle.curp_cluster.specs.Given.{CanGet, MakesStep, barrier, gift_deed, goes, hands, input_in, invoked_by, taken_by}
 use Rattle.curp_cluster.specs.Marks.{due_marks, marks_by}
 use Rattle.curp_cluster.specs.Nodes.{NodeStates, nodes_of, seen, with_nodes}
 use Rattle.curp_cluster.specs.declared.given.Gift.{Gift}
@@ -246,5 +246,5 @@ seen_same nodes nodes' stopped sent sent' history history' marks marks' w n s e 
 -- ---- answers of calls
 
 -- by an error, all is as it was
-pub as_before : {E : Type 0} (r : Result Outcome E) (e : E) (w v : World) (s : Stepped) → r ≡ Err e → v ≡ w → Steps w v r s
-as_before r e w v s is same = subst (λ (x : Result Outcome _). Steps w v x s) (sym is) same
+pub as_before : {E : Type 0} (r : Result Outcome E) (e : E) (w v : World) (s : Stepped) → r ≡ Err e → v ≡ w → MakesStep w v r s
+as_before r e w v s is same = subst (λ (x : Result Outcome _). MakesStep w v x s) (sym is) same

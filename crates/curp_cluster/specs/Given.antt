@@ -81,9 +81,9 @@ goes w deed (Some why) = why
 goes w deed None = taken_by (effect w deed).refused
 
 -- the call made the step, and its outcome is handed out; by an error, as by want of memory, nothing has changed
-abbrev pub Steps : {E : Type 0} → (old new : World) → Result Outcome E → Stepped → Type 0
-Steps old new (Ok outcome) s = (new ≡ s.world) × (outcome ≡ s.outcome)
-Steps old new (Err why) s = new ≡ old
+abbrev pub MakesStep : {E : Type 0} → (old new : World) → Result Outcome E → Stepped → Type 0
+MakesStep old new (Ok outcome) s = (new ≡ s.world) × (outcome ≡ s.outcome)
+MakesStep old new (Err why) s = new ≡ old
 
 -- a node is handed what it is to get, if it can be
 abbrev pub hands : World → NodeId → Gift → Stepped

@@ -4,7 +4,7 @@ ghost use Rattle.curp_base.specs.Words.{all_of, numbered};
 ghost use Rattle.curp_msg.specs.Script.{IsHeader};
 ghost use Rattle.curp_model.specs.World as world;
 ghost use Rattle.curp_order.specs.Recorded.{invocation};
-ghost use Rattle.curp_cluster.specs.Given.{CanGet, Steps, barrier, expires_nobody, hands, input_in, input_of};
+ghost use Rattle.curp_cluster.specs.Given.{CanGet, MakesStep, barrier, expires_nobody, hands, input_in, input_of};
 
 use crate::given::{Gift, Given};
 use crate::marks::{Due, flag};
@@ -127,7 +127,7 @@ impl Cluster {
 
     /// Makes a step. Where it can't be made the outcome tells why.
     pub fn step(&mut self, step: &Step) -> Result<Outcome, NoMemory>
-        ensures { Steps self.old self.new result (world.step self.old step.now) }
+        ensures { MakesStep self.old self.new result (world.step self.old step.now) }
     {
         if let Some((to, order)) = order_of(step) {
             if self.expires_nobody(step) {
@@ -145,7 +145,7 @@ impl Cluster {
 
     // The message of that number comes to its addressee.
     fn deliver(&mut self, message: u64) -> Result<Outcome, NoMemory>
-        ensures { Steps self.old self.new result (world.step self.old (Step.Deliver message)) }
+        ensures { MakesStep self.old self.new result (world.step self.old (Step.Deliver message)) }
     {
         match self.addressee(message) {
             None => Ok(self.silent(StepResult::NoMessage)),
@@ -173,7 +173,7 @@ impl Cluster {
     // The node of that name is handed what it is to get, unless something is in the way.
     fn hand(&mut self, to: NodeId, gift: &Gift) -> Result<Outcome, NoMemory>
         requires { CanGet self.old to gift.now }
-        ensures { Steps self.old self.new result (hands self.old to gift.now) }
+        ensures { MakesStep self.old self.new result (hands self.old to gift.now) }
     {
         if let Some(why) = self.barrier(to) {
             return Ok(self.silent(why));
@@ -220,7 +220,7 @@ impl Cluster {
 
     // The node of that name gets nothing more.
     fn stop(&mut self, node: NodeId) -> Result<Outcome, NoMemory>
-        ensures { Steps self.old self.new result (world.step self.old (Step.Stop node)) }
+        ensures { MakesStep self.old self.new result (world.step self.old (Step.Stop node)) }
     {
         if !self.has_node(node) {
             return Ok(self.silent(StepResult::NoNode));

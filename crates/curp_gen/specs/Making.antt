@@ -11,7 +11,7 @@ use Rattle.curp_msg.specs.declared.outcome.StepResult.TheVariants.{Done}
 use Rattle.curp_msg.specs.declared.script.Step.{Step}
 use Rattle.curp_msg.specs.declared.script.Step.TheVariants.{Collect, Deliver, Fetch, Invoke, Migrate, Nudge, Recover, Retry, Sync}
 use Rattle.curp_words.specs.Plan.{IsPlan, header_of}
-use Rattle.curp_words.specs.declared.order.MakePlan.{MakePlan}
+use Rattle.curp_words.specs.declared.task.MakePlan.{MakePlan}
 use Rattle.curp_gen.specs.Commands.{made_command}
 use Rattle.curp_gen.specs.declared.choice.Choice.{Choice}
 use Rattle.curp_gen.specs.declared.summary.Summary.{Summary}

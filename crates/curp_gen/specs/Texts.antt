@@ -3,9 +3,9 @@ use Rattle.std.specs.Prelude.{ℕ, List, ◌++◌, Some, codes}
 use Rattle.std.specs.Fmt.{decimal}
 use Rattle.curp_script.specs.Script.{Script, Whole}
 use Rattle.curp_script.specs.Texts.{line_text, script_lines}
-use Rattle.curp_words.specs.declared.order.MakePlan.{MakePlan}
-use Rattle.curp_words.specs.declared.order.Output.{Output}
-use Rattle.curp_words.specs.declared.order.Output.TheVariants as output
+use Rattle.curp_words.specs.declared.task.MakePlan.{MakePlan}
+use Rattle.curp_words.specs.declared.task.Output.{Output}
+use Rattle.curp_words.specs.declared.task.Output.TheVariants as output
 use Rattle.curp_gen.specs.Making.{after, begun, made_steps, summary_of}
 use Rattle.curp_words.specs.Plan.{header_of}
 use Rattle.curp_gen.specs.declared.summary.Summary.{Summary}

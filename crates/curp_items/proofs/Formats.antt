@@ -30,7 +30,7 @@ use Rattle.curp_items.proofs.Combining.{Again, IsByte, IsFormat, IsOrder, SoundV
 use Rattle.curp_items.proofs.Ranges.{ends_are, range_is}
 use Rattle.curp_items.proofs.Orders.{IsAbove, ascending_keys_is, ascending_pairs_is}
 use Rattle.curp_items.specs.Format.{Input, found, nothing, optional, ◌▸◌}
-use Rattle.curp_items.specs.Items.{Distinct, IsNode, answer, answer_parts, answer_variants, bounds, command, command_parts, command_variants, entry, entry_parts, entry_variants, firsts, gone, id, id_above, id_made, id_parts, is_node, key, key_above, key_beside, kind_byte, kind_of, multi_pairs, node, node_in, node_named, package_format, package_made, package_parts, pair_count, pairs, records, request, request_made, request_parts, seq_above, table, table_made, table_parts, truth, truth_parts, truth_variants, u32, u32_above, u64, value}
+use Rattle.curp_items.specs.Items.{Distinct, IsNodeName, answer, answer_parts, answer_variants, bounds, command, command_parts, command_variants, entry, entry_parts, entry_variants, firsts, gone, id, id_above, id_made, id_parts, is_node, key, key_above, key_beside, kind_byte, kind_of, multi_pairs, node, node_in, node_named, package_format, package_made, package_parts, pair_count, pairs, records, request, request_made, request_parts, seq_above, table, table_made, table_parts, truth, truth_parts, truth_variants, u32, u32_above, u64, value}
 
 -- ---- numbers and truth values
 
@@ -203,7 +203,7 @@ named_back (Some k) m n e = elim (chosen (is_node (record { kind = k; number = m
   | inr c ↦ absurd cc
 ]
 
-node_back : (bytes : List ℕ) (n : NodeId) → AreBytes bytes → length bytes ≡ 5 → node_in bytes ≡ Some n → IsNode n × (kind_byte n.kind ∷ to_be_bytes w32 n.number ≡ bytes)
+node_back : (bytes : List ℕ) (n : NodeId) → AreBytes bytes → length bytes ≡ 5 → node_in bytes ≡ Some n → IsNodeName n × (kind_byte n.kind ∷ to_be_bytes w32 n.number ≡ bytes)
 node_back [] n are len e = absurd cc
 node_back (b ∷ rest) n are len e =
     let parts = named_back (kind_of b) (from_be_bytes w32 rest) n e in
@@ -215,7 +215,7 @@ node_back (b ∷ rest) n are len e =
       ap (λ (k : ℕ). k ∷ to_be_bytes w32 n.number) kind_is ∙ ap (λ (r : List ℕ). b ∷ r) number_is,
     )
 
-node_again : (n : NodeId) → IsNode n → node_in (kind_byte n.kind ∷ to_be_bytes w32 n.number) ≡ Some n
+node_again : (n : NodeId) → IsNodeName n → node_in (kind_byte n.kind ∷ to_be_bytes w32 n.number) ≡ Some n
 node_again n is =
     ap (node_named (kind_of (kind_byte n.kind))) (from_be_bytes-to_be_bytes_4 n.number is.number)
     ∙ ap (λ (o : Option NodeKind). node_named o n.number) (kind_again n.kind)
@@ -223,7 +223,7 @@ node_again n is =
 
 pub node_is : IsFormat node
 unfolding node
-node_is = item_is 5 IsNode (λ n. kind_byte n.kind ∷ to_be_bytes w32 n.number) node_in (λ n is. (refl, node_again n is)) node_back
+node_is = item_is 5 IsNodeName (λ n. kind_byte n.kind ∷ to_be_bytes w32 n.number) node_in (λ n is. (refl, node_again n is)) node_back
 
 -- ---- commands
 

@@ -9,7 +9,7 @@ use Rattle.curp_cmd.specs.declared.entry.Entry.TheVariants.{Op, Take, Give, Expi
 use Rattle.curp_items.specs.Format.{Input}
 use Rattle.curp_items.specs.Items.{entry}
 use Rattle.curp_items.specs.Calls.{ReadsNot}
-use Rattle.curp_items.specs.Spelling.{Begins, IsEntry, entry_error, request_in, request_of, spelling, start_of}
+use Rattle.curp_items.specs.Spelling.{BeginsWithEntry, IsEntry, entry_error, request_in, request_of, spelling, start_of}
 use Rattle.std.specs.Prelude.{IfSome}
 use Rattle.curp_items.specs.declared.fault.ReadError.{ReadError}
 use Rattle.curp_items.specs.declared.fault.ReadError.TheVariants as error
@@ -21,7 +21,7 @@ use Rattle.curp_items.proofs.Formats.{entry_is}
 pub are_bytes : (bytes : List ℕ) → ((i : ℕ) → get_or bytes i 0 < 256) → AreBytes bytes
 are_bytes bytes h = All-from_get_or IsByte bytes 0 (λ i l. h i)
 
-pub begins_from : (bytes : List ℕ) (e : Entry) (after : Input) → AreBytes bytes → entry.read (start_of bytes) ≡ Ok (e, after) → Begins bytes e after.place
+pub begins_from : (bytes : List ℕ) (e : Entry) (after : Input) → AreBytes bytes → entry.read (start_of bytes) ≡ Ok (e, after) → BeginsWithEntry bytes e after.place
 begins_from bytes e after are read =
     let t = entry_is.sound (start_of bytes) e after are read in
     let whole : length bytes ≡ length (spelling e) + length after.rest = ap length t.rest ∙ length-append (spelling e) after.rest in
@@ -31,7 +31,7 @@ begins_from bytes e after are read =
       is = ap (take after.place) t.rest ∙ take_at (spelling e) after.rest after.place (omega (arith, t.place));
     }
 
-pub read_from : (bytes : List ℕ) (e : Entry) (len : ℕ) → Begins bytes e len → entry.read (start_of bytes) ≡ Ok (e, input len (drop len bytes))
+pub read_from : (bytes : List ℕ) (e : Entry) (len : ℕ) → BeginsWithEntry bytes e len → entry.read (start_of bytes) ≡ Ok (e, input len (drop len bytes))
 read_from bytes e len b =
     let whole : bytes ≡ spelling e ++ drop len bytes = sym (take-append-drop len bytes) ∙ ap (λ (r : List ℕ). r ++ drop len bytes) b.is in
     let long : length (spelling e) ≡ len = ap length (sym b.is) ∙ length-take-le len bytes b.within in
@@ -59,7 +59,7 @@ request_read (Ok x) r e = of_entry x.0 x.1 e
     of_entry (Expire client) after e = absurd cc
 request_read (Err place) r e = absurd cc
 
-pub request_found : (bytes : List ℕ) (o : Option Request) → AreBytes bytes → o ≡ request_in (entry.read (start_of bytes)) → (r : Request) → o ≡ Some r → (acknowledge len : ℕ) × Begins bytes (Op r acknowledge) len
+pub request_found : (bytes : List ℕ) (o : Option Request) → AreBytes bytes → o ≡ request_in (entry.read (start_of bytes)) → (r : Request) → o ≡ Some r → (acknowledge len : ℕ) × BeginsWithEntry bytes (Op r acknowledge) len
 request_found bytes o are e r s =
     let read = request_read (entry.read (start_of bytes)) r (sym e ∙ s) in
     (read.0, read.1.place, begins_from bytes (Op r read.0) read.1 are read.2)
@@ -70,22 +70,22 @@ found_of None P h = tt
 found_of (Some r) P h = h r refl
 
 -- bytes that begin with a spelling are read, unless memory runs out
-pub not_read : (bytes : List ℕ) (e : Entry) (len : ℕ) → Begins bytes e len → (w : ReadError) → ReadsNot w (entry.read (start_of bytes)) → entry_error w ≡ why.NoMemory
+pub not_read : (bytes : List ℕ) (e : Entry) (len : ℕ) → BeginsWithEntry bytes e len → (w : ReadError) → ReadsNot w (entry.read (start_of bytes)) → entry_error w ≡ why.NoMemory
 not_read bytes e len b error.NoMemory n = refl
 not_read bytes e len b (error.Fault place) n =
     let x : Entry × Input = (e, input len (drop len bytes)) in
     let both : done x ≡ Err place = sym (read_from bytes e len b) ∙ n in
     absurd cc
 
-pub read_same : (bytes : List ℕ) (e : Entry) (len : ℕ) (f : Entry) (after : Input) → Begins bytes e len → entry.read (start_of bytes) ≡ Ok (f, after) → (f ≡ e) × (after.place ≡ len)
+pub read_same : (bytes : List ℕ) (e : Entry) (len : ℕ) (f : Entry) (after : Input) → BeginsWithEntry bytes e len → entry.read (start_of bytes) ≡ Ok (f, after) → (f ≡ e) × (after.place ≡ len)
 read_same bytes e len f after b read =
     let same = ok_is (f, after) (e, input len (drop len bytes)) (sym read ∙ read_from bytes e len b) in
     (ap (λ (p : Entry × Input). p.0) same, ap (λ (p : Entry × Input). p.1.place) same)
 
-pub request_is : (bytes : List ℕ) (r : Request) (acknowledge len : ℕ) → Begins bytes (Op r acknowledge) len → request_in (entry.read (start_of bytes)) ≡ Some r
+pub request_is : (bytes : List ℕ) (r : Request) (acknowledge len : ℕ) → BeginsWithEntry bytes (Op r acknowledge) len → request_in (entry.read (start_of bytes)) ≡ Some r
 request_is bytes r acknowledge len b = ap request_in (read_from bytes (Op r acknowledge) len b)
 
-pub not_skipped : (bytes : List ℕ) (e : Entry) (len place : ℕ) → Begins bytes e len → entry.read (start_of bytes) ≡ Err place → ⊥
+pub not_skipped : (bytes : List ℕ) (e : Entry) (len place : ℕ) → BeginsWithEntry bytes e len → entry.read (start_of bytes) ≡ Err place → ⊥
 not_skipped bytes e len place b n =
     let x : Entry × Input = (e, input len (drop len bytes)) in
     let both : done x ≡ Err place = sym (read_from bytes e len b) ∙ n in

@@ -2,12 +2,12 @@
 use Rattle.std.proofs.Common.{◌≡◌, ℕ, List, [], ◌++◌, Result, Ok, Err, refl, sym, ap, subst, ◌∙◌, append_assoc}
 use Rattle.std.specs.declared.alloc.AllocError.{AllocError}
 use Rattle.std.specs.Prelude.{⊤}
-use Rattle.curp_items.specs.Calls.{Writes, Written}
+use Rattle.curp_items.specs.Calls.{WritesItem, Written}
 
 -- what is held behind this text
 abbrev pub behind : Written → List ℕ → Written
 behind old text = record { front = old.front; text = old.text ++ text }
 
-pub then_writes : (old mid new : Written) (a b : List ℕ) (r : Result ⊤ AllocError) → mid ≡ behind old a → Writes mid new r b → Writes old new r (a ++ b)
+pub then_writes : (old mid new : Written) (a b : List ℕ) (r : Result ⊤ AllocError) → mid ≡ behind old a → WritesItem mid new r b → WritesItem old new r (a ++ b)
 then_writes old mid new a b (Ok done) e w = w ∙ ap (λ (m : Written). behind m b) e ∙ ap (λ (t : List ℕ). let m : Written = record { front = old.front; text = t } in m) (append_assoc old.text a b)
 then_writes old mid new a b (Err why) e w = w ∙ ap (λ (m : Written). let n : Written = record { front = m.front; text = [] } in n) e

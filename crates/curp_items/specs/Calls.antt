@@ -8,9 +8,9 @@ use Rattle.curp_items.specs.declared.fault.ReadError.{ReadError}
 use Rattle.curp_items.specs.declared.fault.ReadError.TheVariants as error
 
 -- The call gave what reading gives: the value, and where reading stands behind it, or the place of the first fault
-abbrev pub Reads : {A : Type 0} → Result A Fault → Input → Result (A × Input) ℕ → Type 0
-Reads (Ok x) after read = read ≡ Ok (x, after)
-Reads (Err fault) after read = read ≡ Err fault.place
+abbrev pub ReadsItem : {A : Type 0} → Result A Fault → Input → Result (A × Input) ℕ → Type 0
+ReadsItem (Ok x) after read = read ≡ Ok (x, after)
+ReadsItem (Err fault) after read = read ≡ Err fault.place
 
 -- the same, of a text that is lent
 abbrev pub ReadsText : Result (Bor (List ℕ)) Fault → Input → Result (List ℕ × Input) ℕ → Type 0
@@ -32,9 +32,9 @@ Skips {A} (Ok done) after read = (x : A) × (read ≡ Ok (x, after))
 Skips (Err fault) after read = read ≡ Err fault.place
 
 -- nothing is left over, or this place begins what is
-abbrev pub Ends : Result ⊤ Fault → ℕ → List ℕ → Type 0
-Ends (Ok done) place rest = rest ≡ []
-Ends (Err fault) place rest = (rest ≢ []) × (fault.place ≡ place)
+abbrev pub IsAtEnd : Result ⊤ Fault → ℕ → List ℕ → Type 0
+IsAtEnd (Ok done) place rest = rest ≡ []
+IsAtEnd (Err fault) place rest = (rest ≢ []) × (fault.place ≡ place)
 
 -- what a writer holds: bytes that stood there before, and what was written behind them
 pub record Written : Type 0 where
@@ -42,6 +42,6 @@ pub record Written : Type 0 where
   pub text : List ℕ
 
 -- the call wrote this text, or memory ran out and all that was written is gone
-abbrev pub Writes : Written → Written → Result ⊤ AllocError → List ℕ → Type 0
-Writes old new (Ok done) text = new ≡ record { front = old.front; text = old.text ++ text }
-Writes old new (Err why) text = new ≡ record { front = old.front; text = [] }
+abbrev pub WritesItem : Written → Written → Result ⊤ AllocError → List ℕ → Type 0
+WritesItem old new (Ok done) text = new ≡ record { front = old.front; text = old.text ++ text }
+WritesItem old new (Err why) text = new ≡ record { front = old.front; text = [] }

@@ -79,12 +79,12 @@ node_in [] = None
 node_in (b ∷ rest) = node_named (kind_of b) (from_be_bytes w32 rest)
 
 -- a node that there may be, whose number has 32 bits
-pub record IsNode (node : NodeId) : Type 0 where
+pub record IsNodeName (node : NodeId) : Type 0 where
   pub named : is_node node ≡ true
   pub number : node.number < 2 ^ 32
 
 unfoldable pub node : Format NodeId
-node = item 5 IsNode (λ n. kind_byte n.kind ∷ to_be_bytes w32 n.number) node_in
+node = item 5 IsNodeName (λ n. kind_byte n.kind ∷ to_be_bytes w32 n.number) node_in
 
 -- the client, then its number
 abbrev pub id_made : ℕ × ℕ → RequestId

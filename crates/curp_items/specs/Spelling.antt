@@ -42,7 +42,7 @@ abbrev pub spelling : Entry → List ℕ
 spelling e = entry.of e
 
 -- the bytes begin with the entry's spelling, which has this length
-pub record Begins (bytes : List ℕ) (e : Entry) (len : ℕ) : Type 0 where
+pub record BeginsWithEntry (bytes : List ℕ) (e : Entry) (len : ℕ) : Type 0 where
   pub fits : IsEntry e
   pub within : len ≤ length bytes
   pub is : take len bytes ≡ spelling e

@@ -1,7 +1,7 @@
 ghost use Rattle.std.specs.Prelude.{◌≡◌, IfOk, IfSome};
 ghost use Rattle.std.specs.declared.cmp.Ordering.TheVariants.{Less};
 ghost use Rattle.curp_base.specs.Words.{KeysAscend, Ascend};
-ghost use Rattle.curp_items.specs.Calls.{Reads, ReadsIfMemory, Skips};
+ghost use Rattle.curp_items.specs.Calls.{ReadsItem, ReadsIfMemory, Skips};
 ghost use Rattle.curp_items.specs.Format.{◌▸◌, key_after, ascending_keys, ascending_pairs};
 ghost use Rattle.curp_items.specs.Items.{u32};
 
@@ -13,14 +13,14 @@ use std::alloc::Global;
 /// An item that stands in lists in strictly ascending order.
 pub trait Ascending: Item + Ord {
     ghost use Rattle.curp_items.specs.Format.{Format};
-    ghost use Rattle.curp_items.specs.Calls.{Reads};
+    ghost use Rattle.curp_items.specs.Calls.{ReadsItem};
 
     /// The format of those above another.
     ghost above: { Self → Format Self };
 
     /// Reads an item above the last one.
     fn read_above(reader: &mut Reader, last: &Self) -> Result<Self, Fault>
-        ensures reads { Reads result reader.new ((above last.now).read reader.old) }
+        ensures reads { ReadsItem result reader.new ((above last.now).read reader.old) }
         ensures above { IfOk result (λ item. Self.cmp last.now item ≡ Less) };
 }
 
@@ -80,7 +80,7 @@ impl Ascending for RequestId {
 
 /// Reads a key, above the last one if there was any.
 fn read_key<K: Ascending>(reader: &mut Reader, last: &Option<K>) -> Result<K, Fault>
-    ensures reads { Reads result reader.new ((key_after K.format K.above last.now).read reader.old) }
+    ensures reads { ReadsItem result reader.new ((key_after K.format K.above last.now).read reader.old) }
     ensures above { IfOk result (λ key. IfSome last.now (λ last. K.cmp last key ≡ Less)) }
 {
     match last {

@@ -1,5 +1,5 @@
 ghost use Rattle.std.specs.Prelude.{◌≡◌, OnOk};
-ghost use Rattle.curp_items.specs.Calls.{ReadsIfMemory, Skips, Writes};
+ghost use Rattle.curp_items.specs.Calls.{ReadsIfMemory, Skips, WritesItem};
 ghost use Rattle.curp_items.specs.Items as format;
 ghost use Rattle.curp_items.specs.Spelling.{HasSpelling};
 
@@ -13,7 +13,7 @@ use std::alloc::Global;
 #[tactic(auto, unfolding(crate::specs::Items::entry))]
 pub fn write_entry(entry: &Entry, out: &mut Writer) -> Result<(), NoMemory>
     requires { HasSpelling entry.now }
-    ensures writes { Writes out.old out.new result (format.entry.of entry.now) }
+    ensures writes { WritesItem out.old out.new result (format.entry.of entry.now) }
     ensures fits { OnOk result (format.entry.Fits entry.now) }
 {
     match entry {

@@ -6,7 +6,7 @@ use curp_base::NoMemory;
 /// A value that has a binary format, and is read without memory.
 pub trait Item: Copy {
     ghost use Rattle.curp_items.specs.Format.{Format};
-    ghost use Rattle.curp_items.specs.Calls.{Reads, Writes};
+    ghost use Rattle.curp_items.specs.Calls.{ReadsItem, WritesItem};
 
     /// How it is spelled and read.
     ghost format: { Format Self };
@@ -17,12 +17,12 @@ pub trait Item: Copy {
     /// Writes the value's spelling.
     fn write(&self, out: &mut Writer) -> Result<(), NoMemory>
         requires { HasSpelling self.now }
-        ensures writes { Writes out.old out.new result (format.of self.now) }
+        ensures writes { WritesItem out.old out.new result (format.of self.now) }
         ensures fits { OnOk result (format.Fits self.now) };
 
     /// Reads a value from the front.
     fn read(reader: &mut Reader) -> Result<Self, Fault>
-        ensures { Reads result reader.new (format.read reader.old) };
+        ensures { ReadsItem result reader.new (format.read reader.old) };
 }
 
 impl Item for u32 {

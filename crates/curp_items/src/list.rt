@@ -1,7 +1,7 @@
 ghost use Rattle.std.specs.Prelude.{◌<◌, ◌^◌, length, OnOk};
 ghost use Rattle.std.specs.List.{flat_map};
 ghost use Rattle.curp_base.specs.Words.{Each};
-ghost use Rattle.curp_items.specs.Calls.{ReadsIfMemory, Writes};
+ghost use Rattle.curp_items.specs.Calls.{ReadsIfMemory, WritesItem};
 ghost use Rattle.curp_items.specs.Format.{list_of};
 ghost use Rattle.curp_items.specs.Items.{u32};
 
@@ -12,7 +12,7 @@ use std::alloc::Global;
 /// Writes the spellings of items, one behind the other.
 pub(crate) fn write_each<T: Item>(items: &[T], out: &mut Writer) -> Result<(), NoMemory>
     requires { Each T.HasSpelling items.now }
-    ensures writes { Writes out.old out.new result (flat_map T.format.of items.now) }
+    ensures writes { WritesItem out.old out.new result (flat_map T.format.of items.now) }
     ensures fits { OnOk result (Each T.format.Fits items.now) }
 {
     for item in items {
@@ -25,7 +25,7 @@ pub(crate) fn write_each<T: Item>(items: &[T], out: &mut Writer) -> Result<(), N
 pub fn write_list<T: Item>(items: &[T], out: &mut Writer) -> Result<(), NoMemory>
     requires short { length items.now < 2 ^ 32 }
     requires spelled { Each T.HasSpelling items.now }
-    ensures writes { Writes out.old out.new result ((list_of u32 T.format).of items.now) }
+    ensures writes { WritesItem out.old out.new result ((list_of u32 T.format).of items.now) }
     ensures fits { OnOk result ((list_of u32 T.format).Fits items.now) }
 {
     (items.len() as u32).write(out)?;

@@ -1,5 +1,5 @@
 ghost use Rattle.std.specs.Prelude.{◌≡◌, ◌≤◌, false, IfOk, ⊤};
-ghost use Rattle.curp_items.specs.Calls.{Reads};
+ghost use Rattle.curp_items.specs.Calls.{ReadsItem};
 ghost use Rattle.curp_items.specs.Format.{◌▸◌};
 ghost use Rattle.curp_items.specs.Items.{pair_count, key_beside, names, value};
 
@@ -37,7 +37,7 @@ impl Item for Pairs {
 
 #[tactic(auto, unfolding(crate::specs::Items::pair_count))]
 fn pair_count(reader: &mut Reader) -> Result<usize, Fault>
-    ensures reads { Reads result reader.new (pair_count.read reader.old) }
+    ensures reads { ReadsItem result reader.new (pair_count.read reader.old) }
     ensures least { IfOk result (λ count. 1 ≤ count) }
     ensures most { IfOk result (λ count. count ≤ 4) }
 {
@@ -50,7 +50,7 @@ fn pair_count(reader: &mut Reader) -> Result<usize, Fault>
 
 /// Reads a pair whose key none of the others has.
 fn pair_beside(reader: &mut Reader, others: &[(Key, Value)]) -> Result<(Key, Value), Fault>
-    ensures reads { Reads result reader.new ((key_beside others.now ▸ value).read reader.old) }
+    ensures reads { ReadsItem result reader.new ((key_beside others.now ▸ value).read reader.old) }
     ensures beside { IfOk result (λ pair. names others.now pair.0 ≡ false) }
 {
     let key = key_beside(reader, others)?;
@@ -60,7 +60,7 @@ fn pair_beside(reader: &mut Reader, others: &[(Key, Value)]) -> Result<(Key, Val
 
 #[tactic(auto, unfolding(crate::specs::Items::key_beside))]
 fn key_beside(reader: &mut Reader, others: &[(Key, Value)]) -> Result<Key, Fault>
-    ensures reads { Reads result reader.new ((key_beside others.now).read reader.old) }
+    ensures reads { ReadsItem result reader.new ((key_beside others.now).read reader.old) }
     ensures beside { IfOk result (λ key. names others.now key ≡ false) }
 {
     let place = reader.place();

@@ -1,5 +1,5 @@
 ghost use Rattle.std.specs.Prelude.{◌≡◌, OnOk};
-ghost use Rattle.curp_items.specs.Calls.{ReadsIfMemory, Skips, Writes};
+ghost use Rattle.curp_items.specs.Calls.{ReadsIfMemory, Skips, WritesItem};
 ghost use Rattle.curp_items.specs.Items as format;
 ghost use Rattle.curp_items.specs.Spelling.{HasTableSpelling, HasPackageSpelling};
 
@@ -13,7 +13,7 @@ use std::alloc::Global;
 #[tactic(auto, unfolding(crate::specs::Items::table, crate::specs::Items::records, crate::specs::Items::firsts, crate::specs::Items::gone))]
 fn write_table(table: &TablePart, out: &mut Writer) -> Result<(), NoMemory>
     requires { HasTableSpelling table.now }
-    ensures writes { Writes out.old out.new result (format.table.of table.now) }
+    ensures writes { WritesItem out.old out.new result (format.table.of table.now) }
     ensures fits { OnOk result (format.table.Fits table.now) }
 {
     write_list(table.records.as_slice(), out)?;
@@ -49,7 +49,7 @@ fn skip_table(reader: &mut Reader) -> Result<(), Fault>
 #[tactic(auto, unfolding(crate::specs::Items::package_format, crate::specs::Items::bounds, crate::specs::Items::pairs))]
 pub fn write_package(moved: &Package, out: &mut Writer) -> Result<(), NoMemory>
     requires { HasPackageSpelling moved.now }
-    ensures writes { Writes out.old out.new result (format.package_format.of moved.now) }
+    ensures writes { WritesItem out.old out.new result (format.package_format.of moved.now) }
     ensures fits { OnOk result (format.package_format.Fits moved.now) }
 {
     Bounds {

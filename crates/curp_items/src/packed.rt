@@ -2,7 +2,7 @@ ghost use Rattle.std.specs.Prelude.{◌≡◌, ◌≢◌, ◌++◌, ℕ, Ok, Err
 ghost use Rattle.curp_cmd.specs.declared.entry.Entry.{Entry};
 ghost use Rattle.curp_cmd.specs.declared.command.Request.{Request};
 ghost use Rattle.curp_items.specs.Items.{entry};
-ghost use Rattle.curp_items.specs.Spelling.{HasSpelling, IsEntry, spelling, Begins, FaultsAt, request_in};
+ghost use Rattle.curp_items.specs.Spelling.{HasSpelling, IsEntry, spelling, BeginsWithEntry, FaultsAt, request_in};
 
 use crate::entry::{read_entry_at, skip_entry, write_entry};
 use crate::{Item, ReadError, Reader, Writer};
@@ -50,8 +50,9 @@ pub fn pack_entry(entry: &Entry, out: &mut Vec<u8>) -> Result<(), NoMemory>
 
 /// The entry whose spelling the bytes begin with, and its length.
 pub fn read_entry(alloc: Global, bytes: &[u8]) -> Result<(Entry, usize), EntryError>
-    ensures found { IfOk result (λ read. Begins bytes.now read.0 read.1) }
-    ensures only { (e : Entry) (len : ℕ) → Begins bytes.now e len → result ≢ Err EntryError.NoMemory → result ≡ Ok (e, len) }
+    ensures found { IfOk result (λ read. BeginsWithEntry bytes.now read.0 read.1) }
+    ensures only { (e : Entry) (len : ℕ) → BeginsWithEntry bytes.now e len
+        → result ≢ Err EntryError.NoMemory → result ≡ Ok (e, len) }
     ensures bad_entry { (place : ℕ) → result ≡ Err (EntryError.BadEntry place) → FaultsAt bytes.now place }
 {
     let mut reader = Reader::new(bytes);
@@ -61,8 +62,8 @@ pub fn read_entry(alloc: Global, bytes: &[u8]) -> Result<(Entry, usize), EntryEr
 
 /// The length of the entry whose spelling the bytes begin with. It takes no memory.
 pub fn spelled(bytes: &[u8]) -> Option<u64>
-    ensures found { IfSome result (λ len. (e : Entry) × Begins bytes.now e len) }
-    ensures only { (e : Entry) (len : ℕ) → Begins bytes.now e len → result ≡ Some len }
+    ensures found { IfSome result (λ len. (e : Entry) × BeginsWithEntry bytes.now e len) }
+    ensures only { (e : Entry) (len : ℕ) → BeginsWithEntry bytes.now e len → result ≡ Some len }
 {
     let mut reader = Reader::new(bytes);
     match skip_entry(&mut reader) {
@@ -73,8 +74,10 @@ pub fn spelled(bytes: &[u8]) -> Option<u64>
 
 /// The request of the entry whose spelling the bytes begin with, where it has one. It takes no memory.
 pub fn read_request(bytes: &[u8]) -> Option<Request>
-    ensures found { IfSome result (λ request. (acknowledge len : ℕ) × Begins bytes.now (Entry.Op request acknowledge) len) }
-    ensures only { (request : Request) (acknowledge len : ℕ) → Begins bytes.now (Entry.Op request acknowledge) len → result ≡ Some request }
+    ensures found { IfSome result (λ request. (acknowledge len : ℕ)
+        × BeginsWithEntry bytes.now (Entry.Op request acknowledge) len) }
+    ensures only { (request : Request) (acknowledge len : ℕ)
+        → BeginsWithEntry bytes.now (Entry.Op request acknowledge) len → result ≡ Some request }
 {
     op_at(&mut Reader::new(bytes))
 }

@@ -1,6 +1,6 @@
 ghost use Rattle.std.specs.Prelude.{◌≡◌, ◌+◌, ◌<◌, ◌≤◌, ◌^◌, length, Ok, Err};
 ghost use Rattle.curp_items.specs.Format.{bytes_at, byte, string};
-ghost use Rattle.curp_items.specs.Calls.{Ends, Reads, ReadsText};
+ghost use Rattle.curp_items.specs.Calls.{IsAtEnd, ReadsItem, ReadsText};
 
 use crate::Fault;
 use std::marker::Model;
@@ -53,7 +53,7 @@ impl<'a> Reader<'a> {
 
     /// That nothing is left over.
     pub fn end(&self) -> Result<(), Fault>
-        ensures { Ends result self.now.place self.now.rest }
+        ensures { IsAtEnd result self.now.place self.now.rest }
     {
         if self.rest.is_empty() {
             Ok(())
@@ -64,7 +64,7 @@ impl<'a> Reader<'a> {
 
     /// The next byte.
     pub fn byte(&mut self) -> Result<u8, Fault>
-        ensures { Reads result self.new (byte.read self.old) }
+        ensures { ReadsItem result self.new (byte.read self.old) }
     {
         match self.rest {
             [] => Err(Fault { place: self.place }),
@@ -78,7 +78,7 @@ impl<'a> Reader<'a> {
 
     /// The next bytes, as many as the array has.
     pub fn take<const N: usize>(&mut self) -> Result<[u8; N], Fault>
-        ensures { Reads result self.new (bytes_at N self.old) }
+        ensures { ReadsItem result self.new (bytes_at N self.old) }
     {
         if self.rest.len() < N {
             return Err(Fault { place: self.place });

@@ -1,6 +1,6 @@
 ghost use Rattle.std.specs.Prelude.{◌≡◌, ◌<◌, [], ◌∷◌, ◌++◌, length};
 ghost use Rattle.curp_items.specs.Format.{string};
-ghost use Rattle.curp_items.specs.Calls.{Writes};
+ghost use Rattle.curp_items.specs.Calls.{WritesItem};
 
 use curp_base::NoMemory;
 use std::marker::Model;
@@ -44,13 +44,13 @@ impl Writer {
     }
 
     pub fn byte(&mut self, byte: u8) -> Result<(), NoMemory>
-        ensures { Writes self.old self.new result (byte ∷ []) }
+        ensures { WritesItem self.old self.new result (byte ∷ []) }
     {
         self.bytes(&[byte])
     }
 
     pub fn bytes(&mut self, bytes: &[u8]) -> Result<(), NoMemory>
-        ensures { Writes self.old self.new result bytes.now }
+        ensures { WritesItem self.old self.new result bytes.now }
     {
         let written = self.bytes.extend_from_slice(bytes);
         if written.is_err() {
@@ -62,7 +62,7 @@ impl Writer {
     /// The number of the bytes, as one byte, and they.
     pub fn string(&mut self, bytes: &[u8]) -> Result<(), NoMemory>
         requires { length bytes.now < 256 }
-        ensures { Writes self.old self.new result (string.of bytes.now) }
+        ensures { WritesItem self.old self.new result (string.of bytes.now) }
     {
         self.byte(bytes.len() as u8)?;
         self.bytes(bytes)

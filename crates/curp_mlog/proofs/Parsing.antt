@@ -8,8 +8,8 @@ use Rattle.curp_model.specs.Manager.{Shape}
 use Rattle.curp_msg.specs.declared.machine.Input.{Input}
 use Rattle.curp_mlog.specs.Journal.{IsNotFormatted, header}
 use Rattle.curp_mlog.specs.Machine.{IsShape}
-use Rattle.curp_mlog.specs.Opening.{Finds, FindsCut, FindsLength, FindsNone, FindsRecord, FindsShut, IsSpelledBy, StartsJournal}
-use Rattle.curp_mlog.specs.Records.{HasSpelling, framed, spelled}
+use Rattle.curp_mlog.specs.Opening.{FindsHead, FindsCut, FindsLength, FindsNone, FindsRecord, FindsShut, IsSpelledBy, StartsJournal}
+use Rattle.curp_mlog.specs.Records.{HasInputSpelling, framed, spelled}
 use Rattle.curp_mlog.specs.declared.opening.Head.{Head}
 use Rattle.curp_mlog.specs.declared.opening.Head.TheVariants as head
 use Rattle.curp_mlog.proofs.Spellings.{same_spelled, short_spelled}
@@ -27,7 +27,7 @@ pub record Opens (len : ℕ) (rest : List ℕ) (i : Input) (more : List ℕ) : T
   pub long : len ≡ length (spelled i)
   pub tail : rest ≡ spelled i ++ more
 
-pub opens : (len : ℕ) (rest : List ℕ) (i : Input) (more : List ℕ) → HasSpelling i → len < 2 ^ 32 → to_be_bytes w32 len ++ rest ≡ framed i ++ more → Opens len rest i more
+pub opens : (len : ℕ) (rest : List ℕ) (i : Input) (more : List ℕ) → HasInputSpelling i → len < 2 ^ 32 → to_be_bytes w32 len ++ rest ≡ framed i ++ more → Opens len rest i more
 opens len rest i more has small same =
     let n = length (spelled i) in
     let whole : to_be_bytes w32 len ++ rest ≡ to_be_bytes w32 n ++ (spelled i ++ more) = same ∙ append_assoc (to_be_bytes w32 n) (spelled i) more in
@@ -39,7 +39,7 @@ opens len rest i more has small same =
     }
 
 -- a record tells its input, and what stands behind it
-pub same_framed : (i j : Input) (x y : ℕ) (xs ys : List ℕ) → HasSpelling i → HasSpelling j → framed i ++ x ∷ xs ≡ framed j ++ y ∷ ys → (i ≡ j) × (x ∷ xs ≡ y ∷ ys)
+pub same_framed : (i j : Input) (x y : ℕ) (xs ys : List ℕ) → HasInputSpelling i → HasInputSpelling j → framed i ++ x ∷ xs ≡ framed j ++ y ∷ ys → (i ≡ j) × (x ∷ xs ≡ y ∷ ys)
 same_framed i j x y xs ys has other same =
     let n = length (spelled i) in
     let o = opens n (spelled i ++ x ∷ xs) j (y ∷ ys) other (omega (arith, short_spelled i has)) (sym (append_assoc (to_be_bytes w32 n) (spelled i) (x ∷ xs)) ∙ same) in (
@@ -56,7 +56,7 @@ cut_short bytes f = record {
 }
 
 module _ (bytes : List ℕ) (len : ℕ) (f : FindsLength bytes len) where
-  pub spelled_record : (i : Input) → len < length f.rest → HasSpelling i → spelled i ≡ take len f.rest → FindsRecord bytes i (5 + len)
+  pub spelled_record : (i : Input) → len < length f.rest → HasInputSpelling i → spelled i ≡ take len f.rest → FindsRecord bytes i (5 + len)
   spelled_record i within has spells =
       let long : length (spelled i) ≡ len = ap length spells ∙ length-take-le len f.rest (omega (arith, within)) in
       let behind : f.rest ≡ spelled i ++ get_or f.rest len 0 ∷ drop (len + 1) f.rest =
@@ -123,7 +123,7 @@ module _ (all part : List ℕ) (n : ℕ) (is : part ≡ take n all) where
   whole : all ≡ part ++ drop n all
   whole = sym (take-append-drop n all) ∙ ap (λ (l : List ℕ). l ++ drop n all) (sym is)
 
-  pub lift_head : n ≡ min 5 (length all) → (h : Head) → Finds part h → Finds all h
+  pub lift_head : n ≡ min 5 (length all) → (h : Head) → FindsHead part h → FindsHead all h
   lift_head most head.Shut f = record { byte = f.byte; rest = f.rest ++ drop n all; is = whole ∙ ap (λ (l : List ℕ). l ++ drop n all) f.is; shut = f.shut }
   lift_head most (head.Open len) f = record {
     rest = f.rest ++ drop n all;

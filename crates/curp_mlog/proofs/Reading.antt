@@ -5,9 +5,9 @@ use Rattle.std.proofs.lemmas.List.{append-nil, take_at, take-append-le}
 use Rattle.std.proofs.lemmas.Bool.{cases_eq}
 use Rattle.curp_disk.specs.Disk.{over}
 use Rattle.curp_mlog.specs.Appending.{IsShut, IsStaged, ShutOrStaged}
-use Rattle.curp_mlog.specs.Journal.{Holds, IsBeforeOrAfter, Reads, header}
+use Rattle.curp_mlog.specs.Journal.{HoldsJournal, IsBeforeOrAfter, ReadsJournal, header}
 use Rattle.curp_mlog.specs.Machine.{IsAccepted, IsShape, moved, opening}
-use Rattle.curp_mlog.specs.Records.{HasSpelling, Taken, after, framed, records}
+use Rattle.curp_mlog.specs.Records.{HasInputSpelling, Taken, after, framed, records}
 use Rattle.curp_model.specs.Manager.{ManagerState, Shape}
 use Rattle.curp_msg.specs.declared.machine.Input.{Input}
 use Rattle.curp_mlog.proofs.Gates.{opened}
@@ -20,11 +20,11 @@ pub after-push : (s : ManagerState) (is : List Input) (i : Input) → after s (i
 after-push s [] i = refl
 after-push s (x ∷ is) i = after-push (moved s x).state is i
 
-pub taken-push : (s : ManagerState) (is : List Input) (i : Input) → Taken s is → HasSpelling i → IsAccepted (after s is) i → Taken s (is ++ i ∷ [])
+pub taken-push : (s : ManagerState) (is : List Input) (i : Input) → Taken s is → HasInputSpelling i → IsAccepted (after s is) i → Taken s (is ++ i ∷ [])
 taken-push s [] i t own ok = (own, ok, tt)
 taken-push s (x ∷ is) i t own ok = (t.0, t.1, taken-push (moved s x).state is i t.2 own ok)
 
-module _ (content : List ℕ) (shape : Shape) (inputs : List Input) (gate : ℕ) (reads : Reads content shape inputs gate) where
+module _ (content : List ℕ) (shape : Shape) (inputs : List Input) (gate : ℕ) (reads : ReadsJournal content shape inputs gate) where
   abbrev front : List ℕ
   front = header shape ++ records inputs
 
@@ -41,7 +41,7 @@ module _ (content : List ℕ) (shape : Shape) (inputs : List Input) (gate : ℕ)
       ap (λ (l : List ℕ). take (gate + 1) l) longer ∙ take_at (front ++ reads.byte ∷ []) reads.rest (gate + 1) len
 
   -- whatever stands behind the shut gate
-  pub shut_reads : (c : List ℕ) → IsShut content gate c → Reads c shape inputs gate
+  pub shut_reads : (c : List ℕ) → IsShut content gate c → ReadsJournal c shape inputs gate
   shut_reads c same = record {
     byte = reads.byte;
     rest = drop (gate + 1) c;
@@ -56,7 +56,7 @@ module _ (content : List ℕ) (shape : Shape) (inputs : List Input) (gate : ℕ)
   with_gate : (c : List ℕ) (byte : ℕ) (behind : List ℕ) → take gate c ≡ take gate content → drop gate c ≡ byte ∷ behind → c ≡ front ++ byte ∷ behind
   with_gate c byte behind same back = sym (take-append-drop gate c) ∙ ap (λ (l : List ℕ). l ++ drop gate c) (same ∙ front_is) ∙ ap (λ (l : List ℕ). front ++ l) back
 
-  pub still_shut : (c : List ℕ) (byte : ℕ) (behind : List ℕ) → byte ≢ 1 → take gate c ≡ take gate content → drop gate c ≡ byte ∷ behind → Reads c shape inputs gate
+  pub still_shut : (c : List ℕ) (byte : ℕ) (behind : List ℕ) → byte ≢ 1 → take gate c ≡ take gate content → drop gate c ≡ byte ∷ behind → ReadsJournal c shape inputs gate
   still_shut c byte behind shut same back = record {
     byte = byte;
     rest = behind;
@@ -67,12 +67,12 @@ module _ (content : List ℕ) (shape : Shape) (inputs : List Input) (gate : ℕ)
     taken = reads.taken;
   }
 
-  module _ (i : Input) (own : HasSpelling i) (ok : IsAccepted (after (opening shape) inputs) i) where
+  module _ (i : Input) (own : HasInputSpelling i) (ok : IsAccepted (after (opening shape) inputs) i) where
     grown : header shape ++ records (inputs ++ i ∷ []) ≡ front ++ 1 ∷ framed i
     grown = ap (λ (l : List ℕ). header shape ++ l) (records-push inputs i) ∙ sym (append_assoc (header shape) (records inputs) (1 ∷ framed i))
 
     -- the gate is open, and the whole record stands behind it
-    pub now_open : (c tail : List ℕ) → take gate c ≡ take gate content → drop gate c ≡ 1 ∷ ((framed i ++ 0 ∷ []) ++ tail) → Reads c shape (inputs ++ i ∷ []) (gate + length (framed i ++ 0 ∷ []))
+    pub now_open : (c tail : List ℕ) → take gate c ≡ take gate content → drop gate c ≡ 1 ∷ ((framed i ++ 0 ∷ []) ++ tail) → ReadsJournal c shape (inputs ++ i ∷ []) (gate + length (framed i ++ 0 ∷ []))
     now_open c tail same back = record {
       byte = 0;
       rest = tail;
@@ -93,7 +93,7 @@ module _ (content : List ℕ) (shape : Shape) (inputs : List Input) (gate : ℕ)
       | inr shut ↦ inl (gate, still_shut c staged.any ((framed i ++ 0 ∷ []) ++ staged.tail) shut staged.front staged.back)
     ]
 
-    pub done : (c : List ℕ) → c ≡ over (over content (gate + 1) (framed i ++ 0 ∷ [])) gate (1 ∷ []) → Reads c shape (inputs ++ i ∷ []) (gate + length (framed i ++ 0 ∷ []))
+    pub done : (c : List ℕ) → c ≡ over (over content (gate + 1) (framed i ++ 0 ∷ [])) gate (1 ∷ []) → ReadsJournal c shape (inputs ++ i ∷ []) (gate + length (framed i ++ 0 ∷ []))
     done c is =
         let parts = opened content gate (framed i ++ 0 ∷ []) gate_within c is in
         now_open c (drop (gate + 1 + length (framed i ++ 0 ∷ [])) content) parts.0 parts.1

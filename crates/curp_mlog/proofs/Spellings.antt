@@ -14,7 +14,7 @@ use Rattle.curp_wire.specs.declared.error.FrameError.TheVariants as error
 use Rattle.std.specs.declared.alloc.AllocError.{AllocError}
 use Rattle.curp_mlog.specs.Opening.{IsFramedBy, IsSpelledBy}
 use Rattle.curp_mlog.specs.Orders.{IsOrderSpelledBy, orders}
-use Rattle.curp_mlog.specs.Records.{HasSpelling, frame_of, is_others, spelled}
+use Rattle.curp_mlog.specs.Records.{HasInputSpelling, frame_of, is_others, spelled}
 use Rattle.curp_mlog.proofs.OrderSpellings.{not_zero, one_order, order_own, order_size}
 
 -- ---- messages
@@ -28,8 +28,8 @@ one_message m n frame f g =
 
 -- ---- inputs
 
-pub same_spelled : (i j : Input) → HasSpelling i → HasSpelling j → spelled i ≡ spelled j → i ≡ j
-unfolding HasSpelling spelled
+pub same_spelled : (i j : Input) → HasInputSpelling i → HasInputSpelling j → spelled i ≡ spelled j → i ≡ j
+unfolding HasInputSpelling spelled
 same_spelled (inputs.Message m) (inputs.Message n) f g same =
     let frames : frame_of m ≡ frame_of n = ap (λ (l : List ℕ). drop 1 l) same in
     ap inputs.Message (one_message m n (frame_of n) (subst (λ (l : List ℕ). Frame m l) frames f) g)
@@ -38,14 +38,14 @@ same_spelled (inputs.Local o) (inputs.Message m) fits f same = absurd (not_zero 
 same_spelled (inputs.Local o) (inputs.Local p) fits other same = ap inputs.Local (one_order o p fits other same)
 
 -- the longest are a kind and a frame of 2 ^ 24 bytes behind its length
-pub short_spelled : (i : Input) → HasSpelling i → length (spelled i) ≤ 16777221
-unfolding HasSpelling spelled
+pub short_spelled : (i : Input) → HasInputSpelling i → length (spelled i) ≤ 16777221
+unfolding HasInputSpelling spelled
 short_spelled (inputs.Message m) f = omega (arith, f.short, length-append (to_be_bytes w32 (length (content m))) (content m))
 short_spelled (inputs.Local o) fits = omega (arith, order_size o fits)
 
 -- a message has its spelling
-pub message_holds : (m : Message) (frame : List ℕ) → Frame m frame → HasSpelling (inputs.Message m)
-unfolding HasSpelling
+pub message_holds : (m : Message) (frame : List ℕ) → Frame m frame → HasInputSpelling (inputs.Message m)
+unfolding HasInputSpelling
 message_holds m frame f = record { message = f.message; short = f.short; is = refl }
 
 pub message_spelling : (m : Message) (frame : List ℕ) → Frame m frame → spelled (inputs.Message m) ≡ 0 ∷ frame
@@ -57,29 +57,29 @@ pub message_spelled : (m : Message) (frame : List ℕ) → Frame m frame → IsS
 message_spelled m frame f = (message_holds m frame f, message_spelling m frame f)
 
 pub no_message : (frame : List ℕ) → IsFramedBy frame None → IsSpelledBy (0 ∷ frame) None
-unfolding HasSpelling spelled
+unfolding HasInputSpelling spelled
 no_message frame none i has same = go i has same
   where
-    go : (i : Input) → HasSpelling i → spelled i ≡ 0 ∷ frame → ⊥
+    go : (i : Input) → HasInputSpelling i → spelled i ≡ 0 ∷ frame → ⊥
     go (inputs.Message m) f same = none m (subst (λ (l : List ℕ). Frame m l) (ap (λ (l : List ℕ). drop 1 l) same) f)
     go (inputs.Local o) fits same = not_zero o frame fits same
 
 -- what bytes with another kind spell
 pub order_spelled : (o : Local) (bytes : List ℕ) → IsOrderSpelledBy bytes (Some o) → IsSpelledBy bytes (Some (inputs.Local o))
-unfolding HasSpelling spelled
+unfolding HasInputSpelling spelled
 order_spelled o bytes is = is
 
 pub no_order : (bytes : List ℕ) → ((rest : List ℕ) → bytes ≢ 0 ∷ rest) → IsOrderSpelledBy bytes None → IsSpelledBy bytes None
-unfolding HasSpelling spelled
+unfolding HasInputSpelling spelled
 no_order bytes other none i has same = go i has same
   where
-    go : (i : Input) → HasSpelling i → spelled i ≡ bytes → ⊥
+    go : (i : Input) → HasInputSpelling i → spelled i ≡ bytes → ⊥
     go (inputs.Message m) f same = other (frame_of m) (sym same)
     go (inputs.Local o) fits same = none o fits same
 
 -- what has a spelling is for the manager
-pub spelled_own : (i : Input) → HasSpelling i → is_others i ≡ false
-unfolding HasSpelling is_others
+pub spelled_own : (i : Input) → HasInputSpelling i → is_others i ≡ false
+unfolding HasInputSpelling is_others
 spelled_own (inputs.Message m) f = refl
 spelled_own (inputs.Local o) fits = order_own o fits
 

@@ -15,10 +15,10 @@ use Rattle.curp_disk.proofs.Playing.{kept_now}
 use Rattle.curp_model.specs.Manager.{ManagerState, Shape}
 use Rattle.curp_msg.specs.declared.machine.Input.{Input}
 use Rattle.curp_mlog.specs.Answering.{record_of}
-use Rattle.curp_mlog.specs.Appending.{Ran, Runs, appending}
-use Rattle.curp_mlog.specs.Journal.{Holds, IsSettled, Reads}
+use Rattle.curp_mlog.specs.Appending.{RanCall, RunsCalls, appending}
+use Rattle.curp_mlog.specs.Journal.{HoldsJournal, IsSettled, ReadsJournal}
 use Rattle.curp_mlog.specs.Machine.{IsAccepted, opening}
-use Rattle.curp_mlog.specs.Records.{HasSpelling, after}
+use Rattle.curp_mlog.specs.Records.{HasInputSpelling, after}
 use Rattle.curp_mlog.specs.Stopping.{IsStopped, StopLeaves, StopSynced, StopWrote, kept_inputs, stop_seen}
 use Rattle.curp_mlog.specs.declared.writing.Kept.TheVariants as kept
 use Rattle.curp_mlog.proofs.Gates.{front_kept}
@@ -34,12 +34,12 @@ with p calls = record { first = p.first; calls = p.calls ++ calls }
 with_none : (p : Played) → with p [] ≡ p
 with_none p = ap (λ (l : List Call). let q : Played = record { first = p.first; calls = l } in q) (append-nil p.calls)
 
-as_stop : (old new : StopParts) (c : Call) (answer : Did) → Ran StopWrote StopSynced old c answer new → StopRan old c answer new
+as_stop : (old new : StopParts) (c : Call) (answer : Did) → RanCall StopWrote StopSynced old c answer new → StopRan old c answer new
 as_stop old new (call.Write at bytes) answer ran = ran
 as_stop old new call.Sync answer ran = ran
 
 -- a disk armed at a call made the calls before it
-made_before : (calls : List Call) (old new : StopParts) (k : ℕ) → old.armed ≡ Some k → 1 ≤ k → Runs StopWrote StopSynced calls old kept.Failed new → new.played ≡ with old.played (take (k - 1) calls)
+made_before : (calls : List Call) (old new : StopParts) (k : ℕ) → old.armed ≡ Some k → 1 ≤ k → RunsCalls StopWrote StopSynced calls old kept.Failed new → new.played ≡ with old.played (take (k - 1) calls)
 made_before [] old new k armed first ran = absurd ran
 made_before (c ∷ calls) old new k armed first (inl failed) =
     let r = as_stop old new c did.Failed failed in
@@ -68,7 +68,7 @@ kept_behind : (first second : List Call) (seen kept : List ℕ) → kept_through
 kept_behind [] second seen kept = refl
 kept_behind (c ∷ first) second seen kept = kept_behind first second (seen_after seen c) (kept_after seen kept c)
 
-module _ (p : Played) (gate : ℕ) (shape : Shape) (inputs : List Input) (i : Input) (reads : Reads (seen_of p) shape inputs gate) (durable : Only (seen_of p) (LeftNow p)) (has : HasSpelling i) (accepted : IsAccepted (after (opening shape) inputs) i) where
+module _ (p : Played) (gate : ℕ) (shape : Shape) (inputs : List Input) (i : Input) (reads : ReadsJournal (seen_of p) shape inputs gate) (durable : Only (seen_of p) (LeftNow p)) (has : HasInputSpelling i) (accepted : IsAccepted (after (opening shape) inputs) i) where
   abbrev now : List ℕ
   now = seen_of p
 
@@ -97,19 +97,19 @@ module _ (p : Played) (gate : ℕ) (shape : Shape) (inputs : List Input) (i : In
   written : over now (min (gate + 1) (length now)) piece ≡ behind
   written = ap (λ (n : ℕ). over now n piece) place
 
-  holds_before : (c : List ℕ) → c ≡ now → Holds c shape inputs
-  holds_before c is = subst (λ (l : List ℕ). Holds l shape inputs) (sym is) (gate, reads)
+  holds_before : (c : List ℕ) → c ≡ now → HoldsJournal c shape inputs
+  holds_before c is = subst (λ (l : List ℕ). HoldsJournal l shape inputs) (sym is) (gate, reads)
 
-  holds_shut : (c : List ℕ) → c ≡ behind → Holds c shape inputs
-  holds_shut c is = subst (λ (l : List ℕ). Holds l shape inputs) (sym is) (gate, shut_reads now shape inputs gate reads behind (front_kept now gate piece within))
+  holds_shut : (c : List ℕ) → c ≡ behind → HoldsJournal c shape inputs
+  holds_shut c is = subst (λ (l : List ℕ). HoldsJournal l shape inputs) (sym is) (gate, shut_reads now shape inputs gate reads behind (front_kept now gate piece within))
 
-  holds_open : (c : List ℕ) → c ≡ over behind gate (1 ∷ []) → Holds c shape (inputs ++ i ∷ [])
+  holds_open : (c : List ℕ) → c ≡ over behind gate (1 ∷ []) → HoldsJournal c shape (inputs ++ i ∷ [])
   holds_open c is = (gate + length piece, done now shape inputs gate reads i has accepted c is)
 
   opened : over (over now (min (gate + 1) (length now)) piece) (min gate (length (over now (min (gate + 1) (length now)) piece))) (1 ∷ []) ≡ over behind gate (1 ∷ [])
   opened = ap (λ (l : List ℕ). over l (min gate (length l)) (1 ∷ [])) written ∙ ap (λ (n : ℕ). over behind n (1 ∷ [])) place_of_gate
 
-  left_at : (k : ℕ) → 1 ≤ k → k ≤ 4 → (unsynced : Bool) → Holds (seen_of (crashed unsynced (first_calls (k - 1)))) shape (kept_inputs inputs i k unsynced)
+  left_at : (k : ℕ) → 1 ≤ k → k ≤ 4 → (unsynced : Bool) → HoldsJournal (seen_of (crashed unsynced (first_calls (k - 1)))) shape (kept_inputs inputs i k unsynced)
   left_at zero first last unsynced = absurd (omega (arith, first))
   left_at (suc zero) first last true = holds_before (seen_of (first_calls 0)) (seen_behind p.calls [] p.first)
   left_at (suc zero) first last false = holds_before (kept_of (first_calls 0)) (kept_behind p.calls [] p.first p.first ∙ was_kept)
@@ -122,10 +122,10 @@ module _ (p : Played) (gate : ℕ) (shape : Shape) (inputs : List Input) (i : In
   left_at (suc (suc (suc (suc (suc k))))) first last unsynced = absurd (omega (arith, last))
 
 -- what is left of a journal whose disk stopped
-pub stopped_holds : (old new : StopParts) (state : ManagerState) (gate k : ℕ) (shape : Shape) (inputs : List Input) (i : Input) (unsynced : Bool) → IsSettled stop_seen StopLeaves old state gate shape inputs → HasSpelling i → IsAccepted state i → IsStopped old new gate k (record_of i)
-    → Holds (seen_of (crashed unsynced new.played)) shape (kept_inputs inputs i k unsynced)
+pub stopped_holds : (old new : StopParts) (state : ManagerState) (gate k : ℕ) (shape : Shape) (inputs : List Input) (i : Input) (unsynced : Bool) → IsSettled stop_seen StopLeaves old state gate shape inputs → HasInputSpelling i → IsAccepted state i → IsStopped old new gate k (record_of i)
+    → HoldsJournal (seen_of (crashed unsynced new.played)) shape (kept_inputs inputs i k unsynced)
 stopped_holds old new state gate k shape inputs i unsynced s has ok stopped =
     let accepted : IsAccepted (after (opening shape) inputs) i = subst (λ (t : ManagerState). IsAccepted t i) s.state_is ok in
     let made = made_before (appending gate (record_of i)) old new k stopped.armed stopped.first stopped.ran in
-    subst (λ (p : Played). Holds (seen_of (crashed unsynced p)) shape (kept_inputs inputs i k unsynced)) (sym made)
+    subst (λ (p : Played). HoldsJournal (seen_of (crashed unsynced p)) shape (kept_inputs inputs i k unsynced)) (sym made)
     (left_at old.played gate shape inputs i s.reads s.durable has accepted k stopped.first stopped.last unsynced)

@@ -4,12 +4,12 @@ use Rattle.std.specs.Int.{to_be_bytes, from_be_bytes, w32}
 use Rattle.std.proofs.Common.{inl, inr, sym, ◌∙◌, ap, subst, arith, append_assoc, length-append}
 use Rattle.std.proofs.lemmas.Nat.{from_be_bytes-to_be_bytes_4}
 use Rattle.std.proofs.lemmas.List.{take_at, drop_at, append_cancel_left}
-use Rattle.curp_mlog.specs.Journal.{Holds, IsDamaged, IsNotFormatted, Reads, header}
+use Rattle.curp_mlog.specs.Journal.{HoldsJournal, IsDamaged, IsNotFormatted, ReadsJournal, header}
 use Rattle.curp_mlog.specs.Machine.{IsAccepted, IsShape, moved, opening}
 use Rattle.curp_mlog.specs.Opening.{Exists, IsOfTheMoment, IsOnlyCause, IsOpened, OpensNot}
 use Rattle.curp_mlog.specs.declared.error.OpenError.{OpenError}
 use Rattle.curp_mlog.specs.declared.error.OpenError.TheVariants as opened
-use Rattle.curp_mlog.specs.Records.{HasSpelling, Taken, after, framed, records}
+use Rattle.curp_mlog.specs.Records.{HasInputSpelling, Taken, after, framed, records}
 use Rattle.curp_model.specs.Manager.{ManagerState, Shape}
 use Rattle.curp_msg.specs.declared.machine.Input.{Input}
 use Rattle.curp_mlog.proofs.Headers.{same_header, small_shape}
@@ -17,14 +17,14 @@ use Rattle.curp_mlog.proofs.Parsing.{same_framed}
 
 -- no input stands next
 abbrev Ends : ManagerState → ℕ → List ℕ → Type 0
-Ends s x xs = (x ≢ 1) ⊎ ((i : Input) (byte : ℕ) (tail : List ℕ) → HasSpelling i → IsAccepted s i → xs ≢ framed i ++ byte ∷ tail)
+Ends s x xs = (x ≢ 1) ⊎ ((i : Input) (byte : ℕ) (tail : List ℕ) → HasInputSpelling i → IsAccepted s i → xs ≢ framed i ++ byte ∷ tail)
 
 some_next : (is : List Input) (y : ℕ) (ys : List ℕ) → (b : ℕ) × (tail : List ℕ) × (records is ++ y ∷ ys ≡ b ∷ tail)
 some_next [] y ys = (y, ys, refl)
 some_next (i ∷ is) y ys = (1, (framed i ++ records is) ++ y ∷ ys, refl)
 
 -- one more record can't stand where none stands
-no_more : (s : ManagerState) (x : ℕ) (xs : List ℕ) (j : Input) (js : List Input) (y : ℕ) (ys : List ℕ) → Ends s x xs → HasSpelling j → IsAccepted s j → x ∷ xs ≡ records (j ∷ js) ++ y ∷ ys → ⊥
+no_more : (s : ManagerState) (x : ℕ) (xs : List ℕ) (j : Input) (js : List Input) (y : ℕ) (ys : List ℕ) → Ends s x xs → HasInputSpelling j → IsAccepted s j → x ∷ xs ≡ records (j ∷ js) ++ y ∷ ys → ⊥
 no_more s x xs j js y ys ends own ok same =
     let next = some_next js y ys in
     let behind : xs ≡ framed j ++ next.0 ∷ next.1 = ap (λ (l : List ℕ). drop 1 l) same ∙ append_assoc (framed j) (records js) (y ∷ ys) ∙ ap (λ (l : List ℕ). framed j ++ l) next.2 in
@@ -55,14 +55,14 @@ one_journal content l m is js x y xs ys a b t u e f first second =
     let e' : Ends (after (opening m) is) x xs = subst (λ (k : Shape). Ends (after (opening k) is) x xs) parts.0 e in
     (parts.0, same_walk is js (opening m) x y xs ys t' u e' f parts.1)
 
-pub reads_once : (content : List ℕ) (l m : Shape) (is js : List Input) (g h : ℕ) → Reads content l is g → Reads content m js h → (l ≡ m) × (is ≡ js)
+pub reads_once : (content : List ℕ) (l m : Shape) (is js : List Input) (g h : ℕ) → ReadsJournal content l is g → ReadsJournal content m js h → (l ≡ m) × (is ≡ js)
 reads_once content l m is js g h r q = one_journal content l m is js r.byte q.byte r.rest q.rest r.shape_ok q.shape_ok r.taken q.taken (inl r.shut) (inl q.shut) r.is q.is
 
 -- the byte behind the front is the same in both
 next_byte : (content front : List ℕ) (x y : ℕ) (xs ys : List ℕ) → content ≡ front ++ x ∷ xs → content ≡ front ++ y ∷ ys → x ≡ y
 next_byte content front x y xs ys a b = ap (λ (l : List ℕ). get_or l 0 0) (append_cancel_left front (x ∷ xs) (y ∷ ys) (sym a ∙ b))
 
-pub not_both : (content : List ℕ) (l : Shape) (is : List Input) (g p : ℕ) → Reads content l is g → IsDamaged content p → ⊥
+pub not_both : (content : List ℕ) (l : Shape) (is : List Input) (g p : ℕ) → ReadsJournal content l is g → IsDamaged content p → ⊥
 not_both content l is g p r d =
     let same = one_journal content l d.shape is d.inputs r.byte 1 r.rest d.rest r.shape_ok d.shape_ok r.taken d.taken (inl r.shut) (inr d.stuck) r.is d.is in
     r.shut (next_byte content (header l ++ records is) r.byte 1 r.rest d.rest r.is
@@ -90,15 +90,15 @@ only_cause content opened.DiskFault why = tt
 only_cause content opened.NoMemory why = tt
 
 -- a journal is opened as it is, and with its state
-pub opened_so : (content : List ℕ) (gate : ℕ) (state : ManagerState) (shape : Shape) (inputs : List Input) → IsOpened content gate state → Holds content shape inputs → Reads content shape inputs gate × (state ≡ after (opening shape) inputs)
+pub opened_so : (content : List ℕ) (gate : ℕ) (state : ManagerState) (shape : Shape) (inputs : List Input) → IsOpened content gate state → HoldsJournal content shape inputs → ReadsJournal content shape inputs gate × (state ≡ after (opening shape) inputs)
 opened_so content gate state shape inputs o h =
     let same = reads_once content o.shape shape o.inputs inputs gate h.0 o.reads h.1 in (
-      subst (λ (s : Shape). Reads content s inputs gate) same.0 (subst (λ (is : List Input). Reads content o.shape is gate) same.1 o.reads),
+      subst (λ (s : Shape). ReadsJournal content s inputs gate) same.0 (subst (λ (is : List Input). ReadsJournal content o.shape is gate) same.1 o.reads),
       o.state_is ∙ ap (λ (s : Shape). after (opening s) o.inputs) same.0 ∙ ap (λ (is : List Input). after (opening shape) is) same.1,
     )
 
 -- a journal that is there is refused for no cause that says something of the bytes
-pub of_the_moment : (content : List ℕ) (e : OpenError) (shape : Shape) (inputs : List Input) → OpensNot content e → Holds content shape inputs → IsOfTheMoment e
+pub of_the_moment : (content : List ℕ) (e : OpenError) (shape : Shape) (inputs : List Input) → OpensNot content e → HoldsJournal content shape inputs → IsOfTheMoment e
 of_the_moment content opened.NotFormatted shape inputs none h = formatted content shape inputs h.1.byte h.1.rest h.1.shape_ok h.1.is none
 of_the_moment content (opened.Damaged place) shape inputs d h = not_both content shape inputs h.0 place h.1 d
 of_the_moment content opened.DiskFault shape inputs why h = tt

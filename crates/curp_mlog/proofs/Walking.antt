@@ -3,10 +3,10 @@ use Rattle.std.specs.Prelude.{◌≡◌, ◌≢◌, ℕ, ◌+◌, ◌-◌, ◌^�
 use Rattle.std.specs.Int.{to_be_bytes, w32}
 use Rattle.std.proofs.Common.{inl, inr, sym, ◌∙◌, ap, subst, arith, append_assoc, length-append, length-drop}
 use Rattle.std.proofs.lemmas.List.{append-nil, drop_at}
-use Rattle.curp_mlog.specs.Journal.{IsDamaged, Reads, header}
+use Rattle.curp_mlog.specs.Journal.{IsDamaged, ReadsJournal, header}
 use Rattle.curp_mlog.specs.Machine.{IsAccepted, moved, opening}
 use Rattle.curp_mlog.specs.Opening.{FindsNone, FindsNot, FindsRecord, FindsShut, IsOpened, OpensNot, StartsJournal, Walked, error_at}
-use Rattle.curp_mlog.specs.Records.{HasSpelling, Taken, after, framed, records}
+use Rattle.curp_mlog.specs.Records.{HasInputSpelling, Taken, after, framed, records}
 use Rattle.curp_model.specs.Manager.{ManagerState, Shape, opening_manager}
 use Rattle.curp_msg.specs.declared.machine.Input.{Input}
 use Rattle.curp_mlog.specs.Answering.{StaysBy}

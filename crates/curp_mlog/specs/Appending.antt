@@ -32,23 +32,23 @@ pub record Quiet {D : Type 0} (seen : D → List ℕ) (may_leave : D → List �
 -- ---- calls
 
 -- what more is known of one call on a kind of disk
-abbrev pub Ran : {D : Type 0} → (D → ℕ → List ℕ → Did → D → Type 0) → (D → Did → D → Type 0) → D → Call → Did → D → Type 0
-Ran wrote synced old (call.Write at bytes) answer new = wrote old at bytes answer new
-Ran wrote synced old call.Sync answer new = synced old answer new
+abbrev pub RanCall : {D : Type 0} → (D → ℕ → List ℕ → Did → D → Type 0) → (D → Did → D → Type 0) → D → Call → Did → D → Type 0
+RanCall wrote synced old (call.Write at bytes) answer new = wrote old at bytes answer new
+RanCall wrote synced old call.Sync answer new = synced old answer new
 
 -- a call was made, and then these were
 abbrev pub RanThen : {D : Type 0} → (D → Did → D → Type 0) → (D → Type 0) → D → Type 0
 RanThen {D} first then old = (n : ℕ) × (mid : D) × first old (did.Done n) mid × then mid
 
 -- Calls were made one after the other, all of them, or up to the first that was refused
-abbrev pub Runs : {D : Type 0} → (D → ℕ → List ℕ → Did → D → Type 0) → (D → Did → D → Type 0) → List Call → D → Kept → D → Type 0
-Runs wrote synced [] old kept.Kept new = new ≡ old
-Runs wrote synced [] old _ new = ⊥
-Runs wrote synced (c ∷ calls) old kept.Kept new = RanThen (λ d. Ran wrote synced d c) (λ d. Runs wrote synced calls d kept.Kept new) old
-Runs wrote synced (c ∷ calls) old kept.Failed new =
-    Ran wrote synced old c did.Failed new ⊎ RanThen (λ d. Ran wrote synced d c) (λ d. Runs wrote synced calls d kept.Failed new) old
-Runs wrote synced (c ∷ calls) old kept.NoMemory new =
-    Ran wrote synced old c did.NoMemory new ⊎ RanThen (λ d. Ran wrote synced d c) (λ d. Runs wrote synced calls d kept.NoMemory new) old
+abbrev pub RunsCalls : {D : Type 0} → (D → ℕ → List ℕ → Did → D → Type 0) → (D → Did → D → Type 0) → List Call → D → Kept → D → Type 0
+RunsCalls wrote synced [] old kept.Kept new = new ≡ old
+RunsCalls wrote synced [] old _ new = ⊥
+RunsCalls wrote synced (c ∷ calls) old kept.Kept new = RanThen (λ d. RanCall wrote synced d c) (λ d. RunsCalls wrote synced calls d kept.Kept new) old
+RunsCalls wrote synced (c ∷ calls) old kept.Failed new =
+    RanCall wrote synced old c did.Failed new ⊎ RanThen (λ d. RanCall wrote synced d c) (λ d. RunsCalls wrote synced calls d kept.Failed new) old
+RunsCalls wrote synced (c ∷ calls) old kept.NoMemory new =
+    RanCall wrote synced old c did.NoMemory new ⊎ RanThen (λ d. RanCall wrote synced d c) (λ d. RunsCalls wrote synced calls d kept.NoMemory new) old
 
 -- bytes are written and synced
 abbrev pub keeping : ℕ → List ℕ → List Call

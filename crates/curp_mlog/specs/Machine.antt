@@ -25,6 +25,6 @@ IsAccepted s (input.Message m) = ⊤
 IsAccepted s (input.Local order) = (manager_ordered s order).refused ≡ 0
 
 -- it refuses an order, by this number
-unfoldable pub IsRefused : ManagerState → Input → ℕ → Type 0
-IsRefused s (input.Message m) n = ⊥
-IsRefused s (input.Local order) n = ((manager_ordered s order).refused ≡ n) × (n ≢ 0)
+unfoldable pub RefusesOrder : ManagerState → Input → ℕ → Type 0
+RefusesOrder s (input.Message m) n = ⊥
+RefusesOrder s (input.Local order) n = ((manager_ordered s order).refused ≡ n) × (n ≢ 0)

@@ -5,9 +5,9 @@ use Rattle.curp_model.specs.Manager.{ManagerState, Shape}
 use Rattle.curp_msg.specs.declared.machine.Input.{Input}
 use Rattle.curp_msg.specs.declared.message.Message.{Message}
 use Rattle.curp_wire.specs.Frame.{Frame}
-use Rattle.curp_mlog.specs.Journal.{Holds, IsDamaged, IsNotFormatted, IsSettled, Reads, header}
+use Rattle.curp_mlog.specs.Journal.{HoldsJournal, IsDamaged, IsNotFormatted, IsSettled, ReadsJournal, header}
 use Rattle.curp_mlog.specs.Machine.{IsShape, opening}
-use Rattle.curp_mlog.specs.Records.{HasSpelling, Taken, after, framed, records, spelled}
+use Rattle.curp_mlog.specs.Records.{HasInputSpelling, Taken, after, framed, records, spelled}
 use Rattle.curp_mlog.specs.declared.machine.Declined.{Declined}
 use Rattle.curp_mlog.specs.declared.machine.Declined.TheVariants as declined
 use Rattle.curp_mlog.specs.declared.opening.Found.{Found}
@@ -23,14 +23,14 @@ pub record FindsRecord (bytes : List ℕ) (i : Input) (step : ℕ) : Type 0 wher
   pub byte : ℕ
   pub rest : List ℕ
   pub is : bytes ≡ 1 ∷ (framed i ++ byte ∷ rest)
-  pub spells : HasSpelling i
+  pub spells : HasInputSpelling i
   pub far : step ≡ length (framed i) + 1
 
 -- an open gate with no such record
 pub record FindsNone (bytes : List ℕ) : Type 0 where
   pub rest : List ℕ
   pub is : bytes ≡ 1 ∷ rest
-  pub none : (i : Input) (byte : ℕ) (tail : List ℕ) → HasSpelling i → rest ≢ framed i ++ byte ∷ tail
+  pub none : (i : Input) (byte : ℕ) (tail : List ℕ) → HasInputSpelling i → rest ≢ framed i ++ byte ∷ tail
 
 -- a gate that isn't open
 pub record FindsShut (bytes : List ℕ) : Type 0 where
@@ -51,15 +51,15 @@ pub record FindsCut (bytes : List ℕ) : Type 0 where
   pub cut : length rest < 4
 
 -- what stands at the front of bytes
-abbrev pub Finds : List ℕ → Head → Type 0
-Finds bytes head.Shut = FindsShut bytes
-Finds bytes (head.Open len) = FindsLength bytes len
-Finds bytes head.Cut = FindsCut bytes
+abbrev pub FindsHead : List ℕ → Head → Type 0
+FindsHead bytes head.Shut = FindsShut bytes
+FindsHead bytes (head.Open len) = FindsLength bytes len
+FindsHead bytes head.Cut = FindsCut bytes
 
 -- the input that bytes spell, if they spell one
 abbrev pub IsSpelledBy : List ℕ → Option Input → Type 0
-IsSpelledBy bytes None = (i : Input) → HasSpelling i → spelled i ≢ bytes
-IsSpelledBy bytes (Some i) = HasSpelling i × (spelled i ≡ bytes)
+IsSpelledBy bytes None = (i : Input) → HasInputSpelling i → spelled i ≢ bytes
+IsSpelledBy bytes (Some i) = HasInputSpelling i × (spelled i ≡ bytes)
 
 -- the same of a message and its frame
 abbrev pub IsFramedBy : List ℕ → Option Message → Type 0
@@ -89,7 +89,7 @@ pub record Walked (content : List ℕ) (gate : ℕ) (state : ManagerState) : Typ
 pub record IsOpened (content : List ℕ) (gate : ℕ) (state : ManagerState) : Type 0 where
   pub shape : Shape
   pub inputs : List Input
-  pub reads : Reads content shape inputs gate
+  pub reads : ReadsJournal content shape inputs gate
   pub state_is : state ≡ after (opening shape) inputs
 
 -- why there is no journal to open

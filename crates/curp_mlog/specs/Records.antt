@@ -35,9 +35,9 @@ abbrev pub frame_of : Message → List ℕ
 frame_of m = to_be_bytes w32 (length (content m)) ++ content m
 
 -- the format has a spelling of the input: a message's frame is short enough, and all in it and in an order is in its range
-unfoldable pub HasSpelling : Input → Type 0
-HasSpelling (input.Message m) = Frame m (frame_of m)
-HasSpelling (input.Local o) = orders.Fits o
+unfoldable pub HasInputSpelling : Input → Type 0
+HasInputSpelling (input.Message m) = Frame m (frame_of m)
+HasInputSpelling (input.Local o) = orders.Fits o
 
 -- a message is a 0 and its frame, an order its kind and its fields
 unfoldable pub spelled : Input → List ℕ
@@ -61,4 +61,4 @@ after s (i ∷ is) = after (moved s i).state is
 -- each has a spelling, and is accepted where the ones before it were
 abbrev pub Taken : ManagerState → List Input → Type 0
 Taken s [] = ⊤
-Taken s (i ∷ is) = HasSpelling i × IsAccepted s i × Taken (moved s i).state is
+Taken s (i ∷ is) = HasInputSpelling i × IsAccepted s i × Taken (moved s i).state is

@@ -6,8 +6,8 @@ use Rattle.curp_disk.specs.declared.disk.Did.{Did}
 use Rattle.curp_disk.specs.declared.medium.Call.TheVariants as call
 use Rattle.curp_model.specs.Manager.{ManagerState, Shape}
 use Rattle.curp_msg.specs.declared.machine.Input.{Input}
-use Rattle.curp_mlog.specs.Appending.{Runs, appending}
-use Rattle.curp_mlog.specs.Journal.{Holds, IsSettled}
+use Rattle.curp_mlog.specs.Appending.{RunsCalls, appending}
+use Rattle.curp_mlog.specs.Journal.{HoldsJournal, IsSettled}
 use Rattle.curp_mlog.specs.declared.writing.Kept.TheVariants as kept
 
 -- the meanings of such a disk
@@ -32,4 +32,4 @@ pub record IsStopped (old new : StopParts) (gate k : ℕ) (piece : List ℕ) : T
   pub armed : old.armed ≡ Some k
   pub first : 1 ≤ k
   pub last : k ≤ 4
-  pub ran : Runs StopWrote StopSynced (appending gate piece) old kept.Failed new
+  pub ran : RunsCalls StopWrote StopSynced (appending gate piece) old kept.Failed new

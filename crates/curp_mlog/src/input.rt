@@ -3,7 +3,7 @@ ghost use Rattle.std.specs.Prelude.{◌≡◌, ◌≢◌, ◌∷◌, ℕ, List, 
 ghost use Rattle.curp_msg.specs.declared.machine.Input.TheVariants as input;
 ghost use Rattle.curp_mlog.specs.Answering.{record_of};
 ghost use Rattle.curp_mlog.specs.Opening.{IsFramedBy, IsSpelledBy};
-ghost use Rattle.curp_mlog.specs.Records.{HasSpelling, is_heavy, is_others, is_others_order, spelled};
+ghost use Rattle.curp_mlog.specs.Records.{HasInputSpelling, is_heavy, is_others, is_others_order, spelled};
 
 use crate::order::{order_in, write_order};
 use curp_base::NoMemory;
@@ -53,7 +53,7 @@ pub(crate) fn record_of(alloc: Global, input: &Input) -> Result<Vec<u8>, NoMemor
     requires light { is_heavy input.now ≡ false }
     requires own { is_others input.now ≡ false }
     ensures record { IfOk result (λ bytes. bytes.items ≡ record_of input.now) }
-    ensures has { OnOk result (HasSpelling input.now) }
+    ensures has { OnOk result (HasInputSpelling input.now) }
 {
     let spelling = spell(alloc, input)?;
     let mut record = Vec::from_slice(alloc, &(spelling.len() as u32).to_be_bytes())?;
@@ -66,7 +66,7 @@ fn spell(alloc: Global, input: &Input) -> Result<Vec<u8>, NoMemory>
     requires light { is_heavy input.now ≡ false }
     requires own { is_others input.now ≡ false }
     ensures spelled { IfOk result (λ bytes. bytes.items ≡ spelled input.now) }
-    ensures has { OnOk result (HasSpelling input.now) }
+    ensures has { OnOk result (HasInputSpelling input.now) }
 {
     match input {
         Input::Message(message) => spell_message(alloc, message),
@@ -78,7 +78,7 @@ fn spell(alloc: Global, input: &Input) -> Result<Vec<u8>, NoMemory>
 fn spell_message(alloc: Global, message: &Message) -> Result<Vec<u8>, NoMemory>
     requires light { is_heavy (input.Message message.now) ≡ false }
     ensures spelled { IfOk result (λ bytes. bytes.items ≡ spelled (input.Message message.now)) }
-    ensures has { OnOk result (HasSpelling (input.Message message.now)) }
+    ensures has { OnOk result (HasInputSpelling (input.Message message.now)) }
 {
     let frame = encode(alloc, message)?;
     let mut bytes = Vec::from_slice(alloc, &[0])?;
@@ -86,11 +86,11 @@ fn spell_message(alloc: Global, message: &Message) -> Result<Vec<u8>, NoMemory>
     Ok(bytes)
 }
 
-#[tactic(auto, unfolding(crate::specs::Records::spelled, crate::specs::Records::HasSpelling, crate::specs::Records::is_others))]
+#[tactic(auto, unfolding(crate::specs::Records::spelled, crate::specs::Records::HasInputSpelling, crate::specs::Records::is_others))]
 fn spell_order(alloc: Global, order: &Local) -> Result<Vec<u8>, NoMemory>
     requires own { is_others (input.Local order.now) ≡ false }
     ensures spelled { IfOk result (λ bytes. bytes.items ≡ spelled (input.Local order.now)) }
-    ensures has { OnOk result (HasSpelling (input.Local order.now)) }
+    ensures has { OnOk result (HasInputSpelling (input.Local order.now)) }
 {
     let mut out = Writer::new(Vec::new(alloc));
     write_order(order, &mut out)?;

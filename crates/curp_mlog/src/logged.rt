@@ -3,9 +3,9 @@ ghost use Rattle.curp_disk.specs.Disk.{LeavesOnly};
 ghost use Rattle.curp_io.specs.Streams.{Rose};
 ghost use Rattle.curp_model.specs.Manager.{Shape};
 ghost use Rattle.curp_msg.specs.declared.machine.Input.{Input};
-ghost use Rattle.curp_mlog.specs.Answering.{Accepts, Answers, Declines, Refuses, record_of};
+ghost use Rattle.curp_mlog.specs.Answering.{AcceptsInput, AnswersInput, Declines, RefusesInput, record_of};
 ghost use Rattle.curp_mlog.specs.Appending.{Quiet};
-ghost use Rattle.curp_mlog.specs.Journal.{HasSettled, Holds, IsBeforeOrAfter, IsSettled};
+ghost use Rattle.curp_mlog.specs.Journal.{HasSettled, HoldsJournal, IsBeforeOrAfter, IsSettled};
 ghost use Rattle.curp_mlog.specs.Machine.{moved};
 ghost use Rattle.curp_mlog.specs.Opening.{Exists, IsOfTheMoment, IsOnlyCause, IsOpened, OpensNot};
 ghost use Rattle.curp_mlog.specs.Records.{is_heavy, is_others};
@@ -70,7 +70,7 @@ fn decide(
 ) -> Result<Decided, LoggedError>
     requires light { is_heavy input.now ≡ false }
     requires own { is_others input.now ≡ false }
-    ensures accepts { OnOk result (Accepts manager.old gate input.now) }
+    ensures accepts { OnOk result (AcceptsInput manager.old gate input.now) }
     ensures piece { IfOk result (λ d. d.piece.items ≡ record_of input.now) }
     ensures sent { IfOk result (λ d. d.sent.items ≡ (moved manager.old input.now).messages) }
     ensures state { OnOk result (manager.new ≡ (moved manager.old input.now).state) }
@@ -98,9 +98,9 @@ impl<D: Disk> Logged<D> {
         ensures sound_err { D.sound disk → IfErr result (λ f. (f.error ≢ OpenError.DiskFault) × D.sound f.disk) }
         ensures only_there { OnOk result (Exists (D.seen disk)) }
         ensures one_cause { IfErr result (λ f. IsOnlyCause (D.seen disk) f.error) }
-        ensures journal { (shape : Shape) (inputs : List Input) → Holds (D.seen disk) shape inputs
+        ensures journal { (shape : Shape) (inputs : List Input) → HoldsJournal (D.seen disk) shape inputs
             → IfOk result (λ l. IsSettled D.seen D.may_leave l.disk l.state l.gate shape inputs) }
-        ensures journal_err { (shape : Shape) (inputs : List Input) → Holds (D.seen disk) shape inputs
+        ensures journal_err { (shape : Shape) (inputs : List Input) → HoldsJournal (D.seen disk) shape inputs
             → IfErr result (λ f. IsOfTheMoment f.error) }
     {
         match replay(alloc, &mut disk) {
@@ -119,8 +119,8 @@ impl<D: Disk> Logged<D> {
     /// is answered by nothing, and not written.
     pub fn on(&mut self, input: &Input) -> Result<Vec<Message>, LoggedError>
         ensures ok { IfOk result (λ sent. (self.old.spent ≡ false)
-            × Answers D.wrote D.synced self.old self.new input.now (is_others input.now) sent.items) }
-        ensures err { IfErr result (Refuses D.wrote D.synced D.faults self.old self.new input.now) }
+            × AnswersInput D.wrote D.synced self.old self.new input.now (is_others input.now) sent.items) }
+        ensures err { IfErr result (RefusesInput D.wrote D.synced D.faults self.old self.new input.now) }
         ensures kept { (shape : Shape) (inputs : List Input) → IsOk result → is_others input.now ≡ false
             → IsSettled D.seen D.may_leave self.old.disk self.old.state self.old.gate shape inputs
             → IsSettled D.seen D.may_leave self.new.disk self.new.state self.new.gate shape (inputs ++ input.now ∷ []) }

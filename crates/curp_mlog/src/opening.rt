@@ -5,7 +5,7 @@ ghost use Rattle.curp_io.specs.Streams.{Rose};
 ghost use Rattle.curp_mlog.specs.Appending.{Quiet};
 ghost use Rattle.curp_mlog.specs.Journal.{IsNotFormatted};
 ghost use Rattle.curp_mlog.specs.Machine.{IsShape};
-ghost use Rattle.curp_mlog.specs.Opening.{error_at, Finds, FindsLength, FindsNext, FindsNot, Goes, IsOfTheMoment, IsOpened, IsSpelledBy, OpensNot, StartsJournal, Walked};
+ghost use Rattle.curp_mlog.specs.Opening.{error_at, FindsHead, FindsLength, FindsNext, FindsNot, Goes, IsOfTheMoment, IsOpened, IsSpelledBy, OpensNot, StartsJournal, Walked};
 
 use crate::error::OpenError;
 use crate::input::input_in;
@@ -40,7 +40,7 @@ pub(crate) enum Head {
 fn head_in(bytes: &[u8]) -> Head
     requires least { 0 < length bytes.now }
     requires most { length bytes.now ≤ 5 }
-    ensures { Finds bytes.now result }
+    ensures { FindsHead bytes.now result }
 {
     match bytes {
         [1, a, b, c, d] => Head::Open {
@@ -55,7 +55,7 @@ fn head_in(bytes: &[u8]) -> Head
 fn head_at<D: Disk>(disk: &mut D, gate: u64) -> Result<Head, OpenError>
     requires within { gate < length (D.seen disk.old) }
     ensures quiet { Quiet D.seen D.may_leave D.moment D.left_since disk.old disk.new }
-    ensures ok { IfOk result (Finds (drop gate (D.seen disk.old))) }
+    ensures ok { IfOk result (FindsHead (drop gate (D.seen disk.old))) }
     ensures err { IfErr result (FindsNot (D.seen disk.old) gate) }
     ensures sound { D.sound disk.old → (result ≢ Err OpenError.DiskFault) × D.sound disk.new }
     ensures cause { result ≡ Err OpenError.DiskFault → Rose (D.faults disk.old) (D.faults disk.new) }

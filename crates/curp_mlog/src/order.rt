@@ -1,6 +1,6 @@
 //! The manager's orders as bytes.
 ghost use Rattle.std.specs.Prelude.{◌≡◌, ◌≢◌, false, OnOk};
-ghost use Rattle.curp_items.specs.Calls.{Reads, Writes};
+ghost use Rattle.curp_items.specs.Calls.{ReadsItem, WritesItem};
 ghost use Rattle.curp_mlog.specs.Orders.{IsOrderSpelledBy, ReadsWhole, is_backup, keeper_of, order_read, orders};
 ghost use Rattle.curp_mlog.specs.Records.{is_others_order};
 
@@ -32,7 +32,7 @@ fn keeper_of(backup: bool) -> Keeper
 #[tactic(auto, unfolding(crate::specs::Orders::orders))]
 pub(crate) fn write_order(order: &Local, out: &mut Writer) -> Result<(), NoMemory>
     requires { is_others_order order.now ≡ false }
-    ensures writes { Writes out.old out.new result (orders.of order.now) }
+    ensures writes { WritesItem out.old out.new result (orders.of order.now) }
     ensures fits { OnOk result (orders.Fits order.now) }
 {
     match order {
@@ -70,7 +70,7 @@ pub(crate) fn write_order(order: &Local, out: &mut Writer) -> Result<(), NoMemor
 /// Reads an order's kind and fields.
 #[tactic(auto, unfolding(crate::specs::Orders::orders))]
 fn read_order(reader: &mut Reader) -> Result<Local, Fault>
-    ensures { Reads result reader.new (orders.read reader.old) }
+    ensures { ReadsItem result reader.new (orders.read reader.old) }
 {
     let place = reader.place();
     match reader.byte()? {

@@ -2,7 +2,7 @@
 ghost use Rattle.std.specs.Prelude.{◌≡◌, ◌≢◌, ◌+◌, ◌^◌, ◌<◌, ◌≤◌, [], ◌∷◌, length};
 ghost use Rattle.curp_disk.specs.Disk.{LeavesOnly, Only, Torn, over};
 ghost use Rattle.curp_io.specs.Streams.{Rose};
-ghost use Rattle.curp_mlog.specs.Appending.{Runs, ShutOrStaged, appending, keeping};
+ghost use Rattle.curp_mlog.specs.Appending.{RunsCalls, ShutOrStaged, appending, keeping};
 
 use curp_disk::{Did, Disk};
 
@@ -22,7 +22,7 @@ pub(crate) fn keep<D: Disk>(disk: &mut D, at: u64, bytes: &[u8]) -> Kept
     ensures durable { result ≡ Kept.Kept → Only (D.seen disk.new) (D.may_leave disk.new) }
     ensures any_moment { LeavesOnly D.moment D.left_since disk.old disk.new
         (Torn at (length bytes.now) (D.seen disk.old)) }
-    ensures ran { Runs D.wrote D.synced (keeping at bytes.now) disk.old result disk.new }
+    ensures ran { RunsCalls D.wrote D.synced (keeping at bytes.now) disk.old result disk.new }
     ensures sound { D.sound disk.old → (result ≢ Kept.Failed) × D.sound disk.new }
     ensures cause { result ≡ Kept.Failed → Rose (D.faults disk.old) (D.faults disk.new) }
     ensures never_falls { D.faults disk.old ≤ D.faults disk.new }
@@ -48,7 +48,7 @@ pub(crate) fn append<D: Disk>(disk: &mut D, gate: u64, piece: &[u8]) -> Kept
     ensures durable { result ≡ Kept.Kept → Only (D.seen disk.new) (D.may_leave disk.new) }
     ensures any_moment { LeavesOnly D.moment D.left_since disk.old disk.new
         (ShutOrStaged (D.seen disk.old) gate piece.now) }
-    ensures ran { Runs D.wrote D.synced (appending gate piece.now) disk.old result disk.new }
+    ensures ran { RunsCalls D.wrote D.synced (appending gate piece.now) disk.old result disk.new }
     ensures sound { D.sound disk.old → (result ≢ Kept.Failed) × D.sound disk.new }
     ensures cause { result ≡ Kept.Failed → Rose (D.faults disk.old) (D.faults disk.new) }
     ensures never_falls { D.faults disk.old ≤ D.faults disk.new }

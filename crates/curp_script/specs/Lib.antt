@@ -5,6 +5,8 @@ pub mod Events
 pub mod Grammar
 pub mod Headers
 pub mod Kinds
+pub mod Manage
+pub mod ManageKinds
 pub mod Nodes
 pub mod Printed
 pub mod Script

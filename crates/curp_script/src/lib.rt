@@ -6,12 +6,14 @@
 //! - `print_header`, `print_line`, clause `text`: exact, byte for byte; clause `reads_back`: the printed line is read
 //!   as the same header or step.
 //! - `LineReader::parse_event`, `print_event`: the same for the lines of a history and of an order that is claimed for it.
+//! - `LineReader::parse_order`: the same for the lines of orders for a manager whose journal is kept.
 #![tactic(auto)]
 
 mod error;
 mod event;
 mod header;
 mod kind;
+mod manage;
 mod print;
 mod read;
 
@@ -19,5 +21,6 @@ pub use curp_msg::{Header, Protocol, Step};
 pub use error::{FieldName, LineError};
 pub use event::EventLine;
 pub use header::bad_field;
+pub use manage::ManageLine;
 pub use print::{print_event, print_header, print_line};
 pub use read::LineReader;

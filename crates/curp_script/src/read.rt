@@ -3,23 +3,26 @@ ghost use Rattle.curp_script.specs.Values.{value_data};
 ghost use Rattle.curp_script.specs.Events.{event_in};
 ghost use Rattle.curp_script.specs.Grammar.{header_in, step_in, header_of, protocol_at};
 ghost use Rattle.curp_script.specs.Headers.{bad_field};
+ghost use Rattle.curp_script.specs.Manage.{HasCall, manage_in};
 
 mod command;
 mod delivery;
 mod digits;
 mod event;
 mod fields;
+mod manage;
 mod number;
 mod object;
 mod steps;
 mod words;
 
 use crate::kind::HEADER_NAMES;
-use crate::{EventLine, FieldName, Header, LineError, Protocol, Step};
+use crate::{EventLine, FieldName, Header, LineError, ManageLine, Protocol, Step};
 use delivery::printed_delivery;
 use event::event_of;
 use fields::{flag_at, no_other, number_at};
 use json::{Scratch, Value as Json};
+use manage::manage_of;
 use object::parse_object;
 use std::alloc::Global;
 use steps::step_of;
@@ -67,6 +70,15 @@ impl LineReader {
     {
         let object = parse_object(self.alloc, &mut self.scratch, line)?;
         event_of(&object)
+    }
+
+    /// A line of orders for a manager whose journal is kept, or why it is none. `NoMemory` says nothing of the line.
+    pub fn parse_order(&mut self, line: &[u8]) -> Result<ManageLine, LineError>
+        ensures reads { result ≢ Err LineError.NoMemory → result ≡ manage_in line.now }
+        ensures call { IfOk result HasCall }
+    {
+        let object = parse_object(self.alloc, &mut self.scratch, line)?;
+        manage_of(&object)
     }
 }
 

@@ -1,7 +1,7 @@
 // What no clause says: that there is an order where there is memory.
 use curp_base::NoMemory;
 use curp_msg::Protocol;
-use curp_words::{LivePlan, MakePlan, Order, Output, Report, WordsError, blamed, read};
+use curp_words::{LivePlan, MakePlan, Output, Report, Task, WordsError, blamed, read};
 use std::alloc::Global;
 use std::test::Fail;
 
@@ -28,6 +28,11 @@ make|--history
 check|--history
 check|x
 check|check
+manage|--f|3
+manage|x
+manage|manage
+manage|play
+Manage
 Check
 Make
 make|make
@@ -102,7 +107,7 @@ live|--parts|17
 live|--protocol|3
 live|--commands|0
 live|--commands|101
-live|--recoveries|1
+live|--recoveries|9
 live|--commands|5|--commands|5
 live|--steps|5
 live|--summary
@@ -161,14 +166,15 @@ make|--protocol|2: 1 3 64 4 8 2 2 4000 3 Script
 make|--f|03: 1 3 64 4 8 2 1 4000 3 Script
 make|--number|1|--f|2|--sets|3|--ways|4|--clients|5|--parts|6|--protocol|2|--steps|7: 1 2 3 4 5 6 2 7 3 Script
 make|--number|1|--f|2|--sets|3|--ways|4|--clients|5|--parts|6|--protocol|2|--steps|7|--recoveries|8|--summary: 1 2 3 4 5 6 2 7 8 Summary
-live: 1 3 64 4 8 2 1 50 0 Live
-live|--number|0|--f|1|--sets|1|--ways|1: 0 1 1 1 8 2 1 50 0 Live
+live: 1 3 64 4 8 2 1 50 3 Live
+live|--number|0|--f|1|--sets|1|--ways|1: 0 1 1 1 8 2 1 50 3 Live
 live|--clients|1|--parts|1|--commands|1|--recoveries|0: 1 3 64 4 1 1 1 1 0 Live
-live|--number|18446744073709551615: 18446744073709551615 3 64 4 8 2 1 50 0 Live
-live|--f|5|--sets|1024|--ways|16|--clients|16: 1 5 1024 16 16 2 1 50 0 Live
---parts=16|live|--commands=100: 1 3 64 4 8 16 1 100 0 Live
-live|--protocol|2: 1 3 64 4 8 2 2 50 0 Live
---commands|5|live: 1 3 64 4 8 2 1 5 0 Live
+live|--number|18446744073709551615: 18446744073709551615 3 64 4 8 2 1 50 3 Live
+live|--f|5|--sets|1024|--ways|16|--clients|16: 1 5 1024 16 16 2 1 50 3 Live
+--parts=16|live|--commands=100: 1 3 64 4 8 16 1 100 3 Live
+live|--protocol|2: 1 3 64 4 8 2 2 50 3 Live
+--commands|5|live: 1 3 64 4 8 2 1 5 3 Live
+--recoveries=8|live: 1 3 64 4 8 2 1 50 8 Live
 live|--number|1|--f|2|--sets|3|--ways|4|--clients|5|--parts|6|--protocol|2|--commands|7|--recoveries|0: 1 2 3 4 5 6 2 7 0 Live
 resp: 3 0 Replies
 resp|--f|1|--every|1000000: 1 1000000 Replies
@@ -197,7 +203,7 @@ make|--protocol|3: 2
 live|--recoveries: none
 --commands|5|--recoveries: none
 --recoveries|0|--commands: none
-live|--recoveries|1: 2
+live|--recoveries|9: 2
 live|--commands|101: 2
 live|--steps|5: 1
 live|--summary: 1
@@ -226,7 +232,7 @@ fn words_of(alloc: Global, line: &str) -> Result<Vec<&str>, NoMemory> {
     line.split('|').collect(alloc)
 }
 
-fn order_of(alloc: Global, line: &str) -> Result<Result<Order, WordsError>, NoMemory> {
+fn task_of(alloc: Global, line: &str) -> Result<Result<Task, WordsError>, NoMemory> {
     let words = words_of(alloc, line)?;
     Ok(read(alloc, &words))
 }
@@ -270,10 +276,10 @@ fn run(alloc: Global, plan: &LivePlan) -> Result<String, NoMemory> {
 }
 
 fn planned(alloc: Global, line: &str) -> Result<String, NoMemory> {
-    match order_of(alloc, line)? {
-        Ok(Order::Make(plan, output)) => made(alloc, &plan, output),
-        Ok(Order::Live(plan)) => run(alloc, &plan),
-        Ok(Order::Resp(plan)) => format!(in alloc; "{} {} {:?}", plan.f, plan.every, plan.output),
+    match task_of(alloc, line)? {
+        Ok(Task::Make(plan, output)) => made(alloc, &plan, output),
+        Ok(Task::Live(plan)) => run(alloc, &plan),
+        Ok(Task::Resp(plan)) => format!(in alloc; "{} {} {:?}", plan.f, plan.every, plan.output),
         _ => Ok(String::new(alloc)),
     }
 }
@@ -287,7 +293,7 @@ fn is_planned(alloc: Global, row: &str) -> Result<bool, NoMemory> {
 }
 
 fn is_refused(alloc: Global, line: &str) -> Result<bool, NoMemory> {
-    Ok(order_of(alloc, line)? == Err(WordsError::Usage))
+    Ok(task_of(alloc, line)? == Err(WordsError::Usage))
 }
 
 // Whether the word of a row is blamed in its command line.
@@ -312,10 +318,11 @@ fn other_words_are_refused(rt: HostRuntime) -> Result<(), Fail> {
 
 #[test]
 fn orders_are_read(rt: HostRuntime) -> Result<(), Fail> {
-    assert!(rt; read(rt.alloc(), &["play"]) == Ok(Order::Play(Report::Steps)));
-    assert!(rt; read(rt.alloc(), &["play", "--history"]) == Ok(Order::Play(Report::History)));
-    assert!(rt; read(rt.alloc(), &["--history", "play"]) == Ok(Order::Play(Report::History)));
-    assert!(rt; read(rt.alloc(), &["check"]) == Ok(Order::Check));
+    assert!(rt; read(rt.alloc(), &["play"]) == Ok(Task::Play(Report::Steps)));
+    assert!(rt; read(rt.alloc(), &["play", "--history"]) == Ok(Task::Play(Report::History)));
+    assert!(rt; read(rt.alloc(), &["--history", "play"]) == Ok(Task::Play(Report::History)));
+    assert!(rt; read(rt.alloc(), &["check"]) == Ok(Task::Check));
+    assert!(rt; read(rt.alloc(), &["manage"]) == Ok(Task::Manage));
     for row in TAKEN.lines() {
         assert!(rt; is_planned(rt.alloc(), row)?, "{row}");
     }

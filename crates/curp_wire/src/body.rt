@@ -1,6 +1,6 @@
 //! The bodies of messages: a tag, and fields by the tag.
 ghost use Rattle.std.specs.Prelude.{◌≡◌, ◌↔◌, IsTrue, OnOk};
-ghost use Rattle.curp_items.specs.Calls.{ReadsIfMemory, Writes};
+ghost use Rattle.curp_items.specs.Calls.{ReadsIfMemory, WritesItem};
 ghost use Rattle.curp_items.specs.Format.{by_tag};
 ghost use Rattle.curp_wire.specs.Fields.{body_parts, body_variants};
 ghost use Rattle.curp_wire.specs.Spelling.{HasFields};
@@ -58,7 +58,7 @@ pub(crate) fn tag_of(body: &Body) -> u8
 #[tactic(auto, unfolding(crate::specs::Fields::requests))]
 pub(crate) fn write_fields(body: &Body, out: &mut Writer) -> Result<(), NoMemory>
     requires { HasFields body.now }
-    ensures writes { Writes out.old out.new result (body_parts body.now).text }
+    ensures writes { WritesItem out.old out.new result (body_parts body.now).text }
     ensures fits { OnOk result (body_parts body.now).Fits }
 {
     match body {

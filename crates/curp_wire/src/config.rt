@@ -1,6 +1,6 @@
 //! Configurations.
 ghost use Rattle.std.specs.Prelude.{◌≡◌, ◌+◌, ◌≤◌, ◌^◌, ◌<◌, ℕ, length, [], ◌∷◌, IfOk, OnOk};
-ghost use Rattle.curp_items.specs.Calls.{Reads, ReadsIfMemory, Writes};
+ghost use Rattle.curp_items.specs.Calls.{ReadsItem, ReadsIfMemory, WritesItem};
 ghost use Rattle.curp_range.specs.Spans.{SpansAscend};
 ghost use Rattle.curp_wire.specs.Fields.{IsLeast, span_from, spans};
 
@@ -97,7 +97,7 @@ impl Part for Spans {
 /// Reads a span whose first hash is at least this. Where there is no such hash, none may stand there.
 #[tactic(auto, unfolding(crate::specs::Fields::span_from))]
 fn read_span(reader: &mut Reader, least: Option<u64>) -> Result<(u64, u64), Fault>
-    ensures reads { (from : ℕ) → IsLeast least from → Reads result reader.new ((span_from from).read reader.old) }
+    ensures reads { (from : ℕ) → IsLeast least from → ReadsItem result reader.new ((span_from from).read reader.old) }
     ensures behind { IfOk result (λ span. (from : ℕ) → IsLeast least from → from ≤ span.0) }
     ensures ordered { IfOk result (λ span. span.0 ≤ span.1) }
 {

@@ -1,6 +1,6 @@
 //! What stands in a frame behind its length.
 ghost use Rattle.std.specs.Prelude.{◌≡◌, OnOk};
-ghost use Rattle.curp_items.specs.Calls.{ReadsIfMemory, Writes};
+ghost use Rattle.curp_items.specs.Calls.{ReadsIfMemory, WritesItem};
 ghost use Rattle.curp_wire.specs.Frame.{IsMessage, content, is_tag, read_message};
 ghost use Rattle.curp_wire.specs.Spelling.{HasContent};
 
@@ -13,7 +13,7 @@ use std::alloc::Global;
 /// Writes the tag, the sender, the addressee and the fields.
 pub(crate) fn write_content(message: &Message, out: &mut Writer) -> Result<(), NoMemory>
     requires { HasContent message.now }
-    ensures writes { Writes out.old out.new result (content message.now) }
+    ensures writes { WritesItem out.old out.new result (content message.now) }
     ensures message { OnOk result (IsMessage message.now) }
 {
     out.byte(tag_of(&message.body))?;

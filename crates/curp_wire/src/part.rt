@@ -1,7 +1,7 @@
 ghost use Rattle.std.specs.Prelude.{◌<◌, ◌^◌, length, OnOk};
 ghost use Rattle.std.specs.List.{flat_map};
 ghost use Rattle.curp_base.specs.Words.{Each};
-ghost use Rattle.curp_items.specs.Calls.{ReadsIfMemory, Writes};
+ghost use Rattle.curp_items.specs.Calls.{ReadsIfMemory, WritesItem};
 ghost use Rattle.curp_items.specs.Format.{list_of};
 ghost use Rattle.curp_items.specs.Items.{u32};
 
@@ -23,7 +23,7 @@ pub(crate) trait Part: Sized {
     /// Writes the part's spelling.
     fn write(&self, out: &mut Writer) -> Result<(), NoMemory>
         requires { HasSpelling self.now }
-        ensures writes { Writes out.old out.new result (format.of self.now) }
+        ensures writes { WritesItem out.old out.new result (format.of self.now) }
         ensures fits { OnOk result (format.Fits self.now) };
 
     /// Reads a part from the front.
@@ -67,7 +67,7 @@ impl Part for Entry {
 pub(crate) fn write_parts<T: Part>(parts: &[T], out: &mut Writer) -> Result<(), NoMemory>
     requires short { length parts.now < 2 ^ 32 }
     requires spelled { Each T.HasSpelling parts.now }
-    ensures writes { Writes out.old out.new result ((list_of u32 T.format).of parts.now) }
+    ensures writes { WritesItem out.old out.new result ((list_of u32 T.format).of parts.now) }
     ensures fits { OnOk result ((list_of u32 T.format).Fits parts.now) }
 {
     (parts.len() as u32).write(out)?;

@@ -1,5 +1,5 @@
 -- What clap makes of the words of a command line with one word and options: by its matches or its faults they ask for the
--- order that the definition gives.
+-- task that the definition gives.
 use Rattle.std.proofs.Common.{◌≡◌, ◌≢◌, ◌∙◌, ◌&&◌, ◌||◌, ◌++◌, ℕ, Bool, cond, true, false, not, refl, sym, ap, ap₂, List, [], ◌∷◌, map, Option, Some, None, Result, Err, inl, inr, codes, true≢false, fold, subst, IfOk, IfErr, ok_or}
 use Rattle.std.specs.Prelude.{find, option_and_then, option_map, slice_get}
 use Rattle.std.specs.List.{list_all, list_any}
@@ -18,10 +18,10 @@ use Rattle.clap.specs.declared.parser.matches.ValueSource.TheVariants.{DefaultVa
 use Rattle.clap.proofs.WalkLemmas.{both, first_value-rows}
 use Rattle.clap.specs.Simple.{App, argument_words, built, matches_of, names_of}
 use Rattle.curp_words.specs.Command.{IsRefused, ParserTakes, app_with}
-use Rattle.curp_words.specs.Words.{GivenOptions, Options, given_from, if_once, is_among, is_given, is_once, is_text, is_well_formed, order_with, value_of}
-use Rattle.curp_words.specs.declared.order.Order.{Order}
-use Rattle.curp_words.specs.declared.order.WordsError.{WordsError}
-use Rattle.curp_words.specs.declared.order.WordsError.TheVariants.{NoMemory, Usage}
+use Rattle.curp_words.specs.Words.{GivenOptions, Options, given_from, if_once, is_among, is_given, is_once, is_text, is_well_formed, task_with, value_of}
+use Rattle.curp_words.specs.declared.task.Task.{Task}
+use Rattle.curp_words.specs.declared.task.WordsError.{WordsError}
+use Rattle.curp_words.specs.declared.task.WordsError.TheVariants.{NoMemory, Usage}
 use Rattle.curp_words.proofs.Walks.{Ends, Knows, all_agree, at_none, bare_built, by_test, flag_built, has_row_for, kinds_from, or_else_none, row_for, rows_for, rows_from, then_none, valued_built, with_rules}
 
 -- ---- the rules
@@ -253,7 +253,7 @@ true_values : (flags : List Text) (id : Text) (rows : List Row) → is_true id (
 true_values [] id rows = refl
 true_values (n ∷ flags) id rows = true_values flags id (with_default rows (flag_built n)) ∙ true_value n id rows
 
--- ---- the order
+-- ---- the task
 
 -- two ways to look up the values of options: they may differ at a flag that is not used
 pub record SameValues (options : Options) (f g : Text → Option Text) : Type 0 where
@@ -272,12 +272,12 @@ same_values options found given once is = record {
     read : (id : Text) → first_of id (ended options.flags (rows_for given)) ≡ first_value found id
     read id = ap (first_of id) (sym is) ∙ sym (first_value-rows found id)
 
--- the order of a word with these options, which has the same values as an order either way
-pub record ReadsBy (options : Options) (order : (Text → Option Text) → Option Order) : Type 0 where
+-- the task of a word with these options, which has the same values as a task either way
+pub record ReadsBy (options : Options) (task : (Text → Option Text) → Option Task) : Type 0 where
   pub word : IsWord options
-  pub same : (f g : Text → Option Text) → SameValues options f g → order f ≡ order g
+  pub same : (f g : Text → Option Text) → SameValues options f g → task f ≡ task g
 
-module _ (options : Options) (order : (Text → Option Text) → Option Order) (reads_by : ReadsBy options order) where
+module _ (options : Options) (task : (Text → Option Text) → Option Task) (reads_by : ReadsBy options task) where
   abbrev rules : List Rule
   rules = rules_of options
 
@@ -296,64 +296,64 @@ module _ (options : Options) (order : (Text → Option Text) → Option Order) (
       ∙ ap (λ kinds. or_else (walk_fault (with_rules rules) [] start words) kinds) (or_else_none (settle_fault rules false end))
 
   -- what the words ask for, where the parser takes them, and where it doesn't
-  abbrev then_order : Option GivenOptions → Option Order
-  then_order o = option_and_then (λ given. order (value_of given)) (option_and_then if_once o)
+  abbrev then_task : Option GivenOptions → Option Task
+  then_task o = option_and_then (λ given. task (value_of given)) (option_and_then if_once o)
 
-  order_is : (words : List Text) → list_all is_well_formed words ≡ true → order_with options order words ≡ then_order (given_from options None [] words)
-  order_is words well = rw well refl
+  task_is : (words : List Text) → list_all is_well_formed words ≡ true → task_with options task words ≡ then_task (given_from options None [] words)
+  task_is words well = rw well refl
 
   taken : (words : List Text) (matches : ArgMatches) → ParserTakes (app_with options) words matches
-      → order_with options order words ≡ order (first_value (found_of matches))
+      → task_with options task words ≡ task (first_value (found_of matches))
   taken words matches is =
-      order_is words is.well ∙ go (given_from options None [] words) (all_agree rules options (knows options reads_by.word) words is.well)
+      task_is words is.well ∙ go (given_from options None [] words) (all_agree rules options (knows options reads_by.word) words is.well)
     where
       found : Found
       found = found_of matches
 
       once_order : (given : GivenOptions) → is_once given ≡ true → rows_of found ≡ ended options.flags (rows_for given)
-          → then_order (Some given) ≡ order (first_value found)
+          → then_task (Some given) ≡ task (first_value found)
       once_order given once rows = rw once (reads_by.same (value_of given) (first_value found) (same_values options found given once rows))
 
       ends : matches_of (app_with options) words ≡ ended options.flags (rows_from rules start words)
       ends = ap₂ (λ (app : App) texts. rows_after app.top.rules (names_of app) texts) reads_by.word.is_built (reads_by.word.all_words words) ∙ finished_is options (walk rules [] nothing_held words).held
 
-      go : (o : Option GivenOptions) → Ends rules (kinds_from rules start words) (rows_from rules start words) o → then_order o ≡ order (first_value found)
+      go : (o : Option GivenOptions) → Ends rules (kinds_from rules start words) (rows_from rules start words) o → then_task o ≡ task (first_value found)
       go None fails = absurd (fails (sym (fault_is words) ∙ is.no_fault))
       go (Some given) (inr twice) = absurd (twice.1 (sym (fault_is words) ∙ is.no_fault))
       go (Some given) (inl once) = once_order given once.0 (is.rows ∙ ends ∙ ap (ended options.flags) once.2)
 
-  refused : (words : List Text) → IsRefused (app_with options) words → order_with options order words ≡ None
+  refused : (words : List Text) → IsRefused (app_with options) words → task_with options task words ≡ None
   refused words (inl bad) = rw bad refl
   refused words (inr fails) = by_test (list_all is_well_formed words)
-      (λ well. order_is words well ∙ go (given_from options None [] words) (all_agree rules options (knows options reads_by.word) words well))
+      (λ well. task_is words well ∙ go (given_from options None [] words) (all_agree rules options (knows options reads_by.word) words well))
       (λ bad. rw bad refl)
     where
-      go : (o : Option GivenOptions) → Ends rules (kinds_from rules start words) (rows_from rules start words) o → then_order o ≡ None
+      go : (o : Option GivenOptions) → Ends rules (kinds_from rules start words) (rows_from rules start words) o → then_task o ≡ None
       go None e = refl
       go (Some given) (inl once) = absurd (fails (fault_is words ∙ once.1))
       go (Some given) (inr twice) = rw twice.0 refl
 
-  abbrev HasOrder : List Text → Result Order WordsError → Type 0
-  HasOrder words r = IfOk r (λ made. order_with options order words ≡ Some made)
+  abbrev HasTask : List Text → Result Task WordsError → Type 0
+  HasTask words r = IfOk r (λ made. task_with options task words ≡ Some made)
 
-  abbrev HasNone : List Text → Result Order WordsError → Type 0
-  HasNone words r = IfErr r (λ error. error ≢ NoMemory → order_with options order words ≡ None)
+  abbrev HasNone : List Text → Result Task WordsError → Type 0
+  HasNone words r = IfErr r (λ error. error ≢ NoMemory → task_with options task words ≡ None)
 
   -- an option as a result
-  as_result : (words : List Text) (o : Option Order) → order_with options order words ≡ o → HasOrder words (ok_or o Usage) × HasNone words (ok_or o Usage)
+  as_result : (words : List Text) (o : Option Task) → task_with options task words ≡ o → HasTask words (ok_or o Usage) × HasNone words (ok_or o Usage)
   as_result words None e = (tt, λ other. e)
   as_result words (Some made) e = (e, tt)
 
   -- what is read of the matches of the words, or of their fault
   module _ (app : App) (app_is : app ≡ app_with options) (words : List Text) where
-    pub by_matches : (matches : ArgMatches) → (is_simple_and_free app ≡ true → ParserTakes app words matches) → (o : Option Order)
-        → o ≡ order (first_value (found_of matches)) → (r : Result Order WordsError) → r ≡ ok_or o Usage → HasOrder words r × HasNone words r
+    pub by_matches : (matches : ArgMatches) → (is_simple_and_free app ≡ true → ParserTakes app words matches) → (o : Option Task)
+        → o ≡ task (first_value (found_of matches)) → (r : Result Task WordsError) → r ≡ ok_or o Usage → HasTask words r × HasNone words r
     by_matches matches takes o reads r is =
-        subst (λ result. HasOrder words result × HasNone words result) (sym is)
+        subst (λ result. HasTask words result × HasNone words result) (sym is)
         (as_result words o (taken words matches (subst (λ (a : App). ParserTakes a words matches) app_is (takes (ap is_simple_and_free app_is ∙ reads_by.word.is_free))) ∙ sym reads))
 
     pub by_fault : (error : WordsError) → (is_simple_and_free app ≡ true → error ≢ NoMemory → IsRefused app words)
-        → (r : Result Order WordsError) → r ≡ Err error → HasNone words r
+        → (r : Result Task WordsError) → r ≡ Err error → HasNone words r
     by_fault error refuses r is =
         subst (HasNone words) (sym is)
         (λ other. refused words (subst (λ (a : App). IsRefused a words) app_is (refuses (ap is_simple_and_free app_is ∙ reads_by.word.is_free) other)))

@@ -7,14 +7,14 @@ use Rattle.curp_msg.specs.Limits.{step_limit}
 use Rattle.curp_msg.specs.declared.script.Protocol.{Protocol}
 use Rattle.curp_words.specs.Numbers.{number_of, number_within, within}
 use Rattle.curp_words.specs.Plan.{IsLivePlan, IsPlan, IsRespPlan, fits}
-use Rattle.curp_words.specs.Words.{GivenOptions, Options, given_by, is_text, live_in, live_options, live_order_by, live_plan_by, make_in, make_options, order_by, order_with, output_by, plan_by, resp_in, resp_options, resp_order_by, resp_output_by, resp_plan_by, value_of}
-use Rattle.curp_words.specs.declared.order.LivePlan.{LivePlan}
-use Rattle.curp_words.specs.declared.order.MakePlan.{MakePlan}
-use Rattle.curp_words.specs.declared.order.Order.{Order}
-use Rattle.curp_words.specs.declared.order.Order.TheVariants.{Live, Make, Resp}
-use Rattle.curp_words.specs.declared.order.Output.{Output}
-use Rattle.curp_words.specs.declared.order.RespOutput.{RespOutput}
-use Rattle.curp_words.specs.declared.order.RespPlan.{RespPlan}
+use Rattle.curp_words.specs.Words.{GivenOptions, Options, given_by, is_text, live_in, live_options, live_task_by, live_plan_by, make_in, make_options, make_task_by, task_with, output_by, plan_by, resp_in, resp_options, resp_task_by, resp_output_by, resp_plan_by, value_of}
+use Rattle.curp_words.specs.declared.task.LivePlan.{LivePlan}
+use Rattle.curp_words.specs.declared.task.MakePlan.{MakePlan}
+use Rattle.curp_words.specs.declared.task.Task.{Task}
+use Rattle.curp_words.specs.declared.task.Task.TheVariants.{Live, Make, Resp}
+use Rattle.curp_words.specs.declared.task.Output.{Output}
+use Rattle.curp_words.specs.declared.task.RespOutput.{RespOutput}
+use Rattle.curp_words.specs.declared.task.RespPlan.{RespPlan}
 
 -- what an option holds is so, where it holds something
 abbrev IfSomeIs : {X : Type 0} → Option X → (X → Type 0) → Type 0
@@ -110,7 +110,7 @@ live_plan_fits value =
       commands = commands;
       recoveries = recoveries;
     }) IsLivePlan
-    (Within 0 (2 ^ 64 - 1)) (Within 1 5) (Within 1 1024) (Within 1 16) (Within 1 16) (Within 1 16) (Within 1 100) (Within 0 0)
+    (Within 0 (2 ^ 64 - 1)) (Within 1 5) (Within 1 1024) (Within 1 16) (Within 1 16) (Within 1 16) (Within 1 100) (Within 0 8)
     (λ _ _ _ _ _ _ _ _ recoveries in_number in_f in_sets in_ways in_clients in_parts in_commands in_recoveries. record {
       number = in_number.1;
       header = record {
@@ -122,7 +122,7 @@ live_plan_fits value =
       };
       clients = in_clients.1;
       commands = in_commands;
-      recoveries = let most : recoveries ≤ 0 = in_recoveries.1 in omega arith;
+      recoveries = in_recoveries.1;
     })
     _ _ _ _ _ _ _ _ _
     (number_in_range 0 (2 ^ 64 - 1) 1 (value (codes "number")) (omega arith) (omega arith))
@@ -132,7 +132,7 @@ live_plan_fits value =
     (number_in_range 1 16 8 (value (codes "clients")) (omega arith) (omega arith))
     (number_in_range 1 16 2 (value (codes "parts")) (omega arith) (omega arith))
     (number_in_range 1 100 50 (value (codes "commands")) (omega arith) (omega arith))
-    (number_in_range 0 0 0 (value (codes "recoveries")) (omega arith) (omega arith))
+    (number_in_range 0 8 3 (value (codes "recoveries")) (omega arith) (omega arith))
 
 -- the plan of two numbers, if there is each
 served_from : (output : RespOutput) (f every : Option ℕ) → IfSomeIs f (Within 1 5) → IfSomeIs every (Within 0 1000000)
@@ -158,33 +158,33 @@ resp : (o : Option RespPlan) → IfSomeIs o IsRespPlan → IfSomeIs (option_map 
 resp None is = tt
 resp (Some plan) is = is
 
-if_so : (b : Bool) (o : Option Order) → IfSomeIs o fits → IfSomeIs (cond b o None) fits
+if_so : (b : Bool) (o : Option Task) → IfSomeIs o fits → IfSomeIs (cond b o None) fits
 if_so true o is = is
 if_so false o is = tt
 
-order_fits : (value : Text → Option Text) → IfSomeIs (order_by value) fits
-order_fits value = if_so (is_text (codes "make") (value (codes "command"))) _ (made (output_by value) (plan_by value) (plan_fits value))
+task_fits : (value : Text → Option Text) → IfSomeIs (make_task_by value) fits
+task_fits value = if_so (is_text (codes "make") (value (codes "command"))) _ (made (output_by value) (plan_by value) (plan_fits value))
 
-live_order_fits : (value : Text → Option Text) → IfSomeIs (live_order_by value) fits
-live_order_fits value = if_so (is_text (codes "live") (value (codes "command"))) _ (live (live_plan_by value) (live_plan_fits value))
+live_task_fits : (value : Text → Option Text) → IfSomeIs (live_task_by value) fits
+live_task_fits value = if_so (is_text (codes "live") (value (codes "command"))) _ (live (live_plan_by value) (live_plan_fits value))
 
-resp_order_fits : (value : Text → Option Text) → IfSomeIs (resp_order_by value) fits
-resp_order_fits value = if_so (is_text (codes "resp") (value (codes "command"))) _ (resp (resp_plan_by value) (resp_plan_fits value))
+resp_task_fits : (value : Text → Option Text) → IfSomeIs (resp_task_by value) fits
+resp_task_fits value = if_so (is_text (codes "resp") (value (codes "command"))) _ (resp (resp_plan_by value) (resp_plan_fits value))
 
-with_fits : (options : Options) (order : (Text → Option Text) → Option Order) → ((value : Text → Option Text) → IfSomeIs (order value) fits)
-    → (words : List Text) → IfSomeIs (order_with options order words) fits
-with_fits options order fit words = go (given_by options words)
+with_fits : (options : Options) (task : (Text → Option Text) → Option Task) → ((value : Text → Option Text) → IfSomeIs (task value) fits)
+    → (words : List Text) → IfSomeIs (task_with options task words) fits
+with_fits options task fit words = go (given_by options words)
   where
-    go : (o : Option GivenOptions) → IfSomeIs (option_and_then (λ given. order (value_of given)) o) fits
+    go : (o : Option GivenOptions) → IfSomeIs (option_and_then (λ given. task (value_of given)) o) fits
     go None = tt
     go (Some given) = fit (value_of given)
 
--- an order that the words ask for is in range
-pub make_fits : (words : List Text) (order : Order) → make_in words ≡ Some order → fits order
-make_fits words order e = subst (λ o. IfSomeIs o fits) e (with_fits make_options order_by order_fits words)
+-- a task that the words ask for is in range
+pub make_fits : (words : List Text) (task : Task) → make_in words ≡ Some task → fits task
+make_fits words task e = subst (λ o. IfSomeIs o fits) e (with_fits make_options make_task_by task_fits words)
 
-pub live_fits : (words : List Text) (order : Order) → live_in words ≡ Some order → fits order
-live_fits words order e = subst (λ o. IfSomeIs o fits) e (with_fits live_options live_order_by live_order_fits words)
+pub live_fits : (words : List Text) (task : Task) → live_in words ≡ Some task → fits task
+live_fits words task e = subst (λ o. IfSomeIs o fits) e (with_fits live_options live_task_by live_task_fits words)
 
-pub resp_fits : (words : List Text) (order : Order) → resp_in words ≡ Some order → fits order
-resp_fits words order e = subst (λ o. IfSomeIs o fits) e (with_fits resp_options resp_order_by resp_order_fits words)
+pub resp_fits : (words : List Text) (task : Task) → resp_in words ≡ Some task → fits task
+resp_fits words task e = subst (λ o. IfSomeIs o fits) e (with_fits resp_options resp_task_by resp_task_fits words)

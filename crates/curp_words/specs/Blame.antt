@@ -2,11 +2,11 @@
 use Rattle.std.specs.Prelude.{◌≡◌, ◌||◌, ◌<◌, ◌≤◌, ◌+◌, ℕ, Bool, true, false, List, [], ◌∷◌, ◌++◌, codes, length, take, Option, Some, None, is_some}
 use Rattle.std.specs.List.{list_any}
 use Rattle.clap.specs.Walk.{Text}
-use Rattle.curp_words.specs.Words.{order_in}
+use Rattle.curp_words.specs.Words.{task_in}
 
 -- a command line can begin with the words, if it ends by one of these
 abbrev pub is_line_with : List (List Text) → List Text → Bool
-is_line_with endings words = list_any (λ ending. is_some (order_in (words ++ ending))) endings
+is_line_with endings words = list_any (λ ending. is_some (task_in (words ++ ending))) endings
 
 -- what can be missing where no option waits for its value: the word, or nothing. Behind an option of `play` it is that
 -- word
@@ -14,12 +14,11 @@ abbrev pub word_endings : List (List Text)
 word_endings =
     [] ∷ (codes "play" ∷ []) ∷ (codes "make" ∷ []) ∷ (codes "live" ∷ []) ∷ (codes "resp" ∷ []) ∷ []
 
--- and where one does: its value, and maybe the word. The number 1 is in the range of each option but the recoveries of
--- `live`, which are 0
+-- and where one does: its value, and maybe the word. The number 1 is in the range of each option
 abbrev pub value_endings : List (List Text)
 value_endings =
     (codes "1" ∷ []) ∷ (codes "1" ∷ codes "make" ∷ []) ∷ (codes "1" ∷ codes "live" ∷ [])
-    ∷ (codes "1" ∷ codes "resp" ∷ []) ∷ (codes "0" ∷ []) ∷ (codes "0" ∷ codes "live" ∷ []) ∷ []
+    ∷ (codes "1" ∷ codes "resp" ∷ []) ∷ []
 
 -- a command line can begin with the words
 unfoldable pub is_beginning : List Text → Bool

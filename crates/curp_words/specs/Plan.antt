@@ -4,12 +4,12 @@ use Rattle.curp_msg.specs.Limits.{step_limit}
 use Rattle.curp_msg.specs.Script.{IsHeader}
 use Rattle.curp_msg.specs.declared.script.Header.{Header}
 use Rattle.curp_msg.specs.declared.script.Protocol.TheVariants.{One}
-use Rattle.curp_words.specs.declared.order.LivePlan.{LivePlan}
-use Rattle.curp_words.specs.declared.order.MakePlan.{MakePlan}
-use Rattle.curp_words.specs.declared.order.Order.{Order}
-use Rattle.curp_words.specs.declared.order.Order.TheVariants.{Play, Make, Live, Check, Resp}
-use Rattle.curp_words.specs.declared.order.RespOutput.TheVariants.{Replies}
-use Rattle.curp_words.specs.declared.order.RespPlan.{RespPlan}
+use Rattle.curp_words.specs.declared.task.LivePlan.{LivePlan}
+use Rattle.curp_words.specs.declared.task.MakePlan.{MakePlan}
+use Rattle.curp_words.specs.declared.task.Task.{Task}
+use Rattle.curp_words.specs.declared.task.Task.TheVariants.{Play, Make, Live, Check, Resp, Manage}
+use Rattle.curp_words.specs.declared.task.RespOutput.TheVariants.{Replies}
+use Rattle.curp_words.specs.declared.task.RespPlan.{RespPlan}
 
 -- the plan of `make` with no option
 abbrev pub default_plan : MakePlan
@@ -17,7 +17,7 @@ default_plan = record { number = 1; f = 3; sets = 64; ways = 4; clients = 8; par
 
 -- the plan of `live` with no option
 abbrev pub default_live_plan : LivePlan
-default_live_plan = record { number = 1; f = 3; sets = 64; ways = 4; clients = 8; parts = 2; protocol = One; commands = 50; recoveries = 0 }
+default_live_plan = record { number = 1; f = 3; sets = 64; ways = 4; clients = 8; parts = 2; protocol = One; commands = 50; recoveries = 3 }
 
 -- the plan of `resp` with no option
 abbrev pub default_resp_plan : RespPlan
@@ -60,17 +60,18 @@ pub record IsLivePlan (plan : LivePlan) : Type 0 where
   pub header : IsHeader (live_header plan)
   pub clients : plan.clients ≤ 16
   pub commands : (1 ≤ plan.commands) × (plan.commands ≤ 100)
-  pub recoveries : plan.recoveries ≡ 0
+  pub recoveries : plan.recoveries ≤ 8
 
 -- each number of a plan of `resp` is in its range
 pub record IsRespPlan (plan : RespPlan) : Type 0 where
   pub f : (1 ≤ plan.f) × (plan.f ≤ 5)
   pub every : plan.every ≤ 1000000
 
--- an order with a plan has one in range
-abbrev pub fits : Order → Type 0
+-- a task with a plan has one in range
+abbrev pub fits : Task → Type 0
 fits (Play report) = ⊤
 fits (Make plan output) = IsPlan plan
 fits (Live plan) = IsLivePlan plan
 fits Check = ⊤
+fits Manage = ⊤
 fits (Resp plan) = IsRespPlan plan

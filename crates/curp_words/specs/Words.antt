@@ -12,18 +12,18 @@ use Rattle.curp_msg.specs.Limits.{step_limit}
 use Rattle.curp_msg.specs.declared.script.Protocol.{Protocol}
 use Rattle.curp_msg.specs.declared.script.Protocol.TheVariants.{One, Two}
 use Rattle.curp_words.specs.Numbers.{number_within}
-use Rattle.curp_words.specs.declared.order.LivePlan.{LivePlan}
-use Rattle.curp_words.specs.declared.order.MakePlan.{MakePlan}
-use Rattle.curp_words.specs.declared.order.Order.{Order}
-use Rattle.curp_words.specs.declared.order.Order.TheVariants.{Play, Make, Live, Check, Resp}
-use Rattle.curp_words.specs.declared.order.Output.{Output}
-use Rattle.curp_words.specs.declared.order.Output.TheVariants.{Script, Summary}
-use Rattle.curp_words.specs.declared.order.Report.TheVariants.{Steps, History}
-use Rattle.curp_words.specs.declared.order.RespOutput.{RespOutput}
-use Rattle.curp_words.specs.declared.order.RespOutput.TheVariants as shown
-use Rattle.curp_words.specs.declared.order.RespPlan.{RespPlan}
-use Rattle.curp_words.specs.declared.order.WordsError.{WordsError}
-use Rattle.curp_words.specs.declared.order.WordsError.TheVariants.{Usage, NoMemory}
+use Rattle.curp_words.specs.declared.task.LivePlan.{LivePlan}
+use Rattle.curp_words.specs.declared.task.MakePlan.{MakePlan}
+use Rattle.curp_words.specs.declared.task.Task.{Task}
+use Rattle.curp_words.specs.declared.task.Task.TheVariants.{Play, Make, Live, Check, Resp, Manage}
+use Rattle.curp_words.specs.declared.task.Output.{Output}
+use Rattle.curp_words.specs.declared.task.Output.TheVariants.{Script, Summary}
+use Rattle.curp_words.specs.declared.task.Report.TheVariants.{Steps, History}
+use Rattle.curp_words.specs.declared.task.RespOutput.{RespOutput}
+use Rattle.curp_words.specs.declared.task.RespOutput.TheVariants as shown
+use Rattle.curp_words.specs.declared.task.RespPlan.{RespPlan}
+use Rattle.curp_words.specs.declared.task.WordsError.{WordsError}
+use Rattle.curp_words.specs.declared.task.WordsError.TheVariants.{Usage, NoMemory}
 
 -- ---- the options
 
@@ -130,7 +130,7 @@ abbrev pub given_by : Options → List Text → Option GivenOptions
 given_by options words =
     if list_all is_well_formed words then option_and_then if_once (given_from options None [] words) else None
 
--- ---- the orders
+-- ---- the tasks
 
 -- what f gives for x, where there is an x
 abbrev pub with : {X Y : Type 0} → Option X → (X → Option Y) → Option Y
@@ -180,7 +180,7 @@ live_plan_by value =
     with (number_within 1 16 2 (value (codes "parts"))) (λ parts.
     with (protocol_by value) (λ protocol.
     with (number_within 1 100 50 (value (codes "commands"))) (λ commands.
-    with (number_within 0 0 0 (value (codes "recoveries"))) (λ recoveries.
+    with (number_within 0 8 3 (value (codes "recoveries"))) (λ recoveries.
     Some (record {
       number = number;
       f = f;
@@ -213,64 +213,67 @@ resp_plan_by value =
     with (number_within 0 1000000 0 (value (codes "every"))) (λ every.
     Some (record { f = f; every = every; output = resp_output_by value })))
 
--- the order of a command line with values by these names, if its word is `make`
-abbrev pub order_by : (Text → Option Text) → Option Order
-order_by value =
+-- the task of a command line with values by these names, if its word is `make`
+abbrev pub make_task_by : (Text → Option Text) → Option Task
+make_task_by value =
     if is_text (codes "make") (value (codes "command"))
     then option_map (λ plan. Make plan (output_by value)) (plan_by value) else None
 
 -- the same, if its word is `live`
-abbrev pub live_order_by : (Text → Option Text) → Option Order
-live_order_by value =
+abbrev pub live_task_by : (Text → Option Text) → Option Task
+live_task_by value =
     if is_text (codes "live") (value (codes "command"))
     then option_map (λ plan. Live plan) (live_plan_by value) else None
 
 -- the same, if its word is `resp`
-abbrev pub resp_order_by : (Text → Option Text) → Option Order
-resp_order_by value =
+abbrev pub resp_task_by : (Text → Option Text) → Option Task
+resp_task_by value =
     if is_text (codes "resp") (value (codes "command"))
     then option_map (λ plan. Resp plan) (resp_plan_by value) else None
 
--- the one word `play`, or `check`
-abbrev pub one_word : Text → Option Order
+-- the one word `play`, `check` or `manage`
+abbrev pub one_word : Text → Option Task
 one_word word =
-    if bytes_eq word (codes "play") then Some (Play Steps) else (if bytes_eq word (codes "check") then Some Check else None)
+    if bytes_eq word (codes "play") then Some (Play Steps)
+    else if bytes_eq word (codes "check") then Some Check
+    else if bytes_eq word (codes "manage") then Some Manage
+    else None
 
 -- `play` with its one option, before it or behind it
-abbrev pub two_words : Text → Text → Option Order
+abbrev pub two_words : Text → Text → Option Task
 two_words word next =
     if (bytes_eq word (codes "play") && bytes_eq next (codes "--history"))
     || (bytes_eq word (codes "--history") && bytes_eq next (codes "play"))
     then Some (Play History) else None
 
 -- what words ask for with no number in them
-abbrev pub plain_in : List Text → Option Order
+abbrev pub plain_in : List Text → Option Task
 plain_in [] = None
 plain_in (word ∷ []) = one_word word
 plain_in (word ∷ next ∷ []) = two_words word next
 plain_in (word ∷ next ∷ other ∷ words) = None
 
--- the order of a command line with these options, where `order` says it by their values
-abbrev pub order_with : Options → ((Text → Option Text) → Option Order) → List Text → Option Order
-order_with options order words = option_and_then (λ given. order (value_of given)) (given_by options words)
+-- the task of a command line with these options, where `task` says it by their values
+abbrev pub task_with : Options → ((Text → Option Text) → Option Task) → List Text → Option Task
+task_with options task words = option_and_then (λ given. task (value_of given)) (given_by options words)
 
 -- the word `make` with options
-abbrev pub make_in : List Text → Option Order
-make_in words = order_with make_options order_by words
+abbrev pub make_in : List Text → Option Task
+make_in words = task_with make_options make_task_by words
 
 -- the word `live` with options
-abbrev pub live_in : List Text → Option Order
-live_in words = order_with live_options live_order_by words
+abbrev pub live_in : List Text → Option Task
+live_in words = task_with live_options live_task_by words
 
 -- the word `resp` with options
-abbrev pub resp_in : List Text → Option Order
-resp_in words = order_with resp_options resp_order_by words
+abbrev pub resp_in : List Text → Option Task
+resp_in words = task_with resp_options resp_task_by words
 
 -- what the words behind the program's name ask for; none where they are no command line
-abbrev pub order_in : List Text → Option Order
-order_in words = option_or (plain_in words) (option_or (make_in words) (option_or (live_in words) (resp_in words)))
+abbrev pub task_in : List Text → Option Task
+task_in words = option_or (plain_in words) (option_or (make_in words) (option_or (live_in words) (resp_in words)))
 
--- ---- what is no order
+-- ---- what is no task
 
 -- the error of words that the parser refuses
 abbrev pub refusal : ErrorKind → WordsError

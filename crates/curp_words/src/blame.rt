@@ -1,9 +1,9 @@
 ghost use Rattle.std.specs.Prelude.{◌≡◌, ◌++◌, IfOk, is_some};
 ghost use Rattle.clap.specs.Walk.{texts};
 ghost use Rattle.curp_words.specs.Blame.{IsBlamed, is_beginning, is_line_with, value_endings, word_endings};
-ghost use Rattle.curp_words.specs.Words.{order_in};
+ghost use Rattle.curp_words.specs.Words.{task_in};
 
-use crate::order::WordsError;
+use crate::task::WordsError;
 use crate::words::read;
 use curp_base::NoMemory;
 use std::alloc::{AllocError, Global};
@@ -50,15 +50,13 @@ fn lacks_value(alloc: Global, words: &[&str]) -> Result<bool, NoMemory>
         is_line(alloc, words, &["1"])?
             || is_line(alloc, words, &["1", "make"])?
             || is_line(alloc, words, &["1", "live"])?
-            || is_line(alloc, words, &["1", "resp"])?
-            || is_line(alloc, words, &["0"])?
-            || is_line(alloc, words, &["0", "live"])?,
+            || is_line(alloc, words, &["1", "resp"])?,
     )
 }
 
 // Whether the words are a command line with these behind them.
 fn is_line(alloc: Global, words: &[&str], ending: &[&str]) -> Result<bool, NoMemory>
-    ensures { IfOk result (λ so. so ≡ is_some (order_in (texts words.now ++ texts ending.now))) }
+    ensures { IfOk result (λ so. so ≡ is_some (task_in (texts words.now ++ texts ending.now))) }
 {
     let mut line = Vec::new(alloc);
     line.extend_from_slice(words)?;

@@ -2,11 +2,11 @@ ghost use Rattle.std.specs.Prelude.{◌≡◌, IfOk};
 ghost use Rattle.clap.specs.Matches.{first_value, found_of};
 ghost use Rattle.clap.specs.Simple.{app_of};
 ghost use Rattle.curp_words.specs.Command.{live_app};
-ghost use Rattle.curp_words.specs.Words.{live_order_by, live_plan_by};
+ghost use Rattle.curp_words.specs.Words.{live_task_by, live_plan_by};
 
 use crate::options::{F, NUMBER, PARTS, PROTOCOL, SETS, WAYS, command_with, read_protocol};
-use crate::order::{LivePlan, Order};
 use crate::setting::Setting;
+use crate::task::{LivePlan, Task};
 use clap::{ArgMatches, Command};
 use std::alloc::{AllocError, Global};
 
@@ -27,8 +27,8 @@ const COMMANDS: Setting = Setting {
 const RECOVERIES: Setting = Setting {
     name: "recoveries",
     least: 0,
-    most: 0,
-    default: 0,
+    most: 8,
+    default: 3,
 };
 
 /// A parser of `live` with its options, for words without the program's name.
@@ -41,12 +41,12 @@ pub(crate) fn live_command<'a>(alloc: Global) -> Result<Command<'a>, AllocError>
     command_with(alloc, &settings)
 }
 
-/// The order that the values of the words are.
-pub(crate) fn live_order(matches: &ArgMatches<'_>) -> Option<Order>
-    ensures { result ≡ live_order_by (first_value (found_of matches.now)) }
+/// The task that the values of the words are.
+pub(crate) fn live_task(matches: &ArgMatches<'_>) -> Option<Task>
+    ensures { result ≡ live_task_by (first_value (found_of matches.now)) }
 {
     match matches.get_str("command")? {
-        "live" => Some(Order::Live(live_plan(matches)?)),
+        "live" => Some(Task::Live(live_plan(matches)?)),
         _ => None,
     }
 }

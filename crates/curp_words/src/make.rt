@@ -2,11 +2,11 @@ ghost use Rattle.std.specs.Prelude.{◌≡◌, IfOk};
 ghost use Rattle.clap.specs.Matches.{first_value, found_of};
 ghost use Rattle.clap.specs.Simple.{app_of};
 ghost use Rattle.curp_words.specs.Command.{make_app, valued_app};
-ghost use Rattle.curp_words.specs.Words.{make_options, order_by, output_by, plan_by};
+ghost use Rattle.curp_words.specs.Words.{make_options, make_task_by, output_by, plan_by};
 
 use crate::options::{F, NUMBER, PARTS, PROTOCOL, SETS, WAYS, command_with, flag, read_protocol};
-use crate::order::{MakePlan, Order, Output};
 use crate::setting::Setting;
+use crate::task::{MakePlan, Output, Task};
 use clap::{ArgMatches, Command};
 use curp_msg::STEP_LIMIT;
 use std::alloc::{AllocError, Global};
@@ -49,12 +49,12 @@ fn numbered_command<'a>(alloc: Global) -> Result<Command<'a>, AllocError>
     command_with(alloc, &settings)
 }
 
-/// The order that the values of the words are.
-pub(crate) fn make_order(matches: &ArgMatches<'_>) -> Option<Order>
-    ensures { result ≡ order_by (first_value (found_of matches.now)) }
+/// The task that the values of the words are.
+pub(crate) fn make_task(matches: &ArgMatches<'_>) -> Option<Task>
+    ensures { result ≡ make_task_by (first_value (found_of matches.now)) }
 {
     match matches.get_str("command")? {
-        "make" => Some(Order::Make(make_plan(matches)?, output(matches))),
+        "make" => Some(Task::Make(make_plan(matches)?, output(matches))),
         _ => None,
     }
 }

@@ -2,11 +2,11 @@ ghost use Rattle.std.specs.Prelude.{◌≡◌, IfOk};
 ghost use Rattle.clap.specs.Matches.{first_value, found_of};
 ghost use Rattle.clap.specs.Simple.{app_of};
 ghost use Rattle.curp_words.specs.Command.{resp_app, valued_app};
-ghost use Rattle.curp_words.specs.Words.{resp_options, resp_order_by, resp_output_by, resp_plan_by};
+ghost use Rattle.curp_words.specs.Words.{resp_options, resp_task_by, resp_output_by, resp_plan_by};
 
 use crate::options::{F, command_with, flag};
-use crate::order::{Order, RespOutput, RespPlan};
 use crate::setting::Setting;
+use crate::task::{RespOutput, RespPlan, Task};
 use clap::{ArgMatches, Command};
 use std::alloc::{AllocError, Global};
 
@@ -31,12 +31,12 @@ fn numbered_command<'a>(alloc: Global) -> Result<Command<'a>, AllocError>
     command_with(alloc, &[F, EVERY])
 }
 
-/// The order that the values of the words are.
-pub(crate) fn resp_order(matches: &ArgMatches<'_>) -> Option<Order>
-    ensures { result ≡ resp_order_by (first_value (found_of matches.now)) }
+/// The task that the values of the words are.
+pub(crate) fn resp_task(matches: &ArgMatches<'_>) -> Option<Task>
+    ensures { result ≡ resp_task_by (first_value (found_of matches.now)) }
 {
     match matches.get_str("command")? {
-        "resp" => Some(Order::Resp(resp_plan(matches)?)),
+        "resp" => Some(Task::Resp(resp_plan(matches)?)),
         _ => None,
     }
 }

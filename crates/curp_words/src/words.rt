@@ -6,30 +6,30 @@ ghost use Rattle.clap.specs.Simple.{app_of};
 ghost use Rattle.clap.specs.Walk.{texts};
 ghost use Rattle.curp_words.specs.Command.{IsRefused, ParserTakes};
 ghost use Rattle.curp_words.specs.Plan.{fits};
-ghost use Rattle.curp_words.specs.Words.{is_well_formed, live_in, make_in, one_word, order_in, plain_in, resp_in, two_words};
+ghost use Rattle.curp_words.specs.Words.{is_well_formed, live_in, make_in, one_word, task_in, plain_in, resp_in, two_words};
 
-use crate::live::{live_command, live_order};
-use crate::make::{make_command, make_order};
-use crate::order::{Order, Report, WordsError};
-use crate::resp::{resp_command, resp_order};
+use crate::live::{live_command, live_task};
+use crate::make::{make_command, make_task};
+use crate::resp::{resp_command, resp_task};
+use crate::task::{Report, Task, WordsError};
 use clap::{ArgMatches, Command};
 use std::alloc::Global;
 
-/// What the words behind the program's name ask for: `check`, or `play`, `make`, `live` or `resp` with its options, which
-/// stand before the word or behind it, in any order and each at most once. An option has its value behind `=` or as the
-/// next word. The value is a number of one to twenty decimal digits. Only `--summary`, `--history` and `--script` have
-/// no value.
+/// What the words behind the program's name ask for: `check` or `manage`, or `play`, `make`, `live` or `resp` with its
+/// options, which stand before the word or behind it, in any order and each at most once. An option has its value
+/// behind `=` or as the next word. The value is a number of one to twenty decimal digits. Only `--summary`, `--history`
+/// and `--script` have no value.
 ///
 /// Want of memory may come for any words.
-pub fn read(alloc: Global, words: &[&str]) -> Result<Order, WordsError>
-    ensures order { IfOk result (λ order. order_in (texts words.now) ≡ Some order) }
-    ensures usage { result ≡ Err WordsError.Usage → order_in (texts words.now) ≡ None }
-    ensures no_order { order_in (texts words.now) ≡ None
+pub fn read(alloc: Global, words: &[&str]) -> Result<Task, WordsError>
+    ensures task { IfOk result (λ task. task_in (texts words.now) ≡ Some task) }
+    ensures usage { result ≡ Err WordsError.Usage → task_in (texts words.now) ≡ None }
+    ensures no_task { task_in (texts words.now) ≡ None
         → (result ≡ Err WordsError.Usage) ⊎ (result ≡ Err WordsError.NoMemory) }
     ensures in_range { IfOk result fits }
 {
-    if let Some(order) = plain_order(words) {
-        return Ok(order);
+    if let Some(task) = plain_task(words) {
+        return Ok(task);
     }
     match read_make(alloc, words) {
         Err(WordsError::Usage) => read_other(alloc, words),
@@ -38,8 +38,8 @@ pub fn read(alloc: Global, words: &[&str]) -> Result<Order, WordsError>
 }
 
 // The same, of words that are none of `make`.
-fn read_other(alloc: Global, words: &[&str]) -> Result<Order, WordsError>
-    ensures order { IfOk result (λ order. option_or (live_in (texts words.now)) (resp_in (texts words.now)) ≡ Some order) }
+fn read_other(alloc: Global, words: &[&str]) -> Result<Task, WordsError>
+    ensures task { IfOk result (λ task. option_or (live_in (texts words.now)) (resp_in (texts words.now)) ≡ Some task) }
     ensures err { IfErr result (λ error. error ≢ WordsError.NoMemory
         → option_or (live_in (texts words.now)) (resp_in (texts words.now)) ≡ None) }
     ensures in_range { IfOk result fits }
@@ -51,7 +51,7 @@ fn read_other(alloc: Global, words: &[&str]) -> Result<Order, WordsError>
 }
 
 // What words ask for that the parser doesn't see.
-fn plain_order(words: &[&str]) -> Option<Order>
+fn plain_task(words: &[&str]) -> Option<Task>
     ensures { result ≡ plain_in (texts words.now) }
 {
     match words {
@@ -61,50 +61,51 @@ fn plain_order(words: &[&str]) -> Option<Order>
     }
 }
 
-fn one_word(word: &str) -> Option<Order>
+fn one_word(word: &str) -> Option<Task>
     ensures { result ≡ one_word word.now }
 {
     match word {
-        "play" => Some(Order::Play(Report::Steps)),
-        "check" => Some(Order::Check),
+        "play" => Some(Task::Play(Report::Steps)),
+        "check" => Some(Task::Check),
+        "manage" => Some(Task::Manage),
         _ => None,
     }
 }
 
 // `play` with its one option, before it or behind it.
-fn two_words(word: &str, next: &str) -> Option<Order>
+fn two_words(word: &str, next: &str) -> Option<Task>
     ensures { result ≡ two_words word.now next.now }
 {
     let is_option_behind = word == "play" && next == "--history";
     let is_option_before = word == "--history" && next == "play";
-    (is_option_behind || is_option_before).then_some(Order::Play(Report::History))
+    (is_option_behind || is_option_before).then_some(Task::Play(Report::History))
 }
 
 // The same, of `make` alone.
-fn read_make(alloc: Global, words: &[&str]) -> Result<Order, WordsError>
-    ensures order { IfOk result (λ order. make_in (texts words.now) ≡ Some order) }
+fn read_make(alloc: Global, words: &[&str]) -> Result<Task, WordsError>
+    ensures task { IfOk result (λ task. make_in (texts words.now) ≡ Some task) }
     ensures err { IfErr result (λ error. error ≢ WordsError.NoMemory → make_in (texts words.now) ≡ None) }
 {
     let matches = parsed(make_command(alloc)?, words)?;
-    make_order(&matches).ok_or(WordsError::Usage)
+    make_task(&matches).ok_or(WordsError::Usage)
 }
 
 // The same, of `live` alone.
-fn read_live(alloc: Global, words: &[&str]) -> Result<Order, WordsError>
-    ensures order { IfOk result (λ order. live_in (texts words.now) ≡ Some order) }
+fn read_live(alloc: Global, words: &[&str]) -> Result<Task, WordsError>
+    ensures task { IfOk result (λ task. live_in (texts words.now) ≡ Some task) }
     ensures err { IfErr result (λ error. error ≢ WordsError.NoMemory → live_in (texts words.now) ≡ None) }
 {
     let matches = parsed(live_command(alloc)?, words)?;
-    live_order(&matches).ok_or(WordsError::Usage)
+    live_task(&matches).ok_or(WordsError::Usage)
 }
 
 // The same, of `resp` alone.
-fn read_resp(alloc: Global, words: &[&str]) -> Result<Order, WordsError>
-    ensures order { IfOk result (λ order. resp_in (texts words.now) ≡ Some order) }
+fn read_resp(alloc: Global, words: &[&str]) -> Result<Task, WordsError>
+    ensures task { IfOk result (λ task. resp_in (texts words.now) ≡ Some task) }
     ensures err { IfErr result (λ error. error ≢ WordsError.NoMemory → resp_in (texts words.now) ≡ None) }
 {
     let matches = parsed(resp_command(alloc)?, words)?;
-    resp_order(&matches).ok_or(WordsError::Usage)
+    resp_task(&matches).ok_or(WordsError::Usage)
 }
 
 // What the parser takes, of words that are well formed.

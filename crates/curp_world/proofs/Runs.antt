@@ -14,7 +14,7 @@ use Rattle.curp_script.specs.declared.error.FieldName.{FieldName}
 use Rattle.curp_model.specs.World.{Stepped, World, step, run, opening, result_of, world}
 use Rattle.curp_msg.specs.declared.outcome.Outcome.{Outcome}
 use Rattle.curp_msg.specs.declared.outcome.StepResult.{StepResult}
-use Rattle.curp_cluster.specs.Given.{Steps}
+use Rattle.curp_cluster.specs.Given.{MakesStep}
 use Rattle.curp_world.specs.Reached.{Reached}
 
 pub run_more : (w : World) (ss : List Step) (s : Step) → run w (ss ++ s ∷ []) ≡ (step (run w ss) s).world
@@ -35,29 +35,29 @@ reached_next w s named r = record {
 
 -- a step that may have failed for memory leads on, or leaves the world as it is
 pub reached_after : {E : Type 0} (result : Result Outcome E) (w v : World) (s : Step) → IsStep s → Reached w
-    → Steps w v result (step w s) → Reached v
+    → MakesStep w v result (step w s) → Reached v
 reached_after (Ok o) w v s named r steps = subst Reached (sym steps.0) (reached_next w s named r)
 reached_after (Err e) w v s named r same = subst Reached (sym same) r
 
 -- what is completed stands after it as before
 pub grows_after : {E : Type 0} (result : Result Outcome E) (w v : World) (s : Step) → IsStep s → Reached w
     → ((h : Header) (steps : List Step) → IsRun h steps → (s : Step) → IsStep s → StandsIn (completed_in_order (world h steps)) (completed_in_order (step (world h steps) s).world))
-    → Steps w v result (step w s) → StandsIn (completed_in_order w) (completed_in_order v)
+    → MakesStep w v result (step w s) → StandsIn (completed_in_order w) (completed_in_order v)
 grows_after (Ok o) w v s named r grows steps =
     rw steps.0 (subst (λ (x : World). StandsIn (completed_in_order x) (completed_in_order (step x s).world)) r.is (grows r.header r.steps r.run s named))
 grows_after (Err e) w v s named r grows same = rw same (stands_self (completed_in_order w))
 
 -- the world after it, and its outcome
-pub state_after : {E : Type 0} (result : Result Outcome E) (w v : World) (s : Stepped) → Steps w v result s → OnOk result (v ≡ s.world)
+pub state_after : {E : Type 0} (result : Result Outcome E) (w v : World) (s : Stepped) → MakesStep w v result s → OnOk result (v ≡ s.world)
 state_after (Ok o) w v s steps = steps.0
 state_after (Err e) w v s same = tt
 
-pub outcome_after : {E : Type 0} (result : Result Outcome E) (w v : World) (s : Stepped) → Steps w v result s
+pub outcome_after : {E : Type 0} (result : Result Outcome E) (w v : World) (s : Stepped) → MakesStep w v result s
     → IfOk result (λ o. o ≡ s.outcome)
 outcome_after (Ok o) w v s steps = steps.1
 outcome_after (Err e) w v s same = tt
 
-pub same_after : {E : Type 0} (result : Result Outcome E) (w v : World) (s : Stepped) → Steps w v result s → OnErr result (v ≡ w)
+pub same_after : {E : Type 0} (result : Result Outcome E) (w v : World) (s : Stepped) → MakesStep w v result s → OnErr result (v ≡ w)
 same_after (Ok o) w v s steps = tt
 same_after (Err e) w v s same = same
 

@@ -1,24 +1,24 @@
 use Rattle.std.proofs.Common.{rules}
 use Rattle.clap.specs.Simple.{app_of}
 use Rattle.clap.specs.Walk.{texts}
-use Rattle.curp_words.specs.Words.{resp_options, resp_order_by}
-use Rattle.curp_words.proofs.Orders.{resp_reads}
+use Rattle.curp_words.specs.Words.{resp_options, resp_task_by}
+use Rattle.curp_words.proofs.Tasks.{resp_reads}
 use Rattle.curp_words.proofs.Parses.{by_fault, by_matches}
 use Rattle.curp_words.proofs.words.read_resp.Goals as goal
 
 pub returns-in_err-matches-clause-err : goal.returns-in_err-matches-clause-err
 returns-in_err-matches-clause-err c =
-    by_fault resp_options resp_order_by resp_reads (app_of c.in_ok-resp_command.field-0) c.in_ok-resp_command.ensures (texts c.args.words.now)
+    by_fault resp_options resp_task_by resp_reads (app_of c.in_ok-resp_command.field-0) c.in_ok-resp_command.ensures (texts c.args.words.now)
     c.in_err-matches.field-0.0 c.in_err-matches.ensures.err c.from_residual-in_err-matches.result (search rules)
 
-pub returns-clause-order : goal.returns-clause-order
-returns-clause-order c =
-    let read = by_matches resp_options resp_order_by resp_reads (app_of c.in_ok-resp_command.field-0) c.in_ok-resp_command.ensures (texts c.args.words.now)
-    c.in_ok-matches.matches c.in_ok-matches.ensures.ok c.resp_order.result c.resp_order.ensures c.ok_or.result c.ok_or.ensures.value in
+pub returns-clause-task : goal.returns-clause-task
+returns-clause-task c =
+    let read = by_matches resp_options resp_task_by resp_reads (app_of c.in_ok-resp_command.field-0) c.in_ok-resp_command.ensures (texts c.args.words.now)
+    c.in_ok-matches.matches c.in_ok-matches.ensures.ok c.resp_task.result c.resp_task.ensures c.ok_or.result c.ok_or.ensures.value in
     read.0
 
 pub returns-clause-err : goal.returns-clause-err
 returns-clause-err c =
-    let read = by_matches resp_options resp_order_by resp_reads (app_of c.in_ok-resp_command.field-0) c.in_ok-resp_command.ensures (texts c.args.words.now)
-    c.in_ok-matches.matches c.in_ok-matches.ensures.ok c.resp_order.result c.resp_order.ensures c.ok_or.result c.ok_or.ensures.value in
+    let read = by_matches resp_options resp_task_by resp_reads (app_of c.in_ok-resp_command.field-0) c.in_ok-resp_command.ensures (texts c.args.words.now)
+    c.in_ok-matches.matches c.in_ok-matches.ensures.ok c.resp_task.result c.resp_task.ensures c.ok_or.result c.ok_or.ensures.value in
     read.1

@@ -2,7 +2,7 @@ use Rattle.std.proofs.Common.{sym, subst}
 use Rattle.curp_base.specs.Words.{numbered}
 use Rattle.curp_model.specs.World.{messages}
 use Rattle.curp_msg.specs.declared.outcome.StepResult.TheVariants.{NoMessage}
-use Rattle.curp_cluster.specs.Given.{Steps}
+use Rattle.curp_cluster.specs.Given.{MakesStep}
 use Rattle.curp_cluster.proofs.Keeping.{nothing_done}
 use Rattle.curp_cluster.proofs.Stepping.{delivers, loses, message_to, no_message}
 use Rattle.curp_cluster.proofs.cluster.Cluster.deliver.Goals as goal
@@ -13,7 +13,7 @@ hand-requires c = message_to c.args.self.now c.args.message c.in-Some.to (sym c.
 pub returns-in-Some : goal.returns-in-Some
 returns-in-Some c =
     let same = sym (delivers c.args.self.now c.args.message c.in-Some.to (message_to c.args.self.now c.args.message c.in-Some.to (sym c.in-Some.ensures))) in
-    subst (Steps c.args.self.now c.hand.new.self c.hand.result) same c.hand.ensures
+    subst (MakesStep c.args.self.now c.hand.new.self c.hand.result) same c.hand.ensures
 
 pub returns-in-None : goal.returns-in-None
 returns-in-None c =

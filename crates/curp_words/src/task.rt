@@ -8,7 +8,7 @@ use thiserror::Error;
 
 /// What a run of the program is to do.
 #[derive(Clone, Copy, PartialEq, Eq)]
-pub enum Order {
+pub enum Task {
     /// A script is read from standard input and played.
     Play(Report),
     /// A script is made by the plan.
@@ -19,6 +19,8 @@ pub enum Order {
     Check,
     /// Requests are read from standard input and served by a cluster of the plan.
     Resp(RespPlan),
+    /// Orders for a manager are read from standard input, and given to one whose journal crashes where they say so.
+    Manage,
 }
 
 /// What `play` writes of a script.
@@ -88,7 +90,7 @@ pub enum Output {
     Summary,
 }
 
-/// Why there is no order.
+/// Why there is no task.
 #[derive(Clone, Copy, Debug, PartialEq, Eq, Error)]
 pub enum WordsError {
     /// The words are no command line.
@@ -172,7 +174,7 @@ impl Default for LivePlan {
             parts: 2,
             protocol: Protocol::One,
             commands: 50,
-            recoveries: 0,
+            recoveries: 3,
         }
     }
 }
@@ -194,7 +196,7 @@ impl Default for RespPlan {
 
 impl From<AllocError> for WordsError {
     ghost use Rattle.std.specs.Prelude.{◌≡◌};
-    ghost use Rattle.curp_words.specs.declared.order.WordsError.TheVariants as error;
+    ghost use Rattle.curp_words.specs.declared.task.WordsError.TheVariants as error;
 
     ghost from_gives = { λ _ e. e ≡ error.NoMemory };
 

@@ -1,11 +1,11 @@
--- The orders of `make`, `live` and `resp`, by what clap makes of the words.
+-- The tasks of `make`, `live` and `resp`, by what clap makes of the words.
 use Rattle.std.proofs.Common.{◌≡◌, ◌∙◌, cond, refl, ap, ap₂, Option, None, codes}
 use Rattle.std.specs.Prelude.{option_map}
 use Rattle.clap.specs.Walk.{Text}
-use Rattle.curp_words.specs.Words.{is_text, live_options, live_order_by, live_plan_by, make_options, order_by, output_by, plan_by, resp_options, resp_order_by, resp_output_by, resp_plan_by}
-use Rattle.curp_words.specs.declared.order.Order.TheVariants.{Live, Make, Resp}
-use Rattle.curp_words.specs.declared.order.Output.TheVariants.{Script, Summary}
-use Rattle.curp_words.specs.declared.order.RespOutput.TheVariants as shown
+use Rattle.curp_words.specs.Words.{is_text, live_options, live_task_by, live_plan_by, make_options, make_task_by, output_by, plan_by, resp_options, resp_task_by, resp_output_by, resp_plan_by}
+use Rattle.curp_words.specs.declared.task.Task.TheVariants.{Live, Make, Resp}
+use Rattle.curp_words.specs.declared.task.Output.TheVariants.{Script, Summary}
+use Rattle.curp_words.specs.declared.task.RespOutput.TheVariants as shown
 use Rattle.curp_words.proofs.Parses.{IsWord, ReadsBy, SameValues}
 
 is_make : IsWord make_options
@@ -48,26 +48,26 @@ same_resp_plan f g same =
     let output : resp_output_by f ≡ resp_output_by g = ap (λ b. cond b shown.Script shown.Replies) (same.flags (codes "script")) in
     rw (same.values (codes "f") refl, same.values (codes "every") refl, output) refl
 
-same_order : (f g : Text → Option Text) → SameValues make_options f g → order_by f ≡ order_by g
-same_order f g same =
+same_task : (f g : Text → Option Text) → SameValues make_options f g → make_task_by f ≡ make_task_by g
+same_task f g same =
     ap (λ o. cond (is_text (codes "make") o) (option_map (λ plan. Make plan (output_by f)) (plan_by f)) None) (same.values (codes "command") refl)
     ∙ ap₂ (λ plan output. cond (is_text (codes "make") (g (codes "command"))) (option_map (λ p. Make p output) plan) None)
     (same_plan f g same) (ap (λ b. cond b Summary Script) (same.flags (codes "summary")))
 
-same_live_order : (f g : Text → Option Text) → SameValues live_options f g → live_order_by f ≡ live_order_by g
-same_live_order f g same =
+same_live_task : (f g : Text → Option Text) → SameValues live_options f g → live_task_by f ≡ live_task_by g
+same_live_task f g same =
     ap₂ (λ o plan. cond (is_text (codes "live") o) (option_map (λ p. Live p) plan) None) (same.values (codes "command") refl) (same_live_plan f g same)
 
-same_resp_order : (f g : Text → Option Text) → SameValues resp_options f g → resp_order_by f ≡ resp_order_by g
-same_resp_order f g same =
+same_resp_task : (f g : Text → Option Text) → SameValues resp_options f g → resp_task_by f ≡ resp_task_by g
+same_resp_task f g same =
     ap₂ (λ o plan. cond (is_text (codes "resp") o) (option_map (λ p. Resp p) plan) None) (same.values (codes "command") refl) (same_resp_plan f g same)
 
 -- what each word needs for reading
-pub make_reads : ReadsBy make_options order_by
-make_reads = record { word = is_make; same = same_order }
+pub make_reads : ReadsBy make_options make_task_by
+make_reads = record { word = is_make; same = same_task }
 
-pub live_reads : ReadsBy live_options live_order_by
-live_reads = record { word = is_live; same = same_live_order }
+pub live_reads : ReadsBy live_options live_task_by
+live_reads = record { word = is_live; same = same_live_task }
 
-pub resp_reads : ReadsBy resp_options resp_order_by
-resp_reads = record { word = is_resp; same = same_resp_order }
+pub resp_reads : ReadsBy resp_options resp_task_by
+resp_reads = record { word = is_resp; same = same_resp_task }
