@@ -11,10 +11,7 @@ use curp_seat::Kept;
 use std::alloc::Global;
 
 /// The journals of all nodes as strands: the manager's, the clients', the masters', the backups' and the witnesses'.
-pub(crate) fn strands_of<'a>(
-    alloc: Global,
-    journals: &'a Journals,
-) -> Result<Vec<Strand<'a>>, NoMemory>
+pub fn strands_of<'a>(alloc: Global, journals: &'a Journals) -> Result<Vec<Strand<'a>>, NoMemory>
     ensures strands { IfOk result (λ strands. strands.items ≡ journals_of journals.now) }
     ensures replayed { IfOk result (λ strands. AreReplayed journals.now) }
 {

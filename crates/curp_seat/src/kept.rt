@@ -112,6 +112,13 @@ impl<N: Core> Kept<N> {
         })
     }
 
+    /// The stamp of the last item, 0 where there is none.
+    pub fn last_stamp(&self) -> u64
+        ensures { result ≡ last_stamp 0 self.now.items }
+    {
+        self.last
+    }
+
     /// Adds the last stop. It takes no memory.
     pub fn mark_stop(&mut self)
         requires { self.old.ended ≡ false }

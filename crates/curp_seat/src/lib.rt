@@ -7,20 +7,37 @@
 //!   stamp would pass 2^64 - 1, which is answered by 255; after want of memory it is as it was. `again` gives the
 //!   inputs to a node anew; it gives nothing where the node refuses one of them, and the same journal where it is the
 //!   node that the journal was begun with.
-//! - `Seat` is a `Kept` under a lock, with an inbox under another, so that `post` never waits for a step. No clause can
-//!   say what lies under a lock: what holds is the invariant of `Kept`. A `Gate` is told before each step.
+//! - `Running` is a `Kept` that hasn't stopped. `make` tells a `Gate` of a step before it is made, makes it as `step`
+//!   does, and gives what it sent, with names.
+//! - `Chores` say what a node is ordered by its own threads, by what kind of input it took (`Took`) and what it completed.
+//! - `Seat` is a `Running` with its `Chores` under a lock, and an inbox under another, so that `post` never waits for a
+//!   step. Several threads may work at it: each takes the next input, in the order of the posts, and makes that step and
+//!   all that the chores order behind it. An end comes before all that waits. No clause can say what lies under a lock:
+//!   what holds is the invariant of `Running`.
+//! - `Framed` is a message with its name on its way between seats, seen as that. A message that is light crosses as the
+//!   frame that `curp_wire` writes of it, and is decoded by who takes it; another crosses as it is. Its type keeps that.
 #![tactic(auto)]
 
+mod chores;
+mod framed;
 mod gate;
+mod inbox;
 mod kept;
 mod making;
 mod naming;
 mod opening;
+mod parcel;
 mod replay;
+mod running;
 mod seat;
+mod took;
 
+pub use chores::{Chores, NoChores};
+pub use framed::Framed;
 pub use gate::{Gate, OpenGate, Point};
 pub use kept::Kept;
 pub use naming::Sent;
 pub use replay::again;
-pub use seat::{Seat, Worked};
+pub use running::{Made, Running};
+pub use seat::{Seat, Turn, Worked};
+pub use took::Took;

@@ -3,7 +3,8 @@ ghost use Rattle.std.specs.Borrow.{ftrue};
 
 use std::marker::{Model, PhantomData};
 
-/// The state that a node began with, which only contracts see. It takes no bytes.
+/// A value as it was at first, which only contracts see: the state that a node began with, or a message as it was sent.
+/// It takes no bytes.
 #[derive(Drop)]
 pub(crate) struct Opening<N> {
     marker: PhantomData<N>,

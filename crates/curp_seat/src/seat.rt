@@ -1,32 +1,27 @@
 ghost use Rattle.std.specs.Prelude.{◌≡◌, false};
 
-use crate::{Gate, Kept, Point, Sent};
+use crate::inbox::{Inbox, NextInput};
+use crate::parcel::Parcel;
+use crate::{Chores, Gate, Kept, Made, Running, Took};
 use curp_base::NoMemory;
-use curp_journal::Arrived;
+use curp_journal::{Arrived, Named};
 use curp_msg::Core;
 use std::alloc::Global;
-use std::collections::VecDeque;
 use std::sync::{Condvar, Mutex, Wait};
 
-/// A node that hasn't stopped.
+/// A node that hasn't stopped, with its chores.
 #[derive(Drop)]
-struct Running<N: Core> {
+struct Busy<N: Core, C> {
     alloc: Global,
-    kept: Kept<N>,
-    ghost running: { kept.ended ≡ false },
-}
-
-/// What came and waits, and the end, once there is one.
-#[derive(Drop)]
-struct Inbox<E> {
-    waiting: VecDeque<Arrived>,
-    end: Option<E>,
+    running: Running<N>,
+    chores: C,
 }
 
 /// A node with its journal behind a lock, and an inbox behind another, so that a post never waits for a step.
 #[derive(Drop)]
-pub struct Seat<N: Core, E> {
-    running: Mutex<Running<N>>,
+pub struct Seat<N: Core, C, E> {
+    alloc: Global,
+    busy: Mutex<Busy<N, C>>,
     inbox: Mutex<Inbox<E>>,
     came: Condvar,
 }
@@ -34,100 +29,163 @@ pub struct Seat<N: Core, E> {
 /// What a turn of a worker came to.
 #[derive(Drop)]
 pub enum Worked<E> {
-    /// An input was given to the node, which refused it by that number, or did that where it is 0.
-    Stepped { refused: u8, sent: Sent },
+    /// The steps of a turn were made.
+    Turned(Turn),
     /// The work has ended.
     Stopped { end: E },
-    /// There was no memory for the step, or for a copy of what it sent: then it was made.
+    /// There was no memory for a step, or for a copy of what it sent: then it was made.
     NoMemory,
 }
 
-enum NextInput<E> {
-    Input(Arrived),
-    End(E),
+/// An input and the orders that were due behind it, with no other input between them.
+#[derive(Drop)]
+pub struct Turn {
+    /// What kind of input it was.
+    pub took: Took,
+    /// The number by which the node refused it, which is 0 where it was taken.
+    pub refused: u8,
+    /// What the steps sent, in order.
+    pub named: Vec<Named>,
+    /// How many requests the steps completed.
+    pub completed: u64,
+    /// The stamp of the last step that was made.
+    pub stamp: u64,
 }
 
-impl<N: Core, E: Copy + Send> Seat<N, E> {
+impl<N: Core, C: Chores + Send, E: Copy + Send> Seat<N, C, E> {
     /// It takes no memory.
-    pub fn new(alloc: Global, kept: Kept<N>) -> Seat<N, E>
+    pub fn new(alloc: Global, kept: Kept<N>, chores: C) -> Seat<N, C, E>
         requires { kept.ended ≡ false }
     {
         Seat {
-            running: Mutex::new(Running { alloc, kept }),
-            inbox: Mutex::new(Inbox {
-                waiting: VecDeque::new(alloc),
-                end: None,
+            alloc,
+            busy: Mutex::new(Busy {
+                alloc,
+                running: Running::new(alloc, kept),
+                chores,
             }),
+            inbox: Mutex::new(Inbox::new(alloc)),
             came: Condvar::new(),
         }
     }
 
-    /// Puts an input into the inbox. After a stop it is dropped, as a lost message is.
+    /// Puts an input into the inbox, a light message as its frame. After a stop it is dropped, as a lost message is.
     pub fn post<R: Wait>(&self, rt: &R, arrived: Arrived) -> Result<(), NoMemory> {
+        let parcel = Parcel::seal(self.alloc, arrived)?;
         let mut inbox = self.inbox.lock(rt);
-        if inbox.end.is_none() {
-            inbox.waiting.push_back(arrived)?;
-            self.came.notify_one();
-        }
-        Ok(())
+        let posted = inbox.post(parcel);
+        self.came.notify_one();
+        posted
     }
 
     /// Ends the work. The first end counts. It takes no memory.
     pub fn stop<R: Wait>(&self, rt: &R, end: E) {
         let mut inbox = self.inbox.lock(rt);
-        if inbox.end.is_none() {
-            inbox.end = Some(end);
-        }
+        inbox.end_with(end);
         self.came.notify_all();
     }
 
-    /// Waits for an input or a stop, and makes one step under the node's lock.
+    /// Makes the steps that are due before any input, under the node's lock.
+    pub fn begin<R: Wait, G: Gate>(&self, rt: &R, gate: &G) -> Worked<E> {
+        let mut busy = self.busy.lock(rt);
+        busy.begin(rt, gate)
+    }
+
+    /// Waits for an input or a stop, and makes the steps of a turn under the node's lock. Inputs are taken in the order
+    /// in which they were posted, also by several threads: one waits at a time, with the node's lock.
     pub fn work<R: Wait, G: Gate>(&self, rt: &R, gate: &G) -> Worked<E> {
+        let mut busy = self.busy.lock(rt);
         match self.next(rt) {
             NextInput::End(end) => Worked::Stopped { end },
-            NextInput::Input(arrived) => self.running.lock(rt).make(gate, arrived),
+            NextInput::Input(parcel) => busy.receive(rt, gate, parcel),
         }
     }
 
     fn next<R: Wait>(&self, rt: &R) -> NextInput<E> {
         let mut inbox = self.inbox.lock(rt);
         for _ in rt.forever() {
-            if let Some(end) = inbox.end {
-                return NextInput::End(end);
-            }
-            if let Some(arrived) = inbox.waiting.pop_front() {
-                return NextInput::Input(arrived);
+            if let Some(next) = inbox.next() {
+                return next;
             }
             inbox = self.came.wait(rt, inbox);
         }
         unreachable!()
     }
+}
 
-    /// The node with its journal.
-    pub fn into_kept(self) -> Kept<N>
-        ensures running { result.ended ≡ false }
+impl<N: Core, C: Drop, E: Copy> Seat<N, C, E> {
+    /// The node with its journal, and the end of its work, if there was one.
+    pub fn into_kept(self) -> (Kept<N>, Option<E>)
+        ensures running { result.0.ended ≡ false }
     {
-        self.running.into_inner().kept
+        let end = self.inbox.into_inner().end;
+        (self.busy.into_inner().running.into_kept(), end)
     }
 }
 
-impl<N: Core> Running<N> {
-    fn make<G: Gate, E>(&mut self, gate: &G, arrived: Arrived) -> Worked<E> {
-        let count = self.kept.journal().len();
-        gate.reach(Point {
-            node: self.kept.id(),
-            count: count as u64 + 1,
-        });
-        match self.kept.step(arrived) {
+impl<N: Core, C: Chores> Busy<N, C> {
+    fn begin<R: Wait, G: Gate, E>(&mut self, rt: &R, gate: &G) -> Worked<E> {
+        let turn = Turn {
+            took: Took::Order,
+            refused: 0,
+            named: Vec::new(self.alloc),
+            completed: 0,
+            stamp: 0,
+        };
+        self.finish(rt, gate, turn)
+    }
+
+    fn receive<R: Wait, G: Gate, E>(&mut self, rt: &R, gate: &G, parcel: Parcel) -> Worked<E> {
+        match parcel.open(self.alloc) {
+            Ok(arrived) => self.turn(rt, gate, arrived),
             Err(_) => Worked::NoMemory,
-            Ok(0) => match self.kept.sent(count) {
-                Ok(sent) => Worked::Stepped { refused: 0, sent },
-                Err(_) => Worked::NoMemory,
-            },
-            Ok(refused) => Worked::Stepped {
-                refused,
-                sent: Sent::nothing(self.alloc),
-            },
         }
+    }
+
+    fn turn<R: Wait, G: Gate, E>(&mut self, rt: &R, gate: &G, arrived: Arrived) -> Worked<E> {
+        let took = Took::of(&arrived);
+        let Ok(made) = self.running.make(gate, arrived) else {
+            return Worked::NoMemory;
+        };
+        let turn = Turn {
+            took,
+            refused: made.refused,
+            completed: self.note(took, &made),
+            named: made.sent.named,
+            stamp: 0,
+        };
+        self.finish(rt, gate, turn)
+    }
+
+    /// Tells the chores of a step that was made. How many requests it completed.
+    fn note(&mut self, took: Took, made: &Made) -> u64 {
+        if made.refused != 0 {
+            return 0;
+        }
+        let completed = made.sent.completed_id();
+        self.chores.note(took, completed);
+        match completed {
+            Some(_) => 1,
+            None => 0,
+        }
+    }
+
+    /// Makes the steps of the orders that are due.
+    fn finish<R: Wait, G: Gate, E>(&mut self, rt: &R, gate: &G, mut turn: Turn) -> Worked<E> {
+        for _ in rt.forever() {
+            let Some(order) = self.chores.due() else {
+                turn.stamp = self.running.last_stamp();
+                return Worked::Turned(turn);
+            };
+            let Ok(mut made) = self.running.make(gate, Arrived::Local(order, 0)) else {
+                return Worked::NoMemory;
+            };
+            let completed = self.note(Took::Order, &made);
+            turn.completed = turn.completed.saturating_add(completed);
+            if turn.named.append(&mut made.sent.named).is_err() {
+                return Worked::NoMemory;
+            }
+        }
+        unreachable!()
     }
 }

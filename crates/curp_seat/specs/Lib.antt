@@ -1,0 +1,5 @@
+pub mod Carrying
+pub mod Making
+pub mod Parcels
+pub mod Taking
+pub mod Waiting
