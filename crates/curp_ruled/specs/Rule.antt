@@ -57,8 +57,8 @@ FitsTaker reader seat sent taken pass hand =
 
 -- There are a reader, a pass for the number of each sender that has one, what each sent, and what was taken, so that of each
 -- sender what was taken and then what stands in the inbox is what it sent, and each pass knows its part
-abbrev pub Delivers : List Letter → List Hand → Type 0
-Delivers items hands =
+abbrev pub DeliversParcels : List Letter → List Hand → Type 0
+DeliversParcels items hands =
     (reader : ℕ) × (seat : ℕ → Option ℕ) × (sent : ℕ → List Letter) × (taken : List Letter)
     × ((k : ℕ) → of k (taken ++ items) ≡ sent k)
     × ((pass : ℕ) (hand : Hand) → get_elem? hands pass ≡ some hand → FitsSender seat sent pass hand × FitsTaker reader seat sent taken pass hand)

@@ -7,7 +7,8 @@
 //!   return only then; that they return is no clause.
 //! - `close` takes all posts and the take, and has what the rule is there for: what was taken of each sender is a prefix
 //!   of what it sent (`prefix`), and nothing else was taken (`no_other`).
-//! - A `Parcel` is seen as its sender's number and the input that it carries, or none at the sender's end.
+//! - A `Parcel` is seen as its sender's number and the input that it carries, or none at the sender's end. It holds a
+//!   message as a `Framed`.
 #![tactic(auto)]
 
 mod calls;

@@ -2,34 +2,48 @@ ghost use Rattle.std.specs.Prelude.{◌≡◌, ◌≢◌, ◌↔◌, Some, None,
 
 use curp_base::NoMemory;
 use curp_journal::Arrived;
+use curp_msg::Local;
+use curp_seat::Framed;
 use std::alloc::Global;
 use std::marker::Model;
+
+/// What is in a parcel.
+#[derive(Drop)]
+enum Load {
+    /// Its sender's end.
+    End,
+    /// An order, with the stamp of whoever gave it.
+    Order(Local, u64),
+    Message(Framed),
+}
 
 /// What a sender puts into an inbox: an input for its node, or the sender's end. Contracts see who sent it and what it
 /// carries.
 #[derive(Drop)]
 pub struct Parcel {
     sender: u32,
-    carries: Option<Arrived>,
+    load: Load,
 }
 
 impl Model for Parcel {
+    ghost use Rattle.curp_ruled.specs.Load.{loaded_input};
     ghost use Rattle.curp_ruled.specs.Parcel.{Letter};
 
     ghost Value = { Letter };
 
-    ghost view = { λ parcel. record { sender = parcel.sender; carries = parcel.carries } };
+    ghost view = { λ parcel. record { sender = parcel.sender; carries = loaded_input parcel.load } };
 }
 
 impl Parcel {
-    /// A parcel of that sender that carries an input.
-    pub fn new(_alloc: Global, sender: u32, input: Arrived) -> Result<Parcel, NoMemory>
+    /// A parcel of that sender that carries an input. A light message is written as its frame.
+    pub fn new(alloc: Global, sender: u32, input: Arrived) -> Result<Parcel, NoMemory>
         ensures { IfOk result (λ parcel. parcel ≡ record { sender = sender; carries = Some input }) }
     {
-        Ok(Parcel {
-            sender,
-            carries: Some(input),
-        })
+        let load = match input {
+            Arrived::Local(order, stamp) => Load::Order(order, stamp),
+            Arrived::Message(named) => Load::Message(Framed::seal(alloc, named)?),
+        };
+        Ok(Parcel { sender, load })
     }
 
     /// That sender's end, after which it sends nothing. It takes no memory.
@@ -38,7 +52,7 @@ impl Parcel {
     {
         Parcel {
             sender,
-            carries: None,
+            load: Load::End,
         }
     }
 
@@ -53,17 +67,18 @@ impl Parcel {
     pub fn is_end(&self) -> bool
         ensures { IsTrue result ↔ (self.now.carries ≡ None) }
     {
-        self.carries.is_none()
+        matches!(&self.load, Load::End)
     }
 
-    /// What it carries. `is_end` is the test of its condition.
-    pub fn open(self, _alloc: Global) -> Result<Arrived, NoMemory>
+    /// What it carries; a frame is decoded. `is_end` is the test of its condition.
+    pub fn open(self, alloc: Global) -> Result<Arrived, NoMemory>
         requires { self.carries ≢ None }
         ensures { IfOk result (λ input. self.carries ≡ Some input) }
     {
-        let Some(input) = self.carries else {
-            unreachable!()
-        };
-        Ok(input)
+        match self.load {
+            Load::End => unreachable!(),
+            Load::Order(order, stamp) => Ok(Arrived::Local(order, stamp)),
+            Load::Message(framed) => Ok(Arrived::Message(framed.open(alloc)?)),
+        }
     }
 }

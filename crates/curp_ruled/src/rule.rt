@@ -21,9 +21,9 @@ pub struct Hand {
 pub struct InOrder;
 
 impl Protocol<Parcel, Hand> for InOrder {
-    ghost use Rattle.curp_ruled.specs.Rule.{Delivers, taker};
+    ghost use Rattle.curp_ruled.specs.Rule.{DeliversParcels, taker};
 
-    ghost holds = { Delivers };
+    ghost holds = { DeliversParcels };
 
     ghost first = { taker };
 }

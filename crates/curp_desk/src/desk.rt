@@ -1,0 +1,196 @@
+ghost use Rattle.std.specs.Prelude.{◌≡◌, ◌≢◌, false, None};
+
+use crate::inside::{Inside, Out};
+use crate::{Listener, MadeStep, Posts};
+use curp_base::NoMemory;
+use curp_journal::Arrived;
+use curp_msg::Core;
+use curp_ruled::{Parcel, Take};
+use curp_seat::{Chores, Gate, Kept};
+use std::alloc::Global;
+use std::sync::{Condvar, Mutex, Wait};
+
+/// A node with its journal, and an outbox, under one lock. A worker and a courier are at it, each on a thread of its own.
+#[derive(Drop)]
+pub struct Desk<N: Core> {
+    alloc: Global,
+    inside: Mutex<Inside<N>>,
+    /// Something was put out, or the node has ended.
+    changed: Condvar,
+}
+
+impl<N: Core> Desk<N> {
+    /// The desk of the node that has this number as a sender. It takes no memory.
+    pub fn new(alloc: Global, number: u32, kept: Kept<N>) -> Desk<N>
+        requires { kept.ended ≡ false }
+    {
+        Desk {
+            alloc,
+            inside: Mutex::new(Inside::new(alloc, number, kept)),
+            changed: Condvar::new(),
+        }
+    }
+
+    /// Takes parcels and makes the steps that they ask for, each followed by those of the orders that are due then, until
+    /// it has an end of each sender. The node ends with the end of the driver, who is the last of them: what comes after
+    /// that is dropped, as it is after want of memory.
+    pub fn work<R: Wait, G: Gate, C: Chores + Drop, L: Listener>(
+        &self,
+        rt: &R,
+        gate: &G,
+        mut take: Take,
+        mut chores: C,
+        listener: &L,
+    ) {
+        let driver = take.posts().saturating_sub(1);
+        let mut left = take.posts();
+        let mut works = self.begin(rt, gate, &mut chores, listener);
+        for _ in rt.forever() {
+            if left == 0 {
+                break;
+            }
+            let parcel = take.receive(rt);
+            if parcel.is_end() {
+                left -= 1;
+                if parcel.sender() == driver {
+                    works = false;
+                    self.end(rt);
+                }
+            } else if works {
+                works = self.turn(rt, gate, &mut chores, listener, parcel);
+            }
+        }
+    }
+
+    /// Sends what is put out, in its order, until the node has ended and nothing is left, and then an end to each inbox.
+    pub fn carry<R: Wait>(&self, rt: &R, mut posts: Posts) {
+        for _ in rt.forever() {
+            let Some(Out { to, parcel }) = self.next(rt) else {
+                break;
+            };
+            posts.send(rt, to, parcel);
+        }
+        posts.end_all(rt);
+    }
+
+    /// The node with its journal.
+    pub fn into_kept(self) -> Kept<N>
+        ensures running { result.ended ≡ false }
+    {
+        self.inside.into_inner().into_kept()
+    }
+
+    /// Makes the steps that are due before the first parcel. False where there was no memory.
+    fn begin<R: Wait, G: Gate, C: Chores, L: Listener>(
+        &self,
+        rt: &R,
+        gate: &G,
+        chores: &mut C,
+        listener: &L,
+    ) -> bool {
+        let made = self.give_due(rt, gate, chores, listener);
+        goes_on(rt, listener, made)
+    }
+
+    /// Makes the step that a parcel asks for, and those that are due then. False where there was no memory.
+    fn turn<R: Wait, G: Gate, C: Chores, L: Listener>(
+        &self,
+        rt: &R,
+        gate: &G,
+        chores: &mut C,
+        listener: &L,
+        parcel: Parcel,
+    ) -> bool
+        requires { parcel.carries ≢ None }
+    {
+        let made = self.give_parcel(rt, gate, chores, listener, parcel);
+        goes_on(rt, listener, made)
+    }
+
+    fn give_parcel<R: Wait, G: Gate, C: Chores, L: Listener>(
+        &self,
+        rt: &R,
+        gate: &G,
+        chores: &mut C,
+        listener: &L,
+        parcel: Parcel,
+    ) -> Result<(), NoMemory>
+        requires { parcel.carries ≢ None }
+    {
+        let input = parcel.open(self.alloc)?;
+        self.give(rt, gate, chores, listener, input)?;
+        self.give_due(rt, gate, chores, listener)
+    }
+
+    fn give_due<R: Wait, G: Gate, C: Chores, L: Listener>(
+        &self,
+        rt: &R,
+        gate: &G,
+        chores: &mut C,
+        listener: &L,
+    ) -> Result<(), NoMemory> {
+        for _ in rt.forever() {
+            let Some(order) = chores.due() else {
+                break;
+            };
+            self.give(rt, gate, chores, listener, Arrived::Local(order, 0))?;
+        }
+        Ok(())
+    }
+
+    fn give<R: Wait, G: Gate, C: Chores, L: Listener>(
+        &self,
+        rt: &R,
+        gate: &G,
+        chores: &mut C,
+        listener: &L,
+        input: Arrived,
+    ) -> Result<(), NoMemory> {
+        if let Some(step) = self.step(rt, gate, input)? {
+            chores.note(step.took, step.completed);
+            listener.hear_step(rt, step);
+        }
+        Ok(())
+    }
+
+    /// Makes a step under the lock. None where the node refused the input.
+    fn step<R: Wait, G: Gate>(
+        &self,
+        rt: &R,
+        gate: &G,
+        input: Arrived,
+    ) -> Result<Option<MadeStep>, NoMemory> {
+        let made = self.inside.lock(rt).make(gate, input);
+        self.changed.notify_all();
+        made
+    }
+
+    fn end<R: Wait>(&self, rt: &R) {
+        self.inside.lock(rt).end();
+        self.changed.notify_all();
+    }
+
+    /// Waits for what is to be sent next. None where the node has ended and nothing is left.
+    fn next<R: Wait>(&self, rt: &R) -> Option<Out> {
+        let mut inside = self.inside.lock(rt);
+        for _ in rt.forever() {
+            if let Some(out) = inside.next() {
+                return Some(out);
+            }
+            if inside.ended() {
+                return None;
+            }
+            inside = self.changed.wait(rt, inside);
+        }
+        unreachable!()
+    }
+}
+
+/// Whether the node goes on after these steps. Want of memory is told.
+fn goes_on<R: Wait, L: Listener>(rt: &R, listener: &L, made: Result<(), NoMemory>) -> bool {
+    let goes_on = made.is_ok();
+    if !goes_on {
+        listener.hear_shortage(rt);
+    }
+    goes_on
+}

@@ -1,0 +1,11 @@
+//! Tests of inboxes under a rule, and of desks that have them, by the public calls.
+#![tactic(auto)]
+
+#[cfg(test)]
+mod board;
+#[cfg(test)]
+mod desks;
+#[cfg(test)]
+mod filled;
+#[cfg(test)]
+mod relay;
