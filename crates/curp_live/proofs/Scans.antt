@@ -1,8 +1,8 @@
 -- What loops over journals find, one item or one node further.
-use Rattle.std.proofs.Common.{◌≡◌, ◌⊎◌, inl, inr, ◌+◌, ◌<◌, ℕ, zero, suc, List, [], ◌∷◌, ◌++◌, length, take, get_or, false, refl, ap, ◌∙◌, subst, sym, add-one, arith}
+use Rattle.std.proofs.Common.{◌≡◌, ◌⊎◌, inl, inr, ◌+◌, ◌<◌, ◌≤◌, ℕ, Bool, zero, suc, List, [], ◌∷◌, ◌++◌, length, length-append, min, take, get_or, false, refl, ap, ◌∙◌, subst, sym, add-one, arith}
 use Rattle.std.proofs.lemmas.Option.{slice_get_read}
-use Rattle.curp_base.specs.Words.{At}
-use Rattle.curp_base.proofs.Lists.{at_map, at_push_cases, at_same}
+use Rattle.curp_base.specs.Words.{At, Each}
+use Rattle.curp_base.proofs.Lists.{Each-append, Each-at, Each-weaker, at_map, at_push_cases, at_same, at_within}
 use Rattle.curp_cmd.specs.declared.command.Command.{Command}
 use Rattle.curp_cmd.specs.declared.node.NodeId.{NodeId}
 use Rattle.curp_cmd.specs.declared.node.NodeKind.{NodeKind}
@@ -11,7 +11,7 @@ use Rattle.curp_journal.specs.Journal.{NodeJournal}
 use Rattle.curp_journal.specs.declared.item.Item.{Item}
 use Rattle.curp_model.specs.Client.{ClientState}
 use Rattle.curp_turns.specs.Work.{DidWork}
-use Rattle.curp_live.specs.Opening.{AllOwn, IsAnew, outputs_of}
+use Rattle.curp_live.specs.Opening.{AllOwn, HaveJournals, IsAdded, IsAnew, IsOneOf, NamesRise, outputs_of}
 
 -- below one more is below, or there
 below_or_at : (t k : ℕ) → t < k + 1 → (t < k) ⊎ (t ≡ k)
@@ -54,52 +54,127 @@ outputs_more xs ys k x y in_xs in_ys is_x is_y same before =
     let at_y = at_map (λ (item : Item). item.done) ys k y (slice_get_read ys (length ys) k y refl in_ys is_y) in
     rw add-one (same_next (outputs_of xs) (outputs_of ys) k x.done at_x (subst (λ done. At (outputs_of ys) k done) (sym one) at_y) before)
 
--- the journals of the nodes so far
-abbrev pub SoFar : {N : Type 0} → NodeKind → List N → List (NodeJournal N) → Type 0
-SoFar {N} kind nodes logs = (k : ℕ) (node : N) (log : NodeJournal N) → At nodes k node → At logs k log
-    → IsAnew (record { kind = kind; number = k + 1 }) node log
+-- outputs that are the same are the same of the items that were read
+pub outputs_at : (xs ys : List Item) (k : ℕ) (x y : Item) → k < length xs → k < length ys → x ≡ get_or xs k x → y ≡ get_or ys k y
+    → outputs_of xs ≡ outputs_of ys → (get_or xs k x).done ≡ (get_or ys k y).done
+outputs_at xs ys k x y in_xs in_ys is_x is_y same =
+    let at_x = at_map (λ (item : Item). item.done) xs k x (slice_get_read xs (length xs) k x refl in_xs is_x) in
+    let at_y = at_map (λ (item : Item). item.done) ys k y (slice_get_read ys (length ys) k y refl in_ys is_y) in
+    ap (λ (item : Item). item.done) (sym is_x)
+    ∙ at_same (outputs_of ys) k x.done y.done (subst (λ outputs. At outputs k x.done) same at_x) at_y
+    ∙ ap (λ (item : Item). item.done) is_y
 
--- one more
-pub anew_more : {N : Type 0} (kind : NodeKind) (nodes : List N) (logs : List (NodeJournal N)) (node : N) (log : NodeJournal N)
-    → length logs < length nodes → node ≡ get_or nodes (length logs) node
-    → IsAnew (record { kind = kind; number = length logs + 1 }) node log → SoFar kind nodes logs → SoFar kind nodes (logs ++ log ∷ [])
-anew_more {N} kind nodes logs node log within is new before k x y at_node at_log = by_case (at_push_cases logs log k y at_log)
+-- the journals of so many nodes
+pub record SoFar {N : Type 0} (kind : NodeKind) (there : ℕ) (nodes : List N) (n : ℕ) (logs : List (NodeJournal N)) : Type 0 where
+  pub each : Each (IsOneOf kind there nodes) logs
+  pub low : Each (λ (log : NodeJournal N). log.id.number ≤ n) logs
+  pub rise : NamesRise logs
+  pub few : length logs ≤ n
+  pub whole : HaveJournals (min n there) logs
+
+-- none yet
+pub none_so_far : {N : Type 0} (kind : NodeKind) (there : ℕ) (nodes : List N) → SoFar kind there nodes 0 []
+none_so_far {N} kind there nodes = record {
+  each = tt;
+  low = tt;
+  rise = λ i k a b at_a at_b less. absurd (nothing_at i a at_a);
+  few = omega arith;
+  whole = record { many = omega arith; places = λ k log below at. absurd (nothing_at k log at) };
+}
   where
-    by_case : At logs k y ⊎ ((k ≡ length logs) × (log ≡ y)) → IsAnew (record { kind = kind; number = k + 1 }) x y
-    by_case (inl there) = before k x y at_node there
-    by_case (inr (same, one)) =
-        let here : At nodes (length logs) node = slice_get_read nodes (length nodes) (length logs) node refl within is in
-        let there : At nodes (length logs) x = subst (λ n. At nodes n x) same at_node in
-        let e : node ≡ x = at_same nodes (length logs) node x here there in
-        subst (λ n. IsAnew (record { kind = kind; number = n + 1 }) x y) (sym same)
-        (subst (λ a. IsAnew (record { kind = kind; number = length logs + 1 }) a y) e
-        (subst (λ b. IsAnew (record { kind = kind; number = length logs + 1 }) node b) one new))
+    nothing_at : (i : ℕ) (a : NodeJournal N) → At [] i a → ⊥
+    nothing_at i a at = absurd cc
 
--- the journal that was made again of a node's is begun with the node
-pub begun_anew : {N : Type 0} (id name : NodeId) (node : N) (items : List Item) (log : NodeJournal N) → name ≡ id
-    → log ≡ record { id = name; opening = node; items = items; ended = false } → AllOwn id log.items → IsAnew id node log
-begun_anew {N} id name node items log same is own = record {
-  its_name = ap (λ (l : NodeJournal N). l.id) is ∙ same;
-  begins = ap (λ (l : NodeJournal N). l.opening) is;
-  runs = ap (λ (l : NodeJournal N). l.ended) is;
-  own = own;
+-- the names rise with one more, whose number is higher
+names_rise : {N : Type 0} (logs : List (NodeJournal N)) (n : ℕ) (log : NodeJournal N) → log.id.number ≡ n + 1
+    → Each (λ (x : NodeJournal N). x.id.number ≤ n) logs → NamesRise logs → NamesRise (logs ++ log ∷ [])
+names_rise {N} logs n log number low rise i k a b at_a at_b less = by_case (at_push_cases logs log i a at_a) (at_push_cases logs log k b at_b)
+  where
+    by_case : At logs i a ⊎ ((i ≡ length logs) × (log ≡ a)) → At logs k b ⊎ ((k ≡ length logs) × (log ≡ b)) → a.id.number < b.id.number
+    by_case (inl first) (inl second) = rise i k a b first second less
+    by_case (inl first) (inr second) =
+        let its_number : b.id.number ≡ n + 1 = ap (λ (x : NodeJournal N). x.id.number) (sym second.1) ∙ number in
+        omega (arith, Each-at (λ (x : NodeJournal N). x.id.number ≤ n) logs low i a first, its_number)
+    by_case (inr first) (inl second) = absurd (omega (arith, first.0, less, at_within logs k b second))
+    by_case (inr first) (inr second) = absurd (omega (arith, first.0, second.0, less))
+
+-- the first so many have their journals, where the next node's is put and where it is left out
+whole_with : {N : Type 0} (n there : ℕ) (logs : List (NodeJournal N)) (log : NodeJournal N) → log.id.number ≡ n + 1 → length logs ≤ n
+    → HaveJournals (min n there) logs → HaveJournals (min (n + 1) there) (logs ++ log ∷ [])
+whole_with {N} n there logs log number few whole = record {
+  many = omega (arith, whole.many, length-append logs (log ∷ []));
+  places = λ k one below at. by_case k one below (at_push_cases logs log k one at);
+}
+  where
+    by_case : (k : ℕ) (one : NodeJournal N) → k < min (n + 1) there → At logs k one ⊎ ((k ≡ length logs) × (log ≡ one)) → one.id.number ≡ k + 1
+    by_case k one below (inl at) = whole.places k one (omega (arith, below, few, at_within logs k one at)) at
+    by_case k one below (inr last) =
+        let its_number : one.id.number ≡ n + 1 = ap (λ (x : NodeJournal N). x.id.number) (sym last.1) ∙ number in
+        omega (arith, its_number, last.0, below, few, whole.many)
+
+whole_without : {N : Type 0} (n there : ℕ) (logs : List (NodeJournal N)) → there ≤ n → HaveJournals (min n there) logs → HaveJournals (min (n + 1) there) logs
+whole_without {N} n there logs past whole = record {
+  many = omega (arith, past, whole.many);
+  places = λ k one below at. whole.places k one (omega (arith, past, below)) at;
+}
+
+-- one node more
+pub anew_next : {N : Type 0} (kind : NodeKind) (there n : ℕ) (nodes : List N) (node : N) (is_there : Bool) (old new : List (NodeJournal N))
+    → At nodes n node → (there ≤ n → is_there ≡ false) → (is_there ≡ false → there ≤ n) → IsAdded (record { kind = kind; number = n + 1 }) is_there node old new
+    → SoFar kind there nodes n old → SoFar kind there nodes (n + 1) new
+anew_next {N} kind there n nodes node is_there old new at past fresh (inl left_out) so_far = rw left_out.1 (record {
+  each = so_far.each;
+  low = Each-weaker (λ (x : NodeJournal N). x.id.number ≤ n) (λ (x : NodeJournal N). x.id.number ≤ n + 1) (λ x le. omega (arith, le)) old so_far.low;
+  rise = so_far.rise;
+  few = omega (arith, so_far.few);
+  whole = whole_without n there old (fresh left_out.0) so_far.whole;
+})
+anew_next {N} kind there n nodes node is_there old new at past fresh (inr put) so_far =
+    let log = put.log in
+    let its_name = put.begun.anew.its_name in
+    let number : log.id.number ≡ n + 1 = ap (λ (id : NodeId). id.number) its_name in
+    let is : IsOneOf kind there nodes log = record {
+      place = n;
+      stands = subst (λ (x : N). At nodes n x) (sym put.begun.anew.begins) at;
+      its_name = its_name;
+      own = subst (λ (id : NodeId). AllOwn id log.items) (sym its_name) put.begun.anew.own;
+      first = λ behind. put.begun.first (past behind);
+    } in
+    rw put.put (record {
+      each = Each-append (IsOneOf kind there nodes) old (log ∷ []) so_far.each (is, tt);
+      low = Each-append (λ (x : NodeJournal N). x.id.number ≤ n + 1) old (log ∷ [])
+          (Each-weaker (λ (x : NodeJournal N). x.id.number ≤ n) (λ (x : NodeJournal N). x.id.number ≤ n + 1) (λ x le. omega (arith, le)) old so_far.low)
+          (omega (arith, number), tt);
+      rise = names_rise old n log number so_far.low so_far.rise;
+      few = omega (arith, length-append old (log ∷ []), so_far.few);
+      whole = whole_with n there old log number so_far.few so_far.whole;
+    })
+
+-- the journal that was made again of a node's is begun with the node, also where it ends in a stop
+pub begun_anew : {N : Type 0} (id name : NodeId) (node : N) (items : List Item) (made log : NodeJournal N) (ended : Bool) → name ≡ id
+    → made ≡ record { id = name; opening = node; items = items; ended = false } → log ≡ record made { ended = ended }
+    → AllOwn id made.items → IsAnew id node log
+begun_anew {N} id name node items made log ended same is with_end own = record {
+  its_name = ap (λ (l : NodeJournal N). l.id) with_end ∙ ap (λ (l : NodeJournal N). l.id) is ∙ same;
+  begins = ap (λ (l : NodeJournal N). l.opening) with_end ∙ ap (λ (l : NodeJournal N). l.opening) is;
+  own = subst (λ (items : List Item). AllOwn id items) (sym (ap (λ (l : NodeJournal N). l.items) with_end)) own;
 }
 
 -- the clients so far did their lists of work
 abbrev pub DidSoFar : List (List Command) → List (NodeJournal (Node ClientState)) → ℕ → Type 0
 DidSoFar work clients t = (k : ℕ) (log : NodeJournal (Node ClientState)) (commands : List Command) → k < t → At clients k log → At work k commands
-    → DidWork (k + 1) commands log.items
+    → (log.id.number ≡ k + 1) × DidWork (k + 1) commands log.items
 
 -- one more
 pub did_more : (work : List (List Command)) (clients : List (NodeJournal (Node ClientState))) (t : ℕ) (log : NodeJournal (Node ClientState)) (commands : List Command)
-    → At clients t log → At work t commands → DidWork (t + 1) commands log.items → DidSoFar work clients t → DidSoFar work clients (t + 1)
-did_more work clients t log commands at_log at_list did before k a b below there listed = by_case (below_or_at k t below)
+    → At clients t log → At work t commands → log.id.number ≡ t + 1 → DidWork (t + 1) commands log.items → DidSoFar work clients t → DidSoFar work clients (t + 1)
+did_more work clients t log commands at_log at_list number did before k a b below there listed = by_case (below_or_at k t below)
   where
-    by_case : (k < t) ⊎ (k ≡ t) → DidWork (k + 1) b a.items
+    by_case : (k < t) ⊎ (k ≡ t) → (a.id.number ≡ k + 1) × DidWork (k + 1) b a.items
     by_case (inl less) = before k a b less there listed
     by_case (inr same) =
         let here : At clients t a = subst (λ n. At clients n a) same there in
         let list : At work t b = subst (λ n. At work n b) same listed in
-        subst (λ (n : ℕ). DidWork (n + 1) b a.items) (sym same)
-        (subst (λ (x : NodeJournal (Node ClientState)). DidWork (t + 1) b x.items) (at_same clients t log a at_log here)
-        (subst (λ (x : List Command). DidWork (t + 1) x log.items) (at_same work t commands b at_list list) did))
+        subst (λ (n : ℕ). (a.id.number ≡ n + 1) × DidWork (n + 1) b a.items) (sym same)
+        (subst (λ (x : NodeJournal (Node ClientState)). (x.id.number ≡ t + 1) × DidWork (t + 1) b x.items) (at_same clients t log a at_log here)
+        (number, subst (λ (x : List Command). DidWork (t + 1) x log.items) (at_same work t commands b at_list list) did))

@@ -1,25 +1,32 @@
-//! A world's nodes on threads, each behind a lock, and the clients' work done by them.
+//! A world's nodes on threads, each at a desk, and the clients' work done by them.
 //!
-//! - `live` gives each node a seat and a thread, and one more thread to the driver, which stops all seats once all work
-//!   is done. What comes out of a lock has no clause, so the journals' inputs are given again to nodes made anew, and
-//!   these journals are handed out; names, outputs, addressees, the clients' commands and their completions are
-//!   compared, and where anything differs the run is made anew. `anew_at_opening` gives the inputs again so for any
-//!   journals of a header's nodes, and what it gives can be gathered (`AreOf`).
+//! - `live` gives each node an inbox and a desk with a worker and a courier, the fresh nodes of its recoveries too, and
+//!   drives the run itself: it makes the recoveries, and ends all nodes once all requests are completed. Where a thread
+//!   can't be made or finds no memory, every wait ends, and it says so. What comes out of a lock has no clause, so the
+//!   journals' inputs are given again to nodes made anew, and these journals are handed out; names, outputs, addressees,
+//!   the clients' commands, their completions and the last stops are compared, and what each node took of each other with
+//!   what that sent (`Ruled`). Where anything differs the run is made anew.
+//!   `anew_at_opening` gives the inputs again so for any journals of a header's nodes, and what it gives can be gathered
+//!   (`AreOf`).
+//! - Which orders a client and a master are due (`chores.rt`) and what the driver does (`drive.rt`) know no thread.
 #![tactic(auto)]
 
 mod anew;
 mod board;
 mod checked;
-mod floor;
-mod job;
-mod master;
+mod chores;
+mod crew;
+mod desks;
+mod drive;
+mod members;
 mod nodes;
 mod once;
 mod outputs;
 mod own;
 mod run;
-mod seats;
+mod stops;
+mod teller;
 mod work;
 
 pub use checked::anew_at_opening;
-pub use run::live;
+pub use run::{live, live_in_rooms};

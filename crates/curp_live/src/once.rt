@@ -1,67 +1,63 @@
-ghost use Rattle.std.specs.Prelude.{◌<◌, vec_len};
-ghost use Rattle.curp_msg.specs.Script.{IsHeader};
+ghost use Rattle.std.specs.Prelude.{◌≤◌};
+ghost use Rattle.curp_words.specs.Plan.{IsLivePlan};
 
-use crate::board::{Board, End};
-use crate::floor::Floor;
-use crate::job::jobs;
+use crate::board::Board;
+use crate::crew::{Driver, Floor};
+use crate::desks::Desks;
+use crate::members::members;
 use crate::nodes::LiveNodes;
-use crate::seats::Seats;
 use curp_base::NoMemory;
 use curp_cmd::Command;
+use curp_desk::run_crew;
 use curp_gather::Journals;
-use curp_msg::Header;
 use curp_seat::Gate;
-use std::alloc::{AllocError, Global};
+use curp_words::LivePlan;
+use std::alloc::Global;
 use std::sync::Wait;
-use std::thread;
 use std::thread::Threads;
 
-/// Runs the nodes of a header until the work is done, and gives their journals.
+/// Runs the nodes of a plan until the work is done, and gives their journals.
 pub(crate) fn once<R: Threads + Wait + Sync, G: Gate + Sync>(
     rt: &R,
     alloc: Global,
-    header: &Header,
+    room: u32,
+    plan: &LivePlan,
     work: &[Vec<Command>],
     gate: &G,
 ) -> Result<Journals, NoMemory>
-    requires { IsHeader header.now }
+    requires room { 1 ≤ room }
+    requires plan { IsLivePlan plan.now }
 {
-    let floor = Floor {
-        seats: Seats::new(alloc, LiveNodes::opening(alloc, header)?)?,
-        board: Board::new(command_count(work)),
-    };
-    run_all(rt, alloc, &floor, work, gate)?;
-    match floor.board.wait(rt) {
-        End::Finished => floor.seats.into_journals(alloc),
-        End::NoMemory => Err(AllocError),
-    }
+    let nodes = LiveNodes::opening(alloc, &plan.header(), plan.recoveries)?;
+    let desks = Desks::new(alloc, nodes)?;
+    run_all(rt, alloc, room, plan, work, &desks, gate)?;
+    desks.into_journals(alloc, plan)
 }
 
-/// Does all jobs of a run, each on a thread of its own, until it ends. The threads have ended then.
+/// Runs all nodes until the run ends.
 fn run_all<R: Threads + Wait + Sync, G: Gate + Sync>(
     rt: &R,
     alloc: Global,
-    floor: &Floor,
+    room: u32,
+    plan: &LivePlan,
     work: &[Vec<Command>],
+    desks: &Desks,
     gate: &G,
-) -> Result<(), NoMemory> {
-    let all = jobs(alloc, &floor.seats, work)?;
-    thread::map_indices(
-        rt,
+) -> Result<(), NoMemory>
+    requires { 1 ≤ room }
+{
+    let board = Board::new(alloc, plan.clients)?;
+    let floor = Floor {
+        board: &board,
+        gate,
+    };
+    let members = members(alloc, &floor, desks, work)?;
+    let driver = Driver {
         alloc,
-        all.len(),
-        &|at: usize| -> End
-            requires { at < vec_len all }
-        { floor.run(rt, gate, all[at]) },
-    )?;
-    Ok(())
-}
-
-/// How many commands the lists have.
-fn command_count(work: &[Vec<Command>]) -> u64 {
-    let mut count: u64 = 0;
-    for commands in work {
-        count = count.saturating_add(commands.len() as u64);
-    }
-    count
+        plan,
+        board: &board,
+    };
+    run_crew(rt, alloc, room, members, driver)?;
+    // A worker may have found no memory after the last completion.
+    board.fails(rt)
 }

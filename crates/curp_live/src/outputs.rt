@@ -1,4 +1,4 @@
-ghost use Rattle.std.specs.Prelude.{◌≡◌, IsTrue};
+ghost use Rattle.std.specs.Prelude.{◌≡◌, ◌↔◌, IsTrue};
 ghost use Rattle.curp_live.specs.Opening.{outputs_of};
 
 use curp_journal::Item;
@@ -7,7 +7,7 @@ use curp_same::Same;
 
 /// Whether the nodes of two journals did the same by their items.
 pub(crate) fn did_same(one: &[Item], other: &[Item]) -> bool
-    ensures { IsTrue result → outputs_of one.now ≡ outputs_of other.now }
+    ensures { IsTrue result ↔ (outputs_of one.now ≡ outputs_of other.now) }
 {
     if one.len() != other.len() {
         return false;
@@ -21,7 +21,7 @@ pub(crate) fn did_same(one: &[Item], other: &[Item]) -> bool
 }
 
 fn is_same(one: &Done, other: &Done) -> bool
-    ensures { IsTrue result → one.now ≡ other.now }
+    ensures { IsTrue result ↔ (one.now ≡ other.now) }
 {
     one.refused == other.refused
         && one.sent.same(&other.sent)
@@ -29,7 +29,7 @@ fn is_same(one: &Done, other: &Done) -> bool
 }
 
 fn completes_same(one: &Option<Completed>, other: &Option<Completed>) -> bool
-    ensures { IsTrue result → one.now ≡ other.now }
+    ensures { IsTrue result ↔ (one.now ≡ other.now) }
 {
     match (one, other) {
         (Some(one), Some(other)) => {

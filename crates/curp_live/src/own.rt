@@ -1,4 +1,4 @@
-ghost use Rattle.std.specs.Prelude.{◌≡◌, IsTrue};
+ghost use Rattle.std.specs.Prelude.{◌≡◌, ◌↔◌, IsTrue};
 ghost use Rattle.curp_merge.specs.Merging.{IsOwn, is_order_of};
 ghost use Rattle.curp_live.specs.Opening.{AllOwn};
 
@@ -8,7 +8,7 @@ use curp_msg::Local;
 
 /// Whether all that came to a node is its own.
 pub(crate) fn all_own(id: NodeId, items: &[Item]) -> bool
-    ensures { IsTrue result → AllOwn id items.now }
+    ensures { IsTrue result ↔ AllOwn id items.now }
 {
     for item in items {
         if !is_own(id, &item.input) {
@@ -20,7 +20,7 @@ pub(crate) fn all_own(id: NodeId, items: &[Item]) -> bool
 
 /// Whether it is a message to the node, or an order that a script can give to it.
 fn is_own(id: NodeId, arrived: &Arrived) -> bool
-    ensures { IsTrue result → IsOwn id arrived.now }
+    ensures { IsTrue result ↔ IsOwn id arrived.now }
 {
     match arrived {
         Arrived::Local(order, _) => is_order_of(id.kind, order),

@@ -1,4 +1,4 @@
-ghost use Rattle.std.specs.Prelude.{◌≡◌, length, map, IfOk, IfSome};
+ghost use Rattle.std.specs.Prelude.{◌≡◌, ◌≤◌, length, map, IfOk, IfSome};
 ghost use Rattle.curp_live.specs.Live.{IsLiveRun};
 ghost use Rattle.curp_words.specs.Plan.{IsLivePlan};
 
@@ -6,45 +6,69 @@ use crate::checked::checked;
 use crate::once::once;
 use curp_base::NoMemory;
 use curp_cmd::Command;
-use curp_gather::Journals;
+use curp_desk::ROOM;
+use curp_gather_ruled::Ruled;
 use curp_seat::Gate;
 use curp_words::LivePlan;
 use std::alloc::Global;
 use std::sync::Wait;
 use std::thread::Threads;
 
-/// Runs the nodes of a plan on threads until each client has done its list of `work`, and gives their journals.
+/// Runs the nodes of a plan on threads until each client has done its list of `work`, and gives their journals. A thread
+/// that can't be made is want of memory.
 pub fn live<R: Threads + Wait + Sync, G: Gate + Sync>(
     rt: &R,
     alloc: Global,
     plan: &LivePlan,
     work: &[Vec<Command>],
     gate: &G,
-) -> Result<Journals, NoMemory>
+) -> Result<Ruled, NoMemory>
+    requires plan { IsLivePlan plan.now }
+    requires work { length work.now ≡ plan.now.clients }
+    ensures { IfOk result (IsLiveRun plan.now (map (λ list. list.items) work.now)) }
+{
+    live_in_rooms(rt, alloc, ROOM, plan, work, gate)
+}
+
+/// The same, with room for so many parcels in each inbox. Any room does.
+pub fn live_in_rooms<R: Threads + Wait + Sync, G: Gate + Sync>(
+    rt: &R,
+    alloc: Global,
+    room: u32,
+    plan: &LivePlan,
+    work: &[Vec<Command>],
+    gate: &G,
+) -> Result<Ruled, NoMemory>
+    requires room { 1 ≤ room }
     requires plan { IsLivePlan plan.now }
     requires work { length work.now ≡ plan.now.clients }
     ensures { IfOk result (IsLiveRun plan.now (map (λ list. list.items) work.now)) }
 {
     for _ in rt.forever() {
-        if let Some(journals) = tried(rt, alloc, plan, work, gate)? {
-            return Ok(journals);
+        if let Some(ruled) = tried(rt, alloc, room, plan, work, gate)? {
+            return Ok(ruled);
         }
     }
     unreachable!()
 }
 
-// One run. None where its journals aren't those of a run of the plan.
+// One run. None where its journals aren't those of a run of the plan, or aren't ruled.
 fn tried<R: Threads + Wait + Sync, G: Gate + Sync>(
     rt: &R,
     alloc: Global,
+    room: u32,
     plan: &LivePlan,
     work: &[Vec<Command>],
     gate: &G,
-) -> Result<Option<Journals>, NoMemory>
+) -> Result<Option<Ruled>, NoMemory>
+    requires room { 1 ≤ room }
     requires plan { IsLivePlan plan.now }
     requires work { length work.now ≡ plan.now.clients }
     ensures { IfOk result (λ tried. IfSome tried (IsLiveRun plan.now (map (λ list. list.items) work.now))) }
 {
-    let taken = once(rt, alloc, &plan.header(), work, gate)?;
-    checked(alloc, plan, work, &taken)
+    let taken = once(rt, alloc, room, plan, work, gate)?;
+    match checked(alloc, plan, work, &taken)? {
+        Some(journals) => Ruled::new(alloc, journals),
+        None => Ok(None),
+    }
 }

@@ -1,10 +1,12 @@
-use Rattle.std.proofs.Common.{◌≡◌, length}
+use Rattle.std.proofs.Common.{◌≡◌, length, take}
+use Rattle.curp_live.specs.Opening.{AreTaken, all_handed_out}
 use Rattle.curp_live.proofs.Scans.{SoFar}
 use Rattle.curp_live.proofs.anew.all_anew.Given as goal
 
 -- the journals of the nodes so far are made
 abbrev pub invariant-loop-node : goal.invariant-loop-node
 invariant-loop-node g l = record {
-  made : length l.logs.items ≡ length l.yielded;
-  anew : SoFar l.kind l.fn.nodes.items l.logs.items;
+  place_is : l.place ≡ length l.yielded;
+  same : AreTaken l.kind l.there l.fn.nodes.items l.taken → l.logs.items ≡ all_handed_out l.there (take l.place l.taken);
+  so_far : SoFar l.kind l.there l.fn.nodes.items l.place l.logs.items;
 }

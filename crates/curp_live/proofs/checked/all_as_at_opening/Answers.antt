@@ -1,30 +1,50 @@
-use Rattle.std.proofs.Common.{subst}
-use Rattle.curp_cmd.specs.declared.node.NodeId.{NodeId}
-use Rattle.curp_live.specs.Opening.{IsAnew}
-use Rattle.curp_live.proofs.Counts.{few_nodes}
+use Rattle.std.proofs.Common.{◌≡◌, ◌*◌, length, ap, sym, ◌∙◌, subst, arith}
+use Rattle.curp_cmd.specs.declared.node.NodeKind.TheVariants as kind
+use Rattle.curp_live.specs.Opening.{AreTaken, all_handed_out}
+use Rattle.curp_live.proofs.Counts.{client_count, few_nodes, long_states}
+use Rattle.curp_live.proofs.Handed.{handed_whole}
 use Rattle.curp_live.proofs.checked.all_as_at_opening.Goals as goal
 
 pub others_anew-requires-clause-few_clients : goal.others_anew-requires-clause-few_clients
-others_anew-requires-clause-few_clients c = (few_nodes c.args.header.now c.in_ok-nodes.nodes c.requires c.in_ok-nodes.ensures).clients
+others_anew-requires-clause-few_clients c = (few_nodes c.args.header.now c.args.recoveries c.in_ok-nodes.nodes c.requires.header c.requires.recoveries c.in_ok-nodes.ensures).clients
 
 pub others_anew-requires-clause-few_masters : goal.others_anew-requires-clause-few_masters
-others_anew-requires-clause-few_masters c = (few_nodes c.args.header.now c.in_ok-nodes.nodes c.requires c.in_ok-nodes.ensures).masters
+others_anew-requires-clause-few_masters c = (few_nodes c.args.header.now c.args.recoveries c.in_ok-nodes.nodes c.requires.header c.requires.recoveries c.in_ok-nodes.ensures).masters
 
 pub others_anew-requires-clause-few_backups : goal.others_anew-requires-clause-few_backups
-others_anew-requires-clause-few_backups c = (few_nodes c.args.header.now c.in_ok-nodes.nodes c.requires c.in_ok-nodes.ensures).backups
+others_anew-requires-clause-few_backups c = (few_nodes c.args.header.now c.args.recoveries c.in_ok-nodes.nodes c.requires.header c.requires.recoveries c.in_ok-nodes.ensures).backups
 
 pub others_anew-requires-clause-few_witnesses : goal.others_anew-requires-clause-few_witnesses
-others_anew-requires-clause-few_witnesses c = (few_nodes c.args.header.now c.in_ok-nodes.nodes c.requires c.in_ok-nodes.ensures).witnesses
+others_anew-requires-clause-few_witnesses c = (few_nodes c.args.header.now c.args.recoveries c.in_ok-nodes.nodes c.requires.header c.requires.recoveries c.in_ok-nodes.ensures).witnesses
 
-pub returns : goal.returns
-returns c =
-    let manager = rw c.in-Some.is at c.in_ok-manager.ensures.anew in
+pub returns-clause-anew : goal.returns-clause-anew
+returns-clause-anew c = record {
+  nodes = c.in_ok-nodes.nodes;
+  opening = c.in_ok-nodes.ensures;
+  manager = rw c.in-Some.is at c.in_ok-manager.ensures.anew;
+  runs = rw c.in-Some.is at c.in_ok-manager.ensures.runs;
+  clients = rw c.in-Some-2.is at c.in_ok-others.ensures.clients;
+  masters = rw c.in-Some-2.is at c.in_ok-others.ensures.masters;
+  backups = rw c.in-Some-2.is at c.in_ok-others.ensures.backups;
+  witnesses = rw c.in-Some-2.is at c.in_ok-others.ensures.witnesses;
+}
+
+pub returns-clause-same : goal.returns-clause-same
+returns-clause-same c = λ all.
+    let h = c.args.header.now in
+    let nodes = c.in_ok-nodes.nodes in
+    let of = all nodes c.in_ok-nodes.ensures in
+    let manager : c.in-Some.manager ≡ c.args.taken.now.manager = cc (c.in_ok-manager.ensures.same of.manager of.runs, c.in-Some.is) in
+    let others = rw c.in-Some-2.is at c.in_ok-others.ensures.same
+    (subst (AreTaken kind.Client h.clients nodes.clients.items) (sym c.as_slice.ensures.value) of.clients)
+    (subst (AreTaken kind.Master h.parts nodes.masters.items) (sym c.as_slice-2.ensures.value) of.masters)
+    (subst (AreTaken kind.Backup (h.parts * h.f) nodes.backups.items) (sym c.as_slice-3.ensures.value) of.backups)
+    (subst (AreTaken kind.Witness (h.parts * h.f) nodes.witnesses.items) (sym c.as_slice-4.ensures.value) of.witnesses) in
+    let many : length nodes.clients.items ≡ h.clients = long_states nodes.clients.items _ h.clients (c.in_ok-nodes.ensures).clients (client_count h) in
     record {
-      nodes = c.in_ok-nodes.nodes;
-      opening = c.in_ok-nodes.ensures;
-      manager = subst (λ (id : NodeId). IsAnew id c.in_ok-nodes.nodes.manager c.in-Some.manager) c.manager.ensures manager;
-      clients = rw c.in-Some-2.is at c.in_ok-others.ensures.clients;
-      masters = rw c.in-Some-2.is at c.in_ok-others.ensures.masters;
-      backups = rw c.in-Some-2.is at c.in_ok-others.ensures.backups;
-      witnesses = rw c.in-Some-2.is at c.in_ok-others.ensures.witnesses;
+      manager = manager;
+      clients = others.0 ∙ ap (all_handed_out h.clients) c.as_slice.ensures.value ∙ handed_whole h.clients c.args.taken.now.clients.items (omega (arith, of.clients.many, many));
+      masters = others.1 ∙ ap (all_handed_out h.parts) c.as_slice-2.ensures.value;
+      backups = others.2 ∙ ap (all_handed_out (h.parts * h.f)) c.as_slice-3.ensures.value;
+      witnesses = others.3 ∙ ap (all_handed_out (h.parts * h.f)) c.as_slice-4.ensures.value;
     }

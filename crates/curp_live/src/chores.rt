@@ -1,0 +1,124 @@
+// What clients and masters are ordered by their own threads.
+use curp_base::NoMemory;
+use curp_cmd::{Command, RequestId};
+use curp_msg::Local;
+use curp_seat::{Chores, Took};
+use std::alloc::Global;
+
+/// How many requests of a client are pending at a time.
+pub(crate) const MOST_PENDING: usize = 4;
+
+/// After so many updates and syncs a master begins a round.
+const SYNC_AFTER: u64 = 8;
+
+/// After so many it lets its witnesses drop what is stored.
+const COLLECT_AFTER: u64 = 32;
+
+/// A client's: it retries all that is pending after each configuration, in the order in which it was invoked, and
+/// invokes its commands in order, at most four at a time.
+#[derive(Drop)]
+pub(crate) struct ClientChores<'a> {
+    /// The commands that are still to be invoked.
+    left: &'a [Command],
+    /// The number of the last request.
+    invoked: u32,
+    /// The numbers of the pending requests, rising.
+    pending: Vec<u32>,
+    /// Those up to this one need no retry.
+    retried: u32,
+}
+
+impl<'a> ClientChores<'a> {
+    pub(crate) fn new(
+        alloc: Global,
+        commands: &'a [Command],
+    ) -> Result<ClientChores<'a>, NoMemory> {
+        Ok(ClientChores {
+            left: commands,
+            invoked: 0,
+            pending: Vec::with_capacity(alloc, MOST_PENDING)?,
+            retried: 0,
+        })
+    }
+
+    /// The next retry that is due.
+    fn retry(&mut self) -> Option<Local> {
+        let retried = self.retried;
+        let seq = *self.pending.iter().find(|seq| **seq > retried)?;
+        self.retried = seq;
+        Some(Local::Retry(seq))
+    }
+
+    /// The next command, if so few requests are pending that there is room for it.
+    fn invoke(&mut self) -> Option<Local> {
+        if self.pending.len() >= MOST_PENDING {
+            return None;
+        }
+        let (command, left) = self.left.split_first()?;
+        let seq = self.invoked.checked_add(1)?;
+        // The room was made at the beginning.
+        self.pending.push(seq).ok()?;
+        self.left = left;
+        self.invoked = seq;
+        self.retried = seq;
+        Some(Local::Invoke(*command))
+    }
+}
+
+impl<'a> Chores for ClientChores<'a> {
+    fn note(&mut self, took: Took, completed: Option<RequestId>) {
+        if let Some(id) = completed {
+            self.pending.retain(|seq| *seq != id.seq);
+        }
+        if let Took::Configuration { .. } = took {
+            self.retried = 0;
+        }
+    }
+
+    fn due(&mut self) -> Option<Local> {
+        match self.retry() {
+            Some(retry) => Some(retry),
+            None => self.invoke(),
+        }
+    }
+}
+
+/// A master's: `sync` after each 8 updates and syncs, and behind it `collect` after each 32.
+#[derive(Drop)]
+pub(crate) struct MasterChores {
+    asked: u64,
+    sync: bool,
+    collect: bool,
+}
+
+impl MasterChores {
+    pub(crate) fn new() -> MasterChores {
+        MasterChores {
+            asked: 0,
+            sync: false,
+            collect: false,
+        }
+    }
+}
+
+impl Chores for MasterChores {
+    fn note(&mut self, took: Took, _completed: Option<RequestId>) {
+        if took == Took::Asks {
+            self.asked = self.asked.wrapping_add(1);
+            self.sync = self.asked % SYNC_AFTER == 0;
+            self.collect = self.asked % COLLECT_AFTER == 0;
+        }
+    }
+
+    fn due(&mut self) -> Option<Local> {
+        if self.sync {
+            self.sync = false;
+            Some(Local::Sync)
+        } else if self.collect {
+            self.collect = false;
+            Some(Local::Collect)
+        } else {
+            None
+        }
+    }
+}

@@ -1,0 +1,143 @@
+// Who works in a run: the workers and the couriers of its nodes, and the driver.
+use crate::board::Board;
+use crate::chores::{ClientChores, MasterChores};
+use crate::drive::{Orders, drive};
+use crate::teller::{Speaker, Teller};
+use curp_base::NoMemory;
+use curp_cmd::NodeId;
+use curp_desk::{Carry, Desk, Drive, Posts, Work};
+use curp_journal::Arrived;
+use curp_msg::{Core, Local};
+use curp_nodes::{BackupNode, ClientNode, ManagerNode, MasterNode, WitnessNode};
+use curp_ruled::{Parcel, Take};
+use curp_seat::{Chores, Gate, NoChores};
+use curp_words::LivePlan;
+use std::alloc::Global;
+use std::sync::Wait;
+
+/// What all workers of a run share.
+#[derive(Drop)]
+pub(crate) struct Floor<'s, G> {
+    pub board: &'s Board,
+    pub gate: &'s G,
+}
+
+/// Whose steps a worker makes, with what the node is ordered by itself.
+#[derive(Drop)]
+pub(crate) enum Duty<'s, 'w> {
+    Manager(&'s Desk<ManagerNode>),
+    /// A client, with its number.
+    Client(u32, &'s Desk<ClientNode>, ClientChores<'w>),
+    /// A master, with its number.
+    Master(u32, &'s Desk<MasterNode>),
+    Backup(&'s Desk<BackupNode>),
+    Witness(&'s Desk<WitnessNode>),
+}
+
+/// A node's worker.
+#[derive(Drop)]
+pub(crate) struct Worker<'s, 'w, G> {
+    pub floor: &'s Floor<'s, G>,
+    pub duty: Duty<'s, 'w>,
+}
+
+impl<'s, 'w, G: Gate> Work for Worker<'s, 'w, G> {
+    fn work<R: Wait>(self, rt: &R, take: Take) {
+        let floor = self.floor;
+        match self.duty {
+            Duty::Manager(desk) => floor.serve(rt, desk, take, NoChores, Speaker::Other),
+            Duty::Client(number, desk, chores) => {
+                floor.serve(rt, desk, take, chores, Speaker::Client(number));
+            }
+            Duty::Master(number, desk) => {
+                let chores = MasterChores::new();
+                floor.serve(rt, desk, take, chores, Speaker::Master(number));
+            }
+            Duty::Backup(desk) => floor.serve(rt, desk, take, NoChores, Speaker::Other),
+            Duty::Witness(desk) => floor.serve(rt, desk, take, NoChores, Speaker::Other),
+        }
+    }
+}
+
+impl<'s, G: Gate> Floor<'s, G> {
+    fn serve<R: Wait, N: Core, C: Chores + Drop>(
+        &self,
+        rt: &R,
+        desk: &Desk<N>,
+        take: Take,
+        chores: C,
+        speaker: Speaker,
+    ) {
+        let teller = Teller {
+            speaker,
+            board: self.board,
+        };
+        desk.work(rt, self.gate, take, chores, &teller);
+    }
+}
+
+/// A node's courier.
+#[derive(Clone, Copy)]
+pub(crate) enum Courier<'s> {
+    Manager(&'s Desk<ManagerNode>),
+    Client(&'s Desk<ClientNode>),
+    Master(&'s Desk<MasterNode>),
+    Backup(&'s Desk<BackupNode>),
+    Witness(&'s Desk<WitnessNode>),
+}
+
+impl<'s> Carry for Courier<'s> {
+    fn carry<R: Wait>(self, rt: &R, posts: Posts) {
+        match self {
+            Courier::Manager(desk) => desk.carry(rt, posts),
+            Courier::Client(desk) => desk.carry(rt, posts),
+            Courier::Master(desk) => desk.carry(rt, posts),
+            Courier::Backup(desk) => desk.carry(rt, posts),
+            Courier::Witness(desk) => desk.carry(rt, posts),
+        }
+    }
+}
+
+/// The driver of a run.
+#[derive(Clone, Copy)]
+pub(crate) struct Driver<'s> {
+    pub alloc: Global,
+    pub plan: &'s LivePlan,
+    pub board: &'s Board,
+}
+
+impl<'s> Drive for Driver<'s> {
+    fn drive<R: Wait>(self, rt: &R, posts: &mut Posts) -> Result<(), NoMemory> {
+        let mut reach = Reach {
+            alloc: self.alloc,
+            posts,
+        };
+        drive(rt, self.plan, self.board, &mut reach)
+    }
+}
+
+/// How the driver reaches the nodes: by its posts. A node is stopped by its end.
+#[derive(Drop)]
+struct Reach<'p> {
+    alloc: Global,
+    posts: &'p mut Posts,
+}
+
+impl<'p> Orders for Reach<'p> {
+    fn order<R: Wait>(
+        &mut self,
+        rt: &R,
+        to: NodeId,
+        order: Local,
+        stamp: u64,
+    ) -> Result<(), NoMemory> {
+        let number = self.posts.sender();
+        let parcel = Parcel::new(self.alloc, number, Arrived::Local(order, stamp))?;
+        self.posts.send(rt, to, parcel);
+        Ok(())
+    }
+
+    fn stop<R: Wait>(&mut self, rt: &R, node: NodeId) {
+        self.posts.end(rt, node);
+    }
+}
