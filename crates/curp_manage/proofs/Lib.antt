@@ -1,0 +1,8 @@
+mod Fronts
+mod Given
+mod Headers
+mod Lines
+mod Orders
+mod Room
+mod Scripts
+mod Stops
