@@ -3,3 +3,4 @@ pub mod Printing
 pub mod Runs
 pub mod Shown
 pub mod Steps
+pub mod Stops

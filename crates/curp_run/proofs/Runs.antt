@@ -7,7 +7,7 @@ use Rattle.curp_msg.specs.declared.script.Step.{Step}
 use Rattle.curp_model.specs.World.{world}
 use Rattle.curp_script.specs.Script.{Script}
 use Rattle.curp_words.specs.Plan.{IsLivePlan, live_header}
-use Rattle.curp_words.specs.declared.order.LivePlan.{LivePlan}
+use Rattle.curp_words.specs.declared.task.LivePlan.{LivePlan}
 use Rattle.curp_gather.specs.Journals.{IsScriptOf, journals_of}
 use Rattle.curp_gather.specs.declared.journals.Journals.{Journals}
 use Rattle.curp_gen.specs.Commands.{workload_of}

@@ -1,18 +1,16 @@
 -- A run of journals shows the work that was done.
 use Rattle.std.proofs.Common.{◌≡◌, ℕ, zero, suc, ◌+◌, ◌≤◌, List, length, map, refl, ap, sym, ◌∙◌, subst, arith}
 use Rattle.curp_base.specs.Words.{At, numbers_from}
-use Rattle.curp_base.proofs.Lists.{Each-at, Each-weaker, at_append, at_map, at_some}
+use Rattle.curp_base.proofs.Lists.{Each-at, at_append, at_map, at_some}
 use Rattle.curp_base.proofs.Numbered.{numbers_at}
 use Rattle.curp_cmd.specs.Node.{client_node}
 use Rattle.curp_msg.specs.Moved.{Node}
 use Rattle.curp_msg.specs.declared.script.Step.{Step}
-use Rattle.curp_msg.specs.declared.script.Step.TheVariants.{Collect, Deliver, Expire, Fetch, Invoke, Migrate, Nudge, Recover, Replace, Retry, Stop, Sync}
 use Rattle.curp_journal.specs.Journal.{NodeJournal}
 use Rattle.curp_model.specs.Client.{ClientState}
-use Rattle.curp_script.specs.Printed.{NamesNode}
+use Rattle.curp_model.specs.World.{opening}
 use Rattle.curp_turns.specs.Work.{DidWork}
-use Rattle.curp_law_weave.specs.Run.{IsNoStop}
-use Rattle.curp_law_weave.proofs.Shown.{completed_are, invocations_are, none_stopped, recoveries_are}
+use Rattle.curp_law_weave.proofs.Shown.{completed_are, invocations_are, recoveries_are}
 use Rattle.curp_gather.specs.Journals.{IsClientJournal, IsScriptOf, journal_of, journals_of}
 use Rattle.curp_gather.specs.declared.journals.Journals.{Journals}
 use Rattle.curp_gen.specs.Commands.{workload_of}
@@ -20,23 +18,9 @@ use Rattle.curp_gen.proofs.Workloads.{length-workload}
 use Rattle.curp_live.specs.Live.{IsLiveRun}
 use Rattle.curp_words.specs.Plan.{live_header}
 use Rattle.curp_opening.proofs.Numbers.{named_length}
-use Rattle.curp_words.specs.declared.order.LivePlan.{LivePlan}
+use Rattle.curp_words.specs.declared.task.LivePlan.{LivePlan}
 use Rattle.curp_run.specs.Live.{Shows, work_of}
-
--- a step that stops no node names none
-can_be_printed : (s : Step) → IsNoStop s → NamesNode s
-can_be_printed (Stop id) no_stop = absurd no_stop
-can_be_printed (Invoke client command) no_stop = tt
-can_be_printed (Deliver number) no_stop = tt
-can_be_printed (Retry client seq) no_stop = tt
-can_be_printed (Fetch client) no_stop = tt
-can_be_printed (Sync master) no_stop = tt
-can_be_printed (Collect master) no_stop = tt
-can_be_printed (Recover part backup witness) no_stop = tt
-can_be_printed (Replace keeper part place) no_stop = tt
-can_be_printed (Migrate lo hi to) no_stop = tt
-can_be_printed Nudge no_stop = tt
-can_be_printed (Expire client) no_stop = tt
+use Rattle.curp_run.proofs.Stops.{run_prints}
 
 module _ (plan : LivePlan) (j : Journals) (ss : List Step) (run : IsLiveRun plan (work_of plan) j) (script : IsScriptOf (live_header plan) (journals_of j) ss) where
   -- a client's journal, and what it did
@@ -75,5 +59,5 @@ module _ (plan : LivePlan) (j : Journals) (ss : List Step) (run : IsLiveRun plan
         let many : length (workload_of plan.number n plan.commands) ≡ plan.commands = length-workload plan.number n plan.commands in
         completed_are (journals_of j) (live_header plan) ss script.placed script.run w.k (journal_of w.log) (record { client = n; seq = seq }) w.stands (w.did.completed seq first (omega (arith, many, last)));
     recovered = recoveries_are (journals_of j) (live_header plan) ss script.placed script.run 0 (journal_of j.manager) refl run.are.manager.its_name ∙ run.recoveries;
-    printable = Each-weaker IsNoStop NamesNode can_be_printed ss (none_stopped (journals_of j) (live_header plan) ss script.placed script.run run.none_ended);
+    printable = run_prints (opening (live_header plan)) ss script.placed script.run.runs;
   }

@@ -16,7 +16,7 @@ use Rattle.curp_msg.specs.Limits.{step_limit}
 use Rattle.curp_script.specs.Script.{Whole, script_of}
 use Rattle.curp_script.specs.Texts.{header_line, line_text, lines_text, script_lines, step_line}
 use Rattle.curp_words.specs.Plan.{IsPlan, header_of}
-use Rattle.curp_words.specs.declared.order.MakePlan.{MakePlan}
+use Rattle.curp_words.specs.declared.task.MakePlan.{MakePlan}
 use Rattle.curp_gen.proofs.Made.{next_plan, next_made}
 
 -- no step is made past the plan's last one

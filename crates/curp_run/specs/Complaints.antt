@@ -20,7 +20,7 @@ blame_text Unknown = []
 
 -- the line on the options that there are
 abbrev pub options_text : List ℕ
-options_text = line_of (codes "curp: make takes --number, --f, --sets, --ways, --clients, --parts, --protocol, --steps and --recoveries, each with a number, and --summary; live takes the same but --steps and --summary, --recoveries with 0 alone, and --commands with a number; play takes --history; check takes none; resp takes --f and --every, each with a number, and --script")
+options_text = line_of (codes "curp: make takes --number, --f, --sets, --ways, --clients, --parts, --protocol, --steps and --recoveries, each with a number, and --summary; live takes the same but --steps and --summary, and --commands with a number; play takes --history; check and manage take none; resp takes --f and --every, each with a number, and --script")
 
 -- the lines for a run that ended so
 abbrev pub complaints_text : Status → Blame → List ℕ

@@ -1,16 +1,23 @@
 -- What `live` writes, and what the script in it shows of the work.
-use Rattle.std.specs.Prelude.{◌≡◌, ◌≤◌, ◌⊎◌, ℕ, List, [], ◌∷◌, ◌++◌, map, Some}
+use Rattle.std.specs.Prelude.{◌≡◌, ◌≢◌, ◌≤◌, ◌⊎◌, ℕ, List, [], ◌∷◌, ◌++◌, map, Some}
 use Rattle.curp_base.specs.Words.{Each, numbers_from}
 use Rattle.curp_io.specs.Streams.{HoldsPart}
 use Rattle.curp_cmd.specs.declared.command.Command.{Command}
+use Rattle.curp_msg.specs.Limits.{step_limit, weight_limit}
 use Rattle.curp_msg.specs.declared.script.Step.{Step}
 use Rattle.curp_script.specs.Printed.{NamesNode}
 use Rattle.curp_script.specs.Script.{Script, Whole}
 use Rattle.curp_script.specs.Texts.{script_lines}
 use Rattle.curp_model.specs.World.{world}
+use Rattle.curp_turns.specs.Turns.{Journal}
 use Rattle.curp_turns.specs.Work.{invocations, recoveries}
+use Rattle.curp_merge.specs.Held.{AllHeld}
+use Rattle.curp_merge.specs.Merging.{turn_count, weight_sent}
+use Rattle.curp_gather_ruled.specs.Causes.{IsRuledCause}
+use Rattle.curp_gather_ruled.specs.declared.error.RuledError.{RuledError}
+use Rattle.curp_gather_ruled.specs.declared.error.RuledError.TheVariants as error
 use Rattle.curp_law_weave.specs.Run.{IsCompletedBy}
-use Rattle.curp_words.specs.declared.order.LivePlan.{LivePlan}
+use Rattle.curp_words.specs.declared.task.LivePlan.{LivePlan}
 use Rattle.curp_words.specs.Plan.{live_header}
 use Rattle.curp_gen.specs.Commands.{workload_of}
 use Rattle.curp_play.specs.Play.{OrderStands, script_in, text_of}
@@ -27,6 +34,18 @@ pub record Shows (plan : LivePlan) (steps : List Step) : Type 0 where
       → IsCompletedBy (live_header plan) steps (record { client = n; seq = seq })
   pub recovered : recoveries steps ≡ plan.recoveries
   pub printable : Each NamesNode steps
+
+-- journals are a script that is short and light enough to be played
+pub record IsPlayable (journals : List Journal) : Type 0 where
+  pub held : AllHeld journals
+  pub few : turn_count journals ≤ step_limit
+  pub light : weight_sent journals ≤ weight_limit
+
+-- they aren't: there are too many items, or they sent too much
+pub record IsUnplayable (journals : List Journal) : Type 0 where
+  pub why : RuledError
+  pub memory : why ≢ error.NoMemory
+  pub cause : IsRuledCause journals why
 
 -- the script of these steps, read to its end
 abbrev pub whole_script : LivePlan → List Step → Script

@@ -11,16 +11,16 @@ use Rattle.curp_msg.specs.declared.script.Step.{Step}
 use Rattle.curp_play.specs.declared.status.Status.{Status}
 use Rattle.curp_play.specs.declared.status.Status.TheVariants as status
 use Rattle.curp_script.specs.Printed.{NamesNode}
-use Rattle.curp_words.specs.Words.{order_in}
-use Rattle.curp_words.specs.declared.order.Order.{Order}
+use Rattle.curp_words.specs.Words.{task_in}
+use Rattle.curp_words.specs.declared.task.Task.{Task}
 
 -- the words behind the program's name, which is the first of its arguments
 abbrev pub words_of : List (String Global) → List Text
 words_of arguments = map string_bytes (drop 1 arguments)
 
 -- what the arguments of the program ask for
-abbrev pub asked : List (String Global) → Option Order
-asked arguments = order_in (words_of arguments)
+abbrev pub asked : List (String Global) → Option Task
+asked arguments = task_in (words_of arguments)
 
 -- words that are no text are no command line; any other error of reading them is want of memory
 abbrev pub unread_words : ErrorKind → Status

@@ -2,10 +2,10 @@ ghost use Rattle.std.specs.Prelude.{◌≡◌, ◌⊎◌, Some, None, Err, IfOk}
 ghost use Rattle.clap.specs.Walk.{texts};
 ghost use Rattle.curp_run.specs.Run.{asked, words_of};
 ghost use Rattle.curp_words.specs.Plan.{fits};
-ghost use Rattle.curp_words.specs.declared.order.WordsError.TheVariants as WordsError;
+ghost use Rattle.curp_words.specs.declared.task.WordsError.TheVariants as WordsError;
 
 use curp_base::{NoMemory, past};
-use curp_words::{Order, WordsError, read};
+use curp_words::{Task, WordsError, read};
 use std::alloc::Global;
 
 /// The words behind the program's name, which is the first argument.
@@ -21,10 +21,10 @@ pub(crate) fn words_in(alloc: Global, arguments: &[String]) -> Result<Vec<&str>,
 }
 
 /// What the arguments of the program ask for, as `read` has it of the words behind the program's name.
-pub(crate) fn order_of(alloc: Global, arguments: &[String]) -> Result<Order, WordsError>
-    ensures order { IfOk result (λ order. asked arguments.now ≡ Some order) }
+pub(crate) fn task_of(alloc: Global, arguments: &[String]) -> Result<Task, WordsError>
+    ensures task { IfOk result (λ task. asked arguments.now ≡ Some task) }
     ensures usage { result ≡ Err WordsError.Usage → asked arguments.now ≡ None }
-    ensures no_order { asked arguments.now ≡ None
+    ensures no_task { asked arguments.now ≡ None
         → (result ≡ Err WordsError.Usage) ⊎ (result ≡ Err WordsError.NoMemory) }
     ensures in_range { IfOk result fits }
 {

@@ -17,8 +17,8 @@ use std::fmt;
 const OPTIONS: &str =
     "make takes --number, --f, --sets, --ways, --clients, --parts, --protocol, --steps and \
     --recoveries, each with a number, and --summary; live takes the same but --steps and \
-    --summary, --recoveries with 0 alone, and --commands with a number; play takes --history; \
-    check takes none; resp takes --f and --every, each with a number, and --script";
+    --summary, and --commands with a number; play takes --history; check and manage take none; \
+    resp takes --f and --every, each with a number, and --script";
 
 /// What is wrong with words that are no command line. It prints as a line.
 #[derive(Clone, Copy)]

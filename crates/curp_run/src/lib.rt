@@ -1,5 +1,5 @@
-//! What the program does by the words of its command line: it plays a script, makes one, runs nodes on threads, or
-//! checks an order.
+//! What the program does by the words of its command line: it plays a script, makes one, runs nodes on threads, checks
+//! an order, serves requests, or gives a manager whose journal is kept its orders.
 //!
 //! `live_script` prints the script into memory, writes it, and plays just these bytes by `play_script`. A made script
 //! is written line by line, as its steps are made; nothing but the world is kept.

@@ -5,9 +5,9 @@ ghost use Rattle.curp_io.specs.Streams.{Rose, SameCount};
 ghost use Rattle.curp_play.specs.Status.{TellsStatus, code_of};
 ghost use Rattle.curp_run.specs.Run.{asked, unread_words};
 ghost use Rattle.curp_run.specs.declared.complaints.Blame.TheVariants.{Unknown};
-ghost use Rattle.curp_words.specs.declared.order.LivePlan.{LivePlan};
-ghost use Rattle.curp_words.specs.declared.order.MakePlan.{MakePlan};
-ghost use Rattle.curp_words.specs.declared.order.Output.{Output};
+ghost use Rattle.curp_words.specs.declared.task.LivePlan.{LivePlan};
+ghost use Rattle.curp_words.specs.declared.task.MakePlan.{MakePlan};
+ghost use Rattle.curp_words.specs.declared.task.Output.{Output};
 
 use crate::command::run;
 use crate::complaints::{Complaints, complaints_of};
@@ -66,7 +66,7 @@ pub fn run_to_end<R: Threads + Wait + Sync, G: Gate + Sync, S: Source, K: Sink, 
     ensures status { TellsStatus (exit_status result) }
     // With 2 exactly for words that are no command line, unless there was no memory to tell.
     ensures usage { exit_status result ≡ 2 → asked arguments.now ≡ None }
-    ensures no_order { asked arguments.now ≡ None → (exit_status result ≡ 2) ⊎ (exit_status result ≡ 6) }
+    ensures no_task { asked arguments.now ≡ None → (exit_status result ≡ 2) ⊎ (exit_status result ≡ 6) }
     // With 4 exactly where reading failed, and with 5 exactly where writing failed.
     ensures read_fault { exit_status result ≡ 4 → Rose (S.faults source.old) (S.faults source.new) }
     ensures no_read_fault { exit_status result ≢ 4 → SameCount (S.faults source.old) (S.faults source.new) }

@@ -12,7 +12,7 @@ use Rattle.curp_resp.specs.declared.asked.Asked.{Asked}
 use Rattle.curp_resp.specs.declared.asked.Asked.TheVariants as asked
 use Rattle.curp_session.specs.Session.{Session, answered_by, commands_in, fresh, most_requests, reads_all, refused, replies_behind, reply_to, session, unless_stopped}
 use Rattle.curp_words.specs.Plan.{IsRespPlan}
-use Rattle.curp_words.specs.declared.order.RespPlan.{RespPlan}
+use Rattle.curp_words.specs.declared.task.RespPlan.{RespPlan}
 use Rattle.curp_session.proofs.Naming.{NamesKeys, all_name_keys}
 
 -- ---- what the law says

@@ -19,8 +19,8 @@ use Rattle.curp_resp.specs.declared.asked.Asked.TheVariants as asked
 use Rattle.curp_resp.proofs.Fronts.{one_place, one_stands_first, request_some}
 use Rattle.curp_session.specs.Answering.{Aim, AreReadBack, Finishes, IsSession, aim_of, ended_by, if_replies, so_far}
 use Rattle.curp_session.specs.Session.{EndsSession, Session, answered_by, fresh, most_requests, reads, reads_all, status_of_limit, text_by, unless_stopped}
-use Rattle.curp_words.specs.declared.order.RespOutput.TheVariants as output
-use Rattle.curp_words.specs.declared.order.RespPlan.{RespPlan}
+use Rattle.curp_words.specs.declared.task.RespOutput.TheVariants as output
+use Rattle.curp_words.specs.declared.task.RespPlan.{RespPlan}
 use Rattle.curp_session.proofs.Texts.{all_grow, part_behind, part_held, part_of_more, reads_answers, text_broken, text_ended, text_grows, text_stopped, whole_behind}
 
 -- ---- errors

@@ -21,8 +21,8 @@ use Rattle.curp_script.specs.Texts.{header_line, line_text, lines_text, script_l
 use Rattle.curp_serve.proofs.Going.{quieting_goes, replaces_goes, tidies_goes, turn_goes}
 use Rattle.curp_session.specs.Answering.{due_of, if_replies, so_far}
 use Rattle.curp_session.specs.Session.{Session, answered_by, closing, fresh, most_requests, reads, reads_all, refused, text_by, unless_stopped}
-use Rattle.curp_words.specs.declared.order.RespOutput.{RespOutput}
-use Rattle.curp_words.specs.declared.order.RespOutput.TheVariants as output
+use Rattle.curp_words.specs.declared.task.RespOutput.{RespOutput}
+use Rattle.curp_words.specs.declared.task.RespOutput.TheVariants as output
 
 -- ---- lines
 

@@ -15,9 +15,9 @@ use Rattle.curp_resp.specs.Meaning.{meaning}
 use Rattle.curp_script.specs.Printed.{NamesNode}
 use Rattle.curp_script.specs.Texts.{lines_text, script_lines}
 use Rattle.curp_session.specs.Session.{EndsSession, Session, reads_all, reply_to, session, status_of_limit, text_by}
-use Rattle.curp_words.specs.declared.order.RespPlan.{RespPlan}
-use Rattle.curp_words.specs.declared.order.RespOutput.{RespOutput}
-use Rattle.curp_words.specs.declared.order.RespOutput.TheVariants as output
+use Rattle.curp_words.specs.declared.task.RespPlan.{RespPlan}
+use Rattle.curp_words.specs.declared.task.RespOutput.{RespOutput}
+use Rattle.curp_words.specs.declared.task.RespOutput.TheVariants as output
 
 -- ---- what is written
 

@@ -11,9 +11,9 @@ use Rattle.curp_resp.specs.Reply.{protocol_error, reply_of, wrong_of}
 use Rattle.curp_resp.specs.declared.asked.Asked.{Asked}
 use Rattle.curp_resp.specs.declared.asked.Asked.TheVariants as asked
 use Rattle.curp_script.specs.Texts.{script_lines}
-use Rattle.curp_words.specs.declared.order.RespOutput.{RespOutput}
-use Rattle.curp_words.specs.declared.order.RespOutput.TheVariants as output
-use Rattle.curp_words.specs.declared.order.RespPlan.{RespPlan}
+use Rattle.curp_words.specs.declared.task.RespOutput.{RespOutput}
+use Rattle.curp_words.specs.declared.task.RespOutput.TheVariants as output
+use Rattle.curp_words.specs.declared.task.RespPlan.{RespPlan}
 
 -- how many requests may be read
 abbrev pub most_requests : ℕ

@@ -6,7 +6,7 @@ ghost use Rattle.curp_model.specs.World.{world};
 ghost use Rattle.curp_resp.specs.Meaning.{meaning};
 ghost use Rattle.curp_session.specs.Session.{commands_in, replies_of_one_thread, session};
 ghost use Rattle.curp_words.specs.Plan.{IsRespPlan};
-ghost use Rattle.curp_words.specs.declared.order.RespPlan.{RespPlan};
+ghost use Rattle.curp_words.specs.declared.task.RespPlan.{RespPlan};
 
 /// The replies of a session are those of one thread to the same requests: all of them, or a front where a limit is met.
 pub fn replies_are_of_one_thread()

@@ -10,8 +10,8 @@ use std::thread::Threads;
 const USAGE: &str = "curp: usage: curp play, curp make [options], curp live [options]\n\
     curp: make takes --number, --f, --sets, --ways, --clients, --parts, --protocol, --steps and \
     --recoveries, each with a number, and --summary; live takes the same but --steps and \
-    --summary, --recoveries with 0 alone, and --commands with a number; play takes --history; \
-    check takes none; resp takes --f and --every, each with a number, and --script\n";
+    --summary, and --commands with a number; play takes --history; check and manage take none; \
+    resp takes --f and --every, each with a number, and --script\n";
 
 const HEADER: &str = r#"{"clients":2,"f":1,"fast":true,"parts":1,"protocol":1,"sets":16,"ways":4}
 "#;
@@ -38,7 +38,7 @@ play|--history|x: this can't stand there: x
 make|--f|6: this can't stand there: 6
 make|--f|1|--f|1: this can't stand there: --f
 --commands|5|make: this can't stand there: make
-live|--recoveries|1: this can't stand there: 1
+live|--recoveries|9: this can't stand there: 9
 resp|--script|make: this can't stand there: make
 --f|1|--sets|8|--ways|2|make|--summary|--parts|3|--clients|4|--steps|5|x: this can't stand there: x
 : this can't stand there: 

@@ -3,7 +3,7 @@ use curp_base::NoMemory;
 use curp_io::{MemorySink, MemorySource};
 use curp_play::Status;
 use curp_session::answer_requests;
-use curp_words::{Order, read};
+use curp_words::{Task, read};
 use std::alloc::Global;
 use std::test::Fail;
 
@@ -54,7 +54,7 @@ fn answered_from(
 ) -> Result<(Status, MemorySink), NoMemory> {
     let mut sink = MemorySink::new(alloc, &[])?;
     let status = match read(alloc, words) {
-        Ok(Order::Resp(plan)) => answer_requests(alloc, &plan, source, &mut sink),
+        Ok(Task::Resp(plan)) => answer_requests(alloc, &plan, source, &mut sink),
         _ => Status::Usage,
     };
     Ok((status, sink))

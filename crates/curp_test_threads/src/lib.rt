@@ -12,6 +12,12 @@ mod merge;
 #[cfg(test)]
 mod played;
 #[cfg(test)]
+mod read;
+#[cfg(test)]
+mod retries;
+#[cfg(test)]
+mod rooms;
+#[cfg(test)]
 mod run;
 #[cfg(test)]
 mod same;

@@ -10,7 +10,7 @@ use curp_io::MemorySink;
 use curp_msg::Step;
 use curp_play::Status;
 use curp_run::make_script;
-use curp_words::{MakePlan, Order, read};
+use curp_words::{MakePlan, Task, read};
 use std::alloc::Global;
 use std::test::Fail;
 
@@ -18,7 +18,7 @@ use std::test::Fail;
 fn made(alloc: Global, words: &[&str]) -> Result<(Status, MemorySink), NoMemory> {
     let mut sink = MemorySink::new(alloc, &[])?;
     let status = match read(alloc, words) {
-        Ok(Order::Make(plan, output)) => make_script(alloc, &plan, output, &mut sink),
+        Ok(Task::Make(plan, output)) => make_script(alloc, &plan, output, &mut sink),
         _ => Status::Usage,
     };
     Ok((status, sink))

@@ -1,11 +1,12 @@
 // Nodes on threads: that a run ends, and that its nodes don't wait for each other.
 use crate::played::{count, played, text_of};
+use crate::read::Run;
 use curp_base::NoMemory;
 use curp_cmd::{NodeId, NodeKind};
 use curp_io::{MemorySink, MemorySource};
 use curp_play::Status;
 use curp_run::run;
-use curp_seat::{Gate, OpenGate, Point};
+use curp_seat::{Gate, Point};
 use std::alloc::Global;
 use std::sync::Wait;
 use std::sync::atomic::{AtomicU64, Ordering};
@@ -124,7 +125,7 @@ fn is_played_again(alloc: Global, text: &str) -> Result<bool, NoMemory> {
     }
 }
 
-fn of_four(protocol: &str) -> [&str; 11] {
+fn of_four<'a>(protocol: &'a str, recoveries: &'a str) -> [&'a str; 11] {
     [
         "live",
         "--f",
@@ -134,7 +135,7 @@ fn of_four(protocol: &str) -> [&str; 11] {
         "--parts",
         "1",
         "--recoveries",
-        "0",
+        recoveries,
         "--protocol",
         protocol,
     ]
@@ -149,19 +150,33 @@ fn later_steps(gate: &Counting) -> u64 {
     gate.steps.load(Ordering::SeqCst).wrapping_sub(steps)
 }
 
-// Four clients with 50 commands each: all complete, the run was made once, and no node steps when it has ended.
+// Whether four clients with 50 commands each complete them all, in a run that was made once and is played again, and no
+// node steps when it has ended.
+fn four_end<R: Threads + Wait + Sync>(
+    rt: &R,
+    alloc: Global,
+    protocol: &str,
+    recoveries: &str,
+) -> Result<bool, NoMemory> {
+    let gate = Counting::new();
+    let (status, sink) = ran(rt, alloc, &of_four(protocol, recoveries), &gate)?;
+    let later = later_steps(&gate);
+    let text = text_of(&sink);
+    Ok(
+        status == Status::Ok
+            && count(text, "c ") == 200
+            && is_played_again(alloc, text)?
+            && gate.beginnings.load(Ordering::SeqCst) == 1
+            && later == 0,
+    )
+}
+
 #[test]
 fn each_command_completes_in_one_run(rt: HostRuntime) -> Result<(), Fail> {
     for protocol in ["1", "2"] {
-        let gate = Counting::new();
-        let (status, sink) = ran(&rt, rt.alloc(), &of_four(protocol), &gate)?;
-        let later = later_steps(&gate);
-        assert!(rt; status == Status::Ok);
-        let text = text_of(&sink);
-        assert!(rt; count(text, "c ") == 200);
-        assert!(rt; is_played_again(rt.alloc(), text)?);
-        assert!(rt; gate.beginnings.load(Ordering::SeqCst) == 1);
-        assert!(rt; later == 0);
+        for recoveries in ["0", "1", "8"] {
+            assert!(rt; four_end(&rt, rt.alloc(), protocol, recoveries)?);
+        }
     }
     Ok(())
 }
@@ -178,11 +193,13 @@ fn a_master_and_a_witness_meet(rt: HostRuntime) -> Result<(), Fail> {
     Ok(())
 }
 
-fn of_sixteen(protocol: &str) -> [&str; 7] {
+fn of_sixteen(protocol: &str) -> [&str; 9] {
     [
         "live",
         "--clients",
         "16",
+        "--parts",
+        "1",
         "--commands",
         "10",
         "--protocol",
@@ -190,28 +207,111 @@ fn of_sixteen(protocol: &str) -> [&str; 7] {
     ]
 }
 
-// Whether a run of sixteen clients ends well, and its script is played again.
-fn sixteen_end<R: Threads + Wait + Sync>(
+// How a run of sixteen clients, one partition and three recoveries went.
+#[derive(Clone, Copy)]
+struct Sixteen {
+    // It ended, it was made once, and its script is played again.
+    is_well: bool,
+    // Each master was ordered to sync and to collect when it was due, and no client had more than four requests pending.
+    is_paced: bool,
+    // Each client retried all that was pending after each configuration.
+    is_retried: bool,
+    // The master that the second recovery replaces answered after its successor served.
+    answers_late: bool,
+    // Witnesses were told to drop something.
+    collects: bool,
+}
+
+fn run_of_sixteen<R: Threads + Wait + Sync>(
     rt: &R,
     alloc: Global,
     protocol: &str,
-) -> Result<bool, NoMemory> {
-    let (status, sink) = ran(rt, alloc, &of_sixteen(protocol), &OpenGate)?;
-    Ok(status == Status::Ok && is_played_again(alloc, text_of(&sink))?)
+) -> Result<Sixteen, NoMemory> {
+    let gate = Counting::new();
+    let (status, sink) = ran(rt, alloc, &of_sixteen(protocol), &gate)?;
+    let text = text_of(&sink);
+    let is_played = is_played_again(alloc, text)?;
+    let run = Run::of(alloc, text)?;
+    Ok(Sixteen {
+        is_well: status == Status::Ok && gate.beginnings.load(Ordering::SeqCst) == 1 && is_played,
+        is_paced: run.is_paced(4) && run.most_pending() == 4,
+        is_retried: run.is_retried(alloc, 16)?,
+        answers_late: run.answers_late("M2", "M3"),
+        collects: run.has_message(" gc "),
+    })
 }
 
-#[test]
-fn a_hundred_runs_of_sixteen_clients_end(rt: HostRuntime) -> Result<(), Fail> {
-    for _ in 0..100 {
-        assert!(rt; sixteen_end(&rt, rt.alloc(), "1")?);
+// How many of 25 runs of sixteen clients had a superseded master that answered late. None where one didn't go well.
+fn runs_of_sixteen<R: Threads + Wait + Sync>(
+    rt: &R,
+    alloc: Global,
+    protocol: &str,
+) -> Result<Option<u32>, NoMemory> {
+    let mut late: u32 = 0;
+    for _ in 0..25 {
+        let run = run_of_sixteen(rt, alloc, protocol)?;
+        if !(run.is_well && run.is_paced && run.is_retried && run.collects) {
+            return Ok(None);
+        }
+        late = late.wrapping_add(run.answers_late as u32);
     }
+    Ok(Some(late))
+}
+
+// A hundred runs in each protocol, in four tests.
+
+#[test]
+fn runs_1_to_25_of_sixteen_clients_end(rt: HostRuntime) -> Result<(), Fail> {
+    let late = runs_of_sixteen(&rt, rt.alloc(), "1")?;
+    assert!(rt; late.is_some_and(|late| late > 0));
     Ok(())
 }
 
 #[test]
-fn a_hundred_runs_of_sixteen_clients_end_in_protocol_2(rt: HostRuntime) -> Result<(), Fail> {
-    for _ in 0..100 {
-        assert!(rt; sixteen_end(&rt, rt.alloc(), "2")?);
-    }
+fn runs_26_to_50_of_sixteen_clients_end(rt: HostRuntime) -> Result<(), Fail> {
+    let late = runs_of_sixteen(&rt, rt.alloc(), "1")?;
+    assert!(rt; late.is_some_and(|late| late > 0));
+    Ok(())
+}
+
+#[test]
+fn runs_51_to_75_of_sixteen_clients_end(rt: HostRuntime) -> Result<(), Fail> {
+    let late = runs_of_sixteen(&rt, rt.alloc(), "1")?;
+    assert!(rt; late.is_some_and(|late| late > 0));
+    Ok(())
+}
+
+#[test]
+fn runs_76_to_100_of_sixteen_clients_end(rt: HostRuntime) -> Result<(), Fail> {
+    let late = runs_of_sixteen(&rt, rt.alloc(), "1")?;
+    assert!(rt; late.is_some_and(|late| late > 0));
+    Ok(())
+}
+
+#[test]
+fn runs_1_to_25_end_in_protocol_2(rt: HostRuntime) -> Result<(), Fail> {
+    let late = runs_of_sixteen(&rt, rt.alloc(), "2")?;
+    assert!(rt; late.is_some_and(|late| late > 0));
+    Ok(())
+}
+
+#[test]
+fn runs_26_to_50_end_in_protocol_2(rt: HostRuntime) -> Result<(), Fail> {
+    let late = runs_of_sixteen(&rt, rt.alloc(), "2")?;
+    assert!(rt; late.is_some_and(|late| late > 0));
+    Ok(())
+}
+
+#[test]
+fn runs_51_to_75_end_in_protocol_2(rt: HostRuntime) -> Result<(), Fail> {
+    let late = runs_of_sixteen(&rt, rt.alloc(), "2")?;
+    assert!(rt; late.is_some_and(|late| late > 0));
+    Ok(())
+}
+
+#[test]
+fn runs_76_to_100_end_in_protocol_2(rt: HostRuntime) -> Result<(), Fail> {
+    let late = runs_of_sixteen(&rt, rt.alloc(), "2")?;
+    assert!(rt; late.is_some_and(|late| late > 0));
     Ok(())
 }

@@ -1,13 +1,13 @@
 // The steps of a run on threads.
-ghost use Rattle.std.specs.Prelude.{◌≡◌, ◌≤◌, length, map, IfOk, IfSome};
+ghost use Rattle.std.specs.Prelude.{◌≡◌, ◌≤◌, length, map, IfOk, IfSome, None, Ok};
 ghost use Rattle.curp_gather.specs.Journals.{AreOf, IsScriptOf, journals_of};
-ghost use Rattle.curp_run.specs.Live.{Shows, work_of};
+ghost use Rattle.curp_run.specs.Live.{IsPlayable, IsUnplayable, Shows, work_of};
 ghost use Rattle.curp_msg.specs.Limits.{step_limit};
 ghost use Rattle.curp_words.specs.Plan.{IsLivePlan, live_header};
 
 use curp_base::NoMemory;
 use curp_cmd::Command;
-use curp_gather::{GatherError, Journals, gather};
+use curp_gather_ruled::{Ruled, RuledError, gather_ruled};
 use curp_gen::workload;
 use curp_live::live;
 use curp_msg::{Header, Step};
@@ -17,8 +17,8 @@ use std::alloc::{AllocError, Global};
 use std::sync::Wait;
 use std::thread::Threads;
 
-/// The steps of a run on threads in which the clients of a plan do their work. A run whose journals are no script, or
-/// one that is too long or too heavy, is made anew.
+/// The steps of a run on threads in which the clients of a plan do their work. A run whose script is too long
+/// or too heavy is made anew.
 pub(crate) fn steps_of_run<R: Threads + Wait + Sync, G: Gate + Sync>(
     rt: &R,
     alloc: Global,
@@ -39,7 +39,7 @@ pub(crate) fn steps_of_run<R: Threads + Wait + Sync, G: Gate + Sync>(
     unreachable!()
 }
 
-// The steps of one run. None where its journals are no script, or one that is too long or too heavy.
+// The steps of one run. None where its script is too long or too heavy.
 fn steps_of_one<R: Threads + Wait + Sync, G: Gate + Sync>(
     rt: &R,
     alloc: Global,
@@ -55,27 +55,25 @@ fn steps_of_one<R: Threads + Wait + Sync, G: Gate + Sync>(
     ensures shows { IfOk result (λ found. IfSome found (λ steps. Shows plan.now steps.items)) }
     ensures few { IfOk result (λ found. IfSome found (λ steps. length steps.items ≤ step_limit)) }
 {
-    let journals = live(rt, alloc, plan, work, gate)?;
-    let steps = script_of(alloc, header, &journals);
-    drop(journals);
+    let ruled = live(rt, alloc, plan, work, gate)?;
+    let steps = script_of(alloc, header, &ruled);
+    drop(ruled);
     steps
 }
 
-// The steps of the script that journals are. None where they are none, or one that is too long or too heavy.
-fn script_of(
-    alloc: Global,
-    header: &Header,
-    journals: &Journals,
-) -> Result<Option<Vec<Step>>, NoMemory>
-    requires { AreOf header.now journals.now }
+// The steps of the script that ruled journals are. None exactly where it is too long or too heavy.
+fn script_of(alloc: Global, header: &Header, ruled: &Ruled) -> Result<Option<Vec<Step>>, NoMemory>
+    requires { AreOf header.now ruled.now }
     ensures script { IfOk result (λ found. IfSome found
-        (λ steps. IsScriptOf header.now (journals_of journals.now) steps.items)) }
+        (λ steps. IsScriptOf header.now (journals_of ruled.now) steps.items)) }
+    ensures playable { IfOk result (λ found. IfSome found (λ steps. IsPlayable (journals_of ruled.now))) }
+    ensures unplayable { result ≡ Ok None → IsUnplayable (journals_of ruled.now) }
     ensures few { IfOk result (λ found. IfSome found (λ steps. length steps.items ≤ step_limit)) }
 {
-    match gather(alloc, header, journals) {
+    match gather_ruled(alloc, header, ruled) {
         Ok(steps) => Ok(Some(steps)),
-        Err(GatherError::NoMemory) => Err(AllocError),
-        Err(_) => Ok(None),
+        Err(RuledError::NoMemory) => Err(AllocError),
+        Err(RuledError::TooManySteps | RuledError::TooLarge { .. }) => Ok(None),
     }
 }
 

@@ -11,3 +11,6 @@ returns-in-Err-NoMemory-clause-history_front g c = λ asks source_tells sink_tel
 
 pub returns-in-Err-NoMemory-clause-answers_front : goal.returns-in-Err-NoMemory-clause-answers_front
 returns-in-Err-NoMemory-clause-answers_front g c = λ plan requests rest asks source_tells sink_tells decomposes. nothing_held _ _
+
+pub returns-in-Err-NoMemory-clause-managed_front : goal.returns-in-Err-NoMemory-clause-managed_front
+returns-in-Err-NoMemory-clause-managed_front g c = λ asks source_tells sink_tells. nothing_held _ _

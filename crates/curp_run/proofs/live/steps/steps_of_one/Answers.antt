@@ -5,7 +5,7 @@ use Rattle.curp_run.proofs.live.steps.steps_of_one.Goals as goal
 
 pub returns-clause-shows : goal.returns-clause-shows
 returns-clause-shows g c =
-    let journals = c.in_ok-journals.journals in
+    let journals = c.in_ok-ruled.ruled in
     if_found c.script_of-steps.result (λ steps. IsScriptOf c.args.header.now (journals_of journals) steps.items) (λ steps. Shows c.args.plan.now steps.items)
     (λ steps script. run_shows c.args.plan.now c.args.header.now c.args.work.now journals steps.items c.requires.plan c.requires.header c.requires.work
-    c.in_ok-journals.ensures script) c.script_of-steps.ensures.script
+    c.in_ok-ruled.ensures script) c.script_of-steps.ensures.script
