@@ -84,6 +84,18 @@ def little_memory(curp):
     )
 
 
+def few_threads(curp):
+    """A run on threads needs about 90 stacks, and there is room for a few."""
+    limit = 60 * 1024 * 1024
+    return run(
+        curp,
+        ["live"],
+        stdin=subprocess.DEVNULL,
+        stdout=subprocess.DEVNULL,
+        preexec_fn=lambda: resource.setrlimit(resource.RLIMIT_AS, (limit, limit)),
+    )
+
+
 def closed_input(curp):
     return run(curp, ["play"], stdout=subprocess.DEVNULL, preexec_fn=lambda: os.close(0))
 
@@ -138,6 +150,7 @@ ROWS = [
     ("a line of 65,536 bytes", longest_line, 0, ""),
     ("a line of 65,537 bytes", too_long_line, 10, "curp: line 1 is too long\n"),
     ("60 MB of address space", little_memory, 6, "curp: out of memory\n"),
+    ("60 MB of address space, on threads", few_threads, 6, "curp: out of memory\n"),
     ("standard input closed", closed_input, 4, "curp: reading failed\n"),
     ("a folder as standard input", folder_as_input, 4, "curp: reading failed\n"),
     ("a terminal", terminal, 0, ""),

@@ -7,8 +7,9 @@ For each row it runs the program once for each call of the allocator, with that 
 stands before the C library's allocator, and refuses its call of one number (it is compiled by cc). Each run has to end
 with status 6 (out of memory), with a front of the row's output; where a refusal is made good (as by a smaller growth, or
 in the C library itself), with the row's own status and output; words that are no command line may end with their own
-status and lines, but the one on which word is wrong. It prints a table, and ends with 1 where a run did
-anything else. Runs on threads aren't among these: where a thread finds no memory, `live` may stand still.
+status and lines, but the one on which word is wrong. Runs on threads differ: each has to end within a minute, with
+status 6 and a front of a script and of what playing it writes, or well, with a whole one; there each call is refused up
+to the last that ended a run and a thousand more. It prints a table, and ends with 1 where a run did anything else.
 """
 
 import os
@@ -75,6 +76,11 @@ OTHERS = {
     "words that are none": (["make", "--f", "1", "--f", "1"], b""),
 }
 MOST = 20_000
+# Runs on threads, whose scripts differ.
+ON_THREADS = {
+    "a run on threads": ["live", "--f", "1", "--clients", "2", "--parts", "1", "--commands", "5", "--recoveries", "2"],
+}
+BEHIND = 1_000
 
 
 def shim_in(folder):
@@ -118,6 +124,41 @@ def look_at(name, curp, words, script, library):
     return not faults
 
 
+def is_front_of_run(curp, out, is_whole):
+    """Whether it is a front of a script, an empty line, and what playing that script writes, or the whole of it."""
+    script, empty, rest = out.partition(b"\n\n")
+    if not empty:
+        lines = out.split(b"\n")
+        return not is_whole and all(line.startswith(b"{") and line.endswith(b"}") for line in lines[:-1])
+    played = subprocess.run([curp, "play"], input=script + b"\n", capture_output=True, timeout=60)
+    return played.returncode == 0 and (rest == played.stdout if is_whole else played.stdout.startswith(rest))
+
+
+def look_at_threads(name, curp, words, library):
+    """Refuses calls of runs on threads until a run makes no call of the number, and tells what came of it."""
+    refused = call = last = 0
+    statuses, faults = {}, []
+    while call < MOST and call < last + BEHIND:
+        call += 1
+        try:
+            ended, out, err = run(curp, words, b"", library, call)
+        except subprocess.TimeoutExpired:
+            ended, out, err = "none", b"", b""
+        statuses[ended] = statuses.get(ended, 0) + 1
+        is_cut = ended == 6 and err == b"curp: out of memory\n" and is_front_of_run(curp, out, False)
+        if is_cut:
+            refused += 1
+            last = call
+        elif not (ended == 0 and err == b"" and is_front_of_run(curp, out, True)):
+            faults.append((call, ended, err))
+            last = call
+    told = ", ".join(f"{status}: {count}" for status, count in sorted(statuses.items(), key=str))
+    print(f"| {name} | {call} | {refused} | {told} |", flush=True)
+    for call, ended, err in faults[:10]:
+        print(f"  call {call}: status {ended}, {err!r}")
+    return not faults
+
+
 def main():
     if len(sys.argv) != 2:
         sys.exit(__doc__)
@@ -132,6 +173,8 @@ def main():
             good &= look_at(name, curp, ["play"], script, library)
         for name, (words, script) in OTHERS.items():
             good &= look_at(name, curp, words, script, library)
+        for name, words in ON_THREADS.items():
+            good &= look_at_threads(name, curp, words, library)
     sys.exit(0 if good else 1)
 
 
