@@ -6,6 +6,8 @@ mod board;
 #[cfg(test)]
 mod desks;
 #[cfg(test)]
+mod ends;
+#[cfg(test)]
 mod filled;
 #[cfg(test)]
 mod relay;
