@@ -52,6 +52,15 @@ impl<T: Copy + Drop> Boxed<T> {
         Ok(Boxed::new(alloc, *value)?)
     }
 
+    /// Its place with a copy of another value. It takes no memory.
+    pub fn with(self, value: &T) -> Boxed<T>
+        ensures { result ≡ value.now }
+    {
+        let mut place = self;
+        place.set(*value);
+        place
+    }
+
     pub fn copy(&self, alloc: Global) -> Result<Boxed<T>, NoMemory>
         ensures { IfOk result (λ copy. copy ≡ self.now) }
     {

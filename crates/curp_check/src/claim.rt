@@ -8,7 +8,7 @@ ghost use Rattle.curp_check.specs.Stages.{request_of, stage_after};
 
 use curp_base::NoMemory;
 use curp_cmd::{Command, RequestId};
-use curp_order::{Event, History};
+use curp_order::Event;
 use curp_script::{EventLine, FieldName, LineError};
 use std::alloc::Global;
 use std::collections::BTreeMap;
@@ -27,7 +27,7 @@ pub(crate) enum RequestStage {
 /// A history, and the order that is claimed for it. Contracts see both.
 #[derive(Drop)]
 pub struct Claim {
-    history: History,
+    history: Vec<Event>,
     order: Vec<(RequestId, Command)>,
     // How far each request of the history is.
     stages: BTreeMap<RequestId, RequestStage>,
@@ -41,9 +41,9 @@ impl Model for Claim {
 
     ghost Value = { Claimed };
 
-    ghost view = { λ c. record { events = c.history.events; order = c.order.items } };
+    ghost view = { λ c. record { events = c.history.items; order = c.order.items } };
 
-    ghost invariant = { λ c. IsFollowed (get id_cmp c.stages) c.history.events };
+    ghost invariant = { λ c. IsFollowed (get id_cmp c.stages) c.history.items };
 }
 
 impl Claim {
@@ -52,7 +52,7 @@ impl Claim {
         ensures { result ≡ nothing_claimed }
     {
         Claim {
-            history: History::new(alloc),
+            history: Vec::new(alloc),
             order: Vec::new(alloc),
             stages: BTreeMap::new(alloc),
         }
@@ -85,7 +85,7 @@ impl Claim {
         ensures events { result.now ≡ self.now.events }
         ensures is_history { IsHistory self.now.events }
     {
-        self.history.events()
+        &self.history
     }
 
     /// The requests of the order.
@@ -123,22 +123,28 @@ impl Claim {
 }
 
 fn push_event(
-    history: &mut History,
+    history: &mut Vec<Event>,
     stages: &mut BTreeMap<RequestId, RequestStage>,
     event: &Event,
     stage: RequestStage,
 ) -> Result<(), NoMemory>
-    ensures history { OnOk result (history.new.events ≡ history.old.events ++ event.now ∷ []) }
+    ensures history { OnOk result (history.new.items ≡ history.old.items ++ event.now ∷ []) }
     ensures stages { OnOk result (Updates id_cmp stages.old stages.new (request_of event.now) (Some stage)) }
-    ensures history_stays { OnErr result (history.new.events ≡ history.old.events) }
+    ensures history_stays { OnErr result (history.new.items ≡ history.old.items) }
     ensures stages_stay { OnErr result (stages.new.entries ≡ stages.old.entries) }
 {
-    history.reserve(2)?;
+    history.reserve(1)?;
     stages.insert(request_of(event), stage)?;
-    match event {
-        Event::Invoke { id, command } => history.record(Some((*id, *command)), None),
-        Event::Complete { id, answer } => history.record(None, Some((*id, *answer))),
-    }
+    history.push_reserved(match event {
+        Event::Invoke { id, command } => Event::Invoke {
+            id: *id,
+            command: *command,
+        },
+        Event::Complete { id, answer } => Event::Complete {
+            id: *id,
+            answer: *answer,
+        },
+    });
     Ok(())
 }
 

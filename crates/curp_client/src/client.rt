@@ -1,4 +1,6 @@
 ghost use Rattle.std.specs.Prelude.{◌≡◌, ◌<◌, length, Ok, Err, IfOk, IfErr, IfSome, OnOk};
+ghost use Rattle.std.specs.Option.{option_copied, option_map};
+ghost use Rattle.curp_base.specs.Words.{last_of};
 ghost use Rattle.curp_model.specs.Client as model;
 ghost use Rattle.curp_msg.specs.Moved.{Makes, Moves, numbered_move, quiet};
 ghost use Rattle.curp_client.specs.Evidence.{completes_if, concluded, kept};
@@ -11,7 +13,7 @@ use crate::pending::{Attempt, Pending};
 use crate::requests::Requests;
 use crate::sending::sent_by;
 use crate::{InvokeError, RetryError};
-use curp_base::NoMemory;
+use curp_base::{NoMemory, Shared};
 use curp_cmd::{Command, NodeId, Request, RequestId};
 use curp_msg::{
     Accepted, Body, Capture, Completed, Config, Done, Message, PartConfig, Probed, Protocol, Quick,
@@ -97,6 +99,13 @@ impl Client {
         self.pending.least()
     }
 
+    /// The request that it invoked last, of those that are pending.
+    pub fn newest(&self) -> Option<&Shared<Request>>
+        ensures { option_copied result ≡ option_map (λ p. p.request) (last_of self.now.state.pending) }
+    {
+        self.pending.newest()
+    }
+
     /// No request that is pending has a number behind the client's last one, whatever was done.
     pub fn numbers_are_used(&self)
         ensures { model.NumbersAreUsed self.now.state }
@@ -116,15 +125,16 @@ impl Client {
     {
         let part = self.part_for(command)?;
         let request = self.next_request(command);
+        let shared = Shared::of(self.alloc, &request)?;
         let messages = sent_by(
             self.alloc,
             self.number,
             self.fast,
             self.protocol,
-            &request,
+            &shared,
             part,
         )?;
-        let pending = Pending::first_sent(self.alloc, &request, part)?;
+        let pending = Pending::first_sent(self.alloc, shared, part)?;
         self.pending.push(pending)?;
         self.last = request.id.seq;
         Ok(Done::sends(messages))
@@ -144,7 +154,7 @@ impl Client {
         let Some(pending) = self.pending.find(&id) else {
             return Err(RetryError::NotPending);
         };
-        let request = *pending.request();
+        let request = pending.request();
         let Some(part) = owner_of(&self.config, &request.command) else {
             return Err(RetryError::Split);
         };
@@ -153,7 +163,7 @@ impl Client {
             self.number,
             self.fast,
             self.protocol,
-            &request,
+            request,
             part,
         )?;
         let attempt = Attempt::at(self.alloc, part)?;
@@ -378,7 +388,7 @@ impl Client {
             return Ok(Done::quiet(self.alloc));
         };
         let mut messages = Vec::with_capacity(self.alloc, 1)?;
-        messages.push(attempt.ask_of(self.alloc, self.number, pending.request())?)?;
+        messages.push(attempt.ask_of(self.number, pending.request())?)?;
         self.pending.ask(id);
         Ok(Done::sends(messages))
     }

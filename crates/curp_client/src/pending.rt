@@ -10,7 +10,7 @@ ghost use Rattle.curp_client.specs.Evidence.{completion, is_backed, kept};
 use crate::evidence::{
     Accept, Early, Evidence, Glimpse, KnownMaster, add_accept, add_early, add_glimpse, has_accepted,
 };
-use curp_base::{Boxed, Items, NoMemory};
+use curp_base::{Items, NoMemory, Shared};
 use curp_cmd::{NodeId, Request};
 use curp_msg::{Ask, Body, Completed, Message, PartConfig};
 use std::alloc::Global;
@@ -54,20 +54,14 @@ impl Attempt {
 
     /// What asks its master once more for a request of the client of that number: for a synced reply to an update, or for
     /// a value of a read.
-    pub(crate) fn ask_of(
-        &self,
-        alloc: Global,
-        number: u32,
-        request: &Request,
-    ) -> Result<Message, NoMemory>
+    pub(crate) fn ask_of(&self, number: u32, request: &Shared<Request>) -> Result<Message, NoMemory>
         ensures { IfOk result (λ message. message ≡ ask_at number request.now self.now) }
     {
         let ask = Ask {
-            request: *request,
+            request: request.share()?,
             epoch: self.master.epoch,
             version: self.master.version,
         };
-        let ask = Boxed::of(alloc, &ask)?;
         let body = if request.command.is_update() {
             Body::Sync(ask)
         } else {
@@ -102,7 +96,7 @@ impl Attempt {
 /// A request that isn't completed, and what was delivered for it.
 #[derive(Drop)]
 pub(crate) struct Pending {
-    request: Request,
+    request: Shared<Request>,
     // The newest last.
     attempts: Vec<Attempt>,
     // A synced reply, or a value, was asked for since the last attempt.
@@ -133,15 +127,15 @@ impl Pending {
     /// A request that is sent for the first time.
     pub(crate) fn first_sent(
         alloc: Global,
-        request: &Request,
+        request: Shared<Request>,
         part: &PartConfig,
     ) -> Result<Pending, NoMemory>
-        ensures { IfOk result (λ pending. pending ≡ first_sent request.now part.now) }
+        ensures { IfOk result (λ pending. pending ≡ first_sent request part.now) }
     {
         let mut attempts = Vec::with_capacity(alloc, 1)?;
         attempts.push(Attempt::at(alloc, part)?)?;
         Ok(Pending {
-            request: *request,
+            request,
             attempts,
             asked: false,
             early: Vec::new(alloc),
@@ -151,7 +145,7 @@ impl Pending {
         })
     }
 
-    pub(crate) fn request(&self) -> &Request
+    pub(crate) fn request(&self) -> &Shared<Request>
         ensures { result.now ≡ self.now.request }
     {
         &self.request

@@ -5,7 +5,7 @@ ghost use Rattle.curp_cmd.specs.Store.{is_update};
 ghost use Rattle.curp_model.specs.Client as model;
 ghost use Rattle.curp_msg.specs.Moved.{says, says_each};
 
-use curp_base::{Boxed, NoMemory};
+use curp_base::{NoMemory, Shared};
 use curp_cmd::{NodeId, Request};
 use curp_msg::{Ask, Body, Message, PartConfig, Probe, Protocol, Record};
 use std::alloc::Global;
@@ -17,25 +17,23 @@ pub(crate) fn sent_by(
     number: u32,
     fast: bool,
     protocol: Protocol,
-    request: &Request,
+    request: &Shared<Request>,
     part: &PartConfig,
 ) -> Result<Vec<Message>, NoMemory>
     ensures { IfOk result (λ messages. messages.items
         ≡ model.sent_by number fast protocol (is_update request.now.command) request.now part.now) }
 {
     let ask = Ask {
-        request: *request,
+        request: request.share()?,
         epoch: part.epoch,
         version: part.version,
     };
-    let ask = Boxed::of(alloc, &ask)?;
     match (request.command.is_update(), fast, protocol) {
         (true, true, _) => {
-            let record = Record {
-                request: *request,
+            let record = Body::Record(Record {
+                request: request.share()?,
                 epoch: part.epoch,
-            };
-            let record = Body::Record(Boxed::of(alloc, &record)?);
+            });
             to_all(alloc, number, part, Body::Update(ask), &record)
         }
         (true, false, _) => to_master(alloc, number, part, Body::Sync(ask)),

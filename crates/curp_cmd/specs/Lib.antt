@@ -1,6 +1,7 @@
 pub mod Entry
 pub mod Hash
 pub mod InPlace
+pub mod Kept
 pub mod Migration
 pub mod Node
 pub mod Pairs

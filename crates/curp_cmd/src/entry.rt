@@ -2,20 +2,31 @@ ghost use Rattle.std.specs.Prelude.{◌≡◌, IfOk};
 ghost use Rattle.curp_cmd.specs.Entry.{room_of, pairs_put};
 
 use crate::{Command, Package, Request};
-use curp_base::{NoMemory, TryCopy};
+use curp_base::{NoMemory, Shared, TryCopy};
 use std::alloc::Global;
 
 /// What a log has in one place.
 #[derive(Drop)]
 pub enum Entry {
     /// A request is done, and its client has the answers of all its requests below the acknowledged number.
-    Op { request: Request, acknowledge: u32 },
+    Op {
+        request: Shared<Request>,
+        acknowledge: u32,
+    },
     /// A range leaves with a migration: its keys go, and the package has what there was.
-    Take { migration: u32, package: Package },
+    Take {
+        migration: u32,
+        package: Package,
+    },
     /// A range comes with a migration: what the package has is added.
-    Give { migration: u32, package: Package },
+    Give {
+        migration: u32,
+        package: Package,
+    },
     /// A client is gone, and what is kept for it goes with it.
-    Expire { client: u32 },
+    Expire {
+        client: u32,
+    },
 }
 
 impl Entry {
@@ -27,7 +38,7 @@ impl Entry {
                 request,
                 acknowledge,
             } => Ok(Entry::Op {
-                request: *request,
+                request: request.share()?,
                 acknowledge: *acknowledge,
             }),
             Entry::Take { migration, package } => Ok(Entry::Take {

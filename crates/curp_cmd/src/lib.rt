@@ -8,6 +8,8 @@
 //! - `NodeId::client` and the other names of nodes; `==` of nodes and of ids: exact. `Hashes::of`: the hashes of a
 //!   command's keys, in place.
 //! - `key_hash`, `bytes_hash`: FNV-1a with 64 bits. `touches`, `conflict`: exact over the hashes of a command's keys.
+//! - `KeptCommand`: the command of a request, shared with all who hold the request; `Standby`: places that stand ready
+//!   for it, so that keeping one takes no memory and doesn't fail. Contracts see the command.
 //! - `Entry`, `Package`, `TablePart`: what logs and migrations carry; `copy` and `room` are exact.
 //! - `laws::apart_commute`: two commands that don't conflict may be done in either order: the store is the same after
 //!   both, and each gives the same answer. `laws::reads_change_nothing`, `laws::put_changes_one_key`;
@@ -20,6 +22,7 @@ mod entry;
 mod hash;
 mod hashes;
 mod in_place;
+mod kept;
 mod key;
 pub mod laws;
 mod migration;
@@ -32,6 +35,7 @@ pub use command::{Answer, Command, Request, RequestId};
 pub use entry::{Entry, pairs_put, room};
 pub use hash::{bytes_hash, conflict, key_hash, touches};
 pub use hashes::Hashes;
+pub use kept::{KeptCommand, Standby};
 pub use key::{Key, KeyError};
 pub use migration::{Package, TablePart};
 pub use node::{Keeper, NodeId, NodeKind};

@@ -5,7 +5,7 @@ ghost use Rattle.curp_items.specs.Spelling.{HasSpelling};
 
 use crate::package::{read_package, skip_package, write_package};
 use crate::{Fault, Item, ReadError, Reader, Writer};
-use curp_base::NoMemory;
+use curp_base::{NoMemory, Shared};
 use curp_cmd::{Entry, Request};
 use std::alloc::Global;
 
@@ -50,7 +50,7 @@ pub fn read_entry_at(alloc: Global, reader: &mut Reader) -> Result<Entry, ReadEr
     let place = reader.place();
     match reader.byte()? {
         1 => Ok(Entry::Op {
-            request: Item::read(reader)?,
+            request: Shared::new(alloc, Request::read(reader)?)?,
             acknowledge: Item::read(reader)?,
         }),
         2 => Ok(Entry::Take {

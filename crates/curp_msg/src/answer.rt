@@ -1,6 +1,6 @@
 ghost use Rattle.std.specs.Prelude.{◌≡◌, IfOk};
 
-use curp_base::{Items, NoMemory, TryCopy};
+use curp_base::{Items, NoMemory, Shared, TryCopy};
 use curp_cmd::{Entry, Request, RequestId};
 use std::alloc::Global;
 
@@ -55,7 +55,7 @@ pub enum AppendAnswer {
 #[derive(Drop)]
 pub enum GcAnswer {
     /// The requests that were held for long and were in the way of others.
-    Suspects(Items<Request>),
+    Suspects(Items<Shared<Request>>),
     /// It has another epoch, or was never started.
     Stranger { epoch: Option<u32> },
 }
@@ -74,7 +74,7 @@ impl GcAnswer {
         ensures { IfOk result (λ copy. copy ≡ self.now) }
     {
         match self {
-            GcAnswer::Suspects(requests) => Ok(GcAnswer::Suspects(requests.copy(alloc)?)),
+            GcAnswer::Suspects(requests) => Ok(GcAnswer::Suspects(requests.try_copy(alloc)?)),
             GcAnswer::Stranger { epoch } => Ok(GcAnswer::Stranger { epoch: *epoch }),
         }
     }

@@ -1,7 +1,7 @@
 ghost use Rattle.std.specs.Prelude.{◌≡◌, ◌≤◌, IfOk};
 
 use crate::{AppendAnswer, Config, FenceReply, GcAnswer, Reason, Refusal};
-use curp_base::{Boxed, Items, NoMemory, TryCopy};
+use curp_base::{Boxed, Items, NoMemory, Shared, TryCopy};
 use curp_cmd::{Answer, Entry, NodeId, Package, Request, RequestId};
 use std::alloc::Global;
 
@@ -9,13 +9,13 @@ use std::alloc::Global;
 #[derive(Drop)]
 pub enum Body {
     /// A client asks a master to execute an update, and to answer before the backups have it where that is safe.
-    Update(Boxed<Ask>),
+    Update(Ask),
     /// A client asks a master to execute an update, and to answer once it is stored on all backups.
-    Sync(Boxed<Ask>),
+    Sync(Ask),
     /// A client asks a master to read.
-    Read(Boxed<Ask>),
+    Read(Ask),
     /// A client asks a witness to hold a request.
-    Record(Boxed<Record>),
+    Record(Record),
     /// A client asks the manager for the configuration.
     Fetch,
     /// The manager tells a client the configuration.
@@ -52,7 +52,7 @@ pub enum Body {
     /// holds.
     Freeze { epoch: u32 },
     /// A witness says which requests it holds.
-    FrozenAnswer { requests: Items<Request> },
+    FrozenAnswer { requests: Items<Shared<Request>> },
     /// A master has recovered a partition.
     Recovered(Recovered),
     /// The manager has adopted a master with its lists.
@@ -76,22 +76,22 @@ pub enum Body {
     /// A witness answers a probe.
     Probed(Probed),
     /// A client of protocol 2 asks a master to read, and to answer at once where that is safe.
-    Glance(Boxed<Ask>),
+    Glance(Ask),
     /// A master answers a read at once.
     Quick(Boxed<Quick>),
 }
 
 /// A request, with the epoch and the version of the lists that its client knows.
-#[derive(Clone, Copy, PartialEq, Eq)]
+#[derive(PartialEq, Eq, Drop)]
 pub struct Ask {
-    pub request: Request,
+    pub request: Shared<Request>,
     pub epoch: u32,
     pub version: u32,
 }
 
-#[derive(Clone, Copy, PartialEq, Eq)]
+#[derive(PartialEq, Eq, Drop)]
 pub struct Record {
-    pub request: Request,
+    pub request: Shared<Request>,
     pub epoch: u32,
 }
 
@@ -257,10 +257,10 @@ impl Body {
         ensures { IfOk result (λ copy. copy ≡ self.now) }
     {
         Ok(match self {
-            Body::Update(ask) => Body::Update(ask.copy(alloc)?),
-            Body::Sync(ask) => Body::Sync(ask.copy(alloc)?),
-            Body::Read(ask) => Body::Read(ask.copy(alloc)?),
-            Body::Record(record) => Body::Record(record.copy(alloc)?),
+            Body::Update(ask) => Body::Update(ask.share()?),
+            Body::Sync(ask) => Body::Sync(ask.share()?),
+            Body::Read(ask) => Body::Read(ask.share()?),
+            Body::Record(record) => Body::Record(record.share()?),
             Body::Fetch => Body::Fetch,
             Body::Configuration { config } => Body::Configuration {
                 config: config.copy(alloc)?,
@@ -281,7 +281,7 @@ impl Body {
             Body::FenceAnswer(answer) => Body::FenceAnswer(answer.copy(alloc)?),
             Body::Freeze { epoch } => Body::Freeze { epoch: *epoch },
             Body::FrozenAnswer { requests } => Body::FrozenAnswer {
-                requests: requests.copy(alloc)?,
+                requests: requests.try_copy(alloc)?,
             },
             Body::Recovered(recovered) => Body::Recovered(*recovered),
             Body::Adopted(adopted) => Body::Adopted(*adopted),
@@ -296,8 +296,33 @@ impl Body {
             Body::ExpireClient { client } => Body::ExpireClient { client: *client },
             Body::Probe(probe) => Body::Probe(*probe),
             Body::Probed(probed) => Body::Probed(*probed),
-            Body::Glance(ask) => Body::Glance(ask.copy(alloc)?),
+            Body::Glance(ask) => Body::Glance(ask.share()?),
             Body::Quick(quick) => Body::Quick(quick.copy(alloc)?),
+        })
+    }
+}
+
+impl Ask {
+    /// The same, with the request shared. It takes no memory.
+    pub fn share(&self) -> Result<Ask, NoMemory>
+        ensures { IfOk result (λ shared. shared ≡ self.now) }
+    {
+        Ok(Ask {
+            request: self.request.share()?,
+            epoch: self.epoch,
+            version: self.version,
+        })
+    }
+}
+
+impl Record {
+    /// The same, with the request shared. It takes no memory.
+    pub fn share(&self) -> Result<Record, NoMemory>
+        ensures { IfOk result (λ shared. shared ≡ self.now) }
+    {
+        Ok(Record {
+            request: self.request.share()?,
+            epoch: self.epoch,
         })
     }
 }

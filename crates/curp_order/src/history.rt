@@ -1,9 +1,9 @@
 ghost use Rattle.std.specs.Prelude.{◌≡◌, ◌+◌, ◌≤◌, [], ◌∷◌, ◌++◌, OnOk};
 ghost use Rattle.curp_order.specs.Recorded.{invocation, completion};
 
-use crate::Event;
+use crate::KeptEvent;
 use curp_base::{NoMemory, Reserved};
-use curp_cmd::{Answer, Command, RequestId};
+use curp_cmd::{Answer, KeptCommand, RequestId};
 use std::alloc::Global;
 use std::marker::Model;
 
@@ -11,7 +11,7 @@ use std::marker::Model;
 /// room.
 #[derive(Drop)]
 pub struct History {
-    events: Reserved<Event>,
+    events: Reserved<KeptEvent>,
 }
 
 impl Model for History {
@@ -44,22 +44,22 @@ impl History {
     /// A client invoked a command, or a request has its answer, or both in this order. It takes no memory.
     pub fn record(
         &mut self,
-        invoked: Option<(RequestId, Command)>,
+        invoked: Option<(RequestId, KeptCommand)>,
         completed: Option<(RequestId, Answer)>,
     )
         requires { 2 ≤ self.old.spare }
         ensures { self.new.events ≡ (self.old.events ++ invocation invoked) ++ completion completed }
     {
         if let Some((id, command)) = invoked {
-            self.events.push(Event::Invoke { id, command });
+            self.events.push(KeptEvent::invoked(id, command));
         }
         if let Some((id, answer)) = completed {
-            self.events.push(Event::Complete { id, answer });
+            self.events.push(KeptEvent::completed(id, answer));
         }
     }
 
     /// The events, the newest last.
-    pub fn events(&self) -> &[Event]
+    pub fn events(&self) -> &[KeptEvent]
         ensures { result.now ≡ self.now.events }
     {
         &self.events

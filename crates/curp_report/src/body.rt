@@ -19,10 +19,10 @@ impl fmt::Display for Shown<&Body> {
 
     fn fmt<W: fmt::Write>(&self, f: &mut fmt::Formatter<W>) -> fmt::Result {
         match self.0 {
-            Body::Update(ask) => write!(f, "update {}", Shown(ask.get())),
-            Body::Sync(ask) => write!(f, "sync {}", Shown(ask.get())),
-            Body::Read(ask) => write!(f, "read {}", Shown(ask.get())),
-            Body::Record(record) => write_record(f, record.get()),
+            Body::Update(ask) => write!(f, "update {}", Shown(ask)),
+            Body::Sync(ask) => write!(f, "sync {}", Shown(ask)),
+            Body::Read(ask) => write!(f, "read {}", Shown(ask)),
+            Body::Record(record) => write_record(f, record),
             Body::Fetch => write!(f, "fetch"),
             Body::Configuration { config } => write_config(f, config),
             Body::Reply(reply) => write_reply(f, reply.get()),
@@ -52,7 +52,7 @@ impl fmt::Display for Shown<&Body> {
             Body::ExpireClient { client } => write!(f, "expire c{client}"),
             Body::Probe(probe) => write_probe(f, probe),
             Body::Probed(probed) => write_probed(f, probed),
-            Body::Glance(ask) => write!(f, "glance {}", Shown(ask.get())),
+            Body::Glance(ask) => write!(f, "glance {}", Shown(ask)),
             Body::Quick(quick) => write_quick(f, quick.get()),
         }
     }

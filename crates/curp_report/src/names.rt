@@ -2,6 +2,7 @@ ghost use Rattle.std.specs.Prelude.{Some, flat_map};
 ghost use Rattle.curp_report.specs.Text.{id_text, node_label, nodes_text, spaced_id, spaced_request};
 
 use crate::Shown;
+use curp_base::Shared;
 use curp_cmd::{NodeId, NodeKind, Request, RequestId};
 use std::fmt;
 
@@ -24,7 +25,7 @@ impl fmt::Display for Shown<&[RequestId]> {
     }
 }
 
-impl fmt::Display for Shown<&[Request]> {
+impl fmt::Display for Shown<&[Shared<Request>]> {
     ghost output = { λ shown. Some (flat_map spaced_request shown.0.now) };
 
     fn fmt<W: fmt::Write>(&self, f: &mut fmt::Formatter<W>) -> fmt::Result {

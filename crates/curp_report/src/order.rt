@@ -3,14 +3,14 @@ ghost use Rattle.curp_report.specs.Text.{order_text};
 
 use crate::Shown;
 use curp_base::NoMemory;
-use curp_cmd::{Answer, Command, RequestId};
+use curp_cmd::{Answer, KeptCommand, RequestId};
 use std::alloc::Global;
 
 /// The lines of an order: how many requests it has, and each with its command and its answer.
 #[tactic(auto, unfolding(crate::specs::Text::order_text))]
 pub fn order_text(
     alloc: Global,
-    order: &[(RequestId, Command, Answer)],
+    order: &[(RequestId, KeptCommand, Answer)],
 ) -> Result<Vec<u8>, NoMemory>
     ensures { IfOk result (λ text. text.items ≡ order_text order.now) }
 {
@@ -21,7 +21,7 @@ pub fn order_text(
             text,
             "{} {} -> {}",
             Shown(*id),
-            Shown(*command),
+            Shown(**command),
             Shown(*answer)
         )?;
     }

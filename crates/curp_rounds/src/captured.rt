@@ -4,8 +4,8 @@ ghost use Rattle.curp_model.specs.Master.{all_have};
 ghost use Rattle.curp_msg.specs.Moved.{says};
 
 use crate::acknowledged::{Acknowledged, all_have};
-use curp_base::{Boxed, NoMemory};
-use curp_cmd::{Answer, Command, NodeId, RequestId};
+use curp_base::{Boxed, NoMemory, Shared};
+use curp_cmd::{Answer, NodeId, Request, RequestId};
 use curp_msg::{Body, Message, Worth};
 use std::alloc::Global;
 use std::marker::Model;
@@ -14,8 +14,7 @@ use std::marker::Model;
 #[derive(Drop)]
 pub struct Captured {
     number: u64,
-    id: RequestId,
-    command: Command,
+    request: Shared<Request>,
     answer: Answer,
     long: u64,
     round: u64,
@@ -28,8 +27,8 @@ impl Model for Captured {
 
     ghost view = { λ c. record {
       number = c.number;
-      id = c.id;
-      command = c.command;
+      id = c.request.id;
+      command = c.request.command;
       answer = c.answer;
       length = c.long;
       round = c.round;
@@ -40,16 +39,15 @@ impl Captured {
     /// Capture `number` of its master, of a request, with what it reads and what it waits for.
     pub fn new(
         number: u64,
-        id: RequestId,
-        command: Command,
+        request: Shared<Request>,
         answer: Answer,
         long: u64,
         round: u64,
     ) -> Captured
         ensures { result ≡ record {
           number = number;
-          id = id;
-          command = command;
+          id = request.id;
+          command = request.command;
           answer = answer;
           length = long;
           round = round;
@@ -57,8 +55,7 @@ impl Captured {
     {
         Captured {
             number,
-            id,
-            command,
+            request,
             answer,
             long,
             round,
@@ -76,14 +73,15 @@ impl Captured {
     pub fn id(&self) -> RequestId
         ensures { result ≡ self.now.id }
     {
-        self.id
+        self.request.id
     }
 
-    /// What is read.
-    pub fn command(&self) -> Command
-        ensures { result ≡ self.now.command }
+    /// The request, of which no more is seen than its id and what it reads.
+    pub fn request(&self) -> &Shared<Request>
+        ensures id { result.now.id ≡ self.now.id }
+        ensures command { result.now.command ≡ self.now.command }
     {
-        self.command
+        &self.request
     }
 
     /// The log's length as it was captured.
@@ -111,14 +109,14 @@ impl Captured {
             }))) }
     {
         let worth = Worth {
-            id: self.id,
+            id: self.request.id,
             epoch,
             capture: self.number,
             answer: self.answer,
         };
         Ok(Message {
             from: NodeId::master(number),
-            to: NodeId::client(self.id.client),
+            to: NodeId::client(self.request.id.client),
             body: Body::Worth(Boxed::new(alloc, worth)?),
         })
     }

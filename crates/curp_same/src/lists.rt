@@ -2,7 +2,7 @@
 ghost use Rattle.std.specs.Prelude.{◌≡◌, ◌↔◌, IsTrue};
 
 use crate::Same;
-use curp_base::{AscendingKeys, AscendingPairs, Boxed, Items};
+use curp_base::{AscendingKeys, AscendingPairs, Boxed, Items, Shared};
 
 /// Whether two lists hold the same, in the same order.
 pub fn all_same<T: Same>(a: &[T], b: &[T]) -> bool
@@ -40,6 +40,12 @@ impl<K: Ord + Same> Same for AscendingKeys<K> {
 impl<T: Same> Same for Boxed<T> {
     fn same(&self, other: &Boxed<T>) -> bool {
         self.get().same(other.get())
+    }
+}
+
+impl<T: Same> Same for Shared<T> {
+    fn same(&self, other: &Shared<T>) -> bool {
+        (**self).same(&**other)
     }
 }
 

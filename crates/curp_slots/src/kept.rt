@@ -1,14 +1,15 @@
-ghost use Rattle.std.specs.Prelude.{◌≡◌, if◌then◌else◌, Some, None, option_copied};
+ghost use Rattle.std.specs.Prelude.{◌≡◌, if◌then◌else◌, Some, None, option_copied, IfOk};
 ghost use Rattle.curp_model.specs.Witness.{newly_held, survives};
 ghost use Rattle.curp_slots.specs.Register.{marked};
 
+use curp_base::{NoMemory, Shared};
 use curp_cmd::Request;
 use std::marker::Model;
 
 /// A request that is held, how many collections it has survived, and whether it is suspected.
 #[derive(Drop)]
 pub struct KeptRequest {
-    request: Request,
+    request: Shared<Request>,
     survived: u64,
     suspected: bool,
 }
@@ -22,11 +23,11 @@ impl Model for KeptRequest {
 }
 
 impl KeptRequest {
-    pub fn new(request: &Request) -> KeptRequest
-        ensures { result ≡ newly_held request.now }
+    pub fn new(request: Shared<Request>) -> KeptRequest
+        ensures { result ≡ newly_held request }
     {
         KeptRequest {
-            request: *request,
+            request,
             survived: 0,
             suspected: false,
         }
@@ -36,6 +37,13 @@ impl KeptRequest {
         ensures { result.now ≡ self.now.request }
     {
         &self.request
+    }
+
+    /// The request for one more to hold.
+    pub fn share(&self) -> Result<Shared<Request>, NoMemory>
+        ensures { IfOk result (λ request. request ≡ self.now.request) }
+    {
+        self.request.share()
     }
 
     /// Suspects it, if it has survived at least three collections.
@@ -48,7 +56,7 @@ impl KeptRequest {
     }
 
     /// The request, if it is suspected.
-    pub fn suspect(&self) -> Option<&Request>
+    pub fn suspect(&self) -> Option<&Shared<Request>>
         ensures { option_copied result ≡ (if self.now.suspected then Some self.now.request else None) }
     {
         if self.suspected {

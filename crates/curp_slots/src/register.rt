@@ -9,7 +9,7 @@ ghost use Rattle.curp_slots.specs.Register.{IdsAscend, IsFilled, IsPlaceGiven, h
 use crate::hashes::least_hash;
 use crate::kept::KeptRequest;
 use crate::listed::Listed;
-use curp_base::{NoMemory, Reserved, ReservedPairs};
+use curp_base::{NoMemory, Reserved, ReservedPairs, Shared};
 use curp_cmd::{Request, RequestId};
 use std::alloc::Global;
 use std::collections::BTreeMap;
@@ -63,14 +63,15 @@ impl Register {
     }
 
     /// Holds a request more. It takes no memory, since there is room.
-    pub fn add(&mut self, request: &Request)
+    pub fn add(&mut self, request: Shared<Request>)
         requires room { length self.old.held < self.old.room }
-        requires absent { is_held request.now.id self.old.held ≡ false }
-        ensures value { self.new ≡ record self.old { held = placed (newly_held request.now) self.old.held } }
+        requires absent { is_held request.id self.old.held ≡ false }
+        ensures value { self.new ≡ record self.old { held = placed (newly_held request) self.old.held } }
         ensures ascend { IdsAscend self.new.held }
     {
+        let id = request.id;
         let at = put(&mut self.kept, &mut self.free, request);
-        self.index.put(request.id, at);
+        self.index.put(id, at);
     }
 
     /// Marks the request with that id, if it is held.
@@ -84,7 +85,7 @@ impl Register {
     }
 
     /// The suspects among those that aren't listed, in ascending order of their ids.
-    pub fn suspects(&self, alloc: Global, listed: &Listed) -> Result<Vec<Request>, NoMemory>
+    pub fn suspects(&self, alloc: Global, listed: &Listed) -> Result<Vec<Shared<Request>>, NoMemory>
         ensures { IfOk result (λ requests. requests.items ≡ suspected_of (what_remains listed.now self.now.held)) }
     {
         suspects_at(alloc, &self.kept, self.index.as_slice(), listed)
@@ -101,7 +102,7 @@ impl Register {
     }
 
     /// The requests, in ascending order of their least hashes.
-    pub fn by_least_hash(&self, alloc: Global) -> Result<Vec<Request>, NoMemory>
+    pub fn by_least_hash(&self, alloc: Global) -> Result<Vec<Shared<Request>>, NoMemory>
         requires { LeastHashesApart (requests_of self.now.held) }
         ensures { IfOk result (λ requests. requests.items ≡ by_least_hash (requests_of self.now.held)) }
     {
@@ -111,11 +112,11 @@ impl Register {
 }
 
 /// Puts the request where one was dropped, or else behind the others, and gives the place.
-fn put(kept: &mut Vec<KeptRequest>, free: &mut Reserved<u32>, request: &Request) -> u32
+fn put(kept: &mut Vec<KeptRequest>, free: &mut Reserved<u32>, request: Shared<Request>) -> u32
     requires within { Each (λ at. at < length kept.old.items) free.old.items }
     requires room { length free.old.items ≡ 0 → length kept.old.items < vec_capacity kept.old }
     requires few { length kept.old.items < 2 ^ 32 }
-    ensures kept { kept.new.items ≡ put_at kept.old.items result (newly_held request.now) }
+    ensures kept { kept.new.items ≡ put_at kept.old.items result (newly_held request) }
     ensures kept_room { vec_capacity kept.new ≡ vec_capacity kept.old }
     ensures free { IsPlaceGiven (length kept.old.items) free.old.items free.new.items result }
     ensures free_room { length free.old.items + free.old.spare ≤ length free.new.items + free.new.spare }
@@ -159,7 +160,7 @@ fn suspects_at(
     kept: &[KeptRequest],
     index: &[(RequestId, u32)],
     listed: &Listed,
-) -> Result<Vec<Request>, NoMemory>
+) -> Result<Vec<Shared<Request>>, NoMemory>
     requires { Each (IsFilled kept.now) index.now }
     ensures { IfOk result (λ requests.
         requests.items ≡ suspected_of (what_remains listed.now (held_by kept.now index.now))) }
@@ -170,7 +171,7 @@ fn suspects_at(
             continue;
         }
         if let Some(suspect) = kept[*at as usize].suspect() {
-            suspects.push(*suspect)?;
+            suspects.push(suspect.share()?)?;
         }
     }
     Ok(suspects)
@@ -199,13 +200,13 @@ fn requests_at(
     alloc: Global,
     kept: &[KeptRequest],
     places: &BTreeMap<u64, u32>,
-) -> Result<Vec<Request>, NoMemory>
+) -> Result<Vec<Shared<Request>>, NoMemory>
     requires { Each (λ at. at < length kept.now) (values places.now) }
     ensures { IfOk result (λ requests. requests.items ≡ map (request_at kept.now) (values places.now)) }
 {
     let mut requests = Vec::with_capacity(alloc, places.len())?;
     for at in places.values() {
-        requests.push(*kept[*at as usize].request())?;
+        requests.push(kept[*at as usize].share()?)?;
     }
     Ok(requests)
 }

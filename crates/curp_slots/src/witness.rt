@@ -11,7 +11,7 @@ use crate::listed::Listed;
 use crate::register::Register;
 use crate::slots::Slots;
 use crate::{GcError, NotIdle, ShapeError};
-use curp_base::NoMemory;
+use curp_base::{NoMemory, Shared};
 use curp_cmd::{Request, RequestId};
 use curp_model::Mode;
 use curp_msg::Reason;
@@ -98,9 +98,9 @@ impl Witness {
     /// the slots of the request's hashes and at what has them, but for making room for its id among those that are
     /// held.
     #[tactic(auto, unfolding(curp_model::specs::Witness::hold))]
-    pub fn hold(&mut self, epoch: u32, request: &Request) -> RecordAnswer
-        ensures state { self.new ≡ (hold self.old epoch request.now).state }
-        ensures answer { refusal result ≡ (hold self.old epoch request.now).reason }
+    pub fn hold(&mut self, epoch: u32, request: Shared<Request>) -> RecordAnswer
+        ensures state { self.new ≡ (hold self.old epoch request).state }
+        ensures answer { refusal result ≡ (hold self.old epoch request).reason }
     {
         if let Some(why) = self.turned_away(epoch) {
             return RecordAnswer::Rejected(why);
@@ -108,7 +108,8 @@ impl Witness {
         if self.holds(&request.id) {
             return RecordAnswer::Accepted;
         }
-        self.hold_new(request, AscendingHashes::of(&request.command).as_slice())
+        let hashes = AscendingHashes::of(&request.command);
+        self.hold_new(request, hashes.as_slice())
     }
 
     /// A collection: the listed requests are dropped, and what remains has survived one more collection. It gives the
@@ -116,7 +117,7 @@ impl Witness {
     /// are passed over. A frozen witness of that epoch drops nothing and gives none. It costs a search for each listed id and
     /// for what is held. The collections and the suspects are this project's own choice.
     #[tactic(auto, unfolding(curp_model::specs::Witness::gc))]
-    pub fn gc(&mut self, epoch: u32, ids: &[RequestId]) -> Result<Vec<Request>, GcError>
+    pub fn gc(&mut self, epoch: u32, ids: &[RequestId]) -> Result<Vec<Shared<Request>>, GcError>
         ensures state { result ≢ Err GcError.NoMemory → self.new ≡ (gc self.old epoch ids.now).state }
         ensures answer { AnswersGc result (gc self.old epoch ids.now).answer }
         ensures err { OnErr result (self.new ≡ self.old) }
@@ -133,7 +134,7 @@ impl Witness {
 
     /// Holds nothing more from then on, for good, and gives a copy of all that it holds, in ascending order of the
     /// least hashes.
-    pub fn freeze(&mut self) -> Result<Vec<Request>, NoMemory>
+    pub fn freeze(&mut self) -> Result<Vec<Shared<Request>>, NoMemory>
         ensures state { OnOk result (self.new ≡ freeze self.old) }
         ensures answer { IfOk result (λ requests. requests.items ≡ frozen_requests self.old) }
         ensures err { OnErr result (self.new ≡ self.old) }
@@ -208,7 +209,7 @@ impl Witness {
     }
 
     // Drops the listed requests, and gives the suspects among what remains.
-    fn collect(&mut self, ids: &[RequestId]) -> Result<Vec<Request>, NoMemory>
+    fn collect(&mut self, ids: &[RequestId]) -> Result<Vec<Shared<Request>>, NoMemory>
         ensures state { OnOk result (self.new ≡ collect self.old ids.now) }
         ensures answer { IfOk result (λ requests. requests.items ≡ suspects (collect self.old ids.now)) }
         ensures err { OnErr result (self.new ≡ self.old) }
@@ -221,15 +222,15 @@ impl Witness {
     }
 
     // Holds a request with those hashes and an id that isn't held, if there is room for it.
-    fn hold_new(&mut self, request: &Request, hashes: &[u64]) -> RecordAnswer
-        requires new { holds self.old request.now.id ≡ false }
-        requires hashes { hashes.now ≡ each_once request.now.command }
+    fn hold_new(&mut self, request: Shared<Request>, hashes: &[u64]) -> RecordAnswer
+        requires new { holds self.old request.id ≡ false }
+        requires hashes { hashes.now ≡ each_once request.command }
         requires some { 1 ≤ length hashes.now }
         requires few { length hashes.now ≤ 4 }
-        ensures state { let held = conflict self.old request.now in
-            self.new ≡ (by_room self.old request.now held (full_set self.old request.now)).state }
-        ensures answer { let held = conflict self.old request.now in
-            refusal result ≡ (by_room self.old request.now held (full_set self.old request.now)).reason }
+        ensures state { let held = conflict self.old request in
+            self.new ≡ (by_room self.old request held (full_set self.old request)).state }
+        ensures answer { let held = conflict self.old request in
+            refusal result ≡ (by_room self.old request held (full_set self.old request)).reason }
     {
         if let Some(held) = self.slots.least_owner(hashes) {
             mark_owners(&self.slots, &mut self.register, hashes);

@@ -2,7 +2,7 @@ ghost use Rattle.std.specs.Prelude.{⊤};
 
 use crate::part::{Part, read_parts, write_parts};
 use curp_base::NoMemory;
-use curp_items::{Item, ReadError, Reader, Writer, read_list, write_list};
+use curp_items::{Item, ReadError, Reader, Writer};
 use curp_msg::{AppendAnswer, FenceReply, GcAnswer, Reason, Refusal};
 use std::alloc::Global;
 
@@ -162,7 +162,7 @@ impl Part for GcAnswer {
         match self {
             GcAnswer::Suspects(requests) => {
                 out.byte(0)?;
-                write_list(requests.as_slice(), out)
+                write_parts(requests.as_slice(), out)
             }
             GcAnswer::Stranger { epoch } => {
                 out.byte(1)?;
@@ -175,7 +175,7 @@ impl Part for GcAnswer {
     fn read(alloc: Global, reader: &mut Reader) -> Result<GcAnswer, ReadError> {
         let place = reader.place();
         match reader.byte()? {
-            0 => Ok(GcAnswer::Suspects(read_list(alloc, reader)?)),
+            0 => Ok(GcAnswer::Suspects(read_parts(alloc, reader)?)),
             1 => Ok(GcAnswer::Stranger {
                 epoch: Item::read(reader)?,
             }),

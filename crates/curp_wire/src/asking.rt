@@ -22,9 +22,9 @@ impl Part for Ask {
     }
 
     #[tactic(auto, unfolding(crate::specs::Fields::ask_fields))]
-    fn read(_alloc: Global, reader: &mut Reader) -> Result<Ask, ReadError> {
+    fn read(alloc: Global, reader: &mut Reader) -> Result<Ask, ReadError> {
         Ok(Ask {
-            request: Item::read(reader)?,
+            request: Part::read(alloc, reader)?,
             epoch: Item::read(reader)?,
             version: Item::read(reader)?,
         })
@@ -45,9 +45,9 @@ impl Part for Record {
     }
 
     #[tactic(auto, unfolding(crate::specs::Fields::record_fields))]
-    fn read(_alloc: Global, reader: &mut Reader) -> Result<Record, ReadError> {
+    fn read(alloc: Global, reader: &mut Reader) -> Result<Record, ReadError> {
         Ok(Record {
-            request: Item::read(reader)?,
+            request: Part::read(alloc, reader)?,
             epoch: Item::read(reader)?,
         })
     }

@@ -5,9 +5,9 @@ ghost use Rattle.curp_items.specs.Format.{by_tag};
 ghost use Rattle.curp_wire.specs.Fields.{body_parts, body_variants};
 ghost use Rattle.curp_wire.specs.Spelling.{HasFields};
 
-use crate::part::Part;
+use crate::part::{Part, read_parts, write_parts};
 use curp_base::NoMemory;
-use curp_items::{Item, ReadError, Reader, Writer, read_list, write_list};
+use curp_items::{Item, ReadError, Reader, Writer};
 use curp_msg::Body;
 use std::alloc::Global;
 
@@ -84,7 +84,7 @@ pub(crate) fn write_fields(body: &Body, out: &mut Writer) -> Result<(), NoMemory
         Body::Start(start) => start.write(out),
         Body::Recover(recover) => recover.write(out),
         Body::FenceAnswer(answer) => answer.write(out),
-        Body::FrozenAnswer { requests } => write_list(requests.as_slice(), out),
+        Body::FrozenAnswer { requests } => write_parts(requests.as_slice(), out),
         Body::Recovered(recovered) => recovered.write(out),
         Body::Adopted(adopted) => adopted.write(out),
         Body::Prepare(prepare) => prepare.write(out),
@@ -132,7 +132,7 @@ pub(crate) fn read_fields(tag: u8, alloc: Global, reader: &mut Reader) -> Result
             epoch: Item::read(reader)?,
         }),
         22 => Ok(Body::FrozenAnswer {
-            requests: read_list(alloc, reader)?,
+            requests: read_parts(alloc, reader)?,
         }),
         23 => Ok(Body::Recovered(Part::read(alloc, reader)?)),
         24 => Ok(Body::Adopted(Part::read(alloc, reader)?)),

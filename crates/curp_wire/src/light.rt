@@ -8,6 +8,7 @@ ghost use Rattle.curp_wire.specs.Light.{is_light_package, is_light_part, is_ligh
 ghost use Rattle.curp_wire.specs.Light.{is_light_reply, is_light_request};
 
 use crate::limits::{CLIENT_LIMIT, LIGHT_LIMIT, NODE_LIMIT, PART_LIMIT};
+use curp_base::Shared;
 use curp_cmd::{Answer, Entry, NodeId, Package, Request, RequestId};
 use curp_items::is_node;
 use curp_msg::{Body, Config, FenceReply, GcAnswer, Message, PartConfig, Reason, Recover, weight};
@@ -29,9 +30,9 @@ fn is_light_body(body: &Body) -> bool
 {
     match body {
         Body::Update(ask) | Body::Sync(ask) | Body::Read(ask) | Body::Glance(ask) => {
-            is_light_request(&ask.get().request)
+            is_light_request(&ask.request)
         }
-        Body::Record(record) => is_light_request(&record.get().request),
+        Body::Record(record) => is_light_request(&record.request),
         Body::Configuration { config } => is_light_config(config),
         Body::Reply(reply) => is_light_id(&reply.get().id),
         Body::Worth(worth) => is_light_id(&worth.get().id),
@@ -82,10 +83,10 @@ fn is_light_request(request: &Request) -> bool
     is_light_id(&request.id)
 }
 
-fn are_light_requests(requests: &[Request]) -> bool
+fn are_light_requests(requests: &[Shared<Request>]) -> bool
     ensures { result ≡ list_all is_light_request requests.now }
 {
-    requests.iter().all(is_light_request)
+    requests.iter().all(|request| is_light_request(request))
 }
 
 fn is_light_package(moved: &Package) -> bool

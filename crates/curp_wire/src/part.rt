@@ -1,12 +1,12 @@
-ghost use Rattle.std.specs.Prelude.{◌<◌, ◌^◌, length, OnOk};
+ghost use Rattle.std.specs.Prelude.{◌<◌, ◌^◌, length, OnOk, ⊤};
 ghost use Rattle.std.specs.List.{flat_map};
 ghost use Rattle.curp_base.specs.Words.{Each};
 ghost use Rattle.curp_items.specs.Calls.{ReadsIfMemory, WritesItem};
 ghost use Rattle.curp_items.specs.Format.{list_of};
 ghost use Rattle.curp_items.specs.Items.{u32};
 
-use curp_base::{Boxed, Items, NoMemory};
-use curp_cmd::Entry;
+use curp_base::{Boxed, Items, NoMemory, Shared};
+use curp_cmd::{Entry, Request};
 use curp_items::{Item, ReadError, Reader, Writer, read_entry_at, write_entry};
 use std::alloc::Global;
 
@@ -43,6 +43,23 @@ impl<T: Part + Drop> Part for Boxed<T> {
     fn read(alloc: Global, reader: &mut Reader) -> Result<Boxed<T>, ReadError> {
         let part = T::read(alloc, reader)?;
         Ok(Boxed::new(alloc, part)?)
+    }
+}
+
+impl Part for Shared<Request> {
+    ghost use Rattle.curp_items.specs.Items.{request};
+
+    ghost format = { request };
+
+    ghost HasSpelling = { λ _. ⊤ };
+
+    fn write(&self, out: &mut Writer) -> Result<(), NoMemory> {
+        Item::write(&**self, out)
+    }
+
+    fn read(alloc: Global, reader: &mut Reader) -> Result<Shared<Request>, ReadError> {
+        let request = Request::read(reader)?;
+        Ok(Shared::new(alloc, request)?)
     }
 }
 

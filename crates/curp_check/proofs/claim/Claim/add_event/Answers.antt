@@ -9,7 +9,7 @@ use Rattle.curp_check.proofs.claim.Claim.add_event.Goals.{in-Ok, in-Err}
 
 pub returns-in_default-clause-refused : goal.returns-in_default-clause-refused
 returns-in_default-clause-refused c = λ _.
-    let events = c.self.inside.history.events in
+    let events = c.self.inside.history.items in
     let order = c.self.inside.order.items in
     let claim : Claimed = record { events = events; order = order } in
     let e = c.args.event.now in
@@ -18,15 +18,15 @@ returns-in_default-clause-refused c = λ _.
 
 pub invariant_of-self : goal.invariant_of-self
 invariant_of-self c =
-    let events = c.self.inside.history.events in
+    let events = c.self.inside.history.items in
     let e = c.args.event.now in
     let some = sym (c.stage_after.ensures ∙ ap (stage_after e) (c.copied.ensures ∙ c.get.ensures.value ∙ c.self.invariant.stage _ ∙ ap (stage_of events) c.request_of-id.ensures)) ∙ c.in-Some.is in
-    followed_or_not c.push_event.result c.self.inside.stages c.push_event.new.stages events c.push_event.new.history.events e c.in-Some.stage c.self.invariant some
+    followed_or_not c.push_event.result c.self.inside.stages c.push_event.new.stages events c.push_event.new.history.items e c.in-Some.stage c.self.invariant some
     c.push_event.ensures.history c.push_event.ensures.stages c.push_event.ensures.history_stays c.push_event.ensures.stages_stay
 
 pub returns-clause-added : goal.returns-clause-added
 returns-clause-added c =
-    let events = c.self.inside.history.events in
+    let events = c.self.inside.history.items in
     let order = c.self.inside.order.items in
     let claim : Claimed = record { events = events; order = order } in
     let e = c.args.event.now in

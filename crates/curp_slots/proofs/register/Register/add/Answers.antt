@@ -21,8 +21,8 @@ put-at-requires c =
 pub put-requires : goal.put-requires
 put-requires c = omega (arith, ap (λ r. length r.held) c.self.view_is, ap (λ r. r.room) c.self.view_is, length-map c.self.inside.index.items (held_at c.self.inside.kept.items), c.requires.room, c.self.invariant.index_fits)
 
-absent : (c : goal.After-put) → find id_cmp c.args.request.now.id c.self.inside.index.items ≡ None
-absent c = none_held c.args.request.now.id c.self.inside.kept.items c.self.inside.index.items c.self.invariant.places (ap (λ r. is_held c.args.request.now.id r.held) c.self.view_is ∙ c.requires.absent)
+absent : (c : goal.After-put) → find id_cmp c.args.request.id c.self.inside.index.items ≡ None
+absent c = none_held c.args.request.id c.self.inside.kept.items c.self.inside.index.items c.self.invariant.places (ap (λ r. is_held c.args.request.id r.held) c.self.view_is ∙ c.requires.absent)
 
 pub invariant_of-self : goal.invariant_of-self
 invariant_of-self c =
@@ -30,13 +30,13 @@ invariant_of-self c =
     let kept = c.self.inside.kept.items in
     let free = c.self.inside.free.items in
     let index = c.self.inside.index.items in
-    let p : IndexPlace = (c.args.request.now.id, c.put-at.result) in
-    let x = newly_held c.args.request.now in
+    let p : IndexPlace = (c.args.request.id, c.put-at.result) in
+    let x = newly_held c.args.request in
     let few : length index < c.self.inside.room = omega (arith, ap (λ r. length r.held) c.self.view_is, ap (λ r. r.room) c.self.view_is, length-map index (held_at kept), c.requires.room) in
     let more = size_added kept x p free c.put-at.new.free.items index v.places v.within v.once c.put-at.ensures.free (absent c) v.ascend in
-    rw (c.put-at.ensures.kept, c.put.ensures.items)
+    rw (c.put-at.ensures.kept, c.put.ensures.items, c.deref.ensures)
     record {
-      ascend = is_sorted-put id_cmp ids_total c.args.request.now.id c.put-at.result index v.ascend;
+      ascend = is_sorted-put id_cmp ids_total c.args.request.id c.put-at.result index v.ascend;
       places = filled_added kept x p free c.put-at.new.free.items index v.places v.within v.once c.put-at.ensures.free (absent c) refl;
       within = within_added kept x p free c.put-at.new.free.items index v.places v.within v.once c.put-at.ensures.free (absent c);
       once = once_added kept x p free c.put-at.new.free.items index v.places v.within v.once c.put-at.ensures.free (absent c);
@@ -52,9 +52,9 @@ returns-clause-value c =
     let v = c.self.invariant in
     let kept = c.self.inside.kept.items in
     let index = c.self.inside.index.items in
-    let p : IndexPlace = (c.args.request.now.id, c.put-at.result) in
-    let held = added kept (newly_held c.args.request.now) p c.self.inside.free.items c.put-at.new.free.items index v.places v.within v.once c.put-at.ensures.free (absent c) refl in
-    rw (← c.self.view_is, c.put-at.ensures.kept, c.put.ensures.items) (ap (λ (h : List HeldRequest). record { room = c.self.inside.room; held = h }) held)
+    let p : IndexPlace = (c.args.request.id, c.put-at.result) in
+    let held = added kept (newly_held c.args.request) p c.self.inside.free.items c.put-at.new.free.items index v.places v.within v.once c.put-at.ensures.free (absent c) refl in
+    rw (← c.self.view_is, c.put-at.ensures.kept, c.put.ensures.items, c.deref.ensures) (ap (λ (h : List HeldRequest). record { room = c.self.inside.room; held = h }) held)
 
 pub returns-clause-ascend : goal.returns-clause-ascend
 returns-clause-ascend c =

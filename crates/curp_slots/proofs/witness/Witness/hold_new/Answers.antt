@@ -11,14 +11,14 @@ use Rattle.curp_slots.proofs.witness.Witness.hold_new.Goals as goal
 pub invariant_of-self : goal.invariant_of-self
 invariant_of-self c =
     rw c.mark_owners.ensures
-    (marked_witness c.self.inside.mode c.self.inside.epoch c.self.inside.slots c.self.inside.register c.self.invariant c.args.request.now c.args.hashes.now c.requires.hashes)
+    (marked_witness c.self.inside.mode c.self.inside.epoch c.self.inside.slots c.self.inside.register c.self.invariant c.args.request c.args.hashes.now c.requires.hashes)
 
 pub returns-in-Some : goal.returns-in-Some
 returns-in-Some c =
     let w = witness_of c.self.inside.mode c.self.inside.epoch c.self.inside.slots c.self.inside.register in
-    let found : conflict w c.args.request.now ≡ Some c.in-Some.held =
-    conflict_is c.self.inside.mode c.self.inside.epoch c.self.inside.slots c.self.inside.register c.self.invariant c.args.request.now c.args.hashes.now c.requires.hashes ∙ sym c.least_owner.ensures ∙ c.in-Some.is in
-    let held = marked_is c.self.inside.mode c.self.inside.epoch c.self.inside.slots c.self.inside.register c.self.invariant c.args.request.now c.args.hashes.now c.requires.hashes in
+    let found : conflict w c.args.request ≡ Some c.in-Some.held =
+    conflict_is c.self.inside.mode c.self.inside.epoch c.self.inside.slots c.self.inside.register c.self.invariant c.args.request c.args.hashes.now c.requires.hashes ∙ sym c.least_owner.ensures ∙ c.in-Some.is in
+    let held = marked_is c.self.inside.mode c.self.inside.epoch c.self.inside.slots c.self.inside.register c.self.invariant c.args.request c.args.hashes.now c.requires.hashes in
     record {
       state = rw (← c.self.view_is, found, c.mark_owners.ensures) (ap (λ (h : List HeldRequest). record w { held = h }) held);
       answer = rw (← c.self.view_is, found) refl;
@@ -29,42 +29,42 @@ returns-in-Some c =
 pub returns-in-Some-full_set : goal.returns-in-Some-full_set
 returns-in-Some-full_set c =
     let w = witness_of c.self.inside.mode c.self.inside.epoch c.self.inside.slots c.self.inside.register in
-    let none : conflict w c.args.request.now ≡ None =
-    conflict_is c.self.inside.mode c.self.inside.epoch c.self.inside.slots c.self.inside.register c.self.invariant c.args.request.now c.args.hashes.now c.requires.hashes ∙ sym c.least_owner.ensures ∙ c.in_default.is in
-    let full : full_set w c.args.request.now ≡ Some c.in-Some-full_set.set =
-    full_is c.self.inside.mode c.self.inside.epoch c.self.inside.slots c.self.inside.register c.self.invariant c.args.request.now c.args.hashes.now c.requires.hashes ∙ sym c.full_set.ensures ∙ c.in-Some-full_set.is in
+    let none : conflict w c.args.request ≡ None =
+    conflict_is c.self.inside.mode c.self.inside.epoch c.self.inside.slots c.self.inside.register c.self.invariant c.args.request c.args.hashes.now c.requires.hashes ∙ sym c.least_owner.ensures ∙ c.in_default.is in
+    let full : full_set w c.args.request ≡ Some c.in-Some-full_set.set =
+    full_is c.self.inside.mode c.self.inside.epoch c.self.inside.slots c.self.inside.register c.self.invariant c.args.request c.args.hashes.now c.requires.hashes ∙ sym c.full_set.ensures ∙ c.in-Some-full_set.is in
     record { state = rw (← c.self.view_is, none, full) refl; answer = rw (← c.self.view_is, none, full) refl }
 
 -- there is room
 
 pub take-requires : goal.take-requires
 take-requires c =
-    room_is c.self.inside.mode c.self.inside.epoch c.self.inside.slots c.self.inside.register c.self.invariant c.args.request.now c.args.hashes.now c.requires.hashes (sym c.full_set.ensures ∙ c.in_default-full_set.is)
+    room_is c.self.inside.mode c.self.inside.epoch c.self.inside.slots c.self.inside.register c.self.invariant c.args.request c.args.hashes.now c.requires.hashes (sym c.full_set.ensures ∙ c.in_default-full_set.is)
 
 pub add-requires-clause-room : goal.add-requires-clause-room
 add-requires-clause-room c =
     let none : least_owner c.self.inside.slots.sets c.args.hashes.now ≡ None = sym c.least_owner.ensures ∙ c.in_default.is in
-    let room : HasSlotsFor c.self.inside.slots c.args.hashes.now = room_is c.self.inside.mode c.self.inside.epoch c.self.inside.slots c.self.inside.register c.self.invariant c.args.request.now c.args.hashes.now c.requires.hashes (sym c.full_set.ensures ∙ c.in_default-full_set.is) in
-    room_left c.self.inside.slots c.self.inside.register c.self.invariant c.args.request.now c.args.hashes.now c.requires.hashes (rw (← c.self.view_is) at c.requires.new) none room c.requires.some
+    let room : HasSlotsFor c.self.inside.slots c.args.hashes.now = room_is c.self.inside.mode c.self.inside.epoch c.self.inside.slots c.self.inside.register c.self.invariant c.args.request c.args.hashes.now c.requires.hashes (sym c.full_set.ensures ∙ c.in_default-full_set.is) in
+    room_left c.self.inside.slots c.self.inside.register c.self.invariant c.args.request c.args.hashes.now c.requires.hashes (rw (← c.self.view_is) at c.requires.new) none room c.requires.some
 
 pub invariant_of-self-2 : goal.invariant_of-self-2
 invariant_of-self-2 c =
     let none : least_owner c.self.inside.slots.sets c.args.hashes.now ≡ None = sym c.least_owner.ensures ∙ c.in_default.is in
-    let room : HasSlotsFor c.self.inside.slots c.args.hashes.now = room_is c.self.inside.mode c.self.inside.epoch c.self.inside.slots c.self.inside.register c.self.invariant c.args.request.now c.args.hashes.now c.requires.hashes (sym c.full_set.ensures ∙ c.in_default-full_set.is) in
-    let ascend : IdsAscend (placed (newly_held c.args.request.now) c.self.inside.register.held) = subst (λ (register : Registered). IdsAscend register.held) c.add.ensures.value c.add.ensures.ascend in
-    rw (c.take.ensures, c.add.ensures.value)
-    (accepted c.self.inside.slots c.self.inside.register c.self.invariant c.args.request.now c.args.hashes.now c.requires.hashes (rw (← c.self.view_is) at c.requires.new) none room c.requires.some ascend)
+    let room : HasSlotsFor c.self.inside.slots c.args.hashes.now = room_is c.self.inside.mode c.self.inside.epoch c.self.inside.slots c.self.inside.register c.self.invariant c.args.request c.args.hashes.now c.requires.hashes (sym c.full_set.ensures ∙ c.in_default-full_set.is) in
+    let ascend : IdsAscend (placed (newly_held c.args.request) c.self.inside.register.held) = subst (λ (register : Registered). IdsAscend register.held) c.add.ensures.value c.add.ensures.ascend in
+    rw (c.take.ensures, c.add.ensures.value, c.deref.ensures)
+    (accepted c.self.inside.slots c.self.inside.register c.self.invariant c.args.request c.args.hashes.now c.requires.hashes (rw (← c.self.view_is) at c.requires.new) none room c.requires.some ascend)
 
 pub returns : goal.returns
 returns c =
     let w = witness_of c.self.inside.mode c.self.inside.epoch c.self.inside.slots c.self.inside.register in
-    let none : conflict w c.args.request.now ≡ None =
-    conflict_is c.self.inside.mode c.self.inside.epoch c.self.inside.slots c.self.inside.register c.self.invariant c.args.request.now c.args.hashes.now c.requires.hashes ∙ sym c.least_owner.ensures ∙ c.in_default.is in
-    let not_full : full_set w c.args.request.now ≡ None =
-    full_is c.self.inside.mode c.self.inside.epoch c.self.inside.slots c.self.inside.register c.self.invariant c.args.request.now c.args.hashes.now c.requires.hashes ∙ sym c.full_set.ensures ∙ c.in_default-full_set.is in
+    let none : conflict w c.args.request ≡ None =
+    conflict_is c.self.inside.mode c.self.inside.epoch c.self.inside.slots c.self.inside.register c.self.invariant c.args.request c.args.hashes.now c.requires.hashes ∙ sym c.least_owner.ensures ∙ c.in_default.is in
+    let not_full : full_set w c.args.request ≡ None =
+    full_is c.self.inside.mode c.self.inside.epoch c.self.inside.slots c.self.inside.register c.self.invariant c.args.request c.args.hashes.now c.requires.hashes ∙ sym c.full_set.ensures ∙ c.in_default-full_set.is in
     record {
       state =
-          rw (← c.self.view_is, none, not_full, c.take.ensures, c.add.ensures.value)
-          (ap (λ (n : ℕ). record w { sets = n; held = placed (newly_held c.args.request.now) c.self.inside.register.held }) (sizes_kept c.self.inside.slots.sets c.args.hashes.now c.args.request.now.id));
+          rw (← c.self.view_is, none, not_full, c.take.ensures, c.add.ensures.value, c.deref.ensures)
+          (ap (λ (n : ℕ). record w { sets = n; held = placed (newly_held c.args.request) c.self.inside.register.held }) (sizes_kept c.self.inside.slots.sets c.args.hashes.now c.args.request.id));
       answer = rw (← c.self.view_is, none, not_full) refl;
     }

@@ -2,7 +2,7 @@ use Rattle.std.proofs.Common.{take}
 use Rattle.std.specs.List.{flat_map}
 use Rattle.std.specs.Fmt.{HasWritten, IsPlainFormatter}
 use Rattle.curp_report.specs.Text.{spaced_request}
-use Rattle.curp_report.proofs.names.ShownRefSliceRequestDisplay.fmt.Given as goal
+use Rattle.curp_report.proofs.names.ShownRefSliceSharedRequestDisplay.fmt.Given as goal
 
 -- the numbers so far are written
 abbrev pub invariant-loop-request : goal.invariant-loop-request
