@@ -1,20 +1,21 @@
 ghost use Rattle.std.specs.Prelude.{◌≡◌, ◌≢◌, ◌<◌, ◌↔◌, drop, IsTrue, OnErr, IfOk, Err};
 ghost use Rattle.curp_model.specs.Backup.{fresh_backup, install, append, fence};
+ghost use Rattle.curp_entries.specs.Packed.{IsPackedPart};
 ghost use Rattle.curp_backup.specs.Answers.{AnswersAppend, AnswersFence, install_answer};
 
 use crate::{AppendError, FenceError, Fenced};
-use curp_base::{copies_of, past};
+use curp_base::{NoMemory, past};
 use curp_cmd::Entry;
+use curp_entries::PackedEntries;
 use std::alloc::Global;
 use std::marker::Model;
 
 /// A backup: it keeps the entries of a master of its epoch, and takes nothing of an epoch below its fence.
 #[derive(Drop)]
 pub struct Backup {
-    alloc: Global,
     installed: Option<u32>,
     fence: u32,
-    log: Vec<Entry>,
+    log: PackedEntries,
 }
 
 impl Model for Backup {
@@ -22,7 +23,7 @@ impl Model for Backup {
 
     ghost Value = { BackupState };
 
-    ghost view = { λ b. record { installed = b.installed; fence = b.fence; log = b.log.items } };
+    ghost view = { λ b. record { installed = b.installed; fence = b.fence; log = b.log.entries } };
 }
 
 impl Backup {
@@ -31,10 +32,9 @@ impl Backup {
         ensures { result ≡ fresh_backup }
     {
         Backup {
-            alloc,
             installed: None,
             fence: 0,
-            log: Vec::new(alloc),
+            log: PackedEntries::new(alloc),
         }
     }
 
@@ -70,20 +70,21 @@ impl Backup {
         ensures answer { AnswersAppend result (append self.old epoch base entries.now).answer }
         ensures err { OnErr result (self.new ≡ self.old) }
     {
+        // The list is the same whether it was packed or not.
+        let packed = self.log.pack();
         if self.is_fenced(epoch) {
             return Err(AppendError::Fenced { epoch: self.fence });
         }
         if self.installed != Some(epoch) {
             return Err(AppendError::NotInstalled);
         }
-        let length = self.log.len() as u64;
+        let length = self.log.len();
         if base > length {
             return Err(AppendError::Gap { length });
         }
-        // The one change comes last, so that nothing has changed where memory is wanting.
-        let mut copies = copies_of(self.alloc, past(entries, length - base))?;
-        self.log.append(&mut copies)?;
-        Ok(self.log.len() as u64)
+        packed?;
+        self.log.extend(past(entries, length - base))?;
+        Ok(self.log.len())
     }
 
     /// Raises the fence to that epoch, and gives a copy of the whole log.
@@ -96,7 +97,7 @@ impl Backup {
         if self.is_fenced(epoch) {
             return Err(FenceError::Fenced { epoch: self.fence });
         }
-        let log = copies_of(self.alloc, &self.log)?;
+        let log = self.log.suffix(0)?;
         self.fence = epoch;
         Ok(log)
     }
@@ -115,11 +116,18 @@ impl Backup {
         self.fence
     }
 
-    /// The entries that it keeps.
-    pub fn log(&self) -> &[Entry]
-        ensures { result.now ≡ self.now.log }
+    /// A copy of the entries that it keeps.
+    pub fn log(&self) -> Result<Vec<Entry>, NoMemory>
+        ensures { IfOk result (λ log. log.items ≡ self.now.log) }
     {
-        &self.log
+        self.log.suffix(0)
+    }
+
+    /// How many of its oldest entries are packed, and their spellings, one behind the other.
+    pub fn packed(&self) -> (u64, &[u8])
+        ensures { IsPackedPart self.now.log result.0 result.1.now }
+    {
+        self.log.packed()
     }
 
     // Whether the fence is above that epoch.

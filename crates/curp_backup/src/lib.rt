@@ -2,6 +2,8 @@
 //!
 //! `Backup::install`, `append`, `fence`: the state after and the answer are those of the definition. Want of memory
 //! comes only where entries would be stored or the log told, and then nothing has changed.
+//! The oldest entries are kept packed, as their spellings; `append` packs before it adds. `packed`: how many, and the
+//! spellings.
 #![tactic(auto)]
 
 mod backup;

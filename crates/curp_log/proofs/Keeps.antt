@@ -1,5 +1,5 @@
 -- What a log keeps beside its entries, as an entry comes.
-use Rattle.std.proofs.Common.{◌≡◌, ℕ, zero, suc, ◌+◌, ◌<◌, true, List, [], ◌∷◌, ◌++◌, length, take, slice_get, Option, Some, None, IfSome, refl, ap, sym, ◌∙◌, arith}
+use Rattle.std.proofs.Common.{◌≡◌, ℕ, zero, suc, ◌+◌, ◌<◌, ◌≤◌, true, List, [], ◌∷◌, ◌++◌, length, take, slice_get, Option, Some, None, refl, ap, sym, ◌∙◌, arith}
 use Rattle.std.specs.FinMap as map
 use Rattle.std.specs.List.{filter}
 use Rattle.std.proofs.lemmas.Bool.{and_from, and_parts}
@@ -13,8 +13,10 @@ use Rattle.curp_model.proofs.Packages.{package_eq-Decides}
 use Rattle.curp_range.specs.Spans.{is_covered}
 use Rattle.curp_model.specs.Log.{LogState, after_entries, after_entry, fits_at, is_pair_in, log_opening, meaning, package_of}
 use Rattle.curp_log.specs.Ops.{answer_of, answer_at}
-use Rattle.curp_log.specs.State.{IsKeptLog, answers_in, last_take, meant_by, take_index, take_of, untaken}
+use Rattle.curp_log.specs.State.{IsKept, IsKeptLog, IsNewest, answers_in, meant_by, take_after, take_of, take_told, untaken}
 use Rattle.curp_log.specs.declared.state.State.{State}
+use Rattle.curp_log.specs.declared.taken.LatestTake.{LatestTake}
+use Rattle.curp_log.specs.declared.taken.LatestTake.TheVariants.{Never, Newest, Copied}
 use Rattle.curp_log.proofs.Grows.{is_log_more}
 
 -- ---- what the last package taken is no matter to
@@ -58,46 +60,66 @@ get_push [] x k l = absurd (omega arith)
 get_push (y ∷ xs) x zero l = refl
 get_push (y ∷ xs) x (suc k) l = get_push xs x k (omega arith)
 
-last_push : (log : List Entry) (e : Entry) (taken : Option ℕ) → IfSome taken (λ index. index < length log) → last_take (log ++ e ∷ []) taken ≡ last_take log taken
-last_push log e None w = refl
-last_push log e (Some index) w = ap (take_of index) (get_push log e index w)
+last_push : (log : List Entry) (e : Entry) (count : ℕ) (taken : LatestTake) → IsNewest count log taken → take_told (log ++ e ∷ []) taken ≡ take_told log taken
+last_push log e count Never w = refl
+last_push log e count (Newest index) w = ap (take_of index) (get_push log e index w.1)
+last_push log e count (Copied index migration p) w = refl
 
-taken_more : (log : List Entry) (e : Entry) (taken : Option ℕ) (s : LogState) → IfSome taken (λ index. index < length log) → last_take log taken ≡ s.taken
-    → last_take (log ++ e ∷ []) (take_index taken (length log) e) ≡ (after_entry s (length log) e).taken
+taken_more : (log : List Entry) (e : Entry) (count : ℕ) (taken : LatestTake) (s : LogState) → IsNewest count log taken → take_told log taken ≡ s.taken
+    → take_told (log ++ e ∷ []) (take_after taken (length log) e) ≡ (after_entry s (length log) e).taken
 unfolding after_entry
-taken_more log (Op r acknowledged) taken s w is = last_push log (Op r acknowledged) taken w ∙ is
-taken_more log (Take migration p) taken s w is = ap (take_of (length log)) (at_push log (Take migration p) (length log) refl)
-taken_more log (Give migration p) taken s w is = last_push log (Give migration p) taken w ∙ is
-taken_more log (Expire client) taken s w is = last_push log (Expire client) taken w ∙ is
+taken_more log (Op r acknowledged) count taken s w is = last_push log (Op r acknowledged) count taken w ∙ is
+taken_more log (Take migration p) count taken s w is = ap (take_of (length log)) (at_push log (Take migration p) (length log) refl)
+taken_more log (Give migration p) count taken s w is = last_push log (Give migration p) count taken w ∙ is
+taken_more log (Expire client) count taken s w is = last_push log (Expire client) count taken w ∙ is
 
-later : (log : List Entry) (e : Entry) (taken : Option ℕ) → length (log ++ e ∷ []) ≡ length log + 1 → IfSome taken (λ index. index < length log) → IfSome taken (λ index. index < length (log ++ e ∷ []))
-later log e None size w = tt
-later log e (Some index) size w = omega arith
+later : (log : List Entry) (e : Entry) (count : ℕ) (taken : LatestTake) → length (log ++ e ∷ []) ≡ length log + 1 → IsNewest count log taken → IsNewest count (log ++ e ∷ []) taken
+later log e count Never size w = tt
+later log e count (Newest index) size w = (w.0, omega (arith, w.1, size))
+later log e count (Copied index migration p) size w = tt
 
-within_more : (log : List Entry) (e : Entry) (taken : Option ℕ) → length (log ++ e ∷ []) ≡ length log + 1 → IfSome taken (λ index. index < length log)
-    → IfSome (take_index taken (length log) e) (λ index. index < length (log ++ e ∷ []))
-within_more log (Op r acknowledged) taken size w = later log (Op r acknowledged) taken size w
-within_more log (Take migration p) taken size w = omega arith
-within_more log (Give migration p) taken size w = later log (Give migration p) taken size w
-within_more log (Expire client) taken size w = later log (Expire client) taken size w
+newest_more : (log : List Entry) (e : Entry) (count : ℕ) (taken : LatestTake) → count ≤ length log → length (log ++ e ∷ []) ≡ length log + 1 → IsNewest count log taken
+    → IsNewest count (log ++ e ∷ []) (take_after taken (length log) e)
+newest_more log (Op r acknowledged) count taken some size w = later log (Op r acknowledged) count taken size w
+newest_more log (Take migration p) count taken some size w = (some, omega (arith, size))
+newest_more log (Give migration p) count taken some size w = later log (Give migration p) count taken size w
+newest_more log (Expire client) count taken some size w = later log (Expire client) count taken size w
+
+kept_newest : (count : ℕ) (log : List Entry) (taken : LatestTake) → IsKept taken → IsNewest count log taken
+kept_newest count log Never kept = tt
+kept_newest count log (Newest index) kept = absurd kept
+kept_newest count log (Copied index migration p) kept = tt
 
 pub pushed_length : (log : List Entry) (e : Entry) → length (log ++ e ∷ []) ≡ length log + 1
 pushed_length [] e = refl
 pushed_length (x ∷ log) e = omega (arith, pushed_length log e)
 
 -- the same log, told otherwise
-pub kept_as : (lo hi : ℕ) (xs ys : List Entry) (answered others : List (Option Answer)) (state : State) (t u : Option ℕ) → xs ≡ ys → answered ≡ others → t ≡ u
-    → IsKeptLog lo hi ys others state u → IsKeptLog lo hi xs answered state t
-kept_as lo hi xs ys answered others state t u a b d is = rw (a, b, d) is
+pub kept_as : (lo hi : ℕ) (xs ys : List Entry) (n m : ℕ) (answered others : List (Option Answer)) (state : State) (t u : LatestTake) → xs ≡ ys → n ≡ m → answered ≡ others → t ≡ u
+    → IsKeptLog lo hi ys m others state u → IsKeptLog lo hi xs n answered state t
+kept_as lo hi xs ys n m answered others state t u a b d e is = rw (a, b, d, e) is
+
+-- the same log, of which more may be packed
+pub kept_again : (lo hi : ℕ) (xs ys : List Entry) (n m : ℕ) (answered others : List (Option Answer)) (after state : State) (t u : LatestTake) → IsKeptLog lo hi ys m others state u
+    → xs ≡ ys → answered ≡ others → meant_by after ≡ meant_by state → take_told ys t ≡ take_told ys u → IsKept t → IsKeptLog lo hi xs n answered after t
+kept_again lo hi xs ys n m answered others after state t u is same said means told kept = rw (same, said) record {
+  ordered = is.ordered;
+  is_log = is.is_log;
+  answers = is.answers;
+  means = means ∙ is.means;
+  last = told ∙ is.last;
+  newest = kept_newest n ys t kept;
+}
 
 -- ---- an entry more
 
-pub kept_more : (lo hi : ℕ) (log : List Entry) (answered : List (Option Answer)) (state after : State) (taken : Option ℕ) (e : Entry) → IsKeptLog lo hi log answered state taken
+pub kept_more : (lo hi : ℕ) (log : List Entry) (count : ℕ) (answered : List (Option Answer)) (state after : State) (taken : LatestTake) (e : Entry) → IsKeptLog lo hi log count answered state taken
+    → count ≤ length log
     → length (log ++ e ∷ []) ≡ length log + 1
     → fits_at (meaning lo hi log) e ≡ true
     → meant_by after ≡ untaken (after_entry (meant_by state) (length log) e)
-    → IsKeptLog lo hi (log ++ e ∷ []) (answered ++ answer_of state.store.map (Some e) ∷ []) after (take_index taken (length log) e)
-kept_more lo hi log answered state after taken e is size fits means =
+    → IsKeptLog lo hi (log ++ e ∷ []) count (answered ++ answer_of state.store.map (Some e) ∷ []) after (take_after taken (length log) e)
+kept_more lo hi log count answered state after taken e is some size fits means =
     let grown : meaning lo hi (log ++ e ∷ []) ≡ after_entry (meaning lo hi log) (length log) e = meaning_append lo hi log (e ∷ []) in
     record {
       ordered = is.ordered;
@@ -110,8 +132,8 @@ kept_more lo hi log answered state after taken e is size fits means =
           ∙ ap (λ (s : LogState). untaken (after_entry s (length log) e)) is.means
           ∙ untaken_after (meaning lo hi log) (length log) e
           ∙ sym (ap untaken grown);
-      last = taken_more log e taken (meaning lo hi log) is.within is.last ∙ sym (ap (λ (s : LogState). s.taken) grown);
-      within = within_more log e taken size is.within;
+      last = taken_more log e count taken (meaning lo hi log) is.newest is.last ∙ sym (ap (λ (s : LogState). s.taken) grown);
+      newest = newest_more log e count taken some size is.newest;
     }
 
 -- ---- what a Take that fits carries

@@ -1,16 +1,10 @@
 -- Ops among the entries of a log.
-use Rattle.std.specs.Prelude.{ℕ, List, Option, Some, None, slice_get, take, ⊤}
+use Rattle.std.specs.Prelude.{ℕ, List, Option, Some, None, slice_get, take}
 use Rattle.curp_cmd.specs.Store.{Contents, applied}
 use Rattle.curp_cmd.specs.declared.command.Answer.{Answer}
-use Rattle.curp_cmd.specs.declared.command.Request.{Request}
 use Rattle.curp_cmd.specs.declared.entry.Entry.{Entry}
 use Rattle.curp_cmd.specs.declared.entry.Entry.TheVariants.{Op}
 use Rattle.curp_model.specs.Log.{meaning}
-
--- the request of an entry, if it is an Op
-abbrev pub request_of : Option Entry → Option Request
-request_of (Some (Op request acknowledged)) = Some request
-request_of _ = None
 
 -- the answer to an entry over a store, if it is an Op
 abbrev pub answer_of : Contents → Option Entry → Option Answer

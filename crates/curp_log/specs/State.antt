@@ -1,15 +1,17 @@
 -- What a log means, as a master keeps it.
-use Rattle.std.specs.Prelude.{◌≡◌, ℕ, ◌+◌, ◌<◌, ◌≤◌, min, List, [], ◌∷◌, length, slice_get, Option, Some, None, IfSome, fold}
+use Rattle.std.specs.Prelude.{◌≡◌, ℕ, ◌+◌, ◌<◌, ◌≤◌, min, List, [], ◌∷◌, length, slice_get, Option, Some, None, ⊤, fold}
 use Rattle.std.specs.FinMap as map
 use Rattle.curp_cmd.specs.Pairs.{Pair}
 use Rattle.curp_cmd.specs.Store.{Contents}
 use Rattle.curp_cmd.specs.declared.command.Answer.{Answer}
 use Rattle.curp_cmd.specs.declared.entry.Entry.{Entry}
-use Rattle.curp_cmd.specs.declared.entry.Entry.TheVariants.{Take}
+use Rattle.curp_cmd.specs.declared.entry.Entry.TheVariants.{Op, Take, Give, Expire}
 use Rattle.curp_model.specs.Log.{IsLog, LastGive, LastTake, LogState, after_entry, log_opening, meaning}
 use Rattle.curp_log.specs.Ops.{answer_of}
 use Rattle.curp_log.specs.declared.state.LatestGive.{LatestGive}
 use Rattle.curp_log.specs.declared.state.State.{State}
+use Rattle.curp_log.specs.declared.taken.LatestTake.{LatestTake}
+use Rattle.curp_log.specs.declared.taken.LatestTake.TheVariants.{Never, Newest, Copied}
 
 -- the last migration that was given
 abbrev pub given_of : Option LatestGive → Option LastGive
@@ -37,26 +39,42 @@ abbrev pub take_of : ℕ → Option Entry → Option LastTake
 take_of index (Some (Take migration p)) = Some (record { migration = migration; taken = p; index = index })
 take_of index _ = None
 
--- the package of the Take at an index, if one is known
-abbrev pub last_take : List Entry → Option ℕ → Option LastTake
-last_take entries None = None
-last_take entries (Some index) = take_of index (slice_get entries index)
+-- the last package taken, where it is found
+abbrev pub take_told : List Entry → LatestTake → Option LastTake
+take_told entries Never = None
+take_told entries (Newest index) = take_of index (slice_get entries index)
+take_told entries (Copied index migration p) = Some (record { migration = migration; taken = p; index = index })
 
--- the index of the last Take, once an entry comes
-abbrev pub take_index : Option ℕ → ℕ → Entry → Option ℕ
-take_index before index (Take migration p) = Some index
-take_index before index _ = before
+-- it is found without the log
+abbrev pub IsKept : LatestTake → Type 0
+IsKept Never = ⊤
+IsKept (Newest index) = ⊥
+IsKept (Copied index migration p) = ⊤
+
+-- where it is found in the log, it isn't packed there
+abbrev pub IsNewest : ℕ → List Entry → LatestTake → Type 0
+IsNewest count entries Never = ⊤
+IsNewest count entries (Newest index) = (count ≤ index) × (index < length entries)
+IsNewest count entries (Copied index migration p) = ⊤
+
+-- where it is found once an entry with that index comes
+abbrev pub take_after : LatestTake → ℕ → Entry → LatestTake
+take_after before index (Op request acknowledge) = before
+take_after before index (Take migration p) = Newest index
+take_after before index (Give migration p) = before
+take_after before index (Expire client) = before
 
 -- the answer to each entry, which only Ops have
 abbrev pub answers_in : LogState → ℕ → List Entry → List (Option Answer)
 answers_in s index [] = []
 answers_in s index (e ∷ es) = answer_of s.store (Some e) ∷ answers_in (after_entry s index e) (index + 1) es
 
--- entries that a master of that range could have pushed, with their answers, their meaning, and the place of the last Take
-pub record IsKeptLog (lo hi : ℕ) (entries : List Entry) (answered : List (Option Answer)) (state : State) (taken : Option ℕ) : Type 0 where
+-- entries that a master of that range could have pushed, of which so many are packed, with their answers, their meaning, and
+-- where the last Take is found
+pub record IsKeptLog (lo hi : ℕ) (entries : List Entry) (count : ℕ) (answered : List (Option Answer)) (state : State) (taken : LatestTake) : Type 0 where
   pub ordered : lo ≤ hi
   pub is_log : IsLog lo hi entries
   pub answers : answered ≡ answers_in (log_opening lo hi) 0 entries
   pub means : meant_by state ≡ untaken (meaning lo hi entries)
-  pub last : last_take entries taken ≡ (meaning lo hi entries).taken
-  pub within : IfSome taken (λ index. index < length entries)
+  pub last : take_told entries taken ≡ (meaning lo hi entries).taken
+  pub newest : IsNewest count entries taken

@@ -1,4 +1,4 @@
-ghost use Rattle.std.specs.Prelude.{◌≡◌, ◌+◌, ◌<◌, ◌≤◌, ◌^◌, true, [], ◌∷◌, ◌++◌, length, drop, slice_get, IfOk, OnOk};
+ghost use Rattle.std.specs.Prelude.{◌≡◌, ◌+◌, ◌-◌, ◌<◌, ◌≤◌, ◌^◌, true, [], ◌∷◌, ◌++◌, Some, length, take, drop, slice_get, IfOk, IfSome, OnOk};
 ghost use Rattle.std.specs.FinMap as map;
 ghost use Rattle.std.specs.List.{filter, list_all};
 ghost use Rattle.curp_cmd.specs.Entry.{room_of};
@@ -8,14 +8,18 @@ ghost use Rattle.curp_range.specs.Spans.{is_owned};
 ghost use Rattle.curp_model.specs.Log.{IsLog, fits_at, is_log, is_pair_in, meaning};
 ghost use Rattle.curp_model.specs.Ranges.{owns_all};
 ghost use Rattle.curp_model.specs.Table.{check, packed};
-ghost use Rattle.curp_log.specs.Ops.{answer_at, request_of};
-ghost use Rattle.curp_log.specs.State.{given_of, take_index};
+ghost use Rattle.curp_entries.specs.Packed.{IsPackedPart};
+ghost use Rattle.curp_entries.specs.Requests.{request_at};
+ghost use Rattle.curp_log.specs.Ops.{answer_at};
+ghost use Rattle.curp_log.specs.State.{given_of};
 ghost use Rattle.curp_log.specs.Taken.{taken_of};
 
 use crate::packing::{pairs_in, same_package};
 use crate::state::{LatestGive, State};
-use curp_base::{NoMemory, copies_of, past};
+use crate::taken::LatestTake;
+use curp_base::NoMemory;
 use curp_cmd::{Answer, Command, Entry, Hashes, Package, Request, RequestId, Store, room};
+use curp_entries::PackedEntries;
 use curp_model::Check;
 use curp_range::Ranges;
 use curp_range::laws::one_span_covers;
@@ -31,12 +35,11 @@ pub struct Log {
     alloc: Global,
     lo: u64,
     hi: u64,
-    entries: Vec<Entry>,
+    entries: PackedEntries,
     // Of each entry, in their order; only Ops have one.
     answers: Vec<Option<Answer>>,
     state: State,
-    // Where the last Take stands.
-    taken: Option<u64>,
+    taken: LatestTake,
 }
 
 /// The last package that was taken: the migration, the package, and the index of its entry.
@@ -57,12 +60,11 @@ impl Model for Log {
     ghost view = { λ l. record {
       lo = l.lo;
       hi = l.hi;
-      entries = l.entries.items;
-      spare = min (vec_capacity l.entries - vec_len l.entries)
-          (min (vec_capacity l.answers - vec_len l.answers) (room_in l.state));
+      entries = l.entries.entries;
+      spare = min l.entries.spare (min (vec_capacity l.answers - vec_len l.answers) (room_in l.state));
     } };
 
-    ghost invariant = { λ l. IsKeptLog l.lo l.hi l.entries.items l.answers.items l.state l.taken };
+    ghost invariant = { λ l. IsKeptLog l.lo l.hi l.entries.entries l.entries.packed l.answers.items l.state l.taken };
 }
 
 impl Log {
@@ -77,14 +79,15 @@ impl Log {
             alloc,
             lo,
             hi,
-            entries: Vec::new(alloc),
+            entries: PackedEntries::new(alloc),
             answers: Vec::new(alloc),
             state: State::begin(alloc, lo, hi)?,
-            taken: None,
+            taken: LatestTake::Never,
         })
     }
 
-    /// Makes room for entries that take so much, by `curp_cmd::room`.
+    /// Makes room for entries that take so much, by `curp_cmd::room`. The oldest entries are packed first, so that fewer than
+    /// 128 aren't, or else one of the first 64 of those has no spelling.
     pub fn reserve(&mut self, units: u64) -> Result<(), NoMemory>
         ensures lo { self.new.lo ≡ self.old.lo }
         ensures hi { self.new.hi ≡ self.old.hi }
@@ -92,7 +95,9 @@ impl Log {
         ensures room { OnOk result (units ≤ self.new.spare) }
         ensures kept { self.old.spare ≤ self.new.spare }
     {
-        self.entries.reserve(units as usize)?;
+        // What is lent isn't packed.
+        self.taken.keep(self.alloc, &self.entries)?;
+        self.entries.reserve(units)?;
         self.answers.reserve(units as usize)?;
         self.state.reserve(units)
     }
@@ -107,11 +112,11 @@ impl Log {
         ensures hi { self.new.hi ≡ self.old.hi }
         ensures spare { self.old.spare ≤ self.new.spare + room_of entry }
     {
-        let index = self.entries.len() as u64;
+        let index = self.entries.len();
         let answer = self.state.apply(index, &entry);
-        self.taken = take_index(self.taken, index, &entry);
+        self.taken.follow(index, &entry);
         self.answers.push_reserved(answer);
-        self.entries.push_reserved(entry);
+        self.entries.push(entry);
         index
     }
 
@@ -120,42 +125,51 @@ impl Log {
         ensures value { result ≡ length self.now.entries }
         ensures small { length self.now.entries < 2 ^ 63 }
     {
-        self.entries.len() as u64
+        self.entries.len()
     }
 
-    pub fn entries(&self) -> &[Entry]
-        ensures value { result.now ≡ self.now.entries }
-        ensures is_log { IsLog self.now.lo self.now.hi self.now.entries }
-        ensures ordered { self.now.lo ≤ self.now.hi }
+    /// How many of the oldest entries are packed, and their spellings, one behind the other.
+    pub fn packed(&self) -> (u64, &[u8])
+        ensures { IsPackedPart self.now.entries result.0 result.1.now }
     {
-        &self.entries
+        self.entries.packed()
     }
 
-    /// The request of the Op at that index, if one stands there.
+    /// The entry at that index, if one stands there that isn't packed.
+    pub fn newest(&self, index: u64) -> Option<&Entry>
+        ensures { IfSome result (λ entry. slice_get self.now.entries index ≡ Some entry.now) }
+    {
+        self.entries.newest(index)
+    }
+
+    /// The request of the Op at that index, if one stands there. It takes no memory.
     pub fn request(&self, index: u64) -> Option<Request>
-        ensures { result ≡ request_of (slice_get self.now.entries index) }
+        ensures { result ≡ request_at (slice_get self.now.entries index) }
     {
-        match self.entries.get(index as usize) {
-            Some(Entry::Op { request, .. }) => Some(*request),
-            _ => None,
-        }
+        self.entries.request(index)
     }
 
     /// A copy of the entry at that index, if one stands there.
     pub fn entry(&self, index: u64) -> Result<Option<Entry>, NoMemory>
         ensures { IfOk result (λ entry. entry ≡ slice_get self.now.entries index) }
     {
-        match self.entries.get(index as usize) {
-            Some(entry) => Ok(Some(entry.copy(self.alloc)?)),
-            None => Ok(None),
-        }
+        self.entries.entry(index)
     }
 
     /// Copies of the entries from that index on, of which there are none past the end.
     pub fn suffix(&self, start: u64) -> Result<Vec<Entry>, NoMemory>
-        ensures { IfOk result (λ entries. entries.items ≡ drop start self.now.entries) }
+        ensures value { IfOk result (λ entries. entries.items ≡ drop start self.now.entries) }
+        ensures is_log { IsLog self.now.lo self.now.hi self.now.entries }
+        ensures ordered { self.now.lo ≤ self.now.hi }
     {
-        copies_of(self.alloc, past(&self.entries, start))
+        self.entries.suffix(start)
+    }
+
+    /// Copies of the entries from an index on, as far as another.
+    pub fn between(&self, start: u64, end: u64) -> Result<Vec<Entry>, NoMemory>
+        ensures { IfOk result (λ entries. entries.items ≡ take (end - start) (drop start self.now.entries)) }
+    {
+        self.entries.between(start, end)
     }
 
     /// The duplicate check (RIFL). It makes no more than three binary searches.
@@ -253,15 +267,7 @@ impl Log {
     pub fn package(&self) -> Option<TakenPackage<'_>>
         ensures { taken_of result ≡ (meaning self.now.lo self.now.hi self.now.entries).taken }
     {
-        let index = self.taken?;
-        match &self.entries[index as usize] {
-            Entry::Take { migration, package } => Some(TakenPackage {
-                migration: *migration,
-                package,
-                index,
-            }),
-            _ => None,
-        }
+        self.taken.lend(&self.entries)
     }
 
     /// The last migration that was given, if one was.
@@ -277,16 +283,6 @@ fn owns_each(ranges: &Ranges, hashes: &Hashes) -> bool
     ensures { result ≡ list_all (is_owned ranges.now.spans) hashes.now }
 {
     hashes.as_slice().iter().all(|hash| ranges.owns(*hash))
-}
-
-/// Where the last Take stands, once an entry with that index comes.
-fn take_index(before: Option<u64>, index: u64, entry: &Entry) -> Option<u64>
-    ensures { result ≡ take_index before index entry.now }
-{
-    match entry {
-        Entry::Take { .. } => Some(index),
-        _ => before,
-    }
 }
 
 /// Whether a master that began with the hashes from `lo` to `hi` could have pushed these entries.

@@ -1,8 +1,10 @@
 -- What stands beside a log, as an entry is pushed.
-use Rattle.std.proofs.Common.{◌≡◌, ℕ, ◌+◌, ◌-◌, ◌<◌, ◌≤◌, ◌&&◌, ◌||◌, not, min, Bool, true, false, List, [], ◌∷◌, ◌++◌, length, take, drop, Option, Some, slice_get, length-append, refl, ap, sym, ◌∙◌, arith}
-use Rattle.std.proofs.lemmas.List.{take-append-le, take-append-drop, drop-drop, drop_min}
+use Rattle.std.proofs.Common.{◌≡◌, ℕ, ◌+◌, ◌-◌, ◌<◌, ◌≤◌, ◌&&◌, ◌||◌, not, min, Bool, true, false, List, [], ◌∷◌, ◌++◌, length, take, drop, Option, Some, Result, Ok, Err, IfOk, slice_get, length-append, refl, ap, sym, ◌∙◌, arith}
+use Rattle.std.proofs.lemmas.List.{take-append-le, take-append-drop, drop-drop}
 use Rattle.std.proofs.lemmas.List.Folds.{list_any-append}
 use Rattle.std.specs.List.{list_any}
+use Rattle.std.specs.Global.{Vec}
+use Rattle.std.specs.declared.alloc.AllocError.{AllocError}
 use Rattle.std.proofs.Math.Seq.{take-length}
 use Rattle.curp_base.specs.Words.{Each}
 use Rattle.curp_base.proofs.Lists.{at_push, Each-append, Each-weaker}
@@ -75,15 +77,17 @@ beside_push j told tail pushed e is_free beside its_tail =
 -- ---- entries that aren't synced and of which no tail tells
 
 -- they stand between what is synced and what the tail tells of
-pub between_split : (entries : List Entry) (start end count : ℕ) → start ≤ end → count ≡ min (end - start) (length (drop start entries))
-    → drop start entries ≡ take count (drop start entries) ++ drop end entries
-between_split entries start end count before is =
+pub between_split : (entries : List Entry) (start end : ℕ) → start ≤ end → drop start entries ≡ take (end - start) (drop start entries) ++ drop end entries
+between_split entries start end before =
     let rest = drop start entries in
     let on : start + (end - start) ≡ end = omega (arith, before) in
-    let left : drop count rest ≡ drop end entries =
-    ap (λ k. drop k rest) is ∙ drop_min (end - start) rest ∙ drop-drop (end - start) start entries ∙ ap (λ k. drop k entries) on
-    in
-    sym (take-append-drop count rest) ∙ ap (λ tail. take count rest ++ tail) left
+    let left : drop (end - start) rest ≡ drop end entries = drop-drop (end - start) start entries ∙ ap (λ k. drop k entries) on in
+    sym (take-append-drop (end - start) rest) ∙ ap (λ tail. take (end - start) rest ++ tail) left
+
+pub split_if_read : (r : Result (Vec Entry) AllocError) (entries : List Entry) (start end : ℕ) → start ≤ end
+    → IfOk r (λ read. read.items ≡ take (end - start) (drop start entries)) → IfOk r (λ read. drop start entries ≡ read.items ++ drop end entries)
+split_if_read (Ok read) entries start end before is = between_split entries start end before ∙ ap (λ front. front ++ drop end entries) (sym is)
+split_if_read (Err why) entries start end before is = tt
 
 not_or : (a b : Bool) → (not a && not b) ≡ not (a || b)
 not_or true b = refl

@@ -15,7 +15,7 @@
 //!   touches its key, and costs no round; else it waits as any other.
 //! - `MasterLog` is the log with its tail and the free ops. The tail begins empty, since each backup has the log that a
 //!   master begins with; a list without backups, which no header has, would leave entries before the tail, and these
-//!   are looked at themselves (`untold`). What waits for collection is a `Queue`. All memory of an input is taken
+//!   are read from the log and looked at themselves (`untold`). What waits for collection is a `Queue`. All memory of an input is taken
 //!   before anything changes.
 #![tactic(auto)]
 

@@ -142,10 +142,10 @@ impl Master {
             (on_serving self.old.number self.old.state message.now.from message.now.body)) }
     {
         match &message.body {
-            Body::Update(ask) => self.on_update(Wish::AtOnce, ask.get()),
-            Body::Sync(ask) => self.on_update(Wish::WhenSynced, ask.get()),
-            Body::Read(ask) => self.on_read(ask.get()),
-            Body::Glance(ask) => self.on_glance(ask.get()),
+            Body::Update(ask) => self.on_update(Wish::AtOnce, ask),
+            Body::Sync(ask) => self.on_update(Wish::WhenSynced, ask),
+            Body::Read(ask) => self.on_read(ask),
+            Body::Glance(ask) => self.on_glance(ask),
             Body::Appended(appended) => self.on_appended(&message.from, appended),
             Body::Collected(collected) => self.on_collected(&collected.answer),
             Body::Prepare(prepare) => self.prepare(prepare),
@@ -187,8 +187,8 @@ impl Master {
     }
 
     /// Whether no entry that isn't synced touches the command.
-    pub(crate) fn is_clean(&self, command: &Command) -> bool
-        ensures { result ≡ master.is_clean self.now.state command.now }
+    pub(crate) fn is_clean(&self, command: &Command) -> Result<bool, NoMemory>
+        ensures { IfOk result (λ clean. clean ≡ master.is_clean self.now.state command.now) }
     {
         self.master_log.is_clean(command)
     }

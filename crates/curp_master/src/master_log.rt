@@ -8,7 +8,7 @@ ghost use Rattle.curp_tail.specs.Tail.{tail_of};
 ghost use Rattle.curp_master.specs.MasterLog.{CanPush, HasRoom, free_with, kept_log_of, with_entry};
 
 use crate::untold::{between, touch};
-use curp_base::{NoMemory, past};
+use curp_base::{NoMemory, Shared, past};
 use curp_cmd::{Answer, Command, Entry, Request};
 use curp_log::Log;
 use curp_rounds::Indexes;
@@ -77,12 +77,13 @@ impl MasterLog {
     }
 
     /// Whether no entry that isn't synced touches the command.
-    pub(crate) fn is_clean(&self, command: &Command) -> bool
-        ensures { result ≡ not (is_touched (drop self.now.kept.synced self.now.kept.entries) command.now) }
+    pub(crate) fn is_clean(&self, command: &Command) -> Result<bool, NoMemory>
+        ensures { IfOk result (λ clean. clean
+            ≡ not (is_touched (drop self.now.kept.synced self.now.kept.entries) command.now)) }
     {
         tail_tells_of_log();
-        let untold = between(self.log.entries(), self.synced, self.told);
-        !touch(untold, command) && !self.tail.covers_dirty(command)
+        let untold = between(&self.log, self.synced, self.told)?;
+        Ok(!touch(&untold, command) && !self.tail.covers_dirty(command))
     }
 
     pub(crate) fn is_free(&self, index: u64) -> bool
@@ -117,12 +118,12 @@ impl MasterLog {
     }
 
     /// Pushes a request as an Op, and tells its answer.
-    pub(crate) fn push_op(&mut self, request: &Request, is_free: bool) -> Answer
-        requires room { HasRoom self.old (room_of (Op request.now request.now.first)) }
-        requires fits { CanPush (meaning self.old.kept.lo self.old.kept.hi self.old.kept.entries) request.now }
-        ensures pushed { self.new.kept ≡ with_entry self.old.kept (Op request.now request.now.first) is_free }
+    pub(crate) fn push_op(&mut self, request: Shared<Request>, is_free: bool) -> Answer
+        requires room { HasRoom self.old (room_of (Op request request.first)) }
+        requires fits { CanPush (meaning self.old.kept.lo self.old.kept.hi self.old.kept.entries) request }
+        ensures pushed { self.new.kept ≡ with_entry self.old.kept (Op request request.first) is_free }
         ensures answer { result
-            ≡ answer_after self.old.kept.lo self.old.kept.hi self.old.kept.entries request.now.command }
+            ≡ answer_after self.old.kept.lo self.old.kept.hi self.old.kept.entries request.command }
     {
         let index = self.log.len();
         self.push(op_of(request), is_free);
@@ -156,12 +157,13 @@ impl MasterLog {
 }
 
 /// A request as an entry: its client has the answers of its requests below its first.
-pub(crate) fn op_of(request: &Request) -> Entry
-    ensures { result ≡ Op request.now request.now.first }
+pub(crate) fn op_of(request: Shared<Request>) -> Entry
+    ensures { result ≡ Op request request.first }
 {
+    let acknowledge = request.first;
     Entry::Op {
-        request: *request,
-        acknowledge: request.first,
+        request,
+        acknowledge,
     }
 }
 
@@ -170,7 +172,9 @@ fn tail_of(alloc: Global, log: &Log, told: u64) -> Result<Tail, NoMemory>
     ensures { IfOk result (λ tail. tail.entries ≡ tail_of log.now.entries told) }
 {
     let mut tail = Tail::new(alloc);
-    tail.add(past(log.entries(), told), told)?;
+    // For its clause alone.
+    let _length = log.len();
+    tail.add(&log.suffix(told)?, told)?;
     Ok(tail)
 }
 

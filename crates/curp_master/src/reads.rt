@@ -6,7 +6,7 @@ ghost use Rattle.curp_msg.specs.Moved.{Moves};
 ghost use Rattle.curp_master.specs.Built.{move_of};
 
 use crate::Master;
-use curp_base::{Boxed, NoMemory};
+use curp_base::{Boxed, NoMemory, Shared};
 use curp_cmd::{Answer, Command, Key, Request};
 use curp_model::Check;
 use curp_msg::{Ask, Done, Quick, Refusal};
@@ -37,10 +37,13 @@ impl Master {
         let Command::Get(key) = &ask.request.command else {
             return Ok(Done::quiet(self.alloc));
         };
-        match self.read_refusal(ask) {
-            Some(why) => self.tell(messages::refuse(self.number, ask.request.id, why)),
-            None if self.is_clean(&ask.request.command) => self.answer_at_once(&ask.request, key),
-            None => self.capture(&ask.request, key),
+        if let Some(why) = self.read_refusal(ask) {
+            return self.tell(messages::refuse(self.number, ask.request.id, why));
+        }
+        if self.is_clean(&ask.request.command)? {
+            self.answer_at_once(&ask.request, key)
+        } else {
+            self.capture(&ask.request, key)
         }
     }
 
@@ -73,21 +76,21 @@ impl Master {
     }
 
     // It waits with its value, and a round begins.
-    fn capture(&mut self, request: &Request, key: &Key) -> Result<Done, NoMemory>
+    fn capture(&mut self, request: &Shared<Request>, key: &Key) -> Result<Done, NoMemory>
         ensures moves { Moves self.old self.new result
             (move_of self.old (captures_read self.old.number self.old.state request.now key.now)) }
     {
         let Some(number) = self.captures.count().checked_add(1) else {
             return Ok(Done::quiet(self.alloc));
         };
+        let shared = request.share()?;
         self.captures.reserve()?;
         let Some(round) = self.next_round(&[])? else {
             return Ok(Done::quiet(self.alloc));
         };
         let captured = Captured::new(
             number,
-            request.id,
-            request.command,
+            shared,
             self.value(key),
             self.master_log.log().len(),
             round.number,

@@ -1,12 +1,12 @@
 ghost use Rattle.std.specs.Prelude.{◌≡◌, ◌++◌, length, slice_get, IfOk, OnOk};
-ghost use Rattle.curp_model.specs.Master.{between, on_appended, on_stored, settle, synced_replies, synced_reply};
+ghost use Rattle.curp_model.specs.Master.{on_appended, on_stored, settle, synced_replies, synced_reply};
 ghost use Rattle.curp_msg.specs.Moved.{Moves};
 ghost use Rattle.curp_master.specs.Built.{move_of};
 ghost use Rattle.curp_master.specs.Settling.{acknowledging, listing, prepares_in};
 
 use crate::Master;
-use curp_base::{Boxed, NoMemory, past};
-use curp_cmd::{Entry, NodeId};
+use curp_base::{Boxed, NoMemory};
+use curp_cmd::NodeId;
 use curp_msg::{AppendAnswer, Appended, Done, Message};
 use curp_rounds::acknowledged::{Acknowledged, least_length, raised};
 use curp_rounds::messages;
@@ -116,8 +116,8 @@ impl Master {
             acknowledged,
             backups,
         )?;
-        let moved = newly_synced(self.master_log.log().entries(), self.settled, synced);
-        messages::tell_moved(&mut sent, self.alloc, self.number, moved)?;
+        let moved = self.master_log.log().between(self.settled, synced)?;
+        messages::tell_moved(&mut sent, self.alloc, self.number, &moved)?;
         Ok(sent)
     }
 
@@ -147,18 +147,5 @@ impl Master {
             sent.push(messages::reply(self.number, Boxed::new(self.alloc, reply)?))?;
         }
         Ok(())
-    }
-}
-
-// The entries that weren't synced when it settled last, up to what is synced now.
-fn newly_synced(entries: &[Entry], settled: u64, synced: u64) -> &[Entry]
-    ensures { result.now ≡ between settled synced entries.now }
-{
-    let entries = past(entries, settled);
-    let count = synced.saturating_sub(settled);
-    if count < entries.len() as u64 {
-        &entries[..count as usize]
-    } else {
-        entries
     }
 }

@@ -12,7 +12,7 @@ ghost use Rattle.curp_master.specs.Suspects.{HasOpRoom, IsTreated, brings, keepi
 
 use crate::Master;
 use crate::master_log::MasterLog;
-use curp_base::NoMemory;
+use curp_base::{NoMemory, Shared, copies_of};
 use curp_cmd::laws::names_one_to_four_keys;
 use curp_cmd::{Answer, Entry, Request};
 use curp_collect::Queue;
@@ -36,7 +36,7 @@ impl Master {
     }
 
     // Each in turn. Where one is pushed, a round begins behind the last.
-    fn treat(&mut self, suspects: &[Request]) -> Result<Done, NoMemory>
+    fn treat(&mut self, suspects: &[Shared<Request>]) -> Result<Done, NoMemory>
         ensures moves { Moves self.old self.new result
             (move_of self.old (treats self.old.number self.old.state suspects.now)) }
     {
@@ -54,7 +54,7 @@ impl Master {
     }
 
     // So many of them are pushed. All room is taken before anything changes.
-    fn take_in(&mut self, suspects: &[Request], ops: u64) -> Result<(), NoMemory>
+    fn take_in(&mut self, suspects: &[Shared<Request>], ops: u64) -> Result<(), NoMemory>
         requires { ops ≡ length (news self.old.state.lo self.old.state.hi self.old.state.log suspects.now) }
         ensures number { self.new.number ≡ self.old.number }
         ensures state { OnOk result (self.new.state ≡ treat self.old.state suspects.now) }
@@ -63,22 +63,23 @@ impl Master {
         let Some(units) = ops.checked_mul(5) else {
             return Err(AllocError);
         };
-        self.queue.reserve(suspects.len() as u64)?;
+        let shared = copies_of(self.alloc, suspects)?;
+        self.queue.reserve(shared.len() as u64)?;
         self.master_log.reserve(units)?;
-        treat_each(&mut self.master_log, &mut self.queue, suspects);
+        treat_each(&mut self.master_log, &mut self.queue, shared);
         Ok(())
     }
 }
 
 // What the suspects bring into the log. Those that were seen to come are known by their ids.
-fn news(alloc: Global, log: &Log, suspects: &[Request]) -> Result<Vec<Entry>, NoMemory>
+fn news(alloc: Global, log: &Log, suspects: &[Shared<Request>]) -> Result<Vec<Entry>, NoMemory>
     ensures { IfOk result (λ ops. ops.items ≡ news log.now.lo log.now.hi log.now.entries suspects.now) }
 {
     let mut seen = Table::new(alloc);
     let mut ops = Vec::new(alloc);
     for suspect in suspects {
         if can_come(log, &seen, suspect) {
-            ops.push(unacknowledging(suspect))?;
+            ops.push(unacknowledging(suspect.share()?))?;
             seen.reserve(1)?;
             seen.finish(suspect.id, Answer::Done, 0, 0);
         }
@@ -87,7 +88,7 @@ fn news(alloc: Global, log: &Log, suspects: &[Request]) -> Result<Vec<Entry>, No
 }
 
 // It is new in the log and among those that were seen, and its hashes are owned.
-fn can_come(log: &Log, seen: &Table, suspect: &Request) -> bool
+fn can_come(log: &Log, seen: &Table, suspect: &Shared<Request>) -> bool
     ensures { result ≡ ((is_new (check (meaning log.now.lo log.now.hi log.now.entries).table suspect.now.id)
         && is_new (check seen.now.table suspect.now.id))
         && owns_all (meaning log.now.lo log.now.hi log.now.entries).owned (hashes suspect.now.command)) }
@@ -105,21 +106,21 @@ fn is_new(check: Check) -> bool
 }
 
 // A request as an entry by which its client acknowledges nothing.
-fn unacknowledging(request: &Request) -> Entry
-    ensures { result ≡ Op request.now 0 }
+fn unacknowledging(request: Shared<Request>) -> Entry
+    ensures { result ≡ Op request 0 }
 {
     Entry::Op {
-        request: *request,
+        request,
         acknowledge: 0,
     }
 }
 
 // Each suspect in turn. It takes no memory, since there is room.
-fn treat_each(master_log: &mut MasterLog, queue: &mut Queue, suspects: &[Request])
+fn treat_each(master_log: &mut MasterLog, queue: &mut Queue, suspects: Vec<Shared<Request>>)
     requires room { HasOpRoom master_log.old
-        (length (news master_log.old.kept.lo master_log.old.kept.hi master_log.old.kept.entries suspects.now)) }
-    requires spare { length suspects.now ≤ queue.old.spare }
-    ensures treated { (m : MasterState) → treat (keeping m master_log.old.kept queue.old.waiting) suspects.now
+        (length (news master_log.old.kept.lo master_log.old.kept.hi master_log.old.kept.entries suspects.items)) }
+    requires spare { length suspects.items ≤ queue.old.spare }
+    ensures treated { (m : MasterState) → treat (keeping m master_log.old.kept queue.old.waiting) suspects.items
         ≡ keeping m master_log.new.kept queue.new.waiting }
     ensures synced { master_log.new.kept.synced ≡ master_log.old.kept.synced }
 {
@@ -129,11 +130,11 @@ fn treat_each(master_log: &mut MasterLog, queue: &mut Queue, suspects: &[Request
 }
 
 // By the duplicate check of its id.
-fn treat(master_log: &mut MasterLog, queue: &mut Queue, suspect: &Request)
+fn treat(master_log: &mut MasterLog, queue: &mut Queue, suspect: Shared<Request>)
     requires room { HasOpRoom master_log.old
-        (length (brings master_log.old.kept.lo master_log.old.kept.hi master_log.old.kept.entries suspect.now)) }
+        (length (brings master_log.old.kept.lo master_log.old.kept.hi master_log.old.kept.entries suspect)) }
     requires spare { 1 ≤ queue.old.spare }
-    ensures treated { IsTreated suspect.now master_log.old queue.old.waiting master_log.new queue.new.waiting }
+    ensures treated { IsTreated suspect master_log.old queue.old.waiting master_log.new queue.new.waiting }
     ensures spare { queue.old.spare ≤ queue.new.spare + 1 }
 {
     let length = master_log.log().len();
@@ -145,17 +146,18 @@ fn treat(master_log: &mut MasterLog, queue: &mut Queue, suspect: &Request)
 }
 
 // One that is new is pushed, where its hashes are owned.
-fn treat_new(master_log: &mut MasterLog, queue: &mut Queue, suspect: &Request)
-    requires new { check (meaning master_log.old.kept.lo master_log.old.kept.hi master_log.old.kept.entries).table suspect.now.id ≡ New }
+fn treat_new(master_log: &mut MasterLog, queue: &mut Queue, suspect: Shared<Request>)
+    requires new { check (meaning master_log.old.kept.lo master_log.old.kept.hi master_log.old.kept.entries).table suspect.id ≡ New }
     requires room { HasOpRoom master_log.old
-        (length (brings master_log.old.kept.lo master_log.old.kept.hi master_log.old.kept.entries suspect.now)) }
+        (length (brings master_log.old.kept.lo master_log.old.kept.hi master_log.old.kept.entries suspect)) }
     requires spare { 1 ≤ queue.old.spare }
-    ensures treated { IsTreated suspect.now master_log.old queue.old.waiting master_log.new queue.new.waiting }
+    ensures treated { IsTreated suspect master_log.old queue.old.waiting master_log.new queue.new.waiting }
     ensures spare { queue.old.spare ≤ queue.new.spare + 1 }
 {
     if master_log.log().owns(&suspect.command) {
         names_one_to_four_keys(&suspect.command);
+        let id = suspect.id;
         master_log.push(unacknowledging(suspect), false);
-        queue.add(suspect.id, master_log.log().len());
+        queue.add(id, master_log.log().len());
     }
 }

@@ -1,22 +1,21 @@
-// Entries of a log of which no tail tells.
-ghost use Rattle.std.specs.Prelude.{◌≡◌, ◌≤◌, ◌++◌, drop};
+// Whether entries of a log of which no tail tells touch a command.
+ghost use Rattle.std.specs.Prelude.{◌≡◌, ◌≤◌, ◌++◌, drop, IfOk};
 ghost use Rattle.std.specs.List.{list_any};
 ghost use Rattle.curp_cmd.specs.Hash.{hashes};
 ghost use Rattle.curp_model.specs.Log.{entry_touches, is_touched};
 
-use curp_base::past;
+use curp_base::NoMemory;
 use curp_cmd::{Command, Entry, Hashes};
+use curp_log::Log;
 use curp_tail::Touched;
 use curp_tail::laws::tail_tells_of_log;
 
 /// The entries from a place on, as far as another place.
-pub(crate) fn between(entries: &[Entry], from: u64, to: u64) -> &[Entry]
+pub(crate) fn between(log: &Log, from: u64, to: u64) -> Result<Vec<Entry>, NoMemory>
     requires { from ≤ to }
-    ensures { drop from entries.now ≡ result.now ++ drop to entries.now }
+    ensures { IfOk result (λ entries. drop from log.now.entries ≡ entries.items ++ drop to log.now.entries) }
 {
-    let rest = past(entries, from);
-    let count = (to - from).min(rest.len() as u64);
-    &rest[..count as usize]
+    log.between(from, to)
 }
 
 /// Whether some entry touches a hash of the command.

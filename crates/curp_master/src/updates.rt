@@ -14,8 +14,8 @@ ghost use Rattle.curp_master.specs.Updates.{new_verdict, pushes_held};
 use crate::master_log::op_of;
 use crate::replies::reply_room;
 use crate::{Master, Round};
-use curp_base::NoMemory;
-use curp_cmd::{Answer, Request, room};
+use curp_base::{NoMemory, Shared};
+use curp_cmd::{Answer, Request, pairs_put};
 use curp_model::{Check, Verdict, Wish};
 use curp_msg::{Ask, Done, Refusal};
 use curp_rounds::messages;
@@ -89,7 +89,7 @@ impl Master {
     fn carry_out(
         &mut self,
         wish: Wish,
-        request: &Request,
+        request: &Shared<Request>,
         verdict: Verdict,
     ) -> Result<Done, NoMemory>
         requires { verdict ≡ Verdict.Execute → CanPush (state_of self.old.state) request.now }
@@ -105,13 +105,13 @@ impl Master {
         }
     }
 
-    fn execute(&mut self, wish: Wish, request: &Request) -> Result<Done, NoMemory>
+    fn execute(&mut self, wish: Wish, request: &Shared<Request>) -> Result<Done, NoMemory>
         requires { CanPush (state_of self.old.state) request.now }
         ensures moves { Moves self.old self.new result (move_of self.old
             (executes self.old.number self.old.state wish request.now
             (is_clean self.old.state request.now.command))) }
     {
-        let is_clean = self.is_clean(&request.command);
+        let is_clean = self.is_clean(&request.command)?;
         match wish {
             Wish::AtOnce if is_clean => self.push_free(request),
             Wish::AtOnce => self.push_held(request, false),
@@ -120,17 +120,18 @@ impl Master {
     }
 
     // It is answered at once.
-    fn push_free(&mut self, request: &Request) -> Result<Done, NoMemory>
+    fn push_free(&mut self, request: &Shared<Request>) -> Result<Done, NoMemory>
         requires { CanPush (state_of self.old.state) request.now }
         ensures moves { Moves self.old self.new result
             (move_of self.old (executes self.old.number self.old.state Wish.AtOnce request.now true)) }
     {
         // All room is taken before anything changes.
+        let shared = request.share()?;
         self.queue.reserve(1)?;
         self.master_log.reserve(op_room(request))?;
         let unanswered = self.reply_to(self.version, false, request.id, &Answer::Done);
         let (mut reply, mut sent) = reply_room(self.alloc, unanswered)?;
-        let answer = self.master_log.push_op(request, true);
+        let answer = self.master_log.push_op(shared, true);
         self.queue.add(request.id, self.master_log.log().len());
         reply.set(self.reply_to(self.version, false, request.id, &answer));
         sent.push_reserved(messages::reply(self.number, reply));
@@ -138,11 +139,12 @@ impl Master {
     }
 
     // It waits for its synced reply, and a round begins.
-    fn push_held(&mut self, request: &Request, is_free: bool) -> Result<Done, NoMemory>
+    fn push_held(&mut self, request: &Shared<Request>, is_free: bool) -> Result<Done, NoMemory>
         requires { CanPush (state_of self.old.state) request.now }
         ensures moves { Moves self.old self.new result
             (move_of self.old (pushes_held self.old.number self.old.state request.now is_free)) }
     {
+        let shared = request.share()?;
         self.held.reserve(1)?;
         self.queue.reserve(1)?;
         self.master_log.reserve(op_room(request))?;
@@ -150,7 +152,7 @@ impl Master {
             return Ok(Done::quiet(self.alloc));
         };
         let index = self.master_log.log().len();
-        self.master_log.push(op_of(request), is_free);
+        self.master_log.push(op_of(shared), is_free);
         self.queue.add(request.id, index + 1);
         self.held.insert(index);
         self.round = round.number;
@@ -158,10 +160,10 @@ impl Master {
     }
 
     // The next round, with the request behind the log.
-    fn round_with_op(&self, request: &Request) -> Result<Option<Round>, NoMemory>
+    fn round_with_op(&self, request: &Shared<Request>) -> Result<Option<Round>, NoMemory>
         ensures { IfOk result (λ round. IsNextRound self.now (Op request.now request.now.first ∷ []) round) }
     {
-        let entry = op_of(request);
+        let entry = op_of(request.share()?);
         let round = self.next_round(from_ref(&entry));
         drop(entry);
         round
@@ -186,8 +188,5 @@ impl Master {
 fn op_room(request: &Request) -> u64
     ensures { result ≡ room_of (Op request.now request.now.first) }
 {
-    let entry = op_of(request);
-    let units = room(&entry);
-    drop(entry);
-    units
+    pairs_put(&request.command).saturating_add(1)
 }

@@ -4,8 +4,9 @@ ghost use Rattle.curp_model.specs.Master.{refuse};
 ghost use Rattle.curp_model.specs.Recovery.{fence_of, freeze_of, recovered_message, unanswered_log, unanswered_requests};
 ghost use Rattle.curp_msg.specs.Moved.{says, says_each};
 
-use curp_base::{Items, NoMemory, copies_of};
+use curp_base::{Items, NoMemory, Shared, copies_of};
 use curp_cmd::{Entry, NodeId, Request, RequestId};
+use curp_log::Log;
 use curp_msg::{Append, Body, Message, Recover, Recovered, Refusal, Refuse};
 use std::alloc::Global;
 
@@ -62,7 +63,7 @@ pub fn unanswered(
     number: u32,
     order: &Recover,
     log: &Option<Items<Entry>>,
-    requests: &Option<Items<Request>>,
+    requests: &Option<Items<Shared<Request>>>,
 ) -> Result<Vec<Message>, NoMemory>
     ensures { IfOk result (λ messages. messages.items
         ≡ unanswered_log number order.now log.now ++ unanswered_requests number order.now requests.now) }
@@ -100,15 +101,15 @@ pub fn appends(
     number: u32,
     epoch: u32,
     round: u64,
-    log: &[Entry],
+    log: &Log,
     backups: &[NodeId],
 ) -> Result<Vec<Message>, NoMemory>
     ensures { IfOk result (λ messages. messages.items ≡ says_each (master_node number) backups.now
-        (Body.Append (record { epoch = epoch; base = 0; round = round; entries = log.now }))) }
+        (Body.Append (record { epoch = epoch; base = 0; round = round; entries = log.now.entries }))) }
 {
     let mut messages = Vec::with_capacity(alloc, backups.len())?;
     for backup in backups {
-        let entries = Items::new(copies_of(alloc, log)?);
+        let entries = Items::new(log.suffix(0)?);
         messages.push(Message {
             from: NodeId::master(number),
             to: *backup,

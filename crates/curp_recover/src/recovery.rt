@@ -16,7 +16,7 @@ use crate::replay::replayed;
 use crate::stage::{Awaited, RecoveryStage, ReplayedLog, awaited_after};
 use crate::turned::turned_away;
 use crate::{Phase, RecoveryError, messages};
-use curp_base::{Items, NoMemory, TryCopy, copies_of};
+use curp_base::{Items, NoMemory, Shared, TryCopy, copies_of};
 use curp_cmd::{Entry, NodeId, Request};
 use curp_log::{Log, is_log};
 use curp_msg::{AppendAnswer, Appended, Body, Done, FenceReply, Local, Message, Recover};
@@ -136,7 +136,7 @@ impl Recovery {
     }
 
     /// The requests of the named witness come. Once the log is there too, the replayed log goes to each fresh backup.
-    pub fn on_frozen(&mut self, requests: Vec<Request>) -> Result<Done, RecoveryError>
+    pub fn on_frozen(&mut self, requests: Vec<Shared<Request>>) -> Result<Done, RecoveryError>
         ensures moves { Moves self.old self.new result (numbered_move self.old.number
             (requests_come self.old.number self.old.state self.old.state.order.witness requests.items
             self.old.state.phase)) }
@@ -335,14 +335,18 @@ impl Recovery {
         is_log(self.alloc, self.order.lo, self.order.hi, entries)
     }
 
-    fn on_frozen_answer(&mut self, from: &NodeId, requests: &[Request]) -> Result<Done, NoMemory>
+    fn on_frozen_answer(
+        &mut self,
+        from: &NodeId,
+        requests: &[Shared<Request>],
+    ) -> Result<Done, NoMemory>
         ensures moves { Moves self.old self.new result (numbered_move self.old.number
             (requests_come self.old.number self.old.state from.now requests.now self.old.state.phase)) }
     {
         if *from != self.order.witness {
             return Ok(Done::quiet(self.alloc));
         }
-        let requests = Vec::from_slice(self.alloc, requests)?;
+        let requests = copies_of(self.alloc, requests)?;
         heard(self.alloc, self.on_frozen(requests))
     }
 
@@ -372,7 +376,7 @@ impl Recovery {
     fn storing(
         &self,
         entries: &[Entry],
-        requests: &[Request],
+        requests: &[Shared<Request>],
     ) -> Result<(RecoveryStage, Done), NoMemory>
         requires is_log { is_log self.now.state.order.lo self.now.state.order.hi entries.now ≡ true }
         ensures stage { IfOk result (λ stored. IsStage self.now.state.order stored.0) }
@@ -384,14 +388,7 @@ impl Recovery {
         let order = &self.order;
         let log = replayed(self.alloc, order.lo, order.hi, entries, requests)?;
         let backups = order.backups.as_slice();
-        let sent = messages::appends(
-            self.alloc,
-            self.number,
-            order.epoch,
-            1,
-            log.entries(),
-            backups,
-        )?;
+        let sent = messages::appends(self.alloc, self.number, order.epoch, 1, &log, backups)?;
         let replayed = ReplayedLog {
             log,
             cut: entries.len() as u64,

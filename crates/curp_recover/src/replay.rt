@@ -2,7 +2,7 @@ ghost use Rattle.std.specs.Prelude.{◌≡◌, ◌≤◌, ◌++◌, ◌∷◌, [
 ghost use Rattle.curp_model.specs.Log.{fits_at, is_log, meaning};
 ghost use Rattle.curp_model.specs.Recovery.{replay};
 
-use curp_base::NoMemory;
+use curp_base::{NoMemory, Shared};
 use curp_cmd::{Entry, Request, room};
 use curp_log::Log;
 use curp_model::Check;
@@ -14,7 +14,7 @@ pub fn replayed(
     lo: u64,
     hi: u64,
     entries: &[Entry],
-    requests: &[Request],
+    requests: &[Shared<Request>],
 ) -> Result<Log, NoMemory>
     requires ordered { lo ≤ hi }
     requires is_log { is_log lo hi entries.now ≡ true }
@@ -67,7 +67,7 @@ fn add(log: &mut Log, alloc: Global, entry: &Entry) -> Result<(), NoMemory>
 }
 
 /// Pushes each request that is new and whose hashes are owned, in order.
-fn replay(log: &mut Log, requests: &[Request]) -> Result<(), NoMemory>
+fn replay(log: &mut Log, requests: &[Shared<Request>]) -> Result<(), NoMemory>
     ensures lo { log.new.lo ≡ log.old.lo }
     ensures hi { log.new.hi ≡ log.old.hi }
     ensures entries { OnOk result (log.new.entries ≡ replay log.old.lo log.old.hi log.old.entries requests.now) }
@@ -75,7 +75,7 @@ fn replay(log: &mut Log, requests: &[Request]) -> Result<(), NoMemory>
     for request in requests {
         if log.check(&request.id) == Check::New && log.owns(&request.command) {
             let entry = Entry::Op {
-                request: *request,
+                request: request.share()?,
                 acknowledge: 0,
             };
             log.reserve(room(&entry))?;

@@ -6,7 +6,7 @@ ghost use Rattle.curp_recover.specs.Answers.{appends_again, replayed_again};
 ghost use Rattle.curp_recover.specs.Stage.{replayed_of};
 
 use crate::messages;
-use curp_base::{Items, NoMemory};
+use curp_base::{Items, NoMemory, Shared};
 use curp_cmd::{Entry, NodeId, Request};
 use curp_log::Log;
 use curp_msg::{Message, Recover};
@@ -39,7 +39,7 @@ pub enum RecoveryStage {
     /// The log and the requests, as far as they are there.
     Asking {
         log: Option<Items<Entry>>,
-        requests: Option<Items<Request>>,
+        requests: Option<Items<Shared<Request>>>,
     },
     Replayed {
         replayed: ReplayedLog,
@@ -141,7 +141,7 @@ impl ReplayedLog {
         }
         let round = self.round + 1;
         let left = self.incomplete(alloc, order.backups.as_slice())?;
-        let sent = messages::appends(alloc, number, order.epoch, round, self.log.entries(), &left)?;
+        let sent = messages::appends(alloc, number, order.epoch, round, &self.log, &left)?;
         self.round = round;
         Ok(sent)
     }

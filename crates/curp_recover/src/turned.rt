@@ -15,10 +15,10 @@ pub fn turned_away(alloc: Global, number: u32, body: &Body) -> Result<Done, NoMe
     ensures { IfOk result (λ done. done ≡ done_of (turned_away number Fresh body.now)) }
 {
     match body {
-        Body::Update(ask) => turn_away(alloc, number, &ask.get().request.id),
-        Body::Sync(ask) => turn_away(alloc, number, &ask.get().request.id),
-        Body::Read(ask) => turn_read_away(alloc, number, &ask.get().request),
-        Body::Glance(ask) => turn_read_away(alloc, number, &ask.get().request),
+        Body::Update(ask) => turn_away(alloc, number, &ask.request.id),
+        Body::Sync(ask) => turn_away(alloc, number, &ask.request.id),
+        Body::Read(ask) => turn_read_away(alloc, number, &ask.request),
+        Body::Glance(ask) => turn_read_away(alloc, number, &ask.request),
         _ => Ok(Done::quiet(alloc)),
     }
 }

@@ -8,7 +8,7 @@ use Rattle.curp_master.proofs.suspects.treat.Goals as goal
 pub overflow_add-index : goal.overflow_add-index
 overflow_add-index c =
     let low : c.in-Known.index < length c.log-2.result.now.entries =
-    known_below c.log-2.result.now.lo c.log-2.result.now.hi c.log-2.result.now.entries c.args.suspect.now.id c.in-Known.answer c.in-Known.index (sym c.check.ensures ∙ c.in-Known.is)
+    known_below c.log-2.result.now.lo c.log-2.result.now.hi c.log-2.result.now.entries c.deref.result.now.id c.in-Known.answer c.in-Known.index (sym c.check.ensures ∙ c.in-Known.is)
     in
     let same = ap (λ (es : List Entry). length es) (c.log-2.ensures.entries ∙ sym c.log.ensures.entries) in
     let small = c.len-length.ensures.small in

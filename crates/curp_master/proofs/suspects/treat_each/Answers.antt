@@ -1,16 +1,28 @@
-use Rattle.std.proofs.Common.{◌≡◌, ◌<◌, ◌+◌, ◌∷◌, drop, length, ap, sym, ◌∙◌, arith}
-use Rattle.curp_base.proofs.Lists.{drop_index}
-use Rattle.curp_cmd.specs.declared.command.Request.{Request}
-use Rattle.curp_master.proofs.Suspected.{treats_more}
+use Rattle.std.proofs.Common.{◌≡◌, ◌+◌, ◌∷◌, length, ap, arith}
+use Rattle.std.specs.Vec.Iter.{into_iter_items}
+use Rattle.curp_master.proofs.Suspected.{room_for_one, spare_for_one, treats_more}
 use Rattle.curp_master.proofs.suspects.treat_each.Goals as goal
+
+pub treat-requires : goal.treat-requires
+treat-requires c =
+    let at = c.loop-suspect in
+    let x = c.in-Some.suspect in
+    let first : into_iter_items at.suspect-iterator ≡ x ∷ into_iter_items c.next.new.self = c.in-Some.ensures.steps.0 in
+    let rest = into_iter_items at.suspect-iterator in
+    let more = into_iter_items c.next.new.self in
+    record {
+      room = room_for_one c.args.master_log.now at.master_log c.args.queue.now.waiting at.queue c.args.suspects.items rest more x at.invariant.treats first;
+      spare = spare_for_one c.args.master_log.now at.master_log c.args.queue.now.waiting at.queue c.args.suspects.items rest more x at.invariant.treats first;
+    }
 
 pub loop-suspect-preserved : goal.loop-suspect-preserved
 loop-suspect-preserved c =
-    let all = c.args.suspects.now in
-    let at = c.loop-suspect.suspect-index in
-    let within : at < length all = omega (arith, c.loop-suspect-test.true, c.loop-suspect.auto.suspect-index-end) in
-    let first : drop at all ≡ c.suspect-item.result ∷ drop (at + 1) all =
-    drop_index all at c.suspect-item.result within ∙ ap (λ (r : Request). r ∷ drop (at + 1) all) (sym c.suspect-item.is)
-    in
-    treats_more c.args.master_log.now c.loop-suspect.master_log c.args.queue.now.waiting c.loop-suspect.queue all (drop at all) (drop (at + 1) all) c.suspect-item.result
-    c.loop-suspect.invariant first c.treat.new.master_log c.treat.new.queue c.treat.ensures.treated c.treat.ensures.spare
+    let at = c.loop-suspect in
+    let x = c.in-Some.suspect in
+    let first : into_iter_items at.suspect-iterator ≡ x ∷ into_iter_items c.next.new.self = c.in-Some.ensures.steps.0 in
+    record {
+      treats =
+          treats_more c.args.master_log.now at.master_log c.args.queue.now.waiting at.queue c.args.suspects.items (into_iter_items at.suspect-iterator) (into_iter_items c.next.new.self) x
+          at.invariant.treats first c.treat.new.master_log c.treat.new.queue c.treat.ensures.treated c.treat.ensures.spare;
+      left = let was = at.invariant.left in let gone = c.in-Some.ensures.steps.1 in let short = ap length first in omega arith;
+    }

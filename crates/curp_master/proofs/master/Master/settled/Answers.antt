@@ -19,7 +19,7 @@ returns c =
     c.in_ok-tell_ready.ensures
     ∙ ap (λ (node : Node MasterState). c.in_ok-sent.sent.items ++ map (value_at node.number node.state.epoch) (filter (λ (x : Captured). all_have c.args.acknowledged.now c.args.backups.now x.length x.round) node.state.captures)) c.self.view_is
     in
-    let entries = c.newly_synced-moved.ensures ∙ ap (between c.self.inside.settled synced) (c.entries.ensures.value ∙ c.log.ensures.entries) in
+    let entries = c.deref.ensures.value ∙ c.in_ok-moved.ensures ∙ ap (between c.self.inside.settled synced) c.log.ensures.entries in
     let moved =
     c.in_ok-tell_moved.ensures
     ∙ ap (λ (es : List Entry). c.tell_ready.new.sent.items ++ flat_map (moved_entry c.self.inside.number) es) entries

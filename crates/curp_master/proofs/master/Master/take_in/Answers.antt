@@ -9,5 +9,5 @@ pub returns-clause-state : goal.returns-clause-state
 returns-clause-state c =
     let m : MasterState = (the_view c.self.inside).state in
     sym (c.treat_each.ensures.treated m)
-    ∙ (λ i. treat (keeping m (c.in_ok-reserve-2.ensures.kept i) (c.in_ok-reserve.ensures.waiting i)) c.args.suspects.now)
+    ∙ (λ i. treat (keeping m (c.in_ok-reserve-2.ensures.kept i) (c.in_ok-reserve.ensures.waiting i)) (c.in_ok-shared.ensures i))
     ∙ ap (λ (node : Node MasterState). treat node.state c.args.suspects.now) c.self.view_is

@@ -1,0 +1,9 @@
+use Rattle.std.proofs.Common.{◌≡◌, ◌*◌, ◌++◌, ◌≤◌, take}
+use Rattle.curp_entries.proofs.runs.push_runs.Given as goal
+
+-- the runs so far are packed
+abbrev pub invariant-loop-runs : goal.invariant-loop-runs
+invariant-loop-runs l = record {
+  front : l.front ≡ l.fn.front ++ take (l.runs * 64) l.tail;
+  upto : l.runs ≤ l.runs-end;
+}

@@ -1,0 +1,3 @@
+pub mod EntryList
+pub mod Packed
+pub mod Requests

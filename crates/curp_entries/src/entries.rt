@@ -1,0 +1,193 @@
+ghost use Rattle.std.specs.Prelude.{◌≡◌, ◌+◌, ◌-◌, ◌<◌, ◌≤◌, ◌^◌, ◌∷◌, ◌++◌, [], take, drop, length, slice_get, nat_lt, if◌then◌else◌, None, IfOk, OnErr, OnOk};
+ghost use Rattle.std.specs.Option.{option_copied};
+ghost use Rattle.curp_entries.specs.Packed.{IsPackedPart, IsShortTail};
+ghost use Rattle.curp_entries.specs.Requests.{request_at};
+ghost use Rattle.curp_items.specs.Spelling.{request_of};
+
+use crate::front::Front;
+use crate::runs::{leave, push_runs};
+use curp_base::{NoMemory, copies_of, past};
+use curp_cmd::{Entry, Request};
+use std::alloc::{AllocError, Global};
+use std::marker::Model;
+
+/// The entries of a log: the oldest as their spellings, the newest as they are. Contracts see all entries, how many of them
+/// are packed, and for how many more there is room.
+#[derive(Drop)]
+pub struct PackedEntries {
+    alloc: Global,
+    front: Front,
+    tail: Vec<Entry>,
+}
+
+impl Model for PackedEntries {
+    ghost use Rattle.std.specs.Prelude.{◌-◌, ◌<◌, ◌^◌, ◌++◌, length, min, vec_capacity, vec_len};
+    ghost use Rattle.curp_entries.specs.EntryList.{EntryList};
+
+    ghost Value = { EntryList };
+
+    ghost view = { λ e. record {
+      entries = e.front ++ e.tail.items;
+      packed = length e.front;
+      spare = min (vec_capacity e.tail - vec_len e.tail) (2 ^ 63 - 1 - length (e.front ++ e.tail.items));
+    } };
+
+    ghost invariant = { λ e. length (e.front ++ e.tail.items) < 2 ^ 63 };
+}
+
+impl PackedEntries {
+    /// No entries. It takes no memory.
+    pub fn new(alloc: Global) -> PackedEntries
+        ensures { result.entries ≡ [] }
+    {
+        PackedEntries {
+            alloc,
+            front: Front::new(alloc),
+            tail: Vec::new(alloc),
+        }
+    }
+
+    /// Packs what is to be packed, and makes room for so many more entries. Where memory is wanting fewer may be packed.
+    pub fn reserve(&mut self, spare: u64) -> Result<(), NoMemory>
+        ensures entries { self.new.entries ≡ self.old.entries }
+        ensures short { OnOk result (IsShortTail (drop self.new.packed self.new.entries)) }
+        ensures room { OnOk result (spare ≤ self.new.spare) }
+        ensures kept { self.old.spare ≤ self.new.spare }
+    {
+        self.pack()?;
+        self.hold(spare)?;
+        self.tail.reserve(spare as usize)
+    }
+
+    /// Packs as many of the oldest entries as leave a short tail. Where memory is wanting fewer may be packed.
+    pub fn pack(&mut self) -> Result<(), NoMemory>
+        ensures entries { self.new.entries ≡ self.old.entries }
+        ensures short { OnOk result (IsShortTail (drop self.new.packed self.new.entries)) }
+        ensures kept { self.old.spare ≤ self.new.spare }
+    {
+        let (count, packed) = push_runs(&mut self.front, &self.tail);
+        leave(&mut self.tail, count);
+        packed
+    }
+
+    /// Adds an entry behind the others. It takes no memory, since there is room.
+    pub fn push(&mut self, entry: Entry)
+        requires { 1 ≤ self.old.spare }
+        ensures entries { self.new.entries ≡ self.old.entries ++ entry ∷ [] }
+        ensures packed { self.new.packed ≡ self.old.packed }
+        ensures spare { self.new.spare + 1 ≡ self.old.spare }
+    {
+        self.tail.push_reserved(entry);
+    }
+
+    /// Adds copies of entries behind the others.
+    pub fn extend(&mut self, entries: &[Entry]) -> Result<(), NoMemory>
+        ensures ok { OnOk result (self.new.entries ≡ self.old.entries ++ entries.now) }
+        ensures err { OnErr result (self.new.entries ≡ self.old.entries) }
+        ensures packed { self.new.packed ≡ self.old.packed }
+    {
+        self.hold(entries.len() as u64)?;
+        let mut copies = copies_of(self.alloc, entries)?;
+        self.tail.append(&mut copies)
+    }
+
+    pub fn len(&self) -> u64
+        ensures value { result ≡ length self.now.entries }
+        ensures small { length self.now.entries < 2 ^ 63 }
+        ensures packed { self.now.packed ≤ length self.now.entries }
+    {
+        self.front.len() + self.tail.len() as u64
+    }
+
+    /// How many of the oldest entries are packed, and their spellings, one behind the other.
+    pub fn packed(&self) -> (u64, &[u8])
+        ensures count { result.0 ≡ self.now.packed }
+        ensures part { IsPackedPart self.now.entries result.0 result.1.now }
+    {
+        (self.front.len(), self.front.as_bytes())
+    }
+
+    /// An entry that isn't packed, if one stands at that index.
+    pub fn newest(&self, index: u64) -> Option<&Entry>
+        ensures { option_copied result
+            ≡ (if nat_lt index self.now.packed then None else slice_get self.now.entries index) }
+    {
+        let behind = index.checked_sub(self.front.len())?;
+        self.tail.get(behind as usize)
+    }
+
+    /// The request of the Op at that index, if one stands there. It takes no memory.
+    pub fn request(&self, index: u64) -> Option<Request>
+        ensures { result ≡ request_at (slice_get self.now.entries index) }
+    {
+        match index.checked_sub(self.front.len()) {
+            None => self.front.request(index),
+            Some(behind) => request_of(self.tail.get(behind as usize)?),
+        }
+    }
+
+    /// A copy of the entry at that index, if one stands there.
+    pub fn entry(&self, index: u64) -> Result<Option<Entry>, NoMemory>
+        ensures { IfOk result (λ entry. entry ≡ slice_get self.now.entries index) }
+    {
+        let Some(behind) = index.checked_sub(self.front.len()) else {
+            return self.front.entry(index);
+        };
+        match self.tail.get(behind as usize) {
+            Some(entry) => Ok(Some(entry.copy(self.alloc)?)),
+            None => Ok(None),
+        }
+    }
+
+    /// Copies of the entries from that index on, of which there are none past the end.
+    pub fn suffix(&self, start: u64) -> Result<Vec<Entry>, NoMemory>
+        ensures { IfOk result (λ entries. entries.items ≡ drop start self.now.entries) }
+    {
+        self.between(start, self.len())
+    }
+
+    /// Copies of the entries from an index on, as far as another.
+    pub fn between(&self, start: u64, end: u64) -> Result<Vec<Entry>, NoMemory>
+        ensures { IfOk result (λ entries. entries.items ≡ take (end - start) (drop start self.now.entries)) }
+    {
+        let packed = self.front.len();
+        let mut entries = self.front.between(start, end)?;
+        let newest = part(
+            &self.tail,
+            start.saturating_sub(packed),
+            end.saturating_sub(packed),
+        );
+        let mut copies = copies_of(self.alloc, newest)?;
+        entries.append(&mut copies)?;
+        Ok(entries)
+    }
+
+    // No memory holds 2^63 entries.
+    fn hold(&self, more: u64) -> Result<(), NoMemory>
+        ensures { OnOk result (length self.now.entries + more < 2 ^ 63) }
+    {
+        if more < (1 << 63) - self.len() {
+            Ok(())
+        } else {
+            Err(AllocError)
+        }
+    }
+}
+
+/// The entries from an index on, as far as another.
+fn part(entries: &[Entry], start: u64, end: u64) -> &[Entry]
+    ensures { result.now ≡ take (end - start) (drop start entries.now) }
+{
+    let rest = past(entries, start);
+    let count = end.saturating_sub(start).min(rest.len() as u64);
+    &rest[..count as usize]
+}
+
+fn request_of(entry: &Entry) -> Option<Request>
+    ensures { result ≡ request_of entry.now }
+{
+    match entry {
+        Entry::Op { request, .. } => Some(**request),
+        _ => None,
+    }
+}

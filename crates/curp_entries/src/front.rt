@@ -1,0 +1,166 @@
+//! Entries that are kept as their spellings.
+ghost use Rattle.std.specs.Prelude.{◌≡◌, ◌-◌, ◌*◌, ◌<◌, ◌≤◌, ◌^◌, ◌++◌, ℕ, List, [], length, take, drop, slice_get, IfNone, IfOk, IfSome, OnErr, OnOk, OnSome};
+ghost use Rattle.curp_base.specs.Words.{Each};
+ghost use Rattle.curp_cmd.specs.declared.entry.Entry.{Entry};
+ghost use Rattle.curp_items.specs.Spelling.{HasSpelling, IsEntry, spelling};
+ghost use Rattle.curp_entries.specs.Packed.{IsPackedPart, run, spellings};
+ghost use Rattle.curp_entries.specs.Requests.{request_at};
+
+use curp_base::{NoMemory, past};
+use curp_cmd::{Entry, Request};
+use curp_items::{pack_entry, read_entry, read_request, spelled};
+use std::alloc::{AllocError, Global};
+use std::marker::Model;
+
+/// How many entries are packed at once.
+pub(crate) const RUN: usize = 64;
+
+/// Entries as their spellings, one behind the other, a multiple of 64. Contracts see the entries.
+#[derive(Drop)]
+pub(crate) struct Front {
+    alloc: Global,
+    bytes: Vec<u8>,
+    // Where each 64th of them begins.
+    places: Vec<u64>,
+}
+
+impl Model for Front {
+    ghost use Rattle.std.specs.Prelude.{◌*◌, List, length};
+    ghost use Rattle.curp_cmd.specs.declared.entry.Entry.{Entry};
+    ghost use Rattle.curp_items.specs.Spelling.{start_of};
+    ghost use Rattle.curp_entries.specs.Packed.{ArePacked, run, unpacked};
+
+    ghost Value = { List Entry };
+
+    ghost view = { λ f. unpacked (run * length f.places.items) (start_of f.bytes.items) };
+
+    ghost invariant = { λ f. ArePacked (unpacked (run * length f.places.items) (start_of f.bytes.items)) f.places.items f.bytes.items };
+}
+
+impl Front {
+    /// No entries. It takes no memory.
+    pub(crate) fn new(alloc: Global) -> Front
+        ensures { result ≡ [] }
+    {
+        Front {
+            alloc,
+            bytes: Vec::new(alloc),
+            places: Vec::new(alloc),
+        }
+    }
+
+    pub(crate) fn len(&self) -> u64
+        ensures value { result ≡ length self.now }
+        ensures small { length self.now < 2 ^ 63 }
+    {
+        (RUN * self.places.len()) as u64
+    }
+
+    /// Their spellings, one behind the other.
+    pub(crate) fn as_bytes(&self) -> &[u8]
+        ensures { IsPackedPart self.now (length self.now) result.now }
+    {
+        &self.bytes
+    }
+
+    /// Packs as many entries as are packed at once, behind the others.
+    pub(crate) fn push_run(&mut self, entries: &[Entry]) -> Result<(), NoMemory>
+        requires length { length entries.now ≡ run }
+        requires spelled { Each HasSpelling entries.now }
+        ensures ok { OnOk result (self.new ≡ self.old ++ entries.now) }
+        ensures err { OnErr result (self.new ≡ self.old) }
+    {
+        let mut bytes = spellings_of(self.alloc, entries)?;
+        let place = self.bytes.len() as u64;
+        self.places.reserve(1)?;
+        // The one change comes last, so that nothing has changed where memory is wanting.
+        self.bytes.append(&mut bytes)?;
+        self.places.push_reserved(place);
+        Ok(())
+    }
+
+    /// The request of the Op at that index, if one stands there. It takes no memory.
+    pub(crate) fn request(&self, index: u64) -> Option<Request>
+        ensures { result ≡ request_at (slice_get self.now index) }
+    {
+        read_request(self.from(index)?)
+    }
+
+    /// A copy of the entry at that index, if one stands there.
+    pub(crate) fn entry(&self, index: u64) -> Result<Option<Entry>, NoMemory>
+        ensures { IfOk result (λ entry. entry ≡ slice_get self.now index) }
+    {
+        match self.from(index) {
+            Some(bytes) => Ok(Some(next_entry(self.alloc, bytes)?.0)),
+            None => Ok(None),
+        }
+    }
+
+    /// Copies of the entries from an index on, as far as another.
+    pub(crate) fn between(&self, start: u64, end: u64) -> Result<Vec<Entry>, NoMemory>
+        ensures { IfOk result (λ entries. entries.items ≡ take (end - start) (drop start self.now)) }
+    {
+        let mut entries = Vec::new(self.alloc);
+        let Some(mut rest) = self.from(start) else {
+            return Ok(entries);
+        };
+        let count = end.min(self.len()).saturating_sub(start);
+        for _ in 0..count {
+            let (entry, length) = next_entry(self.alloc, rest)?;
+            entries.push(entry)?;
+            rest = past(rest, length as u64);
+        }
+        Ok(entries)
+    }
+
+    /// The spellings of the entries from that index on, if one stands there.
+    fn from(&self, index: u64) -> Option<&[u8]>
+        ensures none { IfNone result (length self.now ≤ index) }
+        ensures within { OnSome result (index < length self.now) }
+        ensures bytes { IfSome result (λ bytes. bytes.now ≡ spellings (drop index self.now)) }
+        ensures spelled { OnSome result (Each IsEntry self.now) }
+    {
+        if index >= self.len() {
+            return None;
+        }
+        let mut rest = self.from_run((index / RUN as u64) as usize);
+        for _ in 0..index % RUN as u64 {
+            rest = past(rest, spelled(rest)?);
+        }
+        Some(rest)
+    }
+
+    /// The spellings of the entries from the run with that number on.
+    fn from_run(&self, run: usize) -> &[u8]
+        requires { 64 * run < length self.now }
+        ensures bytes { result.now ≡ spellings (drop (64 * run) self.now) }
+        ensures spelled { Each IsEntry self.now }
+    {
+        past(&self.bytes, self.places[run])
+    }
+}
+
+/// The spellings of entries, one behind the other.
+fn spellings_of(alloc: Global, entries: &[Entry]) -> Result<Vec<u8>, NoMemory>
+    requires { Each HasSpelling entries.now }
+    ensures bytes { IfOk result (λ bytes. bytes.items ≡ spellings entries.now) }
+    ensures spelled { OnOk result (Each IsEntry entries.now) }
+{
+    let mut bytes = Vec::new(alloc);
+    for entry in entries {
+        pack_entry(entry, &mut bytes)?;
+    }
+    Ok(bytes)
+}
+
+/// The entry whose spelling the bytes begin with, and its length.
+fn next_entry(alloc: Global, bytes: &[u8]) -> Result<(Entry, usize), NoMemory>
+    ensures { (entry : Entry) (rest : List ℕ) → IsEntry entry → bytes.now ≡ spelling entry ++ rest
+        → IfOk result (λ read. read ≡ (entry, length (spelling entry))) }
+{
+    match read_entry(alloc, bytes) {
+        Ok(read) => Ok(read),
+        // Want of memory: what is packed is spelled.
+        Err(_) => Err(AllocError),
+    }
+}

@@ -1,0 +1,64 @@
+//! What is packed of a tail of entries, and when.
+ghost use Rattle.std.specs.Prelude.{◌≡◌, ◌↔◌, ◌≤◌, ◌++◌, IsTrue, take, drop, length, vec_capacity, IfNone, IfSome, OnOk};
+ghost use Rattle.curp_base.specs.Words.{Each};
+ghost use Rattle.curp_cmd.specs.declared.entry.Entry.{Entry};
+ghost use Rattle.curp_items.specs.Spelling.{HasSpelling};
+ghost use Rattle.curp_entries.specs.Packed.{IsShortTail, run};
+
+use crate::front::{Front, RUN};
+use crate::spelled::has_spelling;
+use curp_base::{NoMemory, past};
+use curp_cmd::Entry;
+
+/// Packs the oldest entries of a tail, a run after the other, as long as the tail that is left isn't short, and tells how many
+/// were packed, also where memory was wanting.
+pub(crate) fn push_runs(front: &mut Front, tail: &[Entry]) -> (usize, Result<(), NoMemory>)
+    ensures within { result.0 ≤ length tail.now }
+    ensures front { front.new ≡ front.old ++ take result.0 tail.now }
+    ensures short { OnOk result.1 (IsShortTail (drop result.0 tail.now)) }
+{
+    for runs in 0..tail.len() / RUN {
+        let count = runs * RUN;
+        let Some(run) = next_run(past(tail, count as u64)) else {
+            return (count, Ok(()));
+        };
+        if let Err(error) = front.push_run(run) {
+            return (count, Err(error));
+        }
+    }
+    (tail.len() / RUN * RUN, Ok(()))
+}
+
+/// What is to be packed of a tail, if it isn't short.
+fn next_run(tail: &[Entry]) -> Option<&[Entry]>
+    ensures short { IfNone result (IsShortTail tail.now) }
+    ensures oldest { IfSome result (λ oldest. oldest.now ≡ take run tail.now) }
+    ensures length { IfSome result (λ oldest. length oldest.now ≡ run) }
+    ensures spelled { IfSome result (λ oldest. Each HasSpelling oldest.now) }
+{
+    if tail.len() < 2 * RUN {
+        return None;
+    }
+    let oldest = &tail[..RUN];
+    if are_spelled(oldest) {
+        Some(oldest)
+    } else {
+        None
+    }
+}
+
+/// Whether each of the entries has a spelling.
+fn are_spelled(entries: &[Entry]) -> bool
+    ensures { IsTrue result ↔ Each HasSpelling entries.now }
+{
+    entries.iter().all(has_spelling)
+}
+
+/// The tail without its oldest entries, so many of them.
+pub(crate) fn leave(tail: &mut Vec<Entry>, count: usize)
+    requires { count ≤ length tail.old.items }
+    ensures items { tail.new.items ≡ drop count tail.old.items }
+    ensures capacity { vec_capacity tail.new ≡ vec_capacity tail.old }
+{
+    drop(tail.drain(..count));
+}
