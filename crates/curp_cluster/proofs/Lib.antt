@@ -10,3 +10,4 @@ pub mod Stepping
 pub mod Keeping
 pub mod Marking
 pub mod Inserting
+pub mod Ops

@@ -2,7 +2,9 @@
 use Rattle.std.specs.Prelude.{◌≡◌, ℕ, ◌+◌, ◌-◌, ◌≤◌, ◌<◌, ◌^◌, ◌==◌, ◌&&◌, ◌||◌, ◌⊎◌, Bool, false, nat_lt, drop, length, map, if◌then◌else◌, List, [], ◌∷◌, ◌++◌, Option, Some, None, is_some, ⊤}
 use Rattle.curp_base.specs.Words.{Each, numbered}
 use Rattle.curp_cmd.specs.Node.{master_node}
+use Rattle.curp_cmd.specs.declared.command.Command.{Command}
 use Rattle.curp_cmd.specs.declared.command.Request.{Request}
+use Rattle.curp_cmd.specs.declared.command.RequestId.{RequestId}
 use Rattle.curp_cmd.specs.declared.node.NodeId.{NodeId}
 use Rattle.curp_cmd.specs.declared.node.NodeKind.{NodeKind}
 use Rattle.curp_cmd.specs.declared.node.NodeKind.TheVariants as kind
@@ -46,6 +48,10 @@ most_by_message _ = 0
 abbrev pub most_marks : Input → ℕ
 most_marks (input.Message m) = most_by_message m.body
 most_marks (input.Local order) = 0
+
+-- what a mark tells of an Op's request
+abbrev pub told_op : Request → RequestId × Command
+told_op request = (request.id, request.command)
 
 -- ---- a master before and after
 

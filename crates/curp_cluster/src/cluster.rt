@@ -14,7 +14,7 @@ use crate::orders::order_of;
 use crate::sent::Sent;
 use crate::stopped::Stopped;
 use curp_base::NoMemory;
-use curp_cmd::{Answer, Command, NodeId, RequestId};
+use curp_cmd::{Answer, KeptCommand, NodeId, RequestId, Standby};
 use curp_line::Line;
 use curp_msg::{Config, Done, Header, Local, Message, Outcome, Step, StepResult, WEIGHT_LIMIT};
 use curp_nodes::ClientNode;
@@ -31,6 +31,9 @@ pub struct Cluster {
     sent: Sent,
     history: History,
     marks: Line,
+    // Places for the commands that a step marks, and for the one that it invokes.
+    marking: Standby,
+    invoking: Standby,
 }
 
 impl Model for Cluster {
@@ -55,6 +58,8 @@ impl Cluster {
             sent: Sent::new(alloc),
             history: History::new(alloc),
             marks: Line::new(alloc),
+            marking: Standby::new(alloc),
+            invoking: Standby::new(alloc),
         })
     }
 
@@ -118,7 +123,7 @@ impl Cluster {
     }
 
     /// The order of the requests that the marks give, each with the answer of one thread.
-    pub fn order(&self, alloc: Global) -> Result<Vec<(RequestId, Command, Answer)>, NoMemory>
+    pub fn order(&self, alloc: Global) -> Result<Vec<(RequestId, KeptCommand, Answer)>, NoMemory>
         ensures { IfOk result (λ list. list.items ≡ world.answered_order self.now) }
     {
         let requests = self.marks.order()?;
@@ -182,15 +187,18 @@ impl Cluster {
         self.history.reserve(2)?;
         let given = given_of(&self.sent, gift);
         let due = Due::of(self.alloc, &self.nodes, to, &given)?;
-        self.marks.reserve(due.most(&given))?;
+        let most = due.most(&given);
+        self.marks.reserve(most)?;
+        self.marking.reserve(most)?;
+        self.invoking.reserve(1)?;
         let done = self.nodes.give(to, &given)?;
         if done.refused != 0 {
             let number = done.refused;
             return Ok(self.silent(StepResult::Refused { number }));
         }
-        due.mark(&mut self.marks, to, &self.nodes);
+        due.mark(&mut self.marks, &mut self.marking, to, &self.nodes);
         flag(&mut self.marks, done.completed);
-        let invoked = self.nodes.invoked(to, gift);
+        let invoked = self.nodes.invoked(&mut self.invoking, to, gift);
         Ok(keep(&mut self.sent, &mut self.history, invoked, done))
     }
 
@@ -266,7 +274,7 @@ fn given_of<'a>(sent: &'a Sent, gift: &'a Gift) -> Given<'a>
 fn keep(
     sent: &mut Sent,
     history: &mut History,
-    invoked: Option<(RequestId, Command)>,
+    invoked: Option<(RequestId, KeptCommand)>,
     done: Done,
 ) -> Outcome
     requires sent { 1 ≤ sent.old.spare }

@@ -1,21 +1,24 @@
 // The marks of what masters push and capture, and of what the manager adopts.
-ghost use Rattle.std.specs.Prelude.{◌≡◌, ◌+◌, ◌<◌, ◌≤◌, ◌^◌, ◌++◌, [], ◌∷◌, List, None, Some, true, length, option_copied, IfOk};
+ghost use Rattle.std.specs.Prelude.{◌≡◌, ◌+◌, ◌≤◌, ◌++◌, [], ◌∷◌, List, None, Some, true, drop, length, option_copied, slice_get, IfOk};
 ghost use Rattle.std.specs.List.{list_any};
+ghost use Rattle.std.specs.Option.{option_map};
 ghost use Rattle.curp_base.specs.Words.{numbered};
 ghost use Rattle.curp_cmd.specs.Node.{same_node};
+ghost use Rattle.curp_entries.specs.Requests.{request_at};
 ghost use Rattle.curp_model.specs.Manager.{adopted_by};
 ghost use Rattle.curp_model.specs.Master.{Captured as CapturedRead};
 ghost use Rattle.curp_model.specs.World.{capture_mark, op_marks, op_requests, with_completion};
 ghost use Rattle.curp_cluster.specs.Given.{input_of};
 ghost use Rattle.curp_cluster.specs.Marks as spec;
 ghost use Rattle.curp_cluster.specs.Marks.{HasRoomFor, HasRoomSince, IsSound, answered, due_marks, due_to_master, has_answered};
-ghost use Rattle.curp_cluster.specs.Marks.{is_captured_behind, marks_behind, marks_by, marks_of_serving, master_at, most_due, told_due};
+ghost use Rattle.curp_cluster.specs.Marks.{is_captured_behind, marks_behind, marks_by, marks_of_serving, master_at, most_due, told_due, told_op};
 
 use crate::given::Given;
 use crate::nodes::Nodes;
-use curp_base::{NoMemory, past};
-use curp_cmd::{Entry, NodeId, NodeKind, Request};
+use curp_base::{NoMemory, Shared};
+use curp_cmd::{Entry, KeptCommand, NodeId, NodeKind, Request, RequestId, Standby};
 use curp_line::{Line, Tenure};
+use curp_log::Log;
 use curp_master::{Captured, Master};
 use curp_msg::{Body, Completed, Config, GcAnswer, Message};
 use curp_nodes::MasterNode;
@@ -26,18 +29,18 @@ use std::alloc::Global;
 pub(crate) struct Adoption {
     tenure: Tenure,
     cut: u64,
-    replayed: Vec<Request>,
+    replayed: Vec<Shared<Request>>,
 }
 
 /// A master that serves, before it gets an input: whether it is adopted, how long its log is, the numbers of its last
 /// capture and of its last round, and the read that the input asks it to answer at once.
-#[derive(Clone, Copy)]
+#[derive(Drop)]
 pub(crate) struct Former {
     adopted: bool,
     length: u64,
     captured: u64,
     round: u64,
-    glanced: Option<Request>,
+    glanced: Option<Shared<Request>>,
 }
 
 /// What is to be marked of an input, once its node got it.
@@ -50,44 +53,44 @@ pub(crate) enum Due {
 }
 
 // What a master does from now on that is to be marked.
-fn due_of_master(nodes: &Nodes, to: NodeId, given: &Given) -> Due
+fn due_of_master(nodes: &Nodes, to: NodeId, given: &Given) -> Result<Due, NoMemory>
     requires { to.kind ≡ NodeKind.Master }
-    ensures value { told_due result ≡ due_to_master nodes.now to (input_of given.now) }
-    ensures sound { IsSound (told_due result) (numbered nodes.now.masters to.number) }
+    ensures value { IfOk result (λ due. told_due due ≡ due_to_master nodes.now to (input_of given.now)) }
+    ensures sound { IfOk result (λ due. IsSound (told_due due) (numbered nodes.now.masters to.number)) }
 {
     let adopted = is_adopted(nodes.manager().config(), to);
-    let glanced = glanced(given);
+    let glanced = glanced(given)?;
     if !adopted && glanced.is_none() {
-        return Due::Nothing;
+        return Ok(Due::Nothing);
     }
     match nodes.master(to.number).and_then(MasterNode::serving) {
-        Some(master) => Due::Since(Former {
+        Some(master) => Ok(Due::Since(Former {
             adopted,
             length: master.log().len(),
             captured: master.captured(),
             round: master.round(),
             glanced,
-        }),
-        None => Due::Nothing,
+        })),
+        None => Ok(Due::Nothing),
     }
 }
 
 // The read that an input asks for an answer at once.
-fn glanced(given: &Given) -> Option<Request>
-    ensures { result ≡ spec.glanced (input_of given.now) }
+fn glanced(given: &Given) -> Result<Option<Shared<Request>>, NoMemory>
+    ensures { IfOk result (λ read. read ≡ spec.glanced (input_of given.now)) }
 {
     match given {
         Given::Message(message) => glanced_in(&message.body),
-        Given::Order(_) => None,
+        Given::Order(_) => Ok(None),
     }
 }
 
-fn glanced_in(body: &Body) -> Option<Request>
-    ensures { result ≡ spec.glanced_in body.now }
+fn glanced_in(body: &Body) -> Result<Option<Shared<Request>>, NoMemory>
+    ensures { IfOk result (λ read. read ≡ spec.glanced_in body.now) }
 {
     match body {
-        Body::Glance(ask) => Some(ask.get().request),
-        _ => None,
+        Body::Glance(ask) => Ok(Some(ask.request.share()?)),
+        _ => Ok(None),
     }
 }
 
@@ -106,6 +109,8 @@ fn due_of_adoption(alloc: Global, nodes: &Nodes, message: &Message) -> Result<Du
     let (Some(log), Some(cut)) = (recovery.log(), recovery.cut()) else {
         return Ok(Due::Nothing);
     };
+    // For its clause alone.
+    let _length = log.len();
     let tenure = Tenure {
         master,
         part: order.part,
@@ -114,7 +119,7 @@ fn due_of_adoption(alloc: Global, nodes: &Nodes, message: &Message) -> Result<Du
     Ok(Due::Adoption(Adoption {
         tenure,
         cut,
-        replayed: op_requests(alloc, past(log.entries(), cut))?,
+        replayed: op_requests(alloc, &log.suffix(cut)?)?,
     }))
 }
 
@@ -130,7 +135,7 @@ impl Due {
         ensures sound { IfOk result (λ due. IsSound (told_due due) (master_at to.kind to.number nodes.now.masters)) }
     {
         match to.kind {
-            NodeKind::Master => Ok(due_of_master(nodes, to, given)),
+            NodeKind::Master => due_of_master(nodes, to, given),
             NodeKind::Manager => match given {
                 Given::Message(message) => due_of_adoption(alloc, nodes, message),
                 Given::Order(_) => Ok(Due::Nothing),
@@ -153,19 +158,20 @@ impl Due {
 
     /// Marks what was due, once the node got its input. It takes no memory, since there is room, and looks at no entry
     /// that stood in a log before, and at no read but the last one.
-    pub(crate) fn mark(&self, marks: &mut Line, to: NodeId, nodes: &Nodes)
-        requires { HasRoomFor (told_due self.now) (numbered nodes.now.masters to.number) marks.old.spare }
-        ensures { marks.new.marks ≡ marks_by (told_due self.now) to nodes.now.masters marks.old.marks }
+    pub(crate) fn mark(self, marks: &mut Line, standby: &mut Standby, to: NodeId, nodes: &Nodes)
+        requires room { HasRoomFor (told_due self) (numbered nodes.now.masters to.number) marks.old.spare }
+        requires ready { HasRoomFor (told_due self) (numbered nodes.now.masters to.number) standby.old }
+        ensures { marks.new.marks ≡ marks_by (told_due self) to nodes.now.masters marks.old.marks }
     {
         match self {
             Due::Nothing => (),
             Due::Since(former) => {
                 if let Some(master) = nodes.master(to.number).and_then(MasterNode::serving) {
-                    former.mark(marks, to, master);
+                    former.mark(marks, standby, to, master);
                 }
             }
             Due::Adoption(a) => {
-                marks.adopted(a.tenure, a.cut, &a.replayed);
+                marks.adopted(standby, a.tenure, a.cut, &a.replayed);
             }
         }
     }
@@ -173,22 +179,23 @@ impl Due {
 
 impl Former {
     // Marks what the master has done since.
-    fn mark(&self, marks: &mut Line, node: NodeId, master: &Master)
-        requires { HasRoomSince self.now master.now.state marks.old.spare }
-        ensures { marks.new.marks ≡ marks_of_serving node self.now master.now.state marks.old.marks }
+    fn mark(self, marks: &mut Line, standby: &mut Standby, node: NodeId, master: &Master)
+        requires room { HasRoomSince self master.now.state marks.old.spare }
+        requires ready { HasRoomSince self master.now.state standby.old }
+        ensures { marks.new.marks ≡ marks_of_serving node self master.now.state marks.old.marks }
     {
         if self.adopted {
-            self.add_behind(marks, node, master);
+            self.add_behind(marks, standby, node, master);
         }
         if let Some(read) = self.answered(master) {
-            let tenure = tenure_of(node, master);
-            marks.quick(tenure, master.captured(), read.id, read.command);
+            let (tenure, id) = (tenure_of(node, master), read.id);
+            marks.quick(tenure, master.captured(), id, KeptCommand::of(read));
         }
     }
 
     // The read that the master has answered at once since: a capture was numbered, and no round began.
-    fn answered(&self, master: &Master) -> Option<Request>
-        ensures { result ≡ answered self.now master.now.state }
+    fn answered(self, master: &Master) -> Option<Shared<Request>>
+        ensures { result ≡ answered self master.now.state }
     {
         if self.captured < master.captured() && master.round() == self.round {
             self.glanced
@@ -198,18 +205,18 @@ impl Former {
     }
 
     // What the master has pushed since, and the read that it has captured, if it has.
-    fn add_behind(&self, marks: &mut Line, node: NodeId, master: &Master)
-        requires { HasRoomSince self.now master.now.state marks.old.spare }
+    fn add_behind(&self, marks: &mut Line, standby: &mut Standby, node: NodeId, master: &Master)
+        requires room { HasRoomSince self.now master.now.state marks.old.spare }
+        requires ready { HasRoomSince self.now master.now.state standby.old }
         ensures marks { marks.new.marks ≡ marks.old.marks ++ marks_behind node self.now master.now.state }
         ensures spare { has_answered self.now master.now.state ≡ true → 1 ≤ marks.new.spare }
     {
         let log = master.log();
         // For their clauses alone.
         let (_length, _captured) = (log.len(), master.captured());
-        let pushed = past(log.entries(), self.length);
-        add_ops(marks, tenure_of(node, master), self.length, pushed);
+        add_ops(marks, standby, tenure_of(node, master), self.length, log);
         if is_captured_behind(master.last_capture(), self.captured) {
-            add_capture(marks, node, master);
+            add_capture(marks, standby, node, master);
         }
     }
 }
@@ -259,13 +266,13 @@ fn is_adopted(config: &Config, master: NodeId) -> bool
 }
 
 // The requests that entries have.
-fn op_requests(alloc: Global, entries: &[Entry]) -> Result<Vec<Request>, NoMemory>
+fn op_requests(alloc: Global, entries: &[Entry]) -> Result<Vec<Shared<Request>>, NoMemory>
     ensures { IfOk result (λ requests. requests.items ≡ op_requests entries.now) }
 {
     let mut requests = Vec::new(alloc);
     for entry in entries {
         if let Entry::Op { request, .. } = entry {
-            requests.push(*request)?;
+            requests.push(request.share()?)?;
         }
     }
     Ok(requests)
@@ -297,8 +304,9 @@ fn tenure_of(node: NodeId, master: &Master) -> Tenure
 }
 
 // The read that the master captured last.
-fn add_capture(marks: &mut Line, node: NodeId, master: &Master)
+fn add_capture(marks: &mut Line, standby: &mut Standby, node: NodeId, master: &Master)
     requires room { 1 ≤ marks.old.spare }
+    requires ready { 1 ≤ standby.old }
     ensures { (older : List CapturedRead) (capture : CapturedRead) → master.now.state.captures ≡ older ++ capture ∷ []
         → marks.new.marks ≡ marks.old.marks
         ++ capture_mark node master.now.state.part master.now.state.epoch capture ∷ [] }
@@ -306,22 +314,37 @@ fn add_capture(marks: &mut Line, node: NodeId, master: &Master)
     let tenure = tenure_of(node, master);
     if let Some(last) = master.last_capture() {
         let (number, length) = (last.number(), last.log_length());
-        marks.looked(tenure, number, length, last.id(), last.command());
+        let command = standby.keep(last.request());
+        marks.looked(tenure, number, length, last.id(), command);
     }
 }
 
 // The marks of the ops among entries, which stand in a log from that index on.
-fn add_ops(marks: &mut Line, tenure: Tenure, index: u64, entries: &[Entry])
-    requires room { length entries.now ≤ marks.old.spare }
-    requires fits { index + length entries.now < 2 ^ 64 }
+fn add_ops(marks: &mut Line, standby: &mut Standby, tenure: Tenure, index: u64, log: &Log)
+    requires room { length (drop index log.now.entries) ≤ marks.old.spare }
+    requires ready { length (drop index log.now.entries) ≤ standby.old }
     ensures marks { marks.new.marks ≡ marks.old.marks
-        ++ op_marks tenure.master tenure.part tenure.epoch index entries.now }
-    ensures spare { marks.old.spare ≤ marks.new.spare + length entries.now }
+        ++ op_marks tenure.master tenure.part tenure.epoch index (drop index log.now.entries) }
+    ensures spare { marks.old.spare ≤ marks.new.spare + length (drop index log.now.entries) }
+    ensures ready { standby.old ≤ standby.new + length (drop index log.now.entries) }
 {
-    for (at, entry) in entries.iter().enumerate() {
-        if let Entry::Op { request, .. } = entry {
-            let index = index + at as u64;
-            marks.executed(tenure, index, request.id, request.command);
+    for at in index..log.len() {
+        if let Some((id, command)) = op_at(standby, log, at) {
+            marks.executed(tenure, at, id, command);
         }
     }
+}
+
+// The number and the command of the Op with that index, if one stands there. What was pushed last is shared, since it isn't
+// packed.
+fn op_at(standby: &mut Standby, log: &Log, at: u64) -> Option<(RequestId, KeptCommand)>
+    requires { 1 ≤ standby.old }
+    ensures op { result ≡ option_map told_op (request_at (slice_get log.now.entries at)) }
+    ensures ready { standby.old ≤ standby.new + 1 }
+{
+    if let Some(Entry::Op { request, .. }) = log.newest(at) {
+        return Some((request.id, standby.keep(request)));
+    }
+    let request = log.request(at)?;
+    Some((request.id, standby.keep_own(&request.command)))
 }

@@ -1,4 +1,4 @@
-ghost use Rattle.std.specs.Prelude.{◌≡◌, ◌≢◌, ◌&&◌, nat_le, nat_lt, true, length, IfOk};
+ghost use Rattle.std.specs.Prelude.{◌≡◌, ◌≢◌, ◌≤◌, ◌&&◌, nat_le, nat_lt, true, length, IfOk};
 ghost use Rattle.std.specs.Option.{option_copied, option_map};
 ghost use Rattle.curp_base.specs.Words.{numbered};
 ghost use Rattle.curp_cmd.specs.Node.{manager_node};
@@ -12,10 +12,11 @@ ghost use Rattle.curp_cluster.specs.Nodes.{nodes_of, with_nodes};
 
 use crate::given::{Gift, Given, give, give_one};
 use crate::growing::{add_backups, add_masters, make_ahead, most_fresh, take_up};
-use curp_base::NoMemory;
-use curp_cmd::{Command, NodeId, NodeKind, RequestId};
+use curp_base::{NoMemory, Shared};
+use curp_cmd::{Command, KeptCommand, NodeId, NodeKind, Request, RequestId, Standby};
 use curp_msg::{Done, Header, Local};
 use curp_nodes::{BackupNode, ClientNode, ManagerNode, MasterNode, WitnessNode};
+use curp_same::Same;
 use std::alloc::Global;
 use std::marker::Model;
 
@@ -172,8 +173,14 @@ impl Nodes {
         Ok(done)
     }
 
-    /// What a client has invoked, if it got the order: the request that is its last one now.
-    pub(crate) fn invoked(&self, to: NodeId, gift: &Gift) -> Option<(RequestId, Command)>
+    /// What a client has invoked, if it got the order: the request that is its last one now. It takes no memory.
+    pub(crate) fn invoked(
+        &self,
+        standby: &mut Standby,
+        to: NodeId,
+        gift: &Gift,
+    ) -> Option<(RequestId, KeptCommand)>
+        requires { 1 ≤ standby.old }
         ensures { result ≡ invoked_by to gift.now (numbered self.now.clients to.number) }
     {
         let Gift::Order(Local::Invoke(command)) = gift else {
@@ -184,7 +191,22 @@ impl Nodes {
             client: to.number,
             seq: client.last(),
         };
-        Some((id, *command))
+        Some((id, kept_by(standby, client.newest(), command)))
+    }
+}
+
+// The command is kept where it stands with the client's newest request.
+fn kept_by(
+    standby: &mut Standby,
+    newest: Option<&Shared<Request>>,
+    command: &Command,
+) -> KeptCommand
+    requires { 1 ≤ standby.old }
+    ensures { result ≡ command.now }
+{
+    match newest {
+        Some(request) if request.command.same(command) => standby.keep(request),
+        _ => standby.keep_own(command),
     }
 }
 

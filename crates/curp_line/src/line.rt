@@ -7,8 +7,8 @@ use crate::mark::{KeptMark, MarkPlace};
 use crate::slot::in_order;
 use crate::slots::Slots;
 use crate::tenure::Tenure;
-use curp_base::NoMemory;
-use curp_cmd::{Command, Request, RequestId};
+use curp_base::{NoMemory, Shared};
+use curp_cmd::{KeptCommand, Request, RequestId, Standby};
 use curp_msg::Completed;
 use std::alloc::Global;
 use std::marker::Model;
@@ -69,7 +69,7 @@ impl Line {
 
     /// Adds the mark of an update that the master pushed, at its index in the log. It takes no memory, since there is
     /// room, and looks at no other mark.
-    pub fn executed(&mut self, tenure: Tenure, index: u64, id: RequestId, command: Command)
+    pub fn executed(&mut self, tenure: Tenure, index: u64, id: RequestId, command: KeptCommand)
         requires { 1 ≤ self.old.spare }
         ensures marks { self.new.marks
             ≡ self.old.marks ++ executed tenure.master tenure.part tenure.epoch index id command ∷ [] }
@@ -87,7 +87,7 @@ impl Line {
         capture: u64,
         length: u64,
         id: RequestId,
-        command: Command,
+        command: KeptCommand,
     )
         requires { 1 ≤ self.old.spare }
         ensures marks { self.new.marks
@@ -100,7 +100,7 @@ impl Line {
 
     /// Adds the mark of a read that the master answered at once: before the partition's first adoption behind that of the
     /// master, and to the end where there is none. It takes no memory, since there is room, and looks at no other mark.
-    pub fn quick(&mut self, tenure: Tenure, capture: u64, id: RequestId, command: Command)
+    pub fn quick(&mut self, tenure: Tenure, capture: u64, id: RequestId, command: KeptCommand)
         requires { 1 ≤ self.old.spare }
         ensures marks { self.new.marks
             ≡ with_quick (quick tenure.master tenure.part tenure.epoch capture id command) self.old.marks }
@@ -126,8 +126,15 @@ impl Line {
     /// adoption gets a mark behind what is left, and each replayed request that isn't completed one at its index in the
     /// new log. It takes no memory, since there is room, and looks at the marks of that partition and of those requests
     /// alone.
-    pub fn adopted(&mut self, tenure: Tenure, cut: u64, replayed: &[Request])
+    pub fn adopted(
+        &mut self,
+        standby: &mut Standby,
+        tenure: Tenure,
+        cut: u64,
+        replayed: &[Shared<Request>],
+    )
         requires room { 1 + length replayed.now ≤ self.old.spare }
+        requires ready { length replayed.now ≤ standby.old }
         requires fits { cut + length replayed.now < 2 ^ 64 }
         ensures marks { self.new.marks
             ≡ adopted tenure.master tenure.part tenure.epoch cut replayed.now self.old.marks }
@@ -135,12 +142,12 @@ impl Line {
     {
         self.drop_past(tenure.part, cut);
         self.cut(tenure, cut);
-        self.replay(tenure, cut, replayed);
+        self.replay(standby, tenure, cut, replayed);
     }
 
     /// The requests in the order that the world shows: all updates, and each completed read where its value was captured
     /// or where it was answered at once. It looks at all marks that ever came, and sorts what it shows.
-    pub fn order(&self) -> Result<Vec<(RequestId, Command)>, NoMemory>
+    pub fn order(&self) -> Result<Vec<(RequestId, KeptCommand)>, NoMemory>
         ensures { IfOk result (λ order. order.items ≡ shown self.now.marks) }
     {
         let shown = self.slots.shown(self.alloc)?;
@@ -173,8 +180,15 @@ impl Line {
         self.slots.drop_past(part, cut);
     }
 
-    fn replay(&mut self, tenure: Tenure, cut: u64, replayed: &[Request])
+    fn replay(
+        &mut self,
+        standby: &mut Standby,
+        tenure: Tenure,
+        cut: u64,
+        replayed: &[Shared<Request>],
+    )
         requires room { length replayed.now ≤ self.old.spare }
+        requires ready { length replayed.now ≤ standby.old }
         requires fits { cut + length replayed.now < 2 ^ 64 }
         ensures marks { self.new.marks
             ≡ replayed_marks tenure.master tenure.part tenure.epoch cut replayed.now self.old.marks }
@@ -183,7 +197,7 @@ impl Line {
         for (at, request) in replayed.iter().enumerate() {
             if !self.has_completed(&request.id) {
                 let index = cut + at as u64;
-                self.executed(tenure, index, request.id, request.command);
+                self.executed(tenure, index, request.id, standby.keep(request));
             }
         }
     }

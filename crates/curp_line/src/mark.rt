@@ -3,7 +3,7 @@ ghost use Rattle.curp_model.specs.Marks.{is_dropped, is_flagged, is_shown};
 ghost use Rattle.curp_line.specs.Standing.{place_of};
 
 use crate::tenure::Tenure;
-use curp_cmd::{Command, RequestId};
+use curp_cmd::{KeptCommand, RequestId};
 use curp_msg::Completed;
 use std::marker::Model;
 
@@ -24,7 +24,7 @@ pub struct KeptMark {
     tenure: Tenure,
     place: MarkPlace,
     id: RequestId,
-    command: Command,
+    command: KeptCommand,
     completed: bool,
 }
 
@@ -47,7 +47,7 @@ impl Model for KeptMark {
 
 impl KeptMark {
     /// A mark whose request hasn't completed.
-    pub fn new(tenure: Tenure, place: MarkPlace, id: RequestId, command: Command) -> KeptMark
+    pub fn new(tenure: Tenure, place: MarkPlace, id: RequestId, command: KeptCommand) -> KeptMark
         ensures { result ≡ record {
           master = tenure.master;
           part = tenure.part;
@@ -79,10 +79,10 @@ impl KeptMark {
         self.tenure.part
     }
 
-    pub fn command(&self) -> Command
-        ensures { result ≡ self.now.command }
+    pub fn command(&self) -> &KeptCommand
+        ensures { result.now ≡ self.now.command }
     {
-        self.command
+        &self.command
     }
 
     /// Whether its request has completed by it.

@@ -6,7 +6,7 @@ ghost use Rattle.curp_line.specs.Slots.{is_completed, is_of_part, is_of_request,
 
 use crate::mark::KeptMark;
 use curp_base::NoMemory;
-use curp_cmd::{Command, RequestId};
+use curp_cmd::{KeptCommand, RequestId};
 use curp_msg::Completed;
 use std::alloc::Global;
 
@@ -56,23 +56,23 @@ impl Slot {
     }
 
     /// What its mark is of, and where it stands.
-    pub fn shown(&self) -> ShownMark
-        ensures { result ≡ shown_of self.now }
+    pub fn shown(&self, alloc: Global) -> Result<ShownMark, NoMemory>
+        ensures { IfOk result (λ shown. shown ≡ shown_of self.now) }
     {
-        ShownMark {
+        Ok(ShownMark {
             cuts_before: self.cuts_before,
             id: self.mark.id(),
-            command: self.mark.command(),
-        }
+            command: self.mark.command().share(alloc)?,
+        })
     }
 }
 
 /// What a mark that the order shows is of, and how many of the adoptions it stands behind.
-#[derive(Clone, Copy)]
+#[derive(Drop)]
 pub struct ShownMark {
     pub cuts_before: usize,
     pub id: RequestId,
-    pub command: Command,
+    pub command: KeptCommand,
 }
 
 /// What the marks that the order shows are of, in the order in which they came.
@@ -82,7 +82,7 @@ pub fn shown(alloc: Global, slots: &[Slot]) -> Result<Vec<ShownMark>, NoMemory>
     let mut shown = Vec::new(alloc);
     for slot in slots {
         if slot.is_shown() {
-            shown.push(slot.shown())?;
+            shown.push(slot.shown(alloc)?)?;
         }
     }
     Ok(shown)
@@ -93,14 +93,14 @@ pub fn shown(alloc: Global, slots: &[Slot]) -> Result<Vec<ShownMark>, NoMemory>
 pub fn in_order(
     alloc: Global,
     mut shown: Vec<ShownMark>,
-) -> Result<Vec<(RequestId, Command)>, NoMemory>
+) -> Result<Vec<(RequestId, KeptCommand)>, NoMemory>
     ensures { IfOk result (λ order. (cuts : ℕ) → Each (λ s. s.cuts_before ≤ cuts) shown.items
         → order.items ≡ map asked (in_runs (λ s. s.cuts_before) 0 cuts shown.items)) }
 {
     shown.sort_by_key(|mark| mark.cuts_before)?;
     let mut order = Vec::new(alloc);
     for mark in &shown {
-        order.push((mark.id, mark.command))?;
+        order.push((mark.id, mark.command.share(alloc)?))?;
     }
     Ok(order)
 }

@@ -1,11 +1,13 @@
 ghost use Rattle.std.specs.Prelude.{◌≡◌, length, IfOk};
+ghost use Rattle.std.specs.Option.{option_copied, option_map};
+ghost use Rattle.curp_base.specs.Words.{last_of};
 ghost use Rattle.curp_client.specs.Requests.{least_of};
 ghost use Rattle.curp_model.specs.Client.{NumbersAreUsed, fresh_client};
 ghost use Rattle.curp_config.specs.Refusals.{TellsRefusal};
 
-use curp_base::NoMemory;
+use curp_base::{NoMemory, Shared};
 use curp_client::Client;
-use curp_cmd::Command;
+use curp_cmd::{Command, Request};
 use curp_msg::{Config, Core, Done, Local, Message, Protocol};
 use std::alloc::{AllocError, Global};
 use std::marker::Model;
@@ -63,6 +65,13 @@ impl ClientNode {
         ensures { result ≡ least_of self.now.state.pending }
     {
         self.client.least_pending()
+    }
+
+    /// The request that it invoked last, of those that are pending.
+    pub fn newest(&self) -> Option<&Shared<Request>>
+        ensures { option_copied result ≡ option_map (λ p. p.request) (last_of self.now.state.pending) }
+    {
+        self.client.newest()
     }
 
     /// No number of what is pending is behind its last one, whatever came.

@@ -98,8 +98,9 @@ impl WitnessNode {
             (numbered_move self.old.number (on_witness self.old.number self.old.state from (Body.Record asked.now))) }
     {
         let mut messages = Vec::with_capacity(self.alloc, 1)?;
-        let id = asked.request.id;
-        let body = match self.witness.hold(asked.epoch, &asked.request) {
+        let request = asked.request.share()?;
+        let id = request.id;
+        let body = match self.witness.hold(asked.epoch, request) {
             RecordAnswer::Accepted => Body::Accepted(Accepted {
                 id,
                 epoch: asked.epoch,
@@ -169,7 +170,7 @@ impl Core for WitnessNode {
     #[tactic(auto, unfolding(crate::specs::Machines::witness_machine, curp_model::specs::Witness::on_witness))]
     fn on_message(&mut self, message: &Message) -> Result<Done, NoMemory> {
         match &message.body {
-            Body::Record(asked) => self.on_record(message.from, asked.get()),
+            Body::Record(asked) => self.on_record(message.from, asked),
             Body::Gc(asked) => self.on_gc(message.from, asked),
             Body::Start(start) => {
                 let _started = self.witness.start(start.part, start.epoch);

@@ -14,7 +14,7 @@ ghost use Rattle.curp_model.specs.World as world;
 use curp_base::NoMemory;
 use curp_cluster::Cluster;
 use curp_cmd::laws::names_one_to_four_keys;
-use curp_cmd::{Answer, Command, RequestId};
+use curp_cmd::{Answer, KeptCommand, RequestId};
 use curp_msg::{Header, Message, Outcome, Step, StepResult};
 use curp_nodes::ClientNode;
 use curp_order::History;
@@ -168,7 +168,7 @@ impl World {
     }
 
     /// One order of the requests, each with the answer of one thread. It is an order of the history.
-    pub fn order(&self, alloc: Global) -> Result<Vec<(RequestId, Command, Answer)>, NoMemory>
+    pub fn order(&self, alloc: Global) -> Result<Vec<(RequestId, KeptCommand, Answer)>, NoMemory>
         ensures list { IfOk result (λ list. list.items ≡ world.answered_order self.now) }
         ensures is_order { IsOrder self.now.history (world.order self.now) }
     {

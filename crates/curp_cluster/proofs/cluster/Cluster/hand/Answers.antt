@@ -1,4 +1,4 @@
-use Rattle.std.proofs.Common.{◌≡◌, ◌++◌, ◌+◌, ◌≤◌, List, true, length, arith, ap, rules, sym, ◌∙◌, subst}
+use Rattle.std.proofs.Common.{◌≡◌, ℕ, ◌++◌, ◌+◌, ◌≤◌, List, true, length, arith, ap, rules, sym, ◌∙◌, subst}
 use Rattle.curp_base.specs.Words.{all_of, numbered}
 use Rattle.curp_model.specs.Marks.{Mark}
 use Rattle.curp_model.specs.World.{Stepped, World, completion, has_node, refused, with_batch}
@@ -28,13 +28,15 @@ mark-requires c =
     let to = c.args.to in
     let given = input_of c.given_of-given.result in
     let due = c.in_ok-due.ensures.value in
-    let spare = c.reserve-3.new.self.spare in
     let after = c.give.new.self.masters in
-    let room : most_due (told_due c.in_ok-due.due) (most_marks given) ≤ spare = omega (arith, c.most.ensures, c.in_ok-reserve-3.ensures.room) in
-    subst (λ (d : DueMarks). HasRoomFor d (numbered after to.number) spare) (sym due)
+    let fits = λ (spare : ℕ) (room : c.most-most.result ≤ spare). subst (λ (d : DueMarks). HasRoomFor d (numbered after to.number) spare) (sym due)
     (has_room i.nodes after to.kind to.number given spare c.in_ok-done.ensures.few
     (subst (λ (d : DueMarks). IsSound d (master_at to.kind to.number i.nodes.masters)) due c.in_ok-due.ensures.sound)
-    (subst (λ (d : DueMarks). most_due d (most_marks given) ≤ spare) due room))
+    (subst (λ (d : DueMarks). most_due d (most_marks given) ≤ spare) due (omega (arith, c.most-most.ensures, room)))) in
+    record {
+      room = fits c.reserve-3.new.self.spare c.in_ok-reserve-3.ensures.room;
+      ready = fits c.reserve-4.new.self c.in_ok-reserve-4.ensures.room;
+    }
 
 pub returns : goal.returns
 returns c =

@@ -14,11 +14,11 @@ returns-then-is_captured_behind-clause-marks c =
     let f = c.args.self.now in
     let m = c.args.master.now.state in
     let old = c.args.marks.now.marks in
-    let entries = c.past-pushed.ensures ∙ ap (λ (es : List Entry). drop f.length es) (c.entries.ensures.value ∙ c.log-log.ensures.entries) in
+    let entries = ap (λ (es : List Entry). drop f.length es) c.log-log.ensures.entries in
     let ops : c.add_ops.new.marks.marks ≡ old ++ op_marks node m.part m.epoch f.length (drop f.length m.log) =
     c.add_ops.ensures.marks ∙ (λ i. old ++ op_marks (c.tenure_of.ensures i).master (c.tenure_of.ensures i).part (c.tenure_of.ensures i).epoch f.length (entries i)) in
     let last = ap (is_captured_behind f.captured) (sym c.last_capture.ensures) ∙ sym c.is_captured_behind.ensures ∙ c.if-is_captured_behind.true in
-    let new = (one_captured f c.args.marks.now.spare m c.requires c.captured-captured.ensures.numbered last).2 in
+    let new = (one_captured f c.args.marks.now.spare m c.requires.room c.captured-captured.ensures.numbered last).2 in
     let looked : Mark = capture_mark node m.part m.epoch new.1 in
     c.add_capture.ensures new.0 new.1 new.2
     ∙ ap (λ (ms : List Mark). ms ++ looked ∷ []) ops
@@ -32,7 +32,7 @@ returns-then-is_captured_behind-clause-spare c = λ answers.
     let f = c.args.self.now in
     let m = c.args.master.now.state in
     let last = ap (is_captured_behind f.captured) (sym c.last_capture.ensures) ∙ sym c.is_captured_behind.ensures ∙ c.if-is_captured_behind.true in
-    let new = one_captured f c.args.marks.now.spare m c.requires c.captured-captured.ensures.numbered last in
+    let new = one_captured f c.args.marks.now.spare m c.requires.room c.captured-captured.ensures.numbered last in
     not_both (sym (began_none f m new.1) ∙ answers)
 
 -- no read is new
@@ -42,10 +42,10 @@ returns-else-is_captured_behind-clause-marks c =
     let f = c.args.self.now in
     let m = c.args.master.now.state in
     let old = c.args.marks.now.marks in
-    let entries = c.past-pushed.ensures ∙ ap (λ (es : List Entry). drop f.length es) (c.entries.ensures.value ∙ c.log-log.ensures.entries) in
+    let entries = ap (λ (es : List Entry). drop f.length es) c.log-log.ensures.entries in
     let pushed : List Mark = op_marks node m.part m.epoch f.length (drop f.length m.log) in
     let last = ap (is_captured_behind f.captured) (sym c.last_capture.ensures) ∙ sym c.is_captured_behind.ensures ∙ c.if-is_captured_behind.false in
-    let none = none_captured f c.args.marks.now.spare m c.requires c.captured-captured.ensures.numbered last in
+    let none = none_captured f c.args.marks.now.spare m c.requires.room c.captured-captured.ensures.numbered last in
     c.add_ops.ensures.marks
     ∙ (λ i. old ++ op_marks (c.tenure_of.ensures i).master (c.tenure_of.ensures i).part (c.tenure_of.ensures i).epoch f.length (entries i))
     ∙ ap (λ (ms : List Mark). old ++ ms) (sym (append-nil pushed))
@@ -56,12 +56,12 @@ pub returns-else-is_captured_behind-clause-spare : goal.returns-else-is_captured
 returns-else-is_captured_behind-clause-spare c = λ answers.
     let f = c.args.self.now in
     let m = c.args.master.now.state in
-    let entries = c.past-pushed.ensures ∙ ap (λ (es : List Entry). drop f.length es) (c.entries.ensures.value ∙ c.log-log.ensures.entries) in
+    let entries = ap (λ (es : List Entry). drop f.length es) c.log-log.ensures.entries in
     omega (
       arith,
       c.add_ops.ensures.spare,
       ap (λ (es : List Entry). length es) entries,
       left_behind_place f.length m.log,
-      c.requires.room,
+      c.requires.room.room,
       answered_more f m answers,
     )
