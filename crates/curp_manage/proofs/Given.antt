@@ -1,25 +1,22 @@
 -- An input that comes to a manager whose journal is kept on a disk that may stop.
-use Rattle.std.proofs.Common.{◌≡◌, ◌≢◌, ℕ, zero, suc, ◌+◌, ◌≤◌, ◌<◌, ◌==◌, ◌&&◌, Bool, true, false, if◌then◌else◌, List, [], ◌∷◌, ◌++◌, length, Option, Some, None, refl, sym, ap, subst, ◌∙◌, arith, length-append}
+use Rattle.std.proofs.Common.{◌≡◌, ◌≢◌, ℕ, ◌+◌, ◌==◌, Bool, true, false, if◌then◌else◌, List, [], ◌∷◌, ◌++◌, length, Option, Some, None, refl, sym, ap, subst, ◌∙◌, arith, length-append}
 use Rattle.std.proofs.lemmas.Bool.{cond-false, ne_eqb}
 use Rattle.curp_base.specs.Words.{Each}
-use Rattle.curp_disk.specs.Calls.{seen_of}
-use Rattle.curp_disk.specs.InMemory.{StopParts, crashed}
+use Rattle.curp_disk.specs.InMemory.{StopParts}
 use Rattle.curp_manage.specs.Kept.{IsAtCall, IsManaged, IsOpenedAgain, IsSmallInput, stop_call}
-use Rattle.curp_manage.specs.Managed.{LineDone, Managed, input_accepted, input_given, input_kept, input_refused, input_stopped, keeps_input}
+use Rattle.curp_manage.specs.Managed.{Managed, input_accepted, input_given, input_kept, input_refused, input_stopped, keeps_input}
 use Rattle.curp_manage.specs.declared.managing.Crash.{Crash}
 use Rattle.curp_manage.specs.declared.outcome.LineOutcome.TheVariants as outcome
-use Rattle.curp_manage.proofs.Room.{has_room}
 use Rattle.curp_manage.proofs.Stops.{AllMade, SomeFailed, not_all}
 use Rattle.curp_mlog.proofs.Reading.{after-push}
-use Rattle.curp_mlog.specs.Answering.{Decides, end_of, record_of, size_limit}
-use Rattle.curp_mlog.specs.Appending.{RunsCalls, appending}
-use Rattle.curp_mlog.specs.Journal.{HoldsJournal, IsSettled}
+use Rattle.curp_mlog.specs.Answering.{record_of}
+use Rattle.curp_mlog.specs.Appending.{appending}
+use Rattle.curp_mlog.specs.Journal.{IsSettled}
 use Rattle.curp_mlog.specs.Machine.{IsAccepted, RefusesOrder, moved, opening}
-use Rattle.curp_mlog.specs.Records.{HasInputSpelling, after}
-use Rattle.curp_mlog.specs.Stopping.{IsStopped, StopLeaves, StopSynced, StopWrote, kept_inputs, stop_seen}
+use Rattle.curp_mlog.specs.Records.{after}
+use Rattle.curp_mlog.specs.Stopping.{IsStopped, StopLeaves, stop_seen}
 use Rattle.curp_mlog.specs.Value.{LoggedParts}
 use Rattle.curp_model.specs.Manager.{ManagerState, Shape, manager_input}
-use Rattle.curp_msg.specs.Limits.{step_limit}
 use Rattle.curp_msg.specs.Moved.{Moved}
 use Rattle.curp_msg.specs.declared.machine.Input.{Input}
 use Rattle.curp_msg.specs.declared.machine.Input.TheVariants as input
@@ -128,14 +125,6 @@ module _ (old new : LoggedParts StopParts) (decisions : ℕ) (crash : Option Cra
   stopped_at c is ran =
       let at : IsAtCall (Some c) = subst IsAtCall is managed.at_call in
       record { armed = armed_at c is; first = at.0; last = at.1; ran = ran }
-
--- it is lost where the call is another
-pub keeps_else : (c : Crash) (kept : Bool) → kept ≡ false → (c.call == 4) ≡ false → kept ≡ keeps_input c
-keeps_else c kept is other = by (c.call == 4) other
-  where
-    by : (last : Bool) → last ≡ false → kept ≡ (last && c.kept)
-    by true e = absurd cc
-    by false e = is
 
 -- the journal that a crash leaves was opened
 pub managed_again : (l : LoggedParts StopParts) (decisions : ℕ) (i : Input) (shape : Shape) (inputs : List Input) (keeps : Bool)

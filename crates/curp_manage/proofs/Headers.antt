@@ -1,5 +1,5 @@
 -- The manager's journal of a header, before any line.
-use Rattle.std.proofs.Common.{◌≡◌, ◌&&◌, if◌then◌else◌, Bool, true, false, not, Option, Some, None, ◌≤◌, arith, ℕ, [], refl}
+use Rattle.std.proofs.Common.{◌≡◌, if◌then◌else◌, Bool, true, false, not, Option, Some, None, ◌≤◌, arith, ℕ, [], refl}
 use Rattle.std.proofs.lemmas.Bool.Decides.{nat_tests}
 use Rattle.curp_disk.specs.InMemory.{StopParts}
 use Rattle.curp_manage.specs.Kept.{IsManaged, IsOpenedAgain}

@@ -1,8 +1,6 @@
-mod Fronts
 mod Given
 mod Headers
 mod Lines
 mod Orders
 mod Room
-mod Scripts
 mod Stops

@@ -1,5 +1,5 @@
 -- The inputs that lines give: they are the manager's, and have short records.
-use Rattle.std.proofs.Common.{◌≡◌, ℕ, ◌+◌, ◌≤◌, Bool, true, false, Option, Some, None, option_and_then, find, Result, Ok, Err, IfOk, IfSome, List, [], ◌∷◌, ◌++◌, length, refl, arith, length-append}
+use Rattle.std.proofs.Common.{◌≡◌, ℕ, ◌≤◌, Bool, false, Option, Some, None, option_and_then, find, Result, Ok, Err, IfOk, IfSome, List, [], ◌∷◌, length, refl, arith, length-append}
 use Rattle.std.proofs.lemmas.Bool.{cond_both}
 use Rattle.std.specs.Option.{ok_or}
 use Rattle.std.specs.Str.{bytes_eq}
@@ -14,7 +14,6 @@ use Rattle.curp_mlog.specs.Answering.{record_of}
 use Rattle.curp_mlog.specs.Orders.{orders}
 use Rattle.curp_mlog.specs.Records.{is_heavy, is_others, is_others_order, spelled}
 use Rattle.curp_msg.specs.Weight.{weight_of}
-use Rattle.curp_msg.specs.declared.machine.Input.{Input}
 use Rattle.curp_msg.specs.declared.machine.Input.TheVariants as input
 use Rattle.curp_msg.specs.declared.machine.Local.{Local}
 use Rattle.curp_msg.specs.declared.machine.Local.TheVariants as order

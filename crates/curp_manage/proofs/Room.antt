@@ -1,8 +1,8 @@
 -- There is always room for one input more.
-use Rattle.std.proofs.Common.{◌≡◌, ℕ, ◌+◌, ◌*◌, ◌<◌, ◌≤◌, List, [], ◌∷◌, ◌++◌, length, refl, arith, length-append}
+use Rattle.std.proofs.Common.{◌≡◌, ℕ, ◌*◌, ◌<◌, ◌≤◌, List, [], ◌∷◌, length, refl, arith, length-append}
 use Rattle.curp_base.specs.Words.{Each}
 use Rattle.curp_manage.specs.Kept.{IsSmallInput}
-use Rattle.curp_mlog.specs.Answering.{end_of, record_of, size_limit}
+use Rattle.curp_mlog.specs.Answering.{end_of, size_limit}
 use Rattle.curp_mlog.specs.Journal.{ReadsJournal, header}
 use Rattle.curp_mlog.specs.Records.{framed, records}
 use Rattle.curp_model.specs.Manager.{Shape}

@@ -1,5 +1,5 @@
 -- A disk that is armed within some calls doesn't make them all.
-use Rattle.std.proofs.Common.{◌≡◌, ◌⊎◌, ℕ, ◌+◌, ◌-◌, ◌≤◌, nat_lt, Bool, true, false, List, [], ◌∷◌, length, Option, Some, None, sym, ap, ◌∙◌, arith}
+use Rattle.std.proofs.Common.{◌≡◌, ◌⊎◌, ℕ, ◌-◌, ◌≤◌, nat_lt, false, List, [], ◌∷◌, length, Some, sym, ap, ◌∙◌, arith}
 use Rattle.std.proofs.lemmas.Bool.{cond-false, ltb-false}
 use Rattle.curp_disk.specs.InMemory.{StopParts, StopRan, one_less, stops}
 use Rattle.curp_disk.specs.declared.disk.Did.{Did}

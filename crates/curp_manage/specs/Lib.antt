@@ -1,5 +1,5 @@
 pub mod Kept
 pub mod Lines
 pub mod Managed
-pub mod Reading
+pub mod Player
 pub mod Text

@@ -1,6 +1,6 @@
 -- What `manage` does by its lines: the manager's inputs, each of which is kept, refused, or stopped by a crash. Nothing is
 -- said here of a disk or a journal.
-use Rattle.std.specs.Prelude.{ℕ, ◌+◌, ◌==◌, ◌&&◌, if◌then◌else◌, Bool, true, false, List, [], ◌∷◌, length, Option, Some, None}
+use Rattle.std.specs.Prelude.{ℕ, ◌+◌, ◌==◌, ◌&&◌, if◌then◌else◌, Bool, true, false, [], length, Option, Some, None}
 use Rattle.curp_cmd.specs.Node.{manager_node, master_node}
 use Rattle.curp_manage.specs.declared.outcome.LineOutcome.{LineOutcome}
 use Rattle.curp_manage.specs.declared.outcome.LineOutcome.TheVariants as outcome
@@ -77,8 +77,3 @@ unfoldable pub line_done : Managed → ManageLine → LineDone
 line_done m (line.Order order) = input_given m (input.Local order)
 line_done m (line.Recovered part epoch) = input_given m (input.Message (recovered_by_first part epoch))
 line_done m (line.Crash call kept) = crash_ordered m (record { call = call; kept = kept })
-
--- what lines lead to
-abbrev pub managed_after : Managed → List ManageLine → Managed
-managed_after m [] = m
-managed_after m (l ∷ ls) = managed_after (line_done m l).now ls

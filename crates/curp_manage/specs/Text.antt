@@ -1,10 +1,9 @@
 -- What `manage` writes for the bytes of its script.
 use Rattle.std.specs.Prelude.{ℕ, ◌+◌, Bool, true, false, List, [], ◌∷◌, ◌++◌, length, codes, Option, Some, None}
 use Rattle.std.specs.Fmt.{decimal}
-use Rattle.curp_io.specs.Text.{lines_of}
 use Rattle.curp_manage.specs.declared.outcome.LineOutcome.{LineOutcome}
 use Rattle.curp_manage.specs.declared.outcome.LineOutcome.TheVariants as outcome
-use Rattle.curp_manage.specs.Lines.{ManageLines, ManageScript, manage_lines_in, manage_script_in}
+use Rattle.curp_manage.specs.Lines.{ManageLines, ManageScript, manage_script_in}
 use Rattle.curp_manage.specs.Managed.{Managed, line_done, managed_opening}
 use Rattle.curp_msg.specs.declared.outcome.StepResult.TheVariants as step
 use Rattle.curp_msg.specs.declared.script.Header.{Header}
@@ -68,10 +67,6 @@ not_closed m = []
 abbrev pub texts_of_managed : Option Header → List ManageLine → List ℕ
 texts_of_managed None lines = []
 texts_of_managed (Some header) lines = managed_texts not_closed 1 (managed_opening header) lines
-
--- the same of the bytes behind a header
-abbrev pub managed_texts_behind : Managed → List ℕ → List ℕ
-managed_texts_behind opened bytes = managed_texts not_closed 1 opened (manage_lines_in 2 (lines_of bytes)).lines
 
 -- the texts of the steps on the whole lines that were taken of a script
 abbrev pub HoldsManaged : (left_before left_after held_before held_after : List ℕ) → Type 0

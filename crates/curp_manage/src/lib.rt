@@ -8,6 +8,5 @@
 mod manage;
 mod managing;
 mod outcome;
-mod reading;
 
 pub use manage::manage_orders;

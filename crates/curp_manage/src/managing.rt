@@ -1,9 +1,10 @@
-ghost use Rattle.std.specs.Prelude.{◌≡◌, ◌<◌, ◌≤◌, List, [], None, false, IfOk};
+ghost use Rattle.std.specs.Prelude.{◌≡◌, ◌+◌, ◌<◌, ◌≤◌, ◌^◌, if◌then◌else◌, length, List, [], None, false, IfOk};
 ghost use Rattle.curp_disk.specs.Calls.{seen_of};
 ghost use Rattle.curp_disk.specs.InMemory.{crashed};
-ghost use Rattle.curp_manage.specs.Kept.{HasJournal, IsNumberedBy, IsOpenedAgain, IsSmallInput};
+ghost use Rattle.curp_manage.specs.Kept.{HasJournal, IsManaged, IsNumberedBy, IsOpenedAgain, IsSmallInput};
 ghost use Rattle.curp_manage.specs.Lines.{IsForManager};
-ghost use Rattle.curp_manage.specs.Managed.{crash_ordered, input_given, line_done, managed_opening, recovered_by_first};
+ghost use Rattle.curp_manage.specs.Managed.{crash_ordered, input_given, keeps_input, line_done, managed_opening, recovered_by_first};
+ghost use Rattle.curp_manage.specs.declared.outcome.LineOutcome.TheVariants as outcome;
 ghost use Rattle.curp_mlog.specs.Journal.{HoldsJournal};
 ghost use Rattle.curp_mlog.specs.Machine.{IsShape};
 ghost use Rattle.curp_mlog.specs.Records.{is_heavy, is_others};
@@ -32,6 +33,15 @@ use std::marker::Model;
 pub(crate) struct Crash {
     pub(crate) call: u8,
     pub(crate) kept: bool,
+}
+
+impl Crash {
+    /// Whether the input that it stops outlives it.
+    fn keeps_input(self) -> bool
+        ensures { result ≡ keeps_input self }
+    {
+        self.call == 4 && self.kept
+    }
 }
 
 /// A manager whose journal is on a disk that stops where a crash is to come.
@@ -95,7 +105,7 @@ impl Managing {
 
     /// Does what a line says.
     #[tactic(auto, using(crate::proofs::Orders::own_order, crate::proofs::Orders::light_order, crate::proofs::Orders::small_order, crate::proofs::Orders::own_message, crate::proofs::Orders::light_message, crate::proofs::Orders::small_message), unfolding(crate::specs::Managed::line_done))]
-    pub(crate) fn line(self, line: &ManageLine) -> Result<(Managing, LineOutcome), NoMemory>
+    pub(crate) fn obey(self, line: &ManageLine) -> Result<(Managing, LineOutcome), NoMemory>
         requires few { self.decisions < step_limit }
         requires own { IsForManager line.now }
         requires call { HasCall line.now }
@@ -155,9 +165,7 @@ impl Managing {
         } = self;
         match logged.on(input) {
             Ok(sent) => {
-                let Some(behind) = next.checked_add(sent.len() as u64) else {
-                    return Err(AllocError);
-                };
+                let behind = number_behind(next, &sent)?;
                 let managing = Managing {
                     alloc,
                     logged,
@@ -180,15 +188,8 @@ impl Managing {
             Err(LoggedError::DiskFault) => {
                 let Some(stop) = crash else { unreachable!() };
                 let logged = open_crashed(alloc, logged, stop.kept)?;
-                let kept = stop.call == 4 && stop.kept;
-                let managing = Managing {
-                    alloc,
-                    logged,
-                    decisions: if kept { decisions + 1 } else { decisions },
-                    next,
-                    crash: None,
-                };
-                Ok((managing, LineOutcome::Stopped { kept }))
+                let kept = stop.keeps_input();
+                Ok(after_crash(alloc, logged, decisions, next, kept))
             }
             Err(LoggedError::NoMemory) => Err(AllocError),
             Err(LoggedError::TooHeavy) => unreachable!(),
@@ -196,6 +197,42 @@ impl Managing {
             Err(LoggedError::Spent) => unreachable!(),
         }
     }
+}
+
+/// The number behind those of messages that go out.
+fn number_behind(next: u64, sent: &[Message]) -> Result<u64, NoMemory>
+    ensures { IfOk result (λ behind. (behind ≡ next + length sent.now) × (next + length sent.now < 2 ^ 64)) }
+{
+    next.checked_add(sent.len() as u64).ok_or(AllocError)
+}
+
+/// The manager whose journal was opened again behind a crash, which kept the stopped input or lost it.
+fn after_crash(
+    alloc: Global,
+    logged: Logged<StopDisk>,
+    decisions: u64,
+    next: u64,
+    kept: bool,
+) -> (Managing, LineOutcome)
+    requires few { decisions < step_limit }
+    requires managed { IsManaged logged (if kept then decisions + 1 else decisions) None }
+    ensures managing { result.0 ≡ record {
+      state = logged.state;
+      decisions = if kept then decisions + 1 else decisions;
+      next = next;
+      crash = None;
+    } }
+    ensures outcome { result.1 ≡ outcome.Stopped kept }
+{
+    let decisions = if kept { decisions + 1 } else { decisions };
+    let managing = Managing {
+        alloc,
+        logged,
+        decisions,
+        next,
+        crash: None,
+    };
+    (managing, LineOutcome::Stopped { kept })
 }
 
 /// The first master says that it has recovered a partition.

@@ -1,5 +1,5 @@
 -- The lines of a history and of an order, written one by one.
-use Rattle.std.proofs.Common.{◌≡◌, ◌≤◌, ◌<◌, ◌+◌, ◌∙◌, ℕ, List, [], ◌∷◌, ◌++◌, get_or, length, drop, take, map, Bool, false, Result, Ok, Err, IfErr, IsErr, IsErrAnd, OnOk, refl, ap, sym, subst, arith, append-nil}
+use Rattle.std.proofs.Common.{◌≡◌, ◌≤◌, ◌<◌, ◌+◌, ◌∙◌, ℕ, List, [], ◌∷◌, ◌++◌, get_or, length, drop, take, Result, Ok, Err, OnOk, refl, ap, sym, arith}
 use Rattle.std.proofs.lemmas.List.{drop_all}
 use Rattle.curp_base.specs.Words.{Each}
 use Rattle.curp_base.proofs.Lists.{Each-map, drop_index}
@@ -11,18 +11,14 @@ use Rattle.curp_cmd.specs.declared.command.Command.{Command}
 use Rattle.curp_cmd.specs.declared.command.RequestId.{RequestId}
 use Rattle.curp_law_print.specs.EventRanges.{AskedInRange, EventInRange}
 use Rattle.curp_msg.specs.declared.script.Header.{Header}
-use Rattle.curp_model.specs.World.{World, answered_order, opening, order, run, with_answers}
+use Rattle.curp_model.specs.World.{World, answered_order, opening, order, with_answers}
 use Rattle.curp_order.proofs.Laws.{length-answers}
 use Rattle.curp_order.specs.Order.{IsHistory, IsOrder, answers, Asked}
 use Rattle.curp_order.specs.declared.Event as seen
-use Rattle.curp_play.specs.Play.{asked_of, claim_behind, claim_from}
-use Rattle.curp_play.specs.Reading.{IsOfReading, IsOfWriting}
-use Rattle.curp_play.specs.Status.{ended, is_cut_short, status_of}
-use Rattle.curp_play.specs.declared.status.Status.{Status}
-use Rattle.curp_play.specs.declared.status.Status.TheVariants as status
+use Rattle.curp_play.specs.Play.{asked_of}
 use Rattle.curp_script.specs.EventTexts.{claim_lines, event_line, history_lines, order_lines}
 use Rattle.curp_msg.specs.Limits.{step_limit}
-use Rattle.curp_script.specs.Script.{Ending, Whole, Bad, TooLong, TooMany, Steps}
+use Rattle.curp_script.specs.Script.{Whole}
 use Rattle.curp_script.specs.declared.event.EventLine.TheVariants.{Event, Place}
 
 -- ---- the order without its answers
@@ -83,48 +79,6 @@ next_place_too asked k x within here so_far next =
     unmapped : (xs : List (RequestId × Command × Answer)) → Each AskedInRange (asked_of xs) → Each (λ (y : RequestId × Command × Answer). AskedInRange (y.0, y.1)) xs
     unmapped [] each = tt
     unmapped (y ∷ ys) each = (each.0, unmapped ys each.1)
-
--- a script that is refused has no lines
-pub nothing_claimed_of : (w : World) (body : Steps) (stop : Status) → IsOfReading stop → stop ≡ status_of body.ending → claim_from w body ≡ []
-nothing_claimed_of w body stop reading is = by body.ending is
-  where
-    by : (ending : Ending) → stop ≡ status_of ending → claim_behind ending (run w body.steps) ≡ []
-    by Whole ok = absurd (subst (λ (s : Status). IsOfReading s) ok reading)
-    by (Bad line reason) bad = refl
-    by (TooLong line) long = refl
-    by TooMany many = refl
-
-nothing_claimed_for : (w : World) (body : Steps) (stop : Status) (r : Result (Unit {0}) Status) → IsErr r → IsErrAnd r (λ e. e ≡ stop)
-    → is_cut_short (ended r) ≡ false → (is_cut_short stop ≡ false → stop ≡ status_of body.ending) → IsOfReading stop → claim_from w body ≡ []
-nothing_claimed_for w body stop (Ok _) failed same cut stops reading = absurd same
-nothing_claimed_for w body stop (Err e) failed same cut stops reading =
-    nothing_claimed_of w body stop reading (stops (subst (λ (s : Status). is_cut_short s ≡ false) same cut))
-
--- where the script is refused, nothing is written
-pub refused_wrote : (old : List ℕ) (w : World) (body : Steps) (stop : Status) (r : Result (Unit {0}) Status) → IsErr r → IsErrAnd r (λ e. e ≡ stop)
-    → is_cut_short (ended r) ≡ false → (is_cut_short stop ≡ false → stop ≡ status_of body.ending) → IsOfReading stop → old ≡ old ++ claim_from w body
-refused_wrote old w body stop r failed same cut stops reading =
-    sym (append-nil old) ∙ ap (λ (t : List ℕ). old ++ t) (sym (nothing_claimed_for w body stop r failed same cut stops reading))
-
--- a script that is read to its end has the lines of its world
-pub claimed_whole : (w new : World) (body : Steps) → body.ending ≡ Whole → new ≡ run w body.steps → claim_from w body ≡ claim_lines new.history (order new)
-claimed_whole w new body whole made = rw (whole, made) refl
-
--- what was written holds where it isn't cut short
-pub written_whole : {P : Type 0} (r : Result (Unit {0}) Status) → IfErr r IsOfWriting → is_cut_short (ended r) ≡ false → OnOk r P → P
-written_whole (Ok _) writing cut p = p
-written_whole (Err status.WriteFault) writing cut p = absurd cc
-written_whole (Err status.NoMemory) writing cut p = absurd cc
-written_whole (Err status.Ok) writing cut p = absurd writing
-written_whole (Err (status.No clause)) writing cut p = absurd writing
-written_whole (Err status.Usage) writing cut p = absurd writing
-written_whole (Err (status.BadLine line reason)) writing cut p = absurd writing
-written_whole (Err status.ReadFault) writing cut p = absurd writing
-written_whole (Err status.TooManySteps) writing cut p = absurd writing
-written_whole (Err status.TooManyLines) writing cut p = absurd writing
-written_whole (Err (status.TooLarge weight)) writing cut p = absurd writing
-written_whole (Err (status.LineTooLong line)) writing cut p = absurd writing
-written_whole (Err (status.BadRequest at)) writing cut p = absurd writing
 
 -- before any step clients saw nothing
 pub nothing_seen : (h : Header) (w : World) → w ≡ opening h → w.history ≡ []

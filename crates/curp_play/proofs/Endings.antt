@@ -1,39 +1,12 @@
 -- What the end of a run says.
-use Rattle.std.proofs.Common.{◌≡◌, inl, inr, ℕ, List, None, Some, Result, Ok, Err, OnOk, IsErrAnd, false, refl, ap, ◌∙◌, subst}
-use Rattle.curp_base.specs.Words.{Each}
-use Rattle.curp_io.specs.Text.{lines_of}
-use Rattle.curp_order.specs.Order.{IsHistory, IsOrder}
-use Rattle.curp_msg.specs.declared.script.Header.{Header}
-use Rattle.curp_msg.specs.declared.script.Step.{Step}
-use Rattle.curp_script.specs.Headers.{bad_field}
+use Rattle.std.proofs.Common.{◌≡◌, inl, inr, ℕ, Result, Ok, Err, IfErr, OnOk, IsErrAnd, false, refl, ap, ◌∙◌}
 use Rattle.curp_io.specs.Streams.{Rose}
-use Rattle.curp_script.specs.Script.{Ending, Script, Steps, Whole}
-use Rattle.curp_msg.specs.Script.{IsRun, IsStep}
-use Rattle.curp_model.specs.World.{world, order}
+use Rattle.curp_script.specs.Script.{Ending, Whole}
 use Rattle.curp_play.specs.declared.status.Status.{Status}
 use Rattle.curp_play.specs.declared.status.Status.TheVariants as status
-use Rattle.curp_play.specs.Play.{EndsWhole, HasAnOrder, script_in}
-use Rattle.curp_play.specs.Status.{is_cut_short, status_of}
-use Rattle.curp_play.proofs.Named.{script_named}
-use Rattle.curp_world.proofs.Runs.{in_order}
-
--- by the laws of every run
-pub has_an_order : (bytes : List ℕ) (h : Header) (body : Steps)
-    → script_in bytes ≡ record { header = Some h; body = body } → bad_field h ≡ None
-    → ((h : Header) (steps : List Step) → IsRun h steps → IsHistory (world h steps).history)
-    → ((h : Header) (steps : List Step) → IsRun h steps → IsOrder (world h steps).history (order (world h steps)))
-    → HasAnOrder (script_in bytes)
-has_an_order bytes h body e valid histories orders =
-    let run : IsRun h body.steps = record {
-      header = in_order h valid;
-      steps_are = subst (λ (s : Script). Each IsStep s.body.steps) e (script_named (lines_of bytes));
-    } in
-    rw e (histories h body.steps run, orders h body.steps run)
-
--- what holds anyway holds of a value
-pub always : (P : Type 0) (r : Result (Unit {0}) Status) → P → OnOk r P
-always P (Ok _) h = h
-always P (Err stop) h = tt
+use Rattle.curp_play.specs.Play.{EndsWhole}
+use Rattle.curp_play.specs.Reading.{IsOfWriting}
+use Rattle.curp_play.specs.Status.{ended, is_cut_short, status_of}
 
 -- a stop that is passed on was that of the call
 pub same_stop : {A B : Type 0} (r : Result A Status) (call : Result B Status) (stop other : Status) → call ≡ Err stop
@@ -56,3 +29,19 @@ ends_whole (status.BadRequest at) ending a b c d ends whole reads writes = let o
 ends_whole status.TooManySteps ending a b c d ends whole reads writes = let other : status.TooManySteps ≡ status.Ok = ends refl ∙ ap status_of whole in absurd cc
 ends_whole (status.No clause) ending a b c d ends whole reads writes = let other : status.No clause ≡ status.Ok = ends refl ∙ ap status_of whole in absurd cc
 ends_whole status.TooManyLines ending a b c d ends whole reads writes = let other : status.TooManyLines ≡ status.Ok = ends refl ∙ ap status_of whole in absurd cc
+
+-- what was written holds where it isn't cut short
+pub written_whole : {P : Type 0} (r : Result (Unit {0}) Status) → IfErr r IsOfWriting → is_cut_short (ended r) ≡ false → OnOk r P → P
+written_whole (Ok _) writing cut p = p
+written_whole (Err status.WriteFault) writing cut p = absurd cc
+written_whole (Err status.NoMemory) writing cut p = absurd cc
+written_whole (Err status.Ok) writing cut p = absurd writing
+written_whole (Err (status.No clause)) writing cut p = absurd writing
+written_whole (Err status.Usage) writing cut p = absurd writing
+written_whole (Err (status.BadLine line reason)) writing cut p = absurd writing
+written_whole (Err status.ReadFault) writing cut p = absurd writing
+written_whole (Err status.TooManySteps) writing cut p = absurd writing
+written_whole (Err status.TooManyLines) writing cut p = absurd writing
+written_whole (Err (status.TooLarge weight)) writing cut p = absurd writing
+written_whole (Err (status.LineTooLong line)) writing cut p = absurd writing
+written_whole (Err (status.BadRequest at)) writing cut p = absurd writing

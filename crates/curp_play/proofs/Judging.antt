@@ -1,8 +1,8 @@
 -- A claim that is read line by line, and the verdict on it.
-use Rattle.std.proofs.Common.{◌≡◌, ◌≢◌, ◌↔◌, ◌⊎◌, inl, inr, ◌<◌, ◌≤◌, ◌+◌, ◌^◌, ◌++◌, ◌∙◌, ℕ, List, [], ◌∷◌, length, Bool, true, false, nat_lt, None, Result, Ok, Err, IfErr, IsErr, IsErrAnd, OnOk, refl, ap, sym, subst, arith}
+use Rattle.std.proofs.Common.{◌≡◌, ◌≢◌, ◌↔◌, inl, inr, ◌<◌, ◌≤◌, ◌+◌, ◌^◌, ◌++◌, ◌∙◌, ℕ, List, [], ◌∷◌, length, Bool, true, false, nat_lt, Result, Ok, Err, IsErr, IsErrAnd, refl, ap, sym, subst, arith}
 use Rattle.std.proofs.lemmas.Bool.Decides.{nat_tests}
 use Rattle.curp_io.proofs.Text.{lines_of_first}
-use Rattle.curp_io.specs.Streams.{HoldsPart, Rose, one_more}
+use Rattle.curp_io.specs.Streams.{Rose, one_more}
 use Rattle.curp_io.specs.Text.{GivesLine, Progress, RefusesLine, line_of, lines_of}
 use Rattle.curp_check.proofs.Verdicts.{all_hold, one_first}
 use Rattle.curp_check.specs.Claim.{ClaimText, Claimed, IsClaimOfOrder, claim_from, claim_in, claim_limit, with_read}
@@ -15,7 +15,7 @@ use Rattle.curp_play.specs.Status.{is_cut_short, refused_at}
 use Rattle.curp_play.specs.declared.status.Status.{Status}
 use Rattle.curp_play.specs.declared.status.Status.TheVariants as status
 use Rattle.curp_play.proofs.Scripts.{not_whole_bad, not_whole_long, not_whole_many}
-use Rattle.curp_play.specs.Check.{EndsAs, EndsBy, EndsJudged, GivesLineOf, IsBrokenClaim, IsVerdictOn, StopsAt, after_line, claim_due, is_verdict, status_of_verdict}
+use Rattle.curp_play.specs.Check.{EndsAs, EndsBy, EndsJudged, GivesLineOf, IsBrokenClaim, IsVerdictOn, StopsAt, after_line, claim_due, status_of_verdict}
 use Rattle.curp_script.specs.Events.{event_in}
 use Rattle.curp_base.specs.Limits.{line_limit}
 use Rattle.curp_script.specs.Script.{Ending, Whole, Bad, TooLong, TooMany}

@@ -10,7 +10,7 @@ use Rattle.curp_order.specs.Order.{IsHistory, IsOrder}
 use Rattle.curp_msg.specs.declared.script.Header.{Header}
 use Rattle.curp_msg.specs.declared.script.Step.{Step}
 use Rattle.curp_script.specs.EventTexts.{claim_lines}
-use Rattle.curp_script.specs.Script.{Ending, Whole, Bad, TooLong, TooMany, Steps, Script, script_of, steps_in}
+use Rattle.curp_script.specs.Script.{Ending, Whole, Bad, TooLong, TooMany, Steps, Script, script_of}
 use Rattle.curp_model.specs.World.{World, opening, order, run, world}
 use Rattle.curp_text.specs.Text.{closing_order, steps_text}
 use Rattle.curp_play.specs.declared.status.Status.{Status}
@@ -55,10 +55,6 @@ texts_of_steps (Some header) steps = steps_text no_order 1 (opening header) step
 
 abbrev pub texts_of : Script → List ℕ
 texts_of s = texts_of_steps s.header s.body.steps
-
--- the same of the bytes behind a header, in its opened world
-abbrev pub texts_behind : World → List ℕ → List ℕ
-texts_behind opened bytes = steps_text no_order 1 opened (steps_in 2 (lines_of bytes)).steps
 
 -- The bytes that were taken are those of whole lines, and behind them some without a line feed. What stands behind what was
 -- held before is the text of the whole lines. (The last line of an input is whole once the input has shown its end.)

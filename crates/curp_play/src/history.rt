@@ -1,31 +1,31 @@
-ghost use Rattle.std.specs.Prelude.{◌≡◌, ◌≢◌, ◌≤◌, ◌+◌, ◌++◌, [], length, true, false, Ok, Err, OnOk, IfErr};
+ghost use Rattle.std.specs.Prelude.{◌≡◌, ◌≢◌, ◌≤◌, ◌+◌, ◌++◌, [], length, true, false, Err, OnOk, IfErr};
 ghost use Rattle.curp_base.specs.Words.{Each};
 ghost use Rattle.curp_io.specs.Streams.{HoldsPart, Rose, SameCount};
 ghost use Rattle.curp_check.specs.Claim.{IsClaimOfOrder};
 ghost use Rattle.curp_law_print.specs.EventRanges.{AskedInRange, EventInRange};
 ghost use Rattle.curp_script.specs.EventTexts.{claim_lines, event_line, history_lines, order_lines};
-ghost use Rattle.curp_script.specs.Headers.{bad_field};
 ghost use Rattle.curp_msg.specs.Limits.{step_limit};
 ghost use Rattle.curp_script.specs.Script.{Whole};
 ghost use Rattle.curp_model.specs.World as model;
-ghost use Rattle.curp_play.specs.Play.{EndsWhole, asked_of, claim_from, claim_of, script_in};
-ghost use Rattle.curp_play.specs.Reading.{IsBehind, IsOfReading, IsOfWriting, due};
-ghost use Rattle.curp_play.specs.Status.{ended, is_cut_short, status_of};
+ghost use Rattle.curp_play.specs.Play.{EndsWhole, asked_of, claim_of, script_in};
+ghost use Rattle.curp_play.specs.Players.{HasClaim, record_says, recorded};
+ghost use Rattle.curp_play.specs.Reading.{IsOfWriting};
+ghost use Rattle.curp_play.specs.Status.{is_cut_short, status_of};
 
-use crate::play::begin;
-use crate::reading::ScriptReader;
+use crate::running::{Player, run};
 use crate::status::Status;
 use crate::writing::{close, write};
 use curp_base::NoMemory;
 use curp_check::laws::orders_are_short;
-use curp_cmd::{Answer, Command, RequestId};
+use curp_cmd::{Answer, KeptCommand, RequestId};
 use curp_io::{Sink, Source};
 use curp_law_print::{asked_is_in_range, event_is_in_range, printed_claims_are_read};
 use curp_laws::a_step_is_one_event;
-use curp_order::Event;
+use curp_order::KeptEvent;
 use curp_script::{EventLine, Header, Step, print_event};
 use curp_world::World;
 use std::alloc::Global;
+use std::marker::Model;
 
 /// Reads a script and plays it, and writes at its end what clients saw and the order of the requests, as lines that
 /// `check` reads. It takes no handle, and returns.
@@ -58,126 +58,64 @@ pub fn play_history<S: Source, K: Sink>(alloc: Global, source: &mut S, sink: &mu
     ensures no_write_fault { result ≢ Status.WriteFault → SameCount (K.faults sink.old) (K.faults sink.new) }
     ensures never_usage { result ≢ Status.Usage }
 {
-    let played = play(alloc, source, sink);
+    let played = run::<Recorder, S, K>(alloc, source, sink);
     close(sink, played)
 }
 
-/// Plays the script, and writes the lines.
-fn play<S: Source, K: Sink>(alloc: Global, source: &mut S, sink: &mut K) -> Result<(), Status>
-    ensures ends { S.tells source.old ≡ true → is_cut_short (ended result) ≡ false
-        → ended result ≡ status_of (script_in (S.left source.old)).body.ending }
-    ensures end { S.tells source.old ≡ true → OnOk result (S.left source.new ≡ []) }
-    ensures wrote { S.tells source.old ≡ true → K.tells sink.old ≡ true → is_cut_short (ended result) ≡ false
-        → K.held sink.new ≡ K.held sink.old ++ claim_of (script_in (S.left source.old)) }
-    ensures front { S.tells source.old ≡ true → K.tells sink.old ≡ true
-        → HoldsPart (K.held sink.old) (K.held sink.new) (claim_of (script_in (S.left source.old))) }
-    ensures claim { S.tells source.old ≡ true
-        → OnOk result (IsClaimOfOrder (claim_of (script_in (S.left source.old)))) }
-    ensures tells { K.tells sink.old ≡ true → K.tells sink.new ≡ true }
-    ensures read_fault { result ≡ Err Status.ReadFault → Rose (S.faults source.old) (S.faults source.new) }
-    ensures no_read_fault { result ≢ Err Status.ReadFault → SameCount (S.faults source.old) (S.faults source.new) }
-    ensures write_fault { result ≡ Err Status.WriteFault → Rose (K.faults sink.old) (K.faults sink.new) }
-    ensures no_write_fault { result ≢ Err Status.WriteFault → SameCount (K.faults sink.old) (K.faults sink.new) }
-    ensures never_usage { result ≢ Err Status.Usage }
-    ensures never_ok { result ≢ Err Status.Ok }
-{
-    let mut script = ScriptReader::new(alloc)?;
-    let header = script.read_header(source)?;
-    play_behind(alloc, &header, &mut script, source, sink)
+/// A world of which nothing is written before its end.
+#[derive(Drop)]
+struct Recorder {
+    world: World,
 }
 
-/// Plays what comes behind a header, and writes the lines.
-fn play_behind<S: Source, K: Sink>(
-    alloc: Global,
-    header: &Header,
-    script: &mut ScriptReader,
-    source: &mut S,
-    sink: &mut K,
-) -> Result<(), Status>
-    requires header { bad_field header.now ≡ None }
-    requires behind { IsBehind script.old 1 }
-    ensures ends { S.tells source.old ≡ true → is_cut_short (ended result) ≡ false
-        → ended result ≡ status_of (due script.old (S.left source.old)).ending }
-    ensures end { S.tells source.old ≡ true → OnOk result (S.left source.new ≡ []) }
-    ensures wrote { S.tells source.old ≡ true → K.tells sink.old ≡ true → is_cut_short (ended result) ≡ false
-        → K.held sink.new
-        ≡ K.held sink.old ++ claim_from (model.opening header.now) (due script.old (S.left source.old)) }
-    ensures front { S.tells source.old ≡ true → K.tells sink.old ≡ true → HoldsPart (K.held sink.old) (K.held sink.new)
-        (claim_from (model.opening header.now) (due script.old (S.left source.old))) }
-    ensures claim { S.tells source.old ≡ true → OnOk result
-        (IsClaimOfOrder (claim_from (model.opening header.now) (due script.old (S.left source.old)))) }
-    ensures tells { K.tells sink.old ≡ true → K.tells sink.new ≡ true }
-    ensures read_fault { result ≡ Err Status.ReadFault → Rose (S.faults source.old) (S.faults source.new) }
-    ensures no_read_fault { result ≢ Err Status.ReadFault → SameCount (S.faults source.old) (S.faults source.new) }
-    ensures write_fault { result ≡ Err Status.WriteFault → Rose (K.faults sink.old) (K.faults sink.new) }
-    ensures no_write_fault { result ≢ Err Status.WriteFault → SameCount (K.faults sink.old) (K.faults sink.new) }
-    ensures never_usage { result ≢ Err Status.Usage }
-    ensures never_ok { result ≢ Err Status.Ok }
-{
-    let mut world = begin(alloc, header)?;
-    let played = play_world(alloc, script, source, &mut world, sink);
-    drop(world);
-    played
+impl Model for Recorder {
+    ghost Value = { model.World };
+
+    ghost view = { λ r. r.world };
 }
 
-/// Plays the steps of a script, and writes the lines.
-fn play_world<S: Source, K: Sink>(
-    alloc: Global,
-    script: &mut ScriptReader,
-    source: &mut S,
-    world: &mut World,
-    sink: &mut K,
-) -> Result<(), Status>
-    requires behind { IsBehind script.old 1 }
-    requires opening { world.old.history ≡ [] }
-    ensures ends { S.tells source.old ≡ true → is_cut_short (ended result) ≡ false
-        → ended result ≡ status_of (due script.old (S.left source.old)).ending }
-    ensures end { S.tells source.old ≡ true → OnOk result (S.left source.new ≡ []) }
-    ensures wrote { S.tells source.old ≡ true → K.tells sink.old ≡ true → is_cut_short (ended result) ≡ false
-        → K.held sink.new ≡ K.held sink.old ++ claim_from world.old (due script.old (S.left source.old)) }
-    ensures front { S.tells source.old ≡ true → K.tells sink.old ≡ true → HoldsPart (K.held sink.old) (K.held sink.new)
-        (claim_from world.old (due script.old (S.left source.old))) }
-    ensures claim { S.tells source.old ≡ true → OnOk result
-        (IsClaimOfOrder (claim_from world.old (due script.old (S.left source.old)))) }
-    ensures tells { K.tells sink.old ≡ true → K.tells sink.new ≡ true }
-    ensures read_fault { result ≡ Err Status.ReadFault → Rose (S.faults source.old) (S.faults source.new) }
-    ensures no_read_fault { result ≢ Err Status.ReadFault → SameCount (S.faults source.old) (S.faults source.new) }
-    ensures write_fault { result ≡ Err Status.WriteFault → Rose (K.faults sink.old) (K.faults sink.new) }
-    ensures no_write_fault { result ≢ Err Status.WriteFault → SameCount (K.faults sink.old) (K.faults sink.new) }
-    ensures never_usage { result ≢ Err Status.Usage }
-    ensures never_ok { result ≢ Err Status.Ok }
-{
-    make_steps(script, source, world)?;
-    write_claim(alloc, world, sink)
-}
+impl Player for Recorder {
+    type Line = Step;
 
-/// Makes the steps of a script.
-fn make_steps<S: Source>(
-    script: &mut ScriptReader,
-    source: &mut S,
-    world: &mut World,
-) -> Result<(), Status>
-    requires behind { IsBehind script.old 1 }
-    requires opening { world.old.history ≡ [] }
-    ensures whole { S.tells source.old ≡ true → OnOk result ((due script.old (S.left source.old)).ending ≡ Whole) }
-    ensures made { S.tells source.old ≡ true
-        → OnOk result (world.new ≡ model.run world.old (due script.old (S.left source.old)).steps) }
-    ensures few { OnOk result (length world.new.history ≤ step_limit) }
-    ensures stops { S.tells source.old ≡ true → IfErr result (λ stop. is_cut_short stop ≡ false
-        → stop ≡ status_of (due script.old (S.left source.old)).ending) }
-    ensures end { S.tells source.old ≡ true → OnOk result (S.left source.new ≡ []) }
-    ensures reading { IfErr result IsOfReading }
-    ensures read_fault { result ≡ Err Status.ReadFault → Rose (S.faults source.old) (S.faults source.new) }
-    ensures no_read_fault { result ≢ Err Status.ReadFault → SameCount (S.faults source.old) (S.faults source.new) }
-{
-    // Any step, until the first one was read.
-    let mut step = Step::Nudge;
-    let mut number = 1;
-    'steps: while script.read_step(source, number, &mut step)? {
-        make_step(world, &step)?;
-        number += 1;
+    ghost rules = { recorded };
+
+    ghost Fits = { λ number w. length w.history + 1 ≤ number };
+
+    ghost Holds = { HasClaim };
+
+    ghost ending = { λ bytes. (script_in bytes).body.ending };
+
+    ghost script_text = { λ bytes. claim_of (script_in bytes) };
+
+    ghost line_texts = { λ _. [] };
+
+    ghost Stands = { λ bytes. IsClaimOfOrder (claim_of (script_in bytes)) };
+
+    fn open(alloc: Global, header: &Header) -> Result<Recorder, NoMemory> {
+        let world = World::open(alloc, header)?;
+        Ok(Recorder { world })
     }
-    Ok(())
+
+    fn do_line(
+        mut self,
+        _number: u64,
+        step: &Step,
+        _text: &mut String,
+    ) -> Result<Recorder, NoMemory> {
+        match make_step(&mut self.world, step) {
+            Ok(()) => Ok(self),
+            Err(reason) => {
+                drop(self);
+                Err(reason)
+            }
+        }
+    }
+
+    fn write_end<K: Sink>(&self, alloc: Global, _number: u64, sink: &mut K) -> Result<(), Status> {
+        write_claim(alloc, &self.world, sink)
+    }
+
+    ghost says = { record_says };
 }
 
 /// Makes a step. It adds one event at most to what clients saw.
@@ -213,7 +151,7 @@ fn write_claim<K: Sink>(alloc: Global, world: &World, sink: &mut K) -> Result<()
 }
 
 /// Writes the lines of events.
-fn write_events<K: Sink>(alloc: Global, events: &[Event], sink: &mut K) -> Result<(), Status>
+fn write_events<K: Sink>(alloc: Global, events: &[KeptEvent], sink: &mut K) -> Result<(), Status>
     ensures wrote { K.tells sink.old ≡ true
         → OnOk result (K.held sink.new ≡ K.held sink.old ++ history_lines events.now) }
     ensures front { K.tells sink.old ≡ true
@@ -224,9 +162,10 @@ fn write_events<K: Sink>(alloc: Global, events: &[Event], sink: &mut K) -> Resul
     ensures fault { result ≡ Err Status.WriteFault → Rose (K.faults sink.old) (K.faults sink.new) }
     ensures no_fault { result ≢ Err Status.WriteFault → SameCount (K.faults sink.old) (K.faults sink.new) }
 {
-    for event in events {
-        event_is_in_range(event);
-        write_line(alloc, &EventLine::Event(*event), sink)?;
+    for kept in events {
+        let event = kept.event();
+        event_is_in_range(&event);
+        write_line(alloc, &EventLine::Event(event), sink)?;
     }
     Ok(())
 }
@@ -234,7 +173,7 @@ fn write_events<K: Sink>(alloc: Global, events: &[Event], sink: &mut K) -> Resul
 /// Writes the lines of the requests of an order, each with its answer.
 fn write_order<K: Sink>(
     alloc: Global,
-    order: &[(RequestId, Command, Answer)],
+    order: &[(RequestId, KeptCommand, Answer)],
     sink: &mut K,
 ) -> Result<(), Status>
     ensures wrote { K.tells sink.old ≡ true
@@ -251,7 +190,7 @@ fn write_order<K: Sink>(
         asked_is_in_range(id, command);
         let line = EventLine::Place {
             id: *id,
-            command: *command,
+            command: **command,
         };
         write_line(alloc, &line, sink)?;
     }

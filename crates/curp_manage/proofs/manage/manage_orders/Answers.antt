@@ -3,5 +3,5 @@ use Rattle.curp_play.specs.Status.{ended, is_cut_short}
 use Rattle.curp_manage.proofs.manage.manage_orders.Goals as goal
 
 pub returns-clause-no_read_fault : goal.returns-clause-no_read_fault
-returns-clause-no_read_fault g c = λ other. c.manage-managed.ensures.no_read_fault (λ is.
+returns-clause-no_read_fault g c = λ other. c.run-managed.ensures.no_read_fault (λ is.
     other ((c.close.ensures.stays (ap (λ r. is_cut_short (ended r)) is)).0 ∙ ap ended is))

@@ -3,5 +3,5 @@ use Rattle.curp_play.specs.Status.{ended, is_cut_short}
 use Rattle.curp_play.proofs.history.play_history.Goals as goal
 
 pub returns-clause-no_read_fault : goal.returns-clause-no_read_fault
-returns-clause-no_read_fault g c = λ other. c.play-played.ensures.no_read_fault (λ is.
+returns-clause-no_read_fault g c = λ other. c.run-played.ensures.no_read_fault (λ is.
     other ((c.close.ensures.stays (ap (λ r. is_cut_short (ended r)) is)).0 ∙ ap ended is))

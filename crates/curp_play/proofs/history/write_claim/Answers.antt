@@ -1,4 +1,4 @@
-use Rattle.std.proofs.Common.{◌≡◌, ◌∙◌, ◌++◌, List, OnOk, subst, ap, sym}
+use Rattle.std.proofs.Common.{◌≡◌, ◌∙◌, ◌++◌, List, OnOk, subst, ap}
 use Rattle.curp_base.specs.Words.{Each}
 use Rattle.curp_order.specs.Order.{Asked}
 use Rattle.curp_law_print.specs.EventRanges.{AskedInRange, EventInRange}

@@ -1,4 +1,6 @@
-use Rattle.std.proofs.Common.{rules, ◌≡◌, ◌+◌, ◌++◌, ◌∙◌, drop, subst, refl, sym, ap}
+use Rattle.std.proofs.Common.{rules, ◌≡◌, ◌+◌, ◌++◌, drop, subst}
+use Rattle.curp_io.specs.Streams.{HoldsPart}
+use Rattle.curp_law_print.specs.EventRanges.{AskedInRange}
 use Rattle.curp_play.specs.Play.{asked_of}
 use Rattle.curp_script.specs.EventTexts.{event_line, order_lines}
 use Rattle.curp_script.specs.declared.event.EventLine.TheVariants.{Place}
@@ -18,7 +20,8 @@ returns-in_err-write_line-clause-front g c = λ tells.
     let due : SoFar text old now (event_line (Place x.0 x.1) ++ order_lines (asked_of (drop (k + 1) order))) =
     subst (λ d. SoFar text old now d) (next_place order k x c.loop-id-test.true c.loop-id-item.is) (c.loop-id.invariant.written tells) in
     still_front text old now (g.K.Sink.held c.write_line.new.sink) (event_line (Place x.0 x.1)) (order_lines (asked_of (drop (k + 1) order))) due
-    (c.write_line.ensures.front (c.loop-id.invariant.sink_tells tells))
+    (subst (λ command. HoldsPart now (g.K.Sink.held c.write_line.new.sink) (event_line (Place x.0 command))) c.deref-in-loop-id.ensures
+    (c.write_line.ensures.front (c.loop-id.invariant.sink_tells tells)))
 
 pub loop-id-preserved : goal.loop-id-preserved
 loop-id-preserved g c =
@@ -35,8 +38,10 @@ loop-id-preserved g c =
           let due : SoFar text old now (event_line (Place x.0 x.1) ++ order_lines (asked_of (drop (k + 1) order))) =
           subst (λ d. SoFar text old now d) (next_place order k x c.loop-id-test.true c.loop-id-item.is) (c.loop-id.invariant.written tells) in
           goes_further text old now (g.K.Sink.held c.write_line.new.sink) (event_line (Place x.0 x.1)) (order_lines (asked_of (drop (k + 1) order))) due
-          (c.in_ok-write_line.ensures.wrote (c.loop-id.invariant.sink_tells tells));
-      in_range = next_place_too order k x c.loop-id-test.true c.loop-id-item.is c.loop-id.invariant.in_range c.asked_is_in_range.ensures;
+          (subst (λ command. g.K.Sink.held c.write_line.new.sink ≡ now ++ event_line (Place x.0 command)) c.deref-in-loop-id.ensures
+          (c.in_ok-write_line.ensures.wrote (c.loop-id.invariant.sink_tells tells)));
+      in_range = next_place_too order k x c.loop-id-test.true c.loop-id-item.is c.loop-id.invariant.in_range
+          (subst (λ command. AskedInRange (x.0, command)) c.deref.ensures c.asked_is_in_range.ensures);
     }
 
 pub returns-clause-wrote : goal.returns-clause-wrote

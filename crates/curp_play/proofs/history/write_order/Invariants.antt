@@ -3,7 +3,7 @@ use Rattle.curp_base.specs.Words.{Each}
 use Rattle.curp_io.specs.Streams.{SameCount}
 use Rattle.curp_law_print.specs.EventRanges.{AskedInRange}
 use Rattle.curp_play.specs.Play.{asked_of}
-use Rattle.curp_script.specs.EventTexts.{history_lines, order_lines}
+use Rattle.curp_script.specs.EventTexts.{order_lines}
 use Rattle.curp_play.proofs.SoFar.{SoFar}
 use Rattle.curp_play.proofs.history.write_order.Given as goal
 

@@ -1,16 +1,14 @@
-use Rattle.std.proofs.Common.{◌≡◌, ◌==◌, ◌+◌, ◌<◌, ◌++◌, ◌∷◌, [], false, None, length, if◌then◌else◌, refl, sym, ◌∙◌, ap, subst, arith}
-use Rattle.std.proofs.lemmas.Bool.{ne_eqb}
+use Rattle.std.proofs.Common.{◌≡◌, ◌+◌, ◌<◌, None, length, if◌then◌else◌, refl, sym, ◌∙◌, ap, subst, arith}
 use Rattle.curp_disk.specs.InMemory.{StopParts}
 use Rattle.curp_manage.specs.Kept.{IsManaged}
 use Rattle.curp_manage.specs.Managed.{Managed, input_given, keeps_input}
 use Rattle.curp_manage.specs.declared.outcome.LineOutcome.TheVariants as outcome
-use Rattle.curp_manage.proofs.Given.{done_kept, done_refused, keeps_else, managed_again, managed_kept, no_crash, still_disarmed, stopped_at, stopped_done}
+use Rattle.curp_manage.proofs.Given.{done_kept, done_refused, managed_again, managed_kept, no_crash, still_disarmed, stopped_at, stopped_done}
 use Rattle.curp_manage.proofs.Room.{has_room}
 use Rattle.curp_mlog.specs.Stopping.{kept_inputs}
 use Rattle.curp_mlog.specs.Value.{LoggedParts}
 use Rattle.curp_msg.specs.Limits.{step_limit}
 use Rattle.curp_manage.proofs.managing.Managing.give.Goals as goal
-use Rattle.curp_manage.proofs.managing.Managing.give.Goals.{then-stop-eq4, else-stop-eq4, then-kept, else-kept}
 
 -- ---- the input is kept
 
@@ -28,8 +26,8 @@ invariant_of-managing c =
     (still_disarmed old new n crash i m (λ disarmed. (c.in-Ok.ensures.sound disarmed).1) none)
     (c.in-Ok.ensures.kept m.shape m.inputs refl c.requires.own m.settled)
 
-pub returns-in-Some-clause-done : goal.returns-in-Some-clause-done
-returns-in-Some-clause-done c =
+pub returns-in_ok-behind-in-Ok-clause-done : goal.returns-in_ok-behind-in-Ok-clause-done
+returns-in_ok-behind-in-Ok-clause-done c =
     let m = c.self.invariant in
     let i = c.args.input.now in
     let old = c.self.inside.logged in
@@ -39,10 +37,11 @@ returns-in-Some-clause-done c =
     let none = no_crash old new c.self.inside.decisions crash i m decides.ran in
     let inside = c.self.inside in
     let was : Managed = record { state = old.state; decisions = inside.decisions; next = inside.next; crash = crash } in
-    let counts : c.in-Some.behind ≡ inside.next + length c.new.result = cc (c.in-Some.ensures.1, c.len.ensures, c.new.ensures) in
-    subst (λ (v : Managed). record { now = record { state = new.state; decisions = inside.decisions + 1; next = c.in-Some.behind; crash = crash }; outcome = outcome.Done c.new.result } ≡ input_given v i)
+    let behind = c.in_ok-behind-in-Ok.behind in
+    let counts : behind ≡ inside.next + length c.new.result = cc (c.in_ok-behind-in-Ok.ensures.0, c.new.ensures) in
+    subst (λ (v : Managed). record { now = record { state = new.state; decisions = inside.decisions + 1; next = behind; crash = crash }; outcome = outcome.Done c.new.result } ≡ input_given v i)
     c.self.view_is
-    (done_kept was i new.state c.in-Some.behind c.new.result decides.accepts.accepted none decides.state (c.new.ensures ∙ decides.sent_is) counts)
+    (done_kept was i new.state behind c.new.result decides.accepts.accepted none decides.state (c.new.ensures ∙ decides.sent_is) counts)
 
 -- ---- the order is refused
 
@@ -67,70 +66,54 @@ open_crashed-requires c =
     let i = c.args.input.now in
     let old = c.self.inside.logged in
     let new = c.on.new.self in
-    let stop = c.in-Some-crash.stop in
+    let stop = c.in-Some.stop in
     let failed = (rw c.in-Err-DiskFault.field-0-is at c.in-Err-DiskFault.ensures.err).1 in (
       m.shape,
       kept_inputs m.inputs i stop.call stop.kept,
       c.a_stopped_input_is_kept_or_lost.ensures old.disk new.disk old.state old.gate stop.call m.shape m.inputs i stop.kept
           m.settled failed.accepts.spelled failed.accepts.accepted
-          (stopped_at old new c.self.inside.decisions c.self.inside.crash i m stop c.in-Some-crash.is failed.ran),
+          (stopped_at old new c.self.inside.decisions c.self.inside.crash i m stop c.in-Some.is failed.ran),
     )
 
-pub invariant_of-managing-in-Err-DiskFault : goal.invariant_of-managing-in-Err-DiskFault
-invariant_of-managing-in-Err-DiskFault c =
+pub after_crash-requires-clause-managed : goal.after_crash-requires-clause-managed
+after_crash-requires-clause-managed c =
     let m = c.self.invariant in
     let i = c.args.input.now in
     let old = c.self.inside.logged in
     let new = c.on.new.self in
-    let stop = c.in-Some-crash.stop in
+    let stop = c.in-Some.stop in
     let n = c.self.inside.decisions in
     let logged = c.in_ok-logged-in-Err-DiskFault.logged in
     let failed = (rw c.in-Err-DiskFault.field-0-is at c.in-Err-DiskFault.ensures.err).1 in
     let journal = c.a_stopped_input_is_kept_or_lost.ensures old.disk new.disk old.state old.gate stop.call m.shape m.inputs i stop.kept
     m.settled failed.accepts.spelled failed.accepts.accepted
-    (stopped_at old new n c.self.inside.crash i m stop c.in-Some-crash.is failed.ran) in
+    (stopped_at old new n c.self.inside.crash i m stop c.in-Some.is failed.ran) in
     let again = c.in_ok-logged-in-Err-DiskFault.ensures m.shape (kept_inputs m.inputs i stop.call stop.kept) journal in
-    let keeps : c.if-stop-eq4.kept ≡ keeps_input stop = elim c.if-stop-eq4.branch [
-      | then-stop-eq4 w ↦ rw (w.kept-is, w.if-stop-eq4.true) refl
-      | else-stop-eq4 w ↦
-          let other : (stop.call == 4) ≡ false = ne_eqb stop.call 4 w.if-stop-eq4.false in
-          keeps_else stop c.if-stop-eq4.kept (cc (w.kept-is, other)) other
-    ] in
-    let counted : c.if-kept.managing ≡ (if c.if-stop-eq4.kept then n + 1 else n) = elim c.if-kept.branch [
-      | then-kept w ↦ rw (w.managing-is, w.if-kept.true) refl
-      | else-kept w ↦ rw (w.managing-is, w.if-kept.false) refl
-    ] in
-    subst (λ k. IsManaged logged k None) (sym (rw keeps at counted))
+    subst (λ k. IsManaged logged (if k then n + 1 else n) None) (sym c.keeps_input-kept.ensures)
     (managed_again logged n i m.shape m.inputs (keeps_input stop) m.counted m.small c.requires.small again)
 
-pub returns-after-kept-clause-done : goal.returns-after-kept-clause-done
-returns-after-kept-clause-done c =
+pub returns-in_ok-logged-in-Err-DiskFault-clause-done : goal.returns-in_ok-logged-in-Err-DiskFault-clause-done
+returns-in_ok-logged-in-Err-DiskFault-clause-done c =
     let m = c.self.invariant in
     let i = c.args.input.now in
     let old = c.self.inside.logged in
     let new = c.on.new.self in
-    let stop = c.in-Some-crash.stop in
+    let stop = c.in-Some.stop in
     let inside = c.self.inside in
     let logged = c.in_ok-logged-in-Err-DiskFault.logged in
     let failed = (rw c.in-Err-DiskFault.field-0-is at c.in-Err-DiskFault.ensures.err).1 in
     let journal = c.a_stopped_input_is_kept_or_lost.ensures old.disk new.disk old.state old.gate stop.call m.shape m.inputs i stop.kept
     m.settled failed.accepts.spelled failed.accepts.accepted
-    (stopped_at old new inside.decisions inside.crash i m stop c.in-Some-crash.is failed.ran) in
+    (stopped_at old new inside.decisions inside.crash i m stop c.in-Some.is failed.ran) in
     let again = c.in_ok-logged-in-Err-DiskFault.ensures m.shape (kept_inputs m.inputs i stop.call stop.kept) journal in
-    let keeps : c.if-stop-eq4.kept ≡ keeps_input stop = elim c.if-stop-eq4.branch [
-      | then-stop-eq4 w ↦ rw (w.kept-is, w.if-stop-eq4.true) refl
-      | else-stop-eq4 w ↦
-          let other : (stop.call == 4) ≡ false = ne_eqb stop.call 4 w.if-stop-eq4.false in
-          keeps_else stop c.if-stop-eq4.kept (cc (w.kept-is, other)) other
-    ] in
-    let counted : c.if-kept.managing ≡ (if c.if-stop-eq4.kept then inside.decisions + 1 else inside.decisions) = elim c.if-kept.branch [
-      | then-kept w ↦ rw (w.managing-is, w.if-kept.true) refl
-      | else-kept w ↦ rw (w.managing-is, w.if-kept.false) refl
-    ] in
+    let kept = c.keeps_input-kept.result in
+    let decisions = if kept then inside.decisions + 1 else inside.decisions in
     let was : Managed = record { state = old.state; decisions = inside.decisions; next = inside.next; crash = inside.crash } in
-    subst (λ (v : Managed). record { now = record { state = logged.state; decisions = c.if-kept.managing; next = inside.next; crash = None }; outcome = outcome.Stopped c.if-stop-eq4.kept } ≡ input_given v i)
+    let stopped : record { now = c.after_crash.result.0; outcome = c.after_crash.result.1 } ≡ record { now = record { state = logged.state; decisions = decisions; next = inside.next; crash = None }; outcome = outcome.Stopped kept } =
+    rw (c.after_crash.ensures.managing, c.after_crash.ensures.outcome) refl in
+    subst (λ (v : Managed). record { now = c.after_crash.result.0; outcome = c.after_crash.result.1 } ≡ input_given v i)
     c.self.view_is
-    (stopped_done was i stop m.shape m.inputs logged.state c.if-stop-eq4.kept c.if-kept.managing failed.accepts.accepted c.in-Some-crash.is keeps counted m.settled.state_is again.settled.state_is)
+    (stopped ∙ stopped_done was i stop m.shape m.inputs logged.state kept decisions failed.accepts.accepted c.in-Some.is c.keeps_input-kept.ensures refl m.settled.state_is again.settled.state_is)
 
 -- ---- what can't come
 
