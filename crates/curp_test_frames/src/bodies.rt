@@ -1,10 +1,10 @@
 //! Bodies of messages from client 1 to master 2, each with its frame, written by hand: a word an item.
 
 use crate::build::{
-    ID, OTHER, all_kinds, empty_part, items, no_package, package, part_with_a_gap, request,
+    ID, OTHER, all_kinds, empty_part, items, no_package, package, part_with_a_gap, shared,
 };
 use crate::frames::try_row;
-use curp_base::{Boxed, Items, NoMemory};
+use curp_base::{Boxed, Items, NoMemory, Shared};
 use curp_cmd::{Answer, Command, Key, NodeId, Package, Request, Value};
 use curp_msg::{
     Accepted, Adopted, Append, AppendAnswer, Appended, Ask, Body, Collected, Config, FenceAnswer,
@@ -16,21 +16,19 @@ use std::test::Fail;
 
 // ---- requests
 
-fn ask(alloc: Global, command: Command) -> Result<Boxed<Ask>, NoMemory> {
-    let ask = Ask {
-        request: request(command),
+fn ask(alloc: Global, command: Command) -> Result<Ask, NoMemory> {
+    Ok(Ask {
+        request: shared(alloc, command)?,
         epoch: 5,
         version: 7,
-    };
-    Ok(Boxed::new(alloc, ask)?)
+    })
 }
 
 fn record(alloc: Global, command: Command) -> Result<Body, NoMemory> {
-    let record = Record {
-        request: request(command),
+    Ok(Body::Record(Record {
+        request: shared(alloc, command)?,
         epoch: 5,
-    };
-    Ok(Body::Record(Boxed::new(alloc, record)?))
+    }))
 }
 
 /// What a client asks.
@@ -472,14 +470,15 @@ fn fences(rt: HostRuntime) -> Result<(), Fail> {
 // ---- witnesses
 
 /// Two requests, the later one first.
-fn two_requests(alloc: Global) -> Result<Items<Request>, Fail> {
+fn two_requests(alloc: Global) -> Result<Items<Shared<Request>>, Fail> {
     let get = Command::Get(Key::new(b"a")?);
     let other = Request {
         id: OTHER,
         first: 1,
         command: get,
     };
-    Ok(items(alloc, &[other, request(get)])?)
+    let both = [Shared::of(alloc, &other)?, shared(alloc, get)?];
+    Ok(Items::new(Vec::from_array(alloc, both)?))
 }
 
 fn gc(alloc: Global) -> Result<Body, Fail> {

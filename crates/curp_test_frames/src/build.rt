@@ -1,7 +1,9 @@
 //! What the tables build alike.
 ghost use Rattle.std.specs.Prelude.{◌≤◌};
 
-use curp_base::{AscendingKeys, AscendingPairs, Items, NoMemory, keys_ascend, pairs_ascend};
+use curp_base::{
+    AscendingKeys, AscendingPairs, Items, NoMemory, Shared, keys_ascend, pairs_ascend,
+};
 use curp_cmd::{
     Answer, Command, Entry, Key, NodeId, Package, Request, RequestId, TablePart, Value,
 };
@@ -33,6 +35,10 @@ pub(crate) fn request(command: Command) -> Request {
         first: 2,
         command,
     }
+}
+
+pub(crate) fn shared(alloc: Global, command: Command) -> Result<Shared<Request>, NoMemory> {
+    Shared::of(alloc, &request(command))
 }
 
 /// A put of "1" under "a".
@@ -99,11 +105,17 @@ pub(crate) fn no_package(alloc: Global) -> Result<Package, Fail> {
     })
 }
 
-fn op() -> Result<Entry, Fail> {
+/// The operation of that request.
+pub(crate) fn op_of(alloc: Global, request: &Request, acknowledge: u32) -> Result<Entry, NoMemory> {
     Ok(Entry::Op {
-        request: request(put()?),
-        acknowledge: 1,
+        request: Shared::of(alloc, request)?,
+        acknowledge,
     })
+}
+
+fn op(alloc: Global) -> Result<Entry, Fail> {
+    let (a, one) = (Key::new(b"a")?, Value::new(b"1")?);
+    Ok(op_of(alloc, &request(Command::Put(a, one)), 1)?)
 }
 
 fn take(alloc: Global) -> Result<Entry, Fail> {
@@ -123,7 +135,7 @@ fn give(alloc: Global) -> Result<Entry, Fail> {
 /// Entries of all four kinds.
 pub(crate) fn all_kinds(alloc: Global) -> Result<Vec<Entry>, Fail> {
     let mut entries = Vec::new(alloc);
-    entries.push(op()?)?;
+    entries.push(op(alloc)?)?;
     entries.push(take(alloc)?)?;
     entries.push(give(alloc)?)?;
     entries.push(Entry::Expire { client: 7 })?;

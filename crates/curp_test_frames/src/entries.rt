@@ -2,12 +2,13 @@
 ghost use Rattle.std.specs.Prelude.{IsTrue};
 ghost use Rattle.curp_items.specs.Spelling.{HasSpelling};
 
-use crate::build::{all_kinds, largest, request};
+use crate::build::{all_kinds, largest, op_of, request};
 use crate::hex::{Spelled, bytes_of, spelling_of};
 use curp_cmd::{Entry, Request, Value};
 use curp_items::{EntryError, pack_entry, read_entry, read_request};
 use curp_same::Same;
 use std::alloc::Global;
+use std::process::Abort;
 use std::test::Fail;
 
 // The entries of `all_kinds`, written by hand.
@@ -62,7 +63,7 @@ fn is_read(alloc: Global, entry: &Entry, bytes: &[u8]) -> Result<bool, Fail> {
 
 fn request_of(entry: &Entry) -> Option<Request> {
     match entry {
-        Entry::Op { request, .. } => Some(*request),
+        Entry::Op { request, .. } => Some(**request),
         _ => None,
     }
 }
@@ -237,11 +238,14 @@ fn ten_thousand_entries_are_read_back(rt: HostRuntime) -> Result<(), Fail> {
 
 #[test]
 fn the_largest_operation(rt: HostRuntime) -> Result<(), Fail> {
-    let alloc = rt.alloc();
-    let entry = Entry::Op {
-        request: request(largest(Value::new(&[255; 128])?)?),
-        acknowledge: u32::MAX,
-    };
+    match largest(Value::new(&[255; 128])?) {
+        Ok(multi) => is_whole(&rt, rt.alloc(), &request(multi)),
+        Err(fail) => Err(fail),
+    }
+}
+
+fn is_whole(rt: &impl Abort, alloc: Global, largest: &Request) -> Result<(), Fail> {
+    let entry = op_of(alloc, largest, u32::MAX)?;
     let mut bytes = Vec::new(alloc);
     pack(&entry, &mut bytes)?;
     assert_eq!(rt; bytes.len(), 1 + 12 + 2 + 4 * 162 + 4);

@@ -1,7 +1,7 @@
 //! The largest frames of light messages, with memory for them.
 
-use crate::build::{ascending, largest, message, put, request};
-use curp_base::{AscendingPairs, Boxed, Items, NoMemory};
+use crate::build::{ascending, largest, message, put, request, shared};
+use curp_base::{AscendingPairs, Boxed, Items, NoMemory, Shared};
 use curp_cmd::{Entry, Key, Package, Request, RequestId, TablePart, Value};
 use curp_msg::{Append, Body, Message, Parcel};
 use curp_same::Same;
@@ -35,10 +35,10 @@ fn is_heavy(message: Message) -> bool {
 
 /// Requests of four pairs with that value.
 fn frozen(alloc: Global, value: Value, count: usize) -> Result<Message, Fail> {
-    let each = request(largest(value)?);
+    let each = shared(alloc, largest(value)?)?;
     let mut requests = Vec::with_capacity(alloc, count)?;
     for _ in 0..count {
-        requests.push(each)?;
+        requests.push(each.share()?)?;
     }
     Ok(message(Body::FrozenAnswer {
         requests: Items::new(requests),
@@ -102,7 +102,7 @@ fn append_of(alloc: Global, client: u32) -> Result<Message, Fail> {
         ..request(put()?)
     };
     let entry = Entry::Op {
-        request,
+        request: Shared::of(alloc, &request)?,
         acknowledge: 1,
     };
     Ok(message(Body::Append(Append {

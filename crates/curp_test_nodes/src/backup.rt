@@ -80,7 +80,7 @@ fn answers_each_call(rt: HostRuntime) {
     }
     assert_eq!(rt; backup.epoch(), Some(1));
     assert_eq!(rt; backup.fence_epoch(), 3);
-    let kept = clients_of(&rt, alloc, backup.log());
+    let kept = clients_of(&rt, alloc, &must(&rt, backup.log()));
     assert_eq!(rt; kept.as_slice(), [7, 8, 9, 10, 11].as_slice());
     drop(backup);
 }

@@ -1,8 +1,11 @@
 //! What the tests of several files build alike. A test ends where something isn't built.
 ghost use Rattle.std.specs.Prelude.{◌≡◌, Ok};
+ghost use Rattle.curp_cmd.specs.declared.entry.Entry.TheVariants.{Op};
 
-use curp_base::{Boxed, Items};
-use curp_cmd::{Answer, Command, Entry, Key, NodeId, Request, RequestId, Value};
+use curp_base::{AscendingKeys, AscendingPairs, Boxed, Items, Shared, keys_ascend, pairs_ascend};
+use curp_cmd::{
+    Answer, Command, Entry, Key, NodeId, Package, Request, RequestId, TablePart, Value,
+};
 use curp_log::Log;
 use curp_master::Master;
 use curp_msg::{
@@ -59,15 +62,65 @@ pub(crate) fn request(client: u32, seq: u32, command: Command) -> Request {
     }
 }
 
-pub(crate) fn op(request: Request, acknowledge: u32) -> Entry {
+pub(crate) fn shared(rt: &impl Abort, alloc: Global, request: &Request) -> Shared<Request>
+    ensures { result ≡ request.now }
+{
+    must(rt, Shared::of(alloc, request))
+}
+
+// The requests, which others may hold too.
+pub(crate) fn all_shared(
+    rt: &impl Abort,
+    alloc: Global,
+    requests: &[Request],
+) -> Vec<Shared<Request>> {
+    let mut list = Vec::new(alloc);
+    for request in requests {
+        must(rt, list.push(shared(rt, alloc, request)));
+    }
+    list
+}
+
+pub(crate) fn op(rt: &impl Abort, alloc: Global, request: &Request, acknowledge: u32) -> Entry
+    ensures { result ≡ Op request.now acknowledge }
+{
     Entry::Op {
-        request,
+        request: shared(rt, alloc, request),
         acknowledge,
     }
 }
 
 pub(crate) fn items<T: Copy>(rt: &impl Abort, alloc: Global, items: &[T]) -> Items<T> {
     Items::new(must(rt, Vec::from_slice(alloc, items)))
+}
+
+fn table_part(rt: &impl Abort, alloc: Global) -> TablePart {
+    let ids = [(1, 9), (2, 3), (2, 4)].map(|(client, seq)| id(client, seq));
+    let records = must(rt, Vec::from_array(alloc, ids.map(|id| (id, Answer::Done))));
+    let firsts = must(rt, Vec::from_array(alloc, [(1, 9), (2, 3)]));
+    let gone = must(rt, Vec::from_array(alloc, [4]));
+    assert!(rt; pairs_ascend(&records) && pairs_ascend(&firsts) && keys_ascend(&gone));
+    TablePart {
+        records: AscendingPairs::new(records),
+        firsts: AscendingPairs::new(firsts),
+        gone: AscendingKeys::new(gone),
+    }
+}
+
+// Two pairs, three records, two firsts and an expired client.
+pub(crate) fn package(rt: &impl Abort, alloc: Global) -> Package {
+    let one = value(rt, b"1");
+    let pairs = must(
+        rt,
+        Vec::from_array(alloc, [(key(rt, b"a"), one), (key(rt, b"b"), one)]),
+    );
+    assert!(rt; pairs_ascend(&pairs));
+    Package {
+        lo: 0,
+        hi: 99,
+        pairs: AscendingPairs::new(pairs),
+        table: table_part(rt, alloc),
+    }
 }
 
 // ---- What messages carry
@@ -79,9 +132,9 @@ pub(crate) fn boxed<T: Drop>(rt: &impl Abort, alloc: Global, value: T) -> Boxed<
     }
 }
 
-pub(crate) fn ask(request: Request) -> Ask {
+pub(crate) fn ask(rt: &impl Abort, alloc: Global, request: &Request) -> Ask {
     Ask {
-        request,
+        request: shared(rt, alloc, request),
         epoch: 1,
         version: 1,
     }

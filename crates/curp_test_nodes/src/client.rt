@@ -93,7 +93,7 @@ fn did_by(done: &Done) -> Did {
 fn asked_by(sync: &Message) -> Did {
     match &sync.body {
         Body::Sync(ask) if sync.to.kind == NodeKind::Master => {
-            let request = &ask.get().request;
+            let request = &ask.request;
             Did::Asks(request.id.seq, request.first)
         }
         _ => Did::Another,
@@ -103,7 +103,7 @@ fn asked_by(sync: &Message) -> Did {
 fn sent_by(update: &Message, one: &Message, two: &Message) -> Did {
     match (&update.body, &one.body, &two.body) {
         (Body::Update(ask), Body::Record(_), Body::Record(_)) if one.to != two.to => {
-            let request = &ask.get().request;
+            let request = &ask.request;
             Did::Sends(request.id.seq, request.first)
         }
         _ => Did::Another,

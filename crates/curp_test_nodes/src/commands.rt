@@ -1,10 +1,9 @@
 //! Commands, the store that does them, and what a log has in one place.
 
-use crate::build::{id, key, must, value};
-use curp_base::{AscendingKeys, AscendingPairs, keys_ascend, pairs_ascend};
+use crate::build::{key, must, package, value};
+use curp_base::{keys_ascend, pairs_ascend};
 use curp_cmd::{
-    Answer, Command, Entry, Key, KeyError, Package, Store, TablePart, Value, ValueError,
-    bytes_hash, room,
+    Answer, Command, Entry, Key, KeyError, Store, TablePart, Value, ValueError, bytes_hash, room,
 };
 use std::alloc::Global;
 use std::process::Abort;
@@ -69,34 +68,6 @@ fn takes_keys_and_values_up_to_their_sizes(rt: HostRuntime) {
     assert!(rt; Key::new(&[7; 33]) == Err(KeyError::TooLong));
     assert!(rt; Value::new(&[7; 128]).is_ok());
     assert!(rt; Value::new(&[7; 129]) == Err(ValueError::TooLong));
-}
-
-fn table_part(rt: &impl Abort, alloc: Global) -> TablePart {
-    let ids = [(1, 9), (2, 3), (2, 4)].map(|(client, seq)| id(client, seq));
-    let records = must(rt, Vec::from_array(alloc, ids.map(|id| (id, Answer::Done))));
-    let firsts = must(rt, Vec::from_array(alloc, [(1, 9), (2, 3)]));
-    let gone = must(rt, Vec::from_array(alloc, [4]));
-    assert!(rt; pairs_ascend(&records) && pairs_ascend(&firsts) && keys_ascend(&gone));
-    TablePart {
-        records: AscendingPairs::new(records),
-        firsts: AscendingPairs::new(firsts),
-        gone: AscendingKeys::new(gone),
-    }
-}
-
-fn package(rt: &impl Abort, alloc: Global) -> Package {
-    let one = value(rt, b"1");
-    let pairs = must(
-        rt,
-        Vec::from_array(alloc, [(key(rt, b"a"), one), (key(rt, b"b"), one)]),
-    );
-    assert!(rt; pairs_ascend(&pairs));
-    Package {
-        lo: 0,
-        hi: 99,
-        pairs: AscendingPairs::new(pairs),
-        table: table_part(rt, alloc),
-    }
 }
 
 #[test]

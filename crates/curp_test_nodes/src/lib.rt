@@ -12,6 +12,8 @@ mod client;
 #[cfg(test)]
 mod commands;
 #[cfg(test)]
+mod kept;
+#[cfg(test)]
 mod logs;
 #[cfg(test)]
 mod manager;
@@ -25,6 +27,10 @@ mod messages;
 mod nodes;
 #[cfg(test)]
 mod orders;
+#[cfg(test)]
+mod packed;
+#[cfg(test)]
+mod packed_logs;
 #[cfg(test)]
 mod queue;
 #[cfg(test)]

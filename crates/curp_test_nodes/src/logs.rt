@@ -15,11 +15,14 @@ fn begin(rt: &impl Abort, alloc: Global, hi: u64) -> Log {
     must(rt, Log::begin(alloc, 0, hi))
 }
 
-fn push_op(rt: &impl Abort, log: &mut Log, request: &Request, acknowledge: u32) -> u64 {
-    let entry = Entry::Op {
-        request: *request,
-        acknowledge,
-    };
+fn push_op(
+    rt: &impl Abort,
+    alloc: Global,
+    log: &mut Log,
+    request: &Request,
+    acknowledge: u32,
+) -> u64 {
+    let entry = op(rt, alloc, request, acknowledge);
     must(rt, log.reserve(room(&entry)));
     assert!(rt; log.check(&request.id) == Check::New && log.owns(&request.command));
     log.push(entry)
@@ -65,22 +68,23 @@ fn push_expire(rt: &impl Abort, log: &mut Log, client: u32) {
 
 fn try_op(
     rt: &impl Abort,
+    alloc: Global,
     log: &mut Log,
     (client, seq): (u32, u32),
     (acknowledge, index): (u32, u64),
     command: Command,
 ) {
     let request = request(client, seq, command);
-    assert_eq!(rt; push_op(rt, log, &request, acknowledge), index);
+    assert_eq!(rt; push_op(rt, alloc, log, &request, acknowledge), index);
 }
 
 // Three Ops, of which the second lets go of the answer to the first.
 fn three_ops(rt: &impl Abort, alloc: Global) -> Log {
     let a = key(rt, b"a");
     let mut log = begin(rt, alloc, u64::MAX);
-    try_op(rt, &mut log, (1, 1), (0, 0), put(rt, b"a", b"1"));
-    try_op(rt, &mut log, (1, 2), (2, 1), Command::Delete(a));
-    try_op(rt, &mut log, (2, 1), (0, 2), Command::Incr(a));
+    try_op(rt, alloc, &mut log, (1, 1), (0, 0), put(rt, b"a", b"1"));
+    try_op(rt, alloc, &mut log, (1, 2), (2, 1), Command::Delete(a));
+    try_op(rt, alloc, &mut log, (2, 1), (0, 2), Command::Incr(a));
     log
 }
 
@@ -144,15 +148,14 @@ fn copies_what_stands_from_there_on(rt: HostRuntime) {
         assert_eq!(rt; suffix_len(&rt, &log, start), count);
     }
     assert_eq!(rt; log.len(), 3);
-    assert_eq!(rt; log.entries().len(), 3);
     drop(log);
 }
 
 // Puts "a" and "b".
 fn two_ops(rt: &impl Abort, alloc: Global) -> Log {
     let mut log = begin(rt, alloc, u64::MAX);
-    push_op(rt, &mut log, &request(1, 1, put(rt, b"a", b"1")), 0);
-    push_op(rt, &mut log, &request(1, 2, put(rt, b"b", b"2")), 0);
+    push_op(rt, alloc, &mut log, &request(1, 1, put(rt, b"a", b"1")), 0);
+    push_op(rt, alloc, &mut log, &request(1, 2, put(rt, b"b", b"2")), 0);
     log
 }
 
@@ -254,10 +257,11 @@ fn try_is_log(rt: &impl Abort, alloc: Global, hi: u64, entries: &[Entry], is: bo
 #[test]
 fn a_package_is_what_the_range_has(rt: HostRuntime) {
     let master = a_taken(&rt, rt.alloc());
-    let entries = master.log().entries();
-    try_is_log(&rt, rt.alloc(), u64::MAX, entries, true);
-    try_is_log(&rt, rt.alloc(), u64::MAX, past(entries, 1), false);
-    try_is_log(&rt, rt.alloc(), A - 1, past(entries, 2), false);
+    let entries = must(&rt, master.log().suffix(0));
+    try_is_log(&rt, rt.alloc(), u64::MAX, &entries, true);
+    try_is_log(&rt, rt.alloc(), u64::MAX, past(&entries, 1), false);
+    try_is_log(&rt, rt.alloc(), A - 1, past(&entries, 2), false);
+    drop(entries);
     drop(master);
 }
 
@@ -267,7 +271,7 @@ fn thirty_thousand(rt: &impl Abort, alloc: Global) -> Master {
     for seq in 1..=29_998u32 {
         let key = (u64::from(seq) << 32).to_be_bytes();
         let request = request(1 + seq / 5_000, seq, put(rt, &key, &[7; 128]));
-        push_op(rt, &mut log, &request, 0);
+        push_op(rt, alloc, &mut log, &request, 0);
     }
     let mut master = after_take(rt, alloc, log, 1, (0, u64::MAX));
     order(rt, &mut master, Body::ExpireClient { client: 3 });
@@ -297,7 +301,9 @@ fn holds_thirty_thousand_entries(rt: HostRuntime) {
     assert_eq!(rt; suffix_len(&rt, log, 0), 30_000);
     assert_eq!(rt; taken_sizes(log), Some((29_998, 29_998)));
     assert!(rt; log.check(&id(6, 29_998)) == known(Answer::Done, 29_997));
-    try_is_log(&rt, rt.alloc(), u64::MAX, log.entries(), true);
+    let entries = must(&rt, log.suffix(0));
+    try_is_log(&rt, rt.alloc(), u64::MAX, &entries, true);
+    drop(entries);
     let other = given_last(&rt, rt.alloc(), log);
     assert!(rt; other.check(&id(6, 29_998)) == known(Answer::Done, 0));
     let whole = pack(&rt, &other, 0, u64::MAX);
@@ -312,8 +318,8 @@ fn has_gets(rt: &impl Abort, alloc: Global, (lo, hi): (u64, u64), seqs: [u32; 2]
     let [first, second] = seqs;
     let a = key(rt, b"a");
     let entries = [
-        op(request(1, first, Command::Get(a)), 0),
-        op(request(1, second, Command::Get(a)), 0),
+        op(rt, alloc, &request(1, first, Command::Get(a)), 0),
+        op(rt, alloc, &request(1, second, Command::Get(a)), 0),
     ];
     must(rt, is_log(alloc, lo, hi, &entries))
 }

@@ -1,7 +1,7 @@
 //! The marks of updates and reads: which an adoption keeps, and in which order they are shown.
 
-use crate::build::{id, key, must, request};
-use curp_cmd::{Answer, Command, NodeId, NodeKind, Request, RequestId};
+use crate::build::{all_shared, id, key, must, request};
+use curp_cmd::{Answer, Command, KeptCommand, NodeId, NodeKind, Request, RequestId, Standby};
 use curp_line::{Line, Tenure};
 use curp_msg::{Capture, Completed};
 use std::alloc::Global;
@@ -26,8 +26,12 @@ fn update(rt: &impl Abort) -> Command {
     Command::Incr(key(rt, b"k"))
 }
 
-fn read(rt: &impl Abort) -> Command {
-    Command::Get(key(rt, b"k"))
+fn kept_update(rt: &impl Abort, alloc: Global) -> KeptCommand {
+    must(rt, KeptCommand::new(alloc, &update(rt)))
+}
+
+fn read(rt: &impl Abort, alloc: Global) -> KeptCommand {
+    must(rt, KeptCommand::new(alloc, &Command::Get(key(rt, b"k"))))
 }
 
 // The master's time over the first partition, of that epoch.
@@ -39,20 +43,27 @@ fn of_first(master: NodeId, epoch: u32) -> Tenure {
     }
 }
 
-fn executed(rt: &impl Abort, line: &mut Line, part: u32, index: u64, id: RequestId) {
+fn executed(rt: &impl Abort, alloc: Global, line: &mut Line, part: u32, index: u64, id: RequestId) {
     must(rt, line.reserve(1));
     let tenure = Tenure {
         master: FIRST,
         part,
         epoch: 1,
     };
-    line.executed(tenure, index, id, update(rt));
+    line.executed(tenure, index, id, kept_update(rt, alloc));
 }
 
 // The read at that capture, where the log had that length.
-fn looked(rt: &impl Abort, line: &mut Line, capture: u64, length: u64, id: RequestId) {
+fn looked(
+    rt: &impl Abort,
+    alloc: Global,
+    line: &mut Line,
+    capture: u64,
+    length: u64,
+    id: RequestId,
+) {
     must(rt, line.reserve(1));
-    line.looked(of_first(FIRST, 1), capture, length, id, read(rt));
+    line.looked(of_first(FIRST, 1), capture, length, id, read(rt, alloc));
 }
 
 fn updated(line: &mut Line, id: RequestId) {
@@ -80,6 +91,23 @@ fn replayed(rt: &impl Abort, id: RequestId) -> Request {
     request(id.client, id.seq, update(rt))
 }
 
+// The log that is recovered up to the cut is adopted, and these are replayed.
+fn adopt(
+    rt: &impl Abort,
+    alloc: Global,
+    line: &mut Line,
+    (tenure, cut): (Tenure, u64),
+    requests: &[Request],
+) {
+    let replayed = all_shared(rt, alloc, requests);
+    let count = replayed.len() as u64;
+    assert!(rt; cut <= 1_000_000);
+    let mut standby = Standby::new(alloc);
+    must(rt, standby.reserve(count));
+    must(rt, line.reserve(1 + count));
+    line.adopted(&mut standby, tenure, cut, &replayed);
+}
+
 fn ids(rt: &impl Abort, alloc: Global, line: &Line) -> Vec<RequestId> {
     let mut ids = Vec::new(alloc);
     for (id, _) in must(rt, line.order()) {
@@ -90,12 +118,12 @@ fn ids(rt: &impl Abort, alloc: Global, line: &Line) -> Vec<RequestId> {
 
 fn marked(rt: &impl Abort, alloc: Global) -> Line {
     let mut line = Line::new(alloc);
-    executed(rt, &mut line, 1, 0, id(1, 1));
-    executed(rt, &mut line, 1, 1, id(2, 1));
-    looked(rt, &mut line, 1, 2, id(3, 1));
-    executed(rt, &mut line, 1, 2, id(1, 2));
-    executed(rt, &mut line, 1, 3, id(2, 2));
-    looked(rt, &mut line, 2, 3, id(3, 2));
+    executed(rt, alloc, &mut line, 1, 0, id(1, 1));
+    executed(rt, alloc, &mut line, 1, 1, id(2, 1));
+    looked(rt, alloc, &mut line, 1, 2, id(3, 1));
+    executed(rt, alloc, &mut line, 1, 2, id(1, 2));
+    executed(rt, alloc, &mut line, 1, 3, id(2, 2));
+    looked(rt, alloc, &mut line, 2, 3, id(3, 2));
     line
 }
 
@@ -106,7 +134,7 @@ fn an_adoption_keeps_what_completed_or_was_recovered(rt: HostRuntime) {
     updated(&mut line, id(1, 2));
     must(&rt, line.reserve(3));
     let both = [replayed(&rt, id(2, 2)), replayed(&rt, id(1, 2))];
-    line.adopted(of_first(SECOND, 2), 2, &both);
+    adopt(&rt, rt.alloc(), &mut line, (of_first(SECOND, 2), 2), &both);
     let order = [id(1, 1), id(2, 1), id(1, 2), id(2, 2)];
     assert!(rt; ids(&rt, rt.alloc(), &line).as_slice() == order.as_slice());
     read_by(&mut line, id(3, 2), 2);
@@ -116,19 +144,34 @@ fn an_adoption_keeps_what_completed_or_was_recovered(rt: HostRuntime) {
 }
 
 // The master adopts the partition in that epoch, and replays one update.
-fn adopted(rt: &impl Abort, line: &mut Line, master: NodeId, epoch: u32, id: RequestId) {
+fn adopted(
+    rt: &impl Abort,
+    alloc: Global,
+    line: &mut Line,
+    master: NodeId,
+    epoch: u32,
+    id: RequestId,
+) {
     must(rt, line.reserve(2));
-    line.adopted(
-        of_first(master, epoch),
-        u64::from(epoch),
+    let tenure = of_first(master, epoch);
+    adopt(
+        rt,
+        alloc,
+        line,
+        (tenure, u64::from(epoch)),
         &[replayed(rt, id)],
     );
 }
 
 // The master answers a read at once, by which it completes.
-fn read_at_once(rt: &impl Abort, line: &mut Line, by: Capture, id: RequestId) {
+fn read_at_once(rt: &impl Abort, alloc: Global, line: &mut Line, by: Capture, id: RequestId) {
     must(rt, line.reserve(1));
-    line.quick(of_first(by.master, by.epoch), by.number, id, read(rt));
+    line.quick(
+        of_first(by.master, by.epoch),
+        by.number,
+        id,
+        read(rt, alloc),
+    );
     line.completed(&Completed {
         id,
         answer: Answer::Found(None),
@@ -141,10 +184,10 @@ fn read_at_once(rt: &impl Abort, line: &mut Line, by: Capture, id: RequestId) {
 #[test]
 fn a_read_at_once_comes_before_the_adoption_behind_its_master(rt: HostRuntime) {
     let mut line = Line::new(rt.alloc());
-    executed(&rt, &mut line, 1, 0, id(1, 1));
-    adopted(&rt, &mut line, SECOND, 2, id(2, 1));
-    executed(&rt, &mut line, 2, 0, id(1, 2));
-    adopted(&rt, &mut line, THIRD, 3, id(2, 2));
+    executed(&rt, rt.alloc(), &mut line, 1, 0, id(1, 1));
+    adopted(&rt, rt.alloc(), &mut line, SECOND, 2, id(2, 1));
+    executed(&rt, rt.alloc(), &mut line, 2, 0, id(1, 2));
+    adopted(&rt, rt.alloc(), &mut line, THIRD, 3, id(2, 2));
     let reads = [
         (FIRST, 1, 1, id(3, 1)),
         (SECOND, 2, 1, id(3, 2)),
@@ -157,7 +200,7 @@ fn a_read_at_once_comes_before_the_adoption_behind_its_master(rt: HostRuntime) {
             epoch,
             number,
         };
-        read_at_once(&rt, &mut line, by, id);
+        read_at_once(&rt, rt.alloc(), &mut line, by, id);
     }
     let order = [
         id(1, 1),
@@ -180,7 +223,7 @@ fn nth(n: u32) -> RequestId {
 fn thirty_thousand(rt: &impl Abort, alloc: Global) -> Line {
     let mut line = Line::new(alloc);
     for n in 0..30_000_u32 {
-        executed(rt, &mut line, n % 2, u64::from(n / 2), nth(n));
+        executed(rt, alloc, &mut line, n % 2, u64::from(n / 2), nth(n));
     }
     for n in 0..7_500_u32 {
         updated(&mut line, nth(4 * n));
@@ -205,7 +248,7 @@ fn holds_thirty_thousand_marks(rt: HostRuntime) {
             part: 0,
             epoch: 2 + n,
         };
-        line.adopted(tenure, cut, &both);
+        adopt(&rt, rt.alloc(), &mut line, (tenure, cut), &both);
     }
     assert_eq!(rt; must(&rt, line.order()).len(), 23_064);
     assert!(rt; line.reserve(u64::MAX).is_err());

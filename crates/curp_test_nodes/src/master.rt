@@ -1,6 +1,6 @@
 //! A master: what it answers to clients, and what it says to its backups and witnesses.
 
-use crate::build::{adopted, ask, boxed, items, key, message, must, put, request, serving, stored};
+use crate::build::{adopted, ask, items, key, message, must, put, request, serving, stored};
 use curp_cmd::{Answer, Command, NodeId};
 use curp_log::Log;
 use curp_master::Master;
@@ -261,38 +261,40 @@ fn comes_from(rt: &impl Abort, alloc: Global, comes: Comes) -> (NodeId, Body) {
 
 fn asked(rt: &impl Abort, alloc: Global, comes: Comes) -> Body {
     match comes {
-        Comes::Acknowledging(client, seq) => update(rt, alloc, acknowledging(rt, client, seq)),
-        Comes::Late(client, epoch, version) => update(rt, alloc, late(rt, client, epoch, version)),
-        Comes::Sync(client, seq) => Body::Sync(boxed(rt, alloc, put_ask(rt, client, seq))),
-        Comes::Read(client, seq) => Body::Read(boxed(rt, alloc, read(rt, client, seq))),
-        Comes::Update(client, seq) => update(rt, alloc, put_ask(rt, client, seq)),
+        Comes::Acknowledging(client, seq) => Body::Update(acknowledging(rt, alloc, client, seq)),
+        Comes::Late(client, epoch, version) => Body::Update(late(
+            rt, alloc, client, epoch, version,
+        )),
+        Comes::Sync(client, seq) => Body::Sync(put_ask(rt, alloc, client, seq)),
+        Comes::Read(client, seq) => Body::Read(read(rt, alloc, client, seq)),
+        Comes::Update(client, seq) => Body::Update(put_ask(rt, alloc, client, seq)),
         _ => Body::Fetch,
     }
 }
 
-fn update(rt: &impl Abort, alloc: Global, ask: Ask) -> Body {
-    Body::Update(boxed(rt, alloc, ask))
+fn put_ask(rt: &impl Abort, alloc: Global, client: u32, seq: u32) -> Ask {
+    ask(rt, alloc, &request(client, seq, put(rt, b"a", b"1")))
 }
 
-fn put_ask(rt: &impl Abort, client: u32, seq: u32) -> Ask {
-    ask(request(client, seq, put(rt, b"a", b"1")))
+fn acknowledging(rt: &impl Abort, alloc: Global, client: u32, seq: u32) -> Ask {
+    let mut request = request(client, seq, put(rt, b"a", b"1"));
+    request.first = seq;
+    ask(rt, alloc, &request)
 }
 
-fn acknowledging(rt: &impl Abort, client: u32, seq: u32) -> Ask {
-    let mut ask = put_ask(rt, client, seq);
-    ask.request.first = seq;
-    ask
-}
-
-fn late(rt: &impl Abort, client: u32, epoch: u32, version: u32) -> Ask {
-    let mut ask = put_ask(rt, client, 1);
+fn late(rt: &impl Abort, alloc: Global, client: u32, epoch: u32, version: u32) -> Ask {
+    let mut ask = put_ask(rt, alloc, client, 1);
     ask.epoch = epoch;
     ask.version = version;
     ask
 }
 
-fn read(rt: &impl Abort, client: u32, seq: u32) -> Ask {
-    ask(request(client, seq, Command::Get(key(rt, b"a"))))
+fn read(rt: &impl Abort, alloc: Global, client: u32, seq: u32) -> Ask {
+    ask(
+        rt,
+        alloc,
+        &request(client, seq, Command::Get(key(rt, b"a"))),
+    )
 }
 
 fn ordered(rt: &impl Abort, alloc: Global, comes: Comes) -> Body {

@@ -1,7 +1,9 @@
 //! Messages are copied whole and weigh what they carry, and any node takes inputs.
 
 use crate::asker::{Asker, give, give_all, order};
-use crate::build::{ask, boxed, id, items, key, message, multi, must, op, value};
+use crate::build::{
+    all_shared, ask, boxed, id, items, key, message, multi, must, op, shared, value,
+};
 use curp_base::{AscendingKeys, AscendingPairs, Boxed, Items, keys_ascend, pairs_ascend};
 use curp_cmd::{Answer, Entry, Key, NodeId, Package, Request, TablePart};
 use curp_msg::{
@@ -124,7 +126,7 @@ fn parcel(rt: &impl Abort, alloc: Global) -> Boxed<Parcel> {
 
 fn entries(rt: &impl Abort, alloc: Global) -> Items<Entry> {
     let mut entries = Vec::new(alloc);
-    must(rt, entries.push(op(request(rt), 1)));
+    must(rt, entries.push(op(rt, alloc, &request(rt), 1)));
     let package = package(rt, alloc);
     must(
         rt,
@@ -138,7 +140,7 @@ fn entries(rt: &impl Abort, alloc: Global) -> Items<Entry> {
 }
 
 fn update(rt: &impl Abort, alloc: Global, request: &Request) -> Body {
-    Body::Update(boxed(rt, alloc, ask(*request)))
+    Body::Update(ask(rt, alloc, request))
 }
 
 fn append(entries: Items<Entry>) -> Body {
@@ -167,13 +169,13 @@ fn gc(rt: &impl Abort, alloc: Global) -> Body {
 fn collected(rt: &impl Abort, alloc: Global) -> Body {
     Body::Collected(Collected {
         epoch: 1,
-        answer: GcAnswer::Suspects(items(rt, alloc, &[request(rt)])),
+        answer: GcAnswer::Suspects(Items::new(all_shared(rt, alloc, &[request(rt)]))),
     })
 }
 
 fn frozen_answer(rt: &impl Abort, alloc: Global) -> Body {
     Body::FrozenAnswer {
-        requests: items(rt, alloc, &[request(rt), request(rt)]),
+        requests: Items::new(all_shared(rt, alloc, &[request(rt), request(rt)])),
     }
 }
 
@@ -240,7 +242,7 @@ fn longest_key(rt: &impl Abort, byte: u8) -> Key {
 fn largest_frozen(rt: &impl Abort, alloc: Global, request: &Request) -> Body {
     let mut requests = Vec::new(alloc);
     for _ in 0..1024 * 16 {
-        must(rt, requests.push(*request));
+        must(rt, requests.push(shared(rt, alloc, request)));
     }
     Body::FrozenAnswer {
         requests: Items::new(requests),
@@ -251,7 +253,7 @@ fn largest_frozen(rt: &impl Abort, alloc: Global, request: &Request) -> Body {
 fn largest_append(rt: &impl Abort, alloc: Global, request: &Request) -> Body {
     let mut log = Vec::new(alloc);
     for acknowledge in 1..=1000 {
-        must(rt, log.push(op(*request, acknowledge)));
+        must(rt, log.push(op(rt, alloc, request, acknowledge)));
     }
     append(Items::new(log))
 }

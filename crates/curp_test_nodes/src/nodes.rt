@@ -1,8 +1,8 @@
 //! The nodes, each behind the trait of all nodes: what they say, do and refuse as orders and messages come.
 
 use crate::build::{
-    adopted, ask, boxed, config, id, items, log_of, message, must, part, put, reply, request,
-    stored,
+    adopted, all_shared, ask, boxed, config, id, items, log_of, message, must, part, put, reply,
+    request, shared, stored,
 };
 use curp_base::Items;
 use curp_cmd::{Command, Entry, NodeId, Request, RequestId};
@@ -273,9 +273,12 @@ fn comes_from(rt: &impl Abort, alloc: Global, comes: Comes) -> (NodeId, Body) {
 fn asked(rt: &impl Abort, alloc: Global, comes: Comes, client: u32) -> Body {
     let request = request_of(rt, client);
     match comes {
-        Comes::Update(_) => Body::Update(boxed(rt, alloc, ask(request))),
-        Comes::Sync(_) => Body::Sync(boxed(rt, alloc, ask(request))),
-        _ => Body::Record(boxed(rt, alloc, Record { request, epoch: 1 })),
+        Comes::Update(_) => Body::Update(ask(rt, alloc, &request)),
+        Comes::Sync(_) => Body::Sync(ask(rt, alloc, &request)),
+        _ => Body::Record(Record {
+            request: shared(rt, alloc, &request),
+            epoch: 1,
+        }),
     }
 }
 
@@ -313,7 +316,7 @@ fn by_witness(rt: &impl Abort, alloc: Global, comes: Comes) -> Body {
             reason: Reason::Conflict { held: id(1, 1) },
         }),
         Comes::Held(client) => Body::FrozenAnswer {
-            requests: items(rt, alloc, &[request_of(rt, client)]),
+            requests: Items::new(all_shared(rt, alloc, &[request_of(rt, client)])),
         },
         _ => Body::Fetch,
     }
@@ -376,9 +379,9 @@ fn said_by(rt: &impl Abort, alloc: Global, done: &Done) -> Vec<Said> {
 
 fn said_in(body: &Body) -> Said {
     match body {
-        Body::Update(ask) => Said::Update(ask.get().request.id.client),
-        Body::Sync(ask) => Said::Sync(ask.get().request.id.client),
-        Body::Record(record) => Said::Record(record.get().request.id.client),
+        Body::Update(ask) => Said::Update(ask.request.id.client),
+        Body::Sync(ask) => Said::Sync(ask.request.id.client),
+        Body::Record(record) => Said::Record(record.request.id.client),
         Body::Fetch => Said::Fetch,
         Body::Reply(reply) => Said::Reply(reply.get().id.client, reply.get().synced),
         Body::Refuse(refuse) => refused(refuse),

@@ -1,7 +1,7 @@
 //! The order in which commands are done, and what clients saw of it.
 
 use crate::build::{id, key, multi, must, value};
-use curp_cmd::{Answer, Command, RequestId};
+use curp_cmd::{Answer, Command, KeptCommand, RequestId};
 use curp_order::{Event, History, run_order};
 use std::process::Abort;
 
@@ -10,7 +10,8 @@ fn records_what_clients_saw(rt: HostRuntime) {
     let (id, a) = (id(1, 1), key(&rt, b"a"));
     let mut history = History::new(rt.alloc());
     must(&rt, history.reserve(2));
-    history.record(Some((id, Command::Get(a))), Some((id, Answer::Found(None))));
+    let get = must(&rt, KeptCommand::new(rt.alloc(), &Command::Get(a)));
+    history.record(Some((id, get)), Some((id, Answer::Found(None))));
     let events = [
         Event::Invoke {
             id,
@@ -21,7 +22,9 @@ fn records_what_clients_saw(rt: HostRuntime) {
             answer: Answer::Found(None),
         },
     ];
-    assert!(rt; history.events() == events.as_slice());
+    for (kept, event) in history.events().iter().zip(events) {
+        assert!(rt; kept.event() == event);
+    }
     must(&rt, history.reserve(100_000));
     history.record(None, None);
     assert_eq!(rt; history.events().len(), 2);

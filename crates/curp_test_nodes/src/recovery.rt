@@ -1,7 +1,7 @@
 //! A recovery: what a fresh master asks, hears and says until its log is stored.
 
-use crate::build::{adopted, items, log_of, message, must, op, put, request, stored};
-use curp_base::Items;
+use crate::build::{adopted, items, log_of, message, must, op, put, request, shared, stored};
+use curp_base::{Items, Shared};
 use curp_cmd::{Entry, NodeId, Request};
 use curp_log::Log;
 use curp_msg::{Body, Local, Message, Recover};
@@ -147,7 +147,7 @@ fn replayed(rt: &impl Abort, alloc: Global) -> Log {
 // The numbers of the puts that acknowledge nothing.
 fn numbers(rt: &impl Abort, alloc: Global, log: &Log) -> Vec<u32> {
     let mut numbers = Vec::new(alloc);
-    for entry in log.entries() {
+    for entry in &must(rt, log.suffix(0)) {
         if let Entry::Op {
             request,
             acknowledge: 0,
@@ -183,7 +183,7 @@ fn after_puts(rt: &impl Abort, alloc: Global, count: u32) -> Vec<Said> {
 fn many_puts(rt: &impl Abort, alloc: Global, count: u32) -> Vec<Entry> {
     let mut entries = Vec::new(alloc);
     for seq in 1..=count {
-        must(rt, entries.push(op(put_of(rt, seq), 0)));
+        must(rt, entries.push(op(rt, alloc, &put_of(rt, seq), 0)));
     }
     entries
 }
@@ -258,15 +258,15 @@ fn told(message: &Message) -> Said {
 fn puts(rt: &impl Abort, alloc: Global, seqs: &[u32]) -> Vec<Entry> {
     let mut entries = Vec::new(alloc);
     for seq in seqs {
-        must(rt, entries.push(op(put_of(rt, *seq), 0)));
+        must(rt, entries.push(op(rt, alloc, &put_of(rt, *seq), 0)));
     }
     entries
 }
 
-fn requests(rt: &impl Abort, alloc: Global, seqs: &[u32]) -> Vec<Request> {
+fn requests(rt: &impl Abort, alloc: Global, seqs: &[u32]) -> Vec<Shared<Request>> {
     let mut requests = Vec::new(alloc);
     for seq in seqs {
-        must(rt, requests.push(put_of(rt, *seq)));
+        must(rt, requests.push(shared(rt, alloc, &put_of(rt, *seq))));
     }
     requests
 }

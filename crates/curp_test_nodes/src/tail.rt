@@ -16,8 +16,8 @@ fn put_both(rt: &impl Abort, first: &[u8], second: &[u8]) -> Command {
     multi(rt, &[(key(rt, first), one), (key(rt, second), one)])
 }
 
-fn entry_of(command: Command) -> Entry {
-    op(request(1, 1, command), 1)
+fn entry_of(rt: &impl Abort, alloc: Global, command: Command) -> Entry {
+    op(rt, alloc, &request(1, 1, command), 1)
 }
 
 fn take(alloc: Global) -> Entry {
@@ -36,8 +36,8 @@ fn take(alloc: Global) -> Entry {
 // Entries at 10 to 13.
 fn four_entries(rt: &impl Abort, alloc: Global) -> Tail {
     let entries = [
-        entry_of(increment(rt)),
-        entry_of(put_both(rt, b"b", b"c")),
+        entry_of(rt, alloc, increment(rt)),
+        entry_of(rt, alloc, put_both(rt, b"b", b"c")),
         take(alloc),
         Entry::Expire { client: 1 },
     ];
@@ -73,7 +73,7 @@ fn try_dirty(rt: &impl Abort, tail: &Tail, dirty: [bool; 7]) {
 fn increments(rt: &impl Abort, alloc: Global) -> Vec<Entry> {
     let mut entries = Vec::new(alloc);
     for _ in 0..1000 {
-        must(rt, entries.push(entry_of(increment(rt))));
+        must(rt, entries.push(entry_of(rt, alloc, increment(rt))));
     }
     entries
 }

@@ -1,8 +1,8 @@
 ghost use Rattle.std.specs.Prelude.{◌≡◌, ◌≤◌};
 
-use curp_base::{AscendingPairs, Boxed, Items, NoMemory, pairs_ascend};
+use curp_base::{AscendingPairs, Boxed, Items, NoMemory, Shared, pairs_ascend};
 use curp_cmd::{
-    Answer, Command, Entry, Key, NodeId, Package, Request, RequestId, TablePart, Value,
+    Answer, Command, Entry, KeptCommand, Key, NodeId, Package, Request, RequestId, TablePart, Value,
 };
 use curp_msg::{
     Accepted, Adopted, Append, AppendAnswer, Appended, Ask, Body, Collected, Completed, Config,
@@ -19,8 +19,13 @@ const ID: RequestId = RequestId { client: 1, seq: 2 };
 
 const OTHER: RequestId = RequestId { client: 3, seq: 14 };
 
-fn request(id: RequestId, first: u32, command: Command) -> Request {
-    Request { id, first, command }
+fn request(
+    alloc: Global,
+    id: RequestId,
+    first: u32,
+    command: Command,
+) -> Result<Shared<Request>, NoMemory> {
+    Shared::of(alloc, &Request { id, first, command })
 }
 
 fn items<T: Copy>(alloc: Global, list: &[T]) -> Result<Items<T>, NoMemory> {
@@ -58,21 +63,19 @@ fn says(alloc: Global, body: Body, words: &str) -> Result<bool, NoMemory> {
     Ok(text.as_slice() == lines.as_bytes())
 }
 
-fn ask(alloc: Global, command: Command) -> Result<Boxed<Ask>, NoMemory> {
-    let ask = Ask {
-        request: request(ID, 2, command),
+fn ask(alloc: Global, command: Command) -> Result<Ask, NoMemory> {
+    Ok(Ask {
+        request: request(alloc, ID, 2, command)?,
         epoch: 5,
         version: 7,
-    };
-    Ok(Boxed::new(alloc, ask)?)
+    })
 }
 
-fn record(alloc: Global, command: Command) -> Result<Boxed<Record>, NoMemory> {
-    let record = Record {
-        request: request(ID, 2, command),
+fn record(alloc: Global, command: Command) -> Result<Record, NoMemory> {
+    Ok(Record {
+        request: request(alloc, ID, 2, command)?,
         epoch: 5,
-    };
-    Ok(Boxed::new(alloc, record)?)
+    })
 }
 
 fn reply(alloc: Global, synced: bool) -> Result<Boxed<Reply>, NoMemory> {
@@ -191,7 +194,7 @@ fn shows_why_a_record_is_rejected(rt: HostRuntime) -> Result<(), Fail> {
     Ok(())
 }
 
-fn append(alloc: Global, request: Request) -> Result<Body, NoMemory> {
+fn append(alloc: Global, request: Shared<Request>) -> Result<Body, NoMemory> {
     let op = Entry::Op {
         request,
         acknowledge: 1,
@@ -219,7 +222,7 @@ fn fence_answer(answer: FenceReply) -> Body {
 
 #[test]
 fn shows_appends(rt: HostRuntime) -> Result<(), Fail> {
-    let incr = request(ID, 2, Command::Incr(Key::new(b"a")?));
+    let incr = request(rt.alloc(), ID, 2, Command::Incr(Key::new(b"a")?))?;
     assert!(rt; says(rt.alloc(), append(rt.alloc(), incr)?, "append e5 b6 n2 r7")?);
     for (answer, words) in [
         (AppendAnswer::Stored { length: 8 }, "stored e5 l8 r7"),
@@ -252,9 +255,10 @@ fn collected(answer: GcAnswer) -> Body {
 }
 
 /// Two requests, the later one first.
-fn two_requests(alloc: Global) -> Result<Items<Request>, Fail> {
+fn two_requests(alloc: Global) -> Result<Items<Shared<Request>>, Fail> {
     let get = Command::Get(Key::new(b"a")?);
-    Ok(items(alloc, &[request(OTHER, 1, get), request(ID, 2, get)])?)
+    let (later, earlier) = (request(alloc, OTHER, 1, get)?, request(alloc, ID, 2, get)?);
+    Ok(Items::new(Vec::from_array(alloc, [later, earlier])?))
 }
 
 #[test]
@@ -275,7 +279,7 @@ fn shows_what_a_witness_says(rt: HostRuntime) -> Result<(), Fail> {
     assert!(rt; says(alloc, probed(false), "not-live 1.2 e5")?);
     let suspects = collected(GcAnswer::Suspects(two_requests(alloc)?));
     assert!(rt; says(alloc, suspects, "suspects e5 3.14 1.2")?);
-    let no_suspects = collected(GcAnswer::Suspects(items(alloc, &[])?));
+    let no_suspects = collected(GcAnswer::Suspects(Items::new(Vec::new(alloc))));
     assert!(rt; says(alloc, no_suspects, "suspects e5")?);
     let stranger = collected(GcAnswer::Stranger { epoch: Some(6) });
     assert!(rt; says(alloc, stranger, "stranger e6")?);
@@ -487,8 +491,9 @@ fn shows_the_largest_steps(rt: HostRuntime) -> Result<(), Fail> {
     };
     let put = Command::Put(Key::new(&[255; 32])?, Value::new(&[255; 128])?);
     let mut requests = Vec::with_capacity(rt.alloc(), 1024 * 16)?;
+    let each = request(rt.alloc(), id, 1, put)?;
     for _ in 0..1024 * 16 {
-        requests.push(request(id, 1, put))?;
+        requests.push(each.share()?)?;
     }
     let requests = Items::new(requests);
     let update = Body::Update(ask(rt.alloc(), put)?);
@@ -519,7 +524,8 @@ fn orders(
     answer: &Answer,
     words: &str,
 ) -> Result<bool, NoMemory> {
-    let order = [(ID, *command, *answer), (OTHER, *command, *answer)];
+    let kept = KeptCommand::new(alloc, command)?;
+    let order = [(ID, kept.share(alloc)?, *answer), (OTHER, kept, *answer)];
     let text = order_text(alloc, &order)?;
     let expected = format!(in alloc; "order 2\n1.2 {words}\n3.14 {words}\n")?;
     Ok(text.as_slice() == expected.as_bytes())

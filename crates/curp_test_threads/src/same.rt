@@ -1,4 +1,4 @@
-use curp_base::{AscendingPairs, Items, NoMemory, pairs_ascend};
+use curp_base::{AscendingPairs, Items, NoMemory, Shared, pairs_ascend};
 use curp_cmd::{Command, Entry, Key, NodeId, Package, Request, RequestId, TablePart, Value};
 use curp_msg::{Append, Body, Message};
 use curp_same::Same;
@@ -13,14 +13,14 @@ fn pair(alloc: Global, value: Value) -> Result<AscendingPairs<Key, Value>, Fail>
     Ok(AscendingPairs::new(pairs))
 }
 
-fn put(value: Value) -> Result<Entry, Fail> {
+fn put(alloc: Global, value: Value) -> Result<Entry, Fail> {
     let request = Request {
         id: RequestId { client: 1, seq: 1 },
         first: 1,
         command: Command::Put(Key::new(b"a")?, value),
     };
     Ok(Entry::Op {
-        request,
+        request: Shared::of(alloc, &request)?,
         acknowledge: 1,
     })
 }
@@ -42,7 +42,7 @@ fn take(alloc: Global, value: Value) -> Result<Entry, Fail> {
 // A master sends a backup an update, and a range with one pair.
 fn append(alloc: Global, put_in: Value, taken: Value) -> Result<Message, Fail> {
     let mut entries = Vec::new(alloc);
-    entries.push(put(put_in)?)?;
+    entries.push(put(alloc, put_in)?)?;
     entries.push(take(alloc, taken)?)?;
     Ok(Message {
         from: NodeId::master(1),
