@@ -22,6 +22,9 @@ TOP = Path(__file__).resolve().parent.parent
 PAGE = TOP / "docs" / "PERFORMANCE.md"
 PICTURES = TOP / "docs" / "pictures"
 COLOURS = ["#1a5fb4", "#b03030", "#2e7d32", "#8e44ad", "#c77700"]
+# Measured before logs were packed and commands kept once, by steps and by updates in the log: seconds, and MB.
+BEFORE = {1000: (0.01, 16), 5000: (0.02, 16), 20000: (0.09, 52), 50000: (0.24, 149), 100000: (0.45, 304), 200000: (0.76, 644)}
+RECOVERED_BEFORE = {1000: (0.001, 16), 4000: (0.015, 55), 16000: (0.080, 216), 36000: (0.115, 481)}
 
 
 # ---- running the program
@@ -250,13 +253,16 @@ def plan_part(curp):
     copies = by_plan(curp, "f", [1, 2, 3, 4, 5], 20000)
     head = ["messages", "seconds", "memory"]
     show = lambda rows: [(value, messages, f"{took:.2f}", size(memory)) for value, messages, took, memory in rows]
+    beside = [(*row, f"{BEFORE[row[0]][0]:.2f}", f"{BEFORE[row[0]][1]} MB") for row in show(steps)]
+    before = lambda which: ("before", [(count, told[which]) for count, told in BEFORE.items()])
     return [
         "## Playing a made script",
         "Scripts of `curp make` with its own numbers but for the one that a table names; `curp play` reads each and "
-        "writes its text.",
-        table(["`--steps`", *head], show(steps)),
-        plot("steps", "Time of a made script", "steps", "seconds", [("play", [(row[0], row[2]) for row in steps])]),
-        plot("memory", "Memory of a made script", "steps", "MB", [("play", [(row[0], row[3] / 1e6) for row in steps])]),
+        "writes its text. Before: in November 2026, when each log, message, mark and event had commands of its own and no "
+        "log was packed, on another day of such a machine.",
+        table(["`--steps`", *head, "seconds before", "memory before"], beside),
+        plot("steps", "Time of a made script", "steps", "seconds", [("play", [(row[0], row[2]) for row in steps]), before(0)]),
+        plot("memory", "Memory of a made script", "steps", "MB", [("play", [(row[0], row[3] / 1e6) for row in steps]), before(1)]),
         "With 20,000 steps, by partitions and by backups:",
         table(["`--parts`", *head], show(parts)),
         table(["`--f`", *head], show(copies)),
@@ -265,13 +271,19 @@ def plan_part(curp):
 
 def recovery_part(curp):
     rows = [recovery(curp, updates) for updates in (1000, 4000, 16000, 36000)]
-    told = [(n, f"{before:.2f}", f"{took:.3f}", size(memory)) for n, before, took, memory in rows]
+    told = [
+        (n, f"{before:.2f}", f"{took:.3f}", size(memory), f"{RECOVERED_BEFORE[n][0]:.3f}", f"{RECOVERED_BEFORE[n][1]} MB")
+        for n, before, took, memory in rows
+    ]
     return [
         "## A recovery",
         "One client that isn't fast puts so many keys, each on the backup before the next; then the master is recovered. "
         "The time of the recovery is that of its 11 steps alone. It grows with the log, which the backup sends whole and "
         "the fresh backup gets whole.",
-        table(["updates in the log", "seconds before it", "seconds of the recovery", "memory"], told),
+        table(
+            ["updates in the log", "seconds ahead of it", "seconds of the recovery", "memory", "of the recovery before", "memory before"],
+            told,
+        ),
     ]
 
 
