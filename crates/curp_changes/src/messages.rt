@@ -6,7 +6,7 @@ ghost use Rattle.curp_model.specs.Manager as model;
 
 use crate::migration::Migration;
 use crate::work::Replacement;
-use curp_base::{Boxed, NoMemory, TryCopy};
+use curp_base::{Boxed, NoMemory, Shared, TryCopy};
 use curp_cmd::{Keeper, NodeId, Package};
 use curp_msg::{Adopted, Body, Message, Parcel, PartConfig, Prepare, Recover, Start, TakeOut};
 use std::alloc::Global;
@@ -137,13 +137,13 @@ pub fn give_message(
     alloc: Global,
     target: &PartConfig,
     migration: u32,
-    carried: &Package,
+    carried: &Shared<Package>,
 ) -> Result<Message, NoMemory>
     ensures { IfOk result (λ message. message ≡ model.give_message target.now migration carried.now) }
 {
     let parcel = Parcel {
         migration,
-        package: carried.copy(alloc)?,
+        package: carried.share()?,
     };
     Ok(says(target.master, Body::GiveIn(Boxed::new(alloc, parcel)?)))
 }

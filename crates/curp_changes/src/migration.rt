@@ -1,6 +1,7 @@
 // A migration in work.
 ghost use Rattle.std.specs.Prelude.{◌≡◌, ◌≤◌};
 
+use curp_base::Shared;
 use curp_cmd::Package;
 use std::marker::Model;
 
@@ -13,7 +14,7 @@ pub struct Migration {
     pub source: u32,
     pub target: u32,
     // What was taken, once it is there.
-    pub moved: Option<Package>,
+    pub moved: Option<Shared<Package>>,
     pub ghost ordered: { lo ≤ hi },
 }
 
@@ -33,7 +34,7 @@ impl Model for Migration {
 
 impl Migration {
     /// The package was taken.
-    pub fn take(&mut self, carried: Package)
+    pub fn take(&mut self, carried: Shared<Package>)
         ensures { self.new ≡ record self.old { moved = Some carried } }
     {
         self.moved = Some(carried);

@@ -16,12 +16,12 @@ pub enum Entry {
     /// A range leaves with a migration: its keys go, and the package has what there was.
     Take {
         migration: u32,
-        package: Package,
+        package: Shared<Package>,
     },
     /// A range comes with a migration: what the package has is added.
     Give {
         migration: u32,
-        package: Package,
+        package: Shared<Package>,
     },
     /// A client is gone, and what is kept for it goes with it.
     Expire {
@@ -43,11 +43,11 @@ impl Entry {
             }),
             Entry::Take { migration, package } => Ok(Entry::Take {
                 migration: *migration,
-                package: package.copy(alloc)?,
+                package: package.share()?,
             }),
             Entry::Give { migration, package } => Ok(Entry::Give {
                 migration: *migration,
-                package: package.copy(alloc)?,
+                package: package.share()?,
             }),
             Entry::Expire { client } => Ok(Entry::Expire { client: *client }),
         }

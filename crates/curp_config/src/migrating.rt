@@ -105,7 +105,7 @@ impl Manager {
         };
         let message = give_message(self.alloc, target, migration.number, &parcel.package)?;
         let messages = one(self.alloc, message)?;
-        let package = parcel.package.copy(self.alloc)?;
+        let package = parcel.package.share()?;
         if let Some(migration) = &mut self.moving {
             migration.take(package);
         }

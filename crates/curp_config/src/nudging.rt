@@ -7,7 +7,7 @@ ghost use Rattle.curp_msg.specs.declared.machine.Local.TheVariants as local;
 ghost use Rattle.curp_msg.specs.Moved.{Moves};
 
 use crate::Manager;
-use curp_base::NoMemory;
+use curp_base::{NoMemory, Shared};
 use curp_changes::messages::{
     adopted_message, give_message, recover_messages, replace_messages, start_on, take_message,
 };
@@ -77,7 +77,11 @@ impl Manager {
         Ok(messages)
     }
 
-    fn give_again(&self, migration: &Migration, carried: &Package) -> Result<Vec<Message>, NoMemory>
+    fn give_again(
+        &self,
+        migration: &Migration,
+        carried: &Shared<Package>,
+    ) -> Result<Vec<Message>, NoMemory>
         ensures { IfOk result
             (λ messages. messages.items ≡ model.nudge_give self.now migration.now (Some carried.now)) }
     {

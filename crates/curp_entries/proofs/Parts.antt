@@ -5,7 +5,7 @@ use Rattle.std.proofs.Math.Seq.{take-add}
 use Rattle.std.proofs.lemmas.Bool.{cases_lt}
 use Rattle.curp_base.proofs.Lists.{take_one}
 use Rattle.curp_base.specs.Words.{At}
-use Rattle.std.proofs.lemmas.List.{length-drop, take-append-drop, take_all}
+use Rattle.std.proofs.lemmas.List.{append-nil, length-drop, take-append-drop, take_all}
 
 pub take_two : {A : Type 0} (n : ℕ) (xs ys : List A) → take n (xs ++ ys) ≡ take n xs ++ take (n - length xs) ys
 take_two zero [] ys = refl
@@ -101,3 +101,12 @@ pub past_end : {A : Type 0} (start n : ℕ) (xs : List A) → length xs ≤ star
 past_end start n xs past =
     let gone = drop_of_length-le xs past in
     sym (take_all n [] (omega arith)) ∙ sym (ap (take n) gone)
+
+-- as far as the end of a first part
+pub between_front : {A : Type 0} (start end : ℕ) (xs ys : List A) → take (min end (length xs) - start) (drop start (xs ++ ys)) ≡ take (end - start) (drop start xs)
+between_front start end xs ys =
+    let last = min end (length xs) in
+    let none : (last - length xs) - (start - length xs) ≡ 0 = omega arith in
+    let rest : take ((last - length xs) - (start - length xs)) (drop (start - length xs) ys) ≡ [] = rw none refl in
+    between_two start last xs ys ∙ ap (λ (l : List _). take (last - start) (drop start xs) ++ l) rest ∙ append-nil (take (last - start) (drop start xs))
+    ∙ as_far start end (last - start) xs refl

@@ -1,5 +1,5 @@
 -- A list of entries in memory.
-use Rattle.std.specs.Prelude.{ℕ, List}
+use Rattle.std.specs.Prelude.{◌≡◌, ℕ, ◌<◌, ◌^◌, List, ◌++◌, length}
 use Rattle.curp_cmd.specs.declared.entry.Entry.{Entry}
 
 -- the entries, how many of the oldest are packed, and for how many more there is room
@@ -7,3 +7,13 @@ pub record EntryList : Type 0 where
   pub entries : List Entry
   pub packed : ℕ
   pub spare : ℕ
+
+-- these are the last of those
+pub record AreLast (last entries : List Entry) : Type 0 where
+  pub others : List Entry
+  pub behind : entries ≡ others ++ last
+
+-- packed entries, the last of which are there as they are too, and those behind them, are no more than memory holds
+pub record AreHeld (packed recent tail : List Entry) : Type 0 where
+  pub few : length (packed ++ tail) < 2 ^ 63
+  pub last : AreLast recent packed

@@ -5,7 +5,7 @@ ghost use Rattle.curp_entries.specs.Requests.{request_at};
 ghost use Rattle.curp_items.specs.Spelling.{request_of};
 
 use crate::front::Front;
-use crate::runs::{leave, push_runs};
+use crate::runs::{last_run, leave, push_runs};
 use curp_base::{NoMemory, copies_of, past};
 use curp_cmd::{Entry, Request};
 use std::alloc::{AllocError, Global};
@@ -17,12 +17,14 @@ use std::marker::Model;
 pub struct PackedEntries {
     alloc: Global,
     front: Front,
+    // The last of those that are packed as they were before, so that copies of them share what they share.
+    recent: Vec<Entry>,
     tail: Vec<Entry>,
 }
 
 impl Model for PackedEntries {
-    ghost use Rattle.std.specs.Prelude.{◌-◌, ◌<◌, ◌^◌, ◌++◌, length, min, vec_capacity, vec_len};
-    ghost use Rattle.curp_entries.specs.EntryList.{EntryList};
+    ghost use Rattle.std.specs.Prelude.{◌-◌, ◌^◌, ◌++◌, length, min, vec_capacity, vec_len};
+    ghost use Rattle.curp_entries.specs.EntryList.{AreHeld, EntryList};
 
     ghost Value = { EntryList };
 
@@ -32,7 +34,7 @@ impl Model for PackedEntries {
       spare = min (vec_capacity e.tail - vec_len e.tail) (2 ^ 63 - 1 - length (e.front ++ e.tail.items));
     } };
 
-    ghost invariant = { λ e. length (e.front ++ e.tail.items) < 2 ^ 63 };
+    ghost invariant = { λ e. AreHeld e.front e.recent.items e.tail.items };
 }
 
 impl PackedEntries {
@@ -43,6 +45,7 @@ impl PackedEntries {
         PackedEntries {
             alloc,
             front: Front::new(alloc),
+            recent: Vec::new(alloc),
             tail: Vec::new(alloc),
         }
     }
@@ -66,7 +69,10 @@ impl PackedEntries {
         ensures kept { self.old.spare ≤ self.new.spare }
     {
         let (count, packed) = push_runs(&mut self.front, &self.tail);
-        leave(&mut self.tail, count);
+        if count > 0 {
+            self.recent = last_run(self.alloc, &self.tail[..count]);
+            leave(&mut self.tail, count);
+        }
         packed
     }
 
@@ -151,13 +157,14 @@ impl PackedEntries {
         ensures { IfOk result (λ entries. entries.items ≡ take (end - start) (drop start self.now.entries)) }
     {
         let packed = self.front.len();
-        let mut entries = self.front.between(start, end)?;
-        let newest = part(
-            &self.tail,
-            start.saturating_sub(packed),
-            end.saturating_sub(packed),
-        );
-        let mut copies = copies_of(self.alloc, newest)?;
+        let first = packed - self.recent.len() as u64;
+        let recent = part(&self.recent, first, start, end);
+        let tail = part(&self.tail, packed, start, end);
+        let spare = recent.len().saturating_add(tail.len());
+        let mut entries = self.front.between(start, end.min(first), spare)?;
+        let mut copies = copies_of(self.alloc, recent)?;
+        entries.append(&mut copies)?;
+        let mut copies = copies_of(self.alloc, tail)?;
         entries.append(&mut copies)?;
         Ok(entries)
     }
@@ -174,12 +181,12 @@ impl PackedEntries {
     }
 }
 
-/// The entries from an index on, as far as another.
-fn part(entries: &[Entry], start: u64, end: u64) -> &[Entry]
-    ensures { result.now ≡ take (end - start) (drop start entries.now) }
+/// The entries from an index on, as far as another, of which the first has that index.
+fn part(entries: &[Entry], first: u64, start: u64, end: u64) -> &[Entry]
+    ensures { result.now ≡ take ((end - first) - (start - first)) (drop (start - first) entries.now) }
 {
-    let rest = past(entries, start);
-    let count = end.saturating_sub(start).min(rest.len() as u64);
+    let rest = past(entries, start.saturating_sub(first));
+    let count = end.saturating_sub(start.max(first)).min(rest.len() as u64);
     &rest[..count as usize]
 }
 

@@ -96,15 +96,18 @@ impl Front {
         }
     }
 
-    /// Copies of the entries from an index on, as far as another.
-    pub(crate) fn between(&self, start: u64, end: u64) -> Result<Vec<Entry>, NoMemory>
+    /// Copies of the entries from an index on, as far as another, with room for so many more behind them.
+    pub(crate) fn between(&self, start: u64, end: u64, spare: usize) -> Result<Vec<Entry>, NoMemory>
         ensures { IfOk result (λ entries. entries.items ≡ take (end - start) (drop start self.now)) }
     {
-        let mut entries = Vec::new(self.alloc);
+        let count = end.min(self.len()).saturating_sub(start);
+        let mut entries = Vec::with_capacity(self.alloc, spare.saturating_add(count as usize))?;
+        if end <= start {
+            return Ok(entries);
+        }
         let Some(mut rest) = self.from(start) else {
             return Ok(entries);
         };
-        let count = end.min(self.len()).saturating_sub(start);
         for _ in 0..count {
             let (entry, length) = next_entry(self.alloc, rest)?;
             entries.push(entry)?;

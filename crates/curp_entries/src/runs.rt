@@ -3,12 +3,14 @@ ghost use Rattle.std.specs.Prelude.{◌≡◌, ◌↔◌, ◌≤◌, ◌++◌, I
 ghost use Rattle.curp_base.specs.Words.{Each};
 ghost use Rattle.curp_cmd.specs.declared.entry.Entry.{Entry};
 ghost use Rattle.curp_items.specs.Spelling.{HasSpelling};
+ghost use Rattle.curp_entries.specs.EntryList.{AreLast};
 ghost use Rattle.curp_entries.specs.Packed.{IsShortTail, run};
 
 use crate::front::{Front, RUN};
 use crate::spelled::has_spelling;
-use curp_base::{NoMemory, past};
+use curp_base::{NoMemory, copies_of, past};
 use curp_cmd::Entry;
+use std::alloc::Global;
 
 /// Packs the oldest entries of a tail, a run after the other, as long as the tail that is left isn't short, and tells how many
 /// were packed, also where memory was wanting.
@@ -52,6 +54,17 @@ fn are_spelled(entries: &[Entry]) -> bool
     ensures { IsTrue result ↔ Each HasSpelling entries.now }
 {
     entries.iter().all(has_spelling)
+}
+
+/// Copies of the last run of entries, or of none where memory is wanting.
+pub(crate) fn last_run(alloc: Global, entries: &[Entry]) -> Vec<Entry>
+    ensures { AreLast result.items entries.now }
+{
+    let others = entries.len().saturating_sub(RUN);
+    match copies_of(alloc, past(entries, others as u64)) {
+        Ok(last) => last,
+        Err(_) => Vec::new(alloc),
+    }
 }
 
 /// The tail without its oldest entries, so many of them.

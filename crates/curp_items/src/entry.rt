@@ -1,12 +1,13 @@
 ghost use Rattle.std.specs.Prelude.{◌≡◌, OnOk};
 ghost use Rattle.curp_items.specs.Calls.{ReadsIfMemory, Skips, WritesItem};
+ghost use Rattle.curp_items.specs.Format.{optional};
 ghost use Rattle.curp_items.specs.Items as format;
 ghost use Rattle.curp_items.specs.Spelling.{HasSpelling};
 
 use crate::package::{read_package, skip_package, write_package};
 use crate::{Fault, Item, ReadError, Reader, Writer};
 use curp_base::{NoMemory, Shared};
-use curp_cmd::{Entry, Request};
+use curp_cmd::{Entry, Pairs, Request, RequestId};
 use std::alloc::Global;
 
 /// Writes an entry's spelling.
@@ -55,11 +56,11 @@ pub fn read_entry_at(alloc: Global, reader: &mut Reader) -> Result<Entry, ReadEr
         }),
         2 => Ok(Entry::Take {
             migration: Item::read(reader)?,
-            package: read_package(alloc, reader)?,
+            package: Shared::new(alloc, read_package(alloc, reader)?)?,
         }),
         3 => Ok(Entry::Give {
             migration: Item::read(reader)?,
-            package: read_package(alloc, reader)?,
+            package: Shared::new(alloc, read_package(alloc, reader)?)?,
         }),
         4 => Ok(Entry::Expire {
             client: Item::read(reader)?,
@@ -75,12 +76,80 @@ pub(crate) fn skip_entry(reader: &mut Reader) -> Result<(), Fault>
 {
     let place = reader.place();
     match reader.byte()? {
-        1 => skip::<(Request, u32)>(reader),
+        1 => {
+            skip_request(reader)?;
+            skip::<u32>(reader)
+        }
         2 | 3 => {
             skip::<u32>(reader)?;
             skip_package(reader)
         }
         4 => skip::<u32>(reader),
+        _ => Err(Fault { place }),
+    }
+}
+
+/// Reads past a request. It copies nothing but the pairs of a multi-put.
+#[tactic(auto, unfolding(crate::specs::Items::request))]
+fn skip_request(reader: &mut Reader) -> Result<(), Fault>
+    ensures { Skips result reader.new (format.request.read reader.old) }
+{
+    skip::<RequestId>(reader)?;
+    skip::<u32>(reader)?;
+    skip_command(reader)
+}
+
+#[tactic(auto, unfolding(crate::specs::Items::command))]
+fn skip_command(reader: &mut Reader) -> Result<(), Fault>
+    ensures { Skips result reader.new (format.command.read reader.old) }
+{
+    let place = reader.place();
+    match reader.byte()? {
+        1 | 3 | 4 => skip_key(reader),
+        2 | 5 => {
+            skip_key(reader)?;
+            skip_value(reader)
+        }
+        6 => {
+            skip_key(reader)?;
+            skip_expected(reader)?;
+            skip_value(reader)
+        }
+        7 => skip::<Pairs>(reader),
+        _ => Err(Fault { place }),
+    }
+}
+
+#[tactic(auto, unfolding(crate::specs::Items::key))]
+fn skip_key(reader: &mut Reader) -> Result<(), Fault>
+    ensures { Skips result reader.new (format.key.read reader.old) }
+{
+    let place = reader.place();
+    match reader.string()?.len() {
+        1..=32 => Ok(()),
+        _ => Err(Fault { place }),
+    }
+}
+
+#[tactic(auto, unfolding(crate::specs::Items::value))]
+fn skip_value(reader: &mut Reader) -> Result<(), Fault>
+    ensures { Skips result reader.new (format.value.read reader.old) }
+{
+    let place = reader.place();
+    match reader.string()?.len() {
+        0..=128 => Ok(()),
+        _ => Err(Fault { place }),
+    }
+}
+
+/// Reads past a value that is expected, or its absence.
+fn skip_expected(reader: &mut Reader) -> Result<(), Fault>
+    ensures { Skips result reader.new ((optional format.value).read reader.old) }
+{
+    let place = reader.place();
+    match reader.byte()? {
+        0 => Ok(()),
+        1 => skip_value(reader),
         _ => Err(Fault { place }),
     }
 }

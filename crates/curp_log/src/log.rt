@@ -17,7 +17,7 @@ ghost use Rattle.curp_log.specs.Taken.{taken_of};
 use crate::packing::{pairs_in, same_package};
 use crate::state::{LatestGive, State};
 use crate::taken::LatestTake;
-use curp_base::NoMemory;
+use curp_base::{NoMemory, Shared};
 use curp_cmd::{Answer, Command, Entry, Hashes, Package, Request, RequestId, Store, room};
 use curp_entries::PackedEntries;
 use curp_model::Check;
@@ -46,7 +46,7 @@ pub struct Log {
 #[derive(Clone, Copy)]
 pub struct TakenPackage<'a> {
     pub migration: u32,
-    pub package: &'a Package,
+    pub package: &'a Shared<Package>,
     pub index: u64,
 }
 
@@ -113,9 +113,8 @@ impl Log {
         ensures spare { self.old.spare ≤ self.new.spare + room_of entry }
     {
         let index = self.entries.len();
-        let answer = self.state.apply(index, &entry);
         self.taken.follow(index, &entry);
-        self.answers.push_reserved(answer);
+        self.state.apply(index, &entry, &mut self.answers);
         self.entries.push(entry);
         index
     }

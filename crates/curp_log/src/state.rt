@@ -1,5 +1,5 @@
 //! What a log means: the store, the reply table, the owned hashes, and the last migration that was given.
-ghost use Rattle.std.specs.Prelude.{◌≡◌, ◌+◌, ◌≤◌, true, length, Some, OnOk, IfOk};
+ghost use Rattle.std.specs.Prelude.{◌≡◌, ◌+◌, ◌<◌, ◌≤◌, ◌++◌, ◌∷◌, [], true, length, vec_capacity, vec_len, Some, OnOk, IfOk};
 ghost use Rattle.std.specs.FinMap as map;
 ghost use Rattle.std.specs.List.{filter};
 ghost use Rattle.curp_cmd.specs.Entry.{items_of, pairs_put};
@@ -60,16 +60,18 @@ impl State {
         self.ranges.reserve(units)
     }
 
-    /// Does what an entry with that index says, which fits, and tells the answer to an Op.
+    /// Does what an entry with that index says, which fits, and adds the answer to an Op behind the others.
     #[tactic(auto, unfolding(curp_model::specs::Log::after_entry))]
-    pub fn apply(&mut self, index: u64, entry: &Entry) -> Option<Answer>
+    pub fn apply(&mut self, index: u64, entry: &Entry, answers: &mut Vec<Option<Answer>>)
         requires room { 1 + items_of entry.now ≤ room_in self.old }
         requires fits { fits_at (meant_by self.old) entry.now ≡ true }
-        ensures answer { result ≡ answer_of self.old.store.map (Some entry.now) }
+        requires spare { vec_len answers.old < vec_capacity answers.old }
+        ensures answer { answers.new.items ≡ answers.old.items ++ answer_of self.old.store.map (Some entry.now) ∷ [] }
+        ensures capacity { vec_capacity answers.new ≡ vec_capacity answers.old }
         ensures means { meant_by self.new ≡ untaken (after_entry (meant_by self.old) index entry.now) }
         ensures room { room_in self.old ≤ room_in self.new + (1 + items_of entry.now) }
     {
-        match entry {
+        let answer = match entry {
             Entry::Op {
                 request,
                 acknowledge,
@@ -86,7 +88,8 @@ impl State {
                 self.table.expire(*client);
                 None
             }
-        }
+        };
+        answers.push_reserved(answer);
     }
 
     fn execute(&mut self, index: u64, request: &Request, acknowledge: u32) -> Answer

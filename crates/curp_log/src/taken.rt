@@ -4,7 +4,7 @@ ghost use Rattle.curp_log.specs.State.{IsKept, IsNewest, take_after, take_of, ta
 ghost use Rattle.curp_log.specs.Taken.{taken_of};
 
 use crate::log::TakenPackage;
-use curp_base::NoMemory;
+use curp_base::{NoMemory, Shared};
 use curp_cmd::{Entry, Package};
 use curp_entries::PackedEntries;
 use std::alloc::Global;
@@ -22,7 +22,7 @@ pub enum LatestTake {
     Copied {
         index: u64,
         migration: u32,
-        package: Package,
+        package: Shared<Package>,
     },
 }
 
@@ -98,7 +98,7 @@ fn copied(alloc: Global, entries: &PackedEntries, index: u64) -> Result<LatestTa
         Some(taken) => Ok(LatestTake::Copied {
             index,
             migration: taken.migration,
-            package: taken.package.copy(alloc)?,
+            package: taken.package.share()?,
         }),
     }
 }

@@ -249,7 +249,7 @@ pub struct Quick {
 #[derive(Drop)]
 pub struct Parcel {
     pub migration: u32,
-    pub package: Package,
+    pub package: Shared<Package>,
 }
 
 impl Body {
@@ -405,7 +405,7 @@ impl TryCopy for Parcel {
     fn try_copy(&self, alloc: Global) -> Result<Parcel, NoMemory> {
         Ok(Parcel {
             migration: self.migration,
-            package: self.package.copy(alloc)?,
+            package: self.package.share()?,
         })
     }
 }

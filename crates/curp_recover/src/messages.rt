@@ -107,9 +107,10 @@ pub fn appends(
     ensures { IfOk result (λ messages. messages.items ≡ says_each (master_node number) backups.now
         (Body.Append (record { epoch = epoch; base = 0; round = round; entries = log.now.entries }))) }
 {
+    let whole = log.suffix(0)?;
     let mut messages = Vec::with_capacity(alloc, backups.len())?;
     for backup in backups {
-        let entries = Items::new(log.suffix(0)?);
+        let entries = Items::new(copies_of(alloc, &whole)?);
         messages.push(Message {
             from: NodeId::master(number),
             to: *backup,

@@ -2,7 +2,7 @@
 ghost use Rattle.std.specs.Prelude.{⊤};
 
 use crate::part::Part;
-use curp_base::NoMemory;
+use curp_base::{NoMemory, Shared};
 use curp_items::{
     Bounds, Item, ReadError, Reader, Writer, read_list, read_package, write_list, write_package,
 };
@@ -197,7 +197,7 @@ impl Part for Parcel {
     fn read(alloc: Global, reader: &mut Reader) -> Result<Parcel, ReadError> {
         Ok(Parcel {
             migration: Item::read(reader)?,
-            package: read_package(alloc, reader)?,
+            package: Shared::new(alloc, read_package(alloc, reader)?)?,
         })
     }
 }
