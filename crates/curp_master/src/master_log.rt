@@ -127,7 +127,10 @@ impl MasterLog {
     {
         let index = self.log.len();
         self.push(op_of(request), is_free);
-        self.log.answer(index).unwrap()
+        match self.log.answer(index) {
+            Some(answer) => answer,
+            None => unreachable!(),
+        }
     }
 
     /// So much of the log is synced.

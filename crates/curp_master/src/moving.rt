@@ -7,7 +7,7 @@ ghost use Rattle.curp_master.specs.Built.{move_of};
 ghost use Rattle.curp_master.specs.Moving.{IsTakenOut, by_retelling, pushes};
 
 use crate::Master;
-use curp_base::NoMemory;
+use curp_base::{NoMemory, Shared};
 use curp_cmd::{Entry, Package, room};
 use curp_log::Log;
 use curp_msg::{Done, Message, Parcel, TakeOut};
@@ -77,6 +77,7 @@ impl Master {
         let Some(package) = self.package(take)? else {
             return Ok(Done::quiet(self.alloc));
         };
+        let package = Shared::new(self.alloc, package)?;
         self.push_moved(Entry::Take {
             migration: take.migration,
             package,
@@ -107,7 +108,7 @@ impl Master {
                 self.tell_again(last.index, messages::given(self.number, parcel.migration))
             }
             _ => {
-                let package = parcel.package.copy(self.alloc)?;
+                let package = parcel.package.share()?;
                 self.push_moved(Entry::Give {
                     migration: parcel.migration,
                     package,

@@ -1,16 +1,16 @@
-ghost use Rattle.std.specs.Prelude.{◌≡◌, ◌++◌, drop, IfOk};
-ghost use Rattle.curp_model.specs.Master.{append_to, appends, begins_round};
+ghost use Rattle.std.specs.Prelude.{◌≡◌, ◌≤◌, ◌++◌, drop, IfOk};
+ghost use Rattle.curp_model.specs.Master.{appends, begins_round, from_backup};
 ghost use Rattle.curp_msg.specs.Moved.{Moves};
 ghost use Rattle.curp_master.specs.Built.{move_of};
 ghost use Rattle.curp_rounds.specs.Phases.{phase_of};
-ghost use Rattle.curp_master.specs.Rounds.{IsNextRound, at_round, in_phase};
+ghost use Rattle.curp_master.specs.Rounds.{IsNextRound, append_from, at_round, in_phase};
 
 use crate::{Master, Round};
 use curp_base::{Items, NoMemory, copies_of, past};
 use curp_cmd::{Entry, NodeId};
 use curp_log::Log;
 use curp_msg::{Append, Done, Message};
-use curp_rounds::acknowledged::length_from;
+use curp_rounds::acknowledged::{least_length, length_from};
 use curp_rounds::{Phase, messages};
 use std::alloc::Global;
 
@@ -51,25 +51,35 @@ impl Master {
         }
     }
 
-    // What a round sends, with these entries behind the log.
+    // What a round sends, with these entries behind the log. What the backups lack is read of the log once.
     fn appends(&self, phase: &Phase, round: u64, more: &[Entry]) -> Result<Vec<Message>, NoMemory>
         ensures { IfOk result (λ sent. sent.items ≡ appends self.now.number
             (at_round (in_phase self.now (phase_of phase.now)).state round more.now)) }
     {
         let backups = phase.stored_on(self.alloc, &self.backups)?;
+        let stored = least_length(&self.acknowledged, &backups);
+        let lacking = suffix_with(self.alloc, self.master_log.log(), stored, more)?;
         let mut sent = Vec::with_capacity(self.alloc, backups.len())?;
         for backup in &backups {
-            sent.push(self.append_to(backup, round, more)?)?;
+            sent.push(self.append_to(backup, round, stored, &lacking)?)?;
         }
         Ok(sent)
     }
 
-    fn append_to(&self, backup: &NodeId, round: u64, more: &[Entry]) -> Result<Message, NoMemory>
+    // What a backup lacks, of what all of them have up to a length and not all behind it.
+    fn append_to(
+        &self,
+        backup: &NodeId,
+        round: u64,
+        stored: u64,
+        lacking: &[Entry],
+    ) -> Result<Message, NoMemory>
+        requires { stored ≤ (from_backup self.now.state.acknowledged backup.now).length }
         ensures { IfOk result (λ message. message
-            ≡ append_to self.now.number (at_round self.now.state round more.now) backup.now) }
+            ≡ append_from self.now.number self.now.state round stored lacking.now backup.now) }
     {
         let base = length_from(&self.acknowledged, backup);
-        let entries = suffix_with(self.alloc, self.master_log.log(), base, more)?;
+        let entries = copies_of(self.alloc, past(lacking, base - stored))?;
         Ok(messages::append(
             self.number,
             *backup,

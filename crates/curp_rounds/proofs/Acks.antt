@@ -1,11 +1,11 @@
 -- What backups have acknowledged, found and raised.
-use Rattle.std.proofs.Common.{◌≡◌, ℕ, zero, suc, ◌-◌, ◌<◌, ◌≤◌, ◌==◌, ◌&&◌, nat_le, min, max, List, [], ◌∷◌, ◌++◌, length, get_or, set, take, drop, refl, ap, sym, ◌∙◌, subst, arith}
+use Rattle.std.proofs.Common.{Bool, true, false, ◌≡◌, ℕ, zero, suc, ◌+◌, ◌-◌, ◌<◌, ◌≤◌, ◌==◌, ◌&&◌, nat_le, min, max, List, [], ◌∷◌, ◌++◌, length, get_or, set, take, drop, refl, ap, sym, ◌∙◌, subst, arith}
 use Rattle.std.specs.List.{fold}
 use Rattle.std.proofs.lemmas.Bool.Decides.{nat_tests}
 use Rattle.std.proofs.Math.Seq.{take-length}
 use Rattle.curp_cmd.specs.declared.node.NodeId.{NodeId}
-use Rattle.curp_model.specs.Master.{Acknowledged, from_backup, least, nothing_from, raised}
-use Rattle.curp_rounds.specs.Backups.{lengths, NoneBelow, IsFirst, all_at, all_set}
+use Rattle.curp_model.specs.Master.{Acknowledged, all_have, from_backup, least, nothing_from, raised}
+use Rattle.curp_rounds.specs.Backups.{lengths, NoneBelow, IsFirst, all_at, all_set, stored_by_all}
 use Rattle.curp_cmd.proofs.Nodes.{same_node-true}
 
 first_tail : (a : Acknowledged) (all : List Acknowledged) (b : NodeId) (at : ℕ) → IsFirst (a ∷ all) b (suc at) → IsFirst all b at
@@ -63,6 +63,44 @@ least_parts all [] d some = absurd (omega arith)
 least_parts all (b ∷ others) d some =
     let behind : length (b ∷ others) - 1 ≡ length others = omega arith in
     rw (behind, take-length) (least_fold all (from_backup all b).length others)
+
+-- each backup of a list has acknowledged at least what all of them have
+pub least_below : (all : List Acknowledged) (backups : List NodeId) (k : ℕ) (d : NodeId) → k < length backups
+    → stored_by_all all backups ≤ (from_backup all (get_or backups k d)).length
+least_below all [] k d within = absurd (omega (arith, within))
+least_below all (c ∷ []) zero d within = omega arith
+least_below all (c ∷ e ∷ more) zero d within = omega arith
+least_below all (c ∷ []) (suc k) d within = absurd (omega (arith, within))
+least_below all (c ∷ e ∷ more) (suc k) d within =
+    let behind : stored_by_all all (e ∷ more) ≤ (from_backup all (get_or (e ∷ more) k d)).length = least_below all (e ∷ more) k d (omega (arith, within)) in
+    omega (arith, behind)
+
+-- ---- what all backups have
+
+and_true : (b : Bool) → (b && true) ≡ b
+and_true true = refl
+and_true false = refl
+
+and_both : (x y z : Bool) → (x && (y && z)) ≡ ((x && y) && z)
+and_both true y z = refl
+and_both false y z = refl
+
+-- one backup more
+pub all_more : (all : List Acknowledged) (backups : List NodeId) (k : ℕ) (d : NodeId) (long round : ℕ) → k < length backups
+    → all_have all (take (k + 1) backups) long round
+    ≡ (all_have all (take k backups) long round && (nat_le long (from_backup all (get_or backups k d)).length && nat_le round (from_backup all (get_or backups k d)).round))
+all_more all [] k d long round within = absurd (omega (arith, within))
+all_more all (b ∷ more) zero d long round within = and_true (nat_le long (from_backup all b).length && nat_le round (from_backup all b).round)
+all_more all (b ∷ more) (suc k) d long round within =
+    let same : suc k + 1 ≡ suc (k + 1) = omega arith in
+    let has = nat_le long (from_backup all b).length && nat_le round (from_backup all b).round in
+    rw same (ap (λ (t : Bool). has && t) (all_more all more k d long round (omega (arith, within)))
+    ∙ and_both has (all_have all (take k more) long round) (nat_le long (from_backup all (get_or more k d)).length && nat_le round (from_backup all (get_or more k d)).round))
+
+-- what is within the least of two is within both
+pub within_least : (m n k l long round : ℕ)
+    → (nat_le long (min m n) && nat_le round (min k l)) ≡ ((nat_le long m && nat_le round k) && (nat_le long n && nat_le round l))
+within_least m n k l long round = grind (arith, nat_tests)
 
 -- ---- lists that begin
 

@@ -1,8 +1,9 @@
 -- What a master knows of its backups.
-use Rattle.std.specs.Prelude.{◌≡◌, ℕ, ◌<◌, true, false, List, map, length, slice_index_or}
+use Rattle.std.specs.Prelude.{◌≡◌, ℕ, ◌<◌, nat_le, ◌&&◌, Bool, true, false, List, map, length, slice_index_or, Option, Some, None}
 use Rattle.curp_cmd.specs.declared.node.NodeId.{NodeId}
 use Rattle.curp_model.specs.Master.{Acknowledged, from_backup, least}
 use Rattle.curp_cmd.specs.Node.{same_node}
+use Rattle.curp_rounds.specs.declared.acknowledged.Reach.{Reach}
 
 -- the lengths that the backups of a list have acknowledged
 abbrev pub lengths : List Acknowledged → List NodeId → List ℕ
@@ -11,6 +12,11 @@ lengths all backups = map (λ b. (from_backup all b).length) backups
 -- so much of the log has each of them acknowledged
 abbrev pub stored_by_all : List Acknowledged → List NodeId → ℕ
 stored_by_all all backups = least (lengths all backups)
+
+-- a length and a round are within what all backups of a list have acknowledged; of no backups nothing is asked
+abbrev pub is_within : Option Reach → ℕ → ℕ → Bool
+is_within None long round = true
+is_within (Some reach) long round = nat_le long reach.long && nat_le round reach.round
 
 -- so much is set for each
 abbrev pub all_set : List Acknowledged → ℕ → ℕ → List Acknowledged

@@ -1,7 +1,7 @@
-ghost use Rattle.std.specs.Prelude.{◌≡◌, ◌&&◌, nat_le, map, length, fold, min, max, OnOk, IfOk, IfSome, IfNone};
+ghost use Rattle.std.specs.Prelude.{◌≡◌, ◌&&◌, ℕ, nat_le, map, length, fold, min, max, Some, OnOk, IfOk, IfSome, IfNone};
 ghost use Rattle.curp_model.specs.Master.{all_have, from_backup, raised};
 ghost use Rattle.curp_cmd.specs.Node.{same_node};
-ghost use Rattle.curp_rounds.specs.Backups.{IsFirst, NoneBelow, all_set, stored_by_all};
+ghost use Rattle.curp_rounds.specs.Backups.{IsFirst, NoneBelow, all_set, is_within, stored_by_all};
 
 use curp_base::{NoMemory, TryCopy, copies_of};
 use curp_cmd::NodeId;
@@ -40,6 +40,16 @@ impl Acknowledged {
         ensures { result ≡ self.now.length }
     {
         self.long
+    }
+
+    fn reach(&self) -> Reach
+        ensures long { result.long ≡ self.now.length }
+        ensures round { result.round ≡ self.now.round }
+    {
+        Reach {
+            long: self.long,
+            round: self.round,
+        }
     }
 
     fn is_from(&self, backup: &NodeId) -> bool
@@ -170,6 +180,49 @@ fn has(acknowledged: &[Acknowledged], backup: &NodeId, long: u64, round: u64) ->
     match place_of(acknowledged, backup) {
         Some(at) => acknowledged[at].has(long, round),
         None => long == 0 && round == 0,
+    }
+}
+
+/// A length of the log and a round.
+#[derive(Clone, Copy)]
+pub struct Reach {
+    pub long: u64,
+    pub round: u64,
+}
+
+/// The greatest length and the greatest round that each of these backups has acknowledged. There is none of no backups.
+pub fn reach_of_all(acknowledged: &[Acknowledged], backups: &[NodeId]) -> Option<Reach>
+    ensures { (long round : ℕ) → all_have acknowledged.now backups.now long round ≡ is_within result long round }
+{
+    let mut least = None;
+    for backup in backups {
+        least = Some(least_reach(least, reach_of(acknowledged, backup)));
+    }
+    least
+}
+
+/// The least of what some backups have acknowledged, if there are any, and of what one more has.
+fn least_reach(least: Option<Reach>, other: Reach) -> Reach
+    ensures { (long round : ℕ) → is_within (Some result) long round
+        ≡ (is_within least long round && is_within (Some other) long round) }
+{
+    match least {
+        None => other,
+        Some(reach) => Reach {
+            long: reach.long.min(other.long),
+            round: reach.round.min(other.round),
+        },
+    }
+}
+
+/// What a backup has acknowledged, at first nothing.
+fn reach_of(acknowledged: &[Acknowledged], backup: &NodeId) -> Reach
+    ensures long { result.long ≡ (from_backup acknowledged.now backup.now).length }
+    ensures round { result.round ≡ (from_backup acknowledged.now backup.now).round }
+{
+    match place_of(acknowledged, backup) {
+        Some(at) => acknowledged[at].reach(),
+        None => Reach { long: 0, round: 0 },
     }
 }
 

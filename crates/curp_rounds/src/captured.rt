@@ -1,9 +1,9 @@
 ghost use Rattle.std.specs.Prelude.{◌≡◌, IfOk};
 ghost use Rattle.curp_cmd.specs.Node.{client_node, master_node};
-ghost use Rattle.curp_model.specs.Master.{all_have};
 ghost use Rattle.curp_msg.specs.Moved.{says};
+ghost use Rattle.curp_rounds.specs.Backups.{is_within};
 
-use crate::acknowledged::{Acknowledged, all_have};
+use crate::acknowledged::Reach;
 use curp_base::{Boxed, NoMemory, Shared};
 use curp_cmd::{Answer, NodeId, Request, RequestId};
 use curp_msg::{Body, Message, Worth};
@@ -91,11 +91,14 @@ impl Captured {
         self.long
     }
 
-    /// Whether all of these backups have acknowledged the length and the round.
-    pub fn is_ready(&self, acknowledged: &[Acknowledged], backups: &[NodeId]) -> bool
-        ensures { result ≡ all_have acknowledged.now backups.now self.now.length self.now.round }
+    /// Whether the length and the round are within what all backups have acknowledged.
+    pub fn is_ready(&self, reach: Option<Reach>) -> bool
+        ensures { result ≡ is_within reach self.now.length self.now.round }
     {
-        all_have(acknowledged, backups, self.long, self.round)
+        match reach {
+            None => true,
+            Some(reach) => self.long <= reach.long && self.round <= reach.round,
+        }
     }
 
     /// The value, as a message of master `number` at that epoch to the client.

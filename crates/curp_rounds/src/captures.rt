@@ -3,7 +3,7 @@ ghost use Rattle.curp_model.specs.Master.{all_have};
 ghost use Rattle.curp_base.specs.Words.{Each};
 ghost use Rattle.curp_rounds.specs.Captures.{value_at};
 
-use crate::acknowledged::Acknowledged;
+use crate::acknowledged::{Acknowledged, reach_of_all};
 use crate::captured::Captured;
 use curp_base::{NoMemory, Reserved};
 use curp_cmd::NodeId;
@@ -104,8 +104,9 @@ impl Captures {
         ensures { OnOk result (sent.new.items ≡ sent.old.items ++ map (value_at number epoch)
             (filter (λ c. all_have acknowledged.now backups.now c.length c.round) self.now.waiting)) }
     {
+        let reach = reach_of_all(acknowledged, backups);
         for capture in self.waiting() {
-            if capture.is_ready(acknowledged, backups) {
+            if capture.is_ready(reach) {
                 sent.push(capture.value(alloc, number, epoch)?)?;
             }
         }
@@ -131,5 +132,6 @@ fn remove_ready(
     ensures { captures.new.items
         ≡ filter (λ c. not (all_have acknowledged.now backups.now c.length c.round)) captures.old.items }
 {
-    captures.retain(|capture| !capture.is_ready(acknowledged, backups));
+    let reach = reach_of_all(acknowledged, backups);
+    captures.retain(|capture| !capture.is_ready(reach));
 }

@@ -3,7 +3,7 @@ ghost use Rattle.curp_msg.specs.Moved.{says, says_each};
 ghost use Rattle.curp_cmd.specs.Node.{client_node, manager_node, master_node};
 ghost use Rattle.curp_model.specs.Master.{moved_entry, prepared_message, refuse};
 
-use curp_base::{Boxed, Items, NoMemory};
+use curp_base::{Boxed, Items, NoMemory, Shared};
 use curp_cmd::{Entry, NodeId, Package, RequestId};
 use curp_msg::{Append, Body, Gc, Message, Parcel, Quick, Refusal, Refuse, Reply};
 use std::alloc::Global;
@@ -100,14 +100,14 @@ pub fn taken(
     alloc: Global,
     number: u32,
     migration: u32,
-    package: &Package,
+    package: &Shared<Package>,
 ) -> Result<Message, NoMemory>
     ensures { IfOk result (λ message. message ≡ says (master_node number) manager_node
         (Body.Taken (record { migration = migration; «package» = «package».now }))) }
 {
     let parcel = Parcel {
         migration,
-        package: package.copy(alloc)?,
+        package: package.share()?,
     };
     Ok(to_manager(number, Body::Taken(Boxed::new(alloc, parcel)?)))
 }

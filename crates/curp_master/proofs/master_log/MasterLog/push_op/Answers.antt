@@ -10,4 +10,4 @@ returns-clause-answer c =
     ap (λ (j : MasterLogState). j.kept) c.self-2.view_is ∙ c.push.ensures.pushed ∙ ap (λ (e : Entry). with_entry c.args.self.now.kept e c.args.is_free) c.op_of.ensures
     in
     let there = c.len-index.ensures.value ∙ ap (λ (j : MasterLogState). length j.kept.entries) c.self.view_is in
-    cc (c.unwrap.ensures, answered c.args.self.now.kept _ c.args.is_free c.len-index.result c.args.request c.answer.result pushed there c.answer.ensures)
+    cc (c.in-Some.is, answered c.args.self.now.kept _ c.args.is_free c.len-index.result c.args.request c.answer.result pushed there c.answer.ensures)
