@@ -4,6 +4,13 @@ use Rattle.std.specs.List.{sum}
 use Rattle.curp_base.specs.Words.{Each, all_of}
 use Rattle.curp_msg.specs.declared.message.Message.{Message}
 use Rattle.curp_msg.specs.Weight.{weight_of}
+use Rattle.curp_cluster.specs.declared.batch.Held.{Held}
+use Rattle.curp_cluster.specs.declared.batch.Held.TheVariants.{One, Many}
+
+-- the messages of a step, however they are held
+abbrev pub messages_in : Held → List Message
+messages_in (One message) = message ∷ []
+messages_in (Many messages) = messages
 
 -- what each step sent, where it sent something, and for how many more steps there is room
 pub record Batched : Type 0 where

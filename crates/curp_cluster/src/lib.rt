@@ -6,6 +6,7 @@
 //!   `history`, `order`: exact.
 #![tactic(auto)]
 
+mod batch;
 mod cluster;
 mod given;
 mod growing;

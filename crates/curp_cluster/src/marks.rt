@@ -345,6 +345,8 @@ fn op_at(standby: &mut Standby, log: &Log, at: u64) -> Option<(RequestId, KeptCo
     if let Some(Entry::Op { request, .. }) = log.newest(at) {
         return Some((request.id, standby.keep(request)));
     }
-    let request = log.request(at)?;
-    Some((request.id, standby.keep_own(&request.command)))
+    match log.request(at) {
+        Some(request) => Some((request.id, standby.keep_own(&request.command))),
+        None => None,
+    }
 }

@@ -4,6 +4,7 @@ ghost use Rattle.curp_base.specs.Words.{numbered, all_of};
 ghost use Rattle.curp_model.specs.World.{sent_at, with_batch};
 ghost use Rattle.curp_cluster.specs.Batches.{Rise, NumberStandsAt, IsGapAt, IsBatchOf, weight_of_all};
 
+use crate::batch::Batch;
 use curp_base::{Items, NoMemory, Reserved};
 use curp_msg::{Message, weight};
 use std::alloc::{AllocError, Global};
@@ -15,7 +16,7 @@ const MOST: u64 = 1 << 63;
 /// Every message that was ever sent, as the steps sent them. Messages are numbered from 1.
 #[derive(Drop)]
 pub(crate) struct Sent {
-    batches: Reserved<Items<Message>>,
+    batches: Reserved<Batch>,
     // The number of the first message of each batch.
     firsts: Reserved<u64>,
     next: u64,
@@ -75,7 +76,7 @@ impl Sent {
         let added = weight_of_all(messages.as_slice());
         self.weight = self.weight.saturating_add(added);
         self.firsts.push(first);
-        self.batches.push(messages);
+        self.batches.push(Batch::new(messages));
     }
 
     /// How many messages were sent.
@@ -144,11 +145,15 @@ fn batch_of(firsts: &[u64], number: u64) -> Option<usize>
     }
 }
 
-// Where a number stands among rising ones, or would stand.
+// Where a number stands among rising ones, or would stand. Most ask for the last one, or for one past it.
 fn search(numbers: &[u64], number: u64) -> Result<usize, usize>
     requires { Rise numbers.now }
     ensures found { IfOk result (NumberStandsAt numbers.now number) }
     ensures absent { IfErr result (IsGapAt numbers.now number) }
 {
-    numbers.binary_search(&number)
+    match numbers.last() {
+        Some(last) if *last == number => Ok(numbers.len() - 1),
+        Some(last) if *last < number => Err(numbers.len()),
+        _ => numbers.binary_search(&number),
+    }
 }
