@@ -1,38 +1,34 @@
-ghost use Rattle.std.specs.Fmt.{WritesOnOk};
+ghost use Rattle.std.specs.Prelude.{◌≡◌, ◌++◌, OnOk, string_bytes};
 ghost use Rattle.curp_msg.specs.declared.body.Body.TheVariants as body;
 ghost use Rattle.curp_report.specs.Text.{body_text};
 
+use crate::text::{push_count, push_labelled};
+use curp_base::NoMemory;
 use curp_msg::{AppendAnswer, Appended, FenceAnswer, FenceReply};
-use std::fmt;
 
-pub(crate) fn write_appended<W: fmt::Write>(
-    f: &mut fmt::Formatter<W>,
-    appended: &Appended,
-) -> fmt::Result
-    ensures { WritesOnOk W.write_str_gives f.old result (body_text (body.Appended appended.now)) f.new }
+pub(crate) fn push_appended(text: &mut String, appended: &Appended) -> Result<(), NoMemory>
+    ensures { OnOk result (string_bytes text.new ≡ string_bytes text.old ++ body_text (body.Appended appended.now)) }
 {
     match appended.answer {
         AppendAnswer::Stored { length } => {
-            write!(
-                f,
-                "stored e{} l{length} r{}",
-                appended.epoch, appended.round
-            )
+            push_labelled(text, "stored e", appended.epoch as u64)?;
+            push_count(text, 'l', length)?;
+            push_count(text, 'r', appended.round)
         }
-        AppendAnswer::Fenced { epoch } => write!(f, "fenced e{epoch}"),
-        AppendAnswer::Gap { length } => write!(f, "gap l{length}"),
-        AppendAnswer::NotInstalled => write!(f, "not-installed"),
+        AppendAnswer::Fenced { epoch } => push_labelled(text, "fenced e", epoch as u64),
+        AppendAnswer::Gap { length } => push_labelled(text, "gap l", length),
+        AppendAnswer::NotInstalled => text.push_str("not-installed"),
     }
 }
 
-pub(crate) fn write_fence_answer<W: fmt::Write>(
-    f: &mut fmt::Formatter<W>,
-    answer: &FenceAnswer,
-) -> fmt::Result
-    ensures { WritesOnOk W.write_str_gives f.old result (body_text (body.FenceAnswer answer.now)) f.new }
+pub(crate) fn push_fence_answer(text: &mut String, answer: &FenceAnswer) -> Result<(), NoMemory>
+    ensures { OnOk result (string_bytes text.new ≡ string_bytes text.old ++ body_text (body.FenceAnswer answer.now)) }
 {
     match &answer.answer {
-        FenceReply::Log(entries) => write!(f, "log e{} n{}", answer.epoch, entries.len()),
-        FenceReply::Fenced { epoch } => write!(f, "fenced e{epoch}"),
+        FenceReply::Log(entries) => {
+            push_labelled(text, "log e", answer.epoch as u64)?;
+            push_count(text, 'n', entries.len() as u64)
+        }
+        FenceReply::Fenced { epoch } => push_labelled(text, "fenced e", *epoch as u64),
     }
 }

@@ -1,59 +1,69 @@
-ghost use Rattle.std.specs.Prelude.{Some};
-ghost use Rattle.curp_report.specs.Text.{body_text};
+ghost use Rattle.std.specs.Prelude.{◌≡◌, ◌++◌, OnOk, codes, flat_map, string_bytes};
+ghost use Rattle.curp_report.specs.Text.{body_text, spaced_request};
 
-use crate::Shown;
-use crate::backup::{write_appended, write_fence_answer};
-use crate::client::{write_probe, write_record};
+use crate::backup::{push_appended, push_fence_answer};
+use crate::client::{push_ask, push_probe, push_record};
 use crate::manager::{
-    write_adopted, write_config, write_prepare, write_recover, write_start, write_take_out,
+    push_adopted, push_config, push_prepare, push_recover, push_start, push_take_out,
 };
 use crate::master::{
-    write_append, write_gc, write_quick, write_recovered, write_refuse, write_reply, write_worth,
+    push_append, push_gc, push_parcel, push_quick, push_recovered, push_refuse, push_reply,
+    push_worth,
 };
-use crate::witness::{write_accepted, write_collected, write_probed, write_rejected};
+use crate::names::push_requests;
+use crate::text::push_labelled;
+use crate::witness::{push_accepted, push_collected, push_probed, push_rejected};
+use curp_base::{NoMemory, Shared};
+use curp_cmd::Request;
 use curp_msg::Body;
-use std::fmt;
 
-impl fmt::Display for Shown<&Body> {
-    ghost output = { λ shown. Some (body_text shown.0.now) };
-
-    fn fmt<W: fmt::Write>(&self, f: &mut fmt::Formatter<W>) -> fmt::Result {
-        match self.0 {
-            Body::Update(ask) => write!(f, "update {}", Shown(ask)),
-            Body::Sync(ask) => write!(f, "sync {}", Shown(ask)),
-            Body::Read(ask) => write!(f, "read {}", Shown(ask)),
-            Body::Record(record) => write_record(f, record),
-            Body::Fetch => write!(f, "fetch"),
-            Body::Configuration { config } => write_config(f, config),
-            Body::Reply(reply) => write_reply(f, reply.get()),
-            Body::Worth(worth) => write_worth(f, worth.get()),
-            Body::Refuse(refuse) => write_refuse(f, refuse),
-            Body::Accepted(accepted) => write_accepted(f, accepted),
-            Body::Rejected(rejected) => write_rejected(f, rejected),
-            Body::Append(append) => write_append(f, append),
-            Body::Appended(appended) => write_appended(f, appended),
-            Body::Gc(gc) => write_gc(f, gc),
-            Body::Collected(collected) => write_collected(f, collected),
-            Body::Install { epoch } => write!(f, "install e{epoch}"),
-            Body::Start(start) => write_start(f, start),
-            Body::Recover(recover) => write_recover(f, recover.get()),
-            Body::Fence { epoch } => write!(f, "fence e{epoch}"),
-            Body::FenceAnswer(answer) => write_fence_answer(f, answer),
-            Body::Freeze { epoch } => write!(f, "freeze e{epoch}"),
-            Body::FrozenAnswer { requests } => write!(f, "frozen{}", Shown(requests.as_slice())),
-            Body::Recovered(recovered) => write_recovered(f, recovered),
-            Body::Adopted(adopted) => write_adopted(f, adopted),
-            Body::Prepare(prepare) => write_prepare(f, prepare),
-            Body::Prepared { version } => write!(f, "prepared v{version}"),
-            Body::TakeOut(take) => write_take_out(f, take),
-            Body::Taken(parcel) => write!(f, "taken {}", Shown(parcel.get())),
-            Body::GiveIn(parcel) => write!(f, "give {}", Shown(parcel.get())),
-            Body::Given { migration } => write!(f, "given g{migration}"),
-            Body::ExpireClient { client } => write!(f, "expire c{client}"),
-            Body::Probe(probe) => write_probe(f, probe),
-            Body::Probed(probed) => write_probed(f, probed),
-            Body::Glance(ask) => write!(f, "glance {}", Shown(ask)),
-            Body::Quick(quick) => write_quick(f, quick.get()),
-        }
+/// Adds what a message says.
+pub(crate) fn push_body(text: &mut String, body: &Body) -> Result<(), NoMemory>
+    ensures { OnOk result (string_bytes text.new ≡ string_bytes text.old ++ body_text body.now) }
+{
+    match body {
+        Body::Update(ask) => push_ask(text, "update ", ask),
+        Body::Sync(ask) => push_ask(text, "sync ", ask),
+        Body::Read(ask) => push_ask(text, "read ", ask),
+        Body::Record(record) => push_record(text, record),
+        Body::Fetch => text.push_str("fetch"),
+        Body::Configuration { config } => push_config(text, config),
+        Body::Reply(reply) => push_reply(text, reply.get()),
+        Body::Worth(worth) => push_worth(text, worth.get()),
+        Body::Refuse(refuse) => push_refuse(text, refuse),
+        Body::Accepted(accepted) => push_accepted(text, accepted),
+        Body::Rejected(rejected) => push_rejected(text, rejected),
+        Body::Append(append) => push_append(text, append),
+        Body::Appended(appended) => push_appended(text, appended),
+        Body::Gc(gc) => push_gc(text, gc),
+        Body::Collected(collected) => push_collected(text, collected),
+        Body::Install { epoch } => push_labelled(text, "install e", *epoch as u64),
+        Body::Start(start) => push_start(text, start),
+        Body::Recover(recover) => push_recover(text, recover.get()),
+        Body::Fence { epoch } => push_labelled(text, "fence e", *epoch as u64),
+        Body::FenceAnswer(answer) => push_fence_answer(text, answer),
+        Body::Freeze { epoch } => push_labelled(text, "freeze e", *epoch as u64),
+        Body::FrozenAnswer { requests } => push_frozen(text, requests.as_slice()),
+        Body::Recovered(recovered) => push_recovered(text, recovered),
+        Body::Adopted(adopted) => push_adopted(text, adopted),
+        Body::Prepare(prepare) => push_prepare(text, prepare),
+        Body::Prepared { version } => push_labelled(text, "prepared v", *version as u64),
+        Body::TakeOut(take) => push_take_out(text, take),
+        Body::Taken(parcel) => push_parcel(text, "taken ", parcel.get()),
+        Body::GiveIn(parcel) => push_parcel(text, "give ", parcel.get()),
+        Body::Given { migration } => push_labelled(text, "given g", *migration as u64),
+        Body::ExpireClient { client } => push_labelled(text, "expire c", *client as u64),
+        Body::Probe(probe) => push_probe(text, probe),
+        Body::Probed(probed) => push_probed(text, probed),
+        Body::Glance(ask) => push_ask(text, "glance ", ask),
+        Body::Quick(quick) => push_quick(text, quick.get()),
     }
+}
+
+/// Adds which requests a witness holds.
+fn push_frozen(text: &mut String, requests: &[Shared<Request>]) -> Result<(), NoMemory>
+    ensures { OnOk result (string_bytes text.new ≡ string_bytes text.old ++ codes "frozen" ++ flat_map spaced_request requests.now) }
+{
+    text.push_str("frozen")?;
+    push_requests(text, requests)
 }

@@ -22,6 +22,7 @@ mod master;
 mod names;
 mod order;
 mod step;
+mod text;
 mod witness;
 
 pub use order::order_text;

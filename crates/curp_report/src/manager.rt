@@ -1,111 +1,110 @@
-ghost use Rattle.std.specs.Prelude.{Some, flat_map};
-ghost use Rattle.std.specs.Fmt.{WritesOnOk};
+ghost use Rattle.std.specs.Prelude.{◌≡◌, ◌++◌, ◌∷◌, [], OnOk, codes, string_bytes, flat_map};
 ghost use Rattle.curp_msg.specs.declared.body.Body.TheVariants as body;
-ghost use Rattle.curp_report.specs.Text.{body_text, part_config_text, spaced_part};
+ghost use Rattle.curp_report.specs.Text.{body_text, nodes_text, separated, spaced_part, spans_text, words};
 
 use crate::Shown;
+use crate::names::{push_node, push_nodes};
+use crate::text::{push_count, push_labelled};
+use curp_base::NoMemory;
+use curp_cmd::NodeId;
 use curp_msg::{Adopted, Config, PartConfig, Prepare, Recover, Start, TakeOut};
-use std::fmt;
 
-pub(crate) fn write_config<W: fmt::Write>(f: &mut fmt::Formatter<W>, config: &Config) -> fmt::Result
-    ensures { WritesOnOk W.write_str_gives f.old result (body_text (body.Configuration config.now)) f.new }
+pub(crate) fn push_config(text: &mut String, config: &Config) -> Result<(), NoMemory>
+    ensures { OnOk result (string_bytes text.new ≡ string_bytes text.old ++ body_text (body.Configuration config.now)) }
 {
-    write!(
-        f,
-        "config s{}{}",
-        config.serial,
-        Shown(config.parts.as_slice())
-    )
+    push_labelled(text, "config s", config.serial as u64)?;
+    push_parts(text, config.parts.as_slice())
 }
 
-impl fmt::Display for Shown<&[PartConfig]> {
-    ghost output = { λ shown. Some (flat_map spaced_part shown.0.now) };
-
-    fn fmt<W: fmt::Write>(&self, f: &mut fmt::Formatter<W>) -> fmt::Result {
-        for part in self.0 {
-            write!(f, " {}", Shown(part))?;
-        }
-        Ok(())
+fn push_parts(text: &mut String, parts: &[PartConfig]) -> Result<(), NoMemory>
+    ensures { OnOk result (string_bytes text.new ≡ string_bytes text.old ++ flat_map spaced_part parts.now) }
+{
+    for part in parts {
+        push_part(text, part)?;
     }
+    Ok(())
 }
 
-impl fmt::Display for Shown<&PartConfig> {
-    ghost output = { λ shown. Some (part_config_text shown.0.now) };
-
-    fn fmt<W: fmt::Write>(&self, f: &mut fmt::Formatter<W>) -> fmt::Result {
-        let part = self.0;
-        write!(
-            f,
-            "{}=e{},v{},{},{},{},{}",
-            part.part,
-            part.epoch,
-            part.version,
-            Shown(part.master),
-            Shown(part.backups.as_slice()),
-            Shown(part.witnesses.as_slice()),
-            Shown(part.ranges.as_slice())
-        )
-    }
-}
-
-pub(crate) fn write_start<W: fmt::Write>(f: &mut fmt::Formatter<W>, start: &Start) -> fmt::Result
-    ensures { WritesOnOk W.write_str_gives f.old result (body_text (body.Start start.now)) f.new }
+fn push_part(text: &mut String, part: &PartConfig) -> Result<(), NoMemory>
+    ensures { OnOk result (string_bytes text.new ≡ string_bytes text.old ++ spaced_part part.now) }
 {
-    write!(f, "start p{} e{}", start.part, start.epoch)
+    write!(text, " {}=e{},v{},", part.part, part.epoch, part.version)?;
+    push_node(text, part.master)?;
+    push_owned(text, part)
 }
 
-pub(crate) fn write_recover<W: fmt::Write>(
-    f: &mut fmt::Formatter<W>,
-    recover: &Recover,
-) -> fmt::Result
-    ensures { WritesOnOk W.write_str_gives f.old result (body_text (body.Recover recover.now)) f.new }
+/// Adds the lists of a partition, and the ranges that it owns.
+fn push_owned(text: &mut String, part: &PartConfig) -> Result<(), NoMemory>
+    ensures { OnOk result (string_bytes text.new ≡ string_bytes text.old ++ codes "," ++ separated (codes ",") (nodes_text part.now.backups ∷ nodes_text part.now.witnesses ∷ spans_text part.now.ranges ∷ [])) }
+{
+    text.push(',')?;
+    push_nodes(text, part.backups.as_slice())?;
+    text.push(',')?;
+    push_nodes(text, part.witnesses.as_slice())?;
+    write!(text, ",{}", Shown(part.ranges.as_slice()))
+}
+
+pub(crate) fn push_start(text: &mut String, start: &Start) -> Result<(), NoMemory>
+    ensures { OnOk result (string_bytes text.new ≡ string_bytes text.old ++ body_text (body.Start start.now)) }
+{
+    push_labelled(text, "start p", start.part as u64)?;
+    push_count(text, 'e', start.epoch as u64)
+}
+
+pub(crate) fn push_recover(text: &mut String, recover: &Recover) -> Result<(), NoMemory>
+    ensures { OnOk result (string_bytes text.new ≡ string_bytes text.old ++ body_text (body.Recover recover.now)) }
 {
     write!(
-        f,
-        "recover p{} e{} v{} {} {} {} {}",
-        recover.part,
-        recover.epoch,
-        recover.version,
-        Shown(recover.backup),
-        Shown(recover.witness),
-        Shown(recover.backups.as_slice()),
-        Shown(recover.witnesses.as_slice())
+        text,
+        "recover p{} e{} v{} ",
+        recover.part, recover.epoch, recover.version
+    )?;
+    push_node(text, recover.backup)?;
+    text.push(' ')?;
+    push_node(text, recover.witness)?;
+    push_lists(
+        text,
+        recover.backups.as_slice(),
+        recover.witnesses.as_slice(),
     )
 }
 
-pub(crate) fn write_adopted<W: fmt::Write>(
-    f: &mut fmt::Formatter<W>,
-    adopted: &Adopted,
-) -> fmt::Result
-    ensures { WritesOnOk W.write_str_gives f.old result (body_text (body.Adopted adopted.now)) f.new }
+pub(crate) fn push_adopted(text: &mut String, adopted: &Adopted) -> Result<(), NoMemory>
+    ensures { OnOk result (string_bytes text.new ≡ string_bytes text.old ++ body_text (body.Adopted adopted.now)) }
 {
-    write!(
-        f,
-        "adopted p{} e{} v{}",
-        adopted.part, adopted.epoch, adopted.version
+    push_labelled(text, "adopted p", adopted.part as u64)?;
+    push_count(text, 'e', adopted.epoch as u64)?;
+    push_count(text, 'v', adopted.version as u64)
+}
+
+pub(crate) fn push_prepare(text: &mut String, prepare: &Prepare) -> Result<(), NoMemory>
+    ensures { OnOk result (string_bytes text.new ≡ string_bytes text.old ++ body_text (body.Prepare prepare.now)) }
+{
+    push_labelled(text, "prepare v", prepare.version as u64)?;
+    push_lists(
+        text,
+        prepare.backups.as_slice(),
+        prepare.witnesses.as_slice(),
     )
 }
 
-pub(crate) fn write_prepare<W: fmt::Write>(
-    f: &mut fmt::Formatter<W>,
-    prepare: &Prepare,
-) -> fmt::Result
-    ensures { WritesOnOk W.write_str_gives f.old result (body_text (body.Prepare prepare.now)) f.new }
+/// Adds backups and witnesses, with a space before each list.
+fn push_lists(text: &mut String, backups: &[NodeId], witnesses: &[NodeId]) -> Result<(), NoMemory>
+    ensures { OnOk result (string_bytes text.new ≡ string_bytes text.old ++ codes " " ++ words (nodes_text backups.now ∷ nodes_text witnesses.now ∷ [])) }
 {
-    write!(
-        f,
-        "prepare v{} {} {}",
-        prepare.version,
-        Shown(prepare.backups.as_slice()),
-        Shown(prepare.witnesses.as_slice())
-    )
+    text.push(' ')?;
+    push_nodes(text, backups)?;
+    text.push(' ')?;
+    push_nodes(text, witnesses)
 }
 
-pub(crate) fn write_take_out<W: fmt::Write>(
-    f: &mut fmt::Formatter<W>,
-    take: &TakeOut,
-) -> fmt::Result
-    ensures { WritesOnOk W.write_str_gives f.old result (body_text (body.TakeOut take.now)) f.new }
+pub(crate) fn push_take_out(text: &mut String, take: &TakeOut) -> Result<(), NoMemory>
+    ensures { OnOk result (string_bytes text.new ≡ string_bytes text.old ++ body_text (body.TakeOut take.now)) }
 {
-    write!(f, "take g{} {}", take.migration, Shown((take.lo, take.hi)))
+    write!(
+        text,
+        "take g{} {}",
+        take.migration,
+        Shown((take.lo, take.hi))
+    )
 }

@@ -2,6 +2,7 @@ ghost use Rattle.std.specs.Prelude.{◌≡◌, IfOk};
 ghost use Rattle.curp_report.specs.Text.{order_text};
 
 use crate::Shown;
+use crate::names::push_id;
 use curp_base::NoMemory;
 use curp_cmd::{Answer, KeptCommand, RequestId};
 use std::alloc::Global;
@@ -17,13 +18,8 @@ pub fn order_text(
     let mut text = String::new(alloc);
     writeln!(text, "order {}", order.len())?;
     for (id, command, answer) in order {
-        writeln!(
-            text,
-            "{} {} -> {}",
-            Shown(*id),
-            Shown(**command),
-            Shown(*answer)
-        )?;
+        push_id(&mut text, *id)?;
+        writeln!(text, " {} -> {}", Shown(**command), Shown(*answer))?;
     }
     Ok(text.into_bytes())
 }

@@ -1,28 +1,14 @@
-ghost use Rattle.std.specs.Prelude.{◌≡◌, ◌+◌, ◌<◌, ◌^◌, ◌++◌, Some, length, string_bytes};
+ghost use Rattle.std.specs.Prelude.{◌≡◌, ◌+◌, ◌<◌, ◌^◌, ◌++◌, ◌∷◌, [], codes, length, string_bytes};
 ghost use Rattle.std.specs.Prelude.{IfOk, OnOk};
-ghost use Rattle.curp_report.specs.Text.{message_lines, result_text, step_text};
+ghost use Rattle.curp_report.specs.Text.{labelled, message_line, message_lines, node_label, result_text, step_text, words};
 
 use crate::Shown;
+use crate::body::push_body;
+use crate::names::{push_id, push_node};
+use crate::text::{push_decimal, push_labelled};
 use curp_base::NoMemory;
 use curp_msg::{Message, Outcome, StepResult};
 use std::alloc::Global;
-use std::fmt;
-
-impl fmt::Display for Shown<StepResult> {
-    ghost output = { λ shown. Some (result_text shown.0) };
-
-    fn fmt<W: fmt::Write>(&self, f: &mut fmt::Formatter<W>) -> fmt::Result {
-        match self.0 {
-            StepResult::Done => write!(f, "done"),
-            StepResult::NoMessage => write!(f, "refused no-message"),
-            StepResult::NoNode => write!(f, "refused no-node"),
-            StepResult::Gone => write!(f, "refused gone"),
-            StepResult::Manager => write!(f, "refused manager"),
-            StepResult::Full { weight } => write!(f, "refused full {weight}"),
-            StepResult::Refused { number } => write!(f, "refused call {number}"),
-        }
-    }
-}
 
 /// Adds the lines of a step: how it went, each message that it sent, and the request that it completed. Steps are
 /// numbered from 1. After want of memory a part of the lines may stand there.
@@ -36,17 +22,32 @@ pub fn push_step_text(
     requires { outcome.now.first + length sent.now < 2 ^ 64 }
     ensures { OnOk result (string_bytes text.new ≡ string_bytes text.old ++ step_text number outcome.now sent.now) }
 {
-    writeln!(text, "s{number} {}", Shown(outcome.result))?;
+    text.push('s')?;
+    push_decimal(text, number)?;
+    text.push(' ')?;
+    push_result(text, outcome.result)?;
+    text.push('\n')?;
     push_messages(text, outcome.first, sent)?;
     if let Some(completed) = outcome.completed {
-        writeln!(
-            text,
-            "c {} {}",
-            Shown(completed.id),
-            Shown(completed.answer)
-        )?;
+        text.push_str("c ")?;
+        push_id(text, completed.id)?;
+        writeln!(text, " {}", Shown(completed.answer))?;
     }
     Ok(())
+}
+
+fn push_result(text: &mut String, how: StepResult) -> Result<(), NoMemory>
+    ensures { OnOk result (string_bytes text.new ≡ string_bytes text.old ++ result_text how) }
+{
+    match how {
+        StepResult::Done => text.push_str("done"),
+        StepResult::NoMessage => text.push_str("refused no-message"),
+        StepResult::NoNode => text.push_str("refused no-node"),
+        StepResult::Gone => text.push_str("refused gone"),
+        StepResult::Manager => text.push_str("refused manager"),
+        StepResult::Full { weight } => push_labelled(text, "refused full ", weight),
+        StepResult::Refused { number } => push_labelled(text, "refused call ", number as u64),
+    }
 }
 
 /// The lines of a step.
@@ -70,14 +71,28 @@ fn push_messages(text: &mut String, first: u64, sent: &[Message]) -> Result<(), 
     ensures { OnOk result (string_bytes text.new ≡ string_bytes text.old ++ message_lines first sent.now) }
 {
     for (index, message) in sent.iter().enumerate() {
-        writeln!(
-            text,
-            "m{} {} {} {}",
-            first + index as u64,
-            Shown(message.from),
-            Shown(message.to),
-            Shown(&message.body)
-        )?;
+        push_message(text, first + index as u64, message)?;
     }
     Ok(())
+}
+
+fn push_message(text: &mut String, number: u64, message: &Message) -> Result<(), NoMemory>
+    ensures { OnOk result (string_bytes text.new ≡ string_bytes text.old ++ message_line number message.now) }
+{
+    push_route(text, number, message)?;
+    text.push(' ')?;
+    push_body(text, &message.body)?;
+    text.push('\n')
+}
+
+/// Adds the number of a message, who sent it, and whom it goes to.
+fn push_route(text: &mut String, number: u64, message: &Message) -> Result<(), NoMemory>
+    ensures { OnOk result (string_bytes text.new ≡ string_bytes text.old ++ words (labelled (codes "m") number ∷ node_label message.now.from ∷ node_label message.now.to ∷ [])) }
+{
+    text.push('m')?;
+    push_decimal(text, number)?;
+    text.push(' ')?;
+    push_node(text, message.from)?;
+    text.push(' ')?;
+    push_node(text, message.to)
 }

@@ -1,75 +1,61 @@
-ghost use Rattle.std.specs.Prelude.{Some};
-ghost use Rattle.std.specs.Fmt.{WritesOnOk};
+ghost use Rattle.std.specs.Prelude.{◌≡◌, ◌++◌, OnOk, string_bytes};
 ghost use Rattle.curp_msg.specs.declared.body.Body.TheVariants as body;
 ghost use Rattle.curp_report.specs.Text.{body_text, rejection_text};
 
-use crate::Shown;
+use crate::names::{push_id, push_requests};
+use crate::text::{push_count, push_labelled};
+use curp_base::NoMemory;
 use curp_msg::{Accepted, Collected, GcAnswer, Probed, Reason, Rejected};
-use std::fmt;
 
-pub(crate) fn write_accepted<W: fmt::Write>(
-    f: &mut fmt::Formatter<W>,
-    accepted: &Accepted,
-) -> fmt::Result
-    ensures { WritesOnOk W.write_str_gives f.old result (body_text (body.Accepted accepted.now)) f.new }
+pub(crate) fn push_accepted(text: &mut String, accepted: &Accepted) -> Result<(), NoMemory>
+    ensures { OnOk result (string_bytes text.new ≡ string_bytes text.old ++ body_text (body.Accepted accepted.now)) }
 {
-    write!(f, "accepted {} e{}", Shown(accepted.id), accepted.epoch)
+    text.push_str("accepted ")?;
+    push_id(text, accepted.id)?;
+    push_count(text, 'e', accepted.epoch as u64)
 }
 
-pub(crate) fn write_rejected<W: fmt::Write>(
-    f: &mut fmt::Formatter<W>,
-    rejected: &Rejected,
-) -> fmt::Result
-    ensures { WritesOnOk W.write_str_gives f.old result (body_text (body.Rejected rejected.now)) f.new }
+pub(crate) fn push_rejected(text: &mut String, rejected: &Rejected) -> Result<(), NoMemory>
+    ensures { OnOk result (string_bytes text.new ≡ string_bytes text.old ++ body_text (body.Rejected rejected.now)) }
 {
-    write!(
-        f,
-        "rejected {} {}",
-        Shown(rejected.id),
-        Shown(rejected.reason)
-    )
+    text.push_str("rejected ")?;
+    push_id(text, rejected.id)?;
+    text.push(' ')?;
+    push_reason(text, rejected.reason)
 }
 
-impl fmt::Display for Shown<Reason> {
-    ghost output = { λ shown. Some (rejection_text shown.0) };
-
-    fn fmt<W: fmt::Write>(&self, f: &mut fmt::Formatter<W>) -> fmt::Result {
-        match self.0 {
-            Reason::Conflict { held } => write!(f, "conflict {}", Shown(held)),
-            Reason::SetFull { set } => write!(f, "full {set}"),
-            Reason::Frozen => write!(f, "frozen"),
-            Reason::Stranger { epoch } => write!(f, "stranger e{epoch}"),
-            Reason::Idle => write!(f, "idle"),
+fn push_reason(text: &mut String, reason: Reason) -> Result<(), NoMemory>
+    ensures { OnOk result (string_bytes text.new ≡ string_bytes text.old ++ rejection_text reason) }
+{
+    match reason {
+        Reason::Conflict { held } => {
+            text.push_str("conflict ")?;
+            push_id(text, held)
         }
+        Reason::SetFull { set } => push_labelled(text, "full ", set as u64),
+        Reason::Frozen => text.push_str("frozen"),
+        Reason::Stranger { epoch } => push_labelled(text, "stranger e", epoch as u64),
+        Reason::Idle => text.push_str("idle"),
     }
 }
 
-pub(crate) fn write_collected<W: fmt::Write>(
-    f: &mut fmt::Formatter<W>,
-    collected: &Collected,
-) -> fmt::Result
-    ensures { WritesOnOk W.write_str_gives f.old result (body_text (body.Collected collected.now)) f.new }
+pub(crate) fn push_collected(text: &mut String, collected: &Collected) -> Result<(), NoMemory>
+    ensures { OnOk result (string_bytes text.new ≡ string_bytes text.old ++ body_text (body.Collected collected.now)) }
 {
     match &collected.answer {
-        GcAnswer::Suspects(requests) => write!(
-            f,
-            "suspects e{}{}",
-            collected.epoch,
-            Shown(requests.as_slice())
-        ),
-        GcAnswer::Stranger { epoch: None } => write!(f, "stranger"),
-        GcAnswer::Stranger { epoch: Some(epoch) } => write!(f, "stranger e{epoch}"),
+        GcAnswer::Suspects(requests) => {
+            push_labelled(text, "suspects e", collected.epoch as u64)?;
+            push_requests(text, requests.as_slice())
+        }
+        GcAnswer::Stranger { epoch: None } => text.push_str("stranger"),
+        GcAnswer::Stranger { epoch: Some(own) } => push_labelled(text, "stranger e", *own as u64),
     }
 }
 
-pub(crate) fn write_probed<W: fmt::Write>(f: &mut fmt::Formatter<W>, probed: &Probed) -> fmt::Result
-    ensures { WritesOnOk W.write_str_gives f.old result (body_text (body.Probed probed.now)) f.new }
+pub(crate) fn push_probed(text: &mut String, probed: &Probed) -> Result<(), NoMemory>
+    ensures { OnOk result (string_bytes text.new ≡ string_bytes text.old ++ body_text (body.Probed probed.now)) }
 {
-    write!(
-        f,
-        "{} {} e{}",
-        if probed.live { "live" } else { "not-live" },
-        Shown(probed.id),
-        probed.epoch
-    )
+    text.push_str(if probed.live { "live " } else { "not-live " })?;
+    push_id(text, probed.id)?;
+    push_count(text, 'e', probed.epoch as u64)
 }
