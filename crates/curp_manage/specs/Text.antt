@@ -1,15 +1,17 @@
 -- What `manage` writes for the bytes of its script.
-use Rattle.std.specs.Prelude.{ℕ, ◌+◌, Bool, true, false, List, [], ◌∷◌, ◌++◌, length, codes, Option, Some, None}
+use Rattle.std.specs.Prelude.{ℕ, Bool, true, false, List, [], ◌∷◌, length, codes, None, ⊤}
+use Rattle.std.proofs.Common.{refl}
 use Rattle.std.specs.Fmt.{decimal}
 use Rattle.curp_manage.specs.declared.outcome.LineOutcome.{LineOutcome}
 use Rattle.curp_manage.specs.declared.outcome.LineOutcome.TheVariants as outcome
-use Rattle.curp_manage.specs.Lines.{ManageLines, ManageScript, manage_script_in}
+use Rattle.curp_manage.specs.Lines.{manage_script_in}
 use Rattle.curp_manage.specs.Managed.{Managed, line_done, managed_opening}
 use Rattle.curp_msg.specs.declared.outcome.StepResult.TheVariants as step
-use Rattle.curp_msg.specs.declared.script.Header.{Header}
 use Rattle.curp_play.specs.Play.{HoldsRead}
+use Rattle.curp_play.specs.Reading.{SaidScript}
+use Rattle.curp_play.specs.Run.{Rules, SaysOfBytes, line_texts_by, text_by}
 use Rattle.curp_report.specs.Text.{labelled, line, step_text}
-use Rattle.curp_script.specs.Script.{Ending, Whole, Bad, TooLong, TooMany}
+use Rattle.curp_script.specs.Manage.{manage_in}
 use Rattle.curp_script.specs.declared.manage.ManageLine.{ManageLine}
 
 -- what became of an input that was stopped
@@ -28,48 +30,38 @@ outcome_text number first (outcome.Stopped kept) = line (labelled (codes "s") nu
 unfoldable pub managed_text : ℕ → Managed → ManageLine → List ℕ
 managed_text number m l = outcome_text number m.next (line_done m l).outcome
 
--- the texts of lines, numbered from a number on, and a closing text of what they lead to
-abbrev pub managed_texts : (Managed → List ℕ) → ℕ → Managed → List ManageLine → List ℕ
-managed_texts closing number m [] = closing m
-managed_texts closing number m (l ∷ ls) = managed_text number m l ++ managed_texts closing (number + 1) (line_done m l).now ls
-
 -- how many inputs are kept
 abbrev pub decisions_text : Managed → List ℕ
 decisions_text m = line (codes "decisions" ∷ decimal m.decisions ∷ [])
 
--- which stands behind the steps, where the script was read to its end
-abbrev pub decisions_behind : Ending → Managed → List ℕ
-decisions_behind Whole m = decisions_text m
-decisions_behind (Bad at reason) m = []
-decisions_behind (TooLong at) m = []
-decisions_behind TooMany m = []
-
--- the text of what comes behind the header, where the steps are numbered from a number on
-abbrev pub managed_from : ℕ → Managed → ManageLines → List ℕ
-managed_from number m body = managed_texts (decisions_behind body.ending) number m body.lines
-
--- a script without a header has no text
-abbrev pub managed_behind : Option Header → ManageLines → List ℕ
-managed_behind None body = []
-managed_behind (Some header) body = managed_from 1 (managed_opening header) body
+-- each line has a text, and behind them stands how many inputs are kept
+abbrev pub managed : Rules ManageLine Managed
+managed = record {
+  opening = managed_opening;
+  next = λ m l. (line_done m l).now;
+  text = managed_text;
+  closing = decisions_text;
+}
 
 -- the text of a script
-abbrev pub managed_of : ManageScript → List ℕ
-managed_of s = managed_behind s.header s.body
+abbrev pub managed_of : SaidScript ManageLine → List ℕ
+managed_of s = text_by managed s
 
--- ---- what a read fault leaves
-
--- no closing text
-abbrev pub not_closed : Managed → List ℕ
-not_closed m = []
-
--- the texts of the steps alone
-abbrev pub texts_of_managed : Option Header → List ManageLine → List ℕ
-texts_of_managed None lines = []
-texts_of_managed (Some header) lines = managed_texts not_closed 1 (managed_opening header) lines
+-- the texts of its steps alone
+abbrev pub texts_of_managed : SaidScript ManageLine → List ℕ
+texts_of_managed s = line_texts_by managed s
 
 -- the texts of the steps on the whole lines that were taken of a script
 abbrev pub HoldsManaged : (left_before left_after held_before held_after : List ℕ) → Type 0
 HoldsManaged left_before left_after held_before held_after =
-    HoldsRead (λ read. texts_of_managed (manage_script_in read).header (manage_script_in read).body.lines)
-    left_before left_after held_before held_after
+    HoldsRead (λ read. texts_of_managed (manage_script_in read)) left_before left_after held_before held_after
+
+-- what `manage` is said to do of bytes is what its rules say
+pub manage_says : SaysOfBytes manage_in managed (λ _. ⊤) (λ bytes. (manage_script_in bytes).body.ending) (λ bytes. managed_of (manage_script_in bytes))
+    (λ bytes. texts_of_managed (manage_script_in bytes)) (λ _. ⊤)
+manage_says = record {
+  ending_is = λ bytes. refl;
+  text_is = λ bytes. refl;
+  line_texts_are = λ bytes. refl;
+  stands_by = λ bytes h lines is holds. tt;
+}

@@ -1,8 +1,7 @@
 ghost use Rattle.std.specs.Prelude.{◌≡◌, ◌≢◌, ◌+◌, ◌≤◌, ◌++◌, [], true, false, ⊤};
 ghost use Rattle.curp_io.specs.Streams.{HoldsPart, Rose, SameCount};
 ghost use Rattle.curp_manage.specs.Lines.{manage_script_in};
-ghost use Rattle.curp_manage.specs.Player.{manage_says, managed};
-ghost use Rattle.curp_manage.specs.Text.{HoldsManaged, managed_of, texts_of_managed};
+ghost use Rattle.curp_manage.specs.Text.{HoldsManaged, manage_says, managed, managed_of, texts_of_managed};
 ghost use Rattle.curp_play.specs.Play.{EndsWhole};
 ghost use Rattle.curp_play.specs.Status.{is_cut_short, status_of};
 ghost use Rattle.curp_script.specs.Script.{Whole};
@@ -66,7 +65,7 @@ impl Player for Managing {
 
     ghost script_text = { λ bytes. managed_of (manage_script_in bytes) };
 
-    ghost line_texts = { λ bytes. texts_of_managed (manage_script_in bytes).header (manage_script_in bytes).body.lines };
+    ghost line_texts = { λ bytes. texts_of_managed (manage_script_in bytes) };
 
     ghost Stands = { λ _. ⊤ };
 

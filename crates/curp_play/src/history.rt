@@ -12,6 +12,7 @@ ghost use Rattle.curp_play.specs.Players.{HasClaim, record_says, recorded};
 ghost use Rattle.curp_play.specs.Reading.{IsOfWriting};
 ghost use Rattle.curp_play.specs.Status.{is_cut_short, status_of};
 
+use crate::play::opened;
 use crate::running::{Player, run};
 use crate::status::Status;
 use crate::writing::{close, write};
@@ -65,13 +66,13 @@ pub fn play_history<S: Source, K: Sink>(alloc: Global, source: &mut S, sink: &mu
 /// A world of which nothing is written before its end.
 #[derive(Drop)]
 struct Recorder {
-    world: World,
+    world: Box<World>,
 }
 
 impl Model for Recorder {
     ghost Value = { model.World };
 
-    ghost view = { λ r. r.world };
+    ghost view = { λ r. r.world.value };
 }
 
 impl Player for Recorder {
@@ -92,7 +93,7 @@ impl Player for Recorder {
     ghost Stands = { λ bytes. IsClaimOfOrder (claim_of (script_in bytes)) };
 
     fn open(alloc: Global, header: &Header) -> Result<Recorder, NoMemory> {
-        let world = World::open(alloc, header)?;
+        let world = opened(alloc, header)?;
         Ok(Recorder { world })
     }
 

@@ -1,10 +1,11 @@
-ghost use Rattle.std.specs.Prelude.{◌≡◌, ◌≢◌, ◌++◌, [], true, false, OnOk, ⊤, string_bytes};
+ghost use Rattle.std.specs.Prelude.{◌≡◌, ◌≢◌, ◌++◌, [], true, false, None, IfOk, OnOk, ⊤, string_bytes};
 ghost use Rattle.curp_io.specs.Streams.{HoldsPart, Rose, SameCount};
 ghost use Rattle.curp_model.specs.World as model;
 ghost use Rattle.curp_play.specs.Play.{EndsWhole, HasAnOrder, HoldsWholeLines, OrderStands};
 ghost use Rattle.curp_play.specs.Play.{script_in, text_of, texts_of};
 ghost use Rattle.curp_play.specs.Players.{play_says, played};
 ghost use Rattle.curp_play.specs.Status.{is_cut_short, status_of};
+ghost use Rattle.curp_script.specs.Headers.{bad_field};
 ghost use Rattle.curp_script.specs.Script.{Whole};
 ghost use Rattle.curp_text.specs.Text.{made_text};
 
@@ -18,6 +19,7 @@ use curp_report::{order_text, push_step_text};
 use curp_script::{Header, Step};
 use curp_world::World;
 use std::alloc::{AllocError, Global};
+use std::marker::Model;
 
 /// Reads a script, plays it, and writes what every step did and one order of the requests. It takes no handle, and
 /// returns.
@@ -56,12 +58,24 @@ pub fn play_script<S: Source, K: Sink>(alloc: Global, source: &mut S, sink: &mut
     ensures no_write_fault { result ≢ Status.WriteFault → SameCount (K.faults sink.old) (K.faults sink.new) }
     ensures never_usage { result ≢ Status.Usage }
 {
-    let played = run::<World, S, K>(alloc, source, sink);
+    let played = run::<Played, S, K>(alloc, source, sink);
     close(sink, played)
 }
 
-/// A world is played: it writes what each step did, and behind them its order.
-impl Player for World {
+/// A world that is played, at a place of its own.
+#[derive(Drop)]
+struct Played {
+    world: Box<World>,
+}
+
+impl Model for Played {
+    ghost Value = { model.World };
+
+    ghost view = { λ p. p.world.value };
+}
+
+/// It writes what each step did, and behind them its order.
+impl Player for Played {
     type Line = Step;
 
     ghost rules = { played };
@@ -78,16 +92,13 @@ impl Player for World {
 
     ghost Stands = { λ bytes. HasAnOrder (script_in bytes) };
 
-    fn open(alloc: Global, header: &Header) -> Result<World, NoMemory> {
-        // A header that was read is one of a world, so nothing but memory can be wanting.
-        match World::begin(alloc, header) {
-            Ok(world) => Ok(world),
-            Err(_) => Err(AllocError),
-        }
+    fn open(alloc: Global, header: &Header) -> Result<Played, NoMemory> {
+        let world = opened(alloc, header)?;
+        Ok(Played { world })
     }
 
-    fn do_line(mut self, number: u64, step: &Step, text: &mut String) -> Result<World, NoMemory> {
-        match make_step(&mut self, number, step, text) {
+    fn do_line(mut self, number: u64, step: &Step, text: &mut String) -> Result<Played, NoMemory> {
+        match make_step(&mut self.world, number, step, text) {
             Ok(()) => Ok(self),
             Err(reason) => {
                 drop(self);
@@ -98,13 +109,25 @@ impl Player for World {
 
     fn write_end<K: Sink>(&self, alloc: Global, _number: u64, sink: &mut K) -> Result<(), Status> {
         // What clients saw is a history, and the order is one of it.
-        self.history();
-        let order = self.order(alloc)?;
+        self.world.history();
+        let order = self.world.order(alloc)?;
         let text = order_text(alloc, &order)?;
         write(sink, &text)
     }
 
     ghost says = { play_says };
+}
+
+/// The world of a header that was read.
+pub(crate) fn opened(alloc: Global, header: &Header) -> Result<Box<World>, NoMemory>
+    requires { bad_field header.now ≡ None }
+    ensures { IfOk result (λ world. world.value ≡ model.opening header.now) }
+{
+    // Nothing but memory can be wanting.
+    match World::begin(alloc, header) {
+        Ok(world) => Ok(Box::new(alloc, world)?),
+        Err(_) => Err(AllocError),
+    }
 }
 
 /// Makes a step, and adds its text.
