@@ -640,7 +640,7 @@ fn changes(rt: HostRuntime) -> Result<(), Fail> {
     Ok(())
 }
 
-fn parcel(alloc: Global, package: Package) -> Result<Boxed<Parcel>, NoMemory> {
+fn parcel(alloc: Global, package: Shared<Package>) -> Result<Boxed<Parcel>, NoMemory> {
     let parcel = Parcel {
         migration: 3,
         package,

@@ -41,11 +41,6 @@ pub(crate) fn shared(alloc: Global, command: Command) -> Result<Shared<Request>,
     Shared::of(alloc, &request(command))
 }
 
-/// A put of "1" under "a".
-pub(crate) fn put() -> Result<Command, Fail> {
-    Ok(Command::Put(Key::new(b"a")?, Value::new(b"1")?))
-}
-
 /// Four keys of 32 bytes, each with that value. With 128 bytes of it this is the largest command.
 pub(crate) fn largest(value: Value) -> Result<Command, Fail> {
     let keys = [
@@ -85,24 +80,31 @@ fn table(alloc: Global) -> Result<TablePart, Fail> {
 }
 
 /// Two pairs and that table.
-pub(crate) fn package(alloc: Global) -> Result<Package, Fail> {
+pub(crate) fn package(alloc: Global) -> Result<Shared<Package>, Fail> {
     let (a, b, one) = (Key::new(b"a")?, Key::new(b"b")?, Value::new(b"1")?);
     let pairs = Vec::from_array(alloc, [(a, one), (b, Value::new(b"")?)])?;
-    Ok(Package {
+    let package = Package {
         lo: 0,
         hi: 0x0fff_ffff_ffff_ffff,
         pairs: ascending(pairs)?,
         table: table(alloc)?,
-    })
+    };
+    Ok(held(alloc, package)?)
 }
 
-pub(crate) fn no_package(alloc: Global) -> Result<Package, Fail> {
-    Ok(Package {
+pub(crate) fn no_package(alloc: Global) -> Result<Shared<Package>, Fail> {
+    let package = Package {
         lo: 7,
         hi: 7,
         pairs: ascending(Vec::new(alloc))?,
         table: TablePart::new(alloc),
-    })
+    };
+    Ok(held(alloc, package)?)
+}
+
+/// The package, which others may hold too.
+pub(crate) fn held(alloc: Global, package: Package) -> Result<Shared<Package>, NoMemory> {
+    Ok(Shared::new(alloc, package)?)
 }
 
 /// The operation of that request.

@@ -1,8 +1,8 @@
 //! The largest frames of light messages, with memory for them.
 
-use crate::build::{ascending, largest, message, put, request, shared};
-use curp_base::{AscendingPairs, Boxed, Items, NoMemory, Shared};
-use curp_cmd::{Entry, Key, Package, Request, RequestId, TablePart, Value};
+use crate::build::{ascending, held, largest, message, op_of, request, shared};
+use curp_base::{AscendingPairs, Boxed, Items, NoMemory};
+use curp_cmd::{Command, Key, Package, Request, RequestId, TablePart, Value};
 use curp_msg::{Append, Body, Message, Parcel};
 use curp_same::Same;
 use curp_wire::{decode, encode, is_light};
@@ -81,7 +81,7 @@ fn taken(alloc: Global, count: u32) -> Result<Message, Fail> {
     };
     let parcel = Parcel {
         migration: 1,
-        package,
+        package: held(alloc, package)?,
     };
     Ok(message(Body::Taken(boxed(alloc, parcel)?)))
 }
@@ -97,14 +97,12 @@ fn a_package(rt: HostRuntime) -> Result<(), Fail> {
 
 /// An append of an operation of that client.
 fn append_of(alloc: Global, client: u32) -> Result<Message, Fail> {
+    let (a, one) = (Key::new(b"a")?, Value::new(b"1")?);
     let request = Request {
         id: RequestId { client, seq: 1 },
-        ..request(put()?)
+        ..request(Command::Put(a, one))
     };
-    let entry = Entry::Op {
-        request: Shared::of(alloc, &request)?,
-        acknowledge: 1,
-    };
+    let entry = op_of(alloc, &request, 1)?;
     Ok(message(Body::Append(Append {
         epoch: 1,
         base: 0,

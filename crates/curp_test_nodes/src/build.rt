@@ -108,22 +108,31 @@ fn table_part(rt: &impl Abort, alloc: Global) -> TablePart {
 }
 
 // Two pairs, three records, two firsts and an expired client.
-pub(crate) fn package(rt: &impl Abort, alloc: Global) -> Package {
+pub(crate) fn package(rt: &impl Abort, alloc: Global) -> Shared<Package> {
     let one = value(rt, b"1");
     let pairs = must(
         rt,
         Vec::from_array(alloc, [(key(rt, b"a"), one), (key(rt, b"b"), one)]),
     );
     assert!(rt; pairs_ascend(&pairs));
-    Package {
+    let package = Package {
         lo: 0,
         hi: 99,
         pairs: AscendingPairs::new(pairs),
         table: table_part(rt, alloc),
-    }
+    };
+    held(rt, alloc, package)
 }
 
 // ---- What messages carry
+
+// The value, which others may hold too.
+pub(crate) fn held<T: Drop>(rt: &impl Abort, alloc: Global, value: T) -> Shared<T> {
+    match Shared::new(alloc, value) {
+        Ok(held) => held,
+        Err(_) => panic!(rt; "no memory"),
+    }
+}
 
 pub(crate) fn boxed<T: Drop>(rt: &impl Abort, alloc: Global, value: T) -> Boxed<T> {
     match Boxed::new(alloc, value) {

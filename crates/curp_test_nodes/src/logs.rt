@@ -1,8 +1,8 @@
 //! Logs: what was done, what stands, and ranges that leave and come.
 ghost use Rattle.std.specs.Prelude.{◌≤◌};
 
-use crate::build::{A, id, key, message, must, op, put, request, serving, value};
-use curp_base::past;
+use crate::build::{A, held, id, key, message, must, op, put, request, serving, value};
+use curp_base::{Shared, past};
 use curp_cmd::{Answer, Command, Entry, NodeId, Package, Request, Value, room};
 use curp_log::{LatestGive, Log, is_log};
 use curp_master::Master;
@@ -54,7 +54,7 @@ fn order(rt: &impl Abort, master: &mut Master, body: Body) {
     must(rt, master.on_message(&message));
 }
 
-fn push_give(rt: &impl Abort, log: &mut Log, migration: u32, package: Package) {
+fn push_give(rt: &impl Abort, log: &mut Log, migration: u32, package: Shared<Package>) {
     let entry = Entry::Give { migration, package };
     must(rt, log.reserve(room(&entry)));
     log.push(entry);
@@ -169,7 +169,7 @@ fn a_given(rt: &impl Abort, alloc: Global) -> Log {
     let package = pack(rt, &two_ops(rt, alloc), A, A);
     let mut log = begin(rt, alloc, 9);
     push_expire(rt, &mut log, 9);
-    push_give(rt, &mut log, 7, package);
+    push_give(rt, &mut log, 7, held(rt, alloc, package));
     log
 }
 
@@ -288,7 +288,7 @@ fn taken_sizes(log: &Log) -> Option<(usize, usize)> {
 fn given_last(rt: &impl Abort, alloc: Global, log: &Log) -> Log {
     let mut other = begin(rt, alloc, 0);
     if let Some(taken) = log.package() {
-        push_give(rt, &mut other, 1, must(rt, taken.package.copy(alloc)));
+        push_give(rt, &mut other, 1, must(rt, taken.package.share()));
     }
     other
 }

@@ -1,6 +1,6 @@
 //! The manager: what it tells nodes as it replaces them, lets a partition be recovered and moves a range.
 
-use crate::build::{boxed, message, must};
+use crate::build::{boxed, held, message, must};
 use curp_base::AscendingPairs;
 use curp_changes::Shape;
 use curp_cmd::{Keeper, NodeId, Package, TablePart};
@@ -93,6 +93,7 @@ fn taken(rt: &impl Abort, alloc: Global, migration: u32, hi: u64) -> Body {
         pairs: AscendingPairs::new(Vec::new(alloc)),
         table: TablePart::new(alloc),
     };
+    let package = held(rt, alloc, package);
     Body::Taken(boxed(rt, alloc, Parcel { migration, package }))
 }
 

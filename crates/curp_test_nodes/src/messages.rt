@@ -2,9 +2,9 @@
 
 use crate::asker::{Asker, give, give_all, order};
 use crate::build::{
-    all_shared, ask, boxed, id, items, key, message, multi, must, op, shared, value,
+    all_shared, ask, boxed, held, id, items, key, message, multi, must, op, shared, value,
 };
-use curp_base::{AscendingKeys, AscendingPairs, Boxed, Items, keys_ascend, pairs_ascend};
+use curp_base::{AscendingKeys, AscendingPairs, Boxed, Items, Shared, keys_ascend, pairs_ascend};
 use curp_cmd::{Answer, Entry, Key, NodeId, Package, Request, TablePart};
 use curp_msg::{
     Append, Body, Collected, Config, FenceAnswer, FenceReply, Gc, GcAnswer, Input, Local, Message,
@@ -99,17 +99,18 @@ fn table_part(rt: &impl Abort, alloc: Global) -> TablePart {
 }
 
 // Two pairs and that table.
-fn package(rt: &impl Abort, alloc: Global) -> Package {
+fn package(rt: &impl Abort, alloc: Global) -> Shared<Package> {
     let one = value(rt, b"1");
     let pairs = [(key(rt, b"a"), one), (key(rt, b"b"), one)];
     let pairs = must(rt, Vec::from_slice(alloc, &pairs));
     assert!(rt; pairs_ascend(&pairs));
-    Package {
+    let package = Package {
         lo: 0,
         hi: 9,
         pairs: AscendingPairs::new(pairs),
         table: table_part(rt, alloc),
-    }
+    };
+    held(rt, alloc, package)
 }
 
 fn parcel(rt: &impl Abort, alloc: Global) -> Boxed<Parcel> {

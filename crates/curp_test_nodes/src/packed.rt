@@ -3,7 +3,7 @@ ghost use Rattle.std.specs.Prelude.{◌≡◌, ◌≤◌, ◌^◌, ℕ, false, l
 ghost use Rattle.curp_cmd.specs.declared.entry.Entry.TheVariants.{Give, Take};
 ghost use Rattle.curp_cmd.specs.declared.migration.Package.{Package};
 
-use crate::build::{id, key, multi, must, op, package, put, request, value};
+use crate::build::{held, id, key, multi, must, op, package, put, request, value};
 use curp_backup::Backup;
 use curp_base::{AscendingKeys, AscendingPairs, keys_ascend, pairs_ascend, past};
 use curp_cmd::{Answer, Command, Entry, Package, Request, TablePart};
@@ -322,7 +322,7 @@ fn packs_a_package_of_ten_thousand_pairs(rt: HostRuntime) {
         &rt,
         plain.push(Entry::Give {
             migration: 1,
-            package,
+            package: held(&rt, rt.alloc(), package),
         }),
     );
     must(&rt, plain.append(&mut entries(&rt, rt.alloc(), 127)));

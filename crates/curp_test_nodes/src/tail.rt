@@ -1,6 +1,6 @@
 //! The entries of a log that aren't synced, and which hashes they touch.
 
-use crate::build::{A, B, C, key, multi, must, op, request, value};
+use crate::build::{A, B, C, held, key, multi, must, op, request, value};
 use curp_base::AscendingPairs;
 use curp_cmd::{Command, Entry, Package, TablePart};
 use curp_tail::Tail;
@@ -20,7 +20,7 @@ fn entry_of(rt: &impl Abort, alloc: Global, command: Command) -> Entry {
     op(rt, alloc, &request(1, 1, command), 1)
 }
 
-fn take(alloc: Global) -> Entry {
+fn take(rt: &impl Abort, alloc: Global) -> Entry {
     let package = Package {
         lo: 7,
         hi: 99,
@@ -29,7 +29,7 @@ fn take(alloc: Global) -> Entry {
     };
     Entry::Take {
         migration: 1,
-        package,
+        package: held(rt, alloc, package),
     }
 }
 
@@ -38,7 +38,7 @@ fn four_entries(rt: &impl Abort, alloc: Global) -> Tail {
     let entries = [
         entry_of(rt, alloc, increment(rt)),
         entry_of(rt, alloc, put_both(rt, b"b", b"c")),
-        take(alloc),
+        take(rt, alloc),
         Entry::Expire { client: 1 },
     ];
     let mut tail = Tail::new(alloc);

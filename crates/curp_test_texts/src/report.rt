@@ -373,7 +373,7 @@ fn parcel(alloc: Global) -> Result<Boxed<Parcel>, Fail> {
     };
     let parcel = Parcel {
         migration: 3,
-        package,
+        package: Shared::new(alloc, package)?,
     };
     Ok(Boxed::new(alloc, parcel)?)
 }

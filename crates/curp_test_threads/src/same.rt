@@ -35,8 +35,13 @@ fn take(alloc: Global, value: Value) -> Result<Entry, Fail> {
     };
     Ok(Entry::Take {
         migration: 1,
-        package,
+        package: held(alloc, package)?,
     })
+}
+
+// The package, which others may hold too.
+fn held(alloc: Global, package: Package) -> Result<Shared<Package>, NoMemory> {
+    Ok(Shared::new(alloc, package)?)
 }
 
 // A master sends a backup an update, and a range with one pair.
