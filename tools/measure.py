@@ -264,7 +264,7 @@ def plan_part(curp):
         "## Playing a made script",
         "Scripts of `curp make` with its own numbers but for the one that a table names; `curp play` reads each and "
         "writes its text. Before: in November 2026, when each log, message, mark and event had commands of its own and no "
-        "log was packed, on another day of such a machine.",
+        "log was packed: one run by the clock, on another day of such a machine.",
         table(["`--steps`", *head, "seconds before", "memory before"], beside),
         plot("steps", "Time of a made script", "steps", "seconds", [("play", [(row[0], row[2]) for row in steps]), before(0)]),
         plot("memory", "Memory of a made script", "steps", "MB", [("play", [(row[0], row[3] / 1e6) for row in steps]), before(1)]),
@@ -286,8 +286,9 @@ def recovery_part(curp):
     return [
         "## A recovery",
         "One client that isn't fast puts so many keys, each on the backup before the next; then the master is recovered. "
-        "The time of the recovery is that of its 11 steps alone. It grows with the log, which the backup sends whole and "
-        "the fresh backup gets whole.",
+        "The time of the recovery is that of its 11 steps: the difference of two times, so a few hundredths of a second "
+        "are noise, and one below 0 is told as 0. It grows with the log, which the backup sends whole and the fresh backup "
+        "gets whole.",
         table(
             ["updates in the log", "seconds ahead of it", "seconds of the recovery", "memory", "of the recovery before", "memory before"],
             told,
