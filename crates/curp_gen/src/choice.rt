@@ -2,6 +2,7 @@
 use crate::commands::made_command;
 use crate::draws::{pick, pick_message, pick_to};
 use crate::maker::Maker;
+use curp_base::{NoMemory, Shared};
 use curp_client::MOST_PENDING;
 use curp_msg::Step;
 use rand_pcg::Pcg32;
@@ -10,35 +11,35 @@ use rand_pcg::Pcg32;
 const HASHES_OF_BYTE: u64 = 1 << 56;
 
 /// A step, and the number of the message that comes next after it.
-#[derive(Clone, Copy)]
+#[derive(Drop)]
 pub(crate) struct Choice {
     pub(crate) step: Step,
     pub(crate) cursor: u64,
 }
 
 impl Maker {
-    ghost use Rattle.std.specs.Prelude.{◌≡◌, ◌≤◌, length};
+    ghost use Rattle.std.specs.Prelude.{◌≡◌, ◌≤◌, length, IfOk};
     ghost use Rattle.curp_gen.specs.Draws.{pick_to};
     ghost use Rattle.curp_gen.specs.Making as making;
 
     /// The next step.
     #[tactic(auto, unfolding(crate::specs::Making::choice))]
-    pub(crate) fn choice(&self, words: &mut Pcg32) -> Choice
-        ensures { (result, words.new) ≡ making.choice self.now words.old }
+    pub(crate) fn choice(&self, words: &mut Pcg32) -> Result<Choice, NoMemory>
+        ensures { IfOk result (λ chosen. (chosen, words.new) ≡ making.choice self.now words.old) }
     {
         if self.is_recovery_due() {
-            return self.recovery(words);
+            return Ok(self.recovery(words));
         }
         let kind = pick(words, 64);
         self.choice_by(kind, words)
     }
 
     // A step of one of 64 kinds, most of which deliver.
-    fn choice_by(&self, kind: u32, words: &mut Pcg32) -> Choice
-        ensures { (result, words.new) ≡ making.choice_by self.now kind words.old }
+    fn choice_by(&self, kind: u32, words: &mut Pcg32) -> Result<Choice, NoMemory>
+        ensures { IfOk result (λ chosen. (chosen, words.new) ≡ making.choice_by self.now kind words.old) }
     {
-        match kind {
-            0..=3 => self.invocation(words),
+        Ok(match kind {
+            0..=3 => return self.invocation(words),
             4 | 5 => self.synchronization(words),
             6 | 7 => self.collection(words),
             8 => self.fetching(words),
@@ -46,7 +47,7 @@ impl Maker {
             10 => self.keeping(Step::Nudge),
             11 => self.migration(words),
             _ => self.delivery(words),
-        }
+        })
     }
 
     // A step that leaves the cursor where it is.
@@ -126,15 +127,15 @@ impl Maker {
     // ---- orders
 
     // A client invokes a command, unless it waits for eight.
-    fn invocation(&self, words: &mut Pcg32) -> Choice
-        ensures { (result, words.new) ≡ making.invocation self.now words.old }
+    fn invocation(&self, words: &mut Pcg32) -> Result<Choice, NoMemory>
+        ensures { IfOk result (λ chosen. (chosen, words.new) ≡ making.invocation self.now words.old) }
     {
         let client = pick_to(words, self.plan().clients);
         if self.pending(client) >= MOST_PENDING {
-            return self.delivery(words);
+            return Ok(self.delivery(words));
         }
-        let command = made_command(words);
-        self.keeping(Step::Invoke { client, command })
+        let command = Shared::of(self.alloc(), &made_command(words))?;
+        Ok(self.keeping(Step::Invoke { client, command }))
     }
 
     // The least request that a client waits for is sent again, if there is one.

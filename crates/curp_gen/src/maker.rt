@@ -23,6 +23,7 @@ const SCRIPT_STREAM: u64 = 54;
 /// by what all steps before it led to.
 #[derive(Drop)]
 pub struct Maker {
+    alloc: Global,
     plan: MakePlan,
     world: Cluster,
     words: Pcg32,
@@ -68,6 +69,7 @@ impl Maker {
         ensures { IfOk result (λ maker. maker ≡ making.begun plan.now) }
     {
         Ok(Maker {
+            alloc,
             plan: *plan,
             world: Cluster::new(alloc, &plan.header())?,
             words: Pcg32::new(plan.number, SCRIPT_STREAM),
@@ -96,7 +98,7 @@ impl Maker {
         ensures err { OnErr result (self.new ≡ self.old) }
     {
         let mut words = copy_of(&self.words)?;
-        let choice = self.choice(&mut words);
+        let choice = self.choice(&mut words)?;
         let is_recovery = self.is_recovery_due();
         match self.world.step(&choice.step) {
             Ok(outcome) => {
@@ -136,6 +138,10 @@ impl Maker {
     }
 
     // ---- what choices go by
+
+    pub(crate) fn alloc(&self) -> Global {
+        self.alloc
+    }
 
     /// The plan of the script.
     pub(crate) fn plan(&self) -> MakePlan
@@ -214,8 +220,7 @@ fn made(alloc: Global, plan: &MakePlan, maker: &mut Maker) -> Result<(Header, Ve
     let mut list = Vec::with_capacity(alloc, plan.steps as usize)?;
     'steps: for _made in 0..plan.steps {
         let step = maker.next_step()?;
-        // By a slice: no proof is generated where a lone step goes through a `?`.
-        list.extend_from_slice(&[step])?;
+        list.push(step)?;
     }
     Ok((maker.header(), list))
 }

@@ -46,7 +46,7 @@ impl Arrived {
         ensures copy { IfOk result (λ copy. copy ≡ self.now) }
     {
         match self {
-            Arrived::Local(order, stamp) => Ok(Arrived::Local(*order, *stamp)),
+            Arrived::Local(order, stamp) => Ok(Arrived::Local(order.copy()?, *stamp)),
             Arrived::Message(named) => Ok(Arrived::Message(named.copy(alloc)?)),
         }
     }
@@ -56,7 +56,7 @@ impl Arrived {
         ensures given { IfOk result (λ input. input ≡ given self.now) }
     {
         match self {
-            Arrived::Local(order, _) => Ok(Input::Local(*order)),
+            Arrived::Local(order, _) => Ok(Input::Local(order.copy()?)),
             Arrived::Message(named) => Ok(Input::Message(named.message.copy(alloc)?)),
         }
     }

@@ -113,7 +113,7 @@ impl Managing {
         ensures numbered { IfOk result (λ r. IsNumberedBy self.next r.1) }
     {
         match line {
-            ManageLine::Order(order) => self.give(&Input::Local(*order)),
+            ManageLine::Order(order) => self.give(&Input::Local(order.copy()?)),
             ManageLine::Recovered { part, epoch } => self.give(&recovered(*part, *epoch)),
             ManageLine::Crash { call, kept } => Ok(self.order_crash(Crash {
                 call: *call,

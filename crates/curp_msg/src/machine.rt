@@ -1,15 +1,15 @@
-ghost use Rattle.std.specs.Prelude.{◌≡◌, ◌≢◌, [], Some, None, IsOk};
+ghost use Rattle.std.specs.Prelude.{◌≡◌, ◌≢◌, [], Some, None, IsOk, IfOk};
 
 use crate::Message;
-use curp_base::{Items, NoMemory};
+use curp_base::{Items, NoMemory, Shared};
 use curp_cmd::{Answer, Command, Keeper, NodeId, RequestId};
 use std::alloc::Global;
 
 /// An order that a node gets from whoever runs it, and not by a message. A node ignores those that aren't its own.
-#[derive(Clone, Copy, PartialEq, Eq)]
+#[derive(PartialEq, Eq, Drop)]
 pub enum Local {
     /// To a client: invoke the command.
-    Invoke(Command),
+    Invoke(Shared<Command>),
     /// To a client: send the pending request of that number again.
     Retry(u32),
     /// To a client: ask for the configuration.
@@ -40,6 +40,46 @@ pub enum Local {
     Nudge,
     /// To the manager: the client of that number is gone.
     Expire(u32),
+}
+
+impl Local {
+    /// The same order once more. It takes no memory, and fails where 2^63 - 1 hold its command.
+    pub fn copy(&self) -> Result<Local, NoMemory>
+        ensures { IfOk result (λ copy. copy ≡ self.now) }
+    {
+        Ok(match self {
+            Local::Invoke(command) => Local::Invoke(command.share()?),
+            Local::Retry(seq) => Local::Retry(*seq),
+            Local::Fetch => Local::Fetch,
+            Local::Sync => Local::Sync,
+            Local::Collect => Local::Collect,
+            Local::Recover {
+                part,
+                backup,
+                witness,
+            } => Local::Recover {
+                part: *part,
+                backup: *backup,
+                witness: *witness,
+            },
+            Local::Replace {
+                keeper,
+                part,
+                place,
+            } => Local::Replace {
+                keeper: *keeper,
+                part: *part,
+                place: *place,
+            },
+            Local::Migrate { lo, hi, to } => Local::Migrate {
+                lo: *lo,
+                hi: *hi,
+                to: *to,
+            },
+            Local::Nudge => Local::Nudge,
+            Local::Expire(client) => Local::Expire(*client),
+        })
+    }
 }
 
 /// What a node reacts to.

@@ -1,3 +1,4 @@
+use curp_base::Shared;
 use curp_cmd::{Command, Keeper, NodeId};
 
 /// The first line of a script: how many nodes there are, and how they work.
@@ -28,12 +29,12 @@ pub enum Protocol {
 }
 
 /// A step of a script.
-#[derive(Clone, Copy, PartialEq, Eq)]
+#[derive(PartialEq, Eq, Drop)]
 pub enum Step {
     /// A client invokes a command.
     Invoke {
         client: u32,
-        command: Command,
+        command: Shared<Command>,
     },
     /// The message of that number, counted from 1 through the whole run, comes to its addressee.
     Deliver {

@@ -18,7 +18,7 @@ use std::alloc::Global;
 use std::marker::{Model, PhantomData};
 
 /// What a line behind the header of a script says.
-pub trait ScriptLine: Copy {
+pub trait ScriptLine: Drop {
     /// What a line says, or why it is none.
     ghost meaning: { List ℕ → Result Self LineError };
 

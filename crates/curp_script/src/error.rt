@@ -1,6 +1,7 @@
 ghost use Rattle.std.specs.Prelude.{◌≡◌};
 ghost use Rattle.curp_script.specs.Text.{field_text};
 
+use curp_base::NoMemory;
 use std::fmt;
 
 /// Why a line is refused.
@@ -99,6 +100,17 @@ impl fmt::Display for LineError {
             LineError::BadField { name } => write!(f, "bad field {name}"),
             LineError::NoMemory => f.write_str("out of memory"),
         }
+    }
+}
+
+impl From<NoMemory> for LineError {
+    ghost use Rattle.std.specs.Prelude.{◌≡◌};
+    ghost use Rattle.curp_script.specs.declared.error.LineError.TheVariants as error;
+
+    ghost from_gives = { λ _ e. e ≡ error.NoMemory };
+
+    fn from(_error: NoMemory) -> LineError {
+        LineError::NoMemory
     }
 }
 

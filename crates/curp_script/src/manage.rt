@@ -6,7 +6,7 @@ use crate::FieldName;
 use curp_msg::Local;
 
 /// What a line says to `manage`, behind the header.
-#[derive(Clone, Copy, PartialEq, Eq)]
+#[derive(PartialEq, Eq, Drop)]
 pub enum ManageLine {
     /// The manager gets an order: `recover`, `replace`, `migrate`, `nudge` or `expire`.
     Order(Local),

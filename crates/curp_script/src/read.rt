@@ -61,7 +61,7 @@ impl LineReader {
             return Ok(Step::Deliver { message });
         }
         let object = parse_object(self.alloc, &mut self.scratch, line)?;
-        step_of(&object)
+        step_of(self.alloc, &object)
     }
 
     /// A line of a history or of an order, or why it is none. `NoMemory` says nothing of the line.

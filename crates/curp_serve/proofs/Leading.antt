@@ -60,6 +60,10 @@ longer_on made s new (Ok _) few led =
     let longer = quieting_longer made s led.ended.1 in
     subst (λ (t : Served). t.commands < length t.steps) (sym led.ended.0) (let one = same.commands in omega (arith, few, one, longer))
 
+-- without memory for the first step nothing has changed
+pub led_nowhere : (s next : Served) (r : Result ⊤ Stop) → r ≡ Err stop.NoMemory → IsPrefix s.steps next.steps → Led r s s next
+led_nowhere s next r is front = subst (λ (r : Result ⊤ Stop). Led r s s next) (sym is) (record { ended = front; grows = prefix_self s.steps })
+
 -- ---- deliveries
 
 -- where none is left, that is all

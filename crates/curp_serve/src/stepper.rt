@@ -5,13 +5,12 @@ ghost use Rattle.curp_model.specs.World.{opening};
 ghost use Rattle.curp_msg.specs.Script.{IsHeader};
 ghost use Rattle.curp_serve.specs.Ended.{Led, going};
 
-use curp_base::NoMemory;
+use curp_base::{NoMemory, Shared};
 use curp_cluster::Cluster;
 use curp_cmd::{Answer, Command, NodeId};
 use curp_msg::{Header, STEP_LIMIT, Step, StepResult};
 use std::alloc::Global;
 use std::marker::Model;
-use std::slice;
 
 /// After how many commands a round and a collection follow.
 const TIDY_EVERY: u64 = 16;
@@ -28,6 +27,7 @@ pub(crate) enum Stop {
 /// A cluster, and the steps that it has made.
 #[derive(Drop)]
 pub(crate) struct Stepper {
+    alloc: Global,
     cluster: Cluster,
     steps: Vec<Step>,
     delivered: u64,
@@ -53,6 +53,7 @@ impl Stepper {
         ensures { IfOk result (λ stepper. stepper ≡ going (opening header.now) [] 0 0 None) }
     {
         Ok(Stepper {
+            alloc,
             cluster: Cluster::new(alloc, header)?,
             steps: Vec::new(alloc),
             delivered: 0,
@@ -93,11 +94,9 @@ impl Stepper {
             (served.with_quieting (Step.Invoke 1 command.now) (record self.old { answer = None })) }
         ensures longer { OnOk result (self.new.commands < length self.new.steps) }
     {
+        let command = Shared::of(self.alloc, command)?;
         self.answer = None;
-        self.make_quieted(&Step::Invoke {
-            client: 1,
-            command: *command,
-        })
+        self.make_quieted(Step::Invoke { client: 1, command })
     }
 
     // The command is counted. After every sixteenth the cluster is tidied.
@@ -130,9 +129,9 @@ impl Stepper {
         ensures { Led result self.old self.new (served.tidies self.old) }
     {
         let master = self.newest();
-        self.make_quieted(&Step::Sync { master })?;
+        self.make_quieted(Step::Sync { master })?;
         let master = self.newest();
-        self.make_quieted(&Step::Collect { master })
+        self.make_quieted(Step::Collect { master })
     }
 
     // The newest master is stopped, another one recovers its partition, and the client asks for the configuration.
@@ -140,13 +139,13 @@ impl Stepper {
         ensures { Led result self.old self.new (served.replaces_master self.old) }
     {
         let node = NodeId::master(self.newest());
-        self.make(&Step::Stop { node })?;
-        self.make_quieted(&Step::Recover {
+        self.make(Step::Stop { node })?;
+        self.make_quieted(Step::Recover {
             part: 1,
             backup: 1,
             witness: 1,
         })?;
-        self.make_quieted(&Step::Fetch { client: 1 })
+        self.make_quieted(Step::Fetch { client: 1 })
     }
 
     // The number of the adopted master.
@@ -160,8 +159,8 @@ impl Stepper {
     }
 
     // Makes a step, and every message is delivered.
-    fn make_quieted(&mut self, step: &Step) -> Result<(), Stop>
-        ensures { Led result self.old self.new (served.with_quieting step.now self.old) }
+    fn make_quieted(&mut self, step: Step) -> Result<(), Stop>
+        ensures { Led result self.old self.new (served.with_quieting step self.old) }
     {
         self.make(step)?;
         self.quiet()
@@ -190,21 +189,21 @@ impl Stepper {
         ensures { Led result self.old self.new (served.delivers self.old) }
     {
         let message = self.delivered + 1;
-        self.make(&Step::Deliver { message })?;
+        self.make(Step::Deliver { message })?;
         self.delivered = message;
         Ok(())
     }
 
     // Makes a step, unless it would be one too many or all messages weigh too much.
-    fn make(&mut self, step: &Step) -> Result<(), Stop>
-        ensures { Led result self.old self.new (served.makes step.now self.old) }
+    fn make(&mut self, step: Step) -> Result<(), Stop>
+        ensures { Led result self.old self.new (served.makes step self.old) }
     {
         if self.steps.len() as u64 == STEP_LIMIT {
             return Err(Stop::TooManySteps);
         }
         curp_law_steps::only_the_named_node_moves();
         self.steps.reserve(1)?;
-        let outcome = self.cluster.step(step)?;
+        let outcome = self.cluster.step(&step)?;
         if let StepResult::Full { weight } = outcome.result {
             return Err(Stop::TooLarge { weight });
         }
@@ -217,12 +216,11 @@ impl Stepper {
 }
 
 // Adds a step, for which there is room.
-fn push(steps: &mut Vec<Step>, step: &Step)
+fn push(steps: &mut Vec<Step>, step: Step)
     requires { vec_len steps.old < vec_capacity steps.old }
-    ensures { steps.new.items ≡ steps.old.items ++ step.now ∷ [] }
+    ensures { steps.new.items ≡ steps.old.items ++ step ∷ [] }
 {
-    // By a slice: no proof is generated where a lone step is pushed.
-    match steps.extend_from_slice(slice::from_ref(step)) {
+    match steps.push(step) {
         Ok(()) => {}
         Err(_) => unreachable!(),
     }

@@ -1,30 +1,32 @@
-ghost use Rattle.std.specs.Prelude.{◌≡◌};
+ghost use Rattle.std.specs.Prelude.{◌≡◌, ◌≢◌, Err};
 ghost use Rattle.curp_script.specs.Grammar.{step_of, values_of};
 ghost use Rattle.curp_script.specs.Values.{value_data};
+ghost use Rattle.curp_script.specs.declared.error.LineError.{LineError};
 
-use super::command::command_at;
+use super::command::shared_command_at;
 use super::fields::{hash_at, index_at, keeper_at, kind_at, no_other, node_at, number_at};
 use crate::kind::Kind;
 use crate::{FieldName, LineError, Step};
 use json::Value as Json;
+use std::alloc::Global;
 
-pub(crate) fn step_of(object: &Json<'_>) -> Result<Step, LineError>
-    ensures { result ≡ step_of (value_data object.now) }
+pub(crate) fn step_of(alloc: Global, object: &Json<'_>) -> Result<Step, LineError>
+    ensures { result ≢ Err LineError.NoMemory → result ≡ step_of (value_data object.now) }
 {
     let kind = kind_at(object)?;
-    let step = values_of(kind, object)?;
+    let step = values_of(alloc, kind, object)?;
     no_other(object, kind.names())?;
     Ok(step)
 }
 
 // The step of a kind, by the values of its names, in byte order.
-fn values_of(kind: Kind, object: &Json<'_>) -> Result<Step, LineError>
-    ensures { result ≡ values_of kind (value_data object.now) }
+fn values_of(alloc: Global, kind: Kind, object: &Json<'_>) -> Result<Step, LineError>
+    ensures { result ≢ Err LineError.NoMemory → result ≡ values_of kind (value_data object.now) }
 {
     Ok(match kind {
         Kind::Invoke => Step::Invoke {
             client: index_at(object, FieldName::Client)?,
-            command: command_at(object)?,
+            command: shared_command_at(alloc, object)?,
         },
         Kind::Deliver => Step::Deliver {
             message: number_at(object, FieldName::Msg, 0, u64::MAX)?,

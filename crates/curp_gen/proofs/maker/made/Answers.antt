@@ -10,7 +10,7 @@ steps-preserved c =
     record {
       plan = ap (λ (m : Making). m.plan) next ∙ next_plan c.steps.maker ∙ is.plan;
       made = ap (λ (m : Making). m.made) next ∙ next_made c.steps.maker ∙ ap (λ (n : ℕ). n + 1) is.made;
-      steps = rw c.in_ok-extend_from_slice.ensures.items
+      steps = rw c.in_ok-push.ensures.items
           (steps_go_on c.steps.list.items c.args.plan.now.steps c.steps._made c.steps.maker c.next_step.new.self _ c.in_ok-step.step
           c.steps-test.true c.in_ok-step.ensures.step next is.steps);
     }

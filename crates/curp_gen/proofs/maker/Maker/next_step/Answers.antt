@@ -19,9 +19,9 @@ invariant_of-self c =
     let fewer : c.is_recovery_due-is_recovery.result ≡ true → c.self.inside.recoveries < c.self.inside.plan.recoveries
     = λ (e : c.is_recovery_due-is_recovery.result ≡ true). subst (λ (m : Making). m.recoveries < m.plan.recoveries) (sym c.self.view_is)
     (recovery_room c.args.self.now (sym due ∙ e)) in
-    let stay : length c.self.inside.world.masters ≤ length (step c.self.inside.world c.choice-choice.result.step).world.masters
-    = masters_stay c.self.inside.world c.choice-choice.result.step in
-    let there : 1 ≤ length (step c.self.inside.world c.choice-choice.result.step).world.masters = omega (arith, stay, is.masters) in
+    let stay : length c.self.inside.world.masters ≤ length (step c.self.inside.world c.in_ok-choice.choice.step).world.masters
+    = masters_stay c.self.inside.world c.in_ok-choice.choice.step in
+    let there : 1 ≤ length (step c.self.inside.world c.in_ok-choice.choice.step).world.masters = omega (arith, stay, is.masters) in
     let few : plus_if c.is_recovery_due-is_recovery.result c.self.inside.recoveries ≤ c.self.inside.plan.recoveries
     = plus_if_within c.is_recovery_due-is_recovery.result c.self.inside.recoveries c.self.inside.plan.recoveries fewer is.recoveries in
     record {
@@ -36,14 +36,14 @@ invariant_of-self c =
 pub returns-in-Ok-clause-step : goal.returns-in-Ok-clause-step
 returns-in-Ok-clause-step c =
     let words : c.in_ok-words.words ≡ c.args.self.now.words = c.in_ok-words.ensures ∙ ap (λ (m : Making). m.words) c.self.view_is in
-    step_is_next c.args.self.now c.choice-choice.result c.choice-choice.new.words
-    (c.choice-choice.ensures ∙ ap (choice c.args.self.now) words)
+    step_is_next c.args.self.now c.in_ok-choice.choice c.choice.new.words
+    (c.in_ok-choice.ensures ∙ ap (choice c.args.self.now) words)
 
 pub returns-in-Ok-clause-names_node : goal.returns-in-Ok-clause-names_node
 returns-in-Ok-clause-names_node c =
     let words : c.in_ok-words.words ≡ c.args.self.now.words = c.in_ok-words.ensures ∙ ap (λ (m : Making). m.words) c.self.view_is in
-    let chosen : (c.choice-choice.result, c.choice-choice.new.words) ≡ choice c.args.self.now c.args.self.now.words
-    = c.choice-choice.ensures ∙ ap (choice c.args.self.now) words in
+    let chosen : (c.in_ok-choice.choice, c.choice.new.words) ≡ choice c.args.self.now c.args.self.now.words
+    = c.in_ok-choice.ensures ∙ ap (choice c.args.self.now) words in
     subst NamesNode (sym (ap (λ (made : Choice × Lcg). made.0.step) chosen)) (next_names_node c.args.self.now)
 
 pub returns-in-Ok-clause-state : goal.returns-in-Ok-clause-state
@@ -59,12 +59,12 @@ returns-in-Ok-clause-state c =
       completed = c.self.inside.completed;
     } in
     let view_is : seen ≡ c.args.self.now = c.self.view_is in
-    let chosen : (c.choice-choice.result, c.choice-choice.new.words) ≡ choice seen seen.words
-    = c.choice-choice.ensures ∙ ap (λ (m : Making). choice m c.in_ok-words.words) (sym view_is) ∙ ap (choice seen) c.in_ok-words.ensures in
+    let chosen : (c.in_ok-choice.choice, c.choice.new.words) ≡ choice seen seen.words
+    = c.in_ok-choice.ensures ∙ ap (λ (m : Making). choice m c.in_ok-words.words) (sym view_is) ∙ ap (choice seen) c.in_ok-words.ensures in
     let due : c.is_recovery_due-is_recovery.result ≡ is_recovery_due seen
     = c.is_recovery_due-is_recovery.ensures ∙ ap is_recovery_due (sym view_is) in
     let completes : c.is_some.result ≡ is_some c.in-Ok.outcome.completed = c.is_some.ensures in
-    let next = state_is_next seen c.choice-choice.result c.choice-choice.new.words c.step.new.self c.in-Ok.outcome
+    let next = state_is_next seen c.in_ok-choice.choice c.choice.new.words c.step.new.self c.in-Ok.outcome
     c.plus_if-self-inside.result c.plus_if-self-inside-in-Ok.result c.plus_if-self-inside-in-Ok-2.result
     chosen c.in-Ok.ensures.0 c.in-Ok.ensures.1
     (c.plus_if-self-inside.ensures ∙ ap (λ (so : Bool). plus_if so c.self.inside.recoveries) due)

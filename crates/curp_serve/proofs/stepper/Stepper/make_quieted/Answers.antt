@@ -6,4 +6,4 @@ use Rattle.curp_serve.proofs.stepper.Stepper.make_quieted.Goals as goal
 
 pub returns-in_err-make : goal.returns-in_err-make
 returns-in_err-make c =
-    led_stop c.from_residual.result c.in_err-make.field-0.0 (search rules) (makes c.args.step.now c.args.self.now) quiets (λ u. (quiets_goes u).steps) c.in_err-make.ensures
+    led_stop c.from_residual.result c.in_err-make.field-0.0 (search rules) (makes c.args.step c.args.self.now) quiets (λ u. (quiets_goes u).steps) c.in_err-make.ensures
