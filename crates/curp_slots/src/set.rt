@@ -79,6 +79,9 @@ impl Set {
     pub fn free(&mut self, listed: &Listed)
         ensures { self.new ≡ slots_left listed.now self.old }
     {
+        if self.len == 0 {
+            return;
+        }
         let mut left = Set::new();
         for slot in self.taken() {
             if !listed.has(&slot.id) {
