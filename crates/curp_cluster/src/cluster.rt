@@ -11,7 +11,7 @@ use crate::marks::{Due, flag};
 use crate::nodes::Nodes;
 use crate::ordered;
 use crate::orders::order_of;
-use crate::sent::Sent;
+use crate::sent::{Place, Sent};
 use crate::stopped::Stopped;
 use curp_base::NoMemory;
 use curp_cmd::{Answer, KeptCommand, NodeId, RequestId, Standby};
@@ -134,7 +134,7 @@ impl Cluster {
     pub fn step(&mut self, step: &Step) -> Result<Outcome, NoMemory>
         ensures { MakesStep self.old self.new result (world.step self.old step.now) }
     {
-        if let Some((to, order)) = order_of(step) {
+        if let Some((to, order)) = order_of(step)? {
             if self.expires_nobody(step) {
                 return Ok(self.silent(StepResult::NoNode));
             }
@@ -152,9 +152,10 @@ impl Cluster {
     fn deliver(&mut self, message: u64) -> Result<Outcome, NoMemory>
         ensures { MakesStep self.old self.new result (world.step self.old (Step.Deliver message)) }
     {
-        match self.addressee(message) {
+        let place = self.sent.place_of(message);
+        match self.addressee(&place) {
             None => Ok(self.silent(StepResult::NoMessage)),
-            Some(to) => self.hand(to, &Gift::Message(message)),
+            Some(to) => self.hand(to, &Gift::Message(place)),
         }
     }
 
@@ -168,11 +169,11 @@ impl Cluster {
         }
     }
 
-    // Whom the message of that number goes to.
-    fn addressee(&self, number: u64) -> Option<NodeId>
-        ensures { result ≡ option_map (λ m. m.to) (numbered (world.messages self.now) number) }
+    // Whom the message of that place goes to.
+    fn addressee(&self, place: &Place) -> Option<NodeId>
+        ensures { result ≡ option_map (λ m. m.to) (numbered (world.messages self.now) place.now) }
     {
-        self.sent.get(number).map(|message| message.to)
+        self.sent.get_at(place).map(|message| message.to)
     }
 
     // The node of that name is handed what it is to get, unless something is in the way.
@@ -263,7 +264,7 @@ fn given_of<'a>(sent: &'a Sent, gift: &'a Gift) -> Given<'a>
 {
     match gift {
         Gift::Order(order) => Given::Order(order),
-        Gift::Message(number) => match sent.get(*number) {
+        Gift::Message(place) => match sent.get_at(place) {
             Some(message) => Given::Message(message),
             None => unreachable!(),
         },

@@ -1,4 +1,4 @@
-ghost use Rattle.std.specs.Prelude.{◌≡◌, ◌+◌, ◌≤◌, ◌<◌, ◌^◌, [], length, OnOk, IfOk, IfErr, IfSome, IfNone};
+ghost use Rattle.std.specs.Prelude.{◌≡◌, ◌+◌, ◌≤◌, ◌<◌, ◌^◌, [], length, OnOk, IfOk, IfErr, IfSome, IfNone, IsTrue};
 ghost use Rattle.std.specs.Option.{option_copied};
 ghost use Rattle.curp_base.specs.Words.{numbered, all_of};
 ghost use Rattle.curp_model.specs.World.{sent_at, with_batch};
@@ -105,8 +105,23 @@ impl Sent {
     pub(crate) fn get(&self, number: u64) -> Option<&Message>
         ensures { option_copied result ≡ numbered (all_of self.now.lists) number }
     {
-        let index = batch_of(&self.firsts, number)?;
-        let offset = number - self.firsts[index];
+        self.get_at(&self.place_of(number))
+    }
+
+    /// Where the message of that number is to be looked for.
+    pub(crate) fn place_of(&self, number: u64) -> Place
+        ensures { result ≡ number }
+    {
+        let batch = batch_of(&self.firsts, number).unwrap_or(0);
+        Place { number, batch }
+    }
+
+    /// The message of that number. Where it still stands at its place, it isn't searched for.
+    pub(crate) fn get_at(&self, place: &Place) -> Option<&Message>
+        ensures { option_copied result ≡ numbered (all_of self.now.lists) place.now }
+    {
+        let index = batch_at(&self.firsts, place)?;
+        let offset = place.number - self.firsts[index];
         self.batches[index].as_slice().get(offset as usize)
     }
 
@@ -122,6 +137,21 @@ impl Sent {
     }
 }
 
+/// The number of a message, and the batch in which it was found. Contracts see the number.
+#[derive(Drop)]
+pub(crate) struct Place {
+    number: u64,
+    batch: usize,
+}
+
+impl Model for Place {
+    ghost use Rattle.std.specs.Prelude.{ℕ};
+
+    ghost Value = { ℕ };
+
+    ghost view = { λ p. p.number };
+}
+
 // What messages weigh in all.
 fn weight_of_all(messages: &[Message]) -> u64
     ensures { result ≡ weight_of_all messages.now }
@@ -131,6 +161,30 @@ fn weight_of_all(messages: &[Message]) -> u64
         total = total.saturating_add(weight(message));
     }
     total
+}
+
+// The batch that has the number of a place or, of a number past all, the last one.
+fn batch_at(firsts: &[u64], place: &Place) -> Option<usize>
+    requires { Rise firsts.now }
+    ensures some { IfSome result (IsBatchOf firsts.now place.now) }
+    ensures none { IfNone result (IsGapAt firsts.now place.now 0) }
+{
+    if is_batch_of(firsts, place.number, place.batch) {
+        Some(place.batch)
+    } else {
+        batch_of(firsts, place.number)
+    }
+}
+
+// Whether the batch at that index has the number, or is the last one and has none past it.
+fn is_batch_of(firsts: &[u64], number: u64, at: usize) -> bool
+    requires { Rise firsts.now }
+    ensures { IsTrue result → IsBatchOf firsts.now number at }
+{
+    if at >= firsts.len() || number < firsts[at] {
+        return false;
+    }
+    at + 1 == firsts.len() || number < firsts[at + 1]
 }
 
 // The batch that has a number or, of a number past all, the last one.

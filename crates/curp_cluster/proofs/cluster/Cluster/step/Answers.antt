@@ -7,13 +7,13 @@ use Rattle.curp_cluster.proofs.cluster.Cluster.step.Goals as goal
 
 pub hand-requires : goal.hand-requires
 hand-requires c =
-    let ordered = subst (IsOrdered c.args.self.now c.args.step.now) (sym c.in-Some.ensures)
+    let ordered = subst (IsOrdered c.args.self.now c.args.step.now) (sym c.in_ok-to.ensures ∙ c.in-Some.is)
     (orders c.args.self.now c.args.step.now (sym c.expires_nobody.ensures ∙ c.if-expires_nobody.false)) in
     ordered.1
 
 pub returns-in-Some : goal.returns-in-Some
 returns-in-Some c =
-    let ordered = subst (IsOrdered c.args.self.now c.args.step.now) (sym c.in-Some.ensures)
+    let ordered = subst (IsOrdered c.args.self.now c.args.step.now) (sym c.in_ok-to.ensures ∙ c.in-Some.is)
     (orders c.args.self.now c.args.step.now (sym c.expires_nobody.ensures ∙ c.if-expires_nobody.false)) in
     subst (MakesStep c.args.self.now c.hand.new.self c.hand.result) (sym ordered.0) c.hand.ensures
 
