@@ -130,7 +130,7 @@ impl<N: Core> Desk<N> {
         listener: &L,
     ) -> Result<(), NoMemory> {
         for _ in rt.forever() {
-            let Some(order) = chores.due() else {
+            let Some(order) = chores.due()? else {
                 break;
             };
             self.give(rt, gate, chores, listener, Arrived::Local(order, 0))?;

@@ -1,8 +1,8 @@
 -- What loops over journals find, one item or one node further.
-use Rattle.std.proofs.Common.{◌≡◌, ◌⊎◌, inl, inr, ◌+◌, ◌<◌, ◌≤◌, ℕ, Bool, zero, suc, List, [], ◌∷◌, ◌++◌, length, length-append, min, take, get_or, false, refl, ap, ◌∙◌, subst, sym, add-one, arith}
+use Rattle.std.proofs.Common.{◌≡◌, ◌⊎◌, inl, inr, ◌+◌, ◌<◌, ◌≤◌, ℕ, Bool, zero, suc, List, [], ◌∷◌, ◌++◌, length, length-append, min, get_or, false, refl, ap, ◌∙◌, subst, sym, arith}
 use Rattle.std.proofs.lemmas.Option.{slice_get_read}
 use Rattle.curp_base.specs.Words.{At, Each}
-use Rattle.curp_base.proofs.Lists.{Each-append, Each-at, Each-weaker, at_map, at_push_cases, at_same, at_within}
+use Rattle.curp_base.proofs.Lists.{Each-append, Each-at, Each-weaker, at_push_cases, at_same, at_within}
 use Rattle.curp_cmd.specs.declared.command.Command.{Command}
 use Rattle.curp_cmd.specs.declared.node.NodeId.{NodeId}
 use Rattle.curp_cmd.specs.declared.node.NodeKind.{NodeKind}
@@ -11,7 +11,7 @@ use Rattle.curp_journal.specs.Journal.{NodeJournal}
 use Rattle.curp_journal.specs.declared.item.Item.{Item}
 use Rattle.curp_model.specs.Client.{ClientState}
 use Rattle.curp_turns.specs.Work.{DidWork}
-use Rattle.curp_live.specs.Opening.{AllOwn, HaveJournals, IsAdded, IsAnew, IsOneOf, NamesRise, outputs_of}
+use Rattle.curp_live.specs.Opening.{AllOwn, HaveJournals, IsAdded, IsAnew, IsOneOf, NamesRise}
 
 -- below one more is below, or there
 below_or_at : (t k : ℕ) → t < k + 1 → (t < k) ⊎ (t ≡ k)
@@ -31,38 +31,6 @@ scan_more {A} P xs k x within is good before t y below at = by_case (below_or_at
         let here : At xs k x = slice_get_read xs (length xs) k x refl within is in
         let there : At xs k y = subst (λ n. At xs n y) same at in
         subst P (at_same xs k x y here there) good
-
--- two lists that are the same so far, and hold the same next, are the same one further
-same_next : {A : Type 0} (xs ys : List A) (k : ℕ) (x : A) → At xs k x → At ys k x → take k xs ≡ take k ys → take (suc k) xs ≡ take (suc k) ys
-same_next [] ys k x at_x at_y before = absurd cc
-same_next (a ∷ xs) [] k x at_x at_y before = absurd cc
-same_next (a ∷ xs) (b ∷ ys) zero x at_x at_y before =
-    let one : a ≡ x = cc in
-    let other : b ≡ x = cc in
-    ap (λ z. z ∷ []) (one ∙ sym other)
-same_next (a ∷ xs) (b ∷ ys) (suc k) x at_x at_y before =
-    let first : a ≡ b = cc in
-    let rest : take k xs ≡ take k ys = cc in
-    ap (λ z. z ∷ take (suc k) xs) first ∙ ap (λ zs. b ∷ zs) (same_next xs ys k x at_x at_y rest)
-
--- the outputs are the same so far, and of the items that were read
-pub outputs_more : (xs ys : List Item) (k : ℕ) (x y : Item) → k < length xs → k < length ys → x ≡ get_or xs k x → y ≡ get_or ys k y
-    → (get_or xs k x).done ≡ (get_or ys k y).done → take k (outputs_of xs) ≡ take k (outputs_of ys) → take (k + 1) (outputs_of xs) ≡ take (k + 1) (outputs_of ys)
-outputs_more xs ys k x y in_xs in_ys is_x is_y same before =
-    let one : x.done ≡ y.done = ap (λ (item : Item). item.done) is_x ∙ (same ∙ sym (ap (λ (item : Item). item.done) is_y)) in
-    let at_x = at_map (λ (item : Item). item.done) xs k x (slice_get_read xs (length xs) k x refl in_xs is_x) in
-    let at_y = at_map (λ (item : Item). item.done) ys k y (slice_get_read ys (length ys) k y refl in_ys is_y) in
-    rw add-one (same_next (outputs_of xs) (outputs_of ys) k x.done at_x (subst (λ done. At (outputs_of ys) k done) (sym one) at_y) before)
-
--- outputs that are the same are the same of the items that were read
-pub outputs_at : (xs ys : List Item) (k : ℕ) (x y : Item) → k < length xs → k < length ys → x ≡ get_or xs k x → y ≡ get_or ys k y
-    → outputs_of xs ≡ outputs_of ys → (get_or xs k x).done ≡ (get_or ys k y).done
-outputs_at xs ys k x y in_xs in_ys is_x is_y same =
-    let at_x = at_map (λ (item : Item). item.done) xs k x (slice_get_read xs (length xs) k x refl in_xs is_x) in
-    let at_y = at_map (λ (item : Item). item.done) ys k y (slice_get_read ys (length ys) k y refl in_ys is_y) in
-    ap (λ (item : Item). item.done) (sym is_x)
-    ∙ at_same (outputs_of ys) k x.done y.done (subst (λ outputs. At outputs k x.done) same at_x) at_y
-    ∙ ap (λ (item : Item). item.done) is_y
 
 -- the journals of so many nodes
 pub record SoFar {N : Type 0} (kind : NodeKind) (there : ℕ) (nodes : List N) (n : ℕ) (logs : List (NodeJournal N)) : Type 0 where
@@ -150,15 +118,10 @@ anew_next {N} kind there n nodes node is_there old new at past fresh (inr put) s
       whole = whole_with n there old log number so_far.few so_far.whole;
     })
 
--- the journal that was made again of a node's is begun with the node, also where it ends in a stop
-pub begun_anew : {N : Type 0} (id name : NodeId) (node : N) (items : List Item) (made log : NodeJournal N) (ended : Bool) → name ≡ id
-    → made ≡ record { id = name; opening = node; items = items; ended = false } → log ≡ record made { ended = ended }
-    → AllOwn id made.items → IsAnew id node log
-begun_anew {N} id name node items made log ended same is with_end own = record {
-  its_name = ap (λ (l : NodeJournal N). l.id) with_end ∙ ap (λ (l : NodeJournal N). l.id) is ∙ same;
-  begins = ap (λ (l : NodeJournal N). l.opening) with_end ∙ ap (λ (l : NodeJournal N). l.opening) is;
-  own = subst (λ (items : List Item). AllOwn id items) (sym (ap (λ (l : NodeJournal N). l.items) with_end)) own;
-}
+-- the journal of a node that was begun with it
+pub begun_anew : {N : Type 0} (id : NodeId) (node : N) (taken log : NodeJournal N) → taken.id ≡ id → AllOwn id taken.items
+    → log ≡ record taken { opening = node } → IsAnew id node log
+begun_anew {N} id node taken log same own is = rw is (record { its_name = same; begins = refl; own = own })
 
 -- the clients so far did their lists of work
 abbrev pub DidSoFar : List (List Command) → List (NodeJournal (Node ClientState)) → ℕ → Type 0

@@ -1,12 +1,11 @@
 -- The nodes that a run begins with, and the journals of such nodes (this project's own).
-use Rattle.std.specs.Prelude.{◌≡◌, ◌⊎◌, ◌+◌, ◌*◌, ◌<◌, ◌≤◌, ltb, ℕ, Bool, true, false, not, nat_eq, List, [], ◌∷◌, ◌++◌, length, map, min, replicate, take, drop}
+use Rattle.std.specs.Prelude.{◌≡◌, ◌⊎◌, ◌+◌, ◌*◌, ◌<◌, ◌≤◌, ltb, ℕ, Bool, true, false, not, nat_eq, List, [], ◌∷◌, ◌++◌, length, min, replicate, take, drop}
 use Rattle.std.specs.List.{filter}
 use Rattle.curp_base.specs.Words.{At, Each}
 use Rattle.curp_cmd.specs.Node.{manager_node}
 use Rattle.curp_cmd.specs.declared.node.NodeId.{NodeId}
 use Rattle.curp_cmd.specs.declared.node.NodeKind.{NodeKind}
 use Rattle.curp_cmd.specs.declared.node.NodeKind.TheVariants as kind
-use Rattle.curp_msg.specs.declared.machine.Done.{Done}
 use Rattle.curp_msg.specs.declared.script.Header.{Header}
 use Rattle.curp_journal.specs.Journal.{NodeJournal}
 use Rattle.curp_journal.specs.declared.item.Item.{Item}
@@ -31,10 +30,6 @@ pub record IsOpening (h : Header) (recoveries : ℕ) (nodes : LiveNodes) : Type 
   pub master_numbers : HasNumbers nodes.masters.items
   pub backup_numbers : HasNumbers nodes.backups.items
   pub witness_numbers : HasNumbers nodes.witnesses.items
-
--- what a node did by its items: what it sent, and what it completed
-abbrev pub outputs_of : List Item → List Done
-outputs_of items = map (λ (item : Item). item.done) items
 
 -- what came to the node is its own
 abbrev pub AllOwn : NodeId → List Item → Type 0

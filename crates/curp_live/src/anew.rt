@@ -1,19 +1,18 @@
 ghost use Rattle.std.specs.Prelude.{◌≡◌, ◌↔◌, ◌+◌, ◌<◌, ◌^◌, ◌++◌, false, true, length, Some, IfOk, IfSome, IsSomeAnd, IsTrue};
 ghost use Rattle.curp_law_weave.specs.Run.{TakesFirst};
-ghost use Rattle.curp_live.specs.Opening.{AreAnew, AreTaken, IsAdded, IsAnew, IsTakenOf, all_handed_out, handed_out, outputs_of};
+ghost use Rattle.curp_live.specs.Opening.{AreAnew, AreTaken, IsAdded, IsAnew, IsTakenOf, all_handed_out, handed_out};
 
-use crate::outputs::did_same;
 use crate::own::all_own;
 use curp_base::NoMemory;
 use curp_cmd::{NodeId, NodeKind};
 use curp_journal::{Arrived, Item};
 use curp_msg::Core;
-use curp_seat::{Kept, again};
+use curp_seat::Kept;
 use std::alloc::Global;
 
 /// The nodes of a kind, of which so many are there before any step and the others are fresh, and the journals that were
 /// taken of them.
-pub(crate) type OfKind<'a, N> = (NodeKind, usize, Vec<N>, &'a [Kept<N>]);
+pub(crate) type OfKind<N> = (NodeKind, usize, Vec<N>, Vec<Kept<N>>);
 
 /// The same journals of nodes of a kind, begun with these nodes. One of a fresh node that took nothing is left out.
 /// None where one isn't that of a node.
@@ -22,22 +21,21 @@ pub(crate) fn all_anew<N: Core + Drop>(
     kind: NodeKind,
     there: usize,
     nodes: Vec<N>,
-    taken: &[Kept<N>],
+    taken: Vec<Kept<N>>,
 ) -> Result<Option<Vec<Kept<N>>>, NoMemory>
     requires { length nodes.items + 1 < 2 ^ 32 }
     ensures anew { IfOk result (λ made. IfSome made (λ logs. AreAnew kind there nodes.items logs.items)) }
-    ensures same { AreTaken kind there nodes.items taken.now
-        → IfOk result (λ made. IsSomeAnd made (λ logs. logs.items ≡ all_handed_out there taken.now)) }
+    ensures same { AreTaken kind there nodes.items taken.items
+        → IfOk result (λ made. IsSomeAnd made (λ logs. logs.items ≡ all_handed_out there taken.items)) }
 {
+    if taken.len() != nodes.len() {
+        return Ok(None);
+    }
     let mut logs = Vec::with_capacity(alloc, nodes.len())?;
     let mut place: usize = 0;
-    for node in nodes {
-        let Some(kept) = taken.get(place) else {
-            return Ok(None);
-        };
+    for (node, kept) in nodes.into_iter().zip(taken) {
         let number = place as u32 + 1;
         if !add_anew(
-            alloc,
             NodeId { kind, number },
             place < there,
             node,
@@ -54,22 +52,21 @@ pub(crate) fn all_anew<N: Core + Drop>(
 /// Adds the same journal, begun with this node, which is there before any step or fresh. A fresh node that took nothing
 /// has none. Whether it is that node's.
 fn add_anew<N: Core + Drop>(
-    alloc: Global,
     id: NodeId,
     is_there: bool,
     node: N,
-    taken: &Kept<N>,
+    taken: Kept<N>,
     logs: &mut Vec<Kept<N>>,
 ) -> Result<bool, NoMemory>
     ensures added { IfOk result (λ is. IsTrue is → IsAdded id is_there node logs.old.items logs.new.items) }
-    ensures same { IsTakenOf id is_there node taken.now → IfOk result (λ is. is ≡ true) }
-    ensures whole { IsTakenOf id is_there node taken.now
-        → IfOk result (λ _. logs.new.items ≡ logs.old.items ++ handed_out is_there taken.now) }
+    ensures same { IsTakenOf id is_there node taken → IfOk result (λ is. is ≡ true) }
+    ensures whole { IsTakenOf id is_there node taken
+        → IfOk result (λ _. logs.new.items ≡ logs.old.items ++ handed_out is_there taken) }
 {
     if !is_there && taken.journal().is_empty() {
         return Ok(true);
     }
-    let Some(log) = anew(alloc, id, node, taken)? else {
+    let Some(log) = anew(id, node, taken)? else {
         return Ok(false);
     };
     if !is_there && !takes_first(log.journal()) {
@@ -98,13 +95,13 @@ pub(crate) fn both_anew<N: Core + Drop, M: Core + Drop>(
     requires first { length first.2.items + 1 < 2 ^ 32 }
     requires second { length second.2.items + 1 < 2 ^ 32 }
     ensures first { IfOk result
-        (λ made. IfSome made (λ logs. AreAnew first.entry.0 first.entry.1 first.entry.2.items logs.0.items)) }
+        (λ made. IfSome made (λ logs. AreAnew first.0 first.1 first.2.items logs.0.items)) }
     ensures second { IfOk result
-        (λ made. IfSome made (λ logs. AreAnew second.entry.0 second.entry.1 second.entry.2.items logs.1.items)) }
-    ensures same { AreTaken first.entry.0 first.entry.1 first.entry.2.items first.entry.3.now
-        → AreTaken second.entry.0 second.entry.1 second.entry.2.items second.entry.3.now
-        → IfOk result (λ made. IsSomeAnd made (λ logs. (logs.0.items ≡ all_handed_out first.entry.1 first.entry.3.now)
-        × (logs.1.items ≡ all_handed_out second.entry.1 second.entry.3.now))) }
+        (λ made. IfSome made (λ logs. AreAnew second.0 second.1 second.2.items logs.1.items)) }
+    ensures same { AreTaken first.0 first.1 first.2.items first.3.items
+        → AreTaken second.0 second.1 second.2.items second.3.items
+        → IfOk result (λ made. IsSomeAnd made (λ logs. (logs.0.items ≡ all_handed_out first.1 first.3.items)
+        × (logs.1.items ≡ all_handed_out second.1 second.3.items))) }
 {
     let Some(one) = all_anew(alloc, first.0, first.1, first.2, first.3)? else {
         return Ok(None);
@@ -118,36 +115,20 @@ pub(crate) fn both_anew<N: Core + Drop, M: Core + Drop>(
 /// The same journal, begun with this node, with a last stop where that one has one. None where it isn't that node's:
 /// where it has another name, the node does otherwise on what came, or something came that isn't its own.
 pub(crate) fn anew<N: Core + Drop>(
-    alloc: Global,
     id: NodeId,
     node: N,
-    taken: &Kept<N>,
+    taken: Kept<N>,
 ) -> Result<Option<Kept<N>>, NoMemory>
     ensures anew { IfOk result (λ made. IfSome made (λ log. IsAnew id node log)) }
-    ensures outputs { IfOk result (λ made. IfSome made (λ log. outputs_of log.items ≡ outputs_of taken.now.items)) }
-    ensures ended { IfOk result (λ made. IfSome made (λ log. log.ended ≡ taken.now.ended)) }
-    ensures same { IsAnew id node taken.now → IfOk result (λ made. made ≡ Some taken.now) }
+    ensures items { IfOk result (λ made. IfSome made (λ log. log.items ≡ taken.items)) }
+    ensures ended { IfOk result (λ made. IfSome made (λ log. log.ended ≡ taken.ended)) }
+    ensures same { IsAnew id node taken → IfOk result (λ made. made ≡ Some taken) }
 {
     if taken.id() != id {
         return Ok(None);
     }
-    let Some(log) = again(alloc, taken, node)? else {
+    if !all_own(id, taken.journal()) {
         return Ok(None);
-    };
-    if did_same(log.journal(), taken.journal()) && all_own(id, log.journal()) {
-        Ok(Some(ended_as(taken.ended(), log)))
-    } else {
-        Ok(None)
     }
-}
-
-/// A journal, with a last stop or with none.
-fn ended_as<N: Core>(ended: bool, mut log: Kept<N>) -> Kept<N>
-    requires { log.ended ≡ false }
-    ensures { result ≡ record log { ended = ended } }
-{
-    if ended {
-        log.mark_stop();
-    }
-    log
+    taken.begun_with(node)
 }

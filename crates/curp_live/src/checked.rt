@@ -26,14 +26,14 @@ pub(crate) fn checked(
     alloc: Global,
     plan: &LivePlan,
     work: &[Vec<Command>],
-    taken: &Journals,
+    taken: Journals,
 ) -> Result<Option<Journals>, NoMemory>
     requires plan { IsLivePlan plan.now }
     requires work { length work.now ≡ plan.now.clients }
     ensures run { IfOk result (λ checked. IfSome checked (IsLiveRun plan.now (map (λ list. list.items) work.now))) }
     ensures same { Each (λ list. length list.items < 2 ^ 32) work.now
-        → IsTakenRun plan.now (map (λ list. list.items) work.now) taken.now
-        → IfOk result (λ checked. IsSomeAnd checked (AreHandedOut (live_header plan.now) taken.now)) }
+        → IsTakenRun plan.now (map (λ list. list.items) work.now) taken
+        → IfOk result (λ checked. IsSomeAnd checked (AreHandedOut (live_header plan.now) taken)) }
 {
     let Some(journals) = all_as_at_opening(alloc, &plan.header(), plan.recoveries, taken)? else {
         return Ok(None);
@@ -55,7 +55,7 @@ pub(crate) fn checked(
 pub fn anew_at_opening(
     alloc: Global,
     header: &Header,
-    taken: &Journals,
+    taken: Journals,
 ) -> Result<Option<Journals>, NoMemory>
     requires { IsHeader header.now }
     ensures { IfOk result (λ made. IfSome made (λ journals. AreOf header.now journals)) }
@@ -69,16 +69,16 @@ fn all_as_at_opening(
     alloc: Global,
     header: &Header,
     recoveries: u32,
-    taken: &Journals,
+    taken: Journals,
 ) -> Result<Option<Journals>, NoMemory>
     requires header { IsHeader header.now }
     requires recoveries { recoveries ≤ 8 }
     ensures anew { IfOk result (λ made. IfSome made (λ journals. AreAllAnew header.now recoveries journals)) }
-    ensures same { AreAllTaken header.now recoveries taken.now
-        → IfOk result (λ made. IsSomeAnd made (AreHandedOut header.now taken.now)) }
+    ensures same { AreAllTaken header.now recoveries taken
+        → IfOk result (λ made. IsSomeAnd made (AreHandedOut header.now taken)) }
 {
     let nodes = LiveNodes::opening(alloc, header, recoveries)?;
-    let Some(manager) = manager_anew(alloc, nodes.manager, &taken.manager)? else {
+    let Some(manager) = manager_anew(nodes.manager, taken.manager)? else {
         return Ok(None);
     };
     let parts = header.parts as usize;
@@ -87,26 +87,11 @@ fn all_as_at_opening(
         NodeKind::Client,
         header.clients as usize,
         nodes.clients,
-        taken.clients.as_slice(),
+        taken.clients,
     );
-    let masters = (
-        NodeKind::Master,
-        parts,
-        nodes.masters,
-        taken.masters.as_slice(),
-    );
-    let backups = (
-        NodeKind::Backup,
-        keepers,
-        nodes.backups,
-        taken.backups.as_slice(),
-    );
-    let witnesses = (
-        NodeKind::Witness,
-        keepers,
-        nodes.witnesses,
-        taken.witnesses.as_slice(),
-    );
+    let masters = (NodeKind::Master, parts, nodes.masters, taken.masters);
+    let backups = (NodeKind::Backup, keepers, nodes.backups, taken.backups);
+    let witnesses = (NodeKind::Witness, keepers, nodes.witnesses, taken.witnesses);
     let Some(others) = others_anew(alloc, clients, masters, backups, witnesses)? else {
         return Ok(None);
     };
@@ -122,19 +107,18 @@ fn all_as_at_opening(
 
 /// The same journal of the manager. None where it isn't the manager's, or the manager stopped.
 fn manager_anew(
-    alloc: Global,
     manager: ManagerNode,
-    taken: &Kept<ManagerNode>,
+    taken: Kept<ManagerNode>,
 ) -> Result<Option<Kept<ManagerNode>>, NoMemory>
     ensures anew { IfOk result (λ made. IfSome made (λ log. IsAnew manager_node manager log)) }
     ensures runs { IfOk result (λ made. IfSome made (λ log. log.ended ≡ false)) }
-    ensures same { IsAnew manager_node manager taken.now → taken.now.ended ≡ false
-        → IfOk result (λ made. made ≡ Some taken.now) }
+    ensures same { IsAnew manager_node manager taken → taken.ended ≡ false
+        → IfOk result (λ made. made ≡ Some taken) }
 {
     if taken.ended() {
         return Ok(None);
     }
-    anew(alloc, NodeId::manager(), manager, taken)
+    anew(NodeId::manager(), manager, taken)
 }
 
 /// Whether just those nodes stopped that the driver is to stop.
@@ -177,22 +161,22 @@ fn others_anew(
     requires few_backups { length backups.2.items + 1 < 2 ^ 32 }
     requires few_witnesses { length witnesses.2.items + 1 < 2 ^ 32 }
     ensures clients { IfOk result
-        (λ made. IfSome made (λ logs. AreAnew clients.entry.0 clients.entry.1 clients.entry.2.items logs.0.0.items)) }
+        (λ made. IfSome made (λ logs. AreAnew clients.0 clients.1 clients.2.items logs.0.0.items)) }
     ensures masters { IfOk result
-        (λ made. IfSome made (λ logs. AreAnew masters.entry.0 masters.entry.1 masters.entry.2.items logs.0.1.items)) }
+        (λ made. IfSome made (λ logs. AreAnew masters.0 masters.1 masters.2.items logs.0.1.items)) }
     ensures backups { IfOk result
-        (λ made. IfSome made (λ logs. AreAnew backups.entry.0 backups.entry.1 backups.entry.2.items logs.1.0.items)) }
+        (λ made. IfSome made (λ logs. AreAnew backups.0 backups.1 backups.2.items logs.1.0.items)) }
     ensures witnesses { IfOk result
-        (λ made. IfSome made (λ logs. AreAnew witnesses.entry.0 witnesses.entry.1 witnesses.entry.2.items logs.1.1.items)) }
-    ensures same { AreTaken clients.entry.0 clients.entry.1 clients.entry.2.items clients.entry.3.now
-        → AreTaken masters.entry.0 masters.entry.1 masters.entry.2.items masters.entry.3.now
-        → AreTaken backups.entry.0 backups.entry.1 backups.entry.2.items backups.entry.3.now
-        → AreTaken witnesses.entry.0 witnesses.entry.1 witnesses.entry.2.items witnesses.entry.3.now
+        (λ made. IfSome made (λ logs. AreAnew witnesses.0 witnesses.1 witnesses.2.items logs.1.1.items)) }
+    ensures same { AreTaken clients.0 clients.1 clients.2.items clients.3.items
+        → AreTaken masters.0 masters.1 masters.2.items masters.3.items
+        → AreTaken backups.0 backups.1 backups.2.items backups.3.items
+        → AreTaken witnesses.0 witnesses.1 witnesses.2.items witnesses.3.items
         → IfOk result (λ made. IsSomeAnd made (λ logs.
-        (logs.0.0.items ≡ all_handed_out clients.entry.1 clients.entry.3.now)
-        × (logs.0.1.items ≡ all_handed_out masters.entry.1 masters.entry.3.now)
-        × (logs.1.0.items ≡ all_handed_out backups.entry.1 backups.entry.3.now)
-        × (logs.1.1.items ≡ all_handed_out witnesses.entry.1 witnesses.entry.3.now))) }
+        (logs.0.0.items ≡ all_handed_out clients.1 clients.3.items)
+        × (logs.0.1.items ≡ all_handed_out masters.1 masters.3.items)
+        × (logs.1.0.items ≡ all_handed_out backups.1 backups.3.items)
+        × (logs.1.1.items ≡ all_handed_out witnesses.1 witnesses.3.items))) }
 {
     let Some(front) = both_anew(alloc, clients, masters)? else {
         return Ok(None);

@@ -1,5 +1,5 @@
 // What clients and masters are ordered by their own threads.
-use curp_base::NoMemory;
+use curp_base::{NoMemory, Shared};
 use curp_cmd::{Command, RequestId};
 use curp_msg::Local;
 use curp_seat::{Chores, Took};
@@ -18,6 +18,7 @@ const COLLECT_AFTER: u64 = 32;
 /// invokes its commands in order, at most four at a time.
 #[derive(Drop)]
 pub(crate) struct ClientChores<'a> {
+    alloc: Global,
     /// The commands that are still to be invoked.
     left: &'a [Command],
     /// The number of the last request.
@@ -34,6 +35,7 @@ impl<'a> ClientChores<'a> {
         commands: &'a [Command],
     ) -> Result<ClientChores<'a>, NoMemory> {
         Ok(ClientChores {
+            alloc,
             left: commands,
             invoked: 0,
             pending: Vec::with_capacity(alloc, MOST_PENDING)?,
@@ -50,18 +52,23 @@ impl<'a> ClientChores<'a> {
     }
 
     /// The next command, if so few requests are pending that there is room for it.
-    fn invoke(&mut self) -> Option<Local> {
+    fn invoke(&mut self) -> Result<Option<Local>, NoMemory> {
         if self.pending.len() >= MOST_PENDING {
-            return None;
+            return Ok(None);
         }
-        let (command, left) = self.left.split_first()?;
-        let seq = self.invoked.checked_add(1)?;
+        let Some((command, left)) = self.left.split_first() else {
+            return Ok(None);
+        };
+        let Some(seq) = self.invoked.checked_add(1) else {
+            return Ok(None);
+        };
+        let command = Shared::of(self.alloc, command)?;
         // The room was made at the beginning.
-        self.pending.push(seq).ok()?;
+        self.pending.push(seq)?;
         self.left = left;
         self.invoked = seq;
         self.retried = seq;
-        Some(Local::Invoke(*command))
+        Ok(Some(Local::Invoke(command)))
     }
 }
 
@@ -75,9 +82,9 @@ impl<'a> Chores for ClientChores<'a> {
         }
     }
 
-    fn due(&mut self) -> Option<Local> {
+    fn due(&mut self) -> Result<Option<Local>, NoMemory> {
         match self.retry() {
-            Some(retry) => Some(retry),
+            Some(retry) => Ok(Some(retry)),
             None => self.invoke(),
         }
     }
@@ -110,8 +117,8 @@ impl Chores for MasterChores {
         }
     }
 
-    fn due(&mut self) -> Option<Local> {
-        if self.sync {
+    fn due(&mut self) -> Result<Option<Local>, NoMemory> {
+        Ok(if self.sync {
             self.sync = false;
             Some(Local::Sync)
         } else if self.collect {
@@ -119,6 +126,6 @@ impl Chores for MasterChores {
             Some(Local::Collect)
         } else {
             None
-        }
+        })
     }
 }

@@ -21,7 +21,6 @@ mod drive;
 mod members;
 mod nodes;
 mod once;
-mod outputs;
 mod own;
 mod run;
 mod stops;

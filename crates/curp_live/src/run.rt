@@ -67,7 +67,7 @@ fn tried<R: Threads + Wait + Sync, G: Gate + Sync>(
     ensures { IfOk result (λ tried. IfSome tried (IsLiveRun plan.now (map (λ list. list.items) work.now))) }
 {
     let taken = once(rt, alloc, room, plan, work, gate)?;
-    match checked(alloc, plan, work, &taken)? {
+    match checked(alloc, plan, work, taken)? {
         Some(journals) => Ruled::new(alloc, journals),
         None => Ok(None),
     }

@@ -1,7 +1,8 @@
--- A journal with the item that an input makes (this project's own).
-use Rattle.std.specs.Prelude.{◌++◌, ◌∷◌, []}
-use Rattle.curp_msg.specs.Moved.{Moved}
+-- A journal with the item that an input makes, and what a node does by the inputs of items (this project's own).
+use Rattle.std.specs.Prelude.{◌≡◌, List, ◌++◌, ◌∷◌, [], ⊤}
+use Rattle.curp_msg.specs.Moved.{Moved, done_of}
 use Rattle.curp_msg.specs.declared.machine.Input.{Input}
+use Rattle.curp_journal.specs.Given.{given}
 use Rattle.curp_journal.specs.Journal.{NodeJournal, after, last_stamp, made}
 use Rattle.curp_journal.specs.declared.arrived.Arrived.{Arrived}
 use Rattle.curp_journal.specs.declared.item.Item.{Item}
@@ -13,3 +14,9 @@ item_of machine log arrived = made machine (after machine log.opening log.items)
 -- the journal with that item
 abbrev pub with_item : {N : Type 0} → (N → Input → Moved N) → NodeJournal N → Arrived → NodeJournal N
 with_item machine log arrived = record log { items = log.items ++ item_of machine log arrived ∷ [] }
+
+-- given the inputs of these items from this state on, the machine does by each what the item says
+abbrev pub DoesAll : {N : Type 0} → (N → Input → Moved N) → N → List Item → Type 0
+DoesAll machine node [] = ⊤
+DoesAll machine node (item ∷ items) =
+    (item.done ≡ done_of (machine node (given item.input))) × DoesAll machine (machine node (given item.input)).state items

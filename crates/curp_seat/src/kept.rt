@@ -1,4 +1,4 @@
-ghost use Rattle.std.specs.Prelude.{◌≡◌, ◌≢◌, ◌+◌, ◌^◌, ◌<◌, ◌≤◌, ◌++◌, [], ◌∷◌, false, true, length, slice_get, IfOk, IfSome, OnErr};
+ghost use Rattle.std.specs.Prelude.{◌≡◌, ◌≢◌, ◌↔◌, ◌+◌, ◌^◌, ◌<◌, ◌≤◌, ◌++◌, [], ◌∷◌, false, true, length, slice_get, Some, IfOk, IfSome, IsSome, OnErr};
 ghost use Rattle.curp_journal.specs.Given.{given};
 ghost use Rattle.curp_journal.specs.Journal.{IsJournal, NodeJournal, Stamped, after, last_stamp, made, next_stamp};
 ghost use Rattle.curp_journal.specs.Sending.{named_of};
@@ -7,6 +7,7 @@ use crate::Sent;
 use crate::making::made;
 use crate::naming::named_of;
 use crate::opening::Opening;
+use crate::replay::does_all;
 use curp_base::NoMemory;
 use curp_cmd::NodeId;
 use curp_journal::{Arrived, Item};
@@ -70,7 +71,7 @@ impl<N: Core> Kept<N> {
         ensures err { OnErr result (self.new ≡ self.old) }
     {
         self.items.reserve(1)?;
-        match made(self.alloc, &mut self.node, self.last, arrived)? {
+        match made(&mut self.node, self.last, arrived)? {
             Ok(item) => {
                 self.last = item.stamp;
                 self.items.push_reserved(item);
@@ -138,5 +139,23 @@ impl<N: Core> Kept<N> {
         ensures { result ≡ self.now.id }
     {
         self.id
+    }
+}
+
+impl<N: Core + Drop> Kept<N> {
+    /// The same journal, begun with this node, which is given all inputs again. None where it isn't a journal of that node:
+    /// where the node does otherwise by one of them.
+    pub fn begun_with(mut self, mut node: N) -> Result<Option<Kept<N>>, NoMemory>
+        ensures begun { IfOk result (λ made. IfSome made (λ log. log ≡ record self { opening = node })) }
+        ensures exact { IfOk result (λ made. IsSome made ↔ IsJournal N.machine node self.items) }
+        ensures same { node ≡ self.opening → IfOk result (λ made. made ≡ Some self) }
+    {
+        let opening = Opening::of(&node);
+        if !does_all(&mut node, self.items.as_slice())? {
+            return Ok(None);
+        }
+        self.opening = opening;
+        self.node = node;
+        Ok(Some(self))
     }
 }

@@ -4,9 +4,9 @@
 //!   that the items, replayed from that state, give the node and all outputs, and that stamps rise (`journal`, clauses
 //!   `replay`, `stamped`). `step` is exact: one input is given to the node, and kept with what the node did and a stamp
 //!   one more than the larger of the last and the input's; what the node refuses isn't kept, nor is an input whose
-//!   stamp would pass 2^64 - 1, which is answered by 255; after want of memory it is as it was. `again` gives the
-//!   inputs to a node anew; it gives nothing where the node refuses one of them, and the same journal where it is the
-//!   node that the journal was begun with.
+//!   stamp would pass 2^64 - 1, which is answered by 255; after want of memory it is as it was. `begun_with`
+//!   gives the inputs to a node anew, and answers the same journal begun with that node; it answers nothing just where
+//!   the node does otherwise by one of them.
 //! - `Running` is a `Kept` that hasn't stopped. `make` tells a `Gate` of a step before it is made, makes it as `step`
 //!   does, and gives what it sent, with names.
 //! - `Chores` say what a node is ordered by its own threads, by what kind of input it took (`Took`) and what it completed.
@@ -37,7 +37,6 @@ pub use framed::Framed;
 pub use gate::{Gate, OpenGate, Point};
 pub use kept::Kept;
 pub use naming::Sent;
-pub use replay::again;
 pub use running::{Made, Running};
 pub use seat::{Seat, Turn, Worked};
 pub use took::Took;

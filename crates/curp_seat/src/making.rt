@@ -6,11 +6,9 @@ ghost use Rattle.curp_msg.specs.Moved.{Moves};
 use curp_base::NoMemory;
 use curp_journal::{Arrived, Item};
 use curp_msg::{Core, Done};
-use std::alloc::Global;
 
 /// Gives a node with that last stamp what came, and makes an item of it; or it is refused, by a number.
 pub(crate) fn made<N: Core>(
-    alloc: Global,
     node: &mut N,
     last: u64,
     arrived: Arrived,
@@ -30,7 +28,7 @@ pub(crate) fn made<N: Core>(
     if before == u64::MAX {
         return Ok(Err(255));
     }
-    let done = give(alloc, node, &arrived)?;
+    let done = give(node, &arrived)?;
     if done.refused != 0 {
         return Ok(Err(done.refused));
     }
@@ -41,10 +39,12 @@ pub(crate) fn made<N: Core>(
     }))
 }
 
-/// Gives the node a copy of what came.
-fn give<N: Core>(alloc: Global, node: &mut N, arrived: &Arrived) -> Result<Done, NoMemory>
+/// Gives the node what came.
+pub(crate) fn give<N: Core>(node: &mut N, arrived: &Arrived) -> Result<Done, NoMemory>
     ensures moves { Moves node.old node.new result (N.machine node.old (given arrived.now)) }
 {
-    let given = arrived.given(alloc)?;
-    node.on(&given)
+    match arrived {
+        Arrived::Local(order, _) => node.on_order(order),
+        Arrived::Message(named) => node.on_message(&named.message),
+    }
 }

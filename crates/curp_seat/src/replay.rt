@@ -1,27 +1,43 @@
-ghost use Rattle.std.specs.Prelude.{◌≡◌, false, Some, IfOk, IfSome};
-ghost use Rattle.curp_journal.specs.Journal.{replayed};
+ghost use Rattle.std.specs.Prelude.{◌≡◌, ◌↔◌, IfOk, IsTrue};
+ghost use Rattle.curp_journal.specs.Journal.{after};
+ghost use Rattle.curp_seat.specs.Making.{DoesAll};
 
-use crate::Kept;
+use crate::making::give;
 use curp_base::NoMemory;
-use curp_msg::Core;
-use std::alloc::Global;
+use curp_journal::Item;
+use curp_msg::{Completed, Core, Done};
+use curp_same::Same;
 
-/// Gives a node the inputs of a journal again, and makes a journal of it that hasn't stopped. None where the node refuses
-/// one of them, which the node that the journal was begun with never does.
-pub fn again<N: Core + Drop>(
-    alloc: Global,
-    kept: &Kept<N>,
-    node: N,
-) -> Result<Option<Kept<N>>, NoMemory>
-    ensures again { IfOk result (λ again. IfSome again (λ again.
-        again ≡ record { id = kept.now.id; opening = node; items = replayed N.machine node 0 kept.now.items; ended = false })) }
-    ensures same { node ≡ kept.now.opening → IfOk result (λ again. again ≡ Some (record kept.now { ended = false })) }
+/// Gives a node the inputs of these items. Whether it does by each input what the item says.
+pub(crate) fn does_all<N: Core>(node: &mut N, items: &[Item]) -> Result<bool, NoMemory>
+    ensures all { IfOk result (λ all. IsTrue all ↔ DoesAll N.machine node.old items.now) }
+    ensures state { IfOk result (λ all. IsTrue all → node.new ≡ after N.machine node.old items.now) }
 {
-    let mut made = Kept::begin(alloc, node, kept.id());
-    for item in kept.journal() {
-        if made.step(item.input.copy(alloc)?)? != 0 {
-            return Ok(None);
+    for item in items {
+        let done = give(node, &item.input)?;
+        if !is_same(&done, &item.done) {
+            return Ok(false);
         }
     }
-    Ok(Some(made))
+    Ok(true)
+}
+
+fn is_same(one: &Done, other: &Done) -> bool
+    ensures { IsTrue result ↔ (one.now ≡ other.now) }
+{
+    one.refused == other.refused
+        && one.sent.same(&other.sent)
+        && completes_same(&one.completed, &other.completed)
+}
+
+fn completes_same(one: &Option<Completed>, other: &Option<Completed>) -> bool
+    ensures { IsTrue result ↔ (one.now ≡ other.now) }
+{
+    match (one, other) {
+        (Some(one), Some(other)) => {
+            one.id == other.id && one.answer.same(&other.answer) && one.by == other.by
+        }
+        (None, None) => true,
+        _ => false,
+    }
 }

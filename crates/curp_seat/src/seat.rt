@@ -173,7 +173,10 @@ impl<N: Core, C: Chores> Busy<N, C> {
     /// Makes the steps of the orders that are due.
     fn finish<R: Wait, G: Gate, E>(&mut self, rt: &R, gate: &G, mut turn: Turn) -> Worked<E> {
         for _ in rt.forever() {
-            let Some(order) = self.chores.due() else {
+            let Ok(due) = self.chores.due() else {
+                return Worked::NoMemory;
+            };
+            let Some(order) = due else {
                 turn.stamp = self.running.last_stamp();
                 return Worked::Turned(turn);
             };

@@ -7,6 +7,6 @@ use Rattle.curp_live.proofs.anew.all_anew.Given as goal
 abbrev pub invariant-loop-node : goal.invariant-loop-node
 invariant-loop-node g l = record {
   place_is : l.place ≡ length l.yielded;
-  same : AreTaken l.kind l.there l.fn.nodes.items l.taken → l.logs.items ≡ all_handed_out l.there (take l.place l.taken);
+  same : AreTaken l.kind l.there l.fn.nodes.items l.fn.taken.items → l.logs.items ≡ all_handed_out l.there (take l.place l.fn.taken.items);
   so_far : SoFar l.kind l.there l.fn.nodes.items l.place l.logs.items;
 }

@@ -1,6 +1,4 @@
-use Rattle.std.proofs.Common.{◌≡◌, ◌*◌, length, ap, sym, ◌∙◌, subst, arith}
-use Rattle.curp_cmd.specs.declared.node.NodeKind.TheVariants as kind
-use Rattle.curp_live.specs.Opening.{AreTaken, all_handed_out}
+use Rattle.std.proofs.Common.{◌≡◌, length, ◌∙◌, arith}
 use Rattle.curp_live.proofs.Counts.{client_count, few_nodes, long_states}
 use Rattle.curp_live.proofs.Handed.{handed_whole}
 use Rattle.curp_live.proofs.checked.all_as_at_opening.Goals as goal
@@ -34,17 +32,13 @@ returns-clause-same c = λ all.
     let h = c.args.header.now in
     let nodes = c.in_ok-nodes.nodes in
     let of = all nodes c.in_ok-nodes.ensures in
-    let manager : c.in-Some.manager ≡ c.args.taken.now.manager = cc (c.in_ok-manager.ensures.same of.manager of.runs, c.in-Some.is) in
-    let others = rw c.in-Some-2.is at c.in_ok-others.ensures.same
-    (subst (AreTaken kind.Client h.clients nodes.clients.items) (sym c.as_slice.ensures.value) of.clients)
-    (subst (AreTaken kind.Master h.parts nodes.masters.items) (sym c.as_slice-2.ensures.value) of.masters)
-    (subst (AreTaken kind.Backup (h.parts * h.f) nodes.backups.items) (sym c.as_slice-3.ensures.value) of.backups)
-    (subst (AreTaken kind.Witness (h.parts * h.f) nodes.witnesses.items) (sym c.as_slice-4.ensures.value) of.witnesses) in
+    let manager : c.in-Some.manager ≡ c.args.taken.manager = cc (c.in_ok-manager.ensures.same of.manager of.runs, c.in-Some.is) in
+    let others = rw c.in-Some-2.is at c.in_ok-others.ensures.same of.clients of.masters of.backups of.witnesses in
     let many : length nodes.clients.items ≡ h.clients = long_states nodes.clients.items _ h.clients (c.in_ok-nodes.ensures).clients (client_count h) in
     record {
       manager = manager;
-      clients = others.0 ∙ ap (all_handed_out h.clients) c.as_slice.ensures.value ∙ handed_whole h.clients c.args.taken.now.clients.items (omega (arith, of.clients.many, many));
-      masters = others.1 ∙ ap (all_handed_out h.parts) c.as_slice-2.ensures.value;
-      backups = others.2 ∙ ap (all_handed_out (h.parts * h.f)) c.as_slice-3.ensures.value;
-      witnesses = others.3 ∙ ap (all_handed_out (h.parts * h.f)) c.as_slice-4.ensures.value;
+      clients = others.0 ∙ handed_whole h.clients c.args.taken.clients.items (omega (arith, of.clients.many, many));
+      masters = others.1;
+      backups = others.2;
+      witnesses = others.3;
     }

@@ -32,14 +32,14 @@ returns-then-all_end_as_planned-clause-run c =
 pub returns-then-all_end_as_planned-clause-same : goal.returns-then-all_end_as_planned-clause-same
 returns-then-all_end_as_planned-clause-same c = λ few run.
     let plan = c.args.plan.now in
-    let are = subst (λ (h : Header). AreAllTaken h plan.recoveries c.args.taken.now) (sym c.header.ensures.header) run.are in
+    let are = subst (λ (h : Header). AreAllTaken h plan.recoveries c.args.taken) (sym c.header.ensures.header) run.are in
     let handed = rw c.in-Some.is at c.in_ok-journals.ensures.same are in
-    subst (λ (h : Header). AreHandedOut h c.args.taken.now c.in-Some.journals) c.header.ensures.header handed
+    subst (λ (h : Header). AreHandedOut h c.args.taken c.in-Some.journals) c.header.ensures.header handed
 
 pub returns-else-did_all-clause-same : goal.returns-else-did_all-clause-same
 returns-else-did_all-clause-same c = λ few run.
     let plan = c.args.plan.now in
-    let taken = c.args.taken.now in
+    let taken = c.args.taken in
     let journals = c.in-Some.journals in
     let work = map (λ (list : Vec Command Global). list.items) c.args.work.now in
     let are = subst (λ (h : Header). AreAllTaken h plan.recoveries taken) (sym c.header.ensures.header) run.are in
