@@ -25,6 +25,9 @@ struct Place {
 pub(crate) fn took_front(to: NodeId, items: &[Item], from: NodeId, others: &[Item]) -> bool
     ensures { IsTrue result ↔ IsPrefix (taken_of from items.now) (sent_to to from 1 others.now) }
 {
+    if none_taken(items, from) {
+        return true;
+    }
     let mut rest = items;
     let mut step = 1;
     for other in others {

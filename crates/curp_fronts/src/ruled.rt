@@ -18,7 +18,8 @@ pub fn ruled_journals_hold(_strands: &[Strand<'_>])
 {}
 
 /// Whether each message came from a node with a journal, and what each node took of each is the front of what that sent
-/// to it. It goes over each journal once for each node, and takes no memory.
+/// to it. It goes over what a node took once for each other node, and over what that did only where something was taken of
+/// it. It takes no memory.
 pub fn are_ruled(strands: &[Strand<'_>]) -> bool
     ensures { IsTrue result ↔ AreRuled strands.now }
 {

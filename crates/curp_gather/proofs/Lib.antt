@@ -1,2 +1,3 @@
 pub mod ByMachine
+pub mod Gathered
 pub mod Ready

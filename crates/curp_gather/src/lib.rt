@@ -12,5 +12,5 @@ mod strands;
 
 pub use curp_merge::GatherError;
 pub use journals::Journals;
-pub use script::gather;
+pub use script::{gather, gather_held};
 pub use strands::strands_of;

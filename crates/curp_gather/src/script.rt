@@ -7,7 +7,7 @@ ghost use Rattle.curp_msg.specs.Limits.{step_limit, weight_limit};
 
 use crate::Journals;
 use crate::strands::strands_of;
-use curp_merge::{GatherError, merge};
+use curp_merge::{GatherError, merge, merge_held};
 use curp_msg::{Header, Step};
 use std::alloc::Global;
 
@@ -29,4 +29,22 @@ pub fn gather(
 {
     let strands = strands_of(alloc, journals)?;
     merge(alloc, &strands)
+}
+
+/// The same of journals that are known to hold each message that came: there is no mismatch.
+pub fn gather_held(
+    alloc: Global,
+    _header: &Header,
+    journals: &Journals,
+) -> Result<Vec<Step>, GatherError>
+    requires journals { AreOf _header.now journals.now }
+    requires held { AllHeld (journals_of journals.now) }
+    ensures script { IfOk result (λ steps. IsScriptOf _header.now (journals_of journals.now) steps.items) }
+    ensures counted { IfOk result (λ steps. length steps.items ≡ turn_count (journals_of journals.now)) }
+    ensures few { IfOk result (λ steps. length steps.items ≤ step_limit) }
+    ensures light { IfOk result (λ steps. weight_sent (journals_of journals.now) ≤ weight_limit) }
+    ensures cause { IfErr result (IsCause (journals_of journals.now)) }
+{
+    let strands = strands_of(alloc, journals)?;
+    merge_held(alloc, &strands)
 }

@@ -8,7 +8,7 @@ ghost use Rattle.curp_gather_ruled.specs.Causes.{IsRuledCause};
 use crate::{Ruled, RuledError};
 use curp_base::NoMemory;
 use curp_fronts::ruled_journals_hold;
-use curp_gather::{GatherError, gather, strands_of};
+use curp_gather::{GatherError, gather_held, strands_of};
 use curp_msg::{Header, Step};
 use std::alloc::Global;
 
@@ -26,7 +26,7 @@ pub fn gather_ruled(alloc: Global, header: &Header, ruled: &Ruled) -> Result<Vec
 {
     let journals = ruled.journals();
     hold(alloc, header, ruled)?;
-    match gather(alloc, header, journals) {
+    match gather_held(alloc, header, journals) {
         Ok(steps) => Ok(steps),
         Err(GatherError::Mismatch { .. }) => unreachable!(),
         Err(GatherError::TooManySteps) => Err(RuledError::TooManySteps),

@@ -6,6 +6,7 @@
 //!   that step and place, with that stamp (`Mismatch`, else), whether there are more than 200,000 turns, and whether
 //!   what was sent weighs too much; each error has exactly its cause. A step costs a look at each strand and what it
 //!   sends.
+//! - `merge_held` does the same without the look at messages, for journals that are known to hold each.
 #![tactic(auto)]
 
 mod count;
@@ -20,5 +21,5 @@ mod track;
 mod weave;
 
 pub use error::GatherError;
-pub use script::merge;
+pub use script::{merge, merge_held};
 pub use strand::Strand;

@@ -24,6 +24,19 @@ pub fn merge(alloc: Global, strands: &[Strand<'_>]) -> Result<Vec<Step>, GatherE
     if let Some(mismatch) = first_mismatch(alloc, strands)? {
         return Err(GatherError::from(mismatch));
     }
+    merge_held(alloc, strands)
+}
+
+/// The same of journals that are known to hold each message that came: it isn't compared again, and there is no mismatch.
+pub fn merge_held(alloc: Global, strands: &[Strand<'_>]) -> Result<Vec<Step>, GatherError>
+    requires journals { AreJournals strands.now }
+    requires held { AllHeld strands.now }
+    ensures merged { IfOk result (λ steps. Merged strands.now steps.items) }
+    ensures steps { IfOk result (λ steps. length steps.items ≡ turn_count strands.now) }
+    ensures few { IfOk result (λ steps. turn_count strands.now ≤ step_limit) }
+    ensures light { IfOk result (λ steps. weight_sent strands.now ≤ weight_limit) }
+    ensures cause { IfErr result (IsCause strands.now) }
+{
     if turn_count(strands) > STEP_LIMIT {
         return Err(GatherError::TooManySteps);
     }

@@ -1,4 +1,4 @@
-ghost use Rattle.std.specs.Prelude.{◌≡◌, true, length, slice_get, IfSome};
+ghost use Rattle.std.specs.Prelude.{◌≡◌, true, length, slice_get, IfOk, IfSome};
 ghost use Rattle.std.specs.List.{position};
 ghost use Rattle.curp_cmd.specs.Node.{manager_node, same_node};
 ghost use Rattle.curp_cmd.specs.declared.node.NodeKind.TheVariants as kind;
@@ -9,12 +9,13 @@ ghost use Rattle.curp_merge.specs.Weaving.{IsStepForInput, NamesInput, NamesTurn
 
 use crate::Strand;
 use crate::track::Track;
+use curp_base::NoMemory;
 use curp_cmd::NodeId;
 use curp_journal::{Arrived, Named};
 use curp_msg::{Local, Step};
 
 /// The step of a turn, and how many messages the turn sent.
-#[derive(Clone, Copy)]
+#[derive(Drop)]
 pub(crate) struct Made {
     pub(crate) step: Step,
     pub(crate) sent: u64,
@@ -26,60 +27,66 @@ pub(crate) fn next_step(
     tracks: &[Track],
     strand: &Strand<'_>,
     taken: usize,
-) -> Made
+) -> Result<Made, NoMemory>
     requires apart { AreApart strands.now }
     requires one_manager { strand.now.id.kind ≡ kind.Manager → strand.now.id ≡ manager_node }
     requires ready { CanBeTaken strands.now tracks.now strand.now taken }
-    ensures step { IsNextStep strands.now tracks.now strand.now taken result.step }
-    ensures names { IfSome (slice_get (turns_of strand.now) taken)
-        (λ turn. NamesTurn strands.now tracks.now turn result.step) }
-    ensures sent { IfSome (slice_get (turns_of strand.now) taken) (λ turn. result.sent ≡ length (sent_by turn)) }
+    ensures step { IfOk result (λ made. IsNextStep strands.now tracks.now strand.now taken made.step) }
+    ensures names { IfOk result (λ made. IfSome (slice_get (turns_of strand.now) taken)
+        (λ turn. NamesTurn strands.now tracks.now turn made.step)) }
+    ensures sent { IfOk result (λ made. IfSome (slice_get (turns_of strand.now) taken)
+        (λ turn. made.sent ≡ length (sent_by turn))) }
 {
     let items = strand.items();
     if taken == items.len() {
-        return Made {
+        return Ok(Made {
             step: Step::Stop { node: strand.id() },
             sent: 0,
-        };
+        });
     }
     let item = &items[taken];
-    Made {
-        step: step_of(strands, tracks, strand.id(), &item.input),
+    Ok(Made {
+        step: step_of(strands, tracks, strand.id(), &item.input)?,
         sent: item.done.sent.len() as u64,
-    }
+    })
 }
 
 /// The step that gives the node what came to it.
-fn step_of(strands: &[Strand<'_>], tracks: &[Track], node: NodeId, input: &Arrived) -> Step
+fn step_of(
+    strands: &[Strand<'_>],
+    tracks: &[Track],
+    node: NodeId,
+    input: &Arrived,
+) -> Result<Step, NoMemory>
     requires apart { AreApart strands.now }
     requires one_manager { node.kind ≡ kind.Manager → node ≡ manager_node }
     requires own { IsOwn node input.now }
     requires sent { SentBefore strands.now tracks.now input.now }
-    ensures step { IsStepForInput strands.now tracks.now node input.now result }
-    ensures names { NamesInput strands.now tracks.now input.now result }
+    ensures step { IfOk result (IsStepForInput strands.now tracks.now node input.now) }
+    ensures names { IfOk result (NamesInput strands.now tracks.now input.now) }
 {
     match input {
         Arrived::Local(order, _) => order_step(node, order),
-        Arrived::Message(named) => Step::Deliver {
+        Arrived::Message(named) => Ok(Step::Deliver {
             message: number_of(strands, tracks, named),
-        },
+        }),
     }
 }
 
-/// The step that gives the node an order.
-fn order_step(node: NodeId, order: &Local) -> Step
+/// The step that gives the node an order. It takes no memory, and fails where 2^63 - 1 hold its command.
+fn order_step(node: NodeId, order: &Local) -> Result<Step, NoMemory>
     requires one_manager { node.kind ≡ kind.Manager → node ≡ manager_node }
     requires own { is_order_of node.kind order.now ≡ true }
-    ensures { IsOrderTo node order.now result }
+    ensures { IfOk result (IsOrderTo node order.now) }
 {
-    match *order {
+    Ok(match order {
         Local::Invoke(command) => Step::Invoke {
             client: node.number,
-            command,
+            command: command.share()?,
         },
         Local::Retry(seq) => Step::Retry {
             client: node.number,
-            seq,
+            seq: *seq,
         },
         Local::Fetch => Step::Fetch {
             client: node.number,
@@ -95,23 +102,27 @@ fn order_step(node: NodeId, order: &Local) -> Step
             backup,
             witness,
         } => Step::Recover {
-            part,
-            backup,
-            witness,
+            part: *part,
+            backup: *backup,
+            witness: *witness,
         },
         Local::Replace {
             keeper,
             part,
             place,
         } => Step::Replace {
-            keeper,
-            part,
-            place,
+            keeper: *keeper,
+            part: *part,
+            place: *place,
         },
-        Local::Migrate { lo, hi, to } => Step::Migrate { lo, hi, to },
+        Local::Migrate { lo, hi, to } => Step::Migrate {
+            lo: *lo,
+            hi: *hi,
+            to: *to,
+        },
         Local::Nudge => Step::Nudge,
-        Local::Expire(client) => Step::Expire { client },
-    }
+        Local::Expire(client) => Step::Expire { client: *client },
+    })
 }
 
 /// The number of a message that was sent before: 1 for the first of all.

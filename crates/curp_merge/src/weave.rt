@@ -48,7 +48,7 @@ fn take_one(
 {
     let strand = &strands[at];
     let taken = tracks[at].len();
-    let made = next_step(strands, tracks, strand, taken);
+    let made = next_step(strands, tracks, strand, taken)?;
     steps.push(made.step)?;
     let track = &mut tracks[at];
     track.push(next)?;

@@ -3,8 +3,11 @@ use Rattle.std.proofs.lemmas.List.{take_all}
 use Rattle.std.proofs.lemmas.Option.{slice_get_read}
 use Rattle.curp_base.specs.Words.{At}
 use Rattle.curp_fronts.specs.Ruled.{sent_to, taken_of}
-use Rattle.curp_fronts.proofs.Scans.{all_taken, item_differs, item_taken, item_whole}
+use Rattle.curp_fronts.proofs.Scans.{all_taken, item_differs, item_taken, item_whole, none_front}
 use Rattle.curp_fronts.proofs.compare.took_front.Goals as goal
+
+pub returns-then-none_taken : goal.returns-then-none_taken
+returns-then-none_taken c = ((λ t. none_front _ _ (c.none_taken.ensures.0 c.if-none_taken.true)), λ f. refl)
 
 pub returns-in-Whole : goal.returns-in-Whole
 returns-in-Whole c =
@@ -34,5 +37,5 @@ pub returns : goal.returns
 returns c =
     let others = c.args.others.now in
     let whole : take c.loop-other.other-index others ≡ others = take_all c.loop-other.other-index others (omega (arith, c.loop-other-test.false)) in
-    all_taken _ (sent_to c.args.to c.args.from 1 others) _ c.none_taken.result
-    (c.loop-other.invariant.1 ∙ ap (λ l. sent_to c.args.to c.args.from 1 l ++ taken_of c.args.from c.loop-other.rest.now) whole) c.none_taken.ensures
+    all_taken _ (sent_to c.args.to c.args.from 1 others) _ c.none_taken-2.result
+    (c.loop-other.invariant.1 ∙ ap (λ l. sent_to c.args.to c.args.from 1 l ++ taken_of c.args.from c.loop-other.rest.now) whole) c.none_taken-2.ensures

@@ -19,4 +19,4 @@ returns-clause-names c =
     ] in
     let read = read_at c.items-items.result.now taken item below c.index-items-taken.is in
     let at : At j.items taken item = subst (λ items. At items taken item) c.items-items.ensures read in
-    subst (λ turn. IfSome turn (λ turn. NamesTurn c.args.strands.now c.args.tracks.now turn c.step_of.result)) (sym (turn_of_item j taken item at)) c.step_of.ensures.names
+    subst (λ turn. IfSome turn (λ turn. NamesTurn c.args.strands.now c.args.tracks.now turn c.in_ok-step_of.field-0)) (sym (turn_of_item j taken item at)) c.in_ok-step_of.ensures.names

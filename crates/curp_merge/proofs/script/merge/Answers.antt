@@ -1,5 +1,0 @@
-use Rattle.curp_merge.proofs.Sums.{merged_length}
-use Rattle.curp_merge.proofs.script.merge.Goals as goal
-
-pub returns-clause-steps : goal.returns-clause-steps
-returns-clause-steps c = merged_length c.args.strands.now c.in_ok-weave.field-0.items c.requires.apart c.in_ok-weave.ensures
