@@ -1,3 +1,4 @@
+use curp_base::NoMemory;
 use curp_cmd::RequestId;
 use curp_desk::{Listener, MadeStep};
 use curp_msg::Local;
@@ -58,8 +59,11 @@ pub(crate) struct Beginnings {
 impl Chores for Beginnings {
     fn note(&mut self, _took: Took, _completed: Option<RequestId>) {}
 
-    fn due(&mut self) -> Option<Local> {
-        self.begins = self.begins.checked_sub(1)?;
-        Some(Local::Retry(self.often))
+    fn due(&mut self) -> Result<Option<Local>, NoMemory> {
+        if self.begins == 0 {
+            return Ok(None);
+        }
+        self.begins -= 1;
+        Ok(Some(Local::Retry(self.often)))
     }
 }

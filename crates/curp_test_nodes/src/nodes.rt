@@ -4,7 +4,7 @@ use crate::build::{
     adopted, all_shared, ask, boxed, config, id, items, log_of, message, must, part, put, reply,
     request, shared, stored,
 };
-use curp_base::Items;
+use curp_base::{Items, Shared};
 use curp_cmd::{Command, Entry, NodeId, Request, RequestId};
 use curp_msg::{
     Accepted, Append, AppendAnswer, Body, Collected, Core, Done, FenceReply, Gc, GcAnswer, Local,
@@ -223,7 +223,7 @@ fn try_rows<N: Core>(rt: &impl Abort, alloc: Global, node: &mut N, rows: &[(Come
 }
 
 fn give<N: Core>(rt: &impl Abort, alloc: Global, node: &mut N, comes: Comes) -> Done {
-    let answered = match order(rt, comes) {
+    let answered = match order(rt, alloc, comes) {
         Some(order) => node.on_order(&order),
         None => {
             let (from, body) = comes_from(rt, alloc, comes);
@@ -233,9 +233,9 @@ fn give<N: Core>(rt: &impl Abort, alloc: Global, node: &mut N, comes: Comes) -> 
     must(rt, answered)
 }
 
-fn order(rt: &impl Abort, comes: Comes) -> Option<Local> {
+fn order(rt: &impl Abort, alloc: Global, comes: Comes) -> Option<Local> {
     match comes {
-        Comes::Put => Some(Local::Invoke(put_one(rt))),
+        Comes::Put => Some(Local::Invoke(must(rt, Shared::of(alloc, &put_one(rt))))),
         Comes::Retry(seq) => Some(Local::Retry(seq)),
         Comes::Fetch => Some(Local::Fetch),
         Comes::Round => Some(Local::Sync),

@@ -1,4 +1,5 @@
 // What no clause says: that commands are served where there is memory, and by how many steps.
+use curp_base::Shared;
 use curp_cmd::{Answer, Command, Key, Value};
 use curp_msg::Step;
 use curp_serve::{ServeError, Served};
@@ -41,7 +42,7 @@ fn a_put_takes_five_steps_and_a_get_too(rt: HostRuntime) -> Result<(), Fail> {
     let wanted = [
         Step::Invoke {
             client: 1,
-            command: put,
+            command: Shared::of(rt.alloc(), &put)?,
         },
         delivery(1),
         delivery(2),
@@ -49,7 +50,7 @@ fn a_put_takes_five_steps_and_a_get_too(rt: HostRuntime) -> Result<(), Fail> {
         delivery(4),
         Step::Invoke {
             client: 1,
-            command: get,
+            command: Shared::of(rt.alloc(), &get)?,
         },
         delivery(5),
         delivery(6),

@@ -2,7 +2,7 @@
 ghost use Rattle.std.specs.Prelude.{◌≡◌, IsTrue};
 ghost use Rattle.curp_script.specs.Printed.{NamesNode};
 
-use curp_base::NoMemory;
+use curp_base::{NoMemory, Shared};
 use curp_cmd::{Command, Keeper, Key, NodeId, NodeKind, Value};
 use curp_script::{
     FieldName as F, Header, LineError, LineReader, Protocol, Step, bad_field, print_header,
@@ -224,7 +224,11 @@ fn goes_both_ways(
     line: &str,
     step: &Step,
 ) -> Result<bool, NoMemory> {
-    Ok(reader.parse_line(line.as_bytes()) == Ok(*step) && prints(alloc, step, line)?)
+    let reads = match reader.parse_line(line.as_bytes()) {
+        Ok(read) => read == *step,
+        Err(_) => false,
+    };
+    Ok(reads && prints(alloc, step, line)?)
 }
 
 fn keeper_steps() -> [Step; 3] {
@@ -334,6 +338,7 @@ fn invokes(
     command: Command,
 ) -> Result<bool, NoMemory> {
     let line = format!(in alloc; "{{\"client\":7,\"cmd\":{text},\"do\":\"invoke\"}}")?;
+    let command = Shared::new(alloc, command)?;
     let step = Step::Invoke { client: 7, command };
     goes_both_ways(alloc, reader, &line, &step)
 }

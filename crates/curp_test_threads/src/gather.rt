@@ -3,6 +3,7 @@ ghost use Rattle.std.specs.Prelude.{◌≡◌, true, false, IfOk};
 ghost use Rattle.curp_gather.specs.Journals.{AreOf};
 ghost use Rattle.curp_msg.specs.declared.script.Protocol.TheVariants.{One};
 
+use curp_base::Shared;
 use curp_cmd::{Command, Key, NodeId, Value};
 use curp_gather::{GatherError, Journals, gather};
 use curp_journal::{Arrived, Named};
@@ -53,10 +54,11 @@ fn masters(alloc: Global) -> Result<Vec<MasterNode>, Fail> {
     Ok(masters?)
 }
 
-fn invoke(client: &mut Kept<ClientNode>, value: u8) -> Result<(), Fail>
+fn invoke(alloc: Global, client: &mut Kept<ClientNode>, value: u8) -> Result<(), Fail>
     requires { client.old.ended ≡ false }
 {
     let put = Command::Put(Key::new(&[0x61])?, Value::new(&[value])?);
+    let put = Shared::new(alloc, put)?;
     client.step(Arrived::Local(Local::Invoke(put), 0))?;
     if client.journal().is_empty() {
         return Err(Fail::new("the put is refused"));
@@ -67,7 +69,7 @@ fn invoke(client: &mut Kept<ClientNode>, value: u8) -> Result<(), Fail>
 // Client 1, which invoked a put of this value.
 fn putting(alloc: Global, value: u8) -> Result<Kept<ClientNode>, Fail> {
     let mut client = begun(alloc, NodeId::client(1), clients(alloc)?)?;
-    match invoke(&mut client, value) {
+    match invoke(alloc, &mut client, value) {
         Ok(()) => Ok(client),
         Err(fail) => Err(fail),
     }
@@ -157,7 +159,7 @@ fn is_same(a: &Named, b: &Named) -> bool {
 type Told = ((NodeId, u64), Named, Option<Named>);
 
 // The mismatch of these journals of the smallest header's nodes.
-fn mismatch_of(alloc: Global, taken: &Journals) -> Result<Told, Fail> {
+fn mismatch_of(alloc: Global, taken: Journals) -> Result<Told, Fail> {
     let header = smallest();
     let Some(journals) = anew_at_opening(alloc, &header, taken)? else {
         return Err(Fail::new("the journals aren't those of nodes"));
@@ -186,10 +188,7 @@ fn mismatch_in(alloc: Global, header: &Header, journals: &Journals) -> Result<To
 
 // The mismatch, where client 1 put one value and its master took this update.
 fn told_of(alloc: Global, client: Kept<ClientNode>, update: &Named) -> Result<Told, Fail> {
-    let taken = with_update(alloc, client, update)?;
-    let told = mismatch_of(alloc, &taken);
-    drop(taken);
-    told
+    mismatch_of(alloc, with_update(alloc, client, update)?)
 }
 
 fn other_update(alloc: Global) -> Result<Named, Fail> {

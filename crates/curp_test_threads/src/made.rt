@@ -144,7 +144,7 @@ fn steps_of(alloc: Global, maker: &mut Maker, count: u32) -> Result<Vec<Step>, N
     let mut steps = Vec::with_capacity(alloc, count as usize)?;
     'steps: for _made in 0..count {
         let step = maker.next_step()?;
-        steps.extend_from_slice(&[step])?;
+        steps.push(step)?;
     }
     Ok(steps)
 }

@@ -4,9 +4,7 @@ use curp_base::{Items, NoMemory};
 use curp_cmd::{NodeId, RequestId};
 use curp_journal::{Arrived, Item, Named};
 use curp_msg::{Body, Config, Core, Done, Local, Message};
-use curp_seat::{
-    Chores, Gate, Kept, NoChores, OpenGate, Point, Running, Seat, Took, Worked, again,
-};
+use curp_seat::{Chores, Gate, Kept, NoChores, OpenGate, Point, Running, Seat, Took, Worked};
 use std::alloc::Global;
 use std::marker::Model;
 use std::sync::Wait;
@@ -117,10 +115,10 @@ fn messages_are_named(rt: HostRuntime) -> Result<(), Fail> {
     Ok(())
 }
 
-// How many items the journal has whose inputs are given to the node again.
+// How many items the journal has when its inputs are given to another node that does the same.
 fn again_made(alloc: Global) -> Result<Option<usize>, NoMemory> {
     let kept = asked(alloc)?;
-    let made = again(alloc, &kept, Asker { alloc, serial: 0 })?;
+    let made = kept.begun_with(Asker { alloc, serial: 7 })?;
     Ok(made.map(|made| made.journal().len()))
 }
 
@@ -171,9 +169,12 @@ impl Chores for Fetching {
         }
     }
 
-    fn due(&mut self) -> Option<Local> {
-        self.due = self.due.checked_sub(1)?;
-        Some(Local::Fetch)
+    fn due(&mut self) -> Result<Option<Local>, NoMemory> {
+        if self.due == 0 {
+            return Ok(None);
+        }
+        self.due -= 1;
+        Ok(Some(Local::Fetch))
     }
 }
 
