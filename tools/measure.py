@@ -8,11 +8,13 @@ had, and 16 MB at least, which this program has itself. They are of the machine 
 the same on every machine.
 """
 
+import json
 import os
 import random
 import subprocess
 import sys
 import tempfile
+import time
 from html import escape
 from math import exp, floor, log10
 from pathlib import Path
@@ -48,6 +50,32 @@ def run(curp, words, given=None):
 def timed(curp, words, given=None):
     """The same, by the run of three that took the least time."""
     return min((run(curp, words, given) for _ in range(3)), key=lambda told: told[0])
+
+
+def behind_threads(curp, words):
+    """Runs the program on threads: the seconds by the clock, and the seconds of the processor that its first thread took
+    once it was the only one again. The second is read every millisecond."""
+    begun = time.monotonic()
+    child = subprocess.Popen([curp, *words], stdin=subprocess.DEVNULL, stdout=subprocess.DEVNULL)
+    tasks = Path(f"/proc/{child.pid}/task")
+    most, alone, last = 0, None, 0
+    while True:
+        try:
+            count = len(list(tasks.iterdir()))
+            last = int((tasks / str(child.pid) / "schedstat").read_text().split()[0]) or last
+        except (OSError, IndexError):
+            break
+        if os.waitid(os.P_PID, child.pid, os.WEXITED | os.WNOHANG | os.WNOWAIT):
+            break
+        most = max(most, count)
+        if count > 1:
+            alone = None
+        elif most > 1 and alone is None:
+            alone = last
+        time.sleep(0.001)
+    if child.wait():
+        sys.exit(f"{curp} {' '.join(words)} ended with {child.returncode}")
+    return time.monotonic() - begun, (last - (alone or last)) / 1e9
 
 
 def script_of(lines):
@@ -335,6 +363,68 @@ def full_set_part(curp):
     ]
 
 
+def beside_part(curp):
+    """The time to play a script beside that which Python's json takes to read the same lines."""
+    made = "make --steps 200000 --clients 64 --parts 8".split()
+    rng = random.Random(3)
+    again = ['{"clients":64,"f":3,"fast":true,"parts":1,"protocol":1,"sets":64,"ways":4}']
+    again += [f'{{"client":{c},"cmd":["put","{7 * c:04x}","{"ab" * 10}"],"do":"invoke"}}' for c in range(1, 65)]
+    again += [f'{{"do":"deliver","msg":{rng.randrange(1, 257)}}}' for _ in range(64, 200000)]
+    scripts = [(f"`{' '.join(made)}`", run(curp, made)[2]), ("64 puts, and each message again and again", script_of(again))]
+    rows = []
+    for name, script in scripts:
+        # Turn by turn, since the speed of a machine changes from minute to minute.
+        turns = [(plays_to_nowhere(curp, script), json_reads(script)) for _ in range(9)]
+        ratios = sorted(took / read for took, read in turns)
+        took, read = (min(told) for told in zip(*turns))
+        rows.append((name, f"{took:.2f}", f"{read:.2f}", f"{took / read:.2f}", f"{ratios[0]:.2f} to {ratios[-1]:.2f}"))
+    return [
+        "## Playing beside reading",
+        "The seconds that `play` takes for a script of 200,000 steps when its text goes nowhere, and those that Python's "
+        "`json` takes to read the lines: the least of nine turns each, and the ratio of these; behind it the least and the "
+        "greatest ratio of one turn.",
+        table(["script", "seconds", "seconds of Python", "ratio", "in one turn"], rows),
+    ]
+
+
+def plays_to_nowhere(curp, script):
+    script.seek(0)
+    child = subprocess.Popen([curp, "play"], stdin=script, stdout=subprocess.DEVNULL)
+    _, status, used = os.wait4(child.pid, 0)
+    if status:
+        sys.exit(f"{curp} play ended with {status}")
+    return used.ru_utime + used.ru_stime
+
+
+def json_reads(script):
+    script.seek(0)
+    begun = time.process_time()
+    for line in script:
+        json.loads(line)
+    return time.process_time() - begun
+
+
+def live_part(curp):
+    words = "live --clients 16 --commands 100 --f 3 --parts 4".split()
+    rows = []
+    for recoveries in (0, 3):
+        for processors in (4, 2):
+            use = os.sched_getaffinity(0)
+            os.sched_setaffinity(0, sorted(use)[:processors])
+            turns = [behind_threads(curp, [*words, "--recoveries", str(recoveries)]) for _ in range(9)]
+            os.sched_setaffinity(0, use)
+            whole, behind = (sorted(told) for told in zip(*turns))
+            rate = f"{1600 / whole[4]:,.0f}"
+            rows.append((recoveries, processors, f"{whole[0]:.2f}", f"{whole[4]:.2f}", rate, f"{behind[0]:.2f}", f"{behind[4]:.2f}"))
+    return [
+        "## Nodes on threads",
+        f"`curp {' '.join(words)}`: 1,600 commands, about 25,000 steps and 133 threads. Behind the run is one thread: it "
+        "gives the inputs of all journals to nodes made anew, compares, gathers, prints, and plays the script. The seconds of "
+        "the whole are by the clock, those of this thread are of the processor; the least and the median of nine runs.",
+        table(["recoveries", "processors", "least", "median", "commands a second", "behind the run, least", "median"], rows),
+    ]
+
+
 def frame_part():
     """What was measured apart, in November 2026, by a program that writes and reads one message over and over."""
     rows = [
@@ -362,7 +452,7 @@ def main():
         "makes this page and its pictures; the times are the least of three runs on one machine, and the counts are the same on every "
         "machine. Memory below 17 MB isn't told apart.",
     ]
-    parts += plan_part(curp) + recovery_part(curp) + round_trip_part(curp) + full_set_part(curp) + frame_part()
+    parts += plan_part(curp) + beside_part(curp) + recovery_part(curp) + round_trip_part(curp) + full_set_part(curp) + frame_part() + live_part(curp)
     PAGE.write_text("\n\n".join(parts) + "\n", encoding="utf-8")
 
 
