@@ -11,11 +11,20 @@ use std::alloc::Global;
 use std::marker::Model;
 
 /// A backup: it keeps the entries of a master of its epoch, and takes nothing of an epoch below its fence.
-#[derive(Drop)]
 pub struct Backup {
     installed: Option<u32>,
     fence: u32,
     log: PackedEntries,
+}
+
+impl Drop for Backup {
+    fn drop(self) {
+        let Backup {
+            installed: _,
+            fence: _,
+            log: _,
+        } = self;
+    }
 }
 
 impl Model for Backup {

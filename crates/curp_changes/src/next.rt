@@ -8,7 +8,6 @@ use curp_cmd::Keeper;
 use std::marker::Model;
 
 /// The next numbers. Each of them is given once.
-#[derive(Drop)]
 pub struct Next {
     pub epoch: u32,
     pub version: u32,
@@ -16,6 +15,19 @@ pub struct Next {
     pub backup: u32,
     pub witness: u32,
     pub migration: u32,
+}
+
+impl Drop for Next {
+    fn drop(self) {
+        let Next {
+            epoch: _,
+            version: _,
+            master: _,
+            backup: _,
+            witness: _,
+            migration: _,
+        } = self;
+    }
 }
 
 impl Model for Next {

@@ -1,12 +1,21 @@
 use std::marker::Model;
 
 /// How many partitions and clients there are, and how many backups and witnesses each partition has.
-#[derive(Drop)]
 pub struct Shape {
     /// How many backups a partition has, and how many witnesses: the failures that it survives.
     pub f: u32,
     pub parts: u32,
     pub clients: u32,
+}
+
+impl Drop for Shape {
+    fn drop(self) {
+        let Shape {
+            f: _,
+            parts: _,
+            clients: _,
+        } = self;
+    }
 }
 
 impl Model for Shape {

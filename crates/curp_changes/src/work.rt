@@ -36,9 +36,14 @@ pub enum Doing {
 }
 
 /// What is being done with a partition.
-#[derive(Drop)]
 pub struct Work {
     doing: Doing,
+}
+
+impl Drop for Work {
+    fn drop(self) {
+        let Work { doing: _ } = self;
+    }
 }
 
 impl Model for Work {

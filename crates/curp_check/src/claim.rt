@@ -25,12 +25,21 @@ pub(crate) enum RequestStage {
 }
 
 /// A history, and the order that is claimed for it. Contracts see both.
-#[derive(Drop)]
 pub struct Claim {
     history: Vec<Event>,
     order: Vec<(RequestId, Command)>,
     // How far each request of the history is.
     stages: BTreeMap<RequestId, RequestStage>,
+}
+
+impl Drop for Claim {
+    fn drop(self) {
+        let Claim {
+            history: _,
+            order: _,
+            stages: _,
+        } = self;
+    }
 }
 
 impl Model for Claim {

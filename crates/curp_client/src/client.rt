@@ -28,7 +28,6 @@ pub const MOST_PENDING: usize = 8;
 /// A client: it sends an update to the master and to all witnesses of the partition that owns its keys, and completes
 /// it by one synced reply, or by an unsynced one with the accepts of all witnesses (CURP). A read completes by a value,
 /// and in protocol 2 by one Quick with a Live of all witnesses too.
-#[derive(Drop)]
 pub struct Client {
     alloc: Global,
     number: u32,
@@ -37,6 +36,20 @@ pub struct Client {
     config: Config,
     last: u32,
     pending: Requests,
+}
+
+impl Drop for Client {
+    fn drop(self) {
+        let Client {
+            alloc: _,
+            number: _,
+            fast: _,
+            protocol: _,
+            config: _,
+            last: _,
+            pending: _,
+        } = self;
+    }
 }
 
 impl Model for Client {

@@ -23,7 +23,6 @@ use std::alloc::Global;
 use std::marker::Model;
 
 /// All nodes, every message that was ever sent, the history, and the marks.
-#[derive(Drop)]
 pub struct Cluster {
     alloc: Global,
     nodes: Nodes,
@@ -34,6 +33,21 @@ pub struct Cluster {
     // Places for the commands that a step marks, and for the one that it invokes.
     marking: Standby,
     invoking: Standby,
+}
+
+impl Drop for Cluster {
+    fn drop(self) {
+        let Cluster {
+            alloc: _,
+            nodes: _,
+            stopped: _,
+            sent: _,
+            history: _,
+            marks: _,
+            marking: _,
+            invoking: _,
+        } = self;
+    }
 }
 
 impl Model for Cluster {

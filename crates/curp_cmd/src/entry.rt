@@ -6,7 +6,6 @@ use curp_base::{NoMemory, Shared, TryCopy};
 use std::alloc::Global;
 
 /// What a log has in one place.
-#[derive(Drop)]
 pub enum Entry {
     /// A request is done, and its client has the answers of all its requests below the acknowledged number.
     Op {
@@ -27,6 +26,26 @@ pub enum Entry {
     Expire {
         client: u32,
     },
+}
+
+impl Drop for Entry {
+    fn drop(self) {
+        match self {
+            Entry::Op {
+                request: _,
+                acknowledge: _,
+            } => {}
+            Entry::Take {
+                migration: _,
+                package: _,
+            } => {}
+            Entry::Give {
+                migration: _,
+                package: _,
+            } => {}
+            Entry::Expire { client: _ } => {}
+        }
+    }
 }
 
 impl Entry {

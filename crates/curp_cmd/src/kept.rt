@@ -8,9 +8,14 @@ use std::ops::Deref;
 
 /// The command of a request, as those keep it who outlast the request: it stands in memory once, with the request.
 /// Contracts see the command.
-#[derive(Drop)]
 pub struct KeptCommand {
     place: Place,
+}
+
+impl Drop for KeptCommand {
+    fn drop(self) {
+        let KeptCommand { place: _ } = self;
+    }
 }
 
 // Where a kept command stands.
@@ -76,10 +81,18 @@ impl Deref for KeptCommand {
 
 /// Places that stand ready for commands. So many may hold a request as can be counted; one that comes behind them has the
 /// command at a place that stood ready, so that keeping a command doesn't fail. Contracts see how many stand ready.
-#[derive(Drop)]
 pub struct Standby {
     alloc: Global,
     places: Vec<Boxed<Command>>,
+}
+
+impl Drop for Standby {
+    fn drop(self) {
+        let Standby {
+            alloc: _,
+            places: _,
+        } = self;
+    }
 }
 
 impl Model for Standby {

@@ -5,13 +5,23 @@ use curp_base::{AscendingKeys, AscendingPairs, NoMemory};
 use std::alloc::Global;
 
 /// What belongs to a range of hashes, both ends counted: the keys with their values, and what is kept for clients.
-#[derive(Drop)]
 pub struct Package {
     pub lo: u64,
     pub hi: u64,
     pub pairs: AscendingPairs<Key, Value>,
     pub table: TablePart,
     pub ghost ordered: { lo ≤ hi },
+}
+
+impl Drop for Package {
+    fn drop(self) {
+        let Package {
+            lo: _,
+            hi: _,
+            pairs: _,
+            table: _,
+        } = self;
+    }
 }
 
 impl Package {
@@ -41,7 +51,6 @@ impl Package {
 }
 
 /// What is kept for clients so that each request is done once.
-#[derive(Drop)]
 pub struct TablePart {
     /// The answer of each request that is done and not acknowledged.
     pub records: AscendingPairs<RequestId, Answer>,
@@ -49,6 +58,16 @@ pub struct TablePart {
     pub firsts: AscendingPairs<u32, u32>,
     /// The clients that are expired.
     pub gone: AscendingKeys<u32>,
+}
+
+impl Drop for TablePart {
+    fn drop(self) {
+        let TablePart {
+            records: _,
+            firsts: _,
+            gone: _,
+        } = self;
+    }
 }
 
 impl TablePart {

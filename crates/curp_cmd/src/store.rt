@@ -10,9 +10,14 @@ use std::collections::HashMap;
 use std::marker::Model;
 
 /// The one-thread store. Contracts see its contents, and for how many more keys it has room.
-#[derive(Drop)]
 pub struct Store {
     pairs: HashMap<Key, Value>,
+}
+
+impl Drop for Store {
+    fn drop(self) {
+        let Store { pairs: _ } = self;
+    }
 }
 
 impl Model for Store {

@@ -11,13 +11,22 @@ use std::marker::Model;
 /// The ids that wait for collection, each once and at its larger length, in the order in which they were first added.
 /// Contracts see these, and for how many more there is room. That an id keeps its place and its larger length is this
 /// project's own choice.
-#[derive(Drop)]
 pub struct Queue {
     alloc: Global,
     // In the order in which they were first added.
     order: Reserved<RequestId>,
     // So many entries are synced then.
     waits: ReservedPairs<RequestId, u64>,
+}
+
+impl Drop for Queue {
+    fn drop(self) {
+        let Queue {
+            alloc: _,
+            order: _,
+            waits: _,
+        } = self;
+    }
 }
 
 impl Model for Queue {

@@ -21,7 +21,6 @@ use std::marker::Model;
 /// replaced and given ranges of others. It stands for CURP's configuration manager; how it works is this project's own.
 ///
 /// An input by which one of its numbers would rise past 2^32 - 1 changes nothing and sends nothing.
-#[derive(Drop)]
 pub struct Manager {
     pub(crate) alloc: Global,
     pub(crate) shape: Shape,
@@ -31,6 +30,20 @@ pub struct Manager {
     pub(crate) moving: Option<Migration>,
     pub(crate) gone: BTreeSet<u32>,
     pub(crate) next: Next,
+}
+
+impl Drop for Manager {
+    fn drop(self) {
+        let Manager {
+            alloc: _,
+            shape: _,
+            config: _,
+            doing: _,
+            moving: _,
+            gone: _,
+            next: _,
+        } = self;
+    }
 }
 
 impl Model for Manager {

@@ -16,10 +16,18 @@ use std::marker::Model;
 ///
 /// It keeps its writes since the last crash, so that its memory grows with them, by some 100 bytes a call beside the
 /// bytes.
-#[derive(Drop)]
 pub struct MemoryDisk {
     medium: Medium,
     schedule: Schedule,
+}
+
+impl Drop for MemoryDisk {
+    fn drop(self) {
+        let MemoryDisk {
+            medium: _,
+            schedule: _,
+        } = self;
+    }
 }
 
 impl Model for MemoryDisk {

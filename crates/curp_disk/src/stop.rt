@@ -11,11 +11,20 @@ use std::alloc::Global;
 use std::marker::Model;
 
 /// A disk in memory, empty at first, that fails only where it is armed. Its memory grows as a `MemoryDisk`'s.
-#[derive(Drop)]
 pub struct StopDisk {
     medium: Medium,
     armed: Option<u64>,
     faults: u64,
+}
+
+impl Drop for StopDisk {
+    fn drop(self) {
+        let StopDisk {
+            medium: _,
+            armed: _,
+            faults: _,
+        } = self;
+    }
 }
 
 impl Model for StopDisk {

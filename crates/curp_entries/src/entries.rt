@@ -13,13 +13,23 @@ use std::marker::Model;
 
 /// The entries of a log: the oldest as their spellings, the newest as they are. Contracts see all entries, how many of them
 /// are packed, and for how many more there is room.
-#[derive(Drop)]
 pub struct PackedEntries {
     alloc: Global,
     front: Front,
     // The last of those that are packed as they were before, so that copies of them share what they share.
     recent: Vec<Entry>,
     tail: Vec<Entry>,
+}
+
+impl Drop for PackedEntries {
+    fn drop(self) {
+        let PackedEntries {
+            alloc: _,
+            front: _,
+            recent: _,
+            tail: _,
+        } = self;
+    }
 }
 
 impl Model for PackedEntries {

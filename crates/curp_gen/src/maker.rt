@@ -21,7 +21,6 @@ const SCRIPT_STREAM: u64 = 54;
 
 /// A script that is being made, step by step. Each step is made in a world as it is chosen, so the next one is chosen
 /// by what all steps before it led to.
-#[derive(Drop)]
 pub struct Maker {
     alloc: Global,
     plan: MakePlan,
@@ -32,6 +31,22 @@ pub struct Maker {
     recoveries: u32,
     refused: u32,
     completed: u32,
+}
+
+impl Drop for Maker {
+    fn drop(self) {
+        let Maker {
+            alloc: _,
+            plan: _,
+            world: _,
+            words: _,
+            cursor: _,
+            made: _,
+            recoveries: _,
+            refused: _,
+            completed: _,
+        } = self;
+    }
 }
 
 impl Model for Maker {

@@ -25,11 +25,20 @@ pub enum NextLine {
 ///
 /// A line is the bytes up to a line feed, without it. The last line needs no line feed, and none follows a line feed
 /// at the end. Bytes that were read ahead are kept here, so one source is to be read by one of these.
-#[derive(Drop)]
 pub struct Lines {
     window: Window,
     number: u64,
     failed: Option<NextLine>,
+}
+
+impl Drop for Lines {
+    fn drop(self) {
+        let Lines {
+            window: _,
+            number: _,
+            failed: _,
+        } = self;
+    }
 }
 
 impl Model for Lines {

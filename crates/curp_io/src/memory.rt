@@ -12,12 +12,22 @@ use std::alloc::Global;
 use std::marker::Model;
 
 /// A source over bytes in memory, whose listed calls fail.
-#[derive(Drop)]
 pub struct MemorySource {
     bytes: Vec<u8>,
     at: usize,
     piece: usize,
     schedule: Schedule,
+}
+
+impl Drop for MemorySource {
+    fn drop(self) {
+        let MemorySource {
+            bytes: _,
+            at: _,
+            piece: _,
+            schedule: _,
+        } = self;
+    }
 }
 
 impl Model for MemorySource {
@@ -92,11 +102,20 @@ impl Source for MemorySource {
 }
 
 /// A sink that holds its bytes in memory, and whose listed calls of `put` and `flush`, counted together, fail.
-#[derive(Drop)]
 pub struct MemorySink {
     bytes: Vec<u8>,
     flushed: bool,
     schedule: Schedule,
+}
+
+impl Drop for MemorySink {
+    fn drop(self) {
+        let MemorySink {
+            bytes: _,
+            flushed: _,
+            schedule: _,
+        } = self;
+    }
 }
 
 impl Model for MemorySink {

@@ -9,10 +9,15 @@ use std::alloc::Global;
 use std::marker::Model;
 
 /// A source over bytes in memory that never fails.
-#[derive(Drop)]
 pub struct SureSource {
     bytes: Vec<u8>,
     at: usize,
+}
+
+impl Drop for SureSource {
+    fn drop(self) {
+        let SureSource { bytes: _, at: _ } = self;
+    }
 }
 
 impl Model for SureSource {
@@ -51,10 +56,18 @@ impl Source for SureSource {
 }
 
 /// A sink that holds its bytes in memory and never fails.
-#[derive(Drop)]
 pub struct SureSink {
     bytes: Vec<u8>,
     flushed: bool,
+}
+
+impl Drop for SureSink {
+    fn drop(self) {
+        let SureSink {
+            bytes: _,
+            flushed: _,
+        } = self;
+    }
 }
 
 impl Model for SureSink {

@@ -6,12 +6,21 @@ use curp_msg::{Done, Message};
 use std::alloc::Global;
 
 /// What came to a node, and what it did then. A journal is a list of these.
-#[derive(Drop)]
 pub struct Item {
     /// Higher than that of the item before, and than that of what came.
     pub stamp: u64,
     pub input: Arrived,
     pub done: Done,
+}
+
+impl Drop for Item {
+    fn drop(self) {
+        let Item {
+            stamp: _,
+            input: _,
+            done: _,
+        } = self;
+    }
 }
 
 impl Item {

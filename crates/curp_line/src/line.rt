@@ -21,11 +21,20 @@ use std::marker::Model;
 /// tells how many of the adoptions it stands behind, so that one which comes late, before an adoption, moves no other
 /// (this project's own choice). A mark that an adoption drops leaves its place behind, so the memory taken is that of all
 /// marks that ever came.
-#[derive(Drop)]
 pub struct Line {
     alloc: Global,
     slots: Slots,
     cuts: Cuts,
+}
+
+impl Drop for Line {
+    fn drop(self) {
+        let Line {
+            alloc: _,
+            slots: _,
+            cuts: _,
+        } = self;
+    }
 }
 
 impl Model for Line {

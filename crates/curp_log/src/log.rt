@@ -30,7 +30,6 @@ use std::marker::Model;
 /// The log of a master, with what it means: the store, the reply table, the owned hashes, the last package taken and the
 /// last migration given; and the answer to each of its Ops. Contracts see the range that the master began with, the
 /// entries, and for how much more there is room, in the units of `curp_cmd::room`.
-#[derive(Drop)]
 pub struct Log {
     alloc: Global,
     lo: u64,
@@ -40,6 +39,20 @@ pub struct Log {
     answers: Vec<Option<Answer>>,
     state: State,
     taken: LatestTake,
+}
+
+impl Drop for Log {
+    fn drop(self) {
+        let Log {
+            alloc: _,
+            lo: _,
+            hi: _,
+            entries: _,
+            answers: _,
+            state: _,
+            taken: _,
+        } = self;
+    }
 }
 
 /// The last package that was taken: the migration, the package, and the index of its entry.

@@ -26,12 +26,22 @@ pub struct LatestGive {
 }
 
 /// What a log means, but for the last package taken, which stands in the log.
-#[derive(Drop)]
 pub struct State {
     pub store: Store,
     pub table: Table,
     pub ranges: Ranges,
     pub given: Option<LatestGive>,
+}
+
+impl Drop for State {
+    fn drop(self) {
+        let State {
+            store: _,
+            table: _,
+            ranges: _,
+            given: _,
+        } = self;
+    }
 }
 
 impl State {

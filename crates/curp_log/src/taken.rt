@@ -10,7 +10,6 @@ use curp_entries::PackedEntries;
 use std::alloc::Global;
 
 /// Where the last package that was taken is found.
-#[derive(Drop)]
 pub enum LatestTake {
     /// None was taken.
     Never,
@@ -24,6 +23,20 @@ pub enum LatestTake {
         migration: u32,
         package: Shared<Package>,
     },
+}
+
+impl Drop for LatestTake {
+    fn drop(self) {
+        match self {
+            LatestTake::Never => {}
+            LatestTake::Newest { index: _ } => {}
+            LatestTake::Copied {
+                index: _,
+                migration: _,
+                package: _,
+            } => {}
+        }
+    }
 }
 
 impl LatestTake {

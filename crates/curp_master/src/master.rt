@@ -19,7 +19,6 @@ use std::alloc::Global;
 use std::marker::Model;
 
 /// A serving master (after CURP's). Contracts see its number and its state.
-#[derive(Drop)]
 pub struct Master {
     pub(crate) alloc: Global,
     pub(crate) number: u32,
@@ -36,6 +35,28 @@ pub struct Master {
     pub(crate) held: Indexes,
     pub(crate) queue: Queue,
     pub(crate) phase: Phase,
+}
+
+impl Drop for Master {
+    fn drop(self) {
+        let Master {
+            alloc: _,
+            number: _,
+            part: _,
+            epoch: _,
+            version: _,
+            backups: _,
+            witnesses: _,
+            master_log: _,
+            acknowledged: _,
+            settled: _,
+            round: _,
+            captures: _,
+            held: _,
+            queue: _,
+            phase: _,
+        } = self;
+    }
 }
 
 impl Model for Master {

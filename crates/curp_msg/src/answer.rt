@@ -52,7 +52,6 @@ pub enum AppendAnswer {
 }
 
 /// What a witness answers to a collection.
-#[derive(Drop)]
 pub enum GcAnswer {
     /// The requests that were held for long and were in the way of others.
     Suspects(Items<Shared<Request>>),
@@ -60,13 +59,30 @@ pub enum GcAnswer {
     Stranger { epoch: Option<u32> },
 }
 
+impl Drop for GcAnswer {
+    fn drop(self) {
+        match self {
+            GcAnswer::Suspects(_) => {}
+            GcAnswer::Stranger { epoch: _ } => {}
+        }
+    }
+}
+
 /// What a backup answers to a fence.
-#[derive(Drop)]
 pub enum FenceReply {
     /// Its whole log.
     Log(Items<Entry>),
     /// Its fence is above that epoch already.
     Fenced { epoch: u32 },
+}
+
+impl Drop for FenceReply {
+    fn drop(self) {
+        match self {
+            FenceReply::Log(_) => {}
+            FenceReply::Fenced { epoch: _ } => {}
+        }
+    }
 }
 
 impl GcAnswer {

@@ -6,7 +6,6 @@ use curp_cmd::{Answer, Entry, NodeId, Package, Request, RequestId};
 use std::alloc::Global;
 
 /// What a message says.
-#[derive(Drop)]
 pub enum Body {
     /// A client asks a master to execute an update, and to answer before the backups have it where that is safe.
     Update(Ask),
@@ -81,18 +80,79 @@ pub enum Body {
     Quick(Boxed<Quick>),
 }
 
+impl Drop for Body {
+    fn drop(self) {
+        match self {
+            Body::Update(_) => {}
+            Body::Sync(_) => {}
+            Body::Read(_) => {}
+            Body::Record(_) => {}
+            Body::Fetch => {}
+            Body::Configuration { config: _ } => {}
+            Body::Reply(_) => {}
+            Body::Worth(_) => {}
+            Body::Refuse(_) => {}
+            Body::Accepted(_) => {}
+            Body::Rejected(_) => {}
+            Body::Append(_) => {}
+            Body::Appended(_) => {}
+            Body::Gc(_) => {}
+            Body::Collected(_) => {}
+            Body::Install { epoch: _ } => {}
+            Body::Start(_) => {}
+            Body::Recover(_) => {}
+            Body::Fence { epoch: _ } => {}
+            Body::FenceAnswer(_) => {}
+            Body::Freeze { epoch: _ } => {}
+            Body::FrozenAnswer { requests: _ } => {}
+            Body::Recovered(_) => {}
+            Body::Adopted(_) => {}
+            Body::Prepare(_) => {}
+            Body::Prepared { version: _ } => {}
+            Body::TakeOut(_) => {}
+            Body::Taken(_) => {}
+            Body::GiveIn(_) => {}
+            Body::Given { migration: _ } => {}
+            Body::ExpireClient { client: _ } => {}
+            Body::Probe(_) => {}
+            Body::Probed(_) => {}
+            Body::Glance(_) => {}
+            Body::Quick(_) => {}
+        }
+    }
+}
+
 /// A request, with the epoch and the version of the lists that its client knows.
-#[derive(PartialEq, Eq, Drop)]
+#[derive(PartialEq, Eq)]
 pub struct Ask {
     pub request: Shared<Request>,
     pub epoch: u32,
     pub version: u32,
 }
 
-#[derive(PartialEq, Eq, Drop)]
+impl Drop for Ask {
+    fn drop(self) {
+        let Ask {
+            request: _,
+            epoch: _,
+            version: _,
+        } = self;
+    }
+}
+
+#[derive(PartialEq, Eq)]
 pub struct Record {
     pub request: Shared<Request>,
     pub epoch: u32,
+}
+
+impl Drop for Record {
+    fn drop(self) {
+        let Record {
+            request: _,
+            epoch: _,
+        } = self;
+    }
 }
 
 #[derive(Clone, Copy, PartialEq, Eq)]
@@ -133,12 +193,22 @@ pub struct Rejected {
 }
 
 /// The entries stand in the master's log from `base` on, counted from 0.
-#[derive(Drop)]
 pub struct Append {
     pub epoch: u32,
     pub base: u64,
     pub round: u64,
     pub entries: Items<Entry>,
+}
+
+impl Drop for Append {
+    fn drop(self) {
+        let Append {
+            epoch: _,
+            base: _,
+            round: _,
+            entries: _,
+        } = self;
+    }
 }
 
 /// The epoch and the round are those of the append.
@@ -149,17 +219,30 @@ pub struct Appended {
     pub answer: AppendAnswer,
 }
 
-#[derive(Drop)]
 pub struct Gc {
     pub epoch: u32,
     pub ids: Items<RequestId>,
 }
 
+impl Drop for Gc {
+    fn drop(self) {
+        let Gc { epoch: _, ids: _ } = self;
+    }
+}
+
 /// The epoch is that of the collection.
-#[derive(Drop)]
 pub struct Collected {
     pub epoch: u32,
     pub answer: GcAnswer,
+}
+
+impl Drop for Collected {
+    fn drop(self) {
+        let Collected {
+            epoch: _,
+            answer: _,
+        } = self;
+    }
 }
 
 #[derive(Clone, Copy, PartialEq, Eq)]
@@ -170,7 +253,6 @@ pub struct Start {
 
 /// The named backup and witness are asked, the lists are the fresh ones, and `lo` to `hi` is the range that the
 /// partition had at opening.
-#[derive(Drop)]
 pub struct Recover {
     pub part: u32,
     pub epoch: u32,
@@ -184,11 +266,35 @@ pub struct Recover {
     pub ghost ordered: { lo ≤ hi },
 }
 
+impl Drop for Recover {
+    fn drop(self) {
+        let Recover {
+            part: _,
+            epoch: _,
+            version: _,
+            backup: _,
+            witness: _,
+            backups: _,
+            witnesses: _,
+            lo: _,
+            hi: _,
+        } = self;
+    }
+}
+
 /// The epoch is that of the fence.
-#[derive(Drop)]
 pub struct FenceAnswer {
     pub epoch: u32,
     pub answer: FenceReply,
+}
+
+impl Drop for FenceAnswer {
+    fn drop(self) {
+        let FenceAnswer {
+            epoch: _,
+            answer: _,
+        } = self;
+    }
 }
 
 #[derive(Clone, Copy, PartialEq, Eq)]
@@ -204,11 +310,20 @@ pub struct Adopted {
     pub version: u32,
 }
 
-#[derive(Drop)]
 pub struct Prepare {
     pub version: u32,
     pub backups: Items<NodeId>,
     pub witnesses: Items<NodeId>,
+}
+
+impl Drop for Prepare {
+    fn drop(self) {
+        let Prepare {
+            version: _,
+            backups: _,
+            witnesses: _,
+        } = self;
+    }
 }
 
 /// The hashes from `lo` to `hi`, both counted, leave with that migration.
@@ -246,10 +361,18 @@ pub struct Quick {
 }
 
 /// What a migration carries.
-#[derive(Drop)]
 pub struct Parcel {
     pub migration: u32,
     pub package: Shared<Package>,
+}
+
+impl Drop for Parcel {
+    fn drop(self) {
+        let Parcel {
+            migration: _,
+            package: _,
+        } = self;
+    }
 }
 
 impl Body {

@@ -6,14 +6,21 @@ use curp_range::Spans;
 use std::alloc::Global;
 
 /// Which nodes serve which hashes. One with a higher serial is newer.
-#[derive(Drop)]
 pub struct Config {
     pub serial: u32,
     pub parts: Items<PartConfig>,
 }
 
+impl Drop for Config {
+    fn drop(self) {
+        let Config {
+            serial: _,
+            parts: _,
+        } = self;
+    }
+}
+
 /// The nodes of a partition, and the hashes that it owns.
-#[derive(Drop)]
 pub struct PartConfig {
     /// Partitions are numbered from 1.
     pub part: u32,
@@ -24,6 +31,20 @@ pub struct PartConfig {
     pub backups: Items<NodeId>,
     pub witnesses: Items<NodeId>,
     pub ranges: Spans,
+}
+
+impl Drop for PartConfig {
+    fn drop(self) {
+        let PartConfig {
+            part: _,
+            epoch: _,
+            version: _,
+            master: _,
+            backups: _,
+            witnesses: _,
+            ranges: _,
+        } = self;
+    }
 }
 
 impl Config {

@@ -6,7 +6,7 @@ use curp_cmd::{Answer, Command, Keeper, NodeId, RequestId};
 use std::alloc::Global;
 
 /// An order that a node gets from whoever runs it, and not by a message. A node ignores those that aren't its own.
-#[derive(PartialEq, Eq, Drop)]
+#[derive(PartialEq, Eq)]
 pub enum Local {
     /// To a client: invoke the command.
     Invoke(Shared<Command>),
@@ -40,6 +40,35 @@ pub enum Local {
     Nudge,
     /// To the manager: the client of that number is gone.
     Expire(u32),
+}
+
+impl Drop for Local {
+    fn drop(self) {
+        match self {
+            Local::Invoke(_) => {}
+            Local::Retry(_) => {}
+            Local::Fetch => {}
+            Local::Sync => {}
+            Local::Collect => {}
+            Local::Recover {
+                part: _,
+                backup: _,
+                witness: _,
+            } => {}
+            Local::Replace {
+                keeper: _,
+                part: _,
+                place: _,
+            } => {}
+            Local::Migrate {
+                lo: _,
+                hi: _,
+                to: _,
+            } => {}
+            Local::Nudge => {}
+            Local::Expire(_) => {}
+        }
+    }
 }
 
 impl Local {
@@ -83,10 +112,18 @@ impl Local {
 }
 
 /// What a node reacts to.
-#[derive(Drop)]
 pub enum Input {
     Local(Local),
     Message(Message),
+}
+
+impl Drop for Input {
+    fn drop(self) {
+        match self {
+            Input::Local(_) => {}
+            Input::Message(_) => {}
+        }
+    }
 }
 
 /// What a node does on an input, apart from its new state.

@@ -7,11 +7,20 @@ use std::alloc::Global;
 use std::mem::size_of;
 
 /// A message: who sent it, whom it goes to, and what it says.
-#[derive(Drop)]
 pub struct Message {
     pub from: NodeId,
     pub to: NodeId,
     pub body: Body,
+}
+
+impl Drop for Message {
+    fn drop(self) {
+        let Message {
+            from: _,
+            to: _,
+            body: _,
+        } = self;
+    }
 }
 
 // A run keeps each message that was sent.

@@ -29,7 +29,7 @@ pub enum Protocol {
 }
 
 /// A step of a script.
-#[derive(PartialEq, Eq, Drop)]
+#[derive(PartialEq, Eq)]
 pub enum Step {
     /// A client invokes a command.
     Invoke {
@@ -85,4 +85,38 @@ pub enum Step {
     Stop {
         node: NodeId,
     },
+}
+
+impl Drop for Step {
+    fn drop(self) {
+        match self {
+            Step::Invoke {
+                client: _,
+                command: _,
+            } => {}
+            Step::Deliver { message: _ } => {}
+            Step::Retry { client: _, seq: _ } => {}
+            Step::Fetch { client: _ } => {}
+            Step::Sync { master: _ } => {}
+            Step::Collect { master: _ } => {}
+            Step::Recover {
+                part: _,
+                backup: _,
+                witness: _,
+            } => {}
+            Step::Replace {
+                keeper: _,
+                part: _,
+                place: _,
+            } => {}
+            Step::Migrate {
+                lo: _,
+                hi: _,
+                to: _,
+            } => {}
+            Step::Nudge => {}
+            Step::Expire { client: _ } => {}
+            Step::Stop { node: _ } => {}
+        }
+    }
 }

@@ -13,11 +13,20 @@ use std::alloc::{AllocError, Global};
 use std::marker::Model;
 
 /// A backup as a node.
-#[derive(Drop)]
 pub struct BackupNode {
     alloc: Global,
     number: u32,
     backup: Backup,
+}
+
+impl Drop for BackupNode {
+    fn drop(self) {
+        let BackupNode {
+            alloc: _,
+            number: _,
+            backup: _,
+        } = self;
+    }
 }
 
 impl Model for BackupNode {

@@ -13,10 +13,18 @@ use std::alloc::{AllocError, Global};
 use std::marker::Model;
 
 /// A client as a node.
-#[derive(Drop)]
 pub struct ClientNode {
     alloc: Global,
     client: Client,
+}
+
+impl Drop for ClientNode {
+    fn drop(self) {
+        let ClientNode {
+            alloc: _,
+            client: _,
+        } = self;
+    }
 }
 
 impl Model for ClientNode {

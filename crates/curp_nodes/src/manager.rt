@@ -11,9 +11,14 @@ use std::alloc::Global;
 use std::marker::Model;
 
 /// The configuration manager as a node.
-#[derive(Drop)]
 pub struct ManagerNode {
     manager: Manager,
+}
+
+impl Drop for ManagerNode {
+    fn drop(self) {
+        let ManagerNode { manager: _ } = self;
+    }
 }
 
 impl Model for ManagerNode {

@@ -16,10 +16,15 @@ use std::marker::Model;
 use std::mem;
 
 /// A master as a node: fresh until it gets its order, recovering then, and serving once it is adopted.
-#[derive(Drop)]
 pub struct MasterNode {
     alloc: Global,
     stage: Stage,
+}
+
+impl Drop for MasterNode {
+    fn drop(self) {
+        let MasterNode { alloc: _, stage: _ } = self;
+    }
 }
 
 impl Model for MasterNode {

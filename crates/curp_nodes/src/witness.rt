@@ -14,11 +14,20 @@ use std::alloc::{AllocError, Global};
 use std::marker::Model;
 
 /// A witness as a node.
-#[derive(Drop)]
 pub struct WitnessNode {
     alloc: Global,
     number: u32,
     witness: Witness,
+}
+
+impl Drop for WitnessNode {
+    fn drop(self) {
+        let WitnessNode {
+            alloc: _,
+            number: _,
+            witness: _,
+        } = self;
+    }
 }
 
 impl Model for WitnessNode {

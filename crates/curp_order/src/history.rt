@@ -9,9 +9,14 @@ use std::marker::Model;
 
 /// What all clients saw, in the order in which it happened. Contracts see the events, and for how many more there is
 /// room.
-#[derive(Drop)]
 pub struct History {
     events: Reserved<KeptEvent>,
+}
+
+impl Drop for History {
+    fn drop(self) {
+        let History { events: _ } = self;
+    }
 }
 
 impl Model for History {

@@ -6,9 +6,14 @@ use curp_cmd::{Answer, KeptCommand, RequestId};
 use std::marker::Model;
 
 /// An event that is kept. Its command stands in memory once, with the request. Contracts see the event.
-#[derive(Drop)]
 pub struct KeptEvent {
     told: Told,
+}
+
+impl Drop for KeptEvent {
+    fn drop(self) {
+        let KeptEvent { told: _ } = self;
+    }
 }
 
 // What a kept event tells.

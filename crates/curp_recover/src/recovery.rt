@@ -24,12 +24,22 @@ use std::alloc::{AllocError, Global};
 use std::marker::Model;
 
 /// A master that recovers a partition (after CURP's recovery). Contracts see its number and its state.
-#[derive(Drop)]
 pub struct Recovery {
     alloc: Global,
     number: u32,
     order: Recover,
     stage: RecoveryStage,
+}
+
+impl Drop for Recovery {
+    fn drop(self) {
+        let Recovery {
+            alloc: _,
+            number: _,
+            order: _,
+            stage: _,
+        } = self;
+    }
 }
 
 impl Model for Recovery {

@@ -31,10 +31,18 @@ pub enum NextRequest {
 ///
 /// A request is `*n\r\n` and `n` bulk strings `$len\r\nbytes\r\n`, where `n` is 1 to 64 and `len` 0 to 65,536, each in
 /// one to five decimal digits. Bytes that were read ahead are kept here, so one source is to be read by one of these.
-#[derive(Drop)]
 pub struct Requests {
     window: Window,
     failed: Option<NextRequest>,
+}
+
+impl Drop for Requests {
+    fn drop(self) {
+        let Requests {
+            window: _,
+            failed: _,
+        } = self;
+    }
 }
 
 impl Model for Requests {

@@ -17,11 +17,20 @@ use std::marker::Model;
 /// The reply table of a master (RIFL): the answer to each request that is done and not acknowledged, each client's
 /// first request that isn't acknowledged, and the clients that are expired. Contracts see it as the definition's table,
 /// and for how many more requests and clients each it has room.
-#[derive(Drop)]
 pub struct Table {
     alloc: Global,
     records: ReservedPairs<RequestId, NotedAnswer>,
     clients: ReservedPairs<u32, ClientMark>,
+}
+
+impl Drop for Table {
+    fn drop(self) {
+        let Table {
+            alloc: _,
+            records: _,
+            clients: _,
+        } = self;
+    }
 }
 
 impl Model for Table {

@@ -9,11 +9,20 @@ use std::alloc::Global;
 use std::marker::Model;
 
 /// The greatest length of its log and the last round that a backup has acknowledged.
-#[derive(Drop)]
 pub struct Acknowledged {
     backup: NodeId,
     long: u64,
     round: u64,
+}
+
+impl Drop for Acknowledged {
+    fn drop(self) {
+        let Acknowledged {
+            backup: _,
+            long: _,
+            round: _,
+        } = self;
+    }
 }
 
 impl Model for Acknowledged {

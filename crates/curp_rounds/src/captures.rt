@@ -13,10 +13,18 @@ use std::marker::Model;
 
 /// The reads that wait, in the order in which they were captured, and how many were captured in all. Contracts see these,
 /// and for how many more there is room.
-#[derive(Drop)]
 pub struct Captures {
     waiting: Reserved<Captured>,
     count: u64,
+}
+
+impl Drop for Captures {
+    fn drop(self) {
+        let Captures {
+            waiting: _,
+            count: _,
+        } = self;
+    }
 }
 
 impl Model for Captures {

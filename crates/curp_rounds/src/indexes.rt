@@ -12,9 +12,14 @@ use std::alloc::Global;
 use std::marker::Model;
 
 /// Indexes of entries, in ascending order. Contracts see them, and for how many more there is room.
-#[derive(Drop)]
 pub struct Indexes {
     numbers: Reserved<u64>,
+}
+
+impl Drop for Indexes {
+    fn drop(self) {
+        let Indexes { numbers: _ } = self;
+    }
 }
 
 impl Model for Indexes {

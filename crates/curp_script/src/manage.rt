@@ -6,7 +6,7 @@ use crate::FieldName;
 use curp_msg::Local;
 
 /// What a line says to `manage`, behind the header.
-#[derive(PartialEq, Eq, Drop)]
+#[derive(PartialEq, Eq)]
 pub enum ManageLine {
     /// The manager gets an order: `recover`, `replace`, `migrate`, `nudge` or `expire`.
     Order(Local),
@@ -15,6 +15,16 @@ pub enum ManageLine {
     /// The next accepted input is stopped before that call of the disk, counted from 1, and the disk crashes. What it
     /// hadn't synced is kept, or lost.
     Crash { call: u8, kept: bool },
+}
+
+impl Drop for ManageLine {
+    fn drop(self) {
+        match self {
+            ManageLine::Order(_) => {}
+            ManageLine::Recovered { part: _, epoch: _ } => {}
+            ManageLine::Crash { call: _, kept: _ } => {}
+        }
+    }
 }
 
 // The kinds of line.

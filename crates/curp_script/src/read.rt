@@ -29,10 +29,18 @@ use steps::step_of;
 
 /// Reads the lines of a script. From line to line it keeps the memory that reading needs, 16 KB and as many bytes as the
 /// longest line had, and nothing else.
-#[derive(Drop)]
 pub struct LineReader {
     alloc: Global,
     scratch: Scratch,
+}
+
+impl Drop for LineReader {
+    fn drop(self) {
+        let LineReader {
+            alloc: _,
+            scratch: _,
+        } = self;
+    }
 }
 
 impl LineReader {

@@ -31,13 +31,23 @@ pub enum ServeError {
 }
 
 /// A cluster that serves commands, one after the other.
-#[derive(Drop)]
 pub struct Served {
     header: Header,
     every: u64,
     stepper: Stepper,
     // Why it serves no command any more.
     stop: Option<Stop>,
+}
+
+impl Drop for Served {
+    fn drop(self) {
+        let Served {
+            header: _,
+            every: _,
+            stepper: _,
+            stop: _,
+        } = self;
+    }
 }
 
 impl Model for Served {

@@ -7,11 +7,20 @@ use curp_cmd::Request;
 use std::marker::Model;
 
 /// A request that is held, how many collections it has survived, and whether it is suspected.
-#[derive(Drop)]
 pub struct KeptRequest {
     request: Shared<Request>,
     survived: u64,
     suspected: bool,
+}
+
+impl Drop for KeptRequest {
+    fn drop(self) {
+        let KeptRequest {
+            request: _,
+            survived: _,
+            suspected: _,
+        } = self;
+    }
 }
 
 impl Model for KeptRequest {

@@ -28,13 +28,24 @@ pub enum RecordAnswer {
 }
 
 /// A witness: it holds requests that don't conflict, until they are stored.
-#[derive(Drop)]
 pub struct Witness {
     alloc: Global,
     mode: Mode,
     epoch: Option<u32>,
     slots: Slots,
     register: Register,
+}
+
+impl Drop for Witness {
+    fn drop(self) {
+        let Witness {
+            alloc: _,
+            mode: _,
+            epoch: _,
+            slots: _,
+            register: _,
+        } = self;
+    }
 }
 
 impl Model for Witness {

@@ -40,12 +40,21 @@ impl Moved {
 
 /// The entries of a log that aren't synced, by what they touch: those that were added and not forgotten, in the order
 /// of their places. Contracts see them, and for how many more hashes there is room; an entry has four at most.
-#[derive(Drop)]
 pub struct Tail {
     entries: VecDeque<TailEntry>,
     // Of each hash that a command of an entry names, the last such entry.
     lasts: HashMap<u64, u64>,
     ranges: Reserved<Moved>,
+}
+
+impl Drop for Tail {
+    fn drop(self) {
+        let Tail {
+            entries: _,
+            lasts: _,
+            ranges: _,
+        } = self;
+    }
 }
 
 impl Model for Tail {

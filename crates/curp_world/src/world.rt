@@ -34,9 +34,14 @@ pub enum BeginError {
 
 /// A run of a script: the nodes, every message that was ever sent, and the history. A message that no step delivers is
 /// lost; one may be delivered often, and in any order.
-#[derive(Drop)]
 pub struct World {
     cluster: Cluster,
+}
+
+impl Drop for World {
+    fn drop(self) {
+        let World { cluster: _ } = self;
+    }
 }
 
 impl Model for World {
