@@ -17,8 +17,8 @@ use Rattle.curp_msg.specs.declared.body.Body.{Body}
 use Rattle.curp_msg.specs.declared.body.Body.TheVariants as body
 use Rattle.curp_msg.specs.declared.message.Message.{Message}
 use Rattle.curp_wire.proofs.ItemSizes.{node_size}
-use Rattle.curp_wire.proofs.Formats.{bodies_again, bodies_sound}
-use Rattle.curp_wire.specs.Fields.{body_parts, body_variants}
+use Rattle.curp_fields.proofs.Formats.{bodies_again, bodies_sound}
+use Rattle.curp_fields.specs.Fields.{body_parts, body_variants}
 use Rattle.curp_wire.specs.Frame.{Frame, IsMessage, content, content_limit, ended, frame_in, frame_of_length, in_fields, is_tag, message_in, read_message}
 use Rattle.curp_wire.specs.declared.error.FrameError.{FrameError}
 use Rattle.curp_wire.specs.declared.error.FrameError.TheVariants as error

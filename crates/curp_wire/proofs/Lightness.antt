@@ -23,10 +23,10 @@ use Rattle.curp_msg.specs.declared.config.PartConfig.{PartConfig}
 use Rattle.curp_msg.specs.declared.message.Message.{Message}
 use Rattle.curp_wire.proofs.ItemSizes.{all_each, few_clients, few_keys, node_size, weights-cons}
 use Rattle.curp_wire.proofs.Sizes.{fields_size}
-use Rattle.curp_wire.specs.Fields.{body_parts}
+use Rattle.curp_fields.specs.Fields.{body_parts}
 use Rattle.curp_wire.specs.Frame.{IsMessage, content, content_limit}
 use Rattle.curp_wire.specs.Light.{are_light_nodes, is_light, is_light_body, is_light_client, is_light_collection, is_light_entry, is_light_id, is_light_package, is_light_part, is_light_reply}
-use Rattle.curp_wire.specs.Spelling.{AreEntries, AreNodes, HasContent, HasFields, IsCollection, IsFenceReply, IsNamed, IsPart}
+use Rattle.curp_fields.specs.Spelling.{AreEntries, AreNodes, HasContent, HasFields, IsCollection, IsFenceReply, IsNamed, IsPart}
 
 -- ---- lists that weigh little
 

@@ -50,7 +50,7 @@ use Rattle.curp_msg.specs.declared.config.Config.{Config}
 use Rattle.curp_msg.specs.declared.config.PartConfig.{PartConfig}
 use Rattle.curp_range.specs.Spans.{Span}
 use Rattle.curp_wire.proofs.ItemSizes.{all_each, answer_size, bounds_size, flat_entries, flat_size, id_size, node_size, package_size, request_most, truth_size, u32_size, u64_size, weights-cons}
-use Rattle.curp_wire.specs.Fields.{accepted_fields, adopted_fields, append_answer, append_fields, appended_fields, ask_fields, body_parts, collected_fields, collection_answer, config_fields, entries, fence_answer_fields, fence_reply, gc_fields, ids, nodes, parcel_fields, part_fields, prepare_fields, probe_fields, probed_fields, quick_fields, reason_format, record_fields, recover_fields, recovered_fields, refusal_format, refuse_fields, rejected_fields, reply_fields, requests, spans, start_fields, take_out_fields, worth_fields}
+use Rattle.curp_fields.specs.Fields.{accepted_fields, adopted_fields, append_answer, append_fields, appended_fields, ask_fields, body_parts, collected_fields, collection_answer, config_fields, entries, fence_answer_fields, fence_reply, gc_fields, ids, nodes, parcel_fields, part_fields, prepare_fields, probe_fields, probed_fields, quick_fields, reason_format, record_fields, recover_fields, recovered_fields, refusal_format, refuse_fields, rejected_fields, reply_fields, requests, spans, start_fields, take_out_fields, worth_fields}
 use Rattle.curp_wire.specs.Light.{are_light_nodes, is_light_body, is_light_collection, is_light_entry, is_light_package, is_light_part, is_light_reply}
 
 -- ---- answers that say why or what

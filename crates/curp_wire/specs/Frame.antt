@@ -5,7 +5,7 @@ use Rattle.curp_base.specs.Cases.{◌>>=◌}
 use Rattle.curp_items.specs.Format.{Input, Reading, by_tag}
 use Rattle.curp_items.specs.Items.{node}
 use Rattle.curp_msg.specs.declared.message.Message.{Message}
-use Rattle.curp_wire.specs.Fields.{body_parts, body_variants}
+use Rattle.curp_fields.specs.Fields.{body_parts, body_variants}
 use Rattle.curp_wire.specs.declared.error.FrameError.{FrameError}
 use Rattle.curp_wire.specs.declared.error.FrameError.TheVariants as error
 

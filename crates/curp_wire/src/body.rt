@@ -2,11 +2,11 @@
 ghost use Rattle.std.specs.Prelude.{◌≡◌, ◌↔◌, IsTrue, OnOk};
 ghost use Rattle.curp_items.specs.Calls.{ReadsIfMemory, WritesItem};
 ghost use Rattle.curp_items.specs.Format.{by_tag};
-ghost use Rattle.curp_wire.specs.Fields.{body_parts, body_variants};
-ghost use Rattle.curp_wire.specs.Spelling.{HasFields};
+ghost use Rattle.curp_fields.specs.Fields.{body_parts, body_variants, last_variants, later_variants};
+ghost use Rattle.curp_fields.specs.Spelling.{HasFields};
 
-use crate::part::{Part, read_parts, write_parts};
 use curp_base::NoMemory;
+use curp_fields::{Part, read_parts, write_parts};
 use curp_items::{Item, ReadError, Reader, Writer};
 use curp_msg::Body;
 use std::alloc::Global;
@@ -55,7 +55,7 @@ pub(crate) fn tag_of(body: &Body) -> u8
 }
 
 /// Writes a body's fields.
-#[tactic(auto, unfolding(crate::specs::Fields::requests))]
+#[tactic(auto, unfolding(curp_fields::specs::Fields::requests))]
 pub(crate) fn write_fields(body: &Body, out: &mut Writer) -> Result<(), NoMemory>
     requires { HasFields body.now }
     ensures writes { WritesItem out.old out.new result (body_parts body.now).text }
@@ -97,7 +97,7 @@ pub(crate) fn write_fields(body: &Body, out: &mut Writer) -> Result<(), NoMemory
 }
 
 /// Reads the fields of the tag.
-#[tactic(auto, unfolding(crate::specs::Fields::requests))]
+#[tactic(auto, unfolding(curp_fields::specs::Fields::requests))]
 pub(crate) fn read_fields(tag: u8, alloc: Global, reader: &mut Reader) -> Result<Body, ReadError>
     ensures { ReadsIfMemory result reader.new (by_tag body_variants tag reader.old.place reader.old) }
 {
@@ -115,6 +115,16 @@ pub(crate) fn read_fields(tag: u8, alloc: Global, reader: &mut Reader) -> Result
         9 => Ok(Body::Refuse(Part::read(alloc, reader)?)),
         10 => Ok(Body::Accepted(Part::read(alloc, reader)?)),
         11 => Ok(Body::Rejected(Part::read(alloc, reader)?)),
+        _ => read_later_fields(tag, alloc, reader),
+    }
+}
+
+/// The same where the tag is none of a client's.
+#[tactic(auto, unfolding(curp_fields::specs::Fields::requests))]
+fn read_later_fields(tag: u8, alloc: Global, reader: &mut Reader) -> Result<Body, ReadError>
+    ensures { ReadsIfMemory result reader.new (by_tag later_variants tag reader.old.place reader.old) }
+{
+    match tag {
         12 => Ok(Body::Append(Part::read(alloc, reader)?)),
         13 => Ok(Body::Appended(Part::read(alloc, reader)?)),
         14 => Ok(Body::Gc(Part::read(alloc, reader)?)),
@@ -134,6 +144,16 @@ pub(crate) fn read_fields(tag: u8, alloc: Global, reader: &mut Reader) -> Result
         22 => Ok(Body::FrozenAnswer {
             requests: read_parts(alloc, reader)?,
         }),
+        _ => read_last_fields(tag, alloc, reader),
+    }
+}
+
+/// The same where the tag is none of those before.
+#[tactic(auto, unfolding(curp_fields::specs::Fields::requests))]
+fn read_last_fields(tag: u8, alloc: Global, reader: &mut Reader) -> Result<Body, ReadError>
+    ensures { ReadsIfMemory result reader.new (by_tag last_variants tag reader.old.place reader.old) }
+{
+    match tag {
         23 => Ok(Body::Recovered(Part::read(alloc, reader)?)),
         24 => Ok(Body::Adopted(Part::read(alloc, reader)?)),
         25 => Ok(Body::Prepare(Part::read(alloc, reader)?)),

@@ -1,23 +1,17 @@
 //! Messages as bytes: a length, a tag, the sender, the addressee and the fields of the body.
 //!
-//! `Fields.antt` is the table: a tag and a list of fields for each body, over the formats of `curp_items`. `Frame.antt` has
-//! what a frame is, and which one bytes begin with. `encode` gives the one frame of a message, where `is_light` says so
+//! `curp_fields` has the table: a tag and a list of fields for each body. `Frame.antt` has what a frame is, and which one
+//! bytes begin with. `encode` gives the one frame of a message, where `is_light` says so
 //! before; `decode` is exact, both ways: `found`, `within`, `only`, and `exact` for each error and its place. `laws`: no
 //! frame begins another.
 #![tactic(auto)]
 
-mod answers;
-mod asking;
 mod body;
-mod config;
 mod error;
-mod keeping;
 pub mod laws;
 mod light;
 mod limits;
-mod managing;
 mod message;
-mod part;
 mod reading;
 mod writing;
 

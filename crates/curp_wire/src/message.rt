@@ -2,7 +2,7 @@
 ghost use Rattle.std.specs.Prelude.{◌≡◌, OnOk};
 ghost use Rattle.curp_items.specs.Calls.{ReadsIfMemory, WritesItem};
 ghost use Rattle.curp_wire.specs.Frame.{IsMessage, content, is_tag, read_message};
-ghost use Rattle.curp_wire.specs.Spelling.{HasContent};
+ghost use Rattle.curp_fields.specs.Spelling.{HasContent};
 
 use crate::body::{read_fields, tag_of, write_fields};
 use curp_base::NoMemory;

@@ -1,0 +1,128 @@
+//! What masters give backups and witnesses, and what these answer.
+ghost use Rattle.std.specs.Prelude.{⊤};
+
+use crate::part::{Part, read_parts, write_parts};
+use curp_base::NoMemory;
+use curp_items::{Item, ReadError, Reader, Writer, read_list, write_list};
+use curp_msg::{Append, Appended, Collected, FenceAnswer, Gc};
+use std::alloc::Global;
+
+impl Part for Append {
+    ghost use Rattle.curp_fields.specs.Fields.{append_fields};
+    ghost use Rattle.curp_fields.specs.Spelling.{AreEntries};
+
+    ghost format = { append_fields };
+
+    ghost HasSpelling = { λ append. AreEntries append.entries };
+
+    #[tactic(auto, unfolding(crate::specs::Fields::append_fields, crate::specs::Fields::entries))]
+    fn write(&self, out: &mut Writer) -> Result<(), NoMemory> {
+        self.epoch.write(out)?;
+        self.base.write(out)?;
+        self.round.write(out)?;
+        write_parts(self.entries.as_slice(), out)
+    }
+
+    #[tactic(auto, unfolding(crate::specs::Fields::append_fields, crate::specs::Fields::entries))]
+    fn read(alloc: Global, reader: &mut Reader) -> Result<Append, ReadError> {
+        Ok(Append {
+            epoch: Item::read(reader)?,
+            base: Item::read(reader)?,
+            round: Item::read(reader)?,
+            entries: read_parts(alloc, reader)?,
+        })
+    }
+}
+
+impl Part for Appended {
+    ghost use Rattle.curp_fields.specs.Fields.{appended_fields};
+
+    ghost format = { appended_fields };
+
+    ghost HasSpelling = { λ _. ⊤ };
+
+    #[tactic(auto, unfolding(crate::specs::Fields::appended_fields))]
+    fn write(&self, out: &mut Writer) -> Result<(), NoMemory> {
+        self.epoch.write(out)?;
+        self.round.write(out)?;
+        self.answer.write(out)
+    }
+
+    #[tactic(auto, unfolding(crate::specs::Fields::appended_fields))]
+    fn read(alloc: Global, reader: &mut Reader) -> Result<Appended, ReadError> {
+        Ok(Appended {
+            epoch: Item::read(reader)?,
+            round: Item::read(reader)?,
+            answer: Part::read(alloc, reader)?,
+        })
+    }
+}
+
+impl Part for Gc {
+    ghost use Rattle.curp_fields.specs.Fields.{gc_fields};
+    ghost use Rattle.curp_fields.specs.Spelling.{IsShort};
+
+    ghost format = { gc_fields };
+
+    ghost HasSpelling = { λ gc. IsShort gc.ids };
+
+    #[tactic(auto, unfolding(crate::specs::Fields::gc_fields, crate::specs::Fields::ids))]
+    fn write(&self, out: &mut Writer) -> Result<(), NoMemory> {
+        self.epoch.write(out)?;
+        write_list(self.ids.as_slice(), out)
+    }
+
+    #[tactic(auto, unfolding(crate::specs::Fields::gc_fields, crate::specs::Fields::ids))]
+    fn read(alloc: Global, reader: &mut Reader) -> Result<Gc, ReadError> {
+        Ok(Gc {
+            epoch: Item::read(reader)?,
+            ids: read_list(alloc, reader)?,
+        })
+    }
+}
+
+impl Part for Collected {
+    ghost use Rattle.curp_fields.specs.Fields.{collected_fields};
+    ghost use Rattle.curp_fields.specs.Spelling.{IsCollection};
+
+    ghost format = { collected_fields };
+
+    ghost HasSpelling = { λ collected. IsCollection collected.answer };
+
+    #[tactic(auto, unfolding(crate::specs::Fields::collected_fields))]
+    fn write(&self, out: &mut Writer) -> Result<(), NoMemory> {
+        self.epoch.write(out)?;
+        self.answer.write(out)
+    }
+
+    #[tactic(auto, unfolding(crate::specs::Fields::collected_fields))]
+    fn read(alloc: Global, reader: &mut Reader) -> Result<Collected, ReadError> {
+        Ok(Collected {
+            epoch: Item::read(reader)?,
+            answer: Part::read(alloc, reader)?,
+        })
+    }
+}
+
+impl Part for FenceAnswer {
+    ghost use Rattle.curp_fields.specs.Fields.{fence_answer_fields};
+    ghost use Rattle.curp_fields.specs.Spelling.{IsFenceReply};
+
+    ghost format = { fence_answer_fields };
+
+    ghost HasSpelling = { λ fenced. IsFenceReply fenced.answer };
+
+    #[tactic(auto, unfolding(crate::specs::Fields::fence_answer_fields))]
+    fn write(&self, out: &mut Writer) -> Result<(), NoMemory> {
+        self.epoch.write(out)?;
+        self.answer.write(out)
+    }
+
+    #[tactic(auto, unfolding(crate::specs::Fields::fence_answer_fields))]
+    fn read(alloc: Global, reader: &mut Reader) -> Result<FenceAnswer, ReadError> {
+        Ok(FenceAnswer {
+            epoch: Item::read(reader)?,
+            answer: Part::read(alloc, reader)?,
+        })
+    }
+}

@@ -1,0 +1,15 @@
+//! The fields of each body as bytes: the table of messages below their frames.
+//!
+//! `Fields.antt` is the table: a tag and a list of fields for each body, over the formats of `curp_items`. `Part` is what
+//! has fields: `write` and `read` are exact over the part's format, and `HasSpelling` says which parts have a spelling.
+//! `curp_wire` makes frames of these.
+#![tactic(auto)]
+
+mod answers;
+mod asking;
+mod config;
+mod keeping;
+mod managing;
+mod part;
+
+pub use part::{Part, read_parts, write_parts};
