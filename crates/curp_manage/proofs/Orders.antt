@@ -30,7 +30,7 @@ use Rattle.curp_script.specs.ManageKinds.{manage_kind_of, manage_kind_text, mana
 use Rattle.curp_script.specs.Nodes.{keeper_of}
 use Rattle.curp_script.specs.Text.{field_text}
 use Rattle.serde_json.specs.Find.{as_bool, as_str, get}
-use Rattle.curp_wire.specs.Fields.{recovered_fields}
+use Rattle.curp_fields.specs.Fields.{recovered_fields}
 
 -- ---- lines
 

@@ -2,7 +2,7 @@
 use Rattle.std.specs.Prelude.{◌≡◌, ℕ, false, List, ⊤}
 use Rattle.curp_io.specs.Text.{lines_of}
 use Rattle.curp_mlog.specs.Records.{is_others_order}
-use Rattle.curp_play.specs.Reading.{SaidScript, script_by}
+use Rattle.curp_runner.specs.Reading.{SaidScript, script_by}
 use Rattle.curp_script.specs.Manage.{manage_in}
 use Rattle.curp_script.specs.declared.manage.ManageLine.{ManageLine}
 use Rattle.curp_script.specs.declared.manage.ManageLine.TheVariants.{Order, Recovered, Crash}

@@ -2,15 +2,14 @@ ghost use Rattle.std.specs.Prelude.{◌≡◌, ◌≢◌, ◌+◌, ◌≤◌, �
 ghost use Rattle.curp_io.specs.Streams.{HoldsPart, Rose, SameCount};
 ghost use Rattle.curp_manage.specs.Lines.{manage_script_in};
 ghost use Rattle.curp_manage.specs.Text.{HoldsManaged, manage_says, managed, managed_of, texts_of_managed};
-ghost use Rattle.curp_play.specs.Play.{EndsWhole};
-ghost use Rattle.curp_play.specs.Status.{is_cut_short, status_of};
+ghost use Rattle.curp_runner.specs.Status.{EndsWhole, is_cut_short, status_of};
 ghost use Rattle.curp_script.specs.Script.{Whole};
 
 use crate::managing::Managing;
 use crate::outcome::push_outcome;
 use curp_base::NoMemory;
 use curp_io::{Sink, Source};
-use curp_play::{Player, Status, close, run, write};
+use curp_runner::{Player, Status, close, run, write};
 use curp_script::{Header, ManageLine};
 use std::alloc::Global;
 

@@ -1,6 +1,2 @@
-pub mod Check
 pub mod Play
 pub mod Players
-pub mod Reading
-pub mod Run
-pub mod Status

@@ -1,7 +1,5 @@
 -- What `play` writes for the bytes of a script, and what its order is.
-use Rattle.std.specs.Prelude.{◌≡◌, ◌⊎◌, ℕ, List, [], ◌++◌, map, Option, Some, None}
-use Rattle.curp_io.specs.Streams.{Rose}
-use Rattle.curp_io.specs.Text.{line_of, lines_of}
+use Rattle.std.specs.Prelude.{ℕ, List, [], map, Option, Some, None}
 use Rattle.curp_cmd.specs.declared.command.Answer.{Answer}
 use Rattle.curp_cmd.specs.declared.command.Command.{Command}
 use Rattle.curp_cmd.specs.declared.command.RequestId.{RequestId}
@@ -10,15 +8,10 @@ use Rattle.curp_order.specs.Order.{IsHistory, IsOrder}
 use Rattle.curp_msg.specs.declared.script.Header.{Header}
 use Rattle.curp_msg.specs.declared.script.Step.{Step}
 use Rattle.curp_script.specs.EventTexts.{claim_lines}
-use Rattle.curp_script.specs.Script.{Ending, Whole, Bad, TooLong, TooMany, Steps, Script, script_of}
+use Rattle.curp_script.specs.Script.{Ending, Whole, Bad, TooLong, TooMany, Steps, Script}
 use Rattle.curp_model.specs.World.{World, opening, order, run, world}
 use Rattle.curp_text.specs.Text.{closing_order, steps_text}
-use Rattle.curp_play.specs.declared.status.Status.{Status}
-use Rattle.curp_play.specs.declared.status.Status.TheVariants as status
-
--- the script that bytes are
-abbrev pub script_in : List ℕ → Script
-script_in bytes = script_of (lines_of bytes)
+use Rattle.curp_runner.specs.Reading.{HoldsRead, script_in}
 
 -- ---- the text
 
@@ -55,16 +48,6 @@ texts_of_steps (Some header) steps = steps_text no_order 1 (opening header) step
 
 abbrev pub texts_of : Script → List ℕ
 texts_of s = texts_of_steps s.header s.body.steps
-
--- The bytes that were taken are those of whole lines, and behind them some without a line feed. What stands behind what was
--- held before is the text of the whole lines. (The last line of an input is whole once the input has shown its end.)
-pub record HoldsRead (text : List ℕ → List ℕ) (left_before left_after held_before held_after : List ℕ) : Type 0 where
-  pub read : List ℕ
-  pub ahead : List ℕ
-  pub taken : left_before ≡ read ++ (ahead ++ left_after)
-  pub lines : lines_of left_before ≡ lines_of read ++ lines_of (ahead ++ left_after)
-  pub less : line_of ahead ≡ ahead
-  pub held : held_after ≡ held_before ++ text read
 
 -- the texts of the steps on the whole lines that were taken of a script
 abbrev pub HoldsWholeLines : (left_before left_after held_before held_after : List ℕ) → Type 0
@@ -111,10 +94,3 @@ asked_of order = map (λ x. (x.0, x.1)) order
 -- a script that has a header, and such a world at its end
 abbrev pub HasAnOrder : Script → Type 0
 HasAnOrder s = LeadsToAnOrder s.header s.body
-
--- ---- completeness
-
--- with no fault of its input and its output, it ends with the status 0, or for want of memory
-abbrev pub EndsWhole : Status → (read_before read_after written_before written_after : ℕ) → Type 0
-EndsWhole result read_before read_after written_before written_after =
-    (Rose read_before read_after → ⊥) → (Rose written_before written_after → ⊥) → (result ≡ status.Ok) ⊎ (result ≡ status.NoMemory)

@@ -7,15 +7,12 @@ ghost use Rattle.curp_script.specs.EventTexts.{claim_lines, event_line, history_
 ghost use Rattle.curp_msg.specs.Limits.{step_limit};
 ghost use Rattle.curp_script.specs.Script.{Whole};
 ghost use Rattle.curp_model.specs.World as model;
-ghost use Rattle.curp_play.specs.Play.{EndsWhole, asked_of, claim_of, script_in};
+ghost use Rattle.curp_play.specs.Play.{asked_of, claim_of};
 ghost use Rattle.curp_play.specs.Players.{HasClaim, record_says, recorded};
-ghost use Rattle.curp_play.specs.Reading.{IsOfWriting};
-ghost use Rattle.curp_play.specs.Status.{is_cut_short, status_of};
+ghost use Rattle.curp_runner.specs.Reading.{IsOfWriting, script_in};
+ghost use Rattle.curp_runner.specs.Status.{EndsWhole, is_cut_short, status_of};
 
 use crate::play::opened;
-use crate::running::{Player, run};
-use crate::status::Status;
-use crate::writing::{close, write};
 use curp_base::NoMemory;
 use curp_check::laws::orders_are_short;
 use curp_cmd::{Answer, KeptCommand, RequestId};
@@ -23,6 +20,7 @@ use curp_io::{Sink, Source};
 use curp_law_print::{asked_is_in_range, event_is_in_range, printed_claims_are_read};
 use curp_laws::a_step_is_one_event;
 use curp_order::KeptEvent;
+use curp_runner::{Player, Status, close, run, write};
 use curp_script::{EventLine, Header, Step, print_event};
 use curp_world::World;
 use std::alloc::Global;

@@ -1,21 +1,20 @@
 ghost use Rattle.std.specs.Prelude.{◌≡◌, ◌≢◌, ◌++◌, [], true, false, None, IfOk, OnOk, ⊤, string_bytes};
 ghost use Rattle.curp_io.specs.Streams.{HoldsPart, Rose, SameCount};
 ghost use Rattle.curp_model.specs.World as model;
-ghost use Rattle.curp_play.specs.Play.{EndsWhole, HasAnOrder, HoldsWholeLines, OrderStands};
-ghost use Rattle.curp_play.specs.Play.{script_in, text_of, texts_of};
+ghost use Rattle.curp_play.specs.Play.{HasAnOrder, HoldsWholeLines, OrderStands};
+ghost use Rattle.curp_runner.specs.Reading.{script_in};
+ghost use Rattle.curp_play.specs.Play.{text_of, texts_of};
 ghost use Rattle.curp_play.specs.Players.{play_says, played};
-ghost use Rattle.curp_play.specs.Status.{is_cut_short, status_of};
+ghost use Rattle.curp_runner.specs.Status.{EndsWhole, is_cut_short, status_of};
 ghost use Rattle.curp_script.specs.Headers.{bad_field};
 ghost use Rattle.curp_script.specs.Script.{Whole};
 ghost use Rattle.curp_text.specs.Text.{made_text};
 
-use crate::running::{Player, run};
-use crate::status::Status;
-use crate::writing::{close, write};
 use curp_base::NoMemory;
 use curp_io::{Sink, Source};
 use curp_msg::Outcome;
 use curp_report::{order_text, push_step_text};
+use curp_runner::{Player, Status, close, run, write};
 use curp_script::{Header, Step};
 use curp_world::World;
 use std::alloc::{AllocError, Global};

@@ -1,9 +1,9 @@
 -- How a run that writes is cut short.
 use Rattle.std.proofs.Common.{◌≡◌, Result, Ok, Err, IfErr, sym, ap, subst}
 use Rattle.std.specs.Result.{IsErrAnd}
-use Rattle.curp_play.specs.declared.status.Status.{Status}
-use Rattle.curp_play.specs.declared.status.Status.TheVariants as status
-use Rattle.curp_play.specs.Reading.{IsOfWriting}
+use Rattle.curp_runner.specs.declared.status.Status.{Status}
+use Rattle.curp_runner.specs.declared.status.Status.TheVariants as status
+use Rattle.curp_runner.specs.Reading.{IsOfWriting}
 
 -- it ends with this error
 pub ends_with : {A : Type 0} (r : Result A Status) (e : Status) → IsErrAnd r (λ s. s ≡ e) → r ≡ Err e

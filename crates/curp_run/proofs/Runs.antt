@@ -14,9 +14,10 @@ use Rattle.curp_gen.specs.Commands.{workload_of}
 use Rattle.curp_live.specs.Live.{IsLiveRun}
 use Rattle.curp_opening.proofs.Numbers.{named_length}
 use Rattle.curp_io.specs.Streams.{HoldsPart}
-use Rattle.curp_play.specs.Play.{HasAnOrder, OrderStands, script_in, text_of}
+use Rattle.curp_play.specs.Play.{HasAnOrder, OrderStands, text_of}
+use Rattle.curp_runner.specs.Reading.{script_in}
 use Rattle.curp_run.specs.Live.{IsLive, IsLiveFront, IsLiveText, Shows, played, whole_script, work_of}
-use Rattle.curp_play.proofs.Pieces.{first_of_two, second_of_two}
+use Rattle.curp_runner.proofs.Pieces.{first_of_two, second_of_two}
 use Rattle.curp_run.proofs.Shown.{shown}
 
 -- vectors as lists

@@ -10,7 +10,7 @@ use Rattle.curp_base.specs.Words.{Each}
 use Rattle.curp_gen.specs.Making.{Making, after, begun, made_steps, next_step, steps_from, with_next}
 use Rattle.curp_gen.specs.Texts.{made_script, script_text}
 use Rattle.curp_io.specs.Text.{lines_of}
-use Rattle.curp_play.specs.Play.{script_in}
+use Rattle.curp_runner.specs.Reading.{script_in}
 use Rattle.curp_msg.specs.Script.{IsHeader}
 use Rattle.curp_msg.specs.Limits.{step_limit}
 use Rattle.curp_script.specs.Script.{Whole, script_of}

@@ -1,9 +1,9 @@
 -- What is written to standard error.
 use Rattle.std.specs.Prelude.{◌≡◌, ℕ, ◌++◌, ◌∷◌, codes, List, [], Some, None, slice_get}
 use Rattle.clap.specs.Walk.{Text}
-use Rattle.curp_play.specs.Status.{complaint_text}
-use Rattle.curp_play.specs.declared.status.Status.{Status}
-use Rattle.curp_play.specs.declared.status.Status.TheVariants as status
+use Rattle.curp_runner.specs.Status.{complaint_text}
+use Rattle.curp_runner.specs.declared.status.Status.{Status}
+use Rattle.curp_runner.specs.declared.status.Status.TheVariants as status
 use Rattle.curp_run.specs.declared.complaints.Blame.{Blame}
 use Rattle.curp_run.specs.declared.complaints.Blame.TheVariants.{Word, End, Unknown}
 use Rattle.curp_words.specs.Blame.{IsBlamed}

@@ -20,7 +20,8 @@ use Rattle.curp_law_weave.specs.Run.{IsCompletedBy}
 use Rattle.curp_words.specs.declared.task.LivePlan.{LivePlan}
 use Rattle.curp_words.specs.Plan.{live_header}
 use Rattle.curp_gen.specs.Commands.{workload_of}
-use Rattle.curp_play.specs.Play.{OrderStands, script_in, text_of}
+use Rattle.curp_play.specs.Play.{OrderStands, text_of}
+use Rattle.curp_runner.specs.Reading.{script_in}
 
 -- the work of each client, that of client 1 first
 abbrev pub work_of : LivePlan → List (List Command)

@@ -8,8 +8,8 @@ use Rattle.curp_base.specs.Words.{Each}
 use Rattle.curp_io.specs.Streams.{Rose}
 use Rattle.curp_law_print.specs.Ranges.{StepInRange}
 use Rattle.curp_msg.specs.declared.script.Step.{Step}
-use Rattle.curp_play.specs.declared.status.Status.{Status}
-use Rattle.curp_play.specs.declared.status.Status.TheVariants as status
+use Rattle.curp_runner.specs.declared.status.Status.{Status}
+use Rattle.curp_runner.specs.declared.status.Status.TheVariants as status
 use Rattle.curp_script.specs.Printed.{NamesNode}
 use Rattle.curp_words.specs.Words.{task_in}
 use Rattle.curp_words.specs.declared.task.Task.{Task}

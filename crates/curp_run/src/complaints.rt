@@ -1,6 +1,6 @@
 //! What there is to complain of behind a run, as one value.
 ghost use Rattle.std.specs.Prelude.{◌≡◌, ◌≢◌, IfOk, is_ok, true};
-ghost use Rattle.curp_play.specs.declared.status.Status.TheVariants.{Usage};
+ghost use Rattle.curp_runner.specs.declared.status.Status.TheVariants.{Usage};
 ghost use Rattle.clap.specs.Walk.{texts};
 ghost use Rattle.curp_run.specs.Complaints.{Blames};
 ghost use Rattle.curp_run.specs.Run.{words_of};
@@ -8,7 +8,7 @@ ghost use Rattle.curp_run.specs.declared.complaints.Blame.TheVariants.{Unknown};
 
 use crate::arguments::words_in;
 use curp_base::NoMemory;
-use curp_play::{Complaint, Status};
+use curp_runner::{Complaint, Status};
 use curp_words::blamed;
 use std::alloc::Global;
 use std::fmt;

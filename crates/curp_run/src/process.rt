@@ -2,7 +2,7 @@ ghost use Rattle.std.specs.Prelude.{◌≡◌, ◌≢◌, ◌⊎◌, Some, None,
 ghost use Rattle.std.specs.Process.{exit_status};
 ghost use Rattle.std.specs.IoError.{error_kind};
 ghost use Rattle.curp_io.specs.Streams.{Rose, SameCount};
-ghost use Rattle.curp_play.specs.Status.{TellsStatus, code_of};
+ghost use Rattle.curp_runner.specs.Status.{TellsStatus, code_of};
 ghost use Rattle.curp_run.specs.Run.{asked, unread_words};
 ghost use Rattle.curp_run.specs.declared.complaints.Blame.TheVariants.{Unknown};
 ghost use Rattle.curp_words.specs.declared.task.LivePlan.{LivePlan};
@@ -12,7 +12,7 @@ ghost use Rattle.curp_words.specs.declared.task.Output.{Output};
 use crate::command::run;
 use crate::complaints::{Complaints, complaints_of};
 use curp_io::{Sink, Source, StdSink, StdSource};
-use curp_play::Status;
+use curp_runner::Status;
 use curp_seat::{Gate, OpenGate};
 use std::alloc::Global;
 use std::process::ExitCode;

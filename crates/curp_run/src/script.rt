@@ -3,15 +3,14 @@ ghost use Rattle.curp_io.specs.Streams.{HoldsPart, Rose, SameCount};
 ghost use Rattle.curp_gen.specs.Texts.{made_script, made_text, script_text, summary_text};
 ghost use Rattle.curp_script.specs.Texts.{line_text, lines_text};
 ghost use Rattle.curp_gen.specs.Making.{after, begun, steps_from, summary_of};
-ghost use Rattle.curp_play.specs.Play.{script_in};
-ghost use Rattle.curp_play.specs.Reading.{IsOfWriting};
+ghost use Rattle.curp_runner.specs.Reading.{IsOfWriting, script_in};
 ghost use Rattle.curp_run.specs.Run.{ArePrintable, EndsMade, IsOfMaking};
 ghost use Rattle.curp_words.specs.Plan.{IsPlan};
 
 use curp_gen::Maker;
 use curp_io::Sink;
 use curp_law_print::{printed_scripts_are_read, step_is_in_range};
-use curp_play::{Status, close, write};
+use curp_runner::{Status, close, write};
 use curp_script::{print_header, print_line};
 use curp_words::{MakePlan, Output};
 use std::alloc::Global;

@@ -6,10 +6,10 @@ use Rattle.curp_base.specs.Words.{IsPrefix}
 use Rattle.curp_base.proofs.Lists.{prefix_self, prefix_trans}
 use Rattle.curp_io.specs.Streams.{HoldsPart}
 use Rattle.curp_law_served.specs.Served.{Limit, Served, begun}
-use Rattle.curp_play.specs.Reading.{IsOfWriting}
-use Rattle.curp_play.specs.Status.{ended, is_cut_short}
-use Rattle.curp_play.specs.declared.status.Status.{Status}
-use Rattle.curp_play.specs.declared.status.Status.TheVariants as status
+use Rattle.curp_runner.specs.Reading.{IsOfWriting}
+use Rattle.curp_runner.specs.Status.{ended, is_cut_short}
+use Rattle.curp_runner.specs.declared.status.Status.{Status}
+use Rattle.curp_runner.specs.declared.status.Status.TheVariants as status
 use Rattle.curp_resp.specs.Input.{BreaksOff, Decomposes, StandsFirst, place_behind}
 use Rattle.curp_resp.specs.Meaning.{meaning}
 use Rattle.curp_resp.specs.Next.{GivesRequest, RefusesBytes}

@@ -7,9 +7,9 @@ use Rattle.curp_law_print.specs.Ranges.{StepInRange}
 use Rattle.curp_law_served.specs.Served.{Limit, Served, header_of}
 use Rattle.curp_msg.specs.Limits.{step_limit}
 use Rattle.curp_msg.specs.declared.script.Step.{Step}
-use Rattle.curp_play.specs.Status.{is_cut_short}
-use Rattle.curp_play.specs.declared.status.Status.{Status}
-use Rattle.curp_play.specs.declared.status.Status.TheVariants as status
+use Rattle.curp_runner.specs.Status.{is_cut_short}
+use Rattle.curp_runner.specs.declared.status.Status.{Status}
+use Rattle.curp_runner.specs.declared.status.Status.TheVariants as status
 use Rattle.curp_resp.specs.Input.{Decomposes, place_behind}
 use Rattle.curp_resp.specs.Meaning.{meaning}
 use Rattle.curp_script.specs.Printed.{NamesNode}

@@ -3,8 +3,8 @@ use Rattle.std.specs.Prelude.{◌≡◌, ℕ, ◌+◌, ◌==◌, if◌then◌els
 use Rattle.curp_cmd.specs.declared.command.Answer.{Answer}
 use Rattle.curp_cmd.specs.declared.command.Command.{Command}
 use Rattle.curp_law_served.specs.Served.{Limit, Served, TooLarge, TooManySteps, answer_behind, begun, header_of, serve}
-use Rattle.curp_play.specs.declared.status.Status.{Status}
-use Rattle.curp_play.specs.declared.status.Status.TheVariants as status
+use Rattle.curp_runner.specs.declared.status.Status.{Status}
+use Rattle.curp_runner.specs.declared.status.Status.TheVariants as status
 use Rattle.curp_resp.specs.Input.{BreaksOff, place_behind}
 use Rattle.curp_resp.specs.Meaning.{meaning}
 use Rattle.curp_resp.specs.Reply.{protocol_error, reply_of, wrong_of}

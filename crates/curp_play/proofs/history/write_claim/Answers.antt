@@ -5,7 +5,7 @@ use Rattle.curp_law_print.specs.EventRanges.{AskedInRange, EventInRange}
 use Rattle.curp_model.specs.World.{order}
 use Rattle.curp_order.specs.declared.Event as seen
 use Rattle.curp_play.proofs.Claims.{asked_of_order, claim_of_order, on_ok_then}
-use Rattle.curp_play.proofs.Pieces.{both_if_ok, first_of_two, second_of_two}
+use Rattle.curp_runner.proofs.Pieces.{both_if_ok, first_of_two, second_of_two}
 use Rattle.curp_play.specs.Play.{asked_of}
 use Rattle.curp_io.specs.Streams.{HoldsPart}
 use Rattle.curp_script.specs.EventTexts.{history_lines, order_lines}

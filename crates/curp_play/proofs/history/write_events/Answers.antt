@@ -5,8 +5,8 @@ use Rattle.curp_law_print.specs.EventRanges.{EventInRange}
 use Rattle.curp_script.specs.EventTexts.{event_line, history_lines}
 use Rattle.curp_script.specs.declared.event.EventLine.TheVariants.{Event}
 use Rattle.curp_play.proofs.Claims.{next_event, no_event_left}
-use Rattle.curp_play.proofs.Pieces.{goes_further, is_whole, still_front}
-use Rattle.curp_play.proofs.SoFar.{SoFar}
+use Rattle.curp_runner.proofs.Pieces.{goes_further, is_whole, still_front}
+use Rattle.curp_runner.proofs.SoFar.{SoFar}
 use Rattle.curp_play.proofs.history.write_events.Goals as goal
 
 pub returns-in_err-write_line-clause-front : goal.returns-in_err-write_line-clause-front

@@ -3,7 +3,7 @@ use Rattle.curp_base.specs.Words.{Each}
 use Rattle.curp_io.specs.Streams.{SameCount}
 use Rattle.curp_law_print.specs.EventRanges.{EventInRange}
 use Rattle.curp_script.specs.EventTexts.{history_lines}
-use Rattle.curp_play.proofs.SoFar.{SoFar}
+use Rattle.curp_runner.proofs.SoFar.{SoFar}
 use Rattle.curp_play.proofs.history.write_events.Given as goal
 
 -- what was written so far, and the lines that are left

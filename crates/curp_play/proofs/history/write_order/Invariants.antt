@@ -4,7 +4,7 @@ use Rattle.curp_io.specs.Streams.{SameCount}
 use Rattle.curp_law_print.specs.EventRanges.{AskedInRange}
 use Rattle.curp_play.specs.Play.{asked_of}
 use Rattle.curp_script.specs.EventTexts.{order_lines}
-use Rattle.curp_play.proofs.SoFar.{SoFar}
+use Rattle.curp_runner.proofs.SoFar.{SoFar}
 use Rattle.curp_play.proofs.history.write_order.Given as goal
 
 -- what was written so far, and the lines that are left

@@ -1,5 +1,5 @@
 use Rattle.std.proofs.Common.{◌∙◌, ap}
-use Rattle.curp_play.specs.Status.{ended, is_cut_short}
+use Rattle.curp_runner.specs.Status.{ended, is_cut_short}
 use Rattle.curp_play.proofs.play.play_script.Goals as goal
 
 pub returns-clause-no_read_fault : goal.returns-clause-no_read_fault

@@ -5,7 +5,7 @@ use Rattle.curp_words.specs.Plan.{header_of}
 use Rattle.curp_script.specs.Texts.{header_line, lines_text}
 use Rattle.curp_io.specs.Streams.{HoldsPart}
 use Rattle.curp_run.proofs.Ends.{ends_with, of_memory, passed_on}
-use Rattle.curp_play.proofs.Pieces.{both_if_ok, first_of_two, second_of_two}
+use Rattle.curp_runner.proofs.Pieces.{both_if_ok, first_of_two, second_of_two}
 use Rattle.curp_run.proofs.Steps.{made_is_read, printed_header}
 use Rattle.curp_run.proofs.script.write_begun.Goals as goal
 

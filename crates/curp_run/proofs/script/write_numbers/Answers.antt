@@ -3,7 +3,7 @@ use Rattle.curp_gen.specs.Making.{after, summary_of}
 use Rattle.curp_gen.specs.Texts.{summary_text}
 use Rattle.curp_io.specs.Streams.{HoldsPart}
 use Rattle.curp_run.proofs.Ends.{of_memory}
-use Rattle.curp_play.proofs.Pieces.{nothing}
+use Rattle.curp_runner.proofs.Pieces.{nothing}
 use Rattle.curp_run.proofs.Steps.{after_more, counted_more, no_more}
 use Rattle.curp_run.proofs.script.write_numbers.Goals as goal
 

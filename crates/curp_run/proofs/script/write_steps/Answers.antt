@@ -2,8 +2,8 @@ use Rattle.std.proofs.Common.{rules, ◌≡◌, ◌+◌, ◌-◌, ◌++◌, ◌�
 use Rattle.curp_gen.specs.Making.{Making, next_step, steps_from, with_next}
 use Rattle.curp_script.specs.Texts.{lines_text, step_line}
 use Rattle.curp_io.specs.Streams.{HoldsPart}
-use Rattle.curp_play.proofs.SoFar.{SoFar}
-use Rattle.curp_play.proofs.Pieces.{goes_further, is_whole, still_front}
+use Rattle.curp_runner.proofs.SoFar.{SoFar}
+use Rattle.curp_runner.proofs.Pieces.{goes_further, is_whole, still_front}
 use Rattle.curp_run.proofs.Steps.{counted_more, next_line, no_line, none_printable, printable_more, printed_line}
 use Rattle.curp_run.proofs.script.write_steps.Goals as goal
 

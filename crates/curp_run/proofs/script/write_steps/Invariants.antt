@@ -2,7 +2,7 @@ use Rattle.std.proofs.Common.{◌≡◌, ◌≤◌, ◌+◌, ◌-◌, true}
 use Rattle.curp_io.specs.Streams.{SameCount}
 use Rattle.curp_gen.specs.Making.{steps_from}
 use Rattle.curp_script.specs.Texts.{lines_text}
-use Rattle.curp_play.proofs.SoFar.{SoFar}
+use Rattle.curp_runner.proofs.SoFar.{SoFar}
 use Rattle.curp_run.specs.Run.{ArePrintable}
 use Rattle.curp_run.proofs.script.write_steps.Given as goal
 

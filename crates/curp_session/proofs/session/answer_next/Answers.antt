@@ -1,6 +1,6 @@
 use Rattle.std.proofs.Common.{◌+◌, ◌++◌, ◌∙◌, Bool, Result, refl, sym, subst}
-use Rattle.curp_play.specs.declared.status.Status.{Status}
-use Rattle.curp_play.specs.declared.status.Status.TheVariants as status
+use Rattle.curp_runner.specs.declared.status.Status.{Status}
+use Rattle.curp_runner.specs.declared.status.Status.TheVariants as status
 use Rattle.curp_session.specs.Answering.{AnswersNext}
 use Rattle.curp_session.proofs.Standing.{broken_cut, cut_by_writing, ends_with, finishes_broken, finishes_cut, finishes_end, finishes_there, stands_on}
 use Rattle.curp_session.proofs.session.answer_next.Goals as goal

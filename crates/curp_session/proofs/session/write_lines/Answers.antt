@@ -1,7 +1,7 @@
 use Rattle.std.proofs.Common.{rules, ◌≡◌, ◌+◌, ◌++◌, drop, subst, List, ℕ}
 use Rattle.curp_io.specs.Streams.{HoldsPart}
-use Rattle.curp_play.proofs.Pieces.{goes_further, is_whole, still_front}
-use Rattle.curp_play.proofs.SoFar.{SoFar}
+use Rattle.curp_runner.proofs.Pieces.{goes_further, is_whole, still_front}
+use Rattle.curp_runner.proofs.SoFar.{SoFar}
 use Rattle.curp_script.specs.Texts.{line_text, lines_text, step_line}
 use Rattle.curp_session.proofs.Texts.{next_in_range, next_line, no_line_left}
 use Rattle.curp_session.proofs.session.write_lines.Goals as goal

@@ -2,7 +2,7 @@ use Rattle.std.proofs.Common.{◌≡◌, drop, take, true}
 use Rattle.curp_base.specs.Words.{Each}
 use Rattle.curp_io.specs.Streams.{SameCount}
 use Rattle.curp_law_print.specs.Ranges.{StepInRange}
-use Rattle.curp_play.proofs.SoFar.{SoFar}
+use Rattle.curp_runner.proofs.SoFar.{SoFar}
 use Rattle.curp_script.specs.Texts.{lines_text}
 use Rattle.curp_session.proofs.session.write_lines.Given as goal
 

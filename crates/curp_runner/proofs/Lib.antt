@@ -1,0 +1,6 @@
+mod Endings
+pub mod Scripts
+pub mod SoFar
+pub mod Pieces
+mod Fronts
+mod Runs

@@ -1,0 +1,55 @@
+-- A text that is written piece by piece.
+use Rattle.std.proofs.Common.{◌≡◌, List, ℕ, [], ◌++◌, Result, Ok, Err, OnOk, refl, ap, sym, ◌∙◌, subst, append_assoc, append-nil}
+use Rattle.curp_io.specs.Streams.{HoldsPart}
+use Rattle.curp_runner.proofs.SoFar.{SoFar}
+
+-- nothing is written
+pub nothing : (old piece : List ℕ) → HoldsPart old old piece
+nothing old piece = record { part = []; front = record { rest = piece; is = refl }; added = sym (append-nil old) }
+
+-- of two pieces a front of the first is written
+pub first_of_two : (old new first second : List ℕ) → HoldsPart old new first → HoldsPart old new (first ++ second)
+first_of_two old new first second h = record {
+  part = h.part;
+  front = record {
+    rest = h.front.rest ++ second;
+    is = sym (append_assoc h.part h.front.rest second) ∙ ap (λ w. w ++ second) h.front.is;
+  };
+  added = h.added;
+}
+
+-- the first is written, and a front of the second
+pub second_of_two : (old mid new first second : List ℕ) → mid ≡ old ++ first → HoldsPart mid new second → HoldsPart old new (first ++ second)
+second_of_two old mid new first second whole h = record {
+  part = first ++ h.part;
+  front = record { rest = h.front.rest; is = append_assoc first h.part h.front.rest ∙ ap (λ w. first ++ w) h.front.is };
+  added = h.added ∙ ap (λ w. w ++ h.part) whole ∙ append_assoc old first h.part;
+}
+
+-- both are written
+pub both_of_two : (old mid new first second : List ℕ) → mid ≡ old ++ first → new ≡ mid ++ second → new ≡ old ++ (first ++ second)
+both_of_two old mid new first second whole more = more ∙ ap (λ w. w ++ second) whole ∙ append_assoc old first second
+
+-- both are written, where the second one was
+pub both_if_ok : {A E : Type 0} (outcome : Result A E) (old mid new first second : List ℕ)
+    → mid ≡ old ++ first → OnOk outcome (new ≡ mid ++ second) → OnOk outcome (new ≡ old ++ (first ++ second))
+both_if_ok (Ok _) old mid new first second whole more = both_of_two old mid new first second whole more
+both_if_ok (Err _) old mid new first second whole more = tt
+
+-- a front of the next piece is written
+pub still_front : (text old now new piece rest : List ℕ) → SoFar text old now (piece ++ rest) → HoldsPart now new piece → HoldsPart old new text
+still_front text old now new piece rest s h =
+    subst (λ t. HoldsPart old new t) s.goes_on (second_of_two old now new s.done (piece ++ rest) s.is (first_of_two now new piece rest h))
+
+-- the next piece is written
+pub goes_further : (text old now new piece rest : List ℕ) → SoFar text old now (piece ++ rest) → new ≡ now ++ piece → SoFar text old new rest
+goes_further text old now new piece rest s more = record {
+  done = s.done ++ piece;
+  is = both_of_two old now new s.done piece s.is more;
+  goes_on = append_assoc s.done piece rest ∙ s.goes_on;
+}
+
+-- nothing is due any more
+pub is_whole : (text old now due : List ℕ) → SoFar text old now due → due ≡ [] → now ≡ old ++ text
+is_whole text old now due s none =
+    s.is ∙ ap (λ w. old ++ w) (sym (append-nil s.done) ∙ ap (λ w. s.done ++ w) (sym none) ∙ s.goes_on)
