@@ -1,12 +1,12 @@
 #!/usr/bin/env python3
-"""Makes the specs of crates/curp_rows, and the table of the tests of crates/curp_test_runs, out of the examples in this folder.
+"""Makes the specs of crates/curp_rows out of the examples in this folder.
 
 An example is NAME.script, a header and steps, a JSON line each, and NAME.out, all that `curp play` writes for it. Its
 spec has the header and the steps as terms, and the output as lines. specs/Lib.antt, which names all specs, is made too.
 An example with a line that is refused has a NAME.status, with the exit status and the line on standard error; it has no
-spec. The table has a row for each example.
+spec. That the program writes what the examples say is a case (cases/examples).
 
-    examples/to_specs.py            writes the specs and the table
+    examples/to_specs.py            writes the specs
     examples/to_specs.py --check    writes nothing, names the files that aren't what it would write, and ends with 1 if
                                     there are any
 """
@@ -18,7 +18,6 @@ from pathlib import Path
 
 EXAMPLES = Path(__file__).resolve().parent
 SPECS = EXAMPLES.parent / "crates" / "curp_rows" / "specs"
-TABLE = EXAMPLES.parent / "crates" / "curp_test_runs" / "src" / "examples" / "rows.rt"
 MADE = "-- Made by examples/to_specs.py"
 USES = {
     "Example": "use Rattle.curp_rows.specs.Example.{Example, lines}",
@@ -154,21 +153,6 @@ def lib_of(files):
     return f"{MADE}: all files of this folder.\n" + "".join(f"pub mod {module}\n" for module in modules)
 
 
-def row_of(script):
-    """The row of an example in the table."""
-    status = script.with_suffix(".status")
-    ended = status.read_text(encoding="utf-8") if status.exists() else "0\n"
-    texts = [script.read_text(encoding="utf-8"), script.with_suffix(".out").read_text(encoding="utf-8")]
-    return f"=== example {script.stem}\n{texts[0]}\n=== status {ended}{texts[1]}"
-
-
-def table_made():
-    """The table of the tests of crates/curp_test_runs, as one text."""
-    rows = "".join(row_of(script) for script in sorted(EXAMPLES.glob("*.script")))
-    head = f"// Made by examples/{Path(__file__).name}: a row for each example. The line feed behind its script is none of it."
-    return f'{head}\npub(crate) const ROWS: &str = r#"{rows}"#;\n'
-
-
 def main():
     checks = sys.argv[1:] == ["--check"]
     if sys.argv[1:] and not checks:
@@ -179,10 +163,8 @@ def main():
     made["Lib.antt"] = lib_of({*made, *by_hand})
     written = [name for name in made if there.get(name) != made[name]]
     dropped = [name for name in there if name not in made and name not in by_hand]
-    table = table_made()
-    is_stale = not TABLE.exists() or TABLE.read_text(encoding="utf-8") != table
     if checks:
-        wrong = written + dropped + ([TABLE.name] if is_stale else [])
+        wrong = written + dropped
         for name in wrong:
             print(f"{name} isn't what examples/to_specs.py makes")
         sys.exit(1 if wrong else 0)
@@ -190,9 +172,6 @@ def main():
         (SPECS / name).write_text(made[name], encoding="utf-8")
     for name in dropped:
         (SPECS / name).unlink()
-    if is_stale:
-        TABLE.parent.mkdir(parents=True, exist_ok=True)
-        TABLE.write_text(table, encoding="utf-8")
 
 
 if __name__ == "__main__":

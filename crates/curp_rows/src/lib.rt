@@ -5,8 +5,8 @@
 //! refused steps. They stand in `examples`, each with its output, and `examples/to_specs.py` makes the specs of this
 //! crate of them. A clause for each says that the definitions of `curp_model` and `curp_text` give the script exactly
 //! the output. Of a longer script, which fills a world with messages, the first 576 of 914 steps are one more; its
-//! steps and its text are written as functions over numbers. Scripts whose lines the grammar refuses are tested in
-//! `curp_test_runs` instead.
+//! steps and its text are written as functions over numbers. Scripts whose lines the grammar refuses are cases
+//! alone (`cases/examples`).
 #![tactic(auto)]
 
 ghost use Rattle.curp_rows.specs.Example.{Plays};

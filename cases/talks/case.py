@@ -1,0 +1,150 @@
+"""Talks: a line is sent once all that is wanted for those before it has come."""
+
+import os
+import pty
+import select
+import subprocess
+from contextlib import contextmanager
+from functools import partial
+
+from runs import HEADER, INVOKE, INVOKED, SECONDS, Driven, Seen, Wrong, as_bytes, require
+
+SMALL = '{"clients":1,"f":1,"fast":true,"parts":1,"protocol":1,"sets":16,"ways":4}'
+PUT = [
+    (f"{HEADER}\n", ""),
+    (f"{INVOKE}\n", INVOKED),
+    ('{"do":"deliver","msg":1}\n', "s2 done\nm3 M1 C1 reply 1.1 unsynced e1 v1 done\n"),
+    ('{"do":"deliver","msg":2}\n', "s3 done\nm4 W1 C1 accepted 1.1 e1\n"),
+    ('{"do":"deliver","msg":3}\n', "s4 done\n"),
+    ('{"do":"deliver","msg":4}\n', "s5 done\nc 1.1 done\n"),
+]
+ORDERS = [
+    (f"{SMALL}\n", ""),
+    ('{"client":1,"do":"expire"}\n', "s1 done\nm1 G M1 expire c1\n"),
+    ('{"call":4,"do":"crash","kept":false}\n', "s2 done\n"),
+    ('{"backup":1,"do":"recover","part":1,"witness":1}\n', "s3 stopped lost\n"),
+    ('{"do":"nudge"}\n', "s4 done\nm2 G W1 start p1 e1\nm3 G M1 adopted p1 e1 v1\nm4 G M1 expire c1\n"),
+]
+REQUESTS = [
+    ("*3\r\n$3\r\nSET\r\n$1\r\na\r\n$1\r\n1\r\n", "+OK\r\n"),
+    ("*2\r\n$3\r\nget\r\n$1\r\na\r\n", "$1\r\n1\r\n"),
+    ("*1\r\n$4\r\nPING\r\n", "-ERR unknown command\r\n"),
+    ("*2\r\n$4\r\nincr\r\n$1\r\nn\r\n", ":1\r\n"),
+    ("*2\r\n$3\r\ndel\r\n$1\r\na\r\n", ":1\r\n"),
+]
+BOTH = "".join(sent for sent, _ in REQUESTS[:2])
+
+
+class Talk:
+    """The program, and both ends of what is said."""
+
+    def __init__(self, child):
+        self.child = child
+
+    def send(self, text):
+        self.child.stdin.write(as_bytes(text))
+
+    def has_to_say(self, text):
+        """Waits for so many bytes, which have to be these."""
+        wanted, said = as_bytes(text), b""
+        while len(said) < len(wanted):
+            if not select.select([self.child.stdout], [], [], SECONDS)[0]:
+                raise Wrong(f"it said {said}, and then nothing; wanted {wanted}")
+            more = os.read(self.child.stdout.fileno(), len(wanted) - len(said))
+            require(more, f"it said {said}, and ended; wanted {wanted}")
+            said += more
+        require(said == wanted, f"it said {said}; wanted {wanted}")
+
+    def has_to_end(self, stdout="", status=0, stderr=""):
+        """Nothing more is sent."""
+        out, err = self.child.communicate(timeout=SECONDS)
+        Seen(self.child.returncode, out or b"", err).has_to_be(status, stdout, stderr)
+
+
+@contextmanager
+def talk(program, words, stdin=subprocess.PIPE):
+    """A talk with the program, which is ended where something is wrong."""
+    pipe = subprocess.PIPE
+    with subprocess.Popen([program, *words], stdin=stdin, stdout=pipe, stderr=pipe, bufsize=0) as child:
+        try:
+            yield Talk(child)
+        finally:
+            if child.poll() is None:
+                child.kill()
+
+
+def answered(program, words, turns, at_the_end="", **told):
+    """Each turn is sent once all that was wanted before it has come."""
+    with talk(program, words) as said:
+        for sent, wanted in turns:
+            said.send(sent)
+            said.has_to_say(wanted)
+        said.has_to_end(at_the_end, **told)
+
+
+def byte_by_byte(program, words, sent, out):
+    """Each byte is written by itself."""
+    with talk(program, words) as said:
+        for at in range(len(sent)):
+            said.send(sent[at])
+        said.has_to_end(out)
+
+
+def reader_goes_away(program, words, turns, last):
+    """Once all has come that was said so far, nobody reads any more, and one more line is sent."""
+    with talk(program, words) as said:
+        for sent, wanted in turns:
+            said.send(sent)
+            said.has_to_say(wanted)
+        said.child.stdout.close()
+        said.child.stdout = None
+        said.send(last)
+        said.has_to_end(status=5, stderr="curp: writing failed\n")
+
+
+def at_a_terminal(program):
+    """A header is typed, and then the key that ends the input."""
+    ours, theirs = pty.openpty()
+    try:
+        with talk(program, ["play"], stdin=theirs) as said:
+            os.write(ours, f"{HEADER}\n".encode() + b"\x04")
+            said.has_to_end("order 0\n")
+    finally:
+        os.close(ours)
+        os.close(theirs)
+
+
+def runs():
+    order = "order 1\n1.1 put 61 31 -> done\n"
+    yield Driven("play", partial(answered, words=["play"], turns=PUT, at_the_end=order))
+    cut = {"at_the_end": "", "status": 3, "stderr": "curp: line 7: bad json\n"}
+    yield Driven("play up to a refused line", partial(answered, words=["play"], turns=PUT + [("{\n", "")], **cut))
+    long = [(f"{HEADER}\n", "")] + [(f"{INVOKE}\n", step(number)) for number in range(1, 9)]
+    yield Driven("eight invocations", partial(answered, words=["play"], turns=long, at_the_end="order 0\n"))
+    yield Driven("manage", partial(answered, words=["manage"], turns=ORDERS, at_the_end="decisions 2\n"))
+    for words in (["resp"], ["resp", "--f", "1", "--every", "1"], ["resp", "--f", "5", "--every", "2"]):
+        yield Driven(" ".join(words), partial(answered, words=words, turns=REQUESTS))
+    wrong = {"status": 11, "stderr": f"curp: bad request at {len(BOTH) + 1}\n"}
+    turns = REQUESTS[:2] + [("*x", "-ERR protocol\r\n")]
+    yield Driven("resp up to what is no request", partial(answered, words=["resp"], turns=turns, **wrong))
+    replies = "".join(reply for _, reply in REQUESTS[:2])
+    for words in (["resp", "--f", "1"], ["resp", "--f", "1", "--every", "1"]):
+        name = " ".join(words) + " byte by byte"
+        yield Driven(name, partial(byte_by_byte, words=words, sent=BOTH, out=replies))
+    script = "".join(sent for sent, _ in PUT)
+    text = "".join(wanted for _, wanted in PUT) + order
+    yield Driven("play byte by byte", partial(byte_by_byte, words=["play"], sent=script, out=text))
+    for words, turns in ((["play"], PUT), (["manage"], ORDERS), (["resp"], REQUESTS)):
+        name = " ".join(words) + ", whose reader goes away"
+        goes = partial(reader_goes_away, words=words, turns=turns[:2], last=turns[2][0])
+        yield Driven(name, goes, alone=True)
+    yield Driven("at a terminal", at_a_terminal)
+
+
+def step(number):
+    """What is printed for the invocation as that step."""
+    request, message = f"1.{number} f1 e1", 2 * number - 1
+    return (
+        f"s{number} done\nm{message} C1 M1 update {request} v1 put 61 31\n"
+        f"m{message + 1} C1 W1 record {request} put 61 31\n"
+    )
