@@ -5,3 +5,5 @@
 mod replies;
 #[cfg(test)]
 mod requests;
+#[cfg(test)]
+mod texts;

@@ -1,12 +1,17 @@
 // Requests from bytes, and where bytes are none, by values that were found by hand.
 ghost use Rattle.std.specs.Prelude.{◌<◌};
 
+use crate::texts::{filled, must_hold, repeated};
 use curp_base::NoMemory;
 use curp_cmd::{Command, Key, Value};
 use curp_io::{MemorySource, Source, SureSource};
 use curp_resp::{Asked, NextRequest, Requests, Wrong};
 use std::alloc::Global;
-use std::test::Fail;
+use std::process::Abort;
+
+const END: NextRequest = NextRequest::End;
+
+const FAULT: NextRequest = NextRequest::ReadFault;
 
 const UNKNOWN: NextRequest = NextRequest::Asked(Asked::Wrong(Wrong::Unknown));
 
@@ -14,344 +19,407 @@ const ARGUMENTS: NextRequest = NextRequest::Asked(Asked::Wrong(Wrong::Arguments)
 
 const SIZE: NextRequest = NextRequest::Asked(Asked::Wrong(Wrong::Size));
 
-const KEY_TWICE: NextRequest = NextRequest::Asked(Asked::Wrong(Wrong::KeyTwice));
+// ---- what is called, of which the tests know nothing
 
-/// Whether a source has these answers, of which the last repeats.
-fn gives<S: Source>(alloc: Global, mut source: S, wanted: &[NextRequest]) -> Result<bool, NoMemory>
-where
-    S: Drop,
-{
-    let mut requests = Requests::new(alloc)?;
-    for answer in wanted {
-        if requests.next_request(&mut source) != *answer {
-            return Ok(false);
-        }
-    }
-    let mut repeats = true;
-    if let Some(last) = wanted.last() {
-        for _ in 0..3 {
-            repeats = repeats && requests.next_request(&mut source) == *last;
-        }
-    }
-    Ok(repeats)
+fn next<S: Source>(requests: &mut Requests, source: &mut S) -> NextRequest {
+    requests.next_request(source)
 }
 
-fn sure_gives(alloc: Global, bytes: &[u8], wanted: &[NextRequest]) -> Result<bool, NoMemory> {
-    gives(alloc, SureSource::new(alloc, bytes)?, wanted)
+fn requests(rt: &impl Abort, alloc: Global) -> Requests {
+    Requests::new(alloc).expect(rt, "no memory")
 }
 
-fn pieces_give(
-    alloc: Global,
-    bytes: &[u8],
-    piece: usize,
-    wanted: &[NextRequest],
-) -> Result<bool, NoMemory>
+fn sure(rt: &impl Abort, alloc: Global, bytes: &[u8]) -> SureSource {
+    SureSource::new(alloc, bytes).expect(rt, "no memory")
+}
+
+/// A source that gives pieces, where the call of this number fails.
+fn in_pieces(rt: &impl Abort, alloc: Global, bytes: &[u8], fault: u64, piece: usize) -> MemorySource
     requires { 0 < piece }
 {
-    let source = MemorySource::in_pieces(alloc, bytes, &[], piece)?;
-    gives(alloc, source, wanted)
+    MemorySource::in_pieces(alloc, bytes, &[fault], piece).expect(rt, "no memory")
 }
 
-/// The bytes of a request of these arguments, which are words without spaces.
-fn spelled(alloc: Global, words: &str) -> Result<String, NoMemory> {
-    let mut text = format!(in alloc; "*{}\r\n", words.split(' ').count())?;
-    for word in words.split(' ') {
-        write!(text, "${}\r\n{word}\r\n", word.len())?;
+fn key(rt: &impl Abort, text: &str) -> Key {
+    Key::new(text.as_bytes()).expect(rt, "no key")
+}
+
+fn value(rt: &impl Abort, text: &str) -> Value {
+    Value::new(text.as_bytes()).expect(rt, "no value")
+}
+
+fn multi(rt: &impl Abort, pairs: &[(Key, Value)]) -> Command {
+    Command::multi(pairs).expect(rt, "no multi-put")
+}
+
+fn asked(command: Command) -> NextRequest {
+    NextRequest::Asked(Asked::Command(command))
+}
+
+fn refused(wrong: Wrong) -> NextRequest {
+    NextRequest::Asked(Asked::Wrong(wrong))
+}
+
+fn get(rt: &impl Abort) -> NextRequest {
+    asked(Command::Get(key(rt, "a")))
+}
+
+fn put(rt: &impl Abort) -> NextRequest {
+    asked(Command::Put(key(rt, "a"), value(rt, "1")))
+}
+
+// ---- what a source gives
+
+/// Whether the next answers are these.
+fn are_next<S: Source>(requests: &mut Requests, source: &mut S, wanted: &[NextRequest]) -> bool {
+    for answer in wanted {
+        if next(requests, source) != *answer {
+            return false;
+        }
     }
-    Ok(text)
+    true
 }
 
-/// Whether a request of these words is asked for so.
-fn asks(alloc: Global, words: &str, wanted: NextRequest) -> Result<bool, NoMemory> {
-    let text = spelled(alloc, words)?;
-    sure_gives(alloc, text.as_bytes(), &[wanted, NextRequest::End])
-}
-
-fn key(text: &str) -> Option<Key> {
-    Key::new(text.as_bytes()).ok()
-}
-
-fn value(text: &str) -> Option<Value> {
-    Value::new(text.as_bytes()).ok()
-}
-
-fn get(k: &str) -> Option<Command> {
-    Some(Command::Get(key(k)?))
-}
-
-fn put(k: &str, v: &str) -> Option<Command> {
-    Some(Command::Put(key(k)?, value(v)?))
-}
-
-fn append(k: &str, v: &str) -> Option<Command> {
-    Some(Command::Append(key(k)?, value(v)?))
-}
-
-fn swap(k: &str, expected: &str, v: &str) -> Option<Command> {
-    Some(Command::CondPut(key(k)?, Some(value(expected)?), value(v)?))
-}
-
-fn put_new(k: &str, v: &str) -> Option<Command> {
-    Some(Command::CondPut(key(k)?, None, value(v)?))
-}
-
-fn two_puts(k: &str, v: &str, l: &str, w: &str) -> Option<Command> {
-    Command::multi(&[(key(k)?, value(v)?), (key(l)?, value(w)?)]).ok()
-}
-
-/// A command that is asked for; none is a wrong one.
-fn asked(command: Option<Command>) -> NextRequest {
-    match command {
-        Some(command) => NextRequest::Asked(Asked::Command(command)),
-        None => UNKNOWN,
-    }
-}
-
-fn bad(at: u64) -> NextRequest {
-    NextRequest::BadRequest { at }
-}
-
-#[test]
-fn bytes_break_off_where_no_request_goes_on(rt: HostRuntime) -> Result<(), Fail> {
-    for (text, at) in [
-        ("+OK", 0),
-        ("\r\n", 0),
-        ("PING\r\n", 0),
-        ("$1\r\na\r\n", 0),
-        ("*", 1),
-        ("*\r\n", 1),
-        ("*-1\r\n", 1),
-        ("*0\r", 2),
-        ("*65", 2),
-        ("*1\n", 2),
-        ("*99999", 2),
-        ("*00000", 5),
-        ("*00065", 5),
-        ("*000001", 5),
-        ("*000641", 6),
-        ("*064\r\n", 6),
-        ("*2\r\nX", 4),
-        ("*1\r\n$\r", 5),
-        ("*1\r\n$-1\r\n", 5),
-        ("*1\r\n$7", 6),
-        ("*1\r\n$65537", 9),
-        ("*1\r\n$70000", 9),
-        ("*1\r\n$99999", 9),
-        ("*1\r\n$000001", 10),
-        ("*1\r\n$1\r\na\n", 9),
-        ("*1\r\n$1\r\nab\r\n", 9),
-        ("*1\r\n$0\r\n\r\r", 9),
-        ("*1\r\n$2\r\na\r\n", 10),
-        ("*2\r\n$1\r\na\r\n", 11),
-        ("*2\r\n$1\r\na\r\n*", 11),
-    ] {
-        assert!(rt;
-            sure_gives(rt.alloc(), text.as_bytes(), &[bad(at)])?,
-            "{text}"
-        );
-        assert!(rt;
-            pieces_give(rt.alloc(), text.as_bytes(), 1, &[bad(at)])?,
-            "{text}"
-        );
-    }
-    Ok(())
-}
-
-#[test]
-fn a_place_is_counted_from_the_whole_input(rt: HostRuntime) -> Result<(), Fail> {
-    for (text, at) in [
-        ("*1\r\n$4\r\nPING\r\n+", 14),
-        ("*1\r\n$4\r\nPING\r\n*0\r", 16),
-        ("*1\r\n$4\r\nPING\r\n*1", 16),
-    ] {
-        assert!(rt;
-            sure_gives(rt.alloc(), text.as_bytes(), &[UNKNOWN, bad(at)])?,
-            "{text}"
-        );
-        assert!(rt;
-            pieces_give(rt.alloc(), text.as_bytes(), 1, &[UNKNOWN, bad(at)])?,
-            "{text}"
-        );
-    }
-    assert!(rt; sure_gives(rt.alloc(), b"", &[NextRequest::End])?);
-    assert!(rt;
-        sure_gives(
-            rt.alloc(),
-            b"*1\r\n$00000\r\n\r\n",
-            &[UNKNOWN, NextRequest::End]
-        )?
-    );
-    assert!(rt;
-        sure_gives(
-            rt.alloc(),
-            b"*00001\r\n$2\r\n\xff\x80\r\n",
-            &[UNKNOWN, NextRequest::End]
-        )?
-    );
-    Ok(())
-}
-
-#[test]
-fn each_word_has_its_command(rt: HostRuntime) -> Result<(), Fail> {
-    for (words, command) in [
-        ("GET a", get("a")),
-        ("get a", get("a")),
-        ("gEt a", get("a")),
-        ("SET a 1", put("a", "1")),
-        ("DEL a", key("a").map(Command::Delete)),
-        ("INCR a", key("a").map(Command::Incr)),
-        ("APPEND a 1", append("a", "1")),
-        ("CONDPUT a 1 2", swap("a", "1", "2")),
-        ("CondPut a 1 2", swap("a", "1", "2")),
-        ("CONDNEW a 1", put_new("a", "1")),
-        ("MSET b 1 a 2", two_puts("b", "1", "a", "2")),
-    ] {
-        assert!(rt; command.is_some(), "{words}");
-        assert!(rt; asks(rt.alloc(), words, asked(command))?, "{words}");
-    }
-    Ok(())
-}
-
-#[test]
-fn the_first_error_that_holds_is_told(rt: HostRuntime) -> Result<(), Fail> {
-    for (words, wanted) in [
-        ("PING", UNKNOWN),
-        ("GETS a", UNKNOWN),
-        ("GE a", UNKNOWN),
-        ("PUT a 1", UNKNOWN),
-        ("a GET", UNKNOWN),
-        ("GET", ARGUMENTS),
-        ("GET a b", ARGUMENTS),
-        ("SET a", ARGUMENTS),
-        ("SET a 1 2", ARGUMENTS),
-        ("CONDPUT a 1", ARGUMENTS),
-        ("CONDPUT a 1 2 3", ARGUMENTS),
-        ("MSET", ARGUMENTS),
-        ("MSET a", ARGUMENTS),
-        ("MSET a 1 a", ARGUMENTS),
-        ("MSET a 1 b 2 c 3 d 4 e 5", ARGUMENTS),
-        ("MSET a 1 a 1 a 1 a 1 a 1", ARGUMENTS),
-        ("MSET a 1 a 2", KEY_TWICE),
-        ("MSET a 1 b 2 c 3 b 4", KEY_TWICE),
-    ] {
-        assert!(rt; asks(rt.alloc(), words, wanted)?, "{words}");
-    }
-    Ok(())
-}
-
-/// Whether keys of so many bytes, and values of so many, are asked for so in each command that has both.
-fn sizes_ask(
+/// Whether the source has these answers, and then always the last.
+fn gives<S: Source>(
+    rt: &impl Abort,
     alloc: Global,
-    key_len: usize,
-    value_len: usize,
-    fits: bool,
-) -> Result<bool, NoMemory> {
-    let (k, v) = ("k".repeat(alloc, key_len)?, "v".repeat(alloc, value_len)?);
-    let (k, v) = (k.as_str(), v.as_str());
-    let commands = [
-        put(k, v),
-        append(k, v),
-        swap(k, v, "1"),
-        put_new(k, v),
-        two_puts("a", "1", k, v),
-    ];
-    let texts = [
-        format!(in alloc; "SET {k} {v}")?,
-        format!(in alloc; "APPEND {k} {v}")?,
-        format!(in alloc; "CONDPUT {k} {v} 1")?,
-        format!(in alloc; "CONDNEW {k} {v}")?,
-        format!(in alloc; "MSET a 1 {k} {v}")?,
-    ];
-    let mut all = true;
-    for (text, command) in texts.iter().zip(commands) {
-        let wanted = if fits { asked(command) } else { SIZE };
-        all = all && command.is_some() == fits && asks(alloc, text.as_str(), wanted)?;
-    }
-    Ok(all)
+    source: &mut S,
+    wanted: &[NextRequest],
+    last: &NextRequest,
+) -> bool {
+    let mut requests = requests(rt, alloc);
+    let first = are_next(&mut requests, source, wanted);
+    let gives = first && are_next(&mut requests, source, &[*last; 4]);
+    drop(requests);
+    gives
 }
 
-#[test]
-fn keys_and_values_have_their_sizes(rt: HostRuntime) -> Result<(), Fail> {
-    for (key_len, value_len, fits) in [
-        (1, 0, true),
-        (32, 128, true),
-        (0, 1, false),
-        (33, 1, false),
-        (1, 129, false),
-        (200, 200, false),
-    ] {
-        assert!(rt;
-            sizes_ask(rt.alloc(), key_len, value_len, fits)?,
-            "{key_len} {value_len}"
-        );
+fn sure_gives(
+    rt: &impl Abort,
+    alloc: Global,
+    bytes: &[u8],
+    wanted: &[NextRequest],
+    last: &NextRequest,
+) -> bool {
+    let mut source = sure(rt, alloc, bytes);
+    let gives = gives(rt, alloc, &mut source, wanted, last);
+    drop(source);
+    gives
+}
+
+/// The same of a source that gives pieces of this size, and fails at that call.
+fn pieces_give(
+    rt: &impl Abort,
+    alloc: Global,
+    bytes: &[u8],
+    (fault, piece): (u64, usize),
+    wanted: &[NextRequest],
+    last: &NextRequest,
+) -> bool {
+    assert!(rt; 0 < piece);
+    let mut source = in_pieces(rt, alloc, bytes, fault, piece);
+    let gives = gives(rt, alloc, &mut source, wanted, last);
+    drop(source);
+    gives
+}
+
+/// The text gives that, all at once and a byte at a time.
+fn try_both(
+    rt: &impl Abort,
+    alloc: Global,
+    text: &str,
+    wanted: &[NextRequest],
+    last: &NextRequest,
+) {
+    let bytes = text.as_bytes();
+    must_hold(rt, text, sure_gives(rt, alloc, bytes, wanted, last));
+    let bytewise = pieces_give(rt, alloc, bytes, (0, 1), wanted, last);
+    must_hold(rt, text, bytewise);
+}
+
+/// Writes how many arguments there are.
+fn spell_count(text: &mut String, count: usize) -> Result<(), NoMemory> {
+    write!(text, "*{count}\r\n")
+}
+
+/// Writes an argument.
+fn spell(text: &mut String, word: &str) -> Result<(), NoMemory> {
+    write!(text, "${}\r\n{word}\r\n", word.len())
+}
+
+/// Writes a request of these arguments, which are words without spaces.
+fn spell_all(text: &mut String, words: &str) -> Result<(), NoMemory> {
+    spell_count(text, words.split(' ').count())?;
+    for word in words.split(' ') {
+        spell(text, word)?;
     }
     Ok(())
 }
 
+/// A request of these words is asked for so.
+fn try_words(rt: &impl Abort, alloc: Global, words: &str, wanted: NextRequest) {
+    let mut text = String::new(alloc);
+    assert!(rt; spell_all(&mut text, words).is_ok());
+    let asks = sure_gives(rt, alloc, text.as_bytes(), &[wanted], &END);
+    must_hold(rt, words, asks);
+}
+
+// ---- the tables
+
+static BREAKS: [(&str, u64); 30] = [
+    ("+OK", 0),
+    ("\r\n", 0),
+    ("PING\r\n", 0),
+    ("$1\r\na\r\n", 0),
+    ("*", 1),
+    ("*\r\n", 1),
+    ("*-1\r\n", 1),
+    ("*0\r", 2),
+    ("*65", 2),
+    ("*1\n", 2),
+    ("*99999", 2),
+    ("*00000", 5),
+    ("*00065", 5),
+    ("*000001", 5),
+    ("*000641", 6),
+    ("*064\r\n", 6),
+    ("*2\r\nX", 4),
+    ("*1\r\n$\r", 5),
+    ("*1\r\n$-1\r\n", 5),
+    ("*1\r\n$7", 6),
+    ("*1\r\n$65537", 9),
+    ("*1\r\n$70000", 9),
+    ("*1\r\n$99999", 9),
+    ("*1\r\n$000001", 10),
+    ("*1\r\n$1\r\na\n", 9),
+    ("*1\r\n$1\r\nab\r\n", 9),
+    ("*1\r\n$0\r\n\r\r", 9),
+    ("*1\r\n$2\r\na\r\n", 10),
+    ("*2\r\n$1\r\na\r\n", 11),
+    ("*2\r\n$1\r\na\r\n*", 11),
+];
+
 #[test]
-fn the_largest_requests_are_taken(rt: HostRuntime) -> Result<(), Fail> {
+fn bytes_break_off_where_no_request_goes_on(rt: HostRuntime) {
+    for (text, at) in &BREAKS {
+        let bad = NextRequest::BadRequest { at: *at };
+        try_both(&rt, rt.alloc(), text, &[], &bad);
+    }
+}
+
+/// Places behind the request of no known word that such inputs begin with.
+static LATER_BREAKS: [(&str, u64); 3] = [
+    ("*1\r\n$4\r\nPING\r\n+", 14),
+    ("*1\r\n$4\r\nPING\r\n*0\r", 16),
+    ("*1\r\n$4\r\nPING\r\n*1", 16),
+];
+
+#[test]
+fn a_place_is_counted_from_the_whole_input(rt: HostRuntime) {
+    for (text, at) in &LATER_BREAKS {
+        let bad = NextRequest::BadRequest { at: *at };
+        try_both(&rt, rt.alloc(), text, &[UNKNOWN], &bad);
+    }
+}
+
+fn try_bytes(rt: &impl Abort, alloc: Global, bytes: &[u8], wanted: &[NextRequest]) {
+    must_hold(rt, "a word", sure_gives(rt, alloc, bytes, wanted, &END));
+}
+
+#[test]
+fn a_word_may_have_any_bytes(rt: HostRuntime) {
     let alloc = rt.alloc();
-    let long = "x".repeat(alloc, 65_536)?;
-    let text = format!(in alloc;
-        "*3\r\n$3\r\nSET\r\n$1\r\na\r\n$65536\r\n{long}\r\n*2\r\n$3\r\nGET\r\n$1\r\na\r\n"
-    )?;
-    assert!(rt;
-        sure_gives(
-            alloc,
-            text.as_bytes(),
-            &[SIZE, asked(get("a")), NextRequest::End]
-        )?
-    );
-    let more = "$1\r\na\r\n".repeat(alloc, 63)?;
-    let text = format!(in alloc; "*64\r\n$3\r\nGET\r\n{more}*64\r\n$3\r\nGOT\r\n{more}")?;
-    assert!(rt;
-        sure_gives(
-            alloc,
-            text.as_bytes(),
-            &[ARGUMENTS, UNKNOWN, NextRequest::End]
-        )?
-    );
-    Ok(())
+    try_bytes(&rt, alloc, b"", &[]);
+    try_bytes(&rt, alloc, b"*1\r\n$00000\r\n\r\n", &[UNKNOWN]);
+    try_bytes(&rt, alloc, b"*00001\r\n$2\r\n\xff\x80\r\n", &[UNKNOWN]);
 }
+
+/// A row of the table of words.
+fn row(rt: &impl Abort, alloc: Global, words: &str, command: Command) {
+    try_words(rt, alloc, words, asked(command));
+}
+
+#[test]
+fn each_word_has_its_command(rt: HostRuntime) {
+    let (alloc, a) = (rt.alloc(), key(&rt, "a"));
+    row(&rt, alloc, "GET a", Command::Get(a));
+    row(&rt, alloc, "get a", Command::Get(a));
+    row(&rt, alloc, "gEt a", Command::Get(a));
+    row(&rt, alloc, "DEL a", Command::Delete(a));
+    row(&rt, alloc, "INCR a", Command::Incr(a));
+}
+
+#[test]
+fn each_word_with_values_has_its_command(rt: HostRuntime) {
+    let (alloc, a) = (rt.alloc(), key(&rt, "a"));
+    let (one, two) = (value(&rt, "1"), value(&rt, "2"));
+    row(&rt, alloc, "SET a 1", Command::Put(a, one));
+    row(&rt, alloc, "APPEND a 1", Command::Append(a, one));
+    row(
+        &rt,
+        alloc,
+        "CONDPUT a 1 2",
+        Command::CondPut(a, Some(one), two),
+    );
+    row(
+        &rt,
+        alloc,
+        "CondPut a 1 2",
+        Command::CondPut(a, Some(one), two),
+    );
+    row(&rt, alloc, "CONDNEW a 1", Command::CondPut(a, None, one));
+    let pairs = [(key(&rt, "b"), one), (a, two)];
+    row(&rt, alloc, "MSET b 1 a 2", multi(&rt, &pairs));
+}
+
+static WRONGS: [(&str, Wrong); 18] = [
+    ("PING", Wrong::Unknown),
+    ("GETS a", Wrong::Unknown),
+    ("GE a", Wrong::Unknown),
+    ("PUT a 1", Wrong::Unknown),
+    ("a GET", Wrong::Unknown),
+    ("GET", Wrong::Arguments),
+    ("GET a b", Wrong::Arguments),
+    ("SET a", Wrong::Arguments),
+    ("SET a 1 2", Wrong::Arguments),
+    ("CONDPUT a 1", Wrong::Arguments),
+    ("CONDPUT a 1 2 3", Wrong::Arguments),
+    ("MSET", Wrong::Arguments),
+    ("MSET a", Wrong::Arguments),
+    ("MSET a 1 a", Wrong::Arguments),
+    ("MSET a 1 b 2 c 3 d 4 e 5", Wrong::Arguments),
+    ("MSET a 1 a 1 a 1 a 1 a 1", Wrong::Arguments),
+    ("MSET a 1 a 2", Wrong::KeyTwice),
+    ("MSET a 1 b 2 c 3 b 4", Wrong::KeyTwice),
+];
+
+#[test]
+fn the_first_error_that_holds_is_told(rt: HostRuntime) {
+    for (words, wrong) in &WRONGS {
+        try_words(&rt, rt.alloc(), words, refused(*wrong));
+    }
+}
+
+// ---- sizes
+
+/// Whether these are a key and a value.
+fn fits(k: &str, v: &str) -> bool {
+    Key::new(k.as_bytes()).is_ok() && Value::new(v.as_bytes()).is_ok()
+}
+
+/// A row of the table of the commands that have both a key, `K`, and a value, `V`.
+fn sized_row(rt: &impl Abort, alloc: Global, line: &str, sized: (&str, &str), wanted: NextRequest) {
+    let with_key = filled(rt, alloc, line, "K", sized.0);
+    let words = filled(rt, alloc, &with_key, "V", sized.1);
+    try_words(rt, alloc, &words, wanted);
+}
+
+fn try_fitting(rt: &impl Abort, alloc: Global, sized: (&str, &str)) {
+    let (k, v) = (key(rt, sized.0), value(rt, sized.1));
+    let set = asked(Command::Put(k, v));
+    sized_row(rt, alloc, "SET K V", sized, set);
+    let append = asked(Command::Append(k, v));
+    sized_row(rt, alloc, "APPEND K V", sized, append);
+    let swap = asked(Command::CondPut(k, Some(v), v));
+    sized_row(rt, alloc, "CONDPUT K V V", sized, swap);
+    let put_new = asked(Command::CondPut(k, None, v));
+    sized_row(rt, alloc, "CONDNEW K V", sized, put_new);
+    let put_two = asked(multi(rt, &[(key(rt, "a"), v), (k, v)]));
+    sized_row(rt, alloc, "MSET a V K V", sized, put_two);
+}
+
+fn fitting(rt: &impl Abort, alloc: Global, key_len: usize, value_len: usize) {
+    let k = repeated(rt, alloc, "k", key_len);
+    let v = repeated(rt, alloc, "v", value_len);
+    try_fitting(rt, alloc, (&k, &v));
+}
+
+static TOO_LONG: [&str; 5] = [
+    "SET K V",
+    "APPEND K V",
+    "CONDPUT K V 1",
+    "CONDNEW K V",
+    "MSET a 1 K V",
+];
+
+fn try_unfit(rt: &impl Abort, alloc: Global, sized: (&str, &str)) {
+    assert!(rt; !fits(sized.0, sized.1));
+    for line in &TOO_LONG {
+        sized_row(rt, alloc, line, sized, SIZE);
+    }
+}
+
+fn unfit(rt: &impl Abort, alloc: Global, key_len: usize, value_len: usize) {
+    let k = repeated(rt, alloc, "k", key_len);
+    let v = repeated(rt, alloc, "v", value_len);
+    try_unfit(rt, alloc, (&k, &v));
+}
+
+#[test]
+fn keys_and_values_have_their_sizes(rt: HostRuntime) {
+    let alloc = rt.alloc();
+    fitting(&rt, alloc, 1, 0);
+    fitting(&rt, alloc, 32, 128);
+    unfit(&rt, alloc, 0, 1);
+    unfit(&rt, alloc, 33, 1);
+    unfit(&rt, alloc, 1, 129);
+    unfit(&rt, alloc, 200, 200);
+}
+
+/// The longest argument stands in place of `X`.
+const LONGEST: &str = "*3\r\n$3\r\nSET\r\n$1\r\na\r\n$65536\r\nX\r\n*2\r\n$3\r\nGET\r\n$1\r\na\r\n";
+
+/// The most arguments stand in place of each `X`.
+const MOST: &str = "*64\r\n$3\r\nGET\r\nX*64\r\n$3\r\nGOT\r\nX";
+
+fn try_large(rt: &impl Abort, alloc: Global, text: &str, more: &str, wanted: &[NextRequest]) {
+    let text = filled(rt, alloc, text, "X", more);
+    must_hold(
+        rt,
+        "large",
+        sure_gives(rt, alloc, text.as_bytes(), wanted, &END),
+    );
+}
+
+#[test]
+fn the_largest_requests_are_taken(rt: HostRuntime) {
+    let alloc = rt.alloc();
+    let longest = repeated(&rt, alloc, "x", 65_536);
+    try_large(&rt, alloc, LONGEST, &longest, &[SIZE, get(&rt)]);
+    let more = repeated(&rt, alloc, "$1\r\na\r\n", 63);
+    try_large(&rt, alloc, MOST, &more, &[ARGUMENTS, UNKNOWN]);
+}
+
+// ---- sessions
 
 const SESSION: &str =
     "*3\r\n$3\r\nSET\r\n$1\r\na\r\n$1\r\n1\r\n*1\r\n$4\r\nPING\r\n*2\r\n$3\r\nget\r\n$1\r\na\r\n";
 
-#[test]
-fn a_session_may_be_cut_anywhere(rt: HostRuntime) -> Result<(), Fail> {
-    let wanted = [
-        asked(put("a", "1")),
-        UNKNOWN,
-        asked(get("a")),
-        NextRequest::End,
-    ];
-    for piece in 1..=SESSION.len() {
-        assert!(rt;
-            pieces_give(rt.alloc(), SESSION.as_bytes(), piece, &wanted)?,
-            "{piece}"
-        );
-    }
-    Ok(())
+/// The session has these answers from a source that fails at that call and gives pieces of that size.
+fn try_session(
+    rt: &impl Abort,
+    alloc: Global,
+    source: (u64, usize),
+    wanted: &[NextRequest],
+    last: &NextRequest,
+) {
+    let gives = pieces_give(rt, alloc, SESSION.as_bytes(), source, wanted, last);
+    must_hold(rt, "session", gives);
 }
 
 #[test]
-fn nothing_is_read_while_a_request_is_ahead(rt: HostRuntime) -> Result<(), Fail> {
+fn a_session_may_be_cut_anywhere(rt: HostRuntime) {
+    let wanted = [put(&rt), UNKNOWN, get(&rt)];
+    for piece in 1..=SESSION.len() {
+        try_session(&rt, rt.alloc(), (0, piece), &wanted, &END);
+    }
+}
+
+#[test]
+fn nothing_is_read_while_a_request_is_ahead(rt: HostRuntime) {
     let alloc = rt.alloc();
-    let source = MemorySource::new(alloc, SESSION.as_bytes(), &[2])?;
-    let wanted = [
-        asked(put("a", "1")),
-        UNKNOWN,
-        asked(get("a")),
-        NextRequest::ReadFault,
-    ];
-    assert!(rt; gives(alloc, source, &wanted)?);
-    let source = MemorySource::in_pieces(alloc, SESSION.as_bytes(), &[4], 10)?;
-    assert!(rt;
-        gives(
-            alloc,
-            source,
-            &[asked(put("a", "1")), NextRequest::ReadFault]
-        )?
-    );
-    Ok(())
+    let whole = [put(&rt), UNKNOWN, get(&rt)];
+    try_session(&rt, alloc, (2, 100), &whole, &FAULT);
+    try_session(&rt, alloc, (4, 10), &[put(&rt)], &FAULT);
 }

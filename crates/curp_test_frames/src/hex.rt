@@ -2,6 +2,7 @@
 
 use curp_base::NoMemory;
 use std::alloc::Global;
+use std::process::Abort;
 
 /// Bytes, and for each of them the place of its item's first byte.
 #[derive(Drop)]
@@ -10,25 +11,30 @@ pub(crate) struct Spelled {
     pub(crate) items: Vec<u64>,
 }
 
-pub(crate) fn spelling_of(alloc: Global, text: &str) -> Result<Spelled, NoMemory> {
-    let mut bytes = Vec::new(alloc);
-    let mut items = Vec::new(alloc);
-    for word in text.split(' ') {
-        let item = bytes.len() as u64;
-        push_word(&mut bytes, word)?;
-        for _ in items.len()..bytes.len() {
-            items.push(item)?;
-        }
+/// Appends the bytes of a word, and for each of them where the word begins.
+fn push_item(spelled: &mut Spelled, word: &str) -> Result<(), NoMemory> {
+    let item = spelled.bytes.len() as u64;
+    push_word(&mut spelled.bytes, word)?;
+    for _ in spelled.items.len()..spelled.bytes.len() {
+        spelled.items.push(item)?;
     }
-    Ok(Spelled { bytes, items })
+    Ok(())
 }
 
-pub(crate) fn bytes_of(alloc: Global, text: &str) -> Result<Vec<u8>, NoMemory> {
-    let mut bytes = Vec::new(alloc);
+fn push_items(spelled: &mut Spelled, text: &str) -> Result<(), NoMemory> {
     for word in text.split(' ') {
-        push_word(&mut bytes, word)?;
+        push_item(spelled, word)?;
     }
-    Ok(bytes)
+    Ok(())
+}
+
+pub(crate) fn spelling_of(rt: &impl Abort, alloc: Global, text: &str) -> Spelled {
+    let mut spelled = Spelled {
+        bytes: Vec::new(alloc),
+        items: Vec::new(alloc),
+    };
+    assert!(rt; push_items(&mut spelled, text).is_ok());
+    spelled
 }
 
 /// Two digits a byte.

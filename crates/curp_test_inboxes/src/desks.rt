@@ -1,5 +1,3 @@
-ghost use Rattle.std.specs.Prelude.{◌<◌, ◌^◌, length};
-
 use crate::board::{Beginnings, Board};
 use crate::relay::{Relay, begun};
 use curp_base::NoMemory;
@@ -56,71 +54,119 @@ impl<'a> Drive for Driver<'a> {
     }
 }
 
-// The relays of this many clients: each passes on to the next one and to itself, or to the one before.
+// The relays of so many clients: each passes on to the next one and to itself, or to the one before.
 fn ring(alloc: Global, count: u32) -> Result<Vec<Desk<Relay>>, NoMemory> {
     let mut desks = Vec::new(alloc);
     for before in 0..count {
-        let number = before + 1;
-        let next = if number < count { number + 1 } else { 1 };
-        let other = if number % 2 == 0 { number } else { next };
-        desks.push(Desk::new(alloc, before, begun(alloc, number, next, other)))?;
+        desks.push(desk_in_ring(alloc, before, count))?;
     }
     Ok(desks)
+}
+
+fn desk_in_ring(alloc: Global, before: u32, count: u32) -> Desk<Relay> {
+    let number = before.wrapping_add(1);
+    let next = if number < count {
+        number.wrapping_add(1)
+    } else {
+        1
+    };
+    let other = if number % 2 == 0 { number } else { next };
+    Desk::new(alloc, before, begun(alloc, number, next, other))
 }
 
 // The clients with their beginnings.
 fn members<'a>(
     alloc: Global,
     desks: &'a [Desk<Relay>],
-    begins: &[u32],
-    often: u32,
+    plan: &Plan<'_>,
     board: &'a Board,
 ) -> Result<Vec<Member<Worker<'a>, Courier<'a>>>, NoMemory> {
     let mut members = Vec::new(alloc);
-    for ((number, desk), begins) in (1..=u32::MAX).zip(desks).zip(begins) {
+    for ((number, desk), begins) in (1..=u32::MAX).zip(desks).zip(plan.begins) {
         let chores = Beginnings {
             begins: *begins,
-            often,
+            often: plan.often,
         };
-        members.push(Member {
-            node: NodeId::client(number),
-            worker: Worker {
-                desk,
-                chores,
-                board,
-            },
-            courier: Courier { desk },
-        })?;
+        members.push(member(number, desk, chores, board))?;
     }
     Ok(members)
 }
 
-// How many items each client has after a run with rooms of one parcel.
-fn counts<R: Threads + Wait + Sync>(
-    rt: &R,
-    alloc: Global,
-    begins: &[u32],
+fn member<'a>(
+    number: u32,
+    desk: &'a Desk<Relay>,
+    chores: Beginnings,
+    board: &'a Board,
+) -> Member<Worker<'a>, Courier<'a>> {
+    Member {
+        node: NodeId::client(number),
+        worker: Worker {
+            desk,
+            chores,
+            board,
+        },
+        courier: Courier { desk },
+    }
+}
+
+// What a run is: with how many messages each client begins, how often these are passed on, who ends at once, and after
+// how many steps the others do.
+#[derive(Clone, Copy)]
+struct Plan<'a> {
+    begins: &'a [u32],
     often: u32,
     first: Option<NodeId>,
     steps: u64,
-) -> Result<Vec<usize>, NoMemory>
-    requires { length begins.now < 2 ^ 32 }
-{
-    let count = begins.len() as u32;
-    let desks = ring(alloc, count)?;
+}
+
+// Runs the clients with rooms of one parcel.
+fn run<R: Threads + Wait + Sync>(
+    rt: &R,
+    alloc: Global,
+    desks: &[Desk<Relay>],
+    plan: &Plan<'_>,
+) -> Result<(), NoMemory> {
     let board = Board::new();
-    let members = members(alloc, &desks, begins, often, &board)?;
+    let members = members(alloc, desks, plan, &board)?;
     let driver = Driver {
         board: &board,
-        first,
-        steps,
+        first: plan.first,
+        steps: plan.steps,
     };
-    run_crew(rt, alloc, 1, members, driver)?;
+    run_crew(rt, alloc, 1, members, driver)
+}
+
+fn count(begins: &[u32]) -> u32 {
+    u32::try_from(begins.len()).unwrap_or(0)
+}
+
+// How many items each client has then.
+fn counts<R: Threads + Wait + Sync>(
+    rt: &R,
+    alloc: Global,
+    plan: &Plan<'_>,
+) -> Result<Vec<usize>, NoMemory> {
+    let desks = ring(alloc, count(plan.begins))?;
+    match run(rt, alloc, &desks, plan) {
+        Ok(()) => counts_of(alloc, desks),
+        Err(error) => Err(error),
+    }
+}
+
+fn counts_of(alloc: Global, desks: Vec<Desk<Relay>>) -> Result<Vec<usize>, NoMemory> {
     let mut counts = Vec::new(alloc);
     for desk in desks {
-        counts.push(desk.into_kept().journal().len())?;
+        counts.push(count_of(desk))?;
     }
     Ok(counts)
+}
+
+// How many items it has.
+pub(crate) fn count_of(desk: Desk<Relay>) -> usize {
+    let kept = desk.into_kept();
+    let count = kept.journal().len();
+    drop(kept);
+    count
 }
 
 fn total(counts: &[usize]) -> usize {
@@ -134,7 +180,13 @@ fn total(counts: &[usize]) -> usize {
 #[test]
 fn rooms_of_one_parcel_do_not_stand_still(rt: HostRuntime) -> Result<(), Fail> {
     // Each client begins one message, which makes 2^8 - 1 steps.
-    let counts = counts(&rt, rt.alloc(), &[1; 12], 7, None, 12 * 255)?;
+    let plan = Plan {
+        begins: &[1; 12],
+        often: 7,
+        first: None,
+        steps: 12 * 255,
+    };
+    let counts = counts(&rt, rt.alloc(), &plan)?;
     assert_eq!(rt; total(&counts), 12 * 255);
     Ok(())
 }
@@ -142,8 +194,13 @@ fn rooms_of_one_parcel_do_not_stand_still(rt: HostRuntime) -> Result<(), Fail> {
 #[test]
 fn a_worker_ends_while_couriers_wait(rt: HostRuntime) -> Result<(), Fail> {
     // The first client ends at once. The second one sends a hundred messages to it, and a hundred to itself.
-    let counts = counts(&rt, rt.alloc(), &[0, 100], 1, Some(NodeId::client(1)), 200)?;
-    assert_eq!(rt; counts.len(), 2);
-    assert!(rt; counts[0] <= 100 && counts[1] >= 100);
+    let plan = Plan {
+        begins: &[0, 100],
+        often: 1,
+        first: Some(NodeId::client(1)),
+        steps: 200,
+    };
+    let counts = counts(&rt, rt.alloc(), &plan)?;
+    assert!(rt; matches!(counts.as_slice(), [ended, other] if *ended <= 100 && *other >= 100));
     Ok(())
 }

@@ -1,5 +1,6 @@
 // A node's end: what came before it is done and goes out, what comes behind it is dropped, and the ends go out last.
 use crate::board::{Beginnings, Board};
+use crate::desks::count_of;
 use crate::relay::{Relay, begun};
 use curp_base::NoMemory;
 use curp_cmd::NodeId;
@@ -25,54 +26,83 @@ fn send_end<R: Wait>(rt: &R, post: &mut Post) {
     post.send(rt, Parcel::end(number));
 }
 
-// An inbox in which the driver's end stands between two orders, and behind them the end of who sent them.
+// Two orders, with the driver's end between them, and behind them the end of who sent them.
+fn fill<R: Wait>(rt: &R, alloc: Global, posts: &mut [Post]) -> Result<(), NoMemory> {
+    let [sender, driver] = posts else {
+        return Err(AllocError);
+    };
+    send_order(rt, alloc, sender)?;
+    send_end(rt, driver);
+    send_order(rt, alloc, sender)?;
+    send_end(rt, sender);
+    Ok(())
+}
+
+// An inbox that is filled so.
 fn inbox_with_ends<R: Wait>(rt: &R, alloc: Global) -> Result<Take, NoMemory> {
     let (mut posts, take) = inbox(alloc, NodeId::client(1), 8, 2)?;
-    let Some(mut driver) = posts.pop() else {
-        return Err(AllocError);
-    };
-    let Some(mut sender) = posts.pop() else {
-        return Err(AllocError);
-    };
-    send_order(rt, alloc, &mut sender)?;
-    send_end(rt, &mut driver);
-    send_order(rt, alloc, &mut sender)?;
-    send_end(rt, &mut sender);
-    Ok(take)
+    let filled = fill(rt, alloc, &mut posts);
+    drop(posts);
+    match filled {
+        Ok(()) => Ok(take),
+        Err(error) => Err(error),
+    }
 }
 
-// What the courier of an ended relay puts into the inbox to which the relay sends: for each parcel, whether it is an end.
-fn carried<R: Wait>(
-    rt: &R,
-    alloc: Global,
-    desk: &Desk<Relay>,
-    count: u32,
-) -> Result<Vec<bool>, NoMemory> {
-    let (mut own, mut take) = inbox(alloc, NodeId::client(1), 8, 1)?;
-    let mut posts = Posts::new(alloc, 0);
-    if let Some(post) = own.pop() {
-        posts.add(post)?;
-    }
-    desk.carry(rt, posts);
-    let mut ends = Vec::new(alloc);
-    for _ in 0..count {
-        ends.push(take.receive(rt).is_end())?;
-    }
-    Ok(ends)
-}
-
-#[test]
-fn a_node_ends_where_the_drivers_end_stands(rt: HostRuntime) -> Result<(), Fail> {
-    let alloc = rt.alloc();
-    let desk = Desk::new(alloc, 0, begun(alloc, 1, 1, 1));
+// Takes what comes to the relay, until all have ended.
+fn work<R: Wait>(rt: &R, desk: &Desk<Relay>, take: Take) {
     let chores = Beginnings {
         begins: 0,
         often: 0,
     };
-    let take = inbox_with_ends(&rt, alloc)?;
-    desk.work(&rt, &OpenGate, take, chores, &Board::new());
-    let ends = carried(&rt, alloc, &desk, 3)?;
-    assert!(rt; ends.as_slice() == [false, false, true].as_slice());
-    assert_eq!(rt; desk.into_kept().journal().len(), 1);
+    desk.work(rt, &OpenGate, take, chores, &Board::new());
+}
+
+// The post of the relay at the inbox to which it sends.
+fn posts_of(alloc: Global, own: Vec<Post>) -> Result<Posts, NoMemory> {
+    let mut posts = Posts::new(alloc, 0);
+    for post in own {
+        posts.add(post)?;
+    }
+    Ok(posts)
+}
+
+// What the courier of an ended relay puts into the inbox to which the relay sends: for each of three parcels, whether it is
+// an end.
+fn carried<R: Wait>(rt: &R, alloc: Global, desk: &Desk<Relay>) -> Result<[bool; 3], NoMemory> {
+    let (own, mut take) = inbox(alloc, NodeId::client(1), 8, 1)?;
+    match posts_of(alloc, own) {
+        Ok(posts) => {
+            desk.carry(rt, posts);
+            Ok([
+                is_end(rt, &mut take),
+                is_end(rt, &mut take),
+                is_end(rt, &mut take),
+            ])
+        }
+        Err(error) => Err(error),
+    }
+}
+
+fn is_end<R: Wait>(rt: &R, take: &mut Take) -> bool {
+    let parcel = take.receive(rt);
+    let is_end = parcel.is_end();
+    drop(parcel);
+    is_end
+}
+
+// What the courier sends, and how many items the relay has.
+fn ended<R: Wait>(rt: &R, alloc: Global) -> Result<([bool; 3], usize), NoMemory> {
+    let take = inbox_with_ends(rt, alloc)?;
+    let desk = Desk::new(alloc, 0, begun(alloc, 1, 1, 1));
+    work(rt, &desk, take);
+    let ends = carried(rt, alloc, &desk);
+    let count = count_of(desk);
+    Ok((ends?, count))
+}
+
+#[test]
+fn a_node_ends_where_the_drivers_end_stands(rt: HostRuntime) -> Result<(), Fail> {
+    assert!(rt; ended(&rt, rt.alloc())? == ([false, false, true], 1));
     Ok(())
 }

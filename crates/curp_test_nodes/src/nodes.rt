@@ -1,14 +1,14 @@
 //! The nodes, each behind the trait of all nodes: what they say, do and refuse as orders and messages come.
 
 use crate::build::{
-    adopted, all_shared, ask, boxed, config, id, items, log_of, message, must, part, put, reply,
-    request, shared, stored,
+    adopted, ask, backups, boxed, config, id, log_of, message, must, nodes, put, reply, request,
+    right_at, shared, stored,
 };
 use curp_base::{Items, Shared};
 use curp_cmd::{Command, Entry, NodeId, Request, RequestId};
 use curp_msg::{
     Accepted, Append, AppendAnswer, Body, Collected, Core, Done, FenceReply, Gc, GcAnswer, Local,
-    Probe, Protocol, Reason, Record, Recover, Refusal, Refuse, Rejected,
+    Message, Probe, Protocol, Reason, Record, Recover, Refusal, Refuse, Rejected,
 };
 use curp_nodes::{BackupNode, ClientNode, MasterNode, WitnessNode};
 use std::alloc::Global;
@@ -172,8 +172,7 @@ fn a_client_completes_an_update_at_once(rt: HostRuntime) {
 }
 
 fn client(rt: &impl Abort, alloc: Global, number: u32) -> ClientNode {
-    let part = part(rt, alloc, &[NodeId::witness(1)], u64::MAX);
-    let config = config(rt, alloc, 1, part);
+    let config = config(rt, alloc, 1, &[NodeId::witness(1)], u64::MAX);
     ClientNode::new(alloc, number, true, Protocol::One, config)
 }
 
@@ -185,12 +184,10 @@ fn a_master_answers_what_comes(rt: HostRuntime) {
 }
 
 fn master(rt: &impl Abort, alloc: Global) -> MasterNode {
-    let backups = must(rt, Vec::from_slice(alloc, &[NodeId::backup(1)]));
-    let witnesses = must(rt, Vec::from_slice(alloc, &[NodeId::witness(1)]));
-    must(
-        rt,
-        MasterNode::new(alloc, 1, backups, witnesses, 0, u64::MAX),
-    )
+    let backups = backups(rt, alloc, &[1]);
+    let witnesses = nodes(rt, alloc, &[NodeId::witness(1)]);
+    let begun = MasterNode::new(alloc, 1, backups, witnesses, 0, u64::MAX);
+    must(rt, begun)
 }
 
 #[test]
@@ -214,33 +211,53 @@ fn a_witness_answers_what_comes(rt: HostRuntime) {
     drop(witness);
 }
 
+fn are(said: &[Said], expected: &[Said]) -> bool {
+    said == expected
+}
+
 fn try_rows<N: Core>(rt: &impl Abort, alloc: Global, node: &mut N, rows: &[(Comes, &[Said])]) {
     for (at, (comes, expected)) in rows.iter().enumerate() {
         let done = give(rt, alloc, node, *comes);
         let said = said_by(rt, alloc, &done);
-        assert!(rt; said.as_slice() == *expected, "row {at}");
+        drop(done);
+        right_at(rt, are(&said, expected), "rows", at as u64);
     }
 }
 
 fn give<N: Core>(rt: &impl Abort, alloc: Global, node: &mut N, comes: Comes) -> Done {
-    let answered = match order(rt, alloc, comes) {
-        Some(order) => node.on_order(&order),
+    match order(rt, alloc, comes) {
+        Some(order) => hear_order(rt, node, order),
         None => {
             let (from, body) = comes_from(rt, alloc, comes);
-            node.on_message(&message(from, NodeId::master(1), body))
+            hear(rt, node, message(from, NodeId::master(1), body))
         }
-    };
-    must(rt, answered)
+    }
+}
+
+fn hear_order<N: Core>(rt: &impl Abort, node: &mut N, order: Local) -> Done {
+    let done = must(rt, node.on_order(&order));
+    drop(order);
+    done
+}
+
+fn hear<N: Core>(rt: &impl Abort, node: &mut N, message: Message) -> Done {
+    let done = must(rt, node.on_message(&message));
+    drop(message);
+    done
 }
 
 fn order(rt: &impl Abort, alloc: Global, comes: Comes) -> Option<Local> {
     match comes {
-        Comes::Put => Some(Local::Invoke(must(rt, Shared::of(alloc, &put_one(rt))))),
+        Comes::Put => Some(invoke(rt, alloc)),
         Comes::Retry(seq) => Some(Local::Retry(seq)),
         Comes::Fetch => Some(Local::Fetch),
         Comes::Round => Some(Local::Sync),
         _ => None,
     }
+}
+
+fn invoke(rt: &impl Abort, alloc: Global) -> Local {
+    Local::Invoke(must(rt, Shared::of(alloc, &put_one(rt))))
 }
 
 fn put_one(rt: &impl Abort) -> Command {
@@ -275,10 +292,14 @@ fn asked(rt: &impl Abort, alloc: Global, comes: Comes, client: u32) -> Body {
     match comes {
         Comes::Update(_) => Body::Update(ask(rt, alloc, &request)),
         Comes::Sync(_) => Body::Sync(ask(rt, alloc, &request)),
-        _ => Body::Record(Record {
-            request: shared(rt, alloc, &request),
-            epoch: 1,
-        }),
+        _ => Body::Record(record(rt, alloc, &request)),
+    }
+}
+
+fn record(rt: &impl Abort, alloc: Global, request: &Request) -> Record {
+    Record {
+        request: shared(rt, alloc, request),
+        epoch: 1,
     }
 }
 
@@ -292,10 +313,7 @@ fn probe(epoch: u32) -> Body {
 fn by_master(rt: &impl Abort, alloc: Global, comes: Comes) -> Body {
     match comes {
         Comes::Append(base, count, round) => append(rt, alloc, base, count, round),
-        Comes::Collect(epoch, client) => Body::Gc(Gc {
-            epoch,
-            ids: items(rt, alloc, &[id(client, 1)]),
-        }),
+        Comes::Collect(epoch, client) => gc(rt, alloc, epoch, client),
         Comes::Reply(client, synced) => reply(rt, alloc, id(client, 1), synced),
         Comes::InProgress(client) => Body::Refuse(Refuse {
             id: id(client, 1),
@@ -303,6 +321,14 @@ fn by_master(rt: &impl Abort, alloc: Global, comes: Comes) -> Body {
         }),
         _ => Body::Fetch,
     }
+}
+
+fn gc(rt: &impl Abort, alloc: Global, epoch: u32, client: u32) -> Body {
+    let ids = must(rt, Vec::from_slice(alloc, &[id(client, 1)]));
+    Body::Gc(Gc {
+        epoch,
+        ids: Items::new(ids),
+    })
 }
 
 fn by_witness(rt: &impl Abort, alloc: Global, comes: Comes) -> Body {
@@ -315,10 +341,19 @@ fn by_witness(rt: &impl Abort, alloc: Global, comes: Comes) -> Body {
             id: id(client, 1),
             reason: Reason::Conflict { held: id(1, 1) },
         }),
-        Comes::Held(client) => Body::FrozenAnswer {
-            requests: Items::new(all_shared(rt, alloc, &[request_of(rt, client)])),
-        },
+        Comes::Held(client) => held(rt, alloc, client),
         _ => Body::Fetch,
+    }
+}
+
+fn held(rt: &impl Abort, alloc: Global, client: u32) -> Body {
+    let mut requests = Vec::new(alloc);
+    must(
+        rt,
+        requests.push(shared(rt, alloc, &request_of(rt, client))),
+    );
+    Body::FrozenAnswer {
+        requests: Items::new(requests),
     }
 }
 
@@ -356,8 +391,8 @@ fn recover(rt: &impl Abort, alloc: Global) -> Recover {
         version: 1,
         backup: NodeId::backup(1),
         witness: NodeId::witness(1),
-        backups: items(rt, alloc, &[NodeId::backup(1)]),
-        witnesses: items(rt, alloc, &[NodeId::witness(1)]),
+        backups: Items::new(backups(rt, alloc, &[1])),
+        witnesses: Items::new(nodes(rt, alloc, &[NodeId::witness(1)])),
         lo: 0,
         hi: u64::MAX,
     }

@@ -1,15 +1,17 @@
 // Journals in which a master took another value than its client sent.
-ghost use Rattle.std.specs.Prelude.{◌≡◌, true, false, IfOk};
+ghost use Rattle.std.specs.Prelude.{◌≡◌, false};
 ghost use Rattle.curp_gather.specs.Journals.{AreOf};
-ghost use Rattle.curp_msg.specs.declared.script.Protocol.TheVariants.{One};
+ghost use Rattle.curp_model.specs.Manager.{opening_config};
+ghost use Rattle.curp_model.specs.World.{shape_of};
+ghost use Rattle.curp_msg.specs.Script.{IsHeader};
 
-use curp_base::Shared;
-use curp_cmd::{Command, Key, NodeId, Value};
+use curp_base::{NoMemory, Shared};
+use curp_cmd::{Command, Key, NodeId, NodeKind, Value};
 use curp_gather::{GatherError, Journals, gather};
 use curp_journal::{Arrived, Named};
 use curp_live::anew_at_opening;
-use curp_msg::{Core, Header, Local, Protocol};
-use curp_nodes::{BackupNode, ClientNode, ManagerNode, MasterNode, WitnessNode};
+use curp_msg::{Config, Core, Header, Local, Protocol};
+use curp_nodes::{ClientNode, ManagerNode, MasterNode};
 use curp_same::Same;
 use curp_seat::Kept;
 use std::alloc::Global;
@@ -17,7 +19,7 @@ use std::test::Fail;
 
 // A node of each kind.
 fn smallest() -> Header
-    ensures { result ≡ record { clients = 1; f = 1; fast = true; parts = 1; protocol = One; sets = 1; ways = 1 } }
+    ensures { IsHeader result }
 {
     Header {
         clients: 1,
@@ -30,28 +32,86 @@ fn smallest() -> Header
     }
 }
 
-// The last of these nodes, with an empty journal.
-fn begun<N: Core + Drop>(alloc: Global, id: NodeId, mut nodes: Vec<N>) -> Result<Kept<N>, Fail>
-    ensures { IfOk result (λ kept. kept.ended ≡ false) }
+// The journals of the smallest header's nodes, in which nothing happened.
+fn opened(alloc: Global) -> Result<Journals, NoMemory> {
+    let manager = curp_opening::manager(alloc, &smallest())?;
+    let mut journals = begun(alloc, manager);
+    match open_all(alloc, &mut journals) {
+        Ok(()) => Ok(journals),
+        Err(error) => Err(error),
+    }
+}
+
+fn begun(alloc: Global, manager: ManagerNode) -> Journals {
+    Journals {
+        manager: Kept::begin(alloc, manager, NodeId::manager()),
+        clients: Vec::new(alloc),
+        masters: Vec::new(alloc),
+        backups: Vec::new(alloc),
+        witnesses: Vec::new(alloc),
+    }
+}
+
+// Adds the journals of all nodes but the manager.
+fn open_all(alloc: Global, journals: &mut Journals) -> Result<(), NoMemory> {
+    open_served(alloc, &smallest(), journals)?;
+    let backups = curp_opening::backups(alloc, 1)?;
+    open(alloc, NodeKind::Backup, backups, &mut journals.backups)?;
+    let witnesses = curp_opening::witnesses(alloc, 1, 1, 1)?;
+    open(alloc, NodeKind::Witness, witnesses, &mut journals.witnesses)
+}
+
+// Adds those of the nodes that begin with the configuration.
+fn open_served(alloc: Global, header: &Header, journals: &mut Journals) -> Result<(), NoMemory>
+    requires { IsHeader header.now }
 {
-    let node = nodes.pop().ok_or("no such node")?;
-    Ok(Kept::begin(alloc, node, id))
+    let manager = curp_opening::manager(alloc, header)?;
+    let opened = open_with(alloc, header, manager.config(), journals);
+    drop(manager);
+    opened
 }
 
-fn clients(alloc: Global) -> Result<Vec<ClientNode>, Fail> {
-    let header = smallest();
-    let manager = curp_opening::manager(alloc, &header)?;
-    let clients = curp_opening::clients(alloc, &header, manager.config());
-    drop(manager);
-    Ok(clients?)
+fn open_with(
+    alloc: Global,
+    header: &Header,
+    config: &Config,
+    journals: &mut Journals,
+) -> Result<(), NoMemory>
+    requires { config.now ≡ opening_config (shape_of header.now) }
+{
+    let clients = curp_opening::clients(alloc, header, config)?;
+    open(alloc, NodeKind::Client, clients, &mut journals.clients)?;
+    let masters = curp_opening::masters(alloc, header, config)?;
+    open(alloc, NodeKind::Master, masters, &mut journals.masters)
 }
 
-fn masters(alloc: Global) -> Result<Vec<MasterNode>, Fail> {
-    let header = smallest();
-    let manager = curp_opening::manager(alloc, &header)?;
-    let masters = curp_opening::masters(alloc, &header, manager.config());
-    drop(manager);
-    Ok(masters?)
+// Adds an empty journal for each of these nodes, which is one.
+fn open<N: Core + Drop>(
+    alloc: Global,
+    kind: NodeKind,
+    nodes: Vec<N>,
+    journals: &mut Vec<Kept<N>>,
+) -> Result<(), NoMemory> {
+    for node in nodes {
+        journals.push(Kept::begin(alloc, node, NodeId { kind, number: 1 }))?;
+    }
+    Ok(())
+}
+
+// The update that the client sends where it invokes a put of this value.
+fn put(alloc: Global, clients: &mut [Kept<ClientNode>], value: u8) -> Result<Named, Fail> {
+    match clients {
+        [client] => put_by(alloc, client, value),
+        _ => Err(Fail::new("no client")),
+    }
+}
+
+fn put_by(alloc: Global, client: &mut Kept<ClientNode>, value: u8) -> Result<Named, Fail> {
+    if client.ended() {
+        return Err(Fail::new("the client has stopped"));
+    }
+    invoke(alloc, client, value)?;
+    update_of(client)
 }
 
 fn invoke(alloc: Global, client: &mut Kept<ClientNode>, value: u8) -> Result<(), Fail>
@@ -60,19 +120,7 @@ fn invoke(alloc: Global, client: &mut Kept<ClientNode>, value: u8) -> Result<(),
     let put = Command::Put(Key::new(&[0x61])?, Value::new(&[value])?);
     let put = Shared::new(alloc, put)?;
     client.step(Arrived::Local(Local::Invoke(put), 0))?;
-    if client.journal().is_empty() {
-        return Err(Fail::new("the put is refused"));
-    }
     Ok(())
-}
-
-// Client 1, which invoked a put of this value.
-fn putting(alloc: Global, value: u8) -> Result<Kept<ClientNode>, Fail> {
-    let mut client = begun(alloc, NodeId::client(1), clients(alloc)?)?;
-    match invoke(alloc, &mut client, value) {
-        Ok(()) => Ok(client),
-        Err(fail) => Err(fail),
-    }
 }
 
 // The update that a client sent to its master with its first item.
@@ -84,69 +132,28 @@ fn update_of(client: &Kept<ClientNode>) -> Result<Named, Fail> {
     Ok(sent.named.into_iter().next().ok_or("nothing is sent")?)
 }
 
-fn alone<T: Drop>(alloc: Global, item: T) -> Result<Vec<T>, Fail> {
-    let mut items = Vec::with_capacity(alloc, 1)?;
-    items.push(item)?;
-    Ok(items)
-}
-
-fn take(alloc: Global, master: &mut Kept<MasterNode>, update: &Named) -> Result<(), Fail>
-    requires { master.old.ended ≡ false }
-{
-    master.step(Arrived::Message(update.copy(alloc)?))?;
-    Ok(())
-}
-
-// Master 1, which took this update.
-fn master_with(alloc: Global, update: &Named) -> Result<Vec<Kept<MasterNode>>, Fail> {
-    let mut master = begun(alloc, NodeId::master(1), masters(alloc)?)?;
-    match take(alloc, &mut master, update) {
-        Ok(()) => alone(alloc, master),
-        Err(fail) => Err(fail),
+// Gives the master this update.
+fn take(alloc: Global, masters: &mut [Kept<MasterNode>], update: &Named) -> Result<(), Fail> {
+    match masters {
+        [master] => take_by(master, update.copy(alloc)?),
+        _ => Err(Fail::new("no master")),
     }
 }
 
-fn manager(alloc: Global) -> Result<Kept<ManagerNode>, Fail> {
-    let manager = curp_opening::manager(alloc, &smallest())?;
-    Ok(Kept::begin(alloc, manager, NodeId::manager()))
+fn take_by(master: &mut Kept<MasterNode>, update: Named) -> Result<(), Fail> {
+    if master.ended() {
+        return Err(Fail::new("the master has stopped"));
+    }
+    master.step(Arrived::Message(update))?;
+    Ok(())
 }
 
-fn backups(alloc: Global) -> Result<Vec<Kept<BackupNode>>, Fail> {
-    let backups = curp_opening::backups(alloc, 1)?;
-    alone(alloc, begun(alloc, NodeId::backup(1), backups)?)
-}
-
-fn witnesses(alloc: Global) -> Result<Vec<Kept<WitnessNode>>, Fail> {
-    let witnesses = curp_opening::witnesses(alloc, 1, 1, 1)?;
-    alone(alloc, begun(alloc, NodeId::witness(1), witnesses)?)
-}
-
-type Keepers = (Vec<Kept<BackupNode>>, Vec<Kept<WitnessNode>>);
-
-fn keepers(alloc: Global) -> Result<Keepers, Fail> {
-    let backups = backups(alloc)?;
-    Ok((backups, witnesses(alloc)?))
-}
-
-type Others = (Kept<ManagerNode>, Keepers);
-
-fn others(alloc: Global) -> Result<Others, Fail> {
-    let manager = manager(alloc)?;
-    Ok((manager, keepers(alloc)?))
-}
-
-// The journals of the client, and of a master that took this update.
-fn with_update(alloc: Global, client: Kept<ClientNode>, update: &Named) -> Result<Journals, Fail> {
-    let clients = alone(alloc, client)?;
-    let masters = master_with(alloc, update)?;
-    let (manager, (backups, witnesses)) = others(alloc)?;
-    Ok(Journals {
-        manager,
-        clients,
-        masters,
-        backups,
-        witnesses,
-    })
+// The update of a put of this value.
+fn update(alloc: Global, value: u8) -> Result<Named, Fail> {
+    let mut journals = opened(alloc)?;
+    let update = put(alloc, &mut journals.clients, value);
+    drop(journals);
+    update
 }
 
 fn is_same(a: &Named, b: &Named) -> bool {
@@ -155,85 +162,68 @@ fn is_same(a: &Named, b: &Named) -> bool {
         && a.message.same(&b.message)
 }
 
-// Where a mismatch is, the message that was taken, and the one that its sender's journal holds, if there is one.
-type Told = ((NodeId, u64), Named, Option<Named>);
-
-// The mismatch of these journals of the smallest header's nodes.
-fn mismatch_of(alloc: Global, taken: Journals) -> Result<Told, Fail> {
-    let header = smallest();
-    let Some(journals) = anew_at_opening(alloc, &header, taken)? else {
-        return Err(Fail::new("the journals aren't those of nodes"));
-    };
-    let told = mismatch_in(alloc, &header, &journals);
-    drop(journals);
-    told
-}
-
-// The mismatch that gathering tells.
-fn mismatch_in(alloc: Global, header: &Header, journals: &Journals) -> Result<Told, Fail>
-    requires { AreOf header.now journals.now }
-{
-    match gather(alloc, header, journals) {
-        Err(
-            GatherError::Mismatch {
-                node,
-                step,
-                got,
-                kept,
-            },
-        ) => Ok(((node, step), got, kept)),
-        _ => Err(Fail::new("no mismatch")),
+// Whether a mismatch is at the master's first step, with these two updates: the one that was taken, and the one that the
+// client's journal holds.
+fn tells(told: &GatherError, taken: &Named, sent: &Named) -> bool {
+    match told {
+        GatherError::Mismatch {
+            node,
+            step,
+            got,
+            kept: Some(kept),
+        } => {
+            (*node, *step) == (NodeId::master(1), 1) && is_same(got, taken) && is_same(kept, sent)
+        }
+        _ => false,
     }
 }
 
-// The mismatch, where client 1 put one value and its master took this update.
-fn told_of(alloc: Global, client: Kept<ClientNode>, update: &Named) -> Result<Told, Fail> {
-    mismatch_of(alloc, with_update(alloc, client, update)?)
+// Whether gathering these journals tells it.
+fn is_told(alloc: Global, journals: Journals, taken: &Named, sent: &Named) -> Result<bool, Fail> {
+    let header = smallest();
+    match anew_at_opening(alloc, &header, journals)? {
+        Some(journals) => {
+            let is_told = gathering_tells(alloc, &header, &journals, taken, sent);
+            drop(journals);
+            Ok(is_told)
+        }
+        None => Err(Fail::new("the journals aren't those of nodes")),
+    }
 }
 
-fn other_update(alloc: Global) -> Result<Named, Fail> {
-    let client = putting(alloc, 0x32)?;
-    let update = update_of(&client);
-    drop(client);
-    update
-}
-
-// Whether a mismatch is at the master's first step, with these two updates.
-fn is_of(told: &Told, update: &Named, kept_update: &Named) -> bool {
-    let (place, got, kept) = told;
-    let is_kept = match kept {
-        Some(kept) => is_same(kept, kept_update),
-        None => false,
-    };
-    *place == (NodeId::master(1), 1) && is_same(got, update) && is_kept
-}
-
-fn tells(
+fn gathering_tells(
     alloc: Global,
-    client: Kept<ClientNode>,
-    update: &Named,
-    kept_update: &Named,
-) -> Result<bool, Fail> {
-    let told = told_of(alloc, client, update)?;
-    let is_of = is_of(&told, update, kept_update);
-    drop(told);
-    Ok(is_of)
+    header: &Header,
+    journals: &Journals,
+    taken: &Named,
+    sent: &Named,
+) -> bool
+    requires { AreOf header.now journals.now }
+{
+    match gather(alloc, header, journals) {
+        Ok(_) => false,
+        Err(told) => tells(&told, taken, sent),
+    }
 }
 
-// Whether the mismatch tells this update, and the one that the client sent.
-fn is_told(alloc: Global, update: &Named) -> Result<bool, Fail> {
-    let client = putting(alloc, 0x31)?;
-    let kept_update = update_of(&client)?;
-    let tells = tells(alloc, client, update, &kept_update);
-    drop(kept_update);
-    tells
+// Whether it is told that the master took this update where its client sent another one.
+fn tells_both(alloc: Global, taken: &Named) -> Result<bool, Fail> {
+    let mut journals = opened(alloc)?;
+    match puts_and_takes(alloc, &mut journals, taken) {
+        Ok(sent) => is_told(alloc, journals, taken, &sent),
+        Err(fail) => Err(fail),
+    }
+}
+
+// The client puts another value than that of the update that its master takes. The update that it sent.
+fn puts_and_takes(alloc: Global, journals: &mut Journals, taken: &Named) -> Result<Named, Fail> {
+    take(alloc, &mut journals.masters, taken)?;
+    put(alloc, &mut journals.clients, 0x31)
 }
 
 #[test]
 fn a_changed_value_is_told_with_the_kept_one(rt: HostRuntime) -> Result<(), Fail> {
-    let update = other_update(rt.alloc())?;
-    let is_told = is_told(rt.alloc(), &update);
-    drop(update);
-    assert!(rt; is_told?);
+    let taken = update(rt.alloc(), 0x32)?;
+    assert!(rt; tells_both(rt.alloc(), &taken)?);
     Ok(())
 }

@@ -1,25 +1,11 @@
-//! Tests of made scripts, journals, seats, merging, gathering and runs on threads, by the public calls.
+//! Tests of made scripts, of gathering, and of runs on threads, by the public calls.
 #![tactic(auto)]
 
 #[cfg(test)]
-mod gather;
+mod gate;
 #[cfg(test)]
-mod journal;
+mod gather;
 #[cfg(test)]
 mod made;
 #[cfg(test)]
-mod merge;
-#[cfg(test)]
-mod played;
-#[cfg(test)]
-mod read;
-#[cfg(test)]
-mod retries;
-#[cfg(test)]
-mod rooms;
-#[cfg(test)]
 mod run;
-#[cfg(test)]
-mod same;
-#[cfg(test)]
-mod seat;

@@ -1,0 +1,23 @@
+// Long texts, and how a test ends.
+use std::alloc::Global;
+use std::process::Abort;
+
+/// Ends a test in which that doesn't hold of a row.
+pub(crate) fn must_hold(rt: &impl Abort, row: &str, holds: bool) {
+    assert!(rt; holds, "{row}");
+}
+
+pub(crate) fn repeated(rt: &impl Abort, alloc: Global, text: &str, count: usize) -> String {
+    text.repeat(alloc, count).expect(rt, "no memory")
+}
+
+/// The text with that in place of the letter.
+pub(crate) fn filled(
+    rt: &impl Abort,
+    alloc: Global,
+    text: &str,
+    letter: &str,
+    with: &str,
+) -> String {
+    text.replace(alloc, letter, with).expect(rt, "no memory")
+}

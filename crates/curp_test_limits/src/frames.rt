@@ -1,0 +1,49 @@
+//! Frames by calls of which the tests know nothing.
+
+use curp_msg::Message;
+use curp_same::Same;
+use curp_wire::{FrameError, decode, encode, is_light};
+use std::alloc::Global;
+
+/// The frame of a message, if it is light.
+pub(crate) fn frame_of(alloc: Global, message: &Message) -> Option<Vec<u8>> {
+    if !is_light(message) {
+        return None;
+    }
+    encode(alloc, message).ok()
+}
+
+fn read_frame(alloc: Global, bytes: &[u8]) -> Result<(Message, usize), FrameError> {
+    decode(alloc, bytes)
+}
+
+pub(crate) fn is_light_message(message: &Message) -> bool {
+    is_light(message)
+}
+
+fn are_same(one: &Message, other: &Message) -> bool {
+    one.same(other)
+}
+
+/// Whether the bytes begin with the message's frame, of that length.
+pub(crate) fn reads(alloc: Global, bytes: &[u8], message: &Message, length: usize) -> bool {
+    match read_frame(alloc, bytes) {
+        Ok((found, end)) => {
+            let reads = end == length && are_same(&found, message);
+            drop(found);
+            reads
+        }
+        Err(_) => false,
+    }
+}
+
+/// Why the bytes begin with no frame.
+pub(crate) fn fault_of(alloc: Global, bytes: &[u8]) -> Option<FrameError> {
+    match read_frame(alloc, bytes) {
+        Ok((found, _)) => {
+            drop(found);
+            None
+        }
+        Err(why) => Some(why),
+    }
+}

@@ -1,0 +1,11 @@
+//! Tests of clients, of masters that serve and of masters that recover, by their public calls.
+#![tactic(auto)]
+
+#[cfg(test)]
+mod build;
+#[cfg(test)]
+mod client;
+#[cfg(test)]
+mod master;
+#[cfg(test)]
+mod recovery;

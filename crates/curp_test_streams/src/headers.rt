@@ -1,0 +1,93 @@
+// Headers of clients that aren't fast, which no word prints, and a reader that goes on behind lines that it refused.
+ghost use Rattle.curp_msg.specs.Script.{IsHeader};
+
+use curp_script::{Header, LineReader, Protocol, Step, print_header};
+use std::alloc::Global;
+use std::process::Abort;
+
+const FIRST: Header = Header {
+    clients: 2,
+    f: 1,
+    fast: false,
+    parts: 1,
+    protocol: Protocol::One,
+    sets: 16,
+    ways: 4,
+};
+
+const SECOND: Header = Header {
+    clients: 2,
+    f: 1,
+    fast: false,
+    parts: 1,
+    protocol: Protocol::Two,
+    sets: 16,
+    ways: 4,
+};
+
+fn is_read(reader: &mut LineReader, line: &str, header: &Header) -> bool {
+    match reader.parse_header(line.as_bytes()) {
+        Ok(found) => found == *header,
+        Err(_) => false,
+    }
+}
+
+fn is_printed(alloc: Global, header: &Header, line: &str) -> bool
+    requires { IsHeader header.now }
+{
+    match print_header(alloc, header) {
+        Ok(text) => text.as_slice() == line.as_bytes(),
+        Err(_) => false,
+    }
+}
+
+fn try_header(rt: &impl Abort, alloc: Global, header: &Header, line: &str)
+    requires { IsHeader header.now }
+{
+    let mut reader = LineReader::new(alloc);
+    assert!(rt; is_read(&mut reader, line, header), "read: {line}");
+    assert!(rt; is_printed(alloc, header, line), "printed: {line}");
+}
+
+#[test]
+fn headers_that_are_not_fast_are_read_and_printed(rt: HostRuntime) {
+    let line = r#"{"clients":2,"f":1,"fast":false,"parts":1,"protocol":1,"sets":16,"ways":4}"#;
+    try_header(&rt, rt.alloc(), &FIRST, line);
+    let line = r#"{"clients":2,"f":1,"fast":false,"parts":1,"protocol":2,"sets":16,"ways":4}"#;
+    try_header(&rt, rt.alloc(), &SECOND, line);
+}
+
+/// Whether the first message's delivery is read of the line.
+fn is_delivery(reader: &mut LineReader, line: &str) -> bool {
+    match reader.parse_line(line.as_bytes()) {
+        Ok(step) => step == Step::Deliver { message: 1 },
+        Err(_) => false,
+    }
+}
+
+/// A line of a delivery of so many bytes, filled up by blanks.
+fn longest(rt: &impl Abort, alloc: Global) -> String {
+    let blanks = " ".repeat(alloc, 65_512).expect(rt, "no memory");
+    let line = format!(in alloc; "{{{blanks}\"do\":\"deliver\",\"msg\":1}}");
+    line.expect(rt, "no memory")
+}
+
+/// A line with a list of so many levels.
+fn nested(rt: &impl Abort, alloc: Global, levels: usize) -> String {
+    let opens = "[".repeat(alloc, levels).expect(rt, "no memory");
+    let closes = "]".repeat(alloc, levels).expect(rt, "no memory");
+    let line = format!(in alloc; "{{\"do\":\"deliver\",\"msg\":1,\"x\":{opens}{closes}}}");
+    line.expect(rt, "no memory")
+}
+
+// JSON is read up to 127 levels, with that of the line itself.
+#[test]
+fn a_reader_goes_on_behind_lines_that_it_refused(rt: HostRuntime) {
+    let mut reader = LineReader::new(rt.alloc());
+    let line = longest(&rt, rt.alloc());
+    assert!(rt; line.len() == 65_536);
+    assert!(rt; is_delivery(&mut reader, &line));
+    let deep = nested(&rt, rt.alloc(), 127);
+    assert!(rt; !is_delivery(&mut reader, &deep));
+    assert!(rt; is_delivery(&mut reader, &line));
+}
