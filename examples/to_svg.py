@@ -1,17 +1,20 @@
 #!/usr/bin/env python3
 """Draws a script's run as a sequence diagram, from what `curp play` prints for it.
 
-Nodes are columns, and time goes down, a step at a time. An arrow goes from the step that sent a message to the one that
-delivered it; a second delivery is dashed, and a message that is never delivered ends in a cross. A larger cross on a
-node's line is its stop. Requests stand beside their client, where they are invoked and where they complete.
+Nodes are columns, and time goes down, a step at a time. Witnesses stand on the other side of the clients than masters, so
+that no message between a client and a witness crosses a master. An arrow goes from the step that sent a message to the one
+that delivered it; a second delivery is dashed, and a message that is never delivered ends in a cross. A larger cross on a
+node's line is its stop. What a client asks and is answered stands in the margin, beside a point on the client's line.
 
-    examples/to_svg.py                  draws the pictures of docs/pictures, from the examples of this folder
+    examples/to_svg.py                  draws the pictures of docs/pictures, from the examples of this folder, and those that
+                                        docs/pictures/diagrams.py draws
     examples/to_svg.py --check          writes nothing, names the pictures that aren't what it would draw, and ends with 1
                                         if there are any
     examples/to_svg.py SCRIPT OUTPUT    draws that script and its output to standard output
 """
 
 import json
+import math
 import re
 import sys
 from dataclasses import dataclass, field
@@ -21,8 +24,11 @@ from pathlib import Path
 EXAMPLES = Path(__file__).resolve().parent
 PICTURES = EXAMPLES.parent / "docs" / "pictures"
 DRAWN = ["one-put", "read-in-one-round-trip", "conflict", "recovery-replays"]
-KINDS = "CMBWG"
-COLUMN, LEFT, TOP, STEP, LINE = 150, 130, 50, 30, 15
+KINDS = "WCMBG"
+COLUMN, LEFT, TOP, STEP, LINE = 170, 150, 50, 30, 15
+sys.path.insert(0, str(PICTURES))
+sys.dont_write_bytecode = True
+import diagrams  # noqa: E402
 
 
 @dataclass
@@ -68,8 +74,14 @@ def columns_of(steps):
     names = {name for step in steps for message in step.sent for name in (message.source, message.target)}
     names |= {f"C{step.order['client']}" for step in steps if step.order["do"] in ("invoke", "retry", "fetch")}
     names |= {step.order["node"] for step in steps if step.order["do"] == "stop"}
-    ordered = sorted(names, key=lambda name: (KINDS.index(name[0]), int(name[1:] or 0)))
+    ordered = sorted(names, key=place_of)
     return {name: LEFT + COLUMN // 2 + COLUMN * place for place, name in enumerate(ordered)}
+
+
+def place_of(name):
+    """Where a node stands among the columns: the first witness is the one beside the clients."""
+    number = int(name[1:] or 0)
+    return KINDS.index(name[0]), -number if name[0] == "W" else number
 
 
 def place_all(steps):
@@ -105,11 +117,25 @@ def label_of(message):
     return f"m{message.number} {message.words[0]} {request}{early}".replace("  ", " ").strip()
 
 
-def arrow(message, columns, start, end, again):
-    """A message on its way, with its label where it arrives."""
+def arrow(message, columns, start, end, again, labels):
+    """A message on its way, with its label along it: at its end, or where no other label is."""
     source, target = columns[message.source], columns[message.target]
     side = 1 if source < target else -1
-    label = text(target - 12 * side, end - 5, label_of(message), "end" if side > 0 else "start")
+    words = label_of(message)
+    length, width = math.hypot(target - source, end - start), 6.5 * len(words)
+    across, down = (target - source) / length, (end - start) / length
+
+    def covered(behind):
+        return [(target - across * (behind + at), end - down * (behind + at)) for at in range(0, int(width), 6)]
+
+    def room(behind):
+        return min((math.dist(mine, other) for mine in covered(behind) for other in labels), default=math.inf)
+
+    behind = 14 if room(14) > 14 else max(14, length - width - 6, key=room)
+    labels += covered(behind)
+    slope = round(math.degrees(math.atan2(end - start, abs(target - source))) * side, 1)
+    label = text(round(-behind * side, 1), -4, words, "end" if side > 0 else "start")
+    label = f'<g transform="translate({target},{end}) rotate({slope})">{label}</g>'
     return [line(source, start, target - 3 * side, end, "again" if again else "way", "head"), label]
 
 
@@ -122,12 +148,13 @@ def lost(message, columns, start):
     return [line(source, start, stop, start + 9, "again"), cross(stop, start + 9, 4, "lost"), label]
 
 
-def invoked(step, number):
-    """What a client's own step is about."""
-    order = step.order
+def asked(order, number):
+    """What a client's own step is about. A value that a command expects to be absent is a hyphen, as `play` prints it."""
     if order["do"] == "invoke":
-        return f"{order['client']}.{number} {' '.join(str(word) for word in order['cmd'])}"
-    return f"{order['do']} {order.get('seq', '')}".strip()
+        return f"{order['client']}.{number} {' '.join('-' if word is None else word for word in order['cmd'])}"
+    if order["do"] == "retry":
+        return f"retry {order['client']}.{order['seq']}"
+    return f"{order['do']} C{order['client']}"
 
 
 def life_lines(steps, columns, height):
@@ -143,29 +170,31 @@ def life_lines(steps, columns, height):
 
 
 def own_marks(steps, columns):
-    """What each step says of itself, in the margin and beside the clients."""
+    """What each step says of itself, in the margin, and the points on the clients' lines."""
     parts, numbers = [], {}
     for place, step in enumerate(steps, 1):
-        order = step.order
-        about = "" if order["do"] in ("deliver", "invoke") else f" {order['do']}"
-        refused = "" if step.outcome == "done" else f" {step.outcome}"
-        parts.append(text(10, step.top + 4, f"s{place}{about}{refused}", kind="step" if not refused else "refused"))
+        order, y = step.order, step.top + 4
+        parts.append(text(10, y, f"s{place}", kind="step"))
         if order["do"] in ("invoke", "retry", "fetch"):
             client = order["client"]
             numbers[client] = numbers.get(client, 0) + (order["do"] == "invoke")
-            x = columns[f"C{client}"]
-            parts += [f'<circle cx="{x}" cy="{step.top}" r="4" class="dot"/>']
-            parts += [text(x - 8, step.top + 4, invoked(step, numbers[client]), "end", "request")]
+            parts.append(f'<circle cx="{columns[f"C{client}"]}" cy="{step.top}" r="4" class="dot"/>')
+            about = asked(order, numbers[client])
+        elif order["do"] == "stop":
+            about = f"stop {order['node']}"
+        else:
+            about = "" if order["do"] == "deliver" else order["do"]
         for request, answer in step.completed:
-            x = columns[f"C{request.split('.')[0]}"]
-            parts += [f'<circle cx="{x}" cy="{step.top}" r="5" class="done"/>']
-            parts += [text(x - 8, step.top + 4, f"{request}: {answer}", "end", "request")]
+            parts.append(f'<circle cx="{columns["C" + request.split(".")[0]]}" cy="{step.top}" r="5" class="done"/>')
+            about = f"{request}: {answer}"
+        refused = "" if step.outcome == "done" else f" {step.outcome}"
+        parts.append(text(42, y, about + refused, kind="refused" if refused else "request"))
     return parts
 
 
 def arrows(steps, columns):
     """All messages, each from the step that sent it to those that delivered it. Labels come last: no line crosses them."""
-    parts = []
+    parts, labels = [], []
     arrivals = {}
     for step in steps:
         if step.order["do"] == "deliver" and step.outcome == "done":
@@ -175,10 +204,10 @@ def arrows(steps, columns):
             start = step.top + place * LINE
             ends = arrivals.get(message.number, [])
             for again, end in enumerate(ends):
-                parts += arrow(message, columns, start, end, again > 0)
+                parts += arrow(message, columns, start, end, again > 0, labels)
             if not ends:
                 parts += lost(message, columns, start)
-    return sorted(parts, key=lambda part: part.startswith("<text"))
+    return sorted(parts, key=lambda part: part.startswith(("<text", "<g")))
 
 
 STYLE = """
@@ -216,8 +245,11 @@ def main():
     if words not in ([], ["--check"]):
         sys.exit(__doc__)
     stale = False
-    for name in DRAWN:
-        made = picture(*((EXAMPLES / f"{name}{end}").read_text(encoding="utf-8") for end in (".script", ".out")))
+    drawn = {
+        name: picture(*((EXAMPLES / f"{name}{end}").read_text(encoding="utf-8") for end in (".script", ".out")))
+        for name in DRAWN
+    }
+    for name, made in {**drawn, **diagrams.drawn()}.items():
         file = PICTURES / f"{name}.svg"
         if file.exists() and file.read_text(encoding="utf-8") == made:
             continue

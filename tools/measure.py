@@ -247,20 +247,26 @@ def above(number):
 
 
 def plot(name, title, across, up, lines, names=None):
-    """Draws lines of points, each with its name, and writes the picture. The places across have numbers, or names."""
+    """Draws lines of points, each with its name, and writes the picture. The axis across goes from the first point to the
+    last, and tells where points are, or their names."""
     width, height, left, top, right, bottom = 640, 360, 70, 40, 150, 50
     points = [point for _, line in lines for point in line]
-    most_x, most_y = max(x for x, _ in points), above(max(y for _, y in points))
-    place = lambda x, y: (left + x / most_x * (width - left - right), height - bottom - y / most_y * (height - top - bottom))
+    least_x, most_x, most_y = min(x for x, _ in points), max(x for x, _ in points), above(max(y for _, y in points))
+    across_all, up_all = (width - left - right) / (most_x - least_x), (height - top - bottom) / most_y
+    place = lambda x, y: (left + (x - least_x) * across_all, height - bottom - y * up_all)
     style = "text { font: 12px sans-serif; fill: #222 } .axis { stroke: #888 } .grid { stroke: #ddd }"
     parts = [f'<svg xmlns="http://www.w3.org/2000/svg" width="{width}" height="{height}" viewBox="0 0 {width} {height}">']
     parts += [f"<style>{style}</style>", f'<rect width="{width}" height="{height}" fill="#fff"/>']
     parts.append(f'<text x="{left}" y="22" font-weight="bold">{escape(title)}</text>')
-    for x, told in enumerate(names) if names else ((most_x * tick / 4, f"{most_x * tick / 4:g}") for tick in range(5)):
-        parts.append(f'<text x="{place(x, 0)[0]:.1f}" y="{height - bottom + 18}" text-anchor="middle">{told}</text>')
+    free = 0
+    for x, told in enumerate(names) if names else ((x, x) for x in sorted({x for x, _ in points})):
+        px = place(x, 0)[0]
+        if px >= free:
+            parts.append(f'<text x="{px:.1f}" y="{height - bottom + 18}" text-anchor="middle">{told}</text>')
+            free = px + 50
     for tick in range(6):
         y = most_y * tick / 5
-        py = place(0, y)[1]
+        py = place(least_x, y)[1]
         parts.append(f'<line x1="{left}" y1="{py:.1f}" x2="{width - right}" y2="{py:.1f}" class="grid"/>')
         parts.append(f'<text x="{left - 8}" y="{py + 4:.1f}" text-anchor="end">{y:g}</text>')
     parts.append(f'<text x="{(left + width - right) / 2}" y="{height - 10}" text-anchor="middle">{escape(across)}</text>')

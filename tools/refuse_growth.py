@@ -9,16 +9,20 @@ with status 6 (out of memory), with a front of the row's output; where a refusal
 in the C library itself), with the row's own status and output; words that are no command line may end with their own
 status and lines, but the one on which word is wrong. Runs on threads differ: each has to end within a minute, with
 status 6 and a front of a script and of what playing it writes, or well, with a whole one; there each call is refused up
-to the last that ended a run and a thousand more. It prints a table, and ends with 1 where a run did anything else.
+to the last that ended a run and a thousand more. It prints a line for each row, writes the table of docs/TESTING.md, and
+ends with 1, and writes no table, where a run did anything else.
 """
 
 import os
 import subprocess
 import sys
 import tempfile
+import time
 from pathlib import Path
 
 TOP = Path(__file__).resolve().parent.parent
+PAGE = TOP / "docs" / "TESTING.md"
+BEGINS, ENDS = "<!-- refused growths: written by tools/refuse_growth.py -->", "<!-- end of refused growths -->"
 
 SHIM = r"""
 #define _GNU_SOURCE
@@ -99,7 +103,7 @@ def run(curp, words, script, library, call):
 
 
 def look_at(name, curp, words, script, library):
-    """Refuses each call in turn until none is left, and tells what came of it."""
+    """Refuses each call in turn until none is left, and gives the row of what came of it, where nothing else did."""
     status, whole, told = run(curp, words, script, library, 0)
     # Where no memory was left to find which word is wrong, the line on it is left out.
     errors = {told, told.split(b"\n", 1)[-1]} if status == 2 else {told}
@@ -118,10 +122,15 @@ def look_at(name, curp, words, script, library):
         if is_whole and call > 2 * last + 64:
             break
     told = ", ".join(f"{status}: {count}" for status, count in sorted(statuses.items()))
-    print(f"| {name} | {call} | {refused} | {told} |", flush=True)
+    return told_of(name, call, refused, told, faults)
+
+
+def told_of(name, calls, refused, told, faults):
+    """Prints what came of a row, and gives its line of the table, if it has no fault."""
+    print(f"{name}: {calls} calls, {refused} runs ended by it; {told}", flush=True)
     for call, ended, err in faults[:10]:
         print(f"  call {call}: status {ended}, {err!r}")
-    return not faults
+    return None if faults else f"| {name} | {calls:,} | {refused:,} | {calls - refused:,} |"
 
 
 def is_front_of_run(curp, out, is_whole):
@@ -135,7 +144,7 @@ def is_front_of_run(curp, out, is_whole):
 
 
 def look_at_threads(name, curp, words, library):
-    """Refuses calls of runs on threads until a run makes no call of the number, and tells what came of it."""
+    """The same of runs on threads, until a run makes no call of the number."""
     refused = call = last = 0
     statuses, faults = {}, []
     while call < MOST and call < last + BEHIND:
@@ -153,29 +162,35 @@ def look_at_threads(name, curp, words, library):
             faults.append((call, ended, err))
             last = call
     told = ", ".join(f"{status}: {count}" for status, count in sorted(statuses.items(), key=str))
-    print(f"| {name} | {call} | {refused} | {told} |", flush=True)
-    for call, ended, err in faults[:10]:
-        print(f"  call {call}: status {ended}, {err!r}")
-    return not faults
+    return told_of(name, call, refused, told, faults)
+
+
+def write(rows):
+    """Writes the table to the page."""
+    page = PAGE.read_text(encoding="utf-8")
+    before, behind = page.split(BEGINS)[0], page.split(ENDS)[1]
+    head = ["| row | calls refused, one a run | ended by it | ended as the run that is refused nothing |", "|---|---|---|---|"]
+    lines = [BEGINS, f"Of the run of {time.strftime('%d %B %Y')}:", "", *head, *rows, ENDS]
+    PAGE.write_text(before + "\n".join(lines) + behind, encoding="utf-8")
 
 
 def main():
     if len(sys.argv) != 2:
         sys.exit(__doc__)
     curp = os.path.abspath(sys.argv[1])
-    print("| row | calls refused | ended by it, with a front of the output | statuses |")
-    print("|---|---|---|---|")
+    rows = []
     with tempfile.TemporaryDirectory() as folder:
         library = shim_in(Path(folder))
-        good = True
         for name in PLAYED:
             script = (TOP / "examples" / f"{name}.script").read_bytes()
-            good &= look_at(name, curp, ["play"], script, library)
+            rows.append(look_at(f"`{name}`", curp, ["play"], script, library))
         for name, (words, script) in OTHERS.items():
-            good &= look_at(name, curp, words, script, library)
+            rows.append(look_at(name, curp, words, script, library))
         for name, words in ON_THREADS.items():
-            good &= look_at_threads(name, curp, words, library)
-    sys.exit(0 if good else 1)
+            rows.append(look_at_threads(name, curp, words, library))
+    if None in rows:
+        sys.exit(1)
+    write(rows)
 
 
 if __name__ == "__main__":
