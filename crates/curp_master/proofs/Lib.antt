@@ -1,7 +1,5 @@
-pub mod Beside
 pub mod Collections
 pub mod Ends
-pub mod Known
 pub mod Packed
 pub mod Settled
 pub mod Suffixes

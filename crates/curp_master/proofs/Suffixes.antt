@@ -8,13 +8,6 @@ use Rattle.curp_msg.specs.Moved.{says}
 use Rattle.curp_msg.specs.declared.body.Body.TheVariants as body
 use Rattle.curp_master.specs.Rounds.{append_from, at_round}
 
--- what is left of two lists put together
-pub drop_both : {A : Type 0} (n : ℕ) (xs ys : List A) → drop n (xs ++ ys) ≡ drop n xs ++ drop (n - length xs) ys
-drop_both zero [] ys = refl
-drop_both zero (x ∷ xs) ys = let none : 0 - length (x ∷ xs) ≡ 0 = omega arith in rw none refl
-drop_both (suc n) [] ys = let same : suc n - 0 ≡ suc n = omega arith in rw same refl
-drop_both (suc n) (x ∷ xs) ys = let same : suc n - length (x ∷ xs) ≡ n - length xs = omega arith in rw same (drop_both n xs ys)
-
 drop_none : {A : Type 0} (n : ℕ) (xs : List A) → xs ≡ [] → drop n xs ≡ []
 drop_none zero xs none = none
 drop_none (suc n) xs none = rw none refl

@@ -1,9 +1,7 @@
 pub mod Built
-pub mod MasterLog
 pub mod Moving
 pub mod Rounds
 pub mod Settling
 pub mod Shells
-pub mod Suspects
 pub mod Switching
 pub mod Updates

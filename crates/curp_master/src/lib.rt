@@ -13,15 +13,12 @@
 //!   log's length of then and the round that was begun for it. All that a read costs is that round, and a look at those
 //!   that wait for each answer of a backup. One that asks for an answer at once gets it where no entry that isn't synced
 //!   touches its key, and costs no round; else it waits as any other.
-//! - `MasterLog` is the log with its tail and the free ops. The tail begins empty, since each backup has the log that a
-//!   master begins with; a list without backups, which no header has, would leave entries before the tail, and these
-//!   are read from the log and looked at themselves (`untold`). What waits for collection is a `Queue`. All memory of an input is taken
-//!   before anything changes.
+//! - Its log is a `MasterLog`, and what waits for collection is a `Queue`. All memory of an input is taken before
+//!   anything changes.
 #![tactic(auto)]
 
 mod collecting;
 mod master;
-mod master_log;
 mod moving;
 mod reads;
 mod replies;
@@ -31,7 +28,6 @@ mod settling;
 mod shell;
 mod suspects;
 mod switching;
-mod untold;
 mod updates;
 
 pub use curp_rounds::Captured;

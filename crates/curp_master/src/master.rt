@@ -5,15 +5,15 @@ ghost use Rattle.curp_model.specs.Master as master;
 ghost use Rattle.curp_model.specs.Master.{beginning, on_serving, serving_ordered};
 ghost use Rattle.curp_msg.specs.Moved.{Moves, numbered_move};
 
-use crate::master_log::MasterLog;
 use crate::shell::Shell;
 use curp_base::NoMemory;
 use curp_cmd::{Command, NodeId};
 use curp_collect::Queue;
 use curp_log::Log;
+use curp_master_log::MasterLog;
 use curp_model::Wish;
 use curp_msg::{Body, Done, Local, Message};
-use curp_rounds::acknowledged::{Acknowledged, least_length, set_all};
+use curp_rounds::acknowledged::{Acknowledged, all_at, least_length, set_all};
 use curp_rounds::{Captured, Captures, Indexes, Phase};
 use std::alloc::Global;
 use std::marker::Model;
@@ -114,7 +114,17 @@ impl Master {
           witnesses = witnesses.items;
         }) }
     {
-        Shell::new(alloc, number, part, epoch, version, backups, witnesses)
+        let acknowledged = all_at(alloc, &backups, 0, 0)?;
+        Ok(Shell {
+            alloc,
+            number,
+            part,
+            epoch,
+            version,
+            backups,
+            witnesses,
+            acknowledged,
+        })
     }
 
     /// It serves with a log that every backup of its list holds, as of that round. It takes no memory.

@@ -135,10 +135,10 @@ impl Master {
         ensures moves { Moves self.old self.new result
             (move_of self.old (pushes self.old.number self.old.state entry)) }
     {
-        self.master_log.reserve(room(&entry))?;
         let Some(round) = self.next_round(from_ref(&entry))? else {
             return Ok(Done::quiet(self.alloc));
         };
+        self.master_log.reserve(room(&entry))?;
         self.master_log.push(entry, false);
         self.round = round.number;
         Ok(Done::sends(round.appends))

@@ -83,11 +83,11 @@ impl Master {
         let Some(number) = self.captures.count().checked_add(1) else {
             return Ok(Done::quiet(self.alloc));
         };
-        let shared = request.share()?;
-        self.captures.reserve()?;
         let Some(round) = self.next_round(&[])? else {
             return Ok(Done::quiet(self.alloc));
         };
+        let shared = request.share()?;
+        self.captures.reserve()?;
         let captured = Captured::new(
             number,
             shared,

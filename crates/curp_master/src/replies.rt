@@ -1,13 +1,13 @@
-ghost use Rattle.std.specs.Prelude.{◌≡◌, ◌≤◌, ◌∷◌, [], IfOk, vec_capacity};
+ghost use Rattle.std.specs.Prelude.{◌≡◌, ◌∷◌, [], IfOk};
 ghost use Rattle.curp_model.specs.Master.{reply};
 ghost use Rattle.curp_msg.specs.Moved.{done_of, sends};
 
 use crate::Master;
 use curp_base::{Boxed, NoMemory};
 use curp_cmd::{Answer, RequestId};
+use curp_master_log::only;
 use curp_msg::{Done, Message, Reply};
 use curp_rounds::messages;
-use std::alloc::Global;
 
 impl Master {
     /// A reply to the client of a request, and nothing else.
@@ -28,7 +28,7 @@ impl Master {
     pub(crate) fn tell(&self, message: Message) -> Result<Done, NoMemory>
         ensures { IfOk result (λ done. done ≡ done_of (sends self.now.state (message ∷ []))) }
     {
-        Ok(Done::sends(vec![in self.alloc; message]?))
+        Ok(Done::sends(only(self.alloc, message)?))
     }
 
     /// A reply bears the master's own epoch, and the version of its lists.
@@ -55,16 +55,4 @@ impl Master {
             answer: *answer,
         }
     }
-}
-
-/// Memory for a reply, which holds that one for now, and for the list of it alone.
-pub(crate) fn reply_room(
-    alloc: Global,
-    reply: Reply,
-) -> Result<(Boxed<Reply>, Vec<Message>), NoMemory>
-    ensures { IfOk result (λ room. (room.1.items ≡ []) × (1 ≤ vec_capacity room.1)) }
-{
-    let reply = Boxed::new(alloc, reply)?;
-    let sent = Vec::with_capacity(alloc, 1)?;
-    Ok((reply, sent))
 }

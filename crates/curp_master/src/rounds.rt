@@ -1,4 +1,4 @@
-ghost use Rattle.std.specs.Prelude.{◌≡◌, ◌≤◌, ◌++◌, drop, IfOk};
+ghost use Rattle.std.specs.Prelude.{◌≡◌, ◌≤◌, IfOk};
 ghost use Rattle.curp_model.specs.Master.{appends, begins_round, from_backup};
 ghost use Rattle.curp_msg.specs.Moved.{Moves};
 ghost use Rattle.curp_master.specs.Built.{move_of};
@@ -8,11 +8,10 @@ ghost use Rattle.curp_master.specs.Rounds.{IsNextRound, append_from, at_round, i
 use crate::{Master, Round};
 use curp_base::{Items, NoMemory, copies_of, past};
 use curp_cmd::{Entry, NodeId};
-use curp_log::Log;
+use curp_master_log::suffix_with;
 use curp_msg::{Append, Done, Message};
 use curp_rounds::acknowledged::{least_length, length_from};
 use curp_rounds::{Phase, messages};
-use std::alloc::Global;
 
 impl Master {
     /// A round begins.
@@ -91,15 +90,4 @@ impl Master {
             },
         ))
     }
-}
-
-// What stands in the log from a base on, with more entries behind it.
-fn suffix_with(alloc: Global, log: &Log, base: u64, more: &[Entry]) -> Result<Vec<Entry>, NoMemory>
-    ensures { IfOk result (λ entries. entries.items ≡ drop base (log.now.entries ++ more.now)) }
-{
-    let mut entries = log.suffix(base)?;
-    let beyond = base.saturating_sub(log.len());
-    let mut rest = copies_of(alloc, past(more, beyond))?;
-    entries.append(&mut rest)?;
-    Ok(entries)
 }

@@ -7,6 +7,7 @@ ghost use Rattle.curp_master.specs.Settling.{acknowledging, listing, prepares_in
 use crate::Master;
 use curp_base::{Boxed, NoMemory};
 use curp_cmd::NodeId;
+use curp_master_log::only;
 use curp_msg::{AppendAnswer, Appended, Done, Message};
 use curp_rounds::acknowledged::{Acknowledged, least_length, raised};
 use curp_rounds::messages;
@@ -55,7 +56,7 @@ impl Master {
                 Ok(Done::quiet(self.alloc))
             }
             Some(version) => {
-                let sent = vec![in self.alloc; messages::prepared(self.number, version)]?;
+                let sent = only(self.alloc, messages::prepared(self.number, version))?;
                 self.acknowledge(acknowledged);
                 self.phase.note_prepared();
                 Ok(Done::sends(sent))

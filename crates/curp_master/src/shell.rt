@@ -1,8 +1,5 @@
-ghost use Rattle.std.specs.Prelude.{◌≡◌, IfOk};
-
-use curp_base::NoMemory;
 use curp_cmd::NodeId;
-use curp_rounds::acknowledged::{Acknowledged, all_at};
+use curp_rounds::acknowledged::Acknowledged;
 use std::alloc::Global;
 use std::marker::Model;
 
@@ -36,37 +33,4 @@ impl Model for Shell {
     } };
 
     ghost invariant = { λ s. s.acknowledged.items ≡ all_at s.backups.items 0 0 };
-}
-
-impl Shell {
-    pub(crate) fn new(
-        alloc: Global,
-        number: u32,
-        part: u32,
-        epoch: u32,
-        version: u32,
-        backups: Vec<NodeId>,
-        witnesses: Vec<NodeId>,
-    ) -> Result<Shell, NoMemory>
-        ensures { IfOk result (λ shell. shell ≡ record {
-          number = number;
-          part = part;
-          epoch = epoch;
-          version = version;
-          backups = backups.items;
-          witnesses = witnesses.items;
-        }) }
-    {
-        let acknowledged = all_at(alloc, &backups, 0, 0)?;
-        Ok(Shell {
-            alloc,
-            number,
-            part,
-            epoch,
-            version,
-            backups,
-            witnesses,
-            acknowledged,
-        })
-    }
 }

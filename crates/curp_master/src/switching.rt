@@ -8,6 +8,7 @@ ghost use Rattle.curp_master.specs.Switching.{IsSettledNext, next_lists, rounds_
 
 use crate::Master;
 use curp_base::NoMemory;
+use curp_master_log::in_front;
 use curp_msg::{Done, Message, Prepare};
 use curp_rounds::acknowledged::least_length;
 use curp_rounds::{Phase, Switch, messages};
@@ -32,9 +33,10 @@ impl Master {
         let Some(round) = self.next_round(&[])? else {
             return Ok(Done::quiet(self.alloc));
         };
-        let round = round.behind(self.alloc, messages::prepared(self.number, version))?;
+        let told = messages::prepared(self.number, version);
+        let sent = in_front(self.alloc, told, round.appends)?;
         self.round = round.number;
-        Ok(Done::sends(round.appends))
+        Ok(Done::sends(sent))
     }
 
     /// The manager gives it new lists.

@@ -1,5 +1,4 @@
 ghost use Rattle.std.specs.Prelude.{◌≡◌, ◌≢◌, ◌∷◌, [], true, IfOk};
-ghost use Rattle.curp_cmd.specs.Entry.{room_of};
 ghost use Rattle.curp_cmd.specs.declared.entry.Entry.TheVariants.{Op};
 ghost use Rattle.curp_model.specs.declared.Check.TheVariants.{New};
 ghost use Rattle.curp_model.specs.Master.{carries_out, executes, holds_back, is_clean, known_at, on_update};
@@ -7,15 +6,14 @@ ghost use Rattle.curp_model.specs.Master.{state_of, verdict};
 ghost use Rattle.curp_model.specs.Table.{check};
 ghost use Rattle.curp_msg.specs.Moved.{Moves};
 ghost use Rattle.curp_master.specs.Built.{move_of};
-ghost use Rattle.curp_master.specs.MasterLog.{CanPush};
 ghost use Rattle.curp_master.specs.Rounds.{IsNextRound};
 ghost use Rattle.curp_master.specs.Updates.{new_verdict, pushes_held};
+ghost use Rattle.curp_master_log.specs.MasterLog.{CanPush};
 
-use crate::master_log::op_of;
-use crate::replies::reply_room;
 use crate::{Master, Round};
 use curp_base::{NoMemory, Shared};
-use curp_cmd::{Answer, Request, pairs_put};
+use curp_cmd::{Answer, Request};
+use curp_master_log::{op_of, op_room, reply_room};
 use curp_model::{Check, Verdict, Wish};
 use curp_msg::{Ask, Done, Refusal};
 use curp_rounds::messages;
@@ -127,10 +125,10 @@ impl Master {
     {
         // All room is taken before anything changes.
         let shared = request.share()?;
-        self.queue.reserve(1)?;
-        self.master_log.reserve(op_room(request))?;
         let unanswered = self.reply_to(self.version, false, request.id, &Answer::Done);
         let (mut reply, mut sent) = reply_room(self.alloc, unanswered)?;
+        self.queue.reserve(1)?;
+        self.master_log.reserve(op_room(request))?;
         let answer = self.master_log.push_op(shared, true);
         self.queue.add(request.id, self.master_log.log().len());
         reply.set(self.reply_to(self.version, false, request.id, &answer));
@@ -144,15 +142,15 @@ impl Master {
         ensures moves { Moves self.old self.new result
             (move_of self.old (pushes_held self.old.number self.old.state request.now is_free)) }
     {
-        let shared = request.share()?;
         self.held.reserve(1)?;
         self.queue.reserve(1)?;
         self.master_log.reserve(op_room(request))?;
         let Some(round) = self.round_with_op(request)? else {
             return Ok(Done::quiet(self.alloc));
         };
+        let entry = op_of(request.share()?);
         let index = self.master_log.log().len();
-        self.master_log.push(op_of(shared), is_free);
+        self.master_log.push(entry, is_free);
         self.queue.add(request.id, index + 1);
         self.held.insert(index);
         self.round = round.number;
@@ -174,19 +172,12 @@ impl Master {
         ensures moves { Moves self.old self.new result
             (move_of self.old (holds_back self.old.number self.old.state index)) }
     {
-        self.held.reserve(1)?;
         let Some(round) = self.next_round(&[])? else {
             return Ok(Done::quiet(self.alloc));
         };
+        self.held.reserve(1)?;
         self.held.insert(index);
         self.round = round.number;
         Ok(Done::sends(round.appends))
     }
-}
-
-// What an Op of the request takes of a log's room.
-fn op_room(request: &Request) -> u64
-    ensures { result ≡ room_of (Op request.now request.now.first) }
-{
-    pairs_put(&request.command).saturating_add(1)
 }

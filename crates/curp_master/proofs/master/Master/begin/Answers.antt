@@ -1,6 +1,6 @@
 use Rattle.std.proofs.Common.{◌≡◌, List, [], length, ap, ◌∙◌}
 use Rattle.curp_model.specs.Master.{Acknowledged, Open}
-use Rattle.curp_master.specs.MasterLog.{kept_log_of}
+use Rattle.curp_master_log.specs.MasterLog.{kept_log_of}
 use Rattle.curp_rounds.specs.Backups.{all_at, all_set}
 use Rattle.curp_rounds.proofs.Acks.{set_at}
 use Rattle.curp_master.proofs.master.Master.begin.Goals as goal

@@ -1,7 +1,7 @@
 use Rattle.std.proofs.Common.{ap, sym, ◌∙◌}
 use Rattle.curp_model.specs.Master.{MasterState, treat}
 use Rattle.curp_msg.specs.Moved.{Node}
-use Rattle.curp_master.specs.Suspects.{keeping}
+use Rattle.curp_master_log.specs.Suspects.{keeping}
 use Rattle.curp_master.specs.contracts.master.Master.{the_view}
 use Rattle.curp_master.proofs.master.Master.take_in.Goals as goal
 

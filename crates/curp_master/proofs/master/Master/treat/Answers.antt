@@ -4,7 +4,7 @@ use Rattle.curp_cmd.specs.declared.entry.Entry.{Entry}
 use Rattle.curp_model.specs.Master.{MasterState, appends, last_round, treat}
 use Rattle.curp_msg.specs.Moved.{Node}
 use Rattle.curp_master.specs.Rounds.{IsNextRound, IsRound, at_round}
-use Rattle.curp_master.specs.Suspects.{news}
+use Rattle.curp_master_log.specs.Suspects.{news}
 use Rattle.curp_master.proofs.Suspected.{none_pushed, round_begins, round_ends}
 use Rattle.curp_master.proofs.master.Master.treat.Goals as goal
 

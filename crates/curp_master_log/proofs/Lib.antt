@@ -1,0 +1,4 @@
+pub mod Beside
+pub mod Known
+pub mod Suffixes
+pub mod Suspected

@@ -1,0 +1,2 @@
+pub mod MasterLog
+pub mod Suspects
