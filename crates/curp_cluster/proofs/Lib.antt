@@ -1,4 +1,3 @@
-pub mod BatchLaws
 pub mod ByKind
 pub mod Giving
 pub mod Grown
@@ -9,5 +8,4 @@ pub mod Seen
 pub mod Stepping
 pub mod Keeping
 pub mod Marking
-pub mod Inserting
 pub mod Ops

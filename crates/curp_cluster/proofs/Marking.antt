@@ -5,8 +5,7 @@ use Rattle.curp_base.specs.Words.{Each, numbered}
 use Rattle.curp_base.proofs.Lists.{at_set_same}
 use Rattle.curp_cmd.specs.Node.{master_node}
 use Rattle.curp_cmd.specs.declared.command.Request.{Request}
-use Rattle.curp_cmd.specs.declared.entry.Entry.{Entry}
-use Rattle.curp_cmd.specs.declared.entry.Entry.TheVariants.{Op, Take, Give, Expire}
+use Rattle.curp_cmd.specs.declared.entry.Entry.TheVariants.{Op}
 use Rattle.curp_cmd.specs.declared.node.NodeId.{NodeId}
 use Rattle.curp_cmd.specs.declared.node.NodeKind.{NodeKind}
 use Rattle.curp_cmd.specs.declared.node.NodeKind.TheVariants as kind
@@ -17,7 +16,7 @@ use Rattle.curp_model.specs.Marks.{Mark, with_quick}
 use Rattle.curp_model.specs.Master.{Captured, MasterState}
 use Rattle.curp_model.specs.Recovery.{Fresh, MasterStage, Recovering, Replayed, Serving, master_input}
 use Rattle.curp_model.specs.Witness.{WitnessState, witness_input}
-use Rattle.curp_model.specs.World.{World, glance_in, is_adopted, marks_adopted, marks_after, master_marks, moves_kind, moves_one, new_captures, op_requests, quick_mark, replayed_in, with_adoption, with_backup, with_client, with_glance, with_master, with_witness}
+use Rattle.curp_model.specs.World.{World, glance_in, is_adopted, marks_adopted, marks_after, master_marks, moves_kind, moves_one, new_captures, quick_mark, replayed_in, with_adoption, with_backup, with_client, with_glance, with_master, with_witness}
 use Rattle.curp_msg.specs.Moved.{within}
 use Rattle.curp_msg.specs.declared.body.Body.{Body}
 use Rattle.curp_msg.specs.declared.body.Body.TheVariants as body
@@ -324,14 +323,6 @@ answered_more f m answers = go (nat_lt f.captured m.captured) refl answers
 
 pub last_is_new : (captured : ℕ) (m : MasterState) (new : IsLastNew captured m) → new_captures captured m.captures ≡ new.1 ∷ []
 last_is_new captured m new = rw new.2 (last_new new.0 new.1 captured new.3 new.4)
-
--- no more requests than entries
-pub ops_fit : (es : List Entry) → length (op_requests es) ≤ length es
-ops_fit [] = omega arith
-ops_fit (Op r acknowledged ∷ es) = omega (arith, ops_fit es)
-ops_fit (Take migration taken ∷ es) = omega (arith, ops_fit es)
-ops_fit (Give migration given ∷ es) = omega (arith, ops_fit es)
-ops_fit (Expire client ∷ es) = omega (arith, ops_fit es)
 
 -- the number of what is left behind a place
 pub left_behind_place : {A : Type 0} (n : ℕ) (xs : List A) → length (drop n xs) ≡ length xs - n

@@ -13,7 +13,7 @@ use Rattle.curp_msg.specs.declared.script.Header.{Header}
 use Rattle.curp_opening.specs.Nodes.{HasNumbers, states}
 use Rattle.curp_opening.proofs.Numbers.{named_length}
 use Rattle.curp_cluster.specs.Nodes.{AreNumbered, nodes_of}
-use Rattle.curp_cluster.proofs.Grown.{none_ahead}
+use Rattle.curp_opening.proofs.Additions.{none_ahead}
 
 -- nodes that are made as the header says are those of the opening
 pub made_opening : (h : Header) (manager : ManagerState) (clients : List (Node ClientState)) (masters : List (Node MasterStage))

@@ -1,6 +1,5 @@
 -- The nodes of a world as they are kept.
-use Rattle.std.specs.Prelude.{◌≡◌, ℕ, ◌+◌, List, [], ◌++◌, length, map}
-use Rattle.curp_base.specs.Words.{At, Each}
+use Rattle.std.specs.Prelude.{◌≡◌, ℕ, ◌+◌, List, length}
 use Rattle.curp_cmd.specs.declared.node.Keeper.TheVariants as keeper
 use Rattle.curp_cmd.specs.declared.node.NodeId.{NodeId}
 use Rattle.curp_model.specs.Backup.{BackupState}
@@ -8,7 +7,7 @@ use Rattle.curp_model.specs.Client.{ClientState}
 use Rattle.curp_model.specs.Manager.{ManagerState, Next}
 use Rattle.curp_model.specs.Marks.{Mark}
 use Rattle.curp_model.specs.Recovery.{MasterStage}
-use Rattle.curp_model.specs.Witness.{WitnessState, fresh_witness}
+use Rattle.curp_model.specs.Witness.{WitnessState}
 use Rattle.curp_model.specs.World.{World}
 use Rattle.curp_msg.specs.Moved.{Node}
 use Rattle.curp_msg.specs.declared.machine.Input.{Input}
@@ -16,15 +15,10 @@ use Rattle.curp_msg.specs.declared.machine.Input.TheVariants as input
 use Rattle.curp_msg.specs.declared.machine.Local.{Local}
 use Rattle.curp_msg.specs.declared.machine.Local.TheVariants as local
 use Rattle.curp_msg.specs.declared.message.Message.{Message}
-use Rattle.curp_opening.specs.Nodes.{HasNumbers, states}
+use Rattle.curp_opening.specs.Nodes.{HasNumbers, IsAhead}
 use Rattle.curp_order.specs.declared.Event.{Event}
 
--- ---- nodes of one kind
-
--- witnesses that are made ahead: they are fresh, and numbered behind those that are there
-pub record IsAhead (witnesses ahead : List (Node WitnessState)) (sets ways : ℕ) : Type 0 where
-  pub numbered : HasNumbers (witnesses ++ ahead)
-  pub fresh : Each (λ (x : Node WitnessState). x.state ≡ fresh_witness sets ways) ahead
+-- ---- how they are numbered
 
 -- each kind of node is numbered, and the manager names the next number of each kind that it adds to
 pub record AreNumbered (next : Next) (clients : List (Node ClientState)) (masters : List (Node MasterStage))

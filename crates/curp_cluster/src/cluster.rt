@@ -9,16 +9,13 @@ ghost use Rattle.curp_cluster.specs.Given.{CanGet, MakesStep, barrier, expires_n
 use crate::given::{Gift, Given};
 use crate::marks::{Due, flag};
 use crate::nodes::Nodes;
-use crate::ordered;
-use crate::orders::order_of;
-use crate::sent::{Place, Sent};
-use crate::stopped::Stopped;
 use curp_base::NoMemory;
 use curp_cmd::{Answer, KeptCommand, NodeId, RequestId, Standby};
 use curp_line::Line;
 use curp_msg::{Config, Done, Header, Local, Message, Outcome, Step, StepResult, WEIGHT_LIMIT};
 use curp_nodes::ClientNode;
 use curp_order::History;
+use curp_sent::{Place, Sent, Stopped, answered, order_of};
 use std::alloc::Global;
 use std::marker::Model;
 
@@ -141,7 +138,7 @@ impl Cluster {
         ensures { IfOk result (λ list. list.items ≡ world.answered_order self.now) }
     {
         let requests = self.marks.order()?;
-        ordered::answered(alloc, &requests)
+        answered(alloc, &requests)
     }
 
     /// Makes a step. Where it can't be made the outcome tells why.

@@ -2,9 +2,9 @@ ghost use Rattle.std.specs.Prelude.{◌≡◌, ◌≢◌, ◌-◌, ◌≤◌, le
 ghost use Rattle.curp_msg.specs.Moved.{Moves, MovesAt};
 ghost use Rattle.curp_cluster.specs.Given.{input_of};
 
-use crate::sent::Place;
 use curp_base::NoMemory;
 use curp_msg::{Core, Done, Local, Message};
+use curp_sent::Place;
 
 /// What a node is to get: the message of that place, or an order.
 #[derive(Drop)]

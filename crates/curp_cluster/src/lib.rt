@@ -6,16 +6,11 @@
 //!   `history`, `order`: exact.
 #![tactic(auto)]
 
-mod batch;
 mod cluster;
 mod given;
 mod growing;
 mod marks;
 mod nodes;
-mod ordered;
-mod orders;
-mod sent;
-mod stopped;
 
 pub use cluster::Cluster;
 pub use curp_msg::{Header, Outcome, Step, StepResult};

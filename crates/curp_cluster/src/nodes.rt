@@ -11,11 +11,12 @@ ghost use Rattle.curp_cluster.specs.Marks.{IsFewOf, master_at, most_marks};
 ghost use Rattle.curp_cluster.specs.Nodes.{nodes_of, with_nodes};
 
 use crate::given::{Gift, Given, give, give_one};
-use crate::growing::{add_backups, add_masters, make_ahead, most_fresh, take_up};
+use crate::growing::most_fresh;
 use curp_base::{NoMemory, Shared};
 use curp_cmd::{Command, KeptCommand, NodeId, NodeKind, Request, RequestId, Standby};
 use curp_msg::{Done, Header, Local};
 use curp_nodes::{BackupNode, ClientNode, ManagerNode, MasterNode, WitnessNode};
+use curp_opening::growing::{add_backups, add_masters, make_ahead, take_up};
 use curp_same::Same;
 use std::alloc::Global;
 use std::marker::Model;

@@ -1,9 +1,11 @@
 //! The nodes of a header as they are before any step: each partition has a master of its own number, and the nodes of a
-//! kind are numbered from 1.
+//! kind are numbered from 1. And the fresh ones that come behind them.
 //!
 //! `manager`, `clients`, `masters`, `backups`, `witnesses`: exact. The world and the nodes on threads begin with them.
+//! `growing`: exact. But for `make_ahead`, which takes the memory of witnesses before they are named, it takes none.
 #![tactic(auto)]
 
+pub mod growing;
 mod nodes;
 
 pub use nodes::{backups, clients, manager, masters, witnesses};
