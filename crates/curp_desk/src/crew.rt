@@ -107,22 +107,37 @@ fn crew_of<W: Drop, C: Drop>(
     takes: Vec<Take>,
     posts: Vec<Posts>,
 ) -> Result<Crew<W, C>, NoMemory> {
-    let mut workers = Vec::with_capacity(alloc, nodes.len())?;
-    let mut couriers = Vec::with_capacity(alloc, nodes.len())?;
+    let mut crew = Crew::of(alloc, nodes)?;
     for ((member, take), posts) in members.into_iter().zip(takes).zip(posts) {
+        crew.add(member, take, posts)?;
+    }
+    Ok(crew)
+}
+
+impl<W: Drop, C: Drop> Crew<W, C> {
+    /// None yet, with room for those of the nodes.
+    fn of(alloc: Global, nodes: Vec<NodeId>) -> Result<Crew<W, C>, NoMemory> {
+        let workers = Vec::with_capacity(alloc, nodes.len())?;
+        let couriers = Vec::with_capacity(alloc, nodes.len())?;
+        Ok(Crew {
+            nodes,
+            workers,
+            couriers,
+        })
+    }
+
+    fn add(&mut self, member: Member<W, C>, take: Take, posts: Posts) -> Result<(), NoMemory> {
         let Member {
             node: _,
             worker,
             courier,
         } = member;
-        workers.push(Mutex::new(Some(AtWork { worker, take })))?;
-        couriers.push(Mutex::new(Some(OnErrand { courier, posts })))?;
+        self.workers
+            .push(Mutex::new(Some(AtWork { worker, take })))?;
+        self.couriers
+            .push(Mutex::new(Some(OnErrand { courier, posts })))?;
+        Ok(())
     }
-    Ok(Crew {
-        nodes,
-        workers,
-        couriers,
-    })
 }
 
 impl<W: Work + Send + Drop, C: Carry + Send + Drop> Crew<W, C> {

@@ -11,15 +11,24 @@ use std::alloc::Global;
 use std::sync::{Condvar, Mutex, Wait};
 
 /// A node with its journal, and an outbox, under one lock. A worker and a courier are at it, each on a thread of its own.
-#[derive(Drop)]
-pub struct Desk<N: Core> {
+pub struct Desk<N: Core + Drop> {
     alloc: Global,
     inside: Mutex<Inside<N>>,
     /// Something was put out, or the node has ended.
     changed: Condvar,
 }
 
-impl<N: Core> Desk<N> {
+impl<N: Core + Drop> Drop for Desk<N> {
+    fn drop(self) {
+        let Desk {
+            alloc: _,
+            inside: _,
+            changed: _,
+        } = self;
+    }
+}
+
+impl<N: Core + Drop> Desk<N> {
     /// The desk of the node that has this number as a sender. It takes no memory.
     pub fn new(alloc: Global, number: u32, kept: Kept<N>) -> Desk<N>
         requires { kept.ended ≡ false }
@@ -77,7 +86,12 @@ impl<N: Core> Desk<N> {
     pub fn into_kept(self) -> Kept<N>
         ensures running { result.ended ≡ false }
     {
-        self.inside.into_inner().into_kept()
+        let Desk {
+            alloc: _,
+            inside,
+            changed: _,
+        } = self;
+        inside.into_inner().into_kept()
     }
 
     /// Makes the steps that are due before the first parcel. False where there was no memory.

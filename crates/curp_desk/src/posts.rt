@@ -5,7 +5,6 @@ use std::alloc::Global;
 use std::sync::Wait;
 
 /// The posts of one sender at the inboxes of all nodes.
-#[derive(Drop)]
 pub struct Posts {
     sender: u32,
     manager: Vec<Option<Post>>,
@@ -13,6 +12,19 @@ pub struct Posts {
     masters: Vec<Option<Post>>,
     backups: Vec<Option<Post>>,
     witnesses: Vec<Option<Post>>,
+}
+
+impl Drop for Posts {
+    fn drop(self) {
+        let Posts {
+            sender: _,
+            manager: _,
+            clients: _,
+            masters: _,
+            backups: _,
+            witnesses: _,
+        } = self;
+    }
 }
 
 impl Posts {
@@ -62,11 +74,19 @@ impl Posts {
 
     /// Puts this sender's end into all inboxes where it isn't yet.
     pub fn end_all<R: Wait>(self, rt: &R) {
-        end_each(rt, self.manager);
-        end_each(rt, self.clients);
-        end_each(rt, self.masters);
-        end_each(rt, self.backups);
-        end_each(rt, self.witnesses);
+        let Posts {
+            sender: _,
+            manager,
+            clients,
+            masters,
+            backups,
+            witnesses,
+        } = self;
+        end_each(rt, manager);
+        end_each(rt, clients);
+        end_each(rt, masters);
+        end_each(rt, backups);
+        end_each(rt, witnesses);
     }
 
     fn of_kind(&mut self, kind: NodeKind) -> &mut Vec<Option<Post>> {

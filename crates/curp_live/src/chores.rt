@@ -1,12 +1,10 @@
 // What clients and masters are ordered by their own threads.
+use curp_anew::MOST_PENDING;
 use curp_base::{NoMemory, Shared};
 use curp_cmd::{Command, RequestId};
 use curp_msg::Local;
 use curp_seat::{Chores, Took};
 use std::alloc::Global;
-
-/// How many requests of a client are pending at a time.
-pub(crate) const MOST_PENDING: usize = 4;
 
 /// After so many updates and syncs a master begins a round.
 const SYNC_AFTER: u64 = 8;

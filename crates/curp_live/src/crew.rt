@@ -60,7 +60,7 @@ impl<'s, 'w, G: Gate> Work for Worker<'s, 'w, G> {
 }
 
 impl<'s, G: Gate> Floor<'s, G> {
-    fn serve<R: Wait, N: Core, C: Chores + Drop>(
+    fn serve<R: Wait, N: Core + Drop, C: Chores + Drop>(
         &self,
         rt: &R,
         desk: &Desk<N>,

@@ -1,7 +1,6 @@
 ghost use Rattle.std.specs.Prelude.{◌≡◌, false};
 
-use crate::nodes::LiveNodes;
-use crate::stops::stops;
+use curp_anew::{LiveNodes, stops};
 use curp_base::NoMemory;
 use curp_cmd::{NodeId, NodeKind};
 use curp_desk::Desk;
@@ -27,9 +26,9 @@ impl Desks {
     /// witnesses.
     pub(crate) fn new(alloc: Global, nodes: LiveNodes) -> Result<Desks, NoMemory> {
         let manager = Kept::begin(alloc, nodes.manager, NodeId::manager());
-        let mut places = Places { next: 0 };
+        let mut places = Places { next: 1 };
         Ok(Desks {
-            manager: Desk::new(alloc, places.take()?, manager),
+            manager: Desk::new(alloc, 0, manager),
             clients: desks_of(alloc, NodeKind::Client, nodes.clients, &mut places)?,
             masters: desks_of(alloc, NodeKind::Master, nodes.masters, &mut places)?,
             backups: desks_of(alloc, NodeKind::Backup, nodes.backups, &mut places)?,

@@ -1,6 +1,6 @@
 // The driver: when a partition is recovered, and when the run ends.
 use crate::board::{Board, Need};
-use crate::stops::stops;
+use curp_anew::stops;
 use curp_base::NoMemory;
 use curp_cmd::NodeId;
 use curp_msg::Local;

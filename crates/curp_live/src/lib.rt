@@ -3,29 +3,20 @@
 //! - `live` gives each node an inbox and a desk with a worker and a courier, the fresh nodes of its recoveries too, and
 //!   drives the run itself: it makes the recoveries, and ends all nodes once all requests are completed. Where a thread
 //!   can't be made or finds no memory, every wait ends, and it says so. What comes out of a lock has no clause, so the
-//!   journals' inputs are given again to nodes made anew, and these journals are handed out; names, outputs, addressees,
-//!   the clients' commands, their completions and the last stops are compared, and what each node took of each other with
-//!   what that sent (`Ruled`). Where anything differs the run is made anew.
-//!   `anew_at_opening` gives the inputs again so for any journals of a header's nodes, and what it gives can be gathered
-//!   (`AreOf`).
+//!   journals are begun anew and compared (`curp_anew`), and what each node took of each other with what that sent
+//!   (`Ruled`). Where anything differs the run is made anew.
 //! - Which orders a client and a master are due (`chores.rt`) and what the driver does (`drive.rt`) know no thread.
 #![tactic(auto)]
 
-mod anew;
 mod board;
-mod checked;
 mod chores;
 mod crew;
 mod desks;
 mod drive;
 mod members;
-mod nodes;
 mod once;
-mod own;
 mod run;
-mod stops;
 mod teller;
-mod work;
 
-pub use checked::anew_at_opening;
+pub use curp_anew::anew_at_opening;
 pub use run::{live, live_in_rooms};

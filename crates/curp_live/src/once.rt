@@ -5,7 +5,7 @@ use crate::board::Board;
 use crate::crew::{Driver, Floor};
 use crate::desks::Desks;
 use crate::members::members;
-use crate::nodes::LiveNodes;
+use curp_anew::LiveNodes;
 use curp_base::NoMemory;
 use curp_cmd::Command;
 use curp_desk::run_crew;

@@ -1,9 +1,9 @@
 ghost use Rattle.std.specs.Prelude.{◌≡◌, ◌≤◌, length, map, IfOk, IfSome};
-ghost use Rattle.curp_live.specs.Live.{IsLiveRun};
+ghost use Rattle.curp_anew.specs.Live.{IsLiveRun};
 ghost use Rattle.curp_words.specs.Plan.{IsLivePlan};
 
-use crate::checked::checked;
 use crate::once::once;
+use curp_anew::checked;
 use curp_base::NoMemory;
 use curp_cmd::Command;
 use curp_desk::ROOM;

@@ -1,0 +1,12 @@
+use Rattle.curp_model.specs.Backup.{fresh_backup}
+use Rattle.curp_opening.specs.Nodes.{states}
+use Rattle.curp_anew.proofs.Fresh.{fresh_more, none_fresh}
+use Rattle.curp_anew.proofs.nodes.with_fresh_backups.Goals as goal
+
+pub loop-made-init : goal.loop-made-init
+loop-made-init c = none_fresh c.args.backups.items fresh_backup c.args.there c.requires.there c.requires.numbers
+
+pub loop-made-preserved : goal.loop-made-preserved
+loop-made-preserved c =
+    rw c.in_ok-push.ensures.items
+    (fresh_more c.loop-made.backups.items (states c.args.backups.items) fresh_backup c.args.there c.loop-made.made c.fresh.result c.loop-made.invariant c.fresh.ensures.number c.fresh.ensures.state)

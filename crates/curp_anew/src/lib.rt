@@ -1,0 +1,22 @@
+//! The nodes of a run, and journals that were taken of them, given again to nodes made anew.
+//!
+//! - `LiveNodes` are the nodes of a header's world before any step, and behind them the fresh ones of so many recoveries.
+//! - What comes out of a lock has no clause. So the inputs of journals are given again to such nodes, and these journals are
+//!   handed out; names, outputs, addressees, the clients' commands, their completions and the last stops are compared
+//!   (`checked`). It gives nothing just where they aren't those of a run of the plan in which the work was done.
+//!   `anew_at_opening` gives the inputs again so for any journals of a header's nodes, and what it gives can be gathered
+//!   (`AreOf`).
+//! - `stops` says which nodes the driver of a run stops, and `MOST_PENDING` how many requests a client may have pending.
+#![tactic(auto)]
+
+mod anew;
+mod checking;
+mod nodes;
+mod own;
+mod stopping;
+mod work;
+
+pub use checking::{anew_at_opening, checked};
+pub use nodes::LiveNodes;
+pub use stopping::stops;
+pub use work::MOST_PENDING;
