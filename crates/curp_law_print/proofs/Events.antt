@@ -9,7 +9,7 @@ use Rattle.curp_cmd.specs.declared.command.Answer.TheVariants.{Done, Removed, Nu
 use Rattle.curp_cmd.specs.declared.command.Command.{Command}
 use Rattle.curp_cmd.specs.declared.command.RequestId.{RequestId}
 use Rattle.curp_order.specs.declared.Event.TheVariants.{Invoke, Complete}
-use Rattle.curp_script.proofs.Events.{complete_line_reads, event_depth, event_is_object, found_reads, invoke_line_reads, length_reads, number_reads, place_line_reads}
+use Rattle.curp_print.proofs.Events.{complete_line_reads, event_depth, event_is_object, found_reads, invoke_line_reads, length_reads, number_reads, place_line_reads}
 use Rattle.curp_script.specs.Events.{event_in, event_of}
 use Rattle.curp_script.specs.EventTexts.{AnswerReadsBack, EventReadsBack, answer_data, answer_parts, event_data}
 use Rattle.curp_base.specs.Limits.{line_limit}

@@ -18,8 +18,8 @@ use Rattle.curp_cmd.specs.declared.node.NodeKind.{NodeKind}
 use Rattle.curp_cmd.specs.declared.node.NodeKind.TheVariants as node
 use Rattle.curp_msg.specs.declared.script.Step.{Step}
 use Rattle.curp_msg.specs.declared.script.Step.TheVariants.{Collect, Deliver, Expire, Fetch, Invoke, Migrate, Nudge, Recover, Replace, Retry, Stop, Sync}
-use Rattle.curp_script.proofs.Lines.{step_depth, step_is_object}
-use Rattle.curp_script.proofs.ReadBack.{PairReads, invoke_reads, key_in-bytes, migrate_reads, multi_reads, stop_reads, value_in-bytes}
+use Rattle.curp_print.proofs.Lines.{step_depth, step_is_object}
+use Rattle.curp_print.proofs.ReadBack.{PairReads, invoke_reads, key_in-bytes, migrate_reads, multi_reads, stop_reads, value_in-bytes}
 use Rattle.curp_script.specs.Digits.{hex}
 use Rattle.curp_script.specs.Grammar.{key_in, number_within, step_of, value_in}
 use Rattle.curp_script.specs.Headers.{is_within}

@@ -1,13 +1,8 @@
-mod Behind
-mod Counting
+pub mod Counting
 mod Delivery
 mod Hashes
-pub mod Events
 pub mod Lines
 mod Numbers
-mod Objects
 mod Parts
-pub mod ReadBack
-pub mod ReadNames
 mod Twos
 mod Values

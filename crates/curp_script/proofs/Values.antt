@@ -167,6 +167,3 @@ object_in-no_text line none = go (is_utf8 line) refl
     go : (b : Bool) → is_utf8 line ≡ b → option_and_then only_object (if b then read line else None) ≡ None
     go true is = absurd (none (IsUtf8-from_is_utf8 line is))
     go false is = refl
-
-pub object_in-no_json : (line : List ℕ) → IsUtf8 line → whole line ≡ None → object_in line ≡ None
-object_in-no_json line utf8 is = rw (is_utf8-from_IsUtf8 line utf8, is) refl

@@ -7,7 +7,7 @@ use curp_cmd::{Command, RequestId};
 use curp_order::Event;
 
 /// What a line says of a history, or of an order that is claimed for it.
-#[derive(Clone, Copy, PartialEq, Eq)]
+#[derive(Clone, Copy)]
 pub enum EventLine {
     /// The next event of the history.
     Event(Event),
@@ -15,9 +15,9 @@ pub enum EventLine {
     Place { id: RequestId, command: Command },
 }
 
-// The kinds of line.
+/// The kinds of line.
 #[derive(Clone, Copy)]
-pub(crate) enum EventKind {
+pub enum EventKind {
     Invoke,
     Complete,
     Place,
@@ -35,8 +35,8 @@ impl EventKind {
         }
     }
 
-    // What a line of this kind has under ev.
-    pub(crate) fn as_str(self) -> &'static str
+    /// What a line of this kind has under ev.
+    pub fn as_str(self) -> &'static str
         ensures { result.now ≡ event_kind_text self }
     {
         match self {
@@ -46,8 +46,8 @@ impl EventKind {
         }
     }
 
-    // The names in a line of this kind: ev, and the others in byte order.
-    pub(crate) fn names(self) -> &'static [FieldName]
+    /// The names in a line of this kind: ev, and the others in byte order.
+    pub fn names(self) -> &'static [FieldName]
         ensures { result.now ≡ event_names self }
     {
         match self {

@@ -1,23 +1,27 @@
 // The kinds of step with the names in a line of each, and the kinds of command: what reading and printing share.
 ghost use Rattle.std.specs.Prelude.{◌≡◌};
-ghost use Rattle.curp_script.specs.Kinds.{kind_of, kind_text, names_of, verb_of};
+ghost use Rattle.curp_script.specs.Kinds.{header_names, kind_of, kind_text, names_of, verb_of};
 
 use crate::FieldName;
 
-// The names of a header, in byte order.
-pub(crate) const HEADER_NAMES: [FieldName; 7] = [
-    FieldName::Clients,
-    FieldName::F,
-    FieldName::Fast,
-    FieldName::Parts,
-    FieldName::Protocol,
-    FieldName::Sets,
-    FieldName::Ways,
-];
+/// The names of a header, in byte order.
+pub fn header_names() -> &'static [FieldName]
+    ensures { result.now ≡ header_names }
+{
+    &[
+        FieldName::Clients,
+        FieldName::F,
+        FieldName::Fast,
+        FieldName::Parts,
+        FieldName::Protocol,
+        FieldName::Sets,
+        FieldName::Ways,
+    ]
+}
 
-// The kinds of step.
+/// The kinds of step.
 #[derive(Clone, Copy)]
-pub(crate) enum Kind {
+pub enum Kind {
     Invoke,
     Deliver,
     Retry,
@@ -53,8 +57,8 @@ impl Kind {
         }
     }
 
-    // What a line of this kind has under do.
-    pub(crate) fn as_str(self) -> &'static str
+    /// What a line of this kind has under do.
+    pub fn as_str(self) -> &'static str
         ensures { result.now ≡ kind_text self }
     {
         match self {
@@ -73,8 +77,8 @@ impl Kind {
         }
     }
 
-    // The names in a line of this kind: do, and the others in byte order.
-    pub(crate) fn names(self) -> &'static [FieldName]
+    /// The names in a line of this kind: do, and the others in byte order.
+    pub fn names(self) -> &'static [FieldName]
         ensures { result.now ≡ names_of self }
     {
         match self {

@@ -6,7 +6,6 @@ use crate::FieldName;
 use curp_msg::Local;
 
 /// What a line says to `manage`, behind the header.
-#[derive(PartialEq, Eq)]
 pub enum ManageLine {
     /// The manager gets an order: `recover`, `replace`, `migrate`, `nudge` or `expire`.
     Order(Local),

@@ -16,7 +16,7 @@ mod object;
 mod steps;
 mod words;
 
-use crate::kind::HEADER_NAMES;
+use crate::kind::header_names;
 use crate::{EventLine, FieldName, Header, LineError, ManageLine, Protocol, Step};
 use delivery::printed_delivery;
 use event::event_of;
@@ -101,7 +101,7 @@ fn header_of(object: &Json<'_>) -> Result<Header, LineError>
     let protocol = protocol_at(object)?;
     let sets = number_at(object, FieldName::Sets, 1, 1024)?;
     let ways = number_at(object, FieldName::Ways, 1, 16)?;
-    no_other(object, &HEADER_NAMES)?;
+    no_other(object, header_names())?;
     Ok(Header {
         clients: clients as u32,
         f: f as u32,

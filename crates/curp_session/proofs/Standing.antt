@@ -5,7 +5,7 @@ use Rattle.std.specs.Result.{IsErrAnd}
 use Rattle.curp_base.specs.Words.{IsPrefix}
 use Rattle.curp_base.proofs.Lists.{prefix_self, prefix_trans}
 use Rattle.curp_io.specs.Streams.{HoldsPart}
-use Rattle.curp_law_served.specs.Served.{Limit, Served, begun}
+use Rattle.curp_law_served.specs.Served.{Limit, Served}
 use Rattle.curp_runner.specs.Reading.{IsOfWriting}
 use Rattle.curp_runner.specs.Status.{ended, is_cut_short}
 use Rattle.curp_runner.specs.declared.status.Status.{Status}
@@ -272,26 +272,6 @@ broken_cut aim tells held new old count bytes rest passed at stop h r cut more =
           (part_behind aim.before held new (so_far aim.output aim.f aim.whole) (if_replies aim.output protocol_error) (b.wrote told) (more told));
       printable = λ script still. both (is_cut_short stop) cut still;
     }
-
--- ---- the beginning
-
-pub stands_first : (plan : RespPlan) (requests : List (List (List ℕ))) (rest input before held : List ℕ) (tells : Bool) → Decomposes requests input rest
-    → (tells ≡ true → held ≡ before ++ so_far plan.output plan.f (fresh plan.f))
-    → IsSession (aim_of plan requests rest input before) tells held (begun plan.f) 0 input 0
-stands_first plan requests rest input before held tells d wrote = record {
-  now = fresh plan.f;
-  at = record { served = refl; counted = refl; free = refl };
-  due = requests;
-  decomposes = d;
-  leads = refl;
-  passes = ap (λ (n : ℕ). place_behind 0 n) (same (length input));
-  within = omega arith;
-  printable = λ script. record { named = tt; in_range = tt; few = omega arith };
-  wrote = wrote;
-}
-  where
-    same : (n : ℕ) → 0 ≡ n - n
-    same n = omega arith
 
 -- ---- nothing was read
 

@@ -116,19 +116,6 @@ not_limit n other = by (n == most_requests) refl
 pub reads_answers : (every : ℕ) (a : Asked) (k : Session) → k.requests ≢ most_requests → reads every a k ≡ answered_by every a k
 reads_answers every a k other = ap (λ (b : Bool). cond b (refused k) (answered_by every a k)) (not_limit k.requests other)
 
-is_limit : (n : ℕ) → n ≡ most_requests → (n == most_requests) ≡ true
-is_limit n same = by (n == most_requests) refl
-  where
-    by : (b : Bool) → (n == most_requests) ≡ b → b ≡ true
-    by true e = refl
-    by false e = absurd (none n same e)
-      where
-        none : (m : ℕ) → m ≡ most_requests → (m == most_requests) ≡ false → ⊥
-        none m same e = grind arith
-
-pub reads_refused : (every : ℕ) (a : Asked) (k : Session) → k.requests ≡ most_requests → reads every a k ≡ refused k
-reads_refused every a k same = ap (λ (b : Bool). cond b (refused k) (answered_by every a k)) (is_limit k.requests same)
-
 -- ---- a text goes on
 
 pub answered_grows : (o : RespOutput) (f every : ℕ) (a : Asked) (k : Session) → IsPrefix (so_far o f k) (so_far o f (answered_by every a k))

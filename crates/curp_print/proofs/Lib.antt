@@ -1,0 +1,4 @@
+pub mod Events
+pub mod Lines
+mod Objects
+pub mod ReadBack

@@ -1,8 +1,0 @@
-use Rattle.std.proofs.Common.{arith}
-use Rattle.curp_script.proofs.Lines.{on_ok}
-use Rattle.curp_script.proofs.ReadBack.{invoke_reads}
-use Rattle.curp_script.proofs.print.invoke_json.Goals as goal
-
-pub returns-clause-reads : goal.returns-clause-reads
-returns-clause-reads c =
-    on_ok c.kind_line.result (invoke_reads c.args.client c.args.command.now (omega arith) c.in_ok-command.ensures.reads)

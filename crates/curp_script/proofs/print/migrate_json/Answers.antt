@@ -1,8 +1,0 @@
-use Rattle.std.proofs.Common.{arith}
-use Rattle.curp_script.proofs.Lines.{on_ok}
-use Rattle.curp_script.proofs.ReadBack.{migrate_reads}
-use Rattle.curp_script.proofs.print.migrate_json.Goals as goal
-
-pub returns-clause-reads : goal.returns-clause-reads
-returns-clause-reads c =
-    on_ok c.kind_line.result (migrate_reads c.args.lo c.args.hi c.args.to (omega arith) (omega arith) (omega arith))
