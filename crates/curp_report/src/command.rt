@@ -1,9 +1,9 @@
-ghost use Rattle.std.specs.Prelude.{Some, flat_map};
+ghost use Rattle.std.specs.Prelude.{Some, [], ◌∷◌, flat_map};
 ghost use Rattle.std.specs.Fmt.{WritesOnOk};
-ghost use Rattle.curp_report.specs.Text.{answer_text, byte_digits, bytes_text, command_text, expected_text, pair_text};
+ghost use Rattle.curp_report.specs.Text.{answer_text, byte_digits, bytes_text, command_text, expected_text, pair_text, words};
 
 use crate::Shown;
-use curp_cmd::{Answer, Command, Pairs, Value};
+use curp_cmd::{Answer, Command, Key, Pairs, Value};
 use std::fmt;
 
 impl fmt::Display for Shown<&[u8]> {
@@ -32,15 +32,11 @@ impl fmt::Display for Shown<Command> {
 
     fn fmt<W: fmt::Write>(&self, f: &mut fmt::Formatter<W>) -> fmt::Result {
         match self.0 {
-            Command::Get(key) => write!(f, "get {}", Shown(key.bytes())),
-            Command::Put(key, value) => {
-                write!(f, "put {} {}", Shown(key.bytes()), Shown(value.bytes()))
-            }
-            Command::Delete(key) => write!(f, "delete {}", Shown(key.bytes())),
-            Command::Incr(key) => write!(f, "incr {}", Shown(key.bytes())),
-            Command::Append(key, more) => {
-                write!(f, "append {} {}", Shown(key.bytes()), Shown(more.bytes()))
-            }
+            Command::Get(key) => write_key(f, "get", &key),
+            Command::Put(key, value) => write_pair(f, "put", &key, &value),
+            Command::Delete(key) => write_key(f, "delete", &key),
+            Command::Incr(key) => write_key(f, "incr", &key),
+            Command::Append(key, more) => write_pair(f, "append", &key, &more),
             Command::CondPut(key, expected, value) => write!(
                 f,
                 "condput {} {} {}",
@@ -51,6 +47,23 @@ impl fmt::Display for Shown<Command> {
             Command::Multi(pairs) => write!(f, "multi{}", Shown(pairs)),
         }
     }
+}
+
+fn write_key<W: fmt::Write>(f: &mut fmt::Formatter<W>, word: &str, key: &Key) -> fmt::Result
+    ensures { WritesOnOk W.write_str_gives f.old result (words (word.now ∷ bytes_text key.now ∷ [])) f.new }
+{
+    write!(f, "{word} {}", Shown(key.bytes()))
+}
+
+fn write_pair<W: fmt::Write>(
+    f: &mut fmt::Formatter<W>,
+    word: &str,
+    key: &Key,
+    value: &Value,
+) -> fmt::Result
+    ensures { WritesOnOk W.write_str_gives f.old result (words (word.now ∷ bytes_text key.now ∷ bytes_text value.now ∷ [])) f.new }
+{
+    write!(f, "{word} {} {}", Shown(key.bytes()), Shown(value.bytes()))
 }
 
 /// The value that a conditional put expects, if it expects one.
@@ -84,17 +97,17 @@ impl fmt::Display for Shown<Answer> {
 
     fn fmt<W: fmt::Write>(&self, f: &mut fmt::Formatter<W>) -> fmt::Result {
         match self.0 {
-            Answer::Done => write!(f, "done"),
-            Answer::Removed(true) => write!(f, "removed"),
-            Answer::Removed(false) => write!(f, "absent"),
+            Answer::Done => f.write_str("done"),
+            Answer::Removed(true) => f.write_str("removed"),
+            Answer::Removed(false) => f.write_str("absent"),
             Answer::Number(number) => write!(f, "number {number}"),
             Answer::Length(length) => write!(f, "length {length}"),
-            Answer::Swapped(true) => write!(f, "swapped"),
-            Answer::Swapped(false) => write!(f, "kept"),
-            Answer::NotNumber => write!(f, "not-number"),
-            Answer::Overflow => write!(f, "overflow"),
-            Answer::TooLong => write!(f, "too-long"),
-            Answer::Found(None) => write!(f, "none"),
+            Answer::Swapped(true) => f.write_str("swapped"),
+            Answer::Swapped(false) => f.write_str("kept"),
+            Answer::NotNumber => f.write_str("not-number"),
+            Answer::Overflow => f.write_str("overflow"),
+            Answer::TooLong => f.write_str("too-long"),
+            Answer::Found(None) => f.write_str("none"),
             Answer::Found(Some(value)) => write!(f, "found {}", Shown(value.bytes())),
         }
     }

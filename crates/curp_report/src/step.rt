@@ -1,13 +1,13 @@
 ghost use Rattle.std.specs.Prelude.{◌≡◌, ◌+◌, ◌<◌, ◌^◌, ◌++◌, ◌∷◌, [], codes, length, string_bytes};
 ghost use Rattle.std.specs.Prelude.{IfOk, OnOk};
-ghost use Rattle.curp_report.specs.Text.{labelled, message_line, message_lines, node_label, result_text, step_text, words};
+ghost use Rattle.curp_report.specs.Text.{completed_line, labelled, message_line, message_lines, node_label, result_line, result_text, step_text, words};
 
 use crate::Shown;
 use crate::body::push_body;
 use crate::names::{push_id, push_node};
 use crate::text::{push_decimal, push_labelled};
 use curp_base::NoMemory;
-use curp_msg::{Message, Outcome, StepResult};
+use curp_msg::{Completed, Message, Outcome, StepResult};
 use std::alloc::Global;
 
 /// Adds the lines of a step: how it went, each message that it sent, and the request that it completed. Steps are
@@ -22,18 +22,31 @@ pub fn push_step_text(
     requires { outcome.now.first + length sent.now < 2 ^ 64 }
     ensures { OnOk result (string_bytes text.new ≡ string_bytes text.old ++ step_text number outcome.now sent.now) }
 {
-    text.push('s')?;
-    push_decimal(text, number)?;
-    text.push(' ')?;
-    push_result(text, outcome.result)?;
-    text.push('\n')?;
+    push_result_line(text, number, outcome.result)?;
     push_messages(text, outcome.first, sent)?;
-    if let Some(completed) = outcome.completed {
-        text.push_str("c ")?;
-        push_id(text, completed.id)?;
-        writeln!(text, " {}", Shown(completed.answer))?;
-    }
-    Ok(())
+    push_completed(text, outcome.completed)
+}
+
+/// Adds the number of a step, and how it went.
+fn push_result_line(text: &mut String, number: u64, how: StepResult) -> Result<(), NoMemory>
+    ensures { OnOk result (string_bytes text.new ≡ string_bytes text.old ++ result_line number how) }
+{
+    push_labelled(text, "s", number)?;
+    text.push(' ')?;
+    push_result(text, how)?;
+    text.push('\n')
+}
+
+/// Adds the request that a step completed, if it did.
+fn push_completed(text: &mut String, completed: Option<Completed>) -> Result<(), NoMemory>
+    ensures { OnOk result (string_bytes text.new ≡ string_bytes text.old ++ completed_line completed) }
+{
+    let Some(completed) = completed else {
+        return Ok(());
+    };
+    text.push_str("c ")?;
+    push_id(text, completed.id)?;
+    writeln!(text, " {}", Shown(completed.answer))
 }
 
 fn push_result(text: &mut String, how: StepResult) -> Result<(), NoMemory>
