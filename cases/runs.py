@@ -18,7 +18,7 @@ INVOKE = '{"client":1,"cmd":["put","61","31"],"do":"invoke"}'
 # What is printed for that invocation as the first step.
 INVOKED = "s1 done\nm1 C1 M1 update 1.1 f1 e1 v1 put 61 31\nm2 C1 W1 record 1.1 f1 e1 put 61 31\n"
 USAGE = (
-    "curp: usage: curp play, curp make [options], curp live [options]\n"
+    "curp: usage: curp play, make, live, check, resp or manage, each with its options; curp --help tells them\n"
     "curp: make takes --number, --f, --sets, --ways, --clients, --parts, --protocol, --steps and --recoveries, each with"
     " a number, and --summary; live takes the same but --steps and --summary, and --commands with a number; play takes"
     " --history; check and manage take none; resp takes --f and --every, each with a number, and --script\n"

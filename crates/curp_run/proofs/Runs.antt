@@ -1,22 +1,21 @@
 -- What a run on threads shows, and what is written of it.
-use Rattle.std.proofs.Common.{◌≡◌, Result, Ok, Err, Option, Some, None, IfOk, IfSome, inr, [], ◌∷◌, ◌++◌, ℕ, List, Global, Vec, length, map, ap, sym, ◌∙◌, subst, append_assoc}
+use Rattle.std.proofs.Common.{◌≡◌, Result, Ok, Err, Option, Some, None, IfOk, IfSome, [], ◌∷◌, ◌++◌, ℕ, List, Global, Vec, length, map, ap, sym, ◌∙◌, subst, append_assoc}
 use Rattle.std.proofs.lemmas.List.{length-map}
 use Rattle.curp_cmd.specs.declared.command.Command.{Command}
 use Rattle.curp_msg.specs.declared.script.Header.{Header}
 use Rattle.curp_msg.specs.declared.script.Step.{Step}
-use Rattle.curp_model.specs.World.{world}
 use Rattle.curp_script.specs.Script.{Script}
 use Rattle.curp_words.specs.Plan.{IsLivePlan, live_header}
 use Rattle.curp_words.specs.declared.task.LivePlan.{LivePlan}
 use Rattle.curp_gather.specs.Journals.{IsScriptOf, journals_of}
 use Rattle.curp_gather.specs.declared.journals.Journals.{Journals}
 use Rattle.curp_gen.specs.Commands.{workload_of}
-use Rattle.curp_live.specs.Live.{IsLiveRun}
+use Rattle.curp_anew.specs.Live.{IsLiveRun}
 use Rattle.curp_opening.proofs.Numbers.{named_length}
 use Rattle.curp_io.specs.Streams.{HoldsPart}
-use Rattle.curp_play.specs.Play.{HasAnOrder, OrderStands, text_of}
+use Rattle.curp_play.specs.Play.{text_of}
 use Rattle.curp_runner.specs.Reading.{script_in}
-use Rattle.curp_run.specs.Live.{IsLive, IsLiveFront, IsLiveText, Shows, played, whole_script, work_of}
+use Rattle.curp_run.specs.Live.{IsLive, Shows, played, work_of}
 use Rattle.curp_runner.proofs.Pieces.{first_of_two, second_of_two}
 use Rattle.curp_run.proofs.Shown.{shown}
 
@@ -49,24 +48,6 @@ pub if_found : {T E : Type 0} (found : Result (Option T) E) (P Q : T → Type 0)
 if_found (Ok (Some x)) P Q implies holds = implies x holds
 if_found (Ok None) P Q implies holds = tt
 if_found (Err _) P Q implies holds = tt
-
--- what is read back is played to an order
-order_stands : (plan : LivePlan) (steps : List Step) (s : Script) → s ≡ whole_script plan steps → HasAnOrder s → OrderStands (world (live_header plan) steps)
-order_stands plan steps s reads order = subst HasAnOrder reads order
-
--- a text that shows the work was written, and what playing it writes
-pub is_live : (plan : LivePlan) (text old new : List ℕ) → IsLiveText plan text → HasAnOrder (script_in text) → new ≡ old ++ played text → IsLive plan old new
-is_live plan text old new live order wrote = record {
-  steps = live.steps;
-  text = wrote ∙ ap (λ (t : List ℕ). old ++ played t) live.printed;
-  reads = subst (λ (t : List ℕ). script_in t ≡ whole_script plan live.steps) live.printed live.reads;
-  order = order_stands plan live.steps (script_in text) live.reads order;
-  shows = live.shows;
-}
-
--- a front of a script that shows the work was written, an empty line, and what playing it writes
-pub live_front : (plan : LivePlan) (text old new : List ℕ) → IsLiveText plan text → HoldsPart old new (played text) → IsLiveFront plan old new
-live_front plan text old new live part = inr (record { text = text; is = live; part = part })
 
 -- a front of a script and the empty line
 pub script_front : (text old new : List ℕ) → HoldsPart old new (text ++ 10 ∷ []) → HoldsPart old new (played text)

@@ -1,5 +1,5 @@
 -- A step that is made can be printed: it stops no manager, and no node that isn't there.
-use Rattle.std.proofs.Common.{◌≡◌, ◌↔◌, ℕ, zero, suc, not, true, false, List, [], ◌∷◌, sym, ◌∙◌, arith}
+use Rattle.std.proofs.Common.{◌≡◌, ◌↔◌, ℕ, zero, suc, not, false, List, [], ◌∷◌, sym, ◌∙◌, arith}
 use Rattle.std.specs.List.{list_all}
 use Rattle.curp_base.specs.Words.{Each}
 use Rattle.curp_cmd.specs.Node.{manager_node, same_node}

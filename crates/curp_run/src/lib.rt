@@ -12,6 +12,7 @@
 mod arguments;
 mod command;
 mod complaints;
+mod help;
 mod live;
 mod process;
 mod script;

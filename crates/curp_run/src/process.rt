@@ -1,8 +1,9 @@
-ghost use Rattle.std.specs.Prelude.{◌≡◌, ◌≢◌, ◌⊎◌, Some, None, true};
+ghost use Rattle.std.specs.Prelude.{◌≡◌, ◌≢◌, ◌⊎◌, Some, None};
 ghost use Rattle.std.specs.Process.{exit_status};
 ghost use Rattle.std.specs.IoError.{error_kind};
 ghost use Rattle.curp_io.specs.Streams.{Rose, SameCount};
 ghost use Rattle.curp_runner.specs.Status.{TellsStatus, code_of};
+ghost use Rattle.curp_run.specs.Ran.{RanTo, took_of, wrote_of};
 ghost use Rattle.curp_run.specs.Run.{asked, unread_words};
 ghost use Rattle.curp_run.specs.declared.complaints.Blame.TheVariants.{Unknown};
 ghost use Rattle.curp_words.specs.declared.task.LivePlan.{LivePlan};
@@ -14,6 +15,7 @@ use crate::complaints::{Complaints, complaints_of};
 use curp_io::{Sink, Source, StdSink, StdSource};
 use curp_runner::Status;
 use curp_seat::{Gate, OpenGate};
+use curp_words::Task;
 use std::alloc::Global;
 use std::process::ExitCode;
 use std::rt::Env;
@@ -63,7 +65,14 @@ pub fn run_to_end<R: Threads + Wait + Sync, G: Gate + Sync, S: Source, K: Sink, 
     errors: &E,
     gate: &G,
 ) -> ExitCode
-    ensures status { TellsStatus (exit_status result) }
+    // It ends with the number of a status, and what that run took and wrote is as `run` says of this status.
+    ensures ran { RanTo (exit_status result) (asked arguments.now) (took_of S.tells S.left S.faults source.old source.new)
+        (wrote_of K.tells K.held K.flushed K.faults sink.old sink.new) }
+    // For words that are no command line nothing is read or written, and for `make` and `live` nothing is read.
+    ensures untouched { asked arguments.now ≡ None → (source.new ≡ source.old) × (sink.new ≡ sink.old) }
+    ensures unread { (plan : MakePlan) (output : Output) → asked arguments.now ≡ Some (Task.Make plan output)
+        → source.new ≡ source.old }
+    ensures unread_living { (plan : LivePlan) → asked arguments.now ≡ Some (Task.Live plan) → source.new ≡ source.old }
     // With 2 exactly for words that are no command line, unless there was no memory to tell.
     ensures usage { exit_status result ≡ 2 → asked arguments.now ≡ None }
     ensures no_task { asked arguments.now ≡ None → (exit_status result ≡ 2) ⊎ (exit_status result ≡ 6) }

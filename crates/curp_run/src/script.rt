@@ -10,8 +10,8 @@ ghost use Rattle.curp_words.specs.Plan.{IsPlan};
 use curp_gen::Maker;
 use curp_io::Sink;
 use curp_law_print::{printed_scripts_are_read, step_is_in_range};
+use curp_print::{print_header, print_line};
 use curp_runner::{Status, close, write};
-use curp_script::{print_header, print_line};
 use curp_words::{MakePlan, Output};
 use std::alloc::Global;
 

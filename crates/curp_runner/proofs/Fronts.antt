@@ -153,18 +153,6 @@ told_more {A} {W} meaning rules bytes now rest line number opened world new old 
 
 -- ---- reading fails
 
-pub told_all : {A W : Type 0} (meaning : List ℕ → Result A LineError) (rules : Rules A W) (bytes now ahead left : List ℕ) (number : ℕ) (opened world : W) (old held : List ℕ)
-    → Told meaning rules bytes now number opened world old held → ahead ++ left ≡ now → line_of ahead ≡ ahead
-    → HoldsRead (line_texts_in meaning rules opened) bytes left old held
-told_all meaning rules bytes now ahead left number opened world old held t stays none = record {
-  read = t.read;
-  ahead = ahead;
-  taken = t.split ∙ ap (λ w. t.read ++ w) (sym stays);
-  lines = t.lines ∙ ap (λ w. lines_of t.read ++ lines_of w) (sym stays);
-  less = none;
-  held = t.is ∙ ap (λ (b : Said _). old ++ texts rules no_text 1 opened b.lines) (sym t.are);
-}
-
 nothing_before : (xs ys : List ℕ) → [] ≡ xs ++ ys → xs ≡ []
 nothing_before [] ys none = refl
 nothing_before (x ∷ xs) ys none = absurd cc

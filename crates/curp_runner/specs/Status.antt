@@ -69,7 +69,7 @@ pub record TellsStatus (number : ℕ) : Type 0 where
 abbrev pub status_text : Status → List ℕ
 status_text status.Ok = codes "done"
 status_text (status.No clause) = codes "no, clause " ++ decimal (number_of clause)
-status_text status.Usage = codes "usage: curp play, curp make [options], curp live [options]"
+status_text status.Usage = codes "usage: curp play, make, live, check, resp or manage, each with its options; curp --help tells them"
 status_text (status.BadLine line reason) = codes "line " ++ decimal line ++ codes ": " ++ reason_text reason
 status_text status.ReadFault = codes "reading failed"
 status_text status.WriteFault = codes "writing failed"

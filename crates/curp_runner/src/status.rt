@@ -133,7 +133,7 @@ impl fmt::Display for Status {
             Status::No { clause } => write!(f, "no, clause {}", clause.number()),
             Status::Usage => write!(
                 f,
-                "usage: curp play, curp make [options], curp live [options]"
+                "usage: curp play, make, live, check, resp or manage, each with its options; curp --help tells them"
             ),
             Status::BadLine { line, reason } => write!(f, "line {line}: {reason}"),
             Status::ReadFault => write!(f, "reading failed"),

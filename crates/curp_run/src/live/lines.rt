@@ -9,7 +9,7 @@ ghost use Rattle.curp_script.specs.Printed.{NamesNode};
 use curp_base::NoMemory;
 use curp_law_print::step_is_in_range;
 use curp_msg::{Header, Step};
-use curp_script::{print_header, print_line};
+use curp_print::{print_header, print_line};
 use std::alloc::Global;
 
 /// The lines of a script.
