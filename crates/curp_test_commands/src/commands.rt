@@ -20,16 +20,12 @@ fn try_get(rt: &impl Abort, store: &Store, key: &Key, value: &Value) {
 }
 
 // "b" is put twice, and "a" between.
-fn put_three(rt: &impl Abort, store: &mut Store) {
-    try_apply(rt, store, &put(rt, b"b", b"1"), Answer::Done);
-    try_apply(rt, store, &put(rt, b"a", b"1"), Answer::Done);
-    try_apply(rt, store, &put(rt, b"b", b"2"), Answer::Done);
-}
-
 #[test]
 fn keeps_the_last_value_of_a_key(rt: HostRuntime) {
     let mut store = Store::new(rt.alloc());
-    put_three(&rt, &mut store);
+    try_apply(&rt, &mut store, &put(&rt, b"b", b"1"), Answer::Done);
+    try_apply(&rt, &mut store, &put(&rt, b"a", b"1"), Answer::Done);
+    try_apply(&rt, &mut store, &put(&rt, b"b", b"2"), Answer::Done);
     try_get(&rt, &store, &key(&rt, b"b"), &value(&rt, b"2"));
     try_pairs(&rt, rt.alloc(), &store);
     drop(store);
@@ -78,24 +74,17 @@ fn try_count(rt: &impl Abort, alloc: Global, store: &Store, count: usize) {
     drop(pairs);
 }
 
-fn try_no_room(rt: &impl Abort, store: &mut Store) {
-    right(rt, store.reserve(u64::MAX).is_err(), "no room");
-}
-
 #[test]
 fn holds_a_hundred_thousand_keys(rt: HostRuntime) {
-    let mut store = Store::new(rt.alloc());
-    try_hundred_thousand(&rt, rt.alloc(), &mut store);
+    let alloc = rt.alloc();
+    let mut store = Store::new(alloc);
+    increment_all(&rt, &mut store);
+    try_count(&rt, alloc, &store, 100_000);
+    get_all(&rt, &store);
+    delete_all(&rt, &mut store);
+    try_count(&rt, alloc, &store, 0);
+    right(&rt, store.reserve(u64::MAX).is_err(), "no room");
     drop(store);
-}
-
-fn try_hundred_thousand(rt: &impl Abort, alloc: Global, store: &mut Store) {
-    increment_all(rt, store);
-    try_count(rt, alloc, store, 100_000);
-    get_all(rt, store);
-    delete_all(rt, store);
-    try_count(rt, alloc, store, 0);
-    try_no_room(rt, store);
 }
 
 fn try_key(rt: &impl Abort, bytes: &[u8], error: Option<KeyError>) {
@@ -125,28 +114,13 @@ fn takes_keys_and_values_up_to_their_sizes(rt: HostRuntime) {
 }
 
 #[test]
-fn an_empty_part_of_a_table_has_no_expired_client(rt: HostRuntime) {
+fn keys_that_fall_or_stand_twice_are_told(rt: HostRuntime) {
+    right(&rt, !keys_ascend(&[1, 3, 2]), "keys that fall");
+    let twice = pairs_ascend(&[(1, 1), (1, 2)]);
+    right(&rt, !twice, "keys that stand twice");
     let part = TablePart::new(rt.alloc());
-    right(
-        &rt,
-        part.gone.len() == 0,
-        "an empty part of a table has no expired client",
-    );
+    right(&rt, part.gone.len() == 0, "an empty part of a table");
     drop(part);
-}
-
-#[test]
-fn refuses_keys_that_fall_or_stand_twice(rt: HostRuntime) {
-    right(
-        &rt,
-        !keys_ascend(&[1, 3, 2]),
-        "refuses keys that fall or stand twice (1)",
-    );
-    right(
-        &rt,
-        !pairs_ascend(&[(1, 1), (1, 2)]),
-        "refuses keys that fall or stand twice (2)",
-    );
 }
 
 // The vectors that the authors of FNV published.
@@ -162,10 +136,6 @@ const HASHES: [(&[u8], u64); 6] = [
 #[test]
 fn hashes_as_published(rt: HostRuntime) {
     for (bytes, hash) in HASHES {
-        try_hash(&rt, bytes, hash);
+        right_at(&rt, bytes_hash(bytes) == hash, "hash", hash);
     }
-}
-
-fn try_hash(rt: &impl Abort, bytes: &[u8], hash: u64) {
-    right_at(rt, bytes_hash(bytes) == hash, "hash", hash);
 }

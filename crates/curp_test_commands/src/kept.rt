@@ -6,34 +6,13 @@ use curp_cmd::{Command, KeptCommand, Request, Standby};
 use std::alloc::Global;
 use std::process::Abort;
 
-// So many more that hold the request.
-fn holders(
-    rt: &impl Abort,
-    alloc: Global,
-    request: &Shared<Request>,
-    count: u32,
-) -> Vec<Shared<Request>> {
-    let mut holders = Vec::new(alloc);
-    for _ in 0..count {
-        must(rt, holders.push(must(rt, request.share())));
-    }
-    holders
-}
-
-fn try_request(rt: &impl Abort, holder: &Shared<Request>, plain: &Request) {
-    right(rt, **holder == *plain, "request");
-}
-
-fn try_holders(rt: &impl Abort, holders: &[Shared<Request>], plain: &Request) {
-    for holder in holders {
-        try_request(rt, holder, plain);
-    }
-    right(rt, holders.len() == 10_000, "holders");
-}
-
-fn ten_thousand(rt: &impl Abort, alloc: Global, plain: &Request) -> Vec<Shared<Request>> {
+// Ten thousand that hold the request.
+fn holders(rt: &impl Abort, alloc: Global, plain: &Request) -> Vec<Shared<Request>> {
     let first = shared(rt, alloc, plain);
-    let holders = holders(rt, alloc, &first, 10_000);
+    let mut holders = Vec::new(alloc);
+    for _ in 0..10_000 {
+        must(rt, holders.push(must(rt, first.share())));
+    }
     drop(first);
     holders
 }
@@ -41,8 +20,11 @@ fn ten_thousand(rt: &impl Abort, alloc: Global, plain: &Request) -> Vec<Shared<R
 #[test]
 fn ten_thousand_hold_one_request(rt: HostRuntime) {
     let plain = request(1, 2, put(&rt, b"k", b"v"));
-    let holders = ten_thousand(&rt, rt.alloc(), &plain);
-    try_holders(&rt, &holders, &plain);
+    let holders = holders(&rt, rt.alloc(), &plain);
+    for holder in &holders {
+        right(&rt, **holder == plain, "request");
+    }
+    right(&rt, holders.len() == 10_000, "holders");
     drop(holders);
 }
 
@@ -60,29 +42,22 @@ fn try_command(rt: &impl Abort, kept: &KeptCommand, command: &Command) {
     right(rt, **kept == *command, "command");
 }
 
-fn try_keepers(rt: &impl Abort, keepers: &[KeptCommand], command: &Command) {
-    for kept in keepers {
+fn try_keepers(rt: &impl Abort, keepers: Vec<KeptCommand>, command: &Command) {
+    for kept in &keepers {
         try_command(rt, kept, command);
     }
     right(rt, keepers.len() == 10_000, "keepers");
+    drop(keepers);
 }
 
 #[test]
-fn ten_thousand_keep_the_command_of_a_request(rt: HostRuntime) {
+fn ten_thousand_keep_the_command_of_a_request_and_of_none(rt: HostRuntime) {
     let command = put(&rt, b"k", b"v");
     let first = KeptCommand::of(shared(&rt, rt.alloc(), &request(1, 2, command)));
-    let keepers = keepers(&rt, rt.alloc(), first);
-    try_keepers(&rt, &keepers, &command);
-    drop(keepers);
-}
-
-#[test]
-fn ten_thousand_keep_a_command_of_no_request(rt: HostRuntime) {
+    try_keepers(&rt, keepers(&rt, rt.alloc(), first), &command);
     let command = get(&rt, b"k");
     let first = must(&rt, KeptCommand::new(rt.alloc(), &command));
-    let keepers = keepers(&rt, rt.alloc(), first);
-    try_keepers(&rt, &keepers, &command);
-    drop(keepers);
+    try_keepers(&rt, keepers(&rt, rt.alloc(), first), &command);
 }
 
 fn keep(rt: &impl Abort, standby: &mut Standby, request: &Shared<Request>) -> KeptCommand {

@@ -43,27 +43,21 @@ fn records_what_clients_saw(rt: HostRuntime) {
     drop(history);
 }
 
-fn first_six(rt: &impl Abort) -> [(u32, Command); 6] {
-    let (a, ab) = (key(rt, b"a"), value(rt, b"ab"));
+fn commands(rt: &impl Abort) -> [Command; 12] {
+    let (a, b, ab) = (key(rt, b"a"), key(rt, b"b"), value(rt, b"ab"));
     [
-        (1, Command::Append(a, ab)),
-        (2, Command::Incr(a)),
-        (3, Command::CondPut(a, Some(ab), value(rt, b""))),
-        (4, Command::Get(a)),
-        (5, Command::Delete(a)),
-        (6, Command::Delete(a)),
-    ]
-}
-
-fn last_six(rt: &impl Abort) -> [(u32, Command); 6] {
-    let (a, b) = (key(rt, b"a"), key(rt, b"b"));
-    [
-        (7, Command::CondPut(a, None, value(rt, b"1"))),
-        (8, Command::CondPut(a, None, value(rt, b"2"))),
-        (9, put_both(rt, a, b)),
-        (10, Command::Incr(a)),
-        (11, get(rt, b"c")),
-        (12, Command::Append(b, value(rt, &[7; 128]))),
+        Command::Append(a, ab),
+        Command::Incr(a),
+        Command::CondPut(a, Some(ab), value(rt, b"")),
+        Command::Get(a),
+        Command::Delete(a),
+        Command::Delete(a),
+        Command::CondPut(a, None, value(rt, b"1")),
+        Command::CondPut(a, None, value(rt, b"2")),
+        put_both(rt, a, b),
+        Command::Incr(a),
+        get(rt, b"c"),
+        Command::Append(b, value(rt, &[7; 128])),
     ]
 }
 
@@ -73,20 +67,12 @@ fn put_both(rt: &impl Abort, a: Key, b: Key) -> Command {
     must(rt, Command::multi(&[(a, one), (b, value(rt, b"3"))]))
 }
 
-fn number(rt: &impl Abort, requests: &mut Vec<(RequestId, Command)>, commands: &[(u32, Command)]) {
-    for (seq, command) in commands {
-        let id = RequestId {
-            client: 1,
-            seq: *seq,
-        };
-        must(rt, requests.push((id, *command)));
-    }
-}
-
 fn requests(rt: &impl Abort, alloc: Global) -> Vec<(RequestId, Command)> {
     let mut requests = Vec::new(alloc);
-    number(rt, &mut requests, &first_six(rt));
-    number(rt, &mut requests, &last_six(rt));
+    for (seq, command) in (1_u32..=12).zip(&commands(rt)) {
+        let id = RequestId { client: 1, seq };
+        must(rt, requests.push((id, *command)));
+    }
     requests
 }
 

@@ -95,14 +95,10 @@ fn try_rows(rt: &impl Abort, ranges: &mut Ranges, rows: &[Row]) {
 }
 
 #[test]
-fn takes_out_and_puts_in_whole_ranges(rt: HostRuntime) {
+fn takes_out_and_puts_in_whole_ranges_and_unites_over_a_gap(rt: HostRuntime) {
     let mut ranges = to(&rt, rt.alloc(), 9);
     try_rows(&rt, &mut ranges, &TAKEN_AND_PUT);
     drop(ranges);
-}
-
-#[test]
-fn unites_over_a_gap(rt: HostRuntime) {
     let mut ranges = to(&rt, rt.alloc(), 9);
     try_rows(&rt, &mut ranges, &UNITED);
     drop(ranges);

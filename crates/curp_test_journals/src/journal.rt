@@ -1,10 +1,9 @@
 // Items that are copied, and what comes to a node given to it.
-use curp_base::NoMemory;
 use curp_cmd::NodeId;
 use curp_journal::{Arrived, Item, Named};
 use curp_msg::{Body, Done, Input, Local, Message};
 use std::alloc::Global;
-use std::test::Fail;
+use std::process::Abort;
 
 fn fetch() -> Message {
     Message {
@@ -25,75 +24,49 @@ fn came() -> Arrived {
 }
 
 // An item that took a message, and sent one.
-fn item(alloc: Global) -> Result<Item, NoMemory> {
+fn item(rt: &impl Abort, alloc: Global) -> Item {
     let mut sent = Vec::new(alloc);
-    sent.push(fetch())?;
-    Ok(Item {
+    assert!(rt; sent.push(fetch()).is_ok());
+    Item {
         stamp: 8,
         input: came(),
         done: Done::sends(sent),
-    })
+    }
 }
 
-// The stamps of a copy and of what came, and how many messages it sent.
-fn copied(alloc: Global, item: &Item) -> Result<(u64, u64, usize), NoMemory> {
-    let copy = item.copy(alloc)?;
-    let seen = (copy.stamp, copy.input.stamp(), copy.done.sent.len());
-    drop(copy);
-    Ok(seen)
-}
-
-fn item_is_copied(alloc: Global) -> Result<bool, NoMemory> {
-    let item = item(alloc)?;
-    let copied = copied(alloc, &item);
-    drop(item);
-    Ok(copied? == (8, 7, 1))
-}
-
+// The copy has the stamps of the item and of what came, and as many messages.
 #[test]
-fn items_are_copied(rt: HostRuntime) -> Result<(), Fail> {
-    assert!(rt; item_is_copied(rt.alloc())?);
-    Ok(())
+fn items_are_copied(rt: HostRuntime) {
+    let item = item(&rt, rt.alloc());
+    let copy = item.copy(rt.alloc()).expect(&rt, "no memory");
+    drop(item);
+    assert!(rt; copy.stamp == 8);
+    assert!(rt; copy.input.stamp() == 7);
+    assert!(rt; copy.done.sent.len() == 1);
+    drop(copy);
 }
 
-// What a node gets.
-#[derive(Clone, Copy, PartialEq, Eq)]
-enum Got {
-    Fetch,
-    Sync,
-    Other,
-}
-
-fn kind_of(input: &Input) -> Got {
-    match input {
+// A node gets the message, or the order to sync, and it has that stamp.
+fn try_given(rt: &impl Abort, alloc: Global, came: Arrived, is_message: bool, stamp: u64) {
+    let input = came.given(alloc).expect(rt, "no memory");
+    let is_given = match &input {
         Input::Message(
             Message {
                 body: Body::Fetch,
                 ..
             },
-        ) => Got::Fetch,
-        Input::Local(Local::Sync) => Got::Sync,
-        _ => Got::Other,
-    }
-}
-
-// What a node gets by it, and its stamp.
-fn given(alloc: Global, came: &Arrived) -> Result<(Got, u64), NoMemory> {
-    let input = came.given(alloc)?;
-    let got = kind_of(&input);
+        ) => is_message,
+        Input::Local(Local::Sync) => !is_message,
+        _ => false,
+    };
+    assert!(rt; is_given);
+    assert!(rt; came.stamp() == stamp);
     drop(input);
-    Ok((got, came.stamp()))
-}
-
-fn given_of(alloc: Global, came: Arrived) -> Result<(Got, u64), NoMemory> {
-    let given = given(alloc, &came);
     drop(came);
-    given
 }
 
 #[test]
-fn messages_and_orders_are_given(rt: HostRuntime) -> Result<(), Fail> {
-    assert!(rt; given_of(rt.alloc(), came())? == (Got::Fetch, 7));
-    assert!(rt; given_of(rt.alloc(), Arrived::Local(Local::Sync, 5))? == (Got::Sync, 5));
-    Ok(())
+fn messages_and_orders_are_given(rt: HostRuntime) {
+    try_given(&rt, rt.alloc(), came(), true, 7);
+    try_given(&rt, rt.alloc(), Arrived::Local(Local::Sync, 5), false, 5);
 }

@@ -3,14 +3,13 @@ ghost use Rattle.std.specs.Prelude.{◌≢◌};
 ghost use Rattle.curp_test_journals.specs.Lines.{IsLine};
 
 use crate::lines::{are_apart, is_line};
-use curp_base::NoMemory;
 use curp_cmd::{NodeId, NodeKind};
 use curp_journal::{Arrived, Item, Named};
 use curp_merge::{GatherError, Strand, merge};
 use curp_msg::{Body, Done, Local, Message, Step};
 use curp_same::Same;
 use std::alloc::Global;
-use std::test::Fail;
+use std::process::Abort;
 
 const MASTER: NodeId = NodeId {
     kind: NodeKind::Master,
@@ -36,98 +35,51 @@ fn fence(epoch: u32) -> Message {
     }
 }
 
-// A message that the backup took: the stamp of its item, and by which place and stamp it is named. It is the question of
-// this epoch, of the master's first item.
-#[derive(Clone, Copy)]
-struct Taken {
-    at: u64,
-    place: u64,
-    stamp: u64,
-    epoch: u32,
-}
+// A message that the backup took: the stamp of its item, by which place and stamp it is named, and its epoch. It is a
+// question of the master's first item.
+type Taken = (u64, u64, u64, u32);
 
-impl Taken {
-    fn named(&self) -> Named {
-        Named {
-            from: MASTER,
-            step: 1,
-            place: self.place,
-            stamp: self.stamp,
-            message: fence(self.epoch),
-        }
-    }
+// The master's first question, of epoch 1, as the backup takes it.
+const FIRST: Taken = (2, 1, 1, 1);
 
-    fn item(&self, alloc: Global) -> Item {
-        Item {
-            stamp: self.at,
-            input: Arrived::Message(self.named()),
-            done: Done::quiet(alloc),
-        }
+fn named((_, place, stamp, epoch): Taken) -> Named {
+    Named {
+        from: MASTER,
+        step: 1,
+        place,
+        stamp,
+        message: fence(epoch),
     }
 }
 
 // The journal of a backup that took these messages.
-fn took(alloc: Global, messages: &[Taken]) -> Result<Vec<Item>, NoMemory> {
+fn took(rt: &impl Abort, alloc: Global, messages: &[Taken]) -> Vec<Item> {
     let mut items = Vec::new(alloc);
     for taken in messages {
-        items.push(taken.item(alloc))?;
+        let item = Item {
+            stamp: taken.0,
+            input: Arrived::Message(named(*taken)),
+            done: Done::quiet(alloc),
+        };
+        assert!(rt; items.push(item).is_ok());
     }
-    Ok(items)
+    items
 }
 
 // The journal of a master that is ordered to begin a round, and sends questions of these epochs.
-fn asked(alloc: Global, epochs: &[u32]) -> Result<Vec<Item>, NoMemory> {
-    let sent = questions(alloc, epochs)?;
-    let mut items = Vec::new(alloc);
-    items.push(ordered(sent))?;
-    Ok(items)
-}
-
-fn questions(alloc: Global, epochs: &[u32]) -> Result<Vec<Message>, NoMemory> {
+fn asked(rt: &impl Abort, alloc: Global, epochs: &[u32]) -> Vec<Item> {
     let mut sent = Vec::new(alloc);
     for epoch in epochs {
-        sent.push(fence(*epoch))?;
+        assert!(rt; sent.push(fence(*epoch)).is_ok());
     }
-    Ok(sent)
-}
-
-fn ordered(sent: Vec<Message>) -> Item {
-    Item {
+    let mut items = Vec::new(alloc);
+    let item = Item {
         stamp: 1,
         input: Arrived::Local(Local::Sync, 0),
         done: Done::sends(sent),
-    }
-}
-
-// What merging is to give: these steps, or that the backup's first item took this message where the master's first question
-// was sent.
-#[derive(Clone, Copy)]
-enum Wanted<'a> {
-    Steps(&'a [Step]),
-    Told(&'a Taken),
-}
-
-// Whether two journals can be merged, and merging gives what is wanted.
-fn gives(alloc: Global, first: Strand<'_>, second: Strand<'_>, wanted: Wanted<'_>) -> bool {
-    if are_apart(&first, &second) {
-        if is_line(&first) {
-            if is_line(&second) {
-                return gives_merged(alloc, first, second, wanted);
-            }
-        }
-    }
-    false
-}
-
-fn gives_merged(alloc: Global, first: Strand<'_>, second: Strand<'_>, wanted: Wanted<'_>) -> bool
-    requires apart { first.id ≢ second.id }
-    requires first { IsLine first }
-    requires second { IsLine second }
-{
-    let merged = merged(alloc, first, second);
-    let is_wanted = is_wanted(&merged, wanted);
-    drop(merged);
-    is_wanted
+    };
+    assert!(rt; items.push(item).is_ok());
+    items
 }
 
 fn merged(alloc: Global, first: Strand<'_>, second: Strand<'_>) -> Result<Vec<Step>, GatherError>
@@ -138,120 +90,72 @@ fn merged(alloc: Global, first: Strand<'_>, second: Strand<'_>) -> Result<Vec<St
     merge(alloc, &[first, second])
 }
 
-fn is_wanted(merged: &Result<Vec<Step>, GatherError>, wanted: Wanted<'_>) -> bool {
-    match merged {
-        Ok(steps) => are_steps(steps, wanted),
-        Err(told) => is_told(told, wanted),
+// What merging two journals gives. They can be merged.
+fn merging(
+    rt: &impl Abort,
+    alloc: Global,
+    first: Strand<'_>,
+    second: Strand<'_>,
+) -> Result<Vec<Step>, GatherError> {
+    assert!(rt; are_apart(&first, &second));
+    assert!(rt; is_line(&first));
+    assert!(rt; is_line(&second));
+    merged(alloc, first, second)
+}
+
+// Merging gives these steps.
+fn try_steps(
+    rt: &impl Abort,
+    alloc: Global,
+    first: Strand<'_>,
+    second: Strand<'_>,
+    wanted: &[Step],
+) {
+    match merging(rt, alloc, first, second) {
+        Ok(steps) => assert!(rt; steps.as_slice() == wanted),
+        Err(_) => panic!(rt; "it isn't merged"),
     }
 }
 
-fn are_steps(steps: &[Step], wanted: Wanted<'_>) -> bool {
-    match wanted {
-        Wanted::Steps(wanted) => steps == wanted,
-        Wanted::Told(_) => false,
-    }
+fn is_as(told: &Named, taken: Taken) -> bool {
+    let wanted = named(taken);
+    let is_same = told.from == wanted.from
+        && (told.step, told.place, told.stamp) == (wanted.step, wanted.place, wanted.stamp)
+        && told.message.same(&wanted.message);
+    drop(wanted);
+    is_same
 }
 
-fn is_told(told: &GatherError, wanted: Wanted<'_>) -> bool {
-    match wanted {
-        Wanted::Steps(_) => false,
-        Wanted::Told(taken) => tells(told, taken),
-    }
-}
-
-fn tells(told: &GatherError, taken: &Taken) -> bool {
+fn tells(told: &GatherError, taken: Taken) -> bool {
     match told {
         GatherError::Mismatch {
             node,
             step,
             got,
             kept: Some(kept),
-        } => (*node, *step) == (BACKUP, 1) && is_as(got, taken) && is_as(kept, &FIRST),
+        } => (*node, *step) == (BACKUP, 1) && is_as(got, taken) && is_as(kept, FIRST),
         _ => false,
     }
 }
 
-fn is_as(told: &Named, taken: &Taken) -> bool {
-    let wanted = taken.named();
-    let is_same = is_same(told, &wanted);
-    drop(wanted);
-    is_same
-}
-
-fn is_same(a: &Named, b: &Named) -> bool {
-    a.from == b.from
-        && (a.step, a.place, a.stamp) == (b.step, b.place, b.stamp)
-        && a.message.same(&b.message)
-}
-
-// The master's first question, of epoch 1, as the backup takes it.
-const FIRST: Taken = Taken {
-    at: 2,
-    place: 1,
-    stamp: 1,
-    epoch: 1,
-};
-
-// Whether merging gives what is wanted, of a master that sends questions of these epochs, and a backup that took these
-// messages; the backup may stand before the master.
-fn holds(
-    alloc: Global,
-    epochs: &[u32],
-    taken: &[Taken],
-    backup_first: bool,
-    wanted: Wanted<'_>,
-) -> Result<bool, NoMemory> {
-    let master = asked(alloc, epochs)?;
-    let holds = holds_of(alloc, &master, taken, backup_first, wanted);
-    drop(master);
-    holds
-}
-
-fn holds_of(
-    alloc: Global,
-    master: &[Item],
-    taken: &[Taken],
-    backup_first: bool,
-    wanted: Wanted<'_>,
-) -> Result<bool, NoMemory> {
-    let backup = took(alloc, taken)?;
-    let holds = holds_of_both(alloc, master, &backup, backup_first, wanted);
-    drop(backup);
-    Ok(holds)
-}
-
-fn holds_of_both(
-    alloc: Global,
-    master: &[Item],
-    backup: &[Item],
-    backup_first: bool,
-    wanted: Wanted<'_>,
-) -> bool {
-    let master = Strand::new(MASTER, master, false);
-    let backup = Strand::new(BACKUP, backup, false);
-    if backup_first {
-        gives(alloc, backup, master, wanted)
-    } else {
-        gives(alloc, master, backup, wanted)
+// It is told that the backup's first item took this in place of the master's first question.
+fn try_mismatch(rt: &impl Abort, alloc: Global, taken: Taken) {
+    let master = asked(rt, alloc, &[1]);
+    let backup = took(rt, alloc, &[taken]);
+    let first = Strand::new(MASTER, &master, false);
+    let second = Strand::new(BACKUP, &backup, false);
+    match merging(rt, alloc, first, second) {
+        Ok(_) => panic!(rt; "it is merged"),
+        Err(told) => assert!(rt; tells(&told, taken)),
     }
-}
-
-// Whether it is told that the backup took this in place of the master's question.
-fn is_mismatch(alloc: Global, taken: &Taken) -> Result<bool, NoMemory> {
-    holds(alloc, &[1], &[*taken], false, Wanted::Told(taken))
+    drop(backup);
+    drop(master);
 }
 
 #[test]
-fn a_changed_message_is_a_mismatch(rt: HostRuntime) -> Result<(), Fail> {
-    let changed = Taken { epoch: 2, ..FIRST };
-    assert!(rt; is_mismatch(rt.alloc(), &changed)?);
-    let later = Taken {
-        at: 3,
-        stamp: 2,
-        ..FIRST
-    };
-    assert!(rt; is_mismatch(rt.alloc(), &later)?);
-    Ok(())
+fn a_changed_message_is_a_mismatch(rt: HostRuntime) {
+    try_mismatch(&rt, rt.alloc(), (2, 1, 1, 2));
+    try_mismatch(&rt, rt.alloc(), (3, 1, 2, 1));
 }
 
 const CROSSED: [Step; 3] = [
@@ -260,23 +164,21 @@ const CROSSED: [Step; 3] = [
     Step::Deliver { message: 1 },
 ];
 
-// Whether a backup that took the second question of a master first is merged so. The second one is of this epoch.
-fn are_crossed(alloc: Global, epoch: u32) -> Result<bool, NoMemory> {
-    let second = Taken {
-        place: 2,
-        epoch,
-        ..FIRST
-    };
-    let taken = [second, Taken { at: 3, ..FIRST }];
-    holds(alloc, &[1, epoch], &taken, true, Wanted::Steps(&CROSSED))
+// A backup that took the second question of a master first, which is of this epoch, is merged so.
+fn try_crossed(rt: &impl Abort, alloc: Global, epoch: u32) {
+    let master = asked(rt, alloc, &[1, epoch]);
+    let backup = took(rt, alloc, &[(2, 2, 1, epoch), (3, 1, 1, 1)]);
+    let first = Strand::new(BACKUP, &backup, false);
+    let second = Strand::new(MASTER, &master, false);
+    try_steps(rt, alloc, first, second, &CROSSED);
+    drop(backup);
+    drop(master);
 }
 
 #[test]
-fn messages_go_over_and_equal_ones_are_told_apart(rt: HostRuntime) -> Result<(), Fail> {
-    for epoch in [2, 1] {
-        assert!(rt; are_crossed(rt.alloc(), epoch)?);
-    }
-    Ok(())
+fn messages_go_over_and_equal_ones_are_told_apart(rt: HostRuntime) {
+    try_crossed(&rt, rt.alloc(), 2);
+    try_crossed(&rt, rt.alloc(), 1);
 }
 
 const STOPPED: [Step; 3] = [
@@ -291,36 +193,19 @@ const BY_LINES: [Step; 3] = [
     Step::Sync { master: 1 },
 ];
 
-fn stops_follow(alloc: Global, items: &[Item]) -> bool {
-    let master = Strand::new(MASTER, items, true);
-    gives(
-        alloc,
-        master,
-        Strand::new(BACKUP, &[], true),
-        Wanted::Steps(&STOPPED),
-    )
-}
-
-fn go_by_lines(alloc: Global, items: &[Item]) -> bool {
-    let first = Strand::new(OTHER_MASTER, items, true);
-    gives(
-        alloc,
-        first,
-        Strand::new(MASTER, items, false),
-        Wanted::Steps(&BY_LINES),
-    )
-}
-
-// Whether stops follow their items, and equal stamps go by lines.
-fn are_in_order(alloc: Global) -> Result<(bool, bool), NoMemory> {
-    let items = asked(alloc, &[])?;
-    let are_in_order = (stops_follow(alloc, &items), go_by_lines(alloc, &items));
-    drop(items);
-    Ok(are_in_order)
-}
-
 #[test]
-fn stops_follow_their_items_and_equal_stamps_go_by_lines(rt: HostRuntime) -> Result<(), Fail> {
-    assert!(rt; are_in_order(rt.alloc())? == (true, true));
-    Ok(())
+fn stops_follow_their_items_and_equal_stamps_go_by_lines(rt: HostRuntime) {
+    let alloc = rt.alloc();
+    let items = asked(&rt, alloc, &[]);
+    let (first, second) = (
+        Strand::new(MASTER, &items, true),
+        Strand::new(BACKUP, &[], true),
+    );
+    try_steps(&rt, alloc, first, second, &STOPPED);
+    let (first, second) = (
+        Strand::new(OTHER_MASTER, &items, true),
+        Strand::new(MASTER, &items, false),
+    );
+    try_steps(&rt, alloc, first, second, &BY_LINES);
+    drop(items);
 }

@@ -1,73 +1,59 @@
 // Messages that differ in one place.
-use curp_base::{AscendingPairs, Items, NoMemory, Shared, pairs_ascend};
+use curp_base::{AscendingPairs, Items, Shared, pairs_ascend};
 use curp_cmd::{Command, Entry, Key, NodeId, Package, Request, RequestId, TablePart, Value};
 use curp_msg::{Append, Body, Message};
 use curp_same::Same;
-use std::alloc::{AllocError, Global};
-use std::test::Fail;
+use std::alloc::Global;
+use std::process::Abort;
 
-// An update, and a range with one pair, that a master sends a backup: the key, and its value in each.
-#[derive(Clone, Copy)]
-struct Sent {
-    key: Key,
-    put: Value,
-    taken: Value,
+fn value(rt: &impl Abort, bytes: &[u8]) -> Value {
+    Value::new(bytes).expect(rt, "no value")
 }
 
-impl Sent {
-    fn pairs(&self, alloc: Global) -> Result<AscendingPairs<Key, Value>, NoMemory> {
-        let pairs = Vec::from_slice(alloc, &[(self.key, self.taken)])?;
-        if pairs_ascend(&pairs) {
-            Ok(AscendingPairs::new(pairs))
-        } else {
-            Err(AllocError)
-        }
+// A range with one pair.
+fn take(rt: &impl Abort, alloc: Global, key: Key, value: Value) -> Entry {
+    let pairs = Vec::from_slice(alloc, &[(key, value)]).expect(rt, "no memory");
+    assert!(rt; pairs_ascend(&pairs));
+    let package = Package {
+        lo: 0,
+        hi: 9,
+        pairs: AscendingPairs::new(pairs),
+        table: TablePart::new(alloc),
+    };
+    Entry::Take {
+        migration: 1,
+        package: Shared::new(alloc, package).ok().expect(rt, "no memory"),
     }
+}
 
-    fn take(&self, alloc: Global) -> Result<Entry, NoMemory> {
-        let package = Package {
-            lo: 0,
-            hi: 9,
-            pairs: self.pairs(alloc)?,
-            table: TablePart::new(alloc),
-        };
-        Ok(Entry::Take {
-            migration: 1,
-            package: Shared::new(alloc, package)?,
-        })
+// An update.
+fn put(rt: &impl Abort, alloc: Global, key: Key, value: Value) -> Entry {
+    let request = Request {
+        id: RequestId { client: 1, seq: 1 },
+        first: 1,
+        command: Command::Put(key, value),
+    };
+    Entry::Op {
+        request: Shared::of(alloc, &request).expect(rt, "no memory"),
+        acknowledge: 1,
     }
+}
 
-    fn put(&self, alloc: Global) -> Result<Entry, NoMemory> {
-        let request = Request {
-            id: RequestId { client: 1, seq: 1 },
-            first: 1,
-            command: Command::Put(self.key, self.put),
-        };
-        Ok(Entry::Op {
-            request: Shared::of(alloc, &request)?,
-            acknowledge: 1,
-        })
-    }
-
-    fn entries(&self, alloc: Global) -> Result<Vec<Entry>, NoMemory> {
-        let mut entries = Vec::new(alloc);
-        entries.push(self.put(alloc)?)?;
-        entries.push(self.take(alloc)?)?;
-        Ok(entries)
-    }
-
-    fn message(&self, alloc: Global) -> Result<Message, NoMemory> {
-        let entries = Items::new(self.entries(alloc)?);
-        Ok(Message {
-            from: NodeId::master(1),
-            to: NodeId::backup(1),
-            body: Body::Append(Append {
-                epoch: 1,
-                base: 0,
-                round: 1,
-                entries,
-            }),
-        })
+// An update, and a range with one pair, that a master sends a backup: the value of a key in each.
+fn message(rt: &impl Abort, alloc: Global, updated: Value, taken: Value) -> Message {
+    let key = Key::new(b"a").expect(rt, "no key");
+    let mut entries = Vec::new(alloc);
+    assert!(rt; entries.push(put(rt, alloc, key, updated)).is_ok());
+    assert!(rt; entries.push(take(rt, alloc, key, taken)).is_ok());
+    Message {
+        from: NodeId::master(1),
+        to: NodeId::backup(1),
+        body: Body::Append(Append {
+            epoch: 1,
+            base: 0,
+            round: 1,
+            entries: Items::new(entries),
+        }),
     }
 }
 
@@ -77,40 +63,15 @@ fn is_as(message: &Message, other: Message) -> bool {
     is_same
 }
 
-// Whether the message is told to be its copy, and not those in which one value is another one.
-fn is_told_apart(
-    alloc: Global,
-    message: &Message,
-    sent: Sent,
-    other: Value,
-) -> Result<bool, NoMemory> {
-    let other_put = Sent { put: other, ..sent };
-    let other_taken = Sent {
-        taken: other,
-        ..sent
-    };
-    Ok(
-        is_as(message, message.copy(alloc)?)
-            && !is_as(message, other_put.message(alloc)?)
-            && !is_as(message, other_taken.message(alloc)?),
-    )
-}
-
-fn are_told_apart(alloc: Global, sent: Sent, other: Value) -> Result<bool, NoMemory> {
-    let message = sent.message(alloc)?;
-    let is_told_apart = is_told_apart(alloc, &message, sent, other);
-    drop(message);
-    is_told_apart
-}
-
+// A message is told to be its copy, and not those in which one value is another one.
 #[test]
-fn messages_are_told_apart(rt: HostRuntime) -> Result<(), Fail> {
-    let (key, one, two) = (Key::new(b"a")?, Value::new(b"1")?, Value::new(b"2")?);
-    let sent = Sent {
-        key,
-        put: one,
-        taken: one,
-    };
-    assert!(rt; are_told_apart(rt.alloc(), sent, two)?);
-    Ok(())
+fn messages_are_told_apart(rt: HostRuntime) {
+    let alloc = rt.alloc();
+    let (one, two) = (value(&rt, b"1"), value(&rt, b"2"));
+    let sent = message(&rt, alloc, one, one);
+    let copy = sent.copy(alloc).expect(&rt, "no memory");
+    assert!(rt; is_as(&sent, copy));
+    assert!(rt; !is_as(&sent, message(&rt, alloc, two, one)));
+    assert!(rt; !is_as(&sent, message(&rt, alloc, one, two)));
+    drop(sent);
 }

@@ -1,124 +1,69 @@
 // Journals of a small node: what is kept, how it is stamped and named, and that its inputs can be given again.
 use crate::asker::{Asker, begun, fetch, sync};
-use curp_base::NoMemory;
 use curp_journal::{Arrived, Item};
-use curp_seat::{Gate, Kept, Point, Running, Sent};
+use curp_seat::{Gate, Kept, Point, Running};
 use std::alloc::Global;
+use std::process::Abort;
 use std::sync::atomic::{AtomicU64, Ordering};
-use std::test::Fail;
-
-// What a test looks at, of a node that was ordered to fetch twice.
-#[derive(Clone, Copy)]
-enum Look {
-    // The stamps of its items, and that no stamp is left above the highest one.
-    Stamps,
-    // A refused order isn't kept.
-    Refusal,
-    // It has its last stop.
-    Stop,
-    // What it sent is named.
-    Names,
-}
-
-fn is_as_wanted(alloc: Global, look: Look) -> Result<bool, NoMemory> {
-    let mut kept = begun(alloc);
-    let looked = asks_and_looks(&mut kept, look);
-    drop(kept);
-    looked
-}
-
-fn asks_and_looks(kept: &mut Kept<Asker>, look: Look) -> Result<bool, NoMemory> {
-    step(kept, fetch(5))?;
-    step(kept, fetch(0))?;
-    looks(kept, look)
-}
-
-fn looks(kept: &mut Kept<Asker>, look: Look) -> Result<bool, NoMemory> {
-    match look {
-        Look::Stamps => is_full(kept),
-        Look::Refusal => refuses(kept),
-        Look::Stop => Ok(stops(kept)),
-        Look::Names => names(kept),
-    }
-}
-
-fn is_full(kept: &mut Kept<Asker>) -> Result<bool, NoMemory> {
-    let has_stamps = has_stamps(kept.journal());
-    Ok(step(kept, fetch(u64::MAX))? == 255 && has_stamps && kept.journal().len() == 2)
-}
-
-fn refuses(kept: &mut Kept<Asker>) -> Result<bool, NoMemory> {
-    Ok(step(kept, sync(0))? == 1 && kept.journal().len() == 2)
-}
 
 // The number of the refusal, and 0 where it was taken.
-fn step(kept: &mut Kept<Asker>, arrived: Arrived) -> Result<u8, NoMemory> {
-    if kept.ended() {
-        return Ok(254);
-    }
-    kept.step(arrived)
+fn step(rt: &impl Abort, kept: &mut Kept<Asker>, arrived: Arrived) -> u8 {
+    assert!(rt; !kept.ended());
+    kept.step(arrived).expect(rt, "no memory")
+}
+
+// A node that was ordered to fetch twice.
+fn asked(rt: &impl Abort, alloc: Global) -> Kept<Asker> {
+    let mut kept = begun(alloc);
+    step(rt, &mut kept, fetch(5));
+    step(rt, &mut kept, fetch(0));
+    kept
 }
 
 fn has_stamps(items: &[Item]) -> bool {
     match items {
-        [first, second] => (first.stamp, second.stamp) == (6, 7),
+        [first, second] => first.stamp == 6 && second.stamp == 7,
         _ => false,
     }
 }
 
-fn stops(kept: &mut Kept<Asker>) -> bool {
-    if kept.ended() {
-        return false;
-    }
-    kept.mark_stop();
-    kept.ended()
-}
-
-fn names(kept: &Kept<Asker>) -> Result<bool, NoMemory> {
-    if kept.journal().len() != 2 {
-        return Ok(false);
-    }
-    let sent = kept.sent(1)?;
-    let is_named = is_named(&sent);
+// Whether what its second item sent is named.
+fn is_named(rt: &impl Abort, kept: &Kept<Asker>) -> bool {
+    assert!(rt; kept.journal().len() == 2);
+    let sent = kept.sent(1).expect(rt, "no memory");
+    let is_named = match sent.named.as_slice() {
+        [named] => named.step == 2 && named.place == 1 && named.stamp == 7,
+        _ => false,
+    };
+    let is_named = is_named && sent.completed.is_none();
     drop(sent);
-    Ok(is_named)
+    is_named
 }
 
-fn is_named(sent: &Sent) -> bool {
-    match sent.named.as_slice() {
-        [named] => (named.step, named.place, named.stamp) == (2, 1, 7) && sent.completed.is_none(),
-        _ => false,
-    }
-}
-
+// No stamp is left above the highest one, and a refused order isn't kept.
 #[test]
-fn a_node_keeps_what_it_takes(rt: HostRuntime) -> Result<(), Fail> {
-    for look in [Look::Stamps, Look::Refusal, Look::Stop, Look::Names] {
-        assert!(rt; is_as_wanted(rt.alloc(), look)?);
-    }
-    Ok(())
+fn a_node_keeps_what_it_takes(rt: HostRuntime) {
+    let mut kept = asked(&rt, rt.alloc());
+    assert!(rt; has_stamps(kept.journal()));
+    assert!(rt; step(&rt, &mut kept, fetch(u64::MAX)) == 255);
+    assert!(rt; kept.journal().len() == 2);
+    assert!(rt; step(&rt, &mut kept, sync(0)) == 1);
+    assert!(rt; is_named(&rt, &kept));
+    assert!(rt; !kept.ended());
+    kept.mark_stop();
+    assert!(rt; kept.ended());
+    drop(kept);
 }
 
-// How many items the journal has when its inputs are given to another node that does the same.
-fn again_made(alloc: Global) -> Result<Option<usize>, NoMemory> {
-    let mut kept = begun(alloc);
-    match asks_and_looks(&mut kept, Look::Stamps) {
-        Ok(_) => count_again(alloc, kept),
-        Err(error) => Err(error),
-    }
-}
-
-fn count_again(alloc: Global, kept: Kept<Asker>) -> Result<Option<usize>, NoMemory> {
-    match kept.begun_with(Asker::new(alloc, 7))? {
-        Some(made) => Ok(Some(made.journal().len())),
-        None => Ok(None),
-    }
-}
-
+// The journal of another node that is given its inputs and does the same has as many items.
 #[test]
-fn inputs_are_given_again(rt: HostRuntime) -> Result<(), Fail> {
-    assert!(rt; again_made(rt.alloc())? == Some(2));
-    Ok(())
+fn inputs_are_given_again(rt: HostRuntime) {
+    let kept = asked(&rt, rt.alloc());
+    let again = kept.begun_with(Asker::new(rt.alloc(), 7));
+    let again = again.expect(&rt, "no memory");
+    let made = again.expect(&rt, "it does otherwise");
+    assert!(rt; made.journal().len() == 2);
+    drop(made);
 }
 
 // A gate that counts how often it hears of a step that isn't the next one.
@@ -137,35 +82,30 @@ impl Gate for Numbering {
     }
 }
 
-// The numbers of the refusals of two orders.
-fn made(alloc: Global, gate: &Numbering) -> Result<(u8, u8), NoMemory> {
-    let mut running = Running::new(alloc, begun(alloc));
-    let first = refusal(&mut running, gate, fetch(0));
-    let second = refusal(&mut running, gate, sync(0));
-    drop(running);
-    Ok((first?, second?))
-}
-
+// The number of the refusal.
 fn refusal(
+    rt: &impl Abort,
     running: &mut Running<Asker>,
     gate: &Numbering,
     arrived: Arrived,
-) -> Result<u8, NoMemory> {
-    let made = running.make(gate, arrived)?;
-    let refused = made.refused;
-    drop(made);
-    Ok(refused)
+) -> u8 {
+    match running.make(gate, arrived) {
+        Ok(made) => made.refused,
+        Err(_) => panic!(rt; "no memory"),
+    }
 }
 
 // The gate hears of a step before it is made: also of one that the node then refuses.
 #[test]
-fn a_gate_hears_before_the_step(rt: HostRuntime) -> Result<(), Fail> {
+fn a_gate_hears_before_the_step(rt: HostRuntime) {
     let gate = Numbering {
         heard: AtomicU64::new(0),
         wrong: AtomicU64::new(0),
     };
-    assert!(rt; made(rt.alloc(), &gate)? == (0, 1));
+    let mut running = Running::new(rt.alloc(), begun(rt.alloc()));
+    assert!(rt; refusal(&rt, &mut running, &gate, fetch(0)) == 0);
+    assert!(rt; refusal(&rt, &mut running, &gate, sync(0)) == 1);
+    drop(running);
     assert!(rt; gate.heard.load(Ordering::SeqCst) == 2);
     assert!(rt; gate.wrong.load(Ordering::SeqCst) == 0);
-    Ok(())
 }

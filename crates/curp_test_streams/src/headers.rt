@@ -1,7 +1,9 @@
 // Headers of clients that aren't fast, which no word prints, and a reader that goes on behind lines that it refused.
 ghost use Rattle.curp_msg.specs.Script.{IsHeader};
 
-use curp_script::{Header, LineReader, Protocol, Step, print_header};
+use crate::steps::reads_step;
+use curp_print::print_header;
+use curp_script::{Header, LineReader, Protocol, Step};
 use std::alloc::Global;
 use std::process::Abort;
 
@@ -25,7 +27,8 @@ const SECOND: Header = Header {
     ways: 4,
 };
 
-fn is_read(reader: &mut LineReader, line: &str, header: &Header) -> bool {
+/// Whether that header is read of the line.
+fn reads_header(reader: &mut LineReader, line: &str, header: &Header) -> bool {
     match reader.parse_header(line.as_bytes()) {
         Ok(found) => found == *header,
         Err(_) => false,
@@ -41,28 +44,16 @@ fn is_printed(alloc: Global, header: &Header, line: &str) -> bool
     }
 }
 
-fn try_header(rt: &impl Abort, alloc: Global, header: &Header, line: &str)
-    requires { IsHeader header.now }
-{
-    let mut reader = LineReader::new(alloc);
-    assert!(rt; is_read(&mut reader, line, header), "read: {line}");
-    assert!(rt; is_printed(alloc, header, line), "printed: {line}");
-}
-
 #[test]
 fn headers_that_are_not_fast_are_read_and_printed(rt: HostRuntime) {
+    let mut reader = LineReader::new(rt.alloc());
     let line = r#"{"clients":2,"f":1,"fast":false,"parts":1,"protocol":1,"sets":16,"ways":4}"#;
-    try_header(&rt, rt.alloc(), &FIRST, line);
+    assert!(rt; reads_header(&mut reader, line, &FIRST));
+    assert!(rt; is_printed(rt.alloc(), &FIRST, line));
+    let mut reader = LineReader::new(rt.alloc());
     let line = r#"{"clients":2,"f":1,"fast":false,"parts":1,"protocol":2,"sets":16,"ways":4}"#;
-    try_header(&rt, rt.alloc(), &SECOND, line);
-}
-
-/// Whether the first message's delivery is read of the line.
-fn is_delivery(reader: &mut LineReader, line: &str) -> bool {
-    match reader.parse_line(line.as_bytes()) {
-        Ok(step) => step == Step::Deliver { message: 1 },
-        Err(_) => false,
-    }
+    assert!(rt; reads_header(&mut reader, line, &SECOND));
+    assert!(rt; is_printed(rt.alloc(), &SECOND, line));
 }
 
 /// A line of a delivery of so many bytes, filled up by blanks.
@@ -80,14 +71,16 @@ fn nested(rt: &impl Abort, alloc: Global, levels: usize) -> String {
     line.expect(rt, "no memory")
 }
 
+const DELIVERY: Step = Step::Deliver { message: 1 };
+
 // JSON is read up to 127 levels, with that of the line itself.
 #[test]
 fn a_reader_goes_on_behind_lines_that_it_refused(rt: HostRuntime) {
     let mut reader = LineReader::new(rt.alloc());
     let line = longest(&rt, rt.alloc());
     assert!(rt; line.len() == 65_536);
-    assert!(rt; is_delivery(&mut reader, &line));
+    assert!(rt; reads_step(&mut reader, &line, &DELIVERY));
     let deep = nested(&rt, rt.alloc(), 127);
-    assert!(rt; !is_delivery(&mut reader, &deep));
-    assert!(rt; is_delivery(&mut reader, &line));
+    assert!(rt; !reads_step(&mut reader, &deep, &DELIVERY));
+    assert!(rt; reads_step(&mut reader, &line, &DELIVERY));
 }

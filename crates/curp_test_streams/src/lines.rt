@@ -1,6 +1,4 @@
 // Lines from sources that fail, or that give little at a time.
-ghost use Rattle.std.specs.Prelude.{◌<◌};
-
 use curp_io::{Lines, MemorySource, NextLine, Source, SureSource};
 use std::alloc::Global;
 use std::process::Abort;
@@ -15,42 +13,12 @@ pub(crate) fn fresh(rt: &impl Abort, alloc: Global) -> Lines {
     Lines::new(alloc).expect(rt, "no memory")
 }
 
-fn sure(rt: &impl Abort, alloc: Global, text: &str) -> SureSource {
-    SureSource::new(alloc, text.as_bytes()).expect(rt, "no memory")
-}
-
-fn in_pieces(
-    rt: &impl Abort,
-    alloc: Global,
-    text: &str,
-    failing: &[u64],
-    size: usize,
-) -> MemorySource
-    requires { 0 < size }
-{
-    MemorySource::in_pieces(alloc, text.as_bytes(), failing, size).expect(rt, "no memory")
-}
-
 // ---- what a source gives
-
-fn is_next<S: Source>(lines: &mut Lines, source: &mut S, text: &str) -> bool {
-    next(lines, source) == NextLine::Line && lines.text() == text.as_bytes()
-}
 
 /// Whether the next lines are these, each with a bar behind it.
 fn are_next<S: Source>(lines: &mut Lines, source: &mut S, texts: &str) -> bool {
     for text in texts.split_terminator('|') {
-        if !is_next(lines, source, text) {
-            return false;
-        }
-    }
-    true
-}
-
-/// Whether each of the next answers is this.
-fn always<S: Source>(lines: &mut Lines, source: &mut S, last: NextLine) -> bool {
-    for _ in 0..5 {
-        if next(lines, source) != last {
+        if next(lines, source) != NextLine::Line || lines.text() != text.as_bytes() {
             return false;
         }
     }
@@ -64,12 +32,16 @@ pub(crate) fn gives<S: Source>(
     texts: &str,
     last: NextLine,
 ) -> bool {
-    are_next(lines, source, texts) && always(lines, source, last)
+    let mut gives = are_next(lines, source, texts);
+    for _ in 0..5 {
+        gives = next(lines, source) == last && gives;
+    }
+    gives
 }
 
 fn sure_gives(rt: &impl Abort, alloc: Global, text: &str, texts: &str, last: NextLine) -> bool {
+    let mut source = SureSource::new(alloc, text.as_bytes()).expect(rt, "no memory");
     let mut lines = fresh(rt, alloc);
-    let mut source = sure(rt, alloc, text);
     let gives = gives(&mut lines, &mut source, texts, last);
     drop(source);
     drop(lines);
@@ -86,8 +58,9 @@ fn pieces_give(
     last: NextLine,
 ) -> bool {
     assert!(rt; 0 < size);
+    let source = MemorySource::in_pieces(alloc, text.as_bytes(), failing, size);
+    let mut source = source.expect(rt, "no memory");
     let mut lines = fresh(rt, alloc);
-    let mut source = in_pieces(rt, alloc, text, failing, size);
     let gives = gives(&mut lines, &mut source, texts, last);
     drop(source);
     drop(lines);
@@ -102,42 +75,38 @@ static LINES: [(&str, &str); 5] = [
     ("\n", "|"),
 ];
 
-fn try_lines(rt: &impl Abort, alloc: Global, text: &str, texts: &str) {
-    let end = NextLine::End;
-    let sure = sure_gives(rt, alloc, text, texts, end);
-    let ones = pieces_give(rt, alloc, (text, 1), &[], texts, end);
-    let threes = pieces_give(rt, alloc, (text, 3), &[], texts, end);
-    assert!(rt; sure && ones && threes, "{texts}");
-}
-
 #[test]
 fn pieces_of_any_size_give_the_same_lines(rt: HostRuntime) {
+    let (alloc, end) = (rt.alloc(), NextLine::End);
     for (text, texts) in &LINES {
-        try_lines(&rt, rt.alloc(), text, texts);
+        assert!(rt; sure_gives(&rt, alloc, text, texts, end), "{texts}");
+        assert!(rt;
+            pieces_give(&rt, alloc, (text, 1), &[], texts, end),
+            "{texts}"
+        );
+        assert!(rt;
+            pieces_give(&rt, alloc, (text, 3), &[], texts, end),
+            "{texts}"
+        );
     }
 }
 
-/// A row of the longest lines, where `X` stands for one.
-fn try_longest(
-    rt: &impl Abort,
-    alloc: Global,
-    longest: &str,
-    (text, texts): (&str, &str),
-    last: NextLine,
-) {
-    let text = text.replace(alloc, "X", longest).expect(rt, "no memory");
-    let texts = texts.replace(alloc, "X", longest).expect(rt, "no memory");
-    assert!(rt; sure_gives(rt, alloc, &text, &texts, last));
-}
+/// Sources, and their lines, where `X` stands for the longest line, and how they end.
+static LONGEST: [(&str, &str, NextLine); 3] = [
+    ("X", "X|", NextLine::End),
+    ("X\nnext", "X|next|", NextLine::End),
+    ("first\nXx", "first|", NextLine::TooLong { at: 2 }),
+];
 
 #[test]
 fn the_longest_line_is_read(rt: HostRuntime) {
     let alloc = rt.alloc();
-    let line = "x".repeat(alloc, 65_536).expect(&rt, "no memory");
-    try_longest(&rt, alloc, &line, ("X", "X|"), NextLine::End);
-    try_longest(&rt, alloc, &line, ("X\nnext", "X|next|"), NextLine::End);
-    let too_long = NextLine::TooLong { at: 2 };
-    try_longest(&rt, alloc, &line, ("first\nXx", "first|"), too_long);
+    let longest = "x".repeat(alloc, 65_536).expect(&rt, "no memory");
+    for (text, texts, last) in &LONGEST {
+        let text = text.replace(alloc, "X", &longest).expect(&rt, "no memory");
+        let texts = texts.replace(alloc, "X", &longest).expect(&rt, "no memory");
+        assert!(rt; sure_gives(&rt, alloc, &text, &texts, *last));
+    }
 }
 
 #[test]

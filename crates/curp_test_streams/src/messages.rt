@@ -25,58 +25,60 @@ fn text_of(
     step_text(alloc, number, outcome, sent).expect(rt, "no memory")
 }
 
-fn shared(rt: &impl Abort, alloc: Global, request: &Request) -> Shared<Request> {
-    Shared::of(alloc, request).expect(rt, "no memory")
-}
-
 // ---- messages that no node sends in a run: its epochs are those of the nodes, and a backup's list only grows
 
+const OTHER_EPOCH: Refuse = Refuse {
+    id: ID,
+    refusal: Refusal::Epoch { current: 3 },
+};
+
+const STRANGER: Rejected = Rejected {
+    id: ID,
+    reason: Reason::Stranger { epoch: 6 },
+};
+
+const NOT_COLLECTED: Collected = Collected {
+    epoch: 5,
+    answer: GcAnswer::Stranger { epoch: Some(6) },
+};
+
+const GAP: Appended = Appended {
+    epoch: 5,
+    round: 7,
+    answer: AppendAnswer::Gap { length: 3 },
+};
+
+const DONE: Outcome = Outcome {
+    result: StepResult::Done,
+    first: 9,
+    sent: 1,
+    completed: None,
+};
+
 fn says(rt: &impl Abort, alloc: Global, body: Body, words: &str) {
-    let outcome = Outcome {
-        result: StepResult::Done,
-        first: 9,
-        sent: 1,
-        completed: None,
-    };
     let sent = [Message {
         from: NodeId::client(1),
         to: NodeId::master(2),
         body,
     }];
-    let text = text_of(rt, alloc, 3, &outcome, &sent);
+    let text = text_of(rt, alloc, 3, &DONE, &sent);
     drop(sent);
     let wanted = format!(in alloc; "s3 done\nm9 C1 M2 {words}\n").expect(rt, "no memory");
     assert!(rt; text.as_slice() == wanted.as_bytes(), "{words}");
 }
 
-const OTHER_EPOCH: Body = Body::Refuse(Refuse {
-    id: ID,
-    refusal: Refusal::Epoch { current: 3 },
-});
-
-const STRANGER: Body = Body::Rejected(Rejected {
-    id: ID,
-    reason: Reason::Stranger { epoch: 6 },
-});
-
-const NOT_COLLECTED: Body = Body::Collected(Collected {
-    epoch: 5,
-    answer: GcAnswer::Stranger { epoch: Some(6) },
-});
-
-const GAP: Body = Body::Appended(Appended {
-    epoch: 5,
-    round: 7,
-    answer: AppendAnswer::Gap { length: 3 },
-});
-
 #[test]
 fn shows_what_no_run_sends(rt: HostRuntime) {
     let alloc = rt.alloc();
-    says(&rt, alloc, OTHER_EPOCH, "refuse 1.2 epoch e3");
-    says(&rt, alloc, STRANGER, "rejected 1.2 stranger e6");
-    says(&rt, alloc, NOT_COLLECTED, "stranger e6");
-    says(&rt, alloc, GAP, "gap l3");
+    says(&rt, alloc, Body::Refuse(OTHER_EPOCH), "refuse 1.2 epoch e3");
+    says(
+        &rt,
+        alloc,
+        Body::Rejected(STRANGER),
+        "rejected 1.2 stranger e6",
+    );
+    says(&rt, alloc, Body::Collected(NOT_COLLECTED), "stranger e6");
+    says(&rt, alloc, Body::Appended(GAP), "gap l3");
 }
 
 // ---- the greatest numbers, the longest key and value, all slots of a witness, and a completion behind the messages
@@ -95,15 +97,7 @@ fn request(rt: &impl Abort, alloc: Global, id: RequestId, first: u32) -> Shared<
         first,
         command: Command::Put(key, value),
     };
-    shared(rt, alloc, &request)
-}
-
-fn update(rt: &impl Abort, alloc: Global) -> Body {
-    Body::Update(Ask {
-        request: request(rt, alloc, ID, 2),
-        epoch: 5,
-        version: 7,
-    })
+    Shared::of(alloc, &request).expect(rt, "no memory")
 }
 
 fn frozen(rt: &impl Abort, alloc: Global) -> Body {
@@ -124,23 +118,25 @@ fn to_the_manager(body: Body) -> Message {
     }
 }
 
-fn largest_text(rt: &impl Abort, alloc: Global) -> Vec<u8> {
-    let completed = Completed {
+const FULL: Outcome = Outcome {
+    result: StepResult::Full { weight: u64::MAX },
+    first: u64::MAX - 2,
+    sent: 2,
+    completed: Some(Completed {
         id: LAST,
         answer: Answer::Done,
         by: None,
-    };
-    let outcome = Outcome {
-        result: StepResult::Full { weight: u64::MAX },
-        first: u64::MAX - 2,
-        sent: 2,
-        completed: Some(completed),
-    };
-    let sent = [
-        to_the_manager(update(rt, alloc)),
-        to_the_manager(frozen(rt, alloc)),
-    ];
-    let text = text_of(rt, alloc, u64::MAX, &outcome, &sent);
+    }),
+};
+
+fn largest_text(rt: &impl Abort, alloc: Global) -> Vec<u8> {
+    let update = Body::Update(Ask {
+        request: request(rt, alloc, ID, 2),
+        epoch: 5,
+        version: 7,
+    });
+    let sent = [to_the_manager(update), to_the_manager(frozen(rt, alloc))];
+    let text = text_of(rt, alloc, u64::MAX, &FULL, &sent);
     drop(sent);
     text
 }

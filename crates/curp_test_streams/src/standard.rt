@@ -6,7 +6,6 @@ use crate::sinks::{flush, write};
 use curp_io::{Flushed, NextLine, Source, StdSink, StdSource, Taken, Written};
 use std::io;
 use std::io::{ErrorKind, Read, Write};
-use std::process::Abort;
 
 #[test]
 fn a_reader_is_a_source(rt: HostRuntime) {
@@ -67,65 +66,56 @@ impl Write for Rough {
     }
 }
 
-fn rough_stream(interruptions: u64, failure: Option<ErrorKind>, left: usize) -> Rough {
-    Rough {
-        interruptions,
-        failure,
-        left,
-    }
-}
-
 const NO_MEMORY: Option<ErrorKind> = Some(ErrorKind::OutOfMemory);
 
 const BROKEN: Option<ErrorKind> = Some(ErrorKind::BrokenPipe);
 
-/// A rough writer takes a piece of 5,000 bytes so, and is then flushed so.
-fn try_writer(rt: &impl Abort, rough: Rough, written: Written, flushed: Flushed) {
-    let mut sink = StdSink::new(rough);
-    assert!(rt; write(&mut sink, &[b'x'; 5_000]) == written);
-    assert!(rt; flush(&mut sink) == flushed);
-    drop(sink);
-}
+/// Rough writers, how they take a piece of 5,000 bytes, and how they are flushed then.
+static WRITERS: [(u64, Option<ErrorKind>, usize, Written, Flushed); 6] = [
+    (0, None, 5_000, Written::Whole, Flushed::Done),
+    (999, None, 5_000, Written::Whole, Flushed::Done),
+    (1_000, None, 5_000, Written::WriteFault, Flushed::Done),
+    (0, None, 4_999, Written::WriteFault, Flushed::Done),
+    (0, BROKEN, 5_000, Written::WriteFault, Flushed::Failed),
+    (0, NO_MEMORY, 5_000, Written::NoMemory, Flushed::Failed),
+];
 
 #[test]
-fn a_rough_writer(rt: HostRuntime) {
-    let (whole, fault) = (Written::Whole, Written::WriteFault);
-    let (done, failed) = (Flushed::Done, Flushed::Failed);
-    try_writer(&rt, rough_stream(0, None, 5_000), whole, done);
-    try_writer(&rt, rough_stream(999, None, 5_000), whole, done);
-    try_writer(&rt, rough_stream(1_000, None, 5_000), fault, done);
-    try_writer(&rt, rough_stream(0, None, 4_999), fault, done);
-    try_writer(&rt, rough_stream(0, BROKEN, 5_000), fault, failed);
-    try_writer(
-        &rt,
-        rough_stream(0, NO_MEMORY, 5_000),
-        Written::NoMemory,
-        failed,
-    );
+fn rough_writers(rt: HostRuntime) {
+    for (interruptions, failure, left, written, flushed) in &WRITERS {
+        let mut sink = StdSink::new(Rough {
+            interruptions: *interruptions,
+            failure: *failure,
+            left: *left,
+        });
+        assert!(rt; write(&mut sink, &[b'x'; 5_000]) == *written);
+        assert!(rt; flush(&mut sink) == *flushed);
+        drop(sink);
+    }
 }
 
 fn take<R: Read>(source: &mut StdSource<R>) -> Taken {
     source.take(&mut [0; 9])
 }
 
-/// Two calls take these of a rough reader.
-fn try_reader(rt: &impl Abort, rough: Rough, first: Taken, second: Taken) {
-    let mut source = StdSource::new(rough);
-    assert!(rt; take(&mut source) == first);
-    assert!(rt; take(&mut source) == second);
-    drop(source);
-}
+/// Rough readers, and what two calls take of them.
+static READERS: [(u64, Option<ErrorKind>, Taken, Taken); 4] = [
+    (0, None, Taken::Bytes(3), Taken::Bytes(0)),
+    (999, None, Taken::Bytes(3), Taken::Bytes(0)),
+    (1_000, None, Taken::Failed, Taken::Bytes(3)),
+    (0, NO_MEMORY, Taken::Failed, Taken::Failed),
+];
 
 #[test]
-fn a_rough_reader(rt: HostRuntime) {
-    let (three, none) = (Taken::Bytes(3), Taken::Bytes(0));
-    try_reader(&rt, rough_stream(0, None, 3), three, none);
-    try_reader(&rt, rough_stream(999, None, 3), three, none);
-    try_reader(&rt, rough_stream(1_000, None, 3), Taken::Failed, three);
-    try_reader(
-        &rt,
-        rough_stream(0, NO_MEMORY, 3),
-        Taken::Failed,
-        Taken::Failed,
-    );
+fn rough_readers(rt: HostRuntime) {
+    for (interruptions, failure, first, second) in &READERS {
+        let mut source = StdSource::new(Rough {
+            interruptions: *interruptions,
+            failure: *failure,
+            left: 3,
+        });
+        assert!(rt; take(&mut source) == *first);
+        assert!(rt; take(&mut source) == *second);
+        drop(source);
+    }
 }

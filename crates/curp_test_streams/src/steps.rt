@@ -3,7 +3,8 @@ ghost use Rattle.std.specs.Prelude.{IsTrue};
 ghost use Rattle.curp_script.specs.Printed.{NamesNode};
 
 use curp_cmd::{Keeper, NodeId, NodeKind};
-use curp_script::{LineReader, Step, print_line};
+use curp_print::print_line;
+use curp_script::{LineReader, Step};
 use std::alloc::Global;
 use std::process::Abort;
 
@@ -19,53 +20,40 @@ fn names_node(step: &Step) -> bool
     }
 }
 
-// ---- what is called, of which the tests know nothing
-
-fn read(reader: &mut LineReader, line: &str) -> Option<Step> {
-    reader.parse_line(line.as_bytes()).ok()
-}
-
-/// The line of a step; none where it has none.
-fn printed(alloc: Global, step: &Step) -> Option<Vec<u8>> {
-    if !names_node(step) {
-        return None;
-    }
-    print_line(alloc, step).ok()
-}
-
-// ---- the rows
-
-fn is_read(reader: &mut LineReader, line: &str, step: &Step) -> bool {
-    match read(reader, line) {
-        Some(found) => found == *step,
-        None => false,
+/// Whether that step is read of the line.
+pub(crate) fn reads_step(reader: &mut LineReader, line: &str, step: &Step) -> bool {
+    match reader.parse_line(line.as_bytes()) {
+        Ok(found) => found == *step,
+        Err(_) => false,
     }
 }
 
+/// Whether the step has a line, and it is this.
 fn is_printed(alloc: Global, step: &Step, line: &str) -> bool {
-    match printed(alloc, step) {
-        Some(text) => text.as_slice() == line.as_bytes(),
-        None => false,
+    if !names_node(step) {
+        return false;
+    }
+    match print_line(alloc, step) {
+        Ok(text) => text.as_slice() == line.as_bytes(),
+        Err(_) => false,
     }
 }
 
 /// A row of the tables.
 fn row(rt: &impl Abort, alloc: Global, step: Step, line: &str) {
     let mut reader = LineReader::new(alloc);
-    assert!(rt; is_read(&mut reader, line, &step), "read: {line}");
+    assert!(rt; reads_step(&mut reader, line, &step), "read: {line}");
     assert!(rt; is_printed(alloc, &step, line), "printed: {line}");
-}
-
-fn deliver(message: u64) -> Step {
-    Step::Deliver { message }
 }
 
 #[test]
 fn numbers_are_read_and_printed(rt: HostRuntime) {
     let alloc = rt.alloc();
-    row(&rt, alloc, deliver(0), r#"{"do":"deliver","msg":0}"#);
+    let least = Step::Deliver { message: 0 };
+    row(&rt, alloc, least, r#"{"do":"deliver","msg":0}"#);
+    let greatest = Step::Deliver { message: u64::MAX };
     let line = r#"{"do":"deliver","msg":18446744073709551615}"#;
-    row(&rt, alloc, deliver(u64::MAX), line);
+    row(&rt, alloc, greatest, line);
     let retry = Step::Retry { client: 1, seq: 2 };
     row(&rt, alloc, retry, r#"{"client":1,"do":"retry","seq":2}"#);
     let fetch = Step::Fetch { client: u32::MAX };
@@ -74,14 +62,6 @@ fn numbers_are_read_and_printed(rt: HostRuntime) {
     row(&rt, alloc, sync, r#"{"do":"sync","master":0}"#);
     let collect = Step::Collect { master: 3 };
     row(&rt, alloc, collect, r#"{"do":"collect","master":3}"#);
-}
-
-fn replace(keeper: Keeper) -> Step {
-    Step::Replace {
-        keeper,
-        part: 1,
-        place: 2,
-    }
 }
 
 const RECOVER: Step = Step::Recover {
@@ -96,15 +76,27 @@ const MIGRATE: Step = Step::Migrate {
     to: 2,
 };
 
+const REPLACE_BACKUP: Step = Step::Replace {
+    keeper: Keeper::Backup,
+    part: 1,
+    place: 2,
+};
+
+const REPLACE_WITNESS: Step = Step::Replace {
+    keeper: Keeper::Witness,
+    part: 1,
+    place: 2,
+};
+
 #[test]
 fn orders_are_read_and_printed(rt: HostRuntime) {
     let alloc = rt.alloc();
     let line = r#"{"backup":1,"do":"recover","part":2,"witness":3}"#;
     row(&rt, alloc, RECOVER, line);
     let line = r#"{"do":"replace","kind":"backup","part":1,"place":2}"#;
-    row(&rt, alloc, replace(Keeper::Backup), line);
+    row(&rt, alloc, REPLACE_BACKUP, line);
     let line = r#"{"do":"replace","kind":"witness","part":1,"place":2}"#;
-    row(&rt, alloc, replace(Keeper::Witness), line);
+    row(&rt, alloc, REPLACE_WITNESS, line);
     let line = r#"{"do":"migrate","hi":"0fffffffffffffff","lo":"0000000000000000","to":2}"#;
     row(&rt, alloc, MIGRATE, line);
     row(&rt, alloc, Step::Nudge, r#"{"do":"nudge"}"#);
@@ -112,23 +104,25 @@ fn orders_are_read_and_printed(rt: HostRuntime) {
     row(&rt, alloc, expire, r#"{"client":1,"do":"expire"}"#);
 }
 
-fn stop(kind: NodeKind, number: u32) -> Step {
-    Step::Stop {
-        node: NodeId { kind, number },
-    }
-}
+static STOPS: [(NodeKind, u32, &str); 5] = [
+    (NodeKind::Manager, 0, r#"{"do":"stop","node":"G"}"#),
+    (NodeKind::Client, 1, r#"{"do":"stop","node":"C1"}"#),
+    (NodeKind::Master, 20, r#"{"do":"stop","node":"M20"}"#),
+    (
+        NodeKind::Backup,
+        u32::MAX,
+        r#"{"do":"stop","node":"B4294967295"}"#,
+    ),
+    (NodeKind::Witness, 9, r#"{"do":"stop","node":"W9"}"#),
+];
 
 #[test]
 fn stops_are_read_and_printed(rt: HostRuntime) {
-    let alloc = rt.alloc();
-    let line = r#"{"do":"stop","node":"G"}"#;
-    row(&rt, alloc, stop(NodeKind::Manager, 0), line);
-    let line = r#"{"do":"stop","node":"C1"}"#;
-    row(&rt, alloc, stop(NodeKind::Client, 1), line);
-    let line = r#"{"do":"stop","node":"M20"}"#;
-    row(&rt, alloc, stop(NodeKind::Master, 20), line);
-    let line = r#"{"do":"stop","node":"B4294967295"}"#;
-    row(&rt, alloc, stop(NodeKind::Backup, u32::MAX), line);
-    let line = r#"{"do":"stop","node":"W9"}"#;
-    row(&rt, alloc, stop(NodeKind::Witness, 9), line);
+    for (kind, number, line) in &STOPS {
+        let node = NodeId {
+            kind: *kind,
+            number: *number,
+        };
+        row(&rt, rt.alloc(), Step::Stop { node }, line);
+    }
 }
