@@ -1,7 +1,6 @@
 -- Lemmas on At, Each and IsPrefix.
 use Rattle.std.specs.Prelude.{◌||◌, find, flat_map}
 use Rattle.std.proofs.Common.{Bool, true, false, cond, replicate, ◌≡◌, ◌≢◌, ◌⊎◌, inl, inr, ℕ, zero, suc, ◌+◌, ◌<◌, ◌≤◌, List, [], ◌∷◌, ◌++◌, length, set, get_or, take, drop, map, refl, ap, sym, ◌∙◌, subst, arith, add-one, append_assoc, append-nil, length-append, slice_get, Option, Some, None, Bor}
-use Rattle.std.proofs.lemmas.List.{map-append}
 use Rattle.std.specs.List.{filter, list_any}
 use Rattle.std.specs.Option.{option_copied}
 use Rattle.std.specs.Slice.{IsItemAt}
@@ -163,9 +162,6 @@ prefix_drop zero p = p
 prefix_drop (suc n) {xs = []} {ys = ys} p = record { rest = drop (suc n) ys; is = refl }
 prefix_drop (suc n) {xs = x ∷ xs} {ys = []} p = absurd (cc (p.is))
 prefix_drop (suc n) {xs = x ∷ xs} {ys = y ∷ ys} p = prefix_drop n (prefix_head x y xs ys p).1
-
-pub prefix_map : {A B : Type 0} (f : A → B) {xs ys : List A} → IsPrefix xs ys → IsPrefix (map f xs) (map f ys)
-prefix_map f {xs = xs} p = record { rest = map f p.rest; is = sym (map-append f xs p.rest) ∙ ap (map f) p.is }
 
 pub at_replicate : {A : Type 0} (n : ℕ) (x : A) (k : ℕ) (y : A) → At (replicate n x) k y → (k < n) × (x ≡ y)
 at_replicate zero x k y h = absurd cc

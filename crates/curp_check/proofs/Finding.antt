@@ -1,7 +1,7 @@
 -- Requests that are found, as more of a list is looked at.
-use Rattle.std.proofs.Common.{◌≡◌, ◌<◌, ◌≤◌, ◌+◌, ◌⊎◌, inl, inr, ℕ, List, length, Bool, true, false, cond, is_eq, Option, Some, None, refl, sym, ap, ◌∙◌, subst, arith}
+use Rattle.std.proofs.Common.{◌≡◌, ◌<◌, ◌+◌, ◌⊎◌, inl, inr, ℕ, List, Bool, true, false, cond, is_eq, Option, Some, None, refl, sym, ap, ◌∙◌, subst, arith}
 use Rattle.curp_base.specs.Words.{At}
-use Rattle.curp_base.proofs.Lists.{at_same, at_within}
+use Rattle.curp_base.proofs.Lists.{at_same}
 use Rattle.curp_cmd.specs.RequestId.{id_cmp}
 use Rattle.curp_cmd.specs.declared.command.RequestId.{RequestId}
 use Rattle.curp_order.specs.declared.Event.{Event}
@@ -54,13 +54,6 @@ still_found find more id n finds other k found = by (is_eq (id_cmp id other)) re
 
 -- ---- invocations
 
--- nothing is found among no events
-pub no_invocations : (find : Finder) (events : List Event) → ((id : RequestId) → find id ≡ None) → FindsInvocations 0 find events
-no_invocations find events none = record {
-  there = λ id i found. none_is_some (none id) found;
-  each = λ i id e below at is. absurd (omega (arith, below));
-}
-
 -- an event that invokes nothing
 pub no_invocation : (n : ℕ) (find : Finder) (events : List Event) (e : Event) → At events n e → invoked_by e ≡ None → FindsInvocations n find events → FindsInvocations (n + 1) find events
 no_invocation n find events e at none f = record {
@@ -90,12 +83,6 @@ one_invocation n find more events e id at is finds f = record {
 }
 
 -- ---- places
-
-pub no_places : (find : Finder) (order : List Asked) → ((id : RequestId) → find id ≡ None) → FindsPlaces 0 find order
-no_places find order none = record {
-  there = λ id k found. none_is_some (none id) found;
-  each = λ k x below at. absurd (omega (arith, below));
-}
 
 -- one more request, which wasn't found so far
 pub one_place : (n : ℕ) (find more : Finder) (order : List Asked) (x : Asked) → At order n x → find x.0 ≡ None → FindsMore find more x.0 n

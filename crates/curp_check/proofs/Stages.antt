@@ -1,5 +1,5 @@
 -- How far each request of a history is, as events come.
-use Rattle.std.proofs.Common.{◌≡◌, ◌↔◌, ◌<◌, ◌+◌, ◌&&◌, ◌||◌, inl, inr, ℕ, zero, suc, List, [], ◌∷◌, ◌++◌, length, Bool, true, false, not, cond, is_eq, if◌then◌else◌, Option, Some, None, Result, Ok, Err, OnOk, OnErr, BTreeMap, refl, sym, ap, ◌∙◌, subst, arith}
+use Rattle.std.proofs.Common.{◌≡◌, ◌↔◌, ◌+◌, ◌&&◌, ◌||◌, inl, inr, ℕ, zero, suc, List, [], ◌∷◌, ◌++◌, length, Bool, true, false, not, cond, is_eq, if◌then◌else◌, Option, Some, None, Result, Ok, Err, OnOk, OnErr, BTreeMap, refl, sym, ap, ◌∙◌, subst, arith}
 use Rattle.std.specs.BTreeMap.{Updates, get, is_at}
 use Rattle.std.specs.List.{list_any}
 use Rattle.std.specs.Map.{lookup}
@@ -18,7 +18,7 @@ use Rattle.curp_order.specs.declared.Event.TheVariants.{Invoke, Complete}
 use Rattle.curp_script.specs.declared.error.FieldName.TheVariants as field
 use Rattle.curp_script.specs.declared.error.LineError.TheVariants.{BadField}
 use Rattle.curp_check.proofs.Ids.{self_tied, tied_same}
-use Rattle.curp_check.specs.Claim.{Claimed, completes, invokes, is_begun, may_follow, with_event}
+use Rattle.curp_check.specs.Claim.{Claimed, completes, invokes, may_follow, with_event}
 use Rattle.curp_check.specs.Stages.{IsFollowed, request_of, stage_after, stage_of}
 use Rattle.curp_check.specs.declared.claim.RequestStage.{RequestStage}
 use Rattle.curp_check.specs.declared.claim.RequestStage.TheVariants.{Invoked, Completed}
@@ -282,17 +282,6 @@ followed old new events e s f some updates = record {
       where
         apart_ids : request_of e ≡ id → ⊥
         apart_ids same = let wrong : true ≡ false = sym (self_tied (request_of e)) ∙ ap (λ (r : RequestId). is_eq (id_cmp (request_of e) r)) same ∙ apart in cc
-
--- nothing happened
-pub nothing_followed : (stages : RequestId → Option RequestStage) → ((id : RequestId) → stages id ≡ None) → IsFollowed stages []
-nothing_followed stages none = record {
-  is_history = record {
-    invoked_once = λ i j id c d at_i at_j. absurd cc;
-    completed_once = λ i j id a b at_i at_j. absurd cc;
-    after_invoked = λ j id a at. absurd cc;
-  };
-  stage = none;
-}
 
 -- ---- what a claim says of an event
 

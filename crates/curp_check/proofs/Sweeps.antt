@@ -18,18 +18,6 @@ pub record IsLatest (n : ℕ) (find : Finder) (events : List Event) (latest : Op
   pub reached : (m : ℕ) → latest ≡ Some m
       → (i : ℕ) × (i < n) × ((id : RequestId) × (a : Answer) × At events i (Complete id a) × (find id ≡ Some m))
 
-pub nothing_latest : (find : Finder) (events : List Event) → IsLatest 0 find events None
-nothing_latest find events = record {
-  none_past = λ i id a k below at found. absurd (omega (arith, below));
-  reached = λ m is. absurd cc;
-}
-
-pub nothing_in_time : (find : Finder) (events : List Event) → AreInTime 0 find events
-nothing_in_time find events = λ i j earlier later a c before below. absurd (omega (arith, below))
-
-not_complete : {A : Type 0} (e : Event) (id other : RequestId) (a : Answer) (c : Command) → e ≡ Invoke id c → e ≡ Complete other a → A
-not_complete e id other a c is completes = let wrong : Invoke id c ≡ Complete other a = sym is ∙ completes in absurd cc
-
 same_request : (id other : RequestId) (a b : Answer) → Complete id a ≡ Complete other b → id ≡ other
 same_request id other a b e = cc
 

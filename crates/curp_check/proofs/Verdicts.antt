@@ -1,26 +1,20 @@
 -- The clauses of an order by what is found, and the verdict by the clauses.
-use Rattle.std.proofs.Common.{◌≡◌, ◌↔◌, ◌<◌, ℕ, List, length, true, false, IsTrue, Option, Some, None, refl, sym, ap, ◌∙◌, subst, arith}
+use Rattle.std.proofs.Common.{◌≡◌, ◌<◌, ℕ, List, length, Some, sym, ap, ◌∙◌, arith}
 use Rattle.curp_base.specs.Words.{At, Each}
-use Rattle.curp_base.proofs.Lists.{Each-at, Each-from_at, at_within, at_same}
+use Rattle.curp_base.proofs.Lists.{Each-at, Each-from_at, at_within}
 use Rattle.curp_cmd.specs.declared.command.Answer.{Answer}
 use Rattle.curp_cmd.specs.declared.command.RequestId.{RequestId}
-use Rattle.curp_order.specs.Order.{IsHistory, IsOrder, answers, Asked}
+use Rattle.curp_order.specs.Order.{IsOrder, answers, Asked}
 use Rattle.curp_order.specs.declared.Event.{Event}
 use Rattle.curp_order.specs.declared.Event.TheVariants.{Invoke, Complete}
-use Rattle.curp_check.specs.Found.{AreInTime, Finder, FindsInvocations, FindsPlaces, HasAnswerOfPlace, IsInvoked, IsFound, StandsTwice, invoked_by}
-use Rattle.curp_check.specs.Verdict.{AreInvoked, EachIsAnswered, EachIsInTime, EachStands, Holds, IsFirstBroken, IsVerdict, number_of}
+use Rattle.curp_check.specs.Found.{AreInTime, Finder, FindsPlaces, HasAnswerOfPlace, IsInvoked, IsFound}
+use Rattle.curp_check.specs.Verdict.{AreInvoked, EachIsAnswered, EachIsInTime, EachStands, Holds, IsFirstBroken, number_of}
 use Rattle.curp_check.specs.declared.verdict.Clause.{Clause}
 use Rattle.curp_check.specs.declared.verdict.Clause.TheVariants.{Invoked, Stands, Answered, InTime}
-use Rattle.curp_check.specs.declared.verdict.Verdict.{Verdict}
 use Rattle.curp_check.specs.declared.verdict.Verdict.TheVariants as verdict
 
 module _ (events : List Event) (order : List Asked) where
   -- ---- the first clause
-
-  pub twice_breaks : StandsTwice order → AreInvoked events order → ⊥
-  twice_breaks t holds =
-      let same : t.first ≡ t.second = holds.once t.first t.second t.one t.other t.at_first t.at_second t.same in
-      omega (arith, t.apart, same)
 
   pub invoked_from_each : (find : Finder) → FindsPlaces (length order) find order → Each (IsInvoked events) order → AreInvoked events order
   invoked_from_each find f each = record {
@@ -82,12 +76,6 @@ module _ (events : List Event) (order : List Asked) where
 
   -- ---- the verdict
 
-  pub all_hold : (clause : Clause) → IsOrder events order → Holds events order clause
-  all_hold Invoked o = record { invoked = o.invoked; once = o.once }
-  all_hold Stands o = o.stands
-  all_hold Answered o = o.answered
-  all_hold InTime o = o.in_time
-
   pub is_order : AreInvoked events order → EachStands events order → EachIsAnswered events order → EachIsInTime events order → IsOrder events order
   is_order invoked stands answered in_time = record {
     invoked = invoked.invoked;
@@ -132,39 +120,3 @@ module _ (events : List Event) (order : List Asked) where
       earlier Stands less = stands
       earlier Answered less = answered
       earlier InTime less = absurd (omega arith)
-
-  -- of two clauses that are the first to fail neither comes before the other
-  no_lower : (a b : Clause) → IsFirstBroken events order a → IsFirstBroken events order b → number_of a < number_of b → ⊥
-  no_lower a b first second less = first.broken (second.earlier a less)
-
-  pub one_first : (a b : Clause) → IsFirstBroken events order a → IsFirstBroken events order b → a ≡ b
-  one_first Invoked Invoked f s = refl
-  one_first Stands Stands f s = refl
-  one_first Answered Answered f s = refl
-  one_first InTime InTime f s = refl
-  one_first Invoked Stands f s = absurd (no_lower Invoked Stands f s (omega arith))
-  one_first Invoked Answered f s = absurd (no_lower Invoked Answered f s (omega arith))
-  one_first Invoked InTime f s = absurd (no_lower Invoked InTime f s (omega arith))
-  one_first Stands Invoked f s = absurd (no_lower Invoked Stands s f (omega arith))
-  one_first Stands Answered f s = absurd (no_lower Stands Answered f s (omega arith))
-  one_first Stands InTime f s = absurd (no_lower Stands InTime f s (omega arith))
-  one_first Answered Invoked f s = absurd (no_lower Invoked Answered s f (omega arith))
-  one_first Answered Stands f s = absurd (no_lower Stands Answered s f (omega arith))
-  one_first Answered InTime f s = absurd (no_lower Answered InTime f s (omega arith))
-  one_first InTime Invoked f s = absurd (no_lower Invoked InTime s f (omega arith))
-  one_first InTime Stands f s = absurd (no_lower Stands InTime s f (omega arith))
-  one_first InTime Answered f s = absurd (no_lower Answered InTime s f (omega arith))
-
-  pub yes_exactly : (v : Verdict) → IsVerdict events order v → (v ≡ verdict.Yes) ↔ IsOrder events order
-  yes_exactly verdict.Yes is = (λ _. is, λ _. refl)
-  yes_exactly (verdict.No clause) is = (λ e. absurd cc, λ o. absurd (is.broken (all_hold clause o)))
-
-  pub no_exactly : (clause : Clause) (v : Verdict) → IsVerdict events order v → (v ≡ verdict.No clause) ↔ IsFirstBroken events order clause
-  no_exactly clause verdict.Yes is = (λ e. absurd cc, λ b. absurd (b.broken (all_hold clause is)))
-  no_exactly clause (verdict.No other) is = (
-    λ e. subst (λ (c : Clause). IsFirstBroken events order c) (same_clause other clause e) is,
-    λ b. ap (λ (c : Clause). verdict.No c) (one_first other clause is b),
-  )
-    where
-      same_clause : (a b : Clause) → verdict.No a ≡ verdict.No b → a ≡ b
-      same_clause a b e = cc

@@ -1,5 +1,5 @@
 -- What orders come to, once it is known where a request goes.
-use Rattle.std.proofs.Common.{◌≡◌, ℕ, ◌+◌, ◌<◌, ◌≤◌, false, List, [], ◌∷◌, ◌++◌, Some, None, Result, Ok, Err, refl, ap, sym, ◌∙◌, arith}
+use Rattle.std.proofs.Common.{◌≡◌, ℕ, ◌+◌, ◌≤◌, false, List, [], ◌∷◌, ◌++◌, Some, None, Result, Ok, Err, refl, ap, sym, ◌∙◌, arith}
 use Rattle.std.specs.Result.{IsErr, IsErrAnd}
 use Rattle.curp_base.specs.Words.{Each}
 use Rattle.curp_base.proofs.Lists.{Each-append, Each-weaker}
@@ -74,11 +74,6 @@ module _ (n : ℕ) (c : ClientState) (seq : ℕ) where
         retry_made p owner ∙ rw (sent, replaces, attempted, its) refl
 
 -- ---- the numbers are used
-
--- the next number is above those that are used
-pub next_is_above : (c : ClientState) (p : Pending) → NumbersAreUsed c → p.request.id.seq ≡ c.last + 1 → Each (λ (q : Pending). q.request.id.seq < p.request.id.seq) c.pending
-next_is_above c p used next =
-    Each-weaker (λ (q : Pending). q.request.id.seq ≤ c.last) (λ (q : Pending). q.request.id.seq < p.request.id.seq) (λ q low. omega arith) c.pending used
 
 -- and is used then
 pub used_next : (c : ClientState) (p : Pending) (pending : List Pending) (last : ℕ) → NumbersAreUsed c → p.request.id.seq ≡ last → last ≡ c.last + 1 → pending ≡ c.pending ++ p ∷ []

@@ -1,7 +1,6 @@
 pub mod Again
 pub mod Ends
 pub mod Entries
-pub mod Listed
 pub mod Movable
 pub mod Ordered
 pub mod Steps

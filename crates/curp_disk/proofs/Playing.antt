@@ -125,12 +125,6 @@ made_more calls first x y i call within is so_far now =
     now ∙ ap (λ (l : List ℕ). seen_after l call) so_far ∙ sym (seen_more (take i calls) first call)
     ∙ ap (λ (k : Call). seen_through first (take i calls ++ k ∷ [])) is ∙ ap (seen_through first) (sym (take_more calls i call within))
 
-pub made_room : (calls : List Call) (first x : List ℕ) (i at : ℕ) (bytes : List ℕ) (call : Call) → i < length calls → call ≡ get_or calls i call → call ≡ Write at bytes → x ≡ seen_through first (take i calls) → min at (length x) + length bytes ≤ length (seen_through first calls)
-made_room calls first x i at bytes call within is writes so_far =
-    let next : over x (min at (length x)) bytes ≡ seen_through first (take (i + 1) calls) =
-    made_more calls first x (over x (min at (length x)) bytes) i call within is so_far (ap (λ (k : Call). seen_after x k) (sym writes)) in
-    omega (arith, ap length next, front_shorter (i + 1) calls first, length-over x (min at (length x)) bytes (omega arith))
-
 pub fits_over : (old : List ℕ) (at : ℕ) (bytes : List ℕ) → min at (length old) + length bytes ≤ length (over old (min at (length old)) bytes)
 fits_over old at bytes = omega (arith, length-over old (min at (length old)) bytes (omega arith))
 

@@ -3,9 +3,9 @@ use Rattle.std.proofs.Common.{◌≡◌, ℕ, ◌+◌, ◌*◌, ◌^◌, ◌<◌
 use Rattle.std.proofs.Math.ListN.{get_or-append}
 use Rattle.std.proofs.Math.Seq.{drop-append_seam, get_or-append_seam}
 use Rattle.std.proofs.lemmas.Bool.{cases_lt}
-use Rattle.std.proofs.lemmas.List.{append-nil, length-append, take-append-drop, take-append-le, take_all, take_at}
+use Rattle.std.proofs.lemmas.List.{append-nil, length-append, take-append-drop, take-append-le, take_at}
 use Rattle.std.proofs.lemmas.List.Concat.{flat_map-append}
-use Rattle.curp_base.proofs.Lists.{Each-append, Each-at, Each-take, at_some, drop_at}
+use Rattle.curp_base.proofs.Lists.{Each-append, Each-at, at_some, drop_at}
 use Rattle.curp_base.specs.Words.{At, Each}
 use Rattle.curp_cmd.specs.declared.command.Request.{Request}
 use Rattle.curp_cmd.specs.declared.entry.Entry.{Entry}
@@ -15,7 +15,7 @@ use Rattle.curp_items.proofs.Formats.{entry_is}
 use Rattle.curp_items.proofs.Fronts.{read_from, request_is}
 use Rattle.curp_items.specs.Items.{entry}
 use Rattle.curp_items.specs.Spelling.{BeginsWithEntry, IsEntry, request_in, request_of, spelling, start_of}
-use Rattle.curp_entries.specs.Packed.{ArePacked, IsPackedPart, run, spellings, unpacked, with_more}
+use Rattle.curp_entries.specs.Packed.{ArePacked, run, spellings, unpacked, with_more}
 
 pub unpacked_again : (es : List Entry) (place : ℕ) (rest : List ℕ) → Each IsEntry es → unpacked (length es) (input place (spellings es ++ rest)) ≡ es
 unfolding unpacked
@@ -158,28 +158,3 @@ module _ {es : List Entry} {places bytes : List ℕ} (p : ArePacked es places by
 
   pub packed_as : (there now : List ℕ) → length more ≡ run → Each IsEntry more → there ≡ places ++ length bytes ∷ [] → now ≡ bytes ++ spellings more → ArePacked (es ++ more) there now
   packed_as there now size are a b = rw (a, b) (packed_more size are)
-
--- ---- what callers see of it
-
-pub whole_part : (es : List Entry) (places bytes : List ℕ) → ArePacked es places bytes → IsPackedPart es (length es) bytes
-whole_part es places bytes p =
-    let all : take (length es) es ≡ es = take_all (length es) es (omega arith) in
-    record {
-      runs = length places;
-      multiple = p.count;
-      within = omega arith;
-      spelled = Each-take IsEntry (length es) es p.spelled;
-      bytes_are = p.bytes_are ∙ sym (ap (λ (xs : List Entry). spellings xs) all);
-    }
-
-pub part_more : (es more : List Entry) (bytes : List ℕ) → IsPackedPart es (length es) bytes → IsPackedPart (es ++ more) (length es) bytes
-part_more es more bytes p =
-    let all : take (length es) es ≡ es = take_all (length es) es (omega arith) in
-    let front : take (length es) (es ++ more) ≡ take (length es) es = take_at es more (length es) refl ∙ sym all in
-    record {
-      runs = p.runs;
-      multiple = p.multiple;
-      within = omega (arith, length-append es more);
-      spelled = subst (λ (xs : List Entry). Each IsEntry xs) (sym front) p.spelled;
-      bytes_are = p.bytes_are ∙ sym (ap (λ (xs : List Entry). spellings xs) front);
-    }

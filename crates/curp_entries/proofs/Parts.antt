@@ -1,6 +1,5 @@
 -- What stands between two places of a list that is two lists.
-use Rattle.std.proofs.Common.{◌≡◌, ℕ, zero, suc, ◌+◌, ◌-◌, ◌<◌, ◌≤◌, List, [], ◌∷◌, ◌++◌, length, take, drop, slice_get, refl, sym, ap, ◌∙◌, append_assoc, arith, ◌*◌, min, inl, inr}
-use Rattle.std.proofs.Math.ListN.{drop_of_length-le}
+use Rattle.std.proofs.Common.{◌≡◌, ℕ, zero, suc, ◌+◌, ◌-◌, List, [], ◌∷◌, ◌++◌, length, take, drop, slice_get, refl, sym, ap, ◌∙◌, append_assoc, arith, ◌*◌, min, inl, inr}
 use Rattle.std.proofs.Math.Seq.{take-add}
 use Rattle.std.proofs.lemmas.Bool.{cases_lt}
 use Rattle.curp_base.proofs.Lists.{take_one}
@@ -38,23 +37,6 @@ between_two start end xs ys =
     ap (take (end - start)) (drop_two start xs ys)
     ∙ take_two (end - start) (drop start xs) (drop (start - length xs) ys)
     ∙ ap (λ (k : ℕ). take (end - start) (drop start xs) ++ take k (drop (start - length xs) ys)) left
-
--- as far as the end
-pub rest_between : {A : Type 0} (start : ℕ) (xs : List A) → take (length xs - start) (drop start xs) ≡ drop start xs
-rest_between start xs = take_all (length xs - start) (drop start xs) (omega (arith, length-drop start xs))
-
-pub in_front : {A : Type 0} (k : ℕ) (xs ys : List A) → k < length xs → slice_get (xs ++ ys) k ≡ slice_get xs k
-in_front k [] ys l = absurd (omega arith)
-in_front zero (x ∷ xs) ys l = refl
-in_front (suc k) (x ∷ xs) ys l = in_front k xs ys (omega arith)
-
-pub behind : {A : Type 0} (k : ℕ) (xs ys : List A) → slice_get (xs ++ ys) (length xs + k) ≡ slice_get ys k
-behind k [] ys =
-    let none : zero + k ≡ k = omega arith in
-    ap (slice_get ys) none
-behind k (x ∷ xs) ys =
-    let more : length (x ∷ xs) + k ≡ suc (length xs + k) = omega arith in
-    ap (slice_get (x ∷ xs ++ ys)) more ∙ behind k xs ys
 
 -- ---- run after run
 
@@ -96,11 +78,6 @@ as_far start end count xs is = elim (cases_lt end (length xs)) [
       take_all count (drop start xs) (omega (arith, c, is, length-drop start xs))
       ∙ sym (take_all (end - start) (drop start xs) (omega (arith, c, length-drop start xs)))
 ]
-
-pub past_end : {A : Type 0} (start n : ℕ) (xs : List A) → length xs ≤ start → [] ≡ take n (drop start xs)
-past_end start n xs past =
-    let gone = drop_of_length-le xs past in
-    sym (take_all n [] (omega arith)) ∙ sym (ap (take n) gone)
 
 -- as far as the end of a first part
 pub between_front : {A : Type 0} (start end : ℕ) (xs ys : List A) → take (min end (length xs) - start) (drop start (xs ++ ys)) ≡ take (end - start) (drop start xs)

@@ -1,5 +1,5 @@
 -- What is taken and sent, item by item.
-use Rattle.std.proofs.Common.{◌≡◌, ℕ, zero, suc, ◌+◌, List, [], ◌∷◌, ◌++◌, Some, length, take, drop, refl, ap, sym, ◌∙◌, subst, arith, append_assoc, append-nil, length-append, IsTrue, ◌↔◌, Bool}
+use Rattle.std.proofs.Common.{◌≡◌, ℕ, zero, suc, ◌+◌, List, [], ◌∷◌, ◌++◌, length, take, refl, ap, sym, ◌∙◌, subst, arith, append_assoc, append-nil, length-append, IsTrue, ◌↔◌, Bool}
 use Rattle.std.specs.Prelude.{filter}
 use Rattle.std.proofs.lemmas.List.Elements.{filter-append}
 use Rattle.curp_base.specs.Words.{At, IsPrefix}
@@ -9,7 +9,7 @@ use Rattle.curp_msg.specs.declared.message.Message.{Message}
 use Rattle.curp_journal.specs.Sending.{named_of}
 use Rattle.curp_journal.specs.declared.arrived.Named.{Named}
 use Rattle.curp_journal.specs.declared.item.Item.{Item}
-use Rattle.curp_fronts.specs.Ruled.{came_from, sent_to, taken_of, to_node}
+use Rattle.curp_fronts.specs.Ruled.{sent_to, to_node}
 
 -- what an item more sent
 pub sent_more : (to from : NodeId) (step n : ℕ) (items : List Item) (item : Item) → At items n item
@@ -60,12 +60,6 @@ front_after xs due all taken rest e f g = record {
   rest = f.rest ++ g.rest;
   is = ap (λ l. l ++ (f.rest ++ g.rest)) e ∙ append_assoc xs rest (f.rest ++ g.rest) ∙ ap (λ l. xs ++ l) (sym (append_assoc rest f.rest g.rest) ∙ ap (λ l. l ++ g.rest) f.is) ∙ sym (append_assoc xs due g.rest) ∙ g.is;
 }
-
--- the items from there on took what the one there took, and what those behind it took
-pub taken_drop : (node : NodeId) (n : ℕ) (items : List Item) (item : Item) → At items n item → taken_of node (drop n items) ≡ came_from node item.input ++ taken_of node (drop (suc n) items)
-taken_drop node n [] item h = absurd cc
-taken_drop node zero (y ∷ items) item h = let same : y ≡ item = cc in ap (λ (x : Item). came_from node x.input ++ taken_of node items) same
-taken_drop node (suc n) (y ∷ items) item h = taken_drop node n items item h
 
 -- ---- as loops go on
 
@@ -174,20 +168,6 @@ message_differs to from step stamp n place messages message all rest at place_is
     let whole : List Named = to_node to (named_of from step stamp 1 messages) in
     let longer : IsPrefix (before ++ due (1 + n)) whole = subst (λ l. IsPrefix l whole) (named_more to from step stamp 1 n messages message at) (named_front to from step stamp 1 (suc n) messages) in
     apart_after before (due (1 + n)) whole all rest e longer (subst (λ p. (later : List Named) → IsPrefix rest (due p ++ later) → ⊥) place_is differs)
-
--- more than all that was sent is no front of it
-pub longer_apart : (xs ys : List Named) (x : Named) → IsPrefix (xs ++ x ∷ ys) xs → ⊥
-longer_apart xs ys x f = omega (arith, ap length f.is, length-append (xs ++ x ∷ ys) f.rest, length-append xs (x ∷ ys))
-
-pub head_is : (x y : Named) (xs ys : List Named) → IsPrefix (x ∷ xs) (y ∷ ys) → x ≡ y
-head_is x y xs ys f = first (x ∷ (xs ++ f.rest)) (y ∷ ys) f.is
-  where
-    head_or : Named → List Named → Named
-    head_or z [] = z
-    head_or z (w ∷ more) = w
-
-    first : (us vs : List Named) → us ≡ vs → head_or x us ≡ head_or x vs
-    first us vs e = ap (head_or x) e
 
 none_behind : (all sent rest : List Named) → all ≡ sent ++ rest → IsPrefix all sent → rest ≡ []
 none_behind all sent [] e f = refl

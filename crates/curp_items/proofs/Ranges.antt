@@ -1,5 +1,5 @@
 -- Two ends make a range where they are in order, and only there.
-use Rattle.std.proofs.Common.{◌≡◌, ℕ, ◌<◌, ◌≤◌, Some, None, refl, ap, sym, arith}
+use Rattle.std.proofs.Common.{◌≡◌, ℕ, ◌≤◌, Some, ap, sym}
 use Rattle.std.proofs.Math.Bridge.{le_prop}
 use native.Mathlib.Decide.{dec_le}
 use Rattle.curp_items.specs.Bounds.{bounds_if, bounds_of}
@@ -9,15 +9,8 @@ range_if : (lo hi : ℕ) (o : lo ≤ hi) (d : Dec (lo ≤ hi)) → bounds_if lo 
 range_if lo hi o (yes p) = ap (λ (q : lo ≤ hi). let b : Bounds = record { lo = lo; hi = hi; ordered = q } in Some b) (le_prop p o)
 range_if lo hi o (no n) = absurd (n o)
 
-none_if : (lo hi : ℕ) → hi < lo → (d : Dec (lo ≤ hi)) → bounds_if lo hi d ≡ None
-none_if lo hi l (yes p) = absurd (omega arith)
-none_if lo hi l (no n) = refl
-
 pub range_is : (lo hi : ℕ) (o : lo ≤ hi) → bounds_of lo hi ≡ Some (record { lo = lo; hi = hi; ordered = o })
 range_is lo hi o = range_if lo hi o (dec_le lo hi)
-
-pub no_range : (lo hi : ℕ) → hi < lo → bounds_of lo hi ≡ None
-no_range lo hi l = none_if lo hi l (dec_le lo hi)
 
 ends_if : (lo hi : ℕ) (d : Dec (lo ≤ hi)) (b : Bounds) → bounds_if lo hi d ≡ Some b → (b.lo ≡ lo) × (b.hi ≡ hi)
 ends_if lo hi (yes p) b e =

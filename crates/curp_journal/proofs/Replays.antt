@@ -1,13 +1,10 @@
 -- Lemmas on the replay of a journal.
-use Rattle.std.proofs.Common.{◌≡◌, ◌≢◌, ℕ, zero, suc, ◌+◌, ◌<◌, List, [], ◌∷◌, ◌++◌, take, refl, ap, sym, ◌∙◌, arith, ◌≤◌}
+use Rattle.std.proofs.Common.{◌≡◌, ℕ, zero, suc, ◌+◌, ◌<◌, List, [], ◌∷◌, ◌++◌, take, refl, ap, sym, ◌∙◌, arith, ◌≤◌}
 use Rattle.curp_base.specs.Words.{At}
-use Rattle.curp_base.proofs.Lists.{Each-append, Each-at, take_one}
-use Rattle.curp_msg.specs.Moved.{Moved, Refuses, done_of, within}
-use Rattle.curp_msg.specs.declared.machine.Done.{Done}
+use Rattle.curp_base.proofs.Lists.{Each-append}
+use Rattle.curp_msg.specs.Moved.{Moved, done_of, within}
 use Rattle.curp_msg.specs.declared.machine.Input.{Input}
 use Rattle.curp_msg.specs.declared.machine.Input.TheVariants as input
-use Rattle.curp_msg.specs.declared.machine.Local.{Local}
-use Rattle.curp_msg.specs.declared.message.Message.{Message}
 use Rattle.curp_journal.specs.Given.{given, stamp_of}
 use Rattle.curp_journal.specs.Journal.{IsJournal, IsReplay, Stamped, after, last_stamp, made, next_stamp, replayed}
 use Rattle.curp_journal.specs.declared.arrived.Arrived.{Arrived}
@@ -31,9 +28,6 @@ module _ {N : Type 0} (machine : N → Input → Moved N) where
   replayed-snoc node last (first ∷ items) item =
       ap (λ xs. made machine node last first.input ∷ xs) (replayed-snoc (machine node (given first.input)).state (next_stamp last first.input) items item)
 
-  pub nothing_yet : (opening : N) → IsReplay machine opening [] opening 0
-  nothing_yet opening = record { node_is = refl; items_are = refl; none_refused = tt; last_is = refl }
-
   -- one more item, made of its input
   pub one_more : (opening : N) (items : List Item) (node : N) (last : ℕ) (arrived : Arrived) → IsReplay machine opening items node last → (machine node (given arrived)).refused ≡ 0
       → IsReplay machine opening (items ++ made machine node last arrived ∷ []) (machine node (given arrived)).state (next_stamp last arrived)
@@ -51,12 +45,6 @@ module _ {N : Type 0} (machine : N → Input → Moved N) where
       → IsReplay machine opening more next item.stamp
   keeps opening items node last arrived item next more is item_is next_is taken more_is =
       rw (more_is, next_is, item_is) (one_more opening items node last arrived is taken)
-
-  -- what is refused is an order, and leaves the node as it was
-  pub refused_stays : ((s : N) (order : Local) → Refuses s (machine s (input.Local order))) → ((s : N) (message : Message) → (machine s (input.Message message)).refused ≡ 0)
-      → (s : N) (arrived : Arrived) → (machine s (given arrived)).refused ≢ 0 → (machine s (given arrived)).state ≡ s
-  refused_stays refuses taken s (arrived.Local order stamp) h = (refuses s order).same h
-  refused_stays refuses taken s (arrived.Message named) h = absurd (h (taken s named.message))
 
   -- ---- the items one by one
 
@@ -80,29 +68,6 @@ module _ {N : Type 0} (machine : N → Input → Moved N) where
       let tail : items ≡ replayed machine (machine node (given first.input)).state (next_stamp last first.input) items = cc in
       done_at (machine node (given first.input)).state (next_stamp last first.input) items t item tail at
 
-  -- ---- replaying what was replayed
-
-  pub after-replayed : (node : N) (last : ℕ) (items : List Item) → after machine node (replayed machine node last items) ≡ after machine node items
-  after-replayed node last [] = refl
-  after-replayed node last (item ∷ items) = after-replayed (machine node (given item.input)).state (next_stamp last item.input) items
-
-  -- one more item is replayed, as code makes it
-  pub replays_on : (node : N) (items : List Item) (t : ℕ) (item : Item) → At items t item
-      → replayed machine node 0 (take t items) ++ made machine (after machine node (replayed machine node 0 (take t items))) (last_stamp 0 (replayed machine node 0 (take t items))) item.input ∷ []
-      ≡ replayed machine node 0 (take (t + 1) items)
-  replays_on node items t item at =
-      ap (λ n. replayed machine node 0 (take t items) ++ made machine n (last_stamp 0 (replayed machine node 0 (take t items))) item.input ∷ []) (after-replayed node 0 (take t items))
-      ∙ (sym (replayed-snoc node 0 (take t items) item) ∙ ap (replayed machine node 0) (sym (take_one items t item at)))
-
-  -- the beginning of a journal is one
-  pub replayed-take : (node : N) (last : ℕ) (items : List Item) (t : ℕ) → items ≡ replayed machine node last items → take t items ≡ replayed machine node last (take t items)
-  replayed-take node last items zero is = refl
-  replayed-take node last [] (suc t) is = refl
-  replayed-take node last (first ∷ items) (suc t) is =
-      let head : first ≡ made machine node last first.input = cc in
-      let tail : items ≡ replayed machine (machine node (given first.input)).state (next_stamp last first.input) items = cc in
-      cc (head, replayed-take (machine node (given first.input)).state (next_stamp last first.input) items t tail)
-
 -- ---- stamps rise
 
 -- what came to a node has a lesser stamp than its item, and so has what the node did before
@@ -122,12 +87,6 @@ rising last (first ∷ items) zero (suc u) a b is at bt below =
     rw (sym same) (stamp_above first.stamp items u b is.1 bt).1
 rising last (first ∷ items) (suc t) (suc u) a b is at bt below = rising first.stamp items t u a b is.1 at bt (omega arith)
 
--- the stamp of an item, by the last one before it
-pub stamp_at : (last : ℕ) (items : List Item) (t : ℕ) (item : Item) → Stamped last items → At items t item → item.stamp ≡ next_stamp (last_stamp last (take t items)) item.input
-stamp_at last [] t item is at = absurd cc
-stamp_at last (first ∷ items) zero item is at = let same : first ≡ item = cc in rw (sym same) is.0
-stamp_at last (first ∷ items) (suc t) item is at = stamp_at first.stamp items t item is.1 at
-
 -- no stamp is above the last
 pub last_above : (last : ℕ) (items : List Item) (t : ℕ) (item : Item) → Stamped last items → At items t item → item.stamp ≤ last_stamp last items
 last_above last items t item is at = at_most last items t item is at
@@ -141,24 +100,9 @@ last_above last items t item is at = at_most last items t item is at
     at_most last (first ∷ items) zero item is at = let same : first ≡ item = cc in rw (sym same) (from first.stamp items is.1)
     at_most last (first ∷ items) (suc t) item is at = at_most first.stamp items t item is.1 at
 
--- an item of a journal is taken again by the node that its beginning leads to
-pub taken_again : {N : Type 0} (machine : N → Input → Moved N) (opening : N) (items : List Item) (t : ℕ) (item : Item) → IsJournal machine opening items → At items t item
-    → (next_stamp (last_stamp 0 (replayed machine opening 0 (take t items))) item.input ≡ item.stamp)
-    × ((machine (after machine opening (replayed machine opening 0 (take t items))) (given item.input)).refused ≡ 0)
-taken_again machine opening items t item is at =
-    let front = replayed-take machine opening 0 items t is.items_are in
-    let stamps = stamp_at 0 items t item (stamped machine opening 0 items is.items_are) at in
-    let done = done_at machine opening 0 items t item is.items_are at in
-    let none = Each-at (λ (i : Item). i.done.refused ≡ 0) items is.none_refused t item at in
-    (rw (sym front) (sym stamps), rw (sym front) (ap (λ (d : Done). d.refused) (sym done) ∙ none))
-
 -- ---- the same journal of a node that has the state inside its own
 
 module _ {S N : Type 0} (wrap : S → N) (inner : S → Input → Moved S) (outer : N → Input → Moved N) (is : (s : S) (i : Input) → outer (wrap s) i ≡ within wrap (inner s i)) where
-  pub after-within : (s : S) (items : List Item) → after outer (wrap s) items ≡ wrap (after inner s items)
-  after-within s [] = refl
-  after-within s (item ∷ items) = rw (is s (given item.input)) (after-within (inner s (given item.input)).state items)
-
   pub replayed-within : (s : S) (last : ℕ) (items : List Item) → replayed outer (wrap s) last items ≡ replayed inner s last items
   replayed-within s last [] = refl
   replayed-within s last (item ∷ items) =

@@ -6,7 +6,4 @@ pub mod Recoveries
 pub mod Managers
 pub mod Worlds
 pub mod After
-pub mod Moved
 pub mod Reached
-pub mod Prepared
-pub mod Recovered

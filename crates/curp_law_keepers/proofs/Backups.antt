@@ -1,9 +1,7 @@
 -- The effect of each input on a backup.
-use Rattle.std.proofs.Common.{◌≡◌, ℕ, ◌+◌, ◌-◌, ◌≤◌, ◌<◌, not, List, drop, length, nat_lt, length-append, length-drop, refl, ap, sym, ◌∙◌, subst, arith, Option, Some, None}
+use Rattle.std.proofs.Common.{◌≡◌, ℕ, ◌+◌, ◌-◌, ◌≤◌, not, List, drop, length, nat_lt, length-append, length-drop, refl, ap, arith, Option, Some, None}
 use Rattle.std.proofs.lemmas.Bool.{cond_both, not-false}
 use Rattle.std.proofs.lemmas.Bool.Decides.{nat_tests}
-use Rattle.curp_base.specs.Words.{IsPrefix}
-use Rattle.curp_base.proofs.Lists.{overlap, prefix_trans}
 use Rattle.curp_cmd.specs.declared.entry.Entry.{Entry}
 use Rattle.curp_cmd.specs.declared.node.NodeId.{NodeId}
 use Rattle.curp_msg.specs.Moved.{says}
@@ -12,8 +10,8 @@ use Rattle.curp_msg.specs.declared.body.Body.{Body}
 use Rattle.curp_msg.specs.declared.body.Body.TheVariants as body
 use Rattle.curp_msg.specs.declared.machine.Input.{Input}
 use Rattle.curp_msg.specs.declared.machine.Input.TheVariants as input
-use Rattle.curp_model.specs.Backup.{AfterAppend, AfterFence, BackupState, append, backup_input, fence, fresh_backup, install, installed_backup, installed_once, is_installed_at, longer, on_backup}
-use Rattle.curp_law_keepers.specs.BackupEffect.{AppendAnswerSays, BackupEffect, BackupMove, ByAppend, ByFence, ByInstall, FenceReplySays, InputSuitsBackup, BackupAtHome, Rests, SuitsBackup}
+use Rattle.curp_model.specs.Backup.{AfterAppend, AfterFence, BackupState, append, backup_input, fence, install, installed_once, is_installed_at, longer, on_backup}
+use Rattle.curp_law_keepers.specs.BackupEffect.{AppendAnswerSays, BackupEffect, BackupMove, ByAppend, ByFence, ByInstall, FenceReplySays, Rests}
 use Rattle.curp_law_keepers.specs.Brought.{Brings}
 use Rattle.curp_model.proofs.Backups.{installed_at}
 
@@ -84,10 +82,3 @@ by_message n b from to _ = record { idle = refl; obeys = refl; move = Rests refl
 pub backup_effect : (n : ℕ) (b : BackupState) (given : Input) → BackupEffect n given b (backup_input n b given)
 backup_effect n b (input.Local order) = record { idle = refl; obeys = refl; move = Rests refl; says = tt }
 backup_effect n b (input.Message m) = by_message n b m.from m.to m.body
-
--- ---- at home
-
-module _ (epoch : ℕ) (whole : List Entry) (given : Input) (b c : BackupState) (home : BackupAtHome epoch whole b) where
-  -- what came suits the backup
-  suited : (from : NodeId) (m : Body) → Brings given from m → InputSuitsBackup epoch whole given → SuitsBackup epoch whole m
-  suited from m brings suits = subst (InputSuitsBackup epoch whole) brings.is suits

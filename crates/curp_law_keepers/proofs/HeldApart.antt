@@ -1,5 +1,5 @@
 -- Requests that a witness holds, as they come and go: which they are, and that no two clash.
-use Rattle.std.proofs.Common.{◌≡◌, ◌⊎◌, inl, inr, ℕ, zero, suc, ◌||◌, ◌&&◌, Bool, true, false, not, cond, List, [], ◌∷◌, fold, map, nat_le, nat_lt, Some, None, refl, ap, ◌∙◌, subst}
+use Rattle.std.proofs.Common.{◌≡◌, ◌⊎◌, inl, inr, ℕ, zero, suc, ◌||◌, ◌&&◌, Bool, true, false, not, cond, List, [], ◌∷◌, fold, map, nat_le, None, refl, ap, ◌∙◌}
 use Rattle.std.specs.List.{AllByRecursion, IsDistinct, filter, list_any}
 use Rattle.std.specs.declared.cmp.Ordering.{Ordering}
 use Rattle.std.specs.declared.cmp.Ordering.TheVariants.{Less, Equal, Greater}
@@ -12,10 +12,10 @@ use Rattle.curp_cmd.specs.RequestId.{has_id, id_cmp, same_id}
 use Rattle.curp_cmd.specs.declared.command.Request.{Request}
 use Rattle.curp_cmd.specs.declared.command.RequestId.{RequestId}
 use Rattle.curp_model.specs.Laws.{clash}
-use Rattle.curp_model.specs.Witness.{HeldRequest, WitnessState, conflict, frozen_requests, holds, least_hash, placed, sorted_in, suspect, survives}
+use Rattle.curp_model.specs.Witness.{HeldRequest, WitnessState, conflict, holds, placed, suspect, survives}
 use Rattle.curp_model.proofs.Clashes.{clash_flips, common_flips}
 use Rattle.curp_facts.specs.Facts.{IsAmong}
-use Rattle.curp_law_keepers.specs.WitnessEffect.{HoldsApart, held_requests}
+use Rattle.curp_law_keepers.specs.WitnessEffect.{held_requests}
 
 abbrev asks : HeldRequest → Request
 asks h = h.request
@@ -132,60 +132,3 @@ module _ (r : Request) where
 -- a request whose id isn't held, and that conflicts with nothing, is apart from all that is held
 pub new_apart : (w : WitnessState) (r : Request) → holds w r.id ≡ false → conflict w r ≡ None → IsApart r (held_requests w)
 new_apart w r other none = all_apart r w.held other (none_conflicts r w.held none)
-
--- ---- in the order of hashes
-
-sorted_all : (P : Request → Type 0) (xs : List Request) (r : Request) → P r → AllByRecursion P xs → AllByRecursion P (sorted_in xs r)
-sorted_all P [] r one all = (one, tt)
-sorted_all P (s ∷ xs) r one all =
-    cond_both (nat_lt (least_hash r) (least_hash s)) _ _ (AllByRecursion P) (λ y. (one, all)) (λ n. (all.0, sorted_all P xs r one all.1))
-
-sorted_apart : (xs : List Request) (r : Request) → IsApart r xs → IsDistinct clash xs → IsDistinct clash (sorted_in xs r)
-unfolding IsDistinct
-sorted_apart [] r one all = (tt, tt)
-sorted_apart (s ∷ xs) r one all =
-    cond_both (nat_lt (least_hash r) (least_hash s)) _ _ (IsDistinct clash) (λ y. (one, all))
-    (λ n. (sorted_all (λ q. clash s q ≡ false) xs r (clash_flips s r ∙ one.0) all.0, sorted_apart xs r one.1 all.1))
-
--- each of them is apart from what stands already
-abbrev AreApart : List Request → List Request → Type 0
-AreApart rs done = AllByRecursion (λ r. IsApart r done) rs
-
-still_apart : (rs done : List Request) (r : Request) → IsApart r rs → AreApart rs done → AreApart rs (sorted_in done r)
-still_apart [] done r one all = tt
-still_apart (s ∷ rs) done r one all = (sorted_all (λ q. clash s q ≡ false) done r (clash_flips s r ∙ one.0) all.0, still_apart rs done r one.1 all.1)
-
-all_sorted_apart : (rs done : List Request) → IsDistinct clash rs → IsDistinct clash done → AreApart rs done → IsDistinct clash (fold sorted_in done rs)
-unfolding IsDistinct
-all_sorted_apart [] done apart stands all = stands
-all_sorted_apart (r ∷ rs) done apart stands all =
-    all_sorted_apart rs (sorted_in done r) apart.1 (sorted_apart done r all.0 stands) (still_apart rs done r apart.0 all.1)
-
-nothing_yet : (rs : List Request) → AreApart rs []
-nothing_yet [] = tt
-nothing_yet (r ∷ rs) = (tt, nothing_yet rs)
-
--- what a frozen witness tells is apart, where what it holds is
-pub frozen_apart : (w : WitnessState) → HoldsApart w → IsDistinct clash (frozen_requests w)
-unfolding IsDistinct
-frozen_apart w apart = all_sorted_apart (held_requests w) [] apart tt (nothing_yet (held_requests w))
-
-sorted_old : (xs : List Request) (r q : Request) → IsAmong q xs → IsAmong q (sorted_in xs r)
-sorted_old [] r q a = absurd (cc (a.stands))
-sorted_old (s ∷ xs) r q a = cond_both (nat_lt (least_hash r) (least_hash s)) _ _ (IsAmong q) (λ y. later r a) (λ n. go a.place a.stands (λ b. sorted_old xs r q b))
-  where
-    go : (k : ℕ) → At (s ∷ xs) k q → (IsAmong q xs → IsAmong q (sorted_in xs r)) → IsAmong q (s ∷ sorted_in xs r)
-    go zero h rest = record { place = zero; stands = h }
-    go (suc k) h rest = later s (rest (record { place = k; stands = h }))
-
-sorted_from : (xs : List Request) (r q : Request) (k : ℕ) → At (sorted_in xs r) k q → IsAmong q xs ⊎ (r ≡ q)
-sorted_from [] r q k h = inr (at_one r k q h).1
-sorted_from (s ∷ xs) r q k h = cond_both (nat_lt (least_hash r) (least_hash s)) (r ∷ s ∷ xs) (s ∷ sorted_in xs r) (λ (ys : List Request). At ys k q → IsAmong q (s ∷ xs) ⊎ (r ≡ q)) (λ y. front k) (λ n. behind k (λ j. sorted_from xs r q j)) h
-  where
-    front : (k : ℕ) → At (r ∷ s ∷ xs) k q → IsAmong q (s ∷ xs) ⊎ (r ≡ q)
-    front zero h = inr cc
-    front (suc k) h = inl (record { place = k; stands = h })
-
-    behind : (k : ℕ) → ((j : ℕ) → At (sorted_in xs r) j q → IsAmong q xs ⊎ (r ≡ q)) → At (s ∷ sorted_in xs r) k q → IsAmong q (s ∷ xs) ⊎ (r ≡ q)
-    behind zero rest h = inl (record { place = zero; stands = h })
-    behind (suc k) rest h = elim (rest k h) [ inl a ↦ inl (later s a) | inr e ↦ inr e ]

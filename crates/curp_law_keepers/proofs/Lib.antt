@@ -9,4 +9,3 @@ pub mod Numbers
 pub mod Evidence
 pub mod Clients
 pub mod ClientLater
-pub mod RecoveryEffects

@@ -16,7 +16,6 @@ use Rattle.curp_cmd.proofs.Ids.{same_id-self}
 use Rattle.curp_msg.specs.Moved.{Moved, quiet, says}
 use Rattle.curp_msg.specs.declared.answer.GcAnswer.{GcAnswer}
 use Rattle.curp_msg.specs.declared.answer.Reason.{Reason}
-use Rattle.curp_msg.specs.declared.body.Accepted.{Accepted}
 use Rattle.curp_msg.specs.declared.body.Body.{Body}
 use Rattle.curp_msg.specs.declared.body.Body.TheVariants as body
 use Rattle.curp_msg.specs.declared.body.Gc.{Gc}
@@ -27,10 +26,10 @@ use Rattle.curp_msg.specs.declared.machine.Input.TheVariants as input
 use Rattle.curp_model.specs.declared.Mode.{Mode}
 use Rattle.curp_model.specs.declared.Mode.TheVariants.{Idle, Normal, Frozen}
 use Rattle.curp_model.specs.Laws.{clash}
-use Rattle.curp_model.specs.Witness.{AfterCollection, AfterRecord, HeldRequest, WitnessState, by_room, collect, collected_at, collected_in, conflict, fresh_witness, full_set, gc, hold, holds, newly_held, on_witness, placed, rejects, started, started_witness, stranger_to, suspects, turned_away, unless_turned_away, verdict_body, witness_input}
+use Rattle.curp_model.specs.Witness.{AfterCollection, AfterRecord, HeldRequest, WitnessState, by_room, collect, collected_at, collected_in, conflict, full_set, gc, hold, holds, newly_held, on_witness, placed, rejects, started, stranger_to, suspects, turned_away, unless_turned_away, verdict_body, witness_input}
 use Rattle.curp_facts.specs.Facts.{IsAmong}
 use Rattle.curp_law_keepers.specs.Brought.{Brings}
-use Rattle.curp_law_keepers.specs.WitnessEffect.{AcceptedSays, ByFreeze, ByStart, GcAnswerSays, HoldsApart, InputSuitsWitness, WitnessAtHome, Stays, SuitsWitness, WitnessAnswers, WitnessEffect, WitnessLife, held_requests}
+use Rattle.curp_law_keepers.specs.WitnessEffect.{ByFreeze, ByStart, GcAnswerSays, HoldsApart, InputSuitsWitness, WitnessAtHome, Stays, SuitsWitness, WitnessAnswers, WitnessEffect, held_requests}
 use Rattle.curp_law_keepers.proofs.HeldApart.{left_apart, left_from, new_apart, placed_apart, placed_from, suspects_ask}
 use Rattle.curp_msg.specs.declared.body.Probe.{Probe}
 use Rattle.curp_base.proofs.Numbered.{filter_at}
@@ -276,7 +275,3 @@ witness_effect n x (input.Message m) = by_message n x m.from m.to m.body
 module _ (n : ℕ) (epoch : ℕ) (Asked : Request → Type 0) (given : Input) (x : WitnessState) (r : Moved WitnessState) (home : WitnessAtHome epoch Asked x) (suits : InputSuitsWitness epoch Asked given) (e : WitnessEffect n given x r) where
   abbrev y : WitnessState
   y = r.state
-
-  -- what came suits the witness
-  suited : (from : NodeId) (b : Body) → Brings given from b → SuitsWitness epoch Asked b
-  suited from b brings = subst (InputSuitsWitness epoch Asked) brings.is suits

@@ -1,6 +1,6 @@
 -- What one input does to a backup.
-use Rattle.std.specs.Prelude.{◌≡◌, ◌≤◌, ◌<◌, ℕ, ◌+◌, List, [], length, drop, Some, None, ⊤}
-use Rattle.curp_base.specs.Words.{Each, IsPrefix}
+use Rattle.std.specs.Prelude.{◌≡◌, ◌≤◌, ◌<◌, ℕ, ◌+◌, List, length, Some, None, ⊤}
+use Rattle.curp_base.specs.Words.{Each}
 use Rattle.curp_cmd.specs.Node.{backup_node}
 use Rattle.curp_cmd.specs.declared.entry.Entry.{Entry}
 use Rattle.curp_cmd.specs.declared.node.NodeId.{NodeId}
@@ -110,23 +110,3 @@ pub record BackupEffect (n : ℕ) (given : Input) (b : BackupState) (r : Moved B
   pub obeys : r.refused ≡ 0
   pub move : BackupMove given b r.state
   pub says : Each (BackupSays n given r.state) r.messages
-
--- ---- at home
-
--- It is installed at no other epoch than that of its master's lists, has no entry before that, and its log is a beginning of
--- its master's
-pub record BackupAtHome (epoch : ℕ) (whole : List Entry) (b : BackupState) : Type 0 where
-  pub own : (e : ℕ) → b.installed ≡ Some e → e ≡ epoch
-  pub empty : b.installed ≡ None → b.log ≡ []
-  pub front : IsPrefix b.log whole
-
--- what a message to it says that leaves it at home: an append of that epoch has entries of its master's log from its base on
-abbrev pub SuitsBackup : ℕ → List Entry → Body → Type 0
-SuitsBackup epoch whole (body.Append a) = a.epoch ≡ epoch → IsPrefix a.entries (drop a.base whole)
-SuitsBackup epoch whole (body.Install e) = e ≡ epoch
-SuitsBackup epoch whole _ = ⊤
-
--- the same of an input
-abbrev pub InputSuitsBackup : ℕ → List Entry → Input → Type 0
-InputSuitsBackup epoch whole (input.Local order) = ⊤
-InputSuitsBackup epoch whole (input.Message m) = SuitsBackup epoch whole m.body

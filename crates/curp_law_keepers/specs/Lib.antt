@@ -2,4 +2,3 @@ pub mod Brought
 pub mod BackupEffect
 pub mod WitnessEffect
 pub mod ClientEffect
-pub mod RecoveryEffect

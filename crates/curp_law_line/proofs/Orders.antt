@@ -128,12 +128,6 @@ pub same_fronts : Pure → (f g : List Asked) (x : Asked) → ((h : ℕ) → tou
 same_fronts pure f g x e = pure.answer_local (store_after nothing f) (store_after nothing g) x.1 (λ key m.
     pure.value_local key f ∙ ap (value key) (e (hash_of key) (key_touches x.1 key m)) ∙ sym (pure.value_local key g))
 
--- where the orders agree at a hash up to there
-pub record CutAt (h : ℕ) (os new behind now : List Asked) : Type 0 where
-  pub front : List Asked
-  pub was : on h os ≡ front ++ behind
-  pub is : on h new ≡ front ++ now
-
 -- the front of a request at a hash, where the hash has it in front of the cut
 pub front_of : (h : ℕ) (os X R : List Asked) (x : Asked) → touches x.1 h ≡ true → Distinct (on h os) → on h os ≡ X ++ R → (s : Split os x) → (c : Split X x) → on h s.front ≡ c.front
 front_of h os X R x t d e s c =

@@ -70,9 +70,6 @@ module _ (s : LineState) (ok : Owned (s.moving) s.parts) (o : PushTake) (fits : 
   abbrev after : List Part
   after = pushed s.parts o.part o.p (Take o.m.number (taken_by o))
 
-  abbrev longer : Part
-  longer = record o.p { log = o.p.log ++ Take o.m.number (taken_by o) ∷ [] }
-
   own_before : (k : ℕ) (q : Part) (h : ℕ) → numbered after k ≡ Some q → owns q h ≡ true → (y : Part) × (numbered s.parts k ≡ Some y) × (owns y h ≡ true) × ((k ≡ o.part) → is_in o.m.range.lo o.m.range.hi h ≡ true → ⊥)
   own_before k q h hk own = elim (pushes.cases s.parts o.part p e fits.here k q hk) [
     | inl old ↦ (q, old.1, own, λ same. absurd (old.0 same))

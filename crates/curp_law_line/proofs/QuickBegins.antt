@@ -132,9 +132,6 @@ module _ (pure : Pure) (s : LineState) (o : Late) (fits : LateFits s o) (ok : Li
   abbrev old_log : Left
   old_log = s.left o.part o.number
 
-  abbrev late_all : List Mark
-  late_all = put_before o.place (quick o.node o.part o.epoch o.capture o.id o.command) s.marks
-
   value_there : (key : List ℕ) → touches o.command (hash_of key) ≡ true → store.get (store_after nothing (updates (take o.place s.marks))) key ≡ store.get (state_of old_log.front).store key
   value_there key t =
       let f : IsFirm (s.left fits.mark.part o.number) (hash_of key) = subst (λ (x : ℕ). IsFirm (s.left x o.number) (hash_of key)) (sym fits.its_part) (fits.firm (hash_of key) t) in

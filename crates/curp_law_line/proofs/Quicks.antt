@@ -24,9 +24,6 @@ abbrev pub LowBefore : List Mark → ℕ → ℕ → ℕ → ℕ → Type 0
 LowBefore marks place part h long = (k i : ℕ) (u : Mark) → At marks k u → k < place → u.place ≡ Executed i → u.completed ≡ false → u.part ≡ part → touches u.command h ≡ true → i < long
 
 module _ (s : LineState) (o : Adopt) (fits : AdoptFits s o) (takes_once : TakesOnce o.p.log) where
-  abbrev cut : ℕ
-  cut = length o.stays
-
   -- the partition afterwards
   abbrev pub part_after : Part
   part_after = record o.p { log = o.stays ++ ops (replayed_of o) }

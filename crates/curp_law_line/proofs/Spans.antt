@@ -1,9 +1,9 @@
 -- The owned hashes of a log, one hash at a time: no order of spans is needed.
-use Rattle.std.proofs.Common.{◌≡◌, ℕ, ◌<◌, ◌≤◌, ◌+◌, ◌-◌, min, max, nat_le, nat_lt, ◌&&◌, ◌||◌, inl, inr, ◌⊎◌, Bool, true, false, not, cond, List, [], ◌∷◌, ◌++◌, length, refl, ap, sym, ◌∙◌, arith}
+use Rattle.std.proofs.Common.{◌≡◌, ℕ, ◌<◌, ◌≤◌, ◌+◌, min, max, nat_le, nat_lt, ◌&&◌, ◌||◌, inl, inr, ◌⊎◌, Bool, true, false, not, cond, List, [], ◌∷◌, ◌++◌, length, refl, ap, sym, ◌∙◌, arith}
 use Rattle.std.specs.List.{list_any}
 use Rattle.std.proofs.lemmas.Bool.{and_from, and_parts, cases_Bool, or_cases, or_left, or_parts, or_right}
 use Rattle.std.proofs.lemmas.Bool.Decides.{nat_tests}
-use Rattle.curp_range.specs.Spans.{Span, is_in, is_owned, part_above, part_below, with_range, without}
+use Rattle.curp_range.specs.Spans.{Span, is_in, is_owned, with_range, without}
 use Rattle.curp_range.proofs.Ascending.{in_range, range_bounds}
 use Rattle.curp_cmd.specs.declared.entry.Entry.{Entry}
 use Rattle.curp_cmd.specs.declared.entry.Entry.TheVariants.{Expire, Give, Op, Take}
@@ -68,12 +68,6 @@ with_range_has (s ∷ spans) lo hi h e = go (nat_lt (s.1 + 1) lo) (nat_lt (hi + 
     ]
 
 -- ---- a range goes
-
-and_over : (a b c : Bool) → ((a && c) || (b && c)) ≡ ((a || b) && c)
-and_over true b true = refl
-and_over true true false = refl
-and_over true false false = refl
-and_over false b c = refl
 
 -- so it was there
 pub without_owned : (spans : List Span) (lo hi h : ℕ) → is_owned (without spans lo hi) h ≡ true → is_owned spans h ≡ true

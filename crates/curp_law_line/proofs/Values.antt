@@ -17,7 +17,7 @@ use Rattle.curp_msg.specs.declared.machine.Capture.{Capture}
 use Rattle.curp_msg.specs.declared.machine.Completed.{Completed}
 use Rattle.curp_model.specs.Log.{answer_after}
 use Rattle.curp_model.specs.Marks.{Cut, Executed, Looked, Mark, Place, Quick, flagged, is_cut, is_flagged, is_past, is_shown, is_update_mark, looked, shown}
-use Rattle.curp_law_line.specs.Line.{CutsOpen, FlagsOk, IsCompleted, KindsOk, LineState, LookGives, LooksOk, OrderOk, Owned, QuickGives, QuicksOk, ValuesOk, answer_at}
+use Rattle.curp_law_line.specs.Line.{CutsOpen, FlagsOk, IsCompleted, KindsOk, LineState, LookGives, LooksOk, OrderOk, Owned, QuicksOk, ValuesOk, answer_at}
 use Rattle.curp_law_line.specs.Moves.{Adopt, AdoptFits, Look, LookFits, adopting, looking, put_before, replayed_of}
 use Rattle.curp_law_line.proofs.AdoptedMarks.{adopted_is, fresh_no_flag, fresh_of, stays}
 use Rattle.curp_law_line.proofs.Completions.{flagged_order, flagging_at}
@@ -133,9 +133,6 @@ values_complete marks history c kinds kinds_now flags waits own gives ok k e m a
 -- ---- an adoption
 
 module _ (pure : Pure) (s : LineState) (kinds : KindsOk s.marks) (looks : LooksOk s.parts s.told s.marks) (quicks : QuicksOk s.parts s.told s.marks) (o : Adopt) (fits : AdoptFits s o) (takes_once : TakesOnce o.p.log) where
-  abbrev cut : ℕ
-  cut = length o.stays
-
   abbrev kept : List Mark
   kept = filter (stays o.part (length o.stays)) s.marks
 

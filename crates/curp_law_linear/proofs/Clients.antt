@@ -27,12 +27,11 @@ use Rattle.curp_facts.specs.Kept.{AdoptedLog}
 use Rattle.curp_facts.specs.Known.{Known}
 use Rattle.curp_law_line.specs.Hashes.{Part}
 use Rattle.curp_law_line.specs.Line as line
-use Rattle.curp_law_line.specs.Line.{LineState, LineOk, LookGives, QuickEarly}
-use Rattle.curp_law_line.proofs.Given.{LogsOk}
+use Rattle.curp_law_line.specs.Line.{QuickEarly}
 use Rattle.curp_law_line.specs.Moves.{CompleteFits, FlagFits, flags_mark}
 use Rattle.curp_law_line.specs.OfWorld.{line_of, part_of}
 use Rattle.curp_law_linear.specs.Ordered.{Ordered, WorthOk, capture_of, QuickOk, Gated}
-use Rattle.curp_law_linear.proofs.Parts.{entry_part, line_logs, part_log}
+use Rattle.curp_law_linear.proofs.Parts.{entry_part, part_log}
 use Rattle.curp_facts.specs.Migrated.{Migrated, OpStored}
 use Rattle.curp_facts.specs.Predecessors.{Predecessors}
 use Rattle.curp_law_pairs.specs.Answered.{AnsweredBy}
@@ -44,9 +43,6 @@ use Rattle.curp_law_linear.proofs.CutMarks.{hit_capture}
 use Rattle.curp_law_pairs.proofs.Pairs.{completable_at, completable_stands, stands_along}
 
 module _ {w : World} (known : Known w) (chain : Predecessors w) (migrated : Migrated w) (ordered : Ordered w) where
-  logs : LogsOk (line_of w).parts
-  logs = line_logs known ordered
-
   -- ---- updates
 
   -- an op that stands in an adopted log stands in that partition of the machine

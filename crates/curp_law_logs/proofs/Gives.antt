@@ -1,18 +1,13 @@
 -- Gives that fit, as a log grows; and what a package brings.
-use Rattle.std.proofs.Common.{◌≡◌, ◌≤◌, ℕ, zero, suc, ◌+◌, Bool, true, cond, List, [], ◌∷◌, ◌++◌, length, None, take, refl, ap, ◌∙◌, subst, arith}
-use Rattle.std.specs.Cmp.Lexicographic.{slice_cmp}
+use Rattle.std.proofs.Common.{◌≡◌, ◌≤◌, ℕ, suc, ◌+◌, List, [], ◌∷◌, ◌++◌, length, take, refl, ap, subst, arith}
 use Rattle.std.specs.FinMap as map
-use Rattle.std.specs.FinMap.Entries.{find}
-use Rattle.std.specs.Ordering.{nat_cmp}
 use Rattle.curp_base.specs.Words.{At}
-use Rattle.curp_cmd.specs.Hash.{hash_of}
 use Rattle.curp_cmd.specs.declared.entry.Entry.{Entry}
 use Rattle.curp_cmd.specs.declared.entry.Entry.TheVariants.{Op, Take, Give, Expire}
 use Rattle.curp_cmd.specs.declared.migration.Package.{Package}
-use Rattle.curp_range.specs.Spans.{is_in}
 use Rattle.curp_model.specs.Log.{LogState, log_opening, after_entry, after_entries, meaning, package_of}
-use Rattle.curp_law_logs.specs.Gives.{GiveFits, GivesFit, GivesWithin, PairsAscend, PairsWithin}
-use Rattle.curp_law_logs.proofs.Stores.{find_in_range, range_ascends, range_within}
+use Rattle.curp_law_logs.specs.Gives.{GiveFits, GivesFit, PairsAscend, PairsWithin}
+use Rattle.curp_law_logs.proofs.Stores.{range_ascends, range_within}
 
 -- ---- gives that fit
 
@@ -47,18 +42,6 @@ no_gives_fit (Expire client ∷ es) s k none = no_gives_fit es (after_entry s k 
 pub gives_fit_more : (lo hi : ℕ) (log more : List Entry) → GivesFit (log_opening lo hi) 0 log → NoGives more → GivesFit (log_opening lo hi) 0 (log ++ more)
 gives_fit_more lo hi log more fits none = gives_fit_append log more (log_opening lo hi) 0 (length log) (omega arith) fits (no_gives_fit more (meaning lo hi log) (length log) none)
 
--- the pairs of gives that fit lie in their ranges
-pub gives_within : (es : List Entry) (s : LogState) (k : ℕ) → GivesFit s k es → GivesWithin es
-gives_within [] s k fits i migration p at = absurd cc
-gives_within (Op r acknowledged ∷ es) s k fits zero migration p at = absurd cc
-gives_within (Op r acknowledged ∷ es) s k fits (suc i) migration p at = gives_within es (after_entry s k (Op r acknowledged)) (k + 1) fits i migration p at
-gives_within (Take m x ∷ es) s k fits zero migration p at = absurd cc
-gives_within (Take m x ∷ es) s k fits (suc i) migration p at = gives_within es (after_entry s k (Take m x)) (k + 1) fits i migration p at
-gives_within (Give m x ∷ es) s k fits zero migration p at = let same : x ≡ p = cc in subst (λ (y : Package). PairsWithin y.lo y.hi y.pairs) same fits.0.within
-gives_within (Give m x ∷ es) s k fits (suc i) migration p at = gives_within es (after_entry s k (Give m x)) (k + 1) fits.1 i migration p at
-gives_within (Expire client ∷ es) s k fits zero migration p at = absurd cc
-gives_within (Expire client ∷ es) s k fits (suc i) migration p at = gives_within es (after_entry s k (Expire client)) (k + 1) fits i migration p at
-
 -- each give fits where each that stands does
 pub gives_fit_from : (es : List Entry) (s : LogState) (k : ℕ) → ((i migration : ℕ) (p : Package) → At es i (Give migration p) → GiveFits (after_entries s k (take i es)) p) → GivesFit s k es
 gives_fit_from [] s k each = tt
@@ -68,9 +51,6 @@ gives_fit_from (Give migration p ∷ es) s k each = (each 0 migration p refl, gi
 gives_fit_from (Expire client ∷ es) s k each = gives_fit_from es (after_entry s k (Expire client)) (k + 1) (λ i. each (suc i))
 
 -- ---- what a package brings
-
-pub package_pair : (s : LogState) (lo hi : ℕ) (ordered : lo ≤ hi) (key : List ℕ) → is_in lo hi (hash_of key) ≡ true → find (slice_cmp nat_cmp) key (package_of s lo hi ordered).pairs ≡ map.get s.store key
-package_pair s lo hi ordered key within = find_in_range s.store lo hi key ∙ ap (λ (b : Bool). cond b (map.get s.store key) None) within
 
 -- the keys of its pairs ascend
 pub package_ascends : (s : LogState) (lo hi : ℕ) (ordered : lo ≤ hi) → PairsAscend (package_of s lo hi ordered).pairs

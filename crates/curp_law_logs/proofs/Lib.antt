@@ -10,13 +10,10 @@ pub mod Noted
 pub mod Gives
 pub mod Untouched
 pub mod Replayed
-pub mod ReplayedGives
 pub mod Early
 pub mod Frozen
 pub mod Reaches
 pub mod Behind
 pub mod LogValues
-pub mod Owned
 pub mod Migrations
 pub mod Taken
-pub mod Shown

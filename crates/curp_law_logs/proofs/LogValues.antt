@@ -7,25 +7,23 @@ use Rattle.std.specs.Ordering.{nat_cmp}
 use Rattle.std.proofs.lemmas.Bool.{and_parts, cases_Bool}
 use Rattle.curp_cmd.specs.Hash.{hash_of, touches}
 use Rattle.curp_cmd.specs.Store.{Contents, applied, nothing, with_pairs}
-use Rattle.curp_cmd.specs.declared.command.Command.{Command}
 use Rattle.curp_cmd.specs.declared.command.Request.{Request}
 use Rattle.curp_cmd.specs.declared.entry.Entry.{Entry}
 use Rattle.curp_cmd.specs.declared.entry.Entry.TheVariants.{Op, Take, Give, Expire}
 use Rattle.curp_cmd.specs.declared.migration.Package.{Package}
 use Rattle.curp_order.specs.Order.{store_after, Asked}
 use Rattle.curp_range.specs.Spans.{is_in, is_owned}
-use Rattle.curp_model.specs.Log.{LogState, IsLog, answer_after, all_fit, fits_at, is_new, log_opening, after_entry, after_entries, meaning, without_keys}
+use Rattle.curp_model.specs.Log.{LogState, IsLog, all_fit, fits_at, is_new, log_opening, after_entry, after_entries, meaning, without_keys}
 use Rattle.curp_model.specs.Ranges.{owns_all}
 use Rattle.curp_cmd.specs.Hash.{hashes}
 use Rattle.curp_model.specs.Table.{check}
-use Rattle.curp_law_logs.specs.Follows.{Follows}
 use Rattle.curp_law_logs.specs.Gives.{GiveFits, GivesFit}
 use Rattle.curp_law_logs.specs.Hashes.{behind, behind_from, came, came_from, value}
 use Rattle.curp_law_logs.proofs.Gives.{gives_fit_front}
 use Rattle.curp_law_logs.proofs.Logs.{log_front}
 use Rattle.curp_law_logs.proofs.Ranges.{Ordered, ordered_with_range, ordered_without, owned_with_range, owned_without, owns_touched}
 use Rattle.curp_law_logs.proofs.Stores.{get_with_others, get_with_pairs, get_without_keys, over}
-use Rattle.curp_law_logs.proofs.Values.{answer_alike, store_append, value_local, value_stays, value_step}
+use Rattle.curp_law_logs.proofs.Values.{store_append, value_stays, value_step}
 
 -- at the key's hash: its value comes from what was brought and the requests that were kept, and it has none where the hash isn't owned
 pub record IsTraced (q : List ℕ) (b : Option (List ℕ)) (kept : List Asked) (s : LogState) : Type 0 where
@@ -153,13 +151,3 @@ pub log_value_front : (lo hi : ℕ) (log : List Entry) → lo ≤ hi → IsLog l
     → (past : List Asked) → ((other : List ℕ) → hash_of other ≡ h → value other past ≡ came h other front) → map.get (meaning lo hi front).store key ≡ value key (past ++ behind h front)
 log_value_front lo hi log l fits gives front back is =
     log_value lo hi front l (log_front lo hi front back (subst (IsLog lo hi) (sym is) fits)) (gives_fit_front front back (log_opening lo hi) 0 (subst (GivesFit (log_opening lo hi) 0) (sym is) gives))
-
--- so a command whose hashes the order follows has behind the order the answer that it has in the log
-pub log_answer : (lo hi : ℕ) (log : List Entry) → lo ≤ hi → IsLog lo hi log → GivesFit (log_opening lo hi) 0 log → (order : List Asked) (c : Command) → ((h : ℕ) → touches c h ≡ true → Follows order lo hi log h)
-    → answer_after lo hi log c ≡ (applied (store_after nothing order) c).answer
-log_answer lo hi log l fits gives order c follows = answer_alike c (meaning lo hi log).store (store_after nothing order) same
-  where
-    same : (q : List ℕ) → touches c (hash_of q) ≡ true → map.get (meaning lo hi log).store q ≡ map.get (store_after nothing order) q
-    same q t =
-        let f = follows (hash_of q) t in
-        log_value lo hi log l fits gives (hash_of q) f.owns q refl f.past f.values ∙ ap (value q) (sym f.alike) ∙ sym (value_local q order)

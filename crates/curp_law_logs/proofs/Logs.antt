@@ -1,6 +1,6 @@
 -- Logs as they grow: what fits at each place, and what stays known.
-use Rattle.std.proofs.Common.{◌≡◌, inl, inr, ◌≤◌, ◌<◌, ◌&&◌, ℕ, zero, suc, ◌+◌, Bool, true, false, List, [], ◌∷◌, ◌++◌, length, take, drop, refl, ap, sym, ◌∙◌, subst, arith}
-use Rattle.std.proofs.lemmas.Bool.{and_parts, and_from, cases_order}
+use Rattle.std.proofs.Common.{◌≡◌, ◌≤◌, ◌<◌, ◌&&◌, ℕ, zero, suc, ◌+◌, Bool, true, false, List, [], ◌∷◌, ◌++◌, length, take, drop, refl, ap, sym, ◌∙◌, subst, arith}
+use Rattle.std.proofs.lemmas.Bool.{and_parts, and_from}
 use Rattle.std.proofs.lemmas.List.{take-append-drop, take-append-le}
 use Rattle.curp_base.specs.Words.{At, IsPrefix}
 use Rattle.curp_base.proofs.Lists.{drop_at, take_one}
@@ -116,16 +116,6 @@ op_old lo hi log i n r acknowledged at l = op_not_new lo hi (take n log) i r ack
     at_take_below [] (suc n) k x l at = absurd cc
     at_take_below (y ∷ xs) (suc n) zero x l at = at
     at_take_below (y ∷ xs) (suc n) (suc k) x l at = at_take_below xs n k x (omega arith) at
-
--- ids of ops are distinct
-pub one_op : (lo hi : ℕ) (log : List Entry) (i j : ℕ) (r s : Request) (a b : ℕ) → IsLog lo hi log → At log i (Op r a) → At log j (Op s b) → r.id ≡ s.id → i ≡ j
-one_op lo hi log i j r s a b fits hi_at hj_at same = elim (cases_order i j) [
-  | inl is ↦ is
-  | inr apart ↦ elim apart [
-    | inl below ↦ absurd (op_old lo hi log i j r a hi_at below (ap (check (meaning lo hi (take j log)).table) same ∙ op_new lo hi log j s b fits hj_at))
-    | inr above ↦ absurd (op_old lo hi log j i s b hj_at above (ap (check (meaning lo hi (take i log)).table) (sym same) ∙ op_new lo hi log i r a fits hi_at))
-  ]
-]
 
 given_new : (s : LogState) (k migration : ℕ) (p : Package) (id : RequestId) → Carries p.table id → check (after_entry s k (Give migration p)).table id ≡ New → ⊥
 unfolding after_entry

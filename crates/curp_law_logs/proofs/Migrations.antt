@@ -1,5 +1,5 @@
 -- What the state of a log knows of its takes and gives, whose numbers ascend, and what changes no range.
-use Rattle.std.proofs.Common.{◌≡◌, ◌≤◌, ◌<◌, inl, inr, ℕ, suc, ◌+◌, List, [], ◌∷◌, ◌++◌, length, Option, Some, None, refl, ap, sym, ◌∙◌, subst, arith, append_assoc, append-nil}
+use Rattle.std.proofs.Common.{◌≡◌, ◌<◌, inl, inr, ℕ, suc, ◌+◌, List, [], ◌∷◌, ◌++◌, length, Option, Some, None, refl, ap, sym, ◌∙◌, subst, arith, append_assoc, append-nil}
 use Rattle.std.proofs.lemmas.Bool.{cases_order}
 use Rattle.curp_base.specs.Words.{At}
 use Rattle.curp_base.proofs.Lists.{at_append, at_push, at_push_cases, at_within}
@@ -8,7 +8,7 @@ use Rattle.curp_cmd.specs.declared.entry.Entry.TheVariants.{Op, Take, Give, Expi
 use Rattle.curp_cmd.specs.declared.migration.Package.{Package}
 use Rattle.curp_model.specs.Log.{LastGive, LastTake, LogState, after_entry, after_entries, meaning}
 use Rattle.curp_model.proofs.Logs.{meaning_append}
-use Rattle.curp_law_logs.specs.Migrations.{GivenIs, IsAboveGiven, IsAboveTaken, MovesNothing, NumbersAscend, TakenIs, give_number, take_number}
+use Rattle.curp_law_logs.specs.Migrations.{GivenIs, MovesNothing, NumbersAscend, TakenIs, give_number, take_number}
 
 -- ---- a list, entry by entry
 
@@ -93,20 +93,6 @@ given_is lo hi log = by_pushes (λ log. GivenIs log (meaning lo hi log).given) (
 
 -- ---- numbers that ascend
 
--- one entry more, whose number is above all others
-pub numbers_push : (number : Entry → Option ℕ) (log : List Entry) (e : Entry) → NumbersAscend number log
-    → ((n : ℕ) → number e ≡ Some n → (i m : ℕ) (d : Entry) → At log i d → number d ≡ Some m → m < n) → NumbersAscend number (log ++ e ∷ [])
-numbers_push number log e ascend above i j m n x y l at_i at_j is_m is_n = elim (at_push_cases log e j y at_j) [
-  | inl old_j ↦ elim (at_push_cases log e i x at_i) [
-    | inl old_i ↦ ascend i j m n x y l old_i old_j is_m is_n
-    | inr new_i ↦ let within : j < length log = at_within log j y old_j in absurd (omega (arith, new_i.0))
-  ]
-  | inr new_j ↦ elim (at_push_cases log e i x at_i) [
-    | inl old_i ↦ above n (ap number new_j.1 ∙ is_n) i m x old_i is_m
-    | inr new_i ↦ absurd (omega (arith, new_i.0, new_j.0))
-  ]
-]
-
 -- a number stands once
 pub numbers_once : (number : Entry → Option ℕ) (log : List Entry) → NumbersAscend number log → (i j m : ℕ) (d e : Entry) → At log i d → At log j e → number d ≡ Some m → number e ≡ Some m → i ≡ j
 numbers_once number log ascend i j m d e at_i at_j is_d is_e = elim (cases_order i j) [
@@ -124,54 +110,6 @@ takes_once log ascend i j number k l at_i at_j = numbers_once take_number log as
 -- and each give
 pub gives_once : (log : List Entry) → NumbersAscend give_number log → (i j number : ℕ) (k l : Package) → At log i (Give number k) → At log j (Give number l) → i ≡ j
 gives_once log ascend i j number k l at_i at_j = numbers_once give_number log ascend i j number (Give number k) (Give number l) at_i at_j refl refl
-
--- a number above that of the last is above all
-above_all : (number : Entry → Option ℕ) (log : List Entry) → NumbersAscend number log → (k last : ℕ) (z : Entry) → At log k z → number z ≡ Some last
-    → (n : ℕ) → last < n → (i m : ℕ) (d : Entry) → At log i d → number d ≡ Some m → i ≤ k → m < n
-above_all number log ascend k last z at_k is_last n l i m d at_i is_m up_to = elim (cases_order i k) [
-  | inl here ↦
-      let moved : At log k d = subst (λ (w : ℕ). At log w d) here at_i in
-      let same : d ≡ z = cc in
-      let equal : Some m ≡ Some last = sym is_m ∙ ap number same ∙ is_last in
-      let is : m ≡ last = cc in
-      omega arith
-  | inr apart ↦ elim apart [
-    | inl lower ↦ let less : m < last = ascend i k m last d z lower at_i at_k is_m is_last in omega arith
-    | inr higher ↦ absurd (omega arith)
-  ]
-]
-
-take_of : (e : Entry) (m : ℕ) → take_number e ≡ Some m → (p : Package) × (e ≡ Take m p)
-take_of (Op r acknowledged) m is = absurd cc
-take_of (Take migration p) m is = let same : migration ≡ m = cc in (p, ap (λ (x : ℕ). Take x p) same)
-take_of (Give migration p) m is = absurd cc
-take_of (Expire client) m is = absurd cc
-
-give_of : (e : Entry) (m : ℕ) → give_number e ≡ Some m → (p : Package) × (e ≡ Give m p)
-give_of (Op r acknowledged) m is = absurd cc
-give_of (Take migration p) m is = absurd cc
-give_of (Give migration p) m is = let same : migration ≡ m = cc in (p, ap (λ (x : ℕ). Give x p) same)
-give_of (Expire client) m is = absurd cc
-
--- the numbers of takes ascend as one above the last is pushed
-pub takes_push : (lo hi : ℕ) (log : List Entry) (number : ℕ) (p : Package) → NumbersAscend take_number log → IsAboveTaken number (meaning lo hi log).taken → NumbersAscend take_number (log ++ Take number p ∷ [])
-takes_push lo hi log number p ascend above = numbers_push take_number log (Take number p) ascend (λ n is i m d at its. go (meaning lo hi log).taken (taken_is lo hi log) above n (cc) i m d at its)
-  where
-    go : (o : Option LastTake) → TakenIs log o → IsAboveTaken number o → (n : ℕ) → number ≡ n → (i m : ℕ) (d : Entry) → At log i d → take_number d ≡ Some m → m < n
-    go None none above n same i m d at its = let t = take_of d m its in absurd (none i m t.0 (subst (At log i) t.1 at))
-    go (Some last) is above n same i m d at its =
-        let t = take_of d m its in
-        above_all take_number log ascend last.index last.migration (Take last.migration last.taken) is.0 refl n (omega arith) i m d at its (is.1 i m t.0 (subst (At log i) t.1 at))
-
--- and so do those of gives
-pub gives_push : (lo hi : ℕ) (log : List Entry) (number : ℕ) (p : Package) → NumbersAscend give_number log → IsAboveGiven number (meaning lo hi log).given → NumbersAscend give_number (log ++ Give number p ∷ [])
-gives_push lo hi log number p ascend above = numbers_push give_number log (Give number p) ascend (λ n is i m d at its. go (meaning lo hi log).given (given_is lo hi log) above n (cc) i m d at its)
-  where
-    go : (o : Option LastGive) → GivenIs log o → IsAboveGiven number o → (n : ℕ) → number ≡ n → (i m : ℕ) (d : Entry) → At log i d → give_number d ≡ Some m → m < n
-    go None none above n same i m d at its = let t = give_of d m its in absurd (none i m t.0 (subst (At log i) t.1 at))
-    go (Some last) is above n same i m d at its =
-        let t = give_of d m its in
-        above_all give_number log ascend last.index last.migration (Give last.migration is.0.0) is.0.1 refl n (omega arith) i m d at its (is.1 i m t.0 (subst (At log i) t.1 at))
 
 -- ---- the ranges
 

@@ -85,9 +85,6 @@ turn_or true false = refl
 turn_or false true = refl
 turn_or false false = refl
 
-last_or : (a b c : Bool) → (b || (a || c)) ≡ ((a || c) || b)
-last_or a b c = turn_or b (a || c)
-
 joined : (a b first last h : ℕ) → a ≤ b → first ≤ last → nat_lt (b + 1) first ≡ false → nat_lt (last + 1) a ≡ false → is_in (min a first) (max b last) h ≡ (is_in a b h || is_in first last h)
 joined a b first last h o q front back = grind (arith, nat_tests)
 

@@ -1,19 +1,16 @@
 -- The value of a key comes from the requests on its hash, and the answer to a command from those on its hashes.
-use Rattle.std.proofs.Common.{◌≡◌, ℕ, suc, Bool, true, false, cond, ◌||◌, List, [], ◌∷◌, ◌++◌, length, Some, refl, ap, sym, subst, ◌∙◌, arith}
+use Rattle.std.proofs.Common.{◌≡◌, ℕ, suc, Bool, true, false, cond, ◌||◌, List, [], ◌∷◌, ◌++◌, Some, refl, ap, sym, subst, ◌∙◌}
 use Rattle.std.specs.List.{filter}
 use Rattle.std.specs.Ordering.{eq_by_cmp}
 use Rattle.std.specs.FinMap.{slice_cmp-IsAntisymmetric, nat_cmp-IsAntisymmetric}
 use Rattle.std.specs.FinMap as map
 use Rattle.std.proofs.lemmas.Map.Views.{tells_apart}
 use Rattle.std.proofs.lemmas.List.Elements.{filter-append}
-use Rattle.curp_base.specs.Words.{At}
-use Rattle.curp_base.proofs.Lists.{at_append_right}
 use Rattle.curp_cmd.specs.Store.{Contents, Applied, nothing, keys_of, is_update, applied}
 use Rattle.curp_cmd.specs.Hash.{conflicts, hash_of, touches}
-use Rattle.curp_cmd.specs.declared.command.Answer.{Answer}
 use Rattle.curp_cmd.specs.declared.command.Command.{Command}
 use Rattle.curp_cmd.specs.declared.command.Command.TheVariants.{Get, Put, Delete, Incr, Append, CondPut, Multi}
-use Rattle.curp_order.specs.Order.{answers, answers_from, store_after, Asked}
+use Rattle.curp_order.specs.Order.{store_after, Asked}
 use Rattle.curp_law_logs.specs.Hashes.{In, on, value}
 use Rattle.curp_cmd.proofs.Apart.{order, among, Alike, IsLocal, local, with_pairs-alike, hash_among, keys_apart, same_after, same_second}
 
@@ -125,41 +122,3 @@ value_from q (x ∷ xs) s t e = go (touches x.1 (hash_of q)) refl (value_from q 
 -- a value comes from the requests on its hash
 pub value_local : (key : List ℕ) (xs : List Asked) → value key xs ≡ value key (on (hash_of key) xs)
 value_local key xs = value_from key xs nothing nothing refl
-
--- the same requests at a key's hash leave the same value
-pub value_same : (key : List ℕ) (xs ys : List Asked) (s t : Contents) → map.get s key ≡ map.get t key → on (hash_of key) xs ≡ on (hash_of key) ys
-    → map.get (store_after s xs) key ≡ map.get (store_after t ys) key
-value_same key xs ys s t e same =
-    value_from key xs s s refl ∙ ap (λ (zs : List Asked). map.get (store_after s zs) key) same ∙ sym (value_from key ys t s (sym e))
-
--- the same requests at each hash of a command give it the same answer
-pub same_answer : (c : Command) (xs ys : List Asked) (s t : Contents) → ((q : List ℕ) → touches c (hash_of q) ≡ true → map.get s q ≡ map.get t q)
-    → ((h : ℕ) → touches c h ≡ true → on h xs ≡ on h ys) → (applied (store_after s xs) c).answer ≡ (applied (store_after t ys) c).answer
-same_answer c xs ys s t begins same =
-    answer_alike c (store_after s xs) (store_after t ys) (λ q e. value_same q xs ys s t (begins q e) (same (hash_of q) e))
-
--- requests that change nothing may be left out
-pub updates_only : (s : Contents) (xs : List Asked) → store_after s (filter (λ (x : Asked). is_update x.1) xs) ≡ store_after s xs
-updates_only s [] = refl
-updates_only s (x ∷ xs) = go (is_update x.1) refl (updates_only (applied s x.1).after xs)
-  where
-    go : (b : Bool) → is_update x.1 ≡ b → store_after (applied s x.1).after (filter (λ (x : Asked). is_update x.1) xs) ≡ store_after (applied s x.1).after xs
-        → store_after s (cond b (x ∷ filter (λ (x : Asked). is_update x.1) xs) (filter (λ (x : Asked). is_update x.1) xs)) ≡ store_after (applied s x.1).after xs
-    go true e ih = ih
-    go false e ih = ap (λ (t : Contents). store_after t (filter (λ (x : Asked). is_update x.1) xs)) (sym (read_only s x.1 e)) ∙ ih
-
--- ---- answers along a list
-
-pub answers_append : (s : Contents) (xs ys : List Asked) → answers_from s (xs ++ ys) ≡ answers_from s xs ++ answers_from (store_after s xs) ys
-answers_append s [] ys = refl
-answers_append s (x ∷ xs) ys = ap (λ (w : List Answer). (applied s x.1).answer ∷ w) (answers_append (applied s x.1).after xs ys)
-
--- one answer for each request
-pub length_answers : (s : Contents) (xs : List Asked) → length (answers_from s xs) ≡ length xs
-length_answers s [] = refl
-length_answers s (x ∷ xs) = ap suc (length_answers (applied s x.1).after xs)
-
--- the answer to a request behind others
-pub answer_middle : (front : List Asked) (x : Asked) (back : List Asked) → At (answers (front ++ x ∷ back)) (length front) (applied (store_after nothing front) x.1).answer
-answer_middle front x back =
-    rw (answers_append nothing front (x ∷ back)) (at_append_right (answers front) (answers_from (store_after nothing front) (x ∷ back)) 0 (length front) _ (omega (arith, length_answers nothing front)) refl)

@@ -2,4 +2,3 @@ pub mod Hashes
 pub mod Standing
 pub mod Gives
 pub mod Migrations
-pub mod Follows

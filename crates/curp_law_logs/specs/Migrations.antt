@@ -1,5 +1,5 @@
 -- The migrations of a log: the numbers of its takes and of its gives, and what the state says of the last of each.
-use Rattle.std.specs.Prelude.{◌≡◌, ◌≤◌, ◌<◌, ℕ, List, Option, Some, None, ⊤}
+use Rattle.std.specs.Prelude.{◌≡◌, ◌≤◌, ◌<◌, ℕ, List, Option, Some, None}
 use Rattle.curp_base.specs.Words.{At}
 use Rattle.curp_cmd.specs.declared.entry.Entry.{Entry}
 use Rattle.curp_cmd.specs.declared.entry.Entry.TheVariants.{Op, Take, Give, Expire}
@@ -33,16 +33,6 @@ TakenIs log (Some last) = At log last.index (Take last.migration last.taken) × 
 abbrev pub GivenIs : List Entry → Option LastGive → Type 0
 GivenIs log None = (k migration : ℕ) (p : Package) → At log k (Give migration p) → ⊥
 GivenIs log (Some last) = ((p : Package) × At log last.index (Give last.migration p)) × ((k migration : ℕ) (p : Package) → At log k (Give migration p) → k ≤ last.index)
-
--- the number is above the last take's
-abbrev pub IsAboveTaken : ℕ → Option LastTake → Type 0
-IsAboveTaken number None = ⊤
-IsAboveTaken number (Some last) = last.migration < number
-
--- the number is above the last give's
-abbrev pub IsAboveGiven : ℕ → Option LastGive → Type 0
-IsAboveGiven number None = ⊤
-IsAboveGiven number (Some last) = last.migration < number
 
 -- no entry takes or gives
 abbrev pub MovesNothing : List Entry → Type 0

@@ -27,7 +27,7 @@ use Rattle.curp_model.specs.Recovery.{Fresh, master_input}
 use Rattle.curp_model.specs.Witness.{fresh_witness, witness_input}
 use Rattle.curp_model.specs.World.{World, deed_of, delivery, effect, events_of, grown, kept, messages, moves_kind, moves_one, opening, result_of, run, step, steps_by, world}
 use Rattle.curp_facts.specs.Facts.{ByRecovery, IsAmong, WasSent, lists_of_order}
-use Rattle.curp_msg.specs.Script.{IsRun, IsStep}
+use Rattle.curp_msg.specs.Script.{IsRun}
 use Rattle.curp_facts.specs.Names.{IsOf, IsAdoptedMaster, ManagerSays, Names}
 use Rattle.curp_facts.specs.Fits.{BackupFits, MasterFits, MessageFits, WitnessFits}
 use Rattle.curp_law_names.proofs.Clients.{Arrives, client_fits}
@@ -197,11 +197,3 @@ run_goes w (x ∷ xs) both =
 -- every run leads from the opening to a later world with both
 pub always : (h : Header) (xs : List Step) → IsRun h xs → Goes (opening h) (world h xs)
 always h xs is = run_goes (opening h) xs (record { names = opening_names h is.header; nodes = opening_nodes h is.header })
-
--- a property that holds of the opening, and that each step from a world with both keeps, holds along every run
-pub along : (P : World → Type 0) → ((w : World) → Both w → (x : Step) → IsStep x → P w → P (step w x).world) → (h : Header) (xs : List Step) → IsRun h xs → P (opening h) → P (world h xs)
-along P keeps h xs is first = go (opening h) xs (record { names = opening_names h is.header; nodes = opening_nodes h is.header }) is.steps_are first
-  where
-    go : (w : World) (ys : List Step) → Both w → Each IsStep ys → P w → P (run w ys)
-    go w [] both are p = p
-    go w (y ∷ ys) both are p = go (step w y).world ys (step_goes w both y).both are.1 (keeps w both y are.0 p)

@@ -19,7 +19,7 @@ use Rattle.curp_cmd.specs.declared.entry.Entry.{Entry}
 use Rattle.curp_cmd.specs.declared.entry.Entry.TheVariants.{Expire, Give, Op, Take}
 use Rattle.curp_cmd.specs.declared.node.NodeId.{NodeId}
 use Rattle.curp_cmd.specs.declared.node.NodeKind.TheVariants as kind
-use Rattle.curp_msg.specs.Moved.{Moved, quiet, says}
+use Rattle.curp_msg.specs.Moved.{Moved, says}
 use Rattle.curp_msg.specs.declared.answer.AppendAnswer.{AppendAnswer}
 use Rattle.curp_msg.specs.declared.answer.AppendAnswer.TheVariants.{Stored}
 use Rattle.curp_msg.specs.declared.answer.GcAnswer.{GcAnswer}
@@ -82,9 +82,6 @@ module _ (w : World) (n : Names w) (k : ℕ) (me : IsNodeOf w kind.Master k) whe
   module _ (m : MasterState) (ok : ServingFits w k m) where
     abbrev its : Lists
     its = lists_of_master (master_node k) m
-
-    rests : Goes (quiet m)
-    rests = (ok, tt)
 
     -- one more entry
     push_fits : (e : Entry) → EntryAsked w e → ServesBy w its m.lo m.hi (m.log ++ e ∷ []) m.captures m.phase

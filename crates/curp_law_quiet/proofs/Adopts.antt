@@ -49,9 +49,6 @@ module _ (g : ManagerState) (c : PartConfig) (q : ℕ) (o : Recover) (parts : g.
   abbrev attempt : Attempted
   attempt = record { master = master_node q; order = o }
 
-  r : Recovered
-  r = record { part = 1; epoch = o.epoch }
-
   its_part : part_at g 1 ≡ Some c
   its_part = ap (λ (l : List PartConfig). numbered l 1) parts
 

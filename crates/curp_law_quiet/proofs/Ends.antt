@@ -14,7 +14,7 @@ use Rattle.curp_msg.specs.declared.message.Message.{Message}
 use Rattle.curp_facts.specs.Facts.{IsAmong}
 use Rattle.curp_model.specs.Client.{Attempt, Pending, all_accepted, attempt_at, has_accepted, proved_answer, proves}
 use Rattle.curp_model.specs.Master.{Captured, MasterState, from_backup}
-use Rattle.curp_law_quiet.specs.Ways.{Answers, CaptureGoes, Covered, WillCover, Gives, HasEarly, HeldGoes, Kind, MasterGoes, OnWay, PendingGoes, PendsOne, ReadGoes, GetsRecorded, WillTell, Updates}
+use Rattle.curp_law_quiet.specs.Ways.{Answers, CaptureGoes, Covered, WillCover, Gives, HasEarly, HeldGoes, MasterGoes, OnWay, PendingGoes, PendsOne, ReadGoes, GetsRecorded, WillTell, Updates}
 use Rattle.curp_law_quiet.specs.Ways.WillCover.{Comes, Goes, Known}
 use Rattle.curp_law_quiet.proofs.Acks.{all_had, all_synced}
 use Rattle.curp_law_quiet.proofs.Lists.{all_tested, among_filter, among_none, each_of}
@@ -26,9 +26,6 @@ has_first (y ∷ ys) x a e = cc
 
 module _ (D : Message → Type 0) (none : (x : Message) → D x → ⊥) (n : ℕ) (m : MasterState) (goes : MasterGoes D n m)
     (some : 1 ≤ length m.backups) where
-  nothing : (P : Kind) → OnWay D P → ⊥
-  nothing P w = none w.0 w.1
-
   all_known : (long round : ℕ) → Covered D n m long round
       → Each (λ b. (long ≤ (from_backup m.acknowledged b).length) × (round ≤ (from_backup m.acknowledged b).round)) m.backups
   all_known long round all = Each-weaker (λ b. WillCover D m.acknowledged m.epoch n b long round) (λ b. (long ≤ (from_backup m.acknowledged b).length) × (round ≤ (from_backup m.acknowledged b).round)) one m.backups all

@@ -23,7 +23,7 @@ use Rattle.curp_facts.specs.Facts.{IsAmong}
 use Rattle.curp_model.specs.Backup.{BackupState, fresh_backup}
 use Rattle.curp_model.specs.Client.{ClientState}
 use Rattle.curp_model.specs.Manager as manager
-use Rattle.curp_model.specs.Manager.{Doing, ManagerState, backup_nodes, counter_ends, install_on, last_number, manager_ordered, recover, recover_messages, recover_order, recovers, recovery_for, start_on, unless_numbers_end, witness_nodes}
+use Rattle.curp_model.specs.Manager.{Doing, ManagerState, counter_ends, install_on, last_number, manager_ordered, recover, recover_messages, recover_order, recovers, recovery_for, start_on, unless_numbers_end}
 use Rattle.curp_model.specs.Recovery.{Fresh, MasterStage}
 use Rattle.curp_model.specs.World.{World, messages, moves, with_manager}
 use Rattle.curp_law_quiet.specs.Renews.{CanRecover, IsSteady, RenewFits, Renewing, WillInstall}
@@ -77,9 +77,6 @@ module _ (w : World) (c : PartConfig) (from other : NodeId) (can : CanRecover w 
       by (Some k) e = subst (λ (z : PartConfig). places z (numbered z.backups 1) (numbered z.witnesses 1) ≡ Ok o) (sym (some_same k c e))
           (inner (numbered c.backups 1) (numbered c.witnesses 1) (ap (λ (l : List NodeId). numbered l 1) can.backups) (ap (λ (l : List NodeId). numbered l 1) can.witnesses))
       by None e = absurd cc
-
-  r : Moved ManagerState
-  r = recovers g 1 o
 
   -- the manager orders it
   pub ordered : manager_ordered g (local.Recover 1 1 1) ≡ recovers g 1 o

@@ -8,7 +8,7 @@ use Rattle.curp_cmd.specs.declared.command.RequestId.{RequestId}
 use Rattle.curp_cmd.specs.declared.entry.Entry.{Entry}
 use Rattle.curp_cmd.specs.declared.entry.Entry.TheVariants.{Op}
 use Rattle.curp_cmd.specs.declared.node.NodeId.{NodeId}
-use Rattle.curp_msg.specs.Moved.{Moved, quiet, sends, says}
+use Rattle.curp_msg.specs.Moved.{Moved, sends, says}
 use Rattle.curp_msg.specs.declared.body.Body.{Body}
 use Rattle.curp_msg.specs.declared.message.Message.{Message}
 use Rattle.curp_facts.specs.Facts.{IsAmong}
@@ -56,9 +56,6 @@ module _ (D E : Message → Type 0) (from to : NodeId) (b : Body)
     round = omega arith;
     captured = omega arith;
   }
-
-  pub rests : NoRound b → NoReply b → Keeps D E n m (quiet m)
-  rests dull silent = says_only dull silent []
 
   -- its log grows, and it says something
   pub grows : NoRound b → NoReply b → (log : List Entry) (free : List ℕ) (queue : List Queued) → IsPrefix m.log log

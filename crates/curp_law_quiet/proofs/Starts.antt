@@ -334,9 +334,6 @@ module _ (w v : World) (done : ℕ) (low : done ≤ length (messages w)) (c : Pa
   -- ---- the client asks for the configuration
 
   module _ (did : Gave w v (client_node 1) (input.Local local.Fetch)) where
-    asks : Moved ClientState
-    asks = sends cl (says (client_node 1) manager_node body.Fetch ∷ [])
-
     fetch_moved : moves w (client_node 1) (input.Local local.Fetch) ≡ within (with_client w 1) (sends cl (says (client_node 1) manager_node body.Fetch ∷ []))
     unfolding client_ordered
     fetch_moved = ap (λ (l : List ClientState). moves_one w (λ k. within (with_client w 1) (client_input 1 k (input.Local local.Fetch))) (numbered l 1)) calm.client

@@ -122,9 +122,6 @@ module _ {f n : ℕ} {w : World} {done : ℕ} {c : PartConfig} {q : ℕ} (s : Se
   -- ---- after a step that keeps it calm
 
   module _ (x : Step) (its : IsServedStep x) where
-    abbrev v : World
-    v = (step w x).world
-
     abbrev g : Grows w (step w x).world
     g = step_grows w x
 

@@ -59,9 +59,6 @@ module _ (f : ℕ) (some : 1 ≤ f) (low : f ≤ 5) where
 
   -- ---- at opening
 
-  w : World
-  w = opening (header_of f)
-
   abbrev first : PartConfig
   first = opening_part (shape_of (header_of f)) 1
 
@@ -133,9 +130,6 @@ module _ (f : ℕ) (some : 1 ≤ f) (low : f ≤ 5) where
     abbrev cl : ClientState
     cl = its_client r.quiet.serves
 
-    abbrev Made : Type 0
-    Made = (step s.world (steps.Invoke 1 command)).outcome.result ≡ Done
-
     empty : cl.pending ≡ []
     empty = rests r.quiet.serves r.few
 
@@ -173,9 +167,6 @@ module _ (f : ℕ) (some : 1 ≤ f) (low : f ≤ 5) where
     longer made = after_is made (λ (k : Stepped). length (in_turn xs) < length k.world.history)
         (let long : length ((s.world.history ++ Invoke (record { client = 1; seq = cl.last + 1 }) command ∷ []) ++ []) ≡ suc (length (in_turn xs)) = ap (λ (h : List Event). length h) history_is ∙ length_push (in_turn xs) (Invoke (next_of xs) command) in
         omega (arith, long))
-
-    abbrev after : ℕ → Served
-    after every = serve every command s
 
     left : (every : ℕ)
         → Stands f xs (next_of xs) command (serve every command s) × ((serve every command s).stopped ≡ None → IsOver f xs (serve every command s))

@@ -67,9 +67,6 @@ pub record Halted (f n : ℕ) (w : World) (c : PartConfig) (cl : ClientState) : 
 
 module _ {f n : ℕ} {w : World} {c : PartConfig} {q : ℕ} (s : Serves f n w (length (messages w)) c q)
     (few : n ≤ most_steps) where
-  abbrev stop : Step
-  stop = steps.Stop c.master
-
   there : is_some (numbered w.masters q) ≡ true
   there = subst (λ (o : Option MasterStage). is_some o ≡ true) (sym (calmly s).master) refl
 

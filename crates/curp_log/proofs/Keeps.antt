@@ -85,11 +85,6 @@ newest_more log (Take migration p) count taken some size w = (some, omega (arith
 newest_more log (Give migration p) count taken some size w = later log (Give migration p) count taken size w
 newest_more log (Expire client) count taken some size w = later log (Expire client) count taken size w
 
-kept_newest : (count : ℕ) (log : List Entry) (taken : LatestTake) → IsKept taken → IsNewest count log taken
-kept_newest count log Never kept = tt
-kept_newest count log (Newest index) kept = absurd kept
-kept_newest count log (Copied index migration p) kept = tt
-
 pub pushed_length : (log : List Entry) (e : Entry) → length (log ++ e ∷ []) ≡ length log + 1
 pushed_length [] e = refl
 pushed_length (x ∷ log) e = omega (arith, pushed_length log e)
@@ -98,18 +93,6 @@ pushed_length (x ∷ log) e = omega (arith, pushed_length log e)
 pub kept_as : (lo hi : ℕ) (xs ys : List Entry) (n m : ℕ) (answered others : List (Option Answer)) (state : State) (t u : LatestTake) → xs ≡ ys → n ≡ m → answered ≡ others → t ≡ u
     → IsKeptLog lo hi ys m others state u → IsKeptLog lo hi xs n answered state t
 kept_as lo hi xs ys n m answered others state t u a b d e is = rw (a, b, d, e) is
-
--- the same log, of which more may be packed
-pub kept_again : (lo hi : ℕ) (xs ys : List Entry) (n m : ℕ) (answered others : List (Option Answer)) (after state : State) (t u : LatestTake) → IsKeptLog lo hi ys m others state u
-    → xs ≡ ys → answered ≡ others → meant_by after ≡ meant_by state → take_told ys t ≡ take_told ys u → IsKept t → IsKeptLog lo hi xs n answered after t
-kept_again lo hi xs ys n m answered others after state t u is same said means told kept = rw (same, said) record {
-  ordered = is.ordered;
-  is_log = is.is_log;
-  answers = is.answers;
-  means = means ∙ is.means;
-  last = told ∙ is.last;
-  newest = kept_newest n ys t kept;
-}
 
 -- ---- an entry more
 

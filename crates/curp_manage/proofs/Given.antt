@@ -98,10 +98,6 @@ module _ (old new : LoggedParts StopParts) (decisions : ℕ) (crash : Option Cra
   pub still_disarmed : (old.disk.armed ≡ None → new.disk.armed ≡ None) → crash ≡ None → new.disk.armed ≡ None
   still_disarmed stays none = stays (managed.armed ∙ ap stop_call none)
 
-  -- a disk that isn't armed has no fault
-  pub some_crash : (old.disk.armed ≡ None → ⊥) → crash ≢ None
-  some_crash never none = never (managed.armed ∙ ap stop_call none)
-
   pub managed_kept : crash ≡ None → new.spent ≡ false → IsSmallInput i → new.disk.armed ≡ None
       → IsSettled stop_seen StopLeaves new.disk new.state new.gate managed.shape (managed.inputs ++ i ∷ []) → IsManaged new (decisions + 1) crash
   managed_kept none fresh small disarmed settled = record {

@@ -6,7 +6,7 @@ use Rattle.std.proofs.lemmas.Option.{slice_get_read}
 use Rattle.curp_base.specs.Words.{At}
 use Rattle.curp_base.proofs.Lists.{at_same, at_some, at_within}
 use Rattle.curp_turns.specs.Turns.{Journal, Turn, turn_stamp, turns_of}
-use Rattle.curp_merge.specs.Weaving.{BestSoFar, ComesFirst, IsBest, IsDue, NoneComesBefore, NoTurnLeft, NoneLeft, is_less, next_stamp}
+use Rattle.curp_merge.specs.Weaving.{BestSoFar, ComesFirst, IsBest, IsDue, NoneComesBefore, NoTurnLeft, is_less, next_stamp}
 
 -- an element that was read of a list
 pub read_at : {A : Type 0} (xs : List A) (i : ℕ) (x : A) → i < length xs → x ≡ get_or xs i x → At xs i x
@@ -123,6 +123,3 @@ module _ (journals : List Journal) (rows : List (List ℕ)) (n : ℕ) (j : Journ
 
 pub best_is_due : (journals : List Journal) (rows : List (List ℕ)) (n place stamp : ℕ) → n ≡ length journals → BestSoFar journals rows n (Some (place, stamp)) → IsDue journals rows place
 best_is_due journals rows n place stamp all best = record { stamp = stamp; is = subst (λ (k : ℕ). IsBest journals rows k place stamp) all best }
-
-pub none_is_all : (journals : List Journal) (rows : List (List ℕ)) (n : ℕ) → n ≡ length journals → BestSoFar journals rows n None → NoneLeft journals rows
-none_is_all journals rows n all none = subst (λ (k : ℕ). NoTurnLeft journals rows k) all none

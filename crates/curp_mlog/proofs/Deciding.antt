@@ -1,5 +1,5 @@
 -- Why the manager or the room declines an input, and what is answered.
-use Rattle.std.specs.Prelude.{◌≡◌, ◌≢◌, ℕ, ◌+◌, ◌≤◌, Bool, true, false, not, List, [], ◌∷◌, ◌++◌, length, refl}
+use Rattle.std.specs.Prelude.{◌≡◌, ℕ, ◌+◌, Bool, true, false, not, List, length, refl}
 use Rattle.std.proofs.Common.{sym, ◌∙◌, ap, subst}
 use Rattle.std.proofs.lemmas.Bool.{cond_both}
 use Rattle.curp_disk.specs.declared.disk.Did.{Did}
@@ -13,12 +13,11 @@ use Rattle.curp_msg.specs.declared.machine.Local.{Local}
 use Rattle.curp_msg.specs.declared.machine.Local.TheVariants as order
 use Rattle.curp_msg.specs.declared.message.Message.{Message}
 use Rattle.curp_wire.specs.Light.{is_light}
-use Rattle.curp_mlog.specs.Answering.{AcceptsInput, AnswersInput, Declines, IsDeclinedBy, RefusesInput, StaysBy, end_of, error_of, record_of, size_limit}
+use Rattle.curp_mlog.specs.Answering.{AcceptsInput, AnswersInput, IsDeclinedBy, RefusesInput, StaysBy, record_of}
 use Rattle.curp_mlog.specs.Appending.{RunsCalls, appending}
 use Rattle.curp_mlog.specs.Machine.{IsAccepted, RefusesOrder, moved}
 use Rattle.curp_mlog.specs.Records.{is_heavy, is_others}
 use Rattle.curp_mlog.specs.Value.{LoggedParts}
-use Rattle.curp_mlog.specs.declared.error.LoggedError.{LoggedError}
 use Rattle.curp_mlog.specs.declared.error.LoggedError.TheVariants as logged
 use Rattle.curp_mlog.specs.declared.machine.Declined.{Declined}
 use Rattle.curp_mlog.specs.declared.machine.Declined.TheVariants as declined
@@ -46,10 +45,6 @@ not_accepted s (input.Message m) n refused accepted = refused
 not_accepted s (input.Local o) n refused accepted = refused.1 (sym refused.0 ∙ accepted)
 
 -- ---- the room
-
-pub declines : (s : ManagerState) (gate : ℕ) (i : Input) (why : Declined) (e : LoggedError) → end_of gate i ≤ size_limit → StaysBy s i why → e ≡ error_of why → Declines s gate i e
-declines s gate i (declined.Refused n) e fits stays is = subst (Declines s gate i) (sym is) (fits, stays)
-declines s gate i declined.NoMemory e fits stays is = subst (Declines s gate i) (sym is) tt
 
 -- a message that isn't heavy has a frame
 pub light_message : (m : Message) → is_heavy (input.Message m) ≡ false → is_light m ≡ true

@@ -1,14 +1,13 @@
 -- What stands at the front of bytes.
-use Rattle.std.specs.Prelude.{◌≡◌, ◌≢◌, ℕ, zero, suc, ◌+◌, ◌-◌, ◌^◌, ◌<◌, ◌≤◌, min, List, [], ◌∷◌, ◌++◌, length, take, drop, get_or, Option, Some, None, MatchOption, IfNone, IfSome, refl}
+use Rattle.std.specs.Prelude.{◌≡◌, ℕ, zero, suc, ◌+◌, ◌-◌, ◌^◌, ◌<◌, ◌≤◌, min, List, [], ◌∷◌, ◌++◌, length, take, drop, get_or, Some, None, refl}
 use Rattle.std.specs.Int.{to_be_bytes, from_be_bytes, w32}
-use Rattle.std.proofs.Common.{sym, ◌∙◌, ap, subst, arith, append_assoc, length-append, length-drop, take-append-drop}
+use Rattle.std.proofs.Common.{sym, ◌∙◌, ap, arith, append_assoc, length-append, length-drop, take-append-drop}
 use Rattle.std.proofs.lemmas.Nat.{be_bytes_4, from_be_bytes-to_be_bytes_4}
-use Rattle.std.proofs.lemmas.List.{append-nil, length-take-le, take_at, drop_at, drop_more, drop_all, drop-drop, take_all}
+use Rattle.std.proofs.lemmas.List.{length-take-le, take_at, drop_at, drop_more, drop-drop, take_all}
 use Rattle.curp_model.specs.Manager.{Shape}
 use Rattle.curp_msg.specs.declared.machine.Input.{Input}
 use Rattle.curp_mlog.specs.Journal.{IsNotFormatted, header}
-use Rattle.curp_mlog.specs.Machine.{IsShape}
-use Rattle.curp_mlog.specs.Opening.{FindsHead, FindsCut, FindsLength, FindsNone, FindsRecord, FindsShut, IsSpelledBy, StartsJournal}
+use Rattle.curp_mlog.specs.Opening.{FindsHead, FindsLength, FindsNone, FindsRecord, IsSpelledBy, StartsJournal}
 use Rattle.curp_mlog.specs.Records.{HasInputSpelling, framed, spelled}
 use Rattle.curp_mlog.specs.declared.opening.Head.{Head}
 use Rattle.curp_mlog.specs.declared.opening.Head.TheVariants as head
@@ -47,13 +46,6 @@ same_framed i j x y xs ys has other same =
           (sym (take_at (spelled i) (x ∷ xs) n refl) ∙ ap (λ (l : List ℕ). take n l) o.tail ∙ take_at (spelled j) (y ∷ ys) n (sym o.long)),
       sym (drop_at (spelled i) (x ∷ xs) n refl) ∙ ap (λ (l : List ℕ). drop n l) o.tail ∙ drop_at (spelled j) (y ∷ ys) n (sym o.long),
     )
-
-pub cut_short : (bytes : List ℕ) → FindsCut bytes → FindsNone bytes
-cut_short bytes f = record {
-  rest = f.rest;
-  is = f.is;
-  none = λ i byte tail has same. omega (arith, f.cut, ap length same, length-append (framed i) (byte ∷ tail), length-framed i);
-}
 
 module _ (bytes : List ℕ) (len : ℕ) (f : FindsLength bytes len) where
   pub spelled_record : (i : Input) → len < length f.rest → HasInputSpelling i → spelled i ≡ take len f.rest → FindsRecord bytes i (5 + len)
@@ -176,10 +168,3 @@ four_are bytes k long =
 pub number_at : (bytes : List ℕ) (k n : ℕ) → ((i : ℕ) → get_or bytes i 0 < 256) → k + 4 ≤ length bytes → n ≡ from_be_bytes w32 (four_at k bytes) → drop k bytes ≡ to_be_bytes w32 n ++ drop (k + 4) bytes
 number_at bytes k n small long is =
     four_are bytes k long ∙ ap (λ (l : List ℕ). l ++ drop (k + 4) bytes) (sym (be_bytes_4 (four_at k bytes) n refl (small_four bytes k small) is))
-
--- an open gate and a length
-pub open_at : (bytes : List ℕ) (len : ℕ) → get_or bytes 0 0 ≡ 1 → length bytes ≡ 5 → ((i : ℕ) → get_or bytes i 0 < 256) → len ≡ from_be_bytes w32 (get_or bytes 1 0 ∷ get_or bytes 2 0 ∷ get_or bytes 3 0 ∷ get_or bytes 4 0 ∷ []) → FindsLength bytes len
-open_at bytes len one long small is = record {
-  rest = drop 5 bytes;
-  is = drop_more bytes 0 0 (omega (arith, long)) ∙ ap (λ (x : ℕ). x ∷ drop 1 bytes) one ∙ ap (λ (l : List ℕ). 1 ∷ l) (number_at bytes 1 len small (omega (arith, long)) is);
-}

@@ -1,12 +1,11 @@
 -- How a walk along a journal goes on.
-use Rattle.std.specs.Prelude.{◌≡◌, ◌≢◌, ℕ, ◌+◌, ◌-◌, ◌^◌, ◌<◌, ◌≤◌, List, [], ◌∷◌, ◌++◌, length, take, drop, get_or, refl}
-use Rattle.std.specs.Int.{to_be_bytes, w32}
-use Rattle.std.proofs.Common.{inl, inr, sym, ◌∙◌, ap, subst, arith, append_assoc, length-append, length-drop}
+use Rattle.std.specs.Prelude.{◌≡◌, ℕ, ◌+◌, ◌-◌, ◌<◌, List, [], ◌∷◌, ◌++◌, length, take, drop, refl}
+use Rattle.std.proofs.Common.{sym, ◌∙◌, ap, subst, arith, append_assoc, length-append, length-drop}
 use Rattle.std.proofs.lemmas.List.{append-nil, drop_at}
-use Rattle.curp_mlog.specs.Journal.{IsDamaged, ReadsJournal, header}
+use Rattle.curp_mlog.specs.Journal.{IsDamaged, header}
 use Rattle.curp_mlog.specs.Machine.{IsAccepted, moved, opening}
-use Rattle.curp_mlog.specs.Opening.{FindsNone, FindsNot, FindsRecord, FindsShut, IsOpened, OpensNot, StartsJournal, Walked, error_at}
-use Rattle.curp_mlog.specs.Records.{HasInputSpelling, Taken, after, framed, records}
+use Rattle.curp_mlog.specs.Opening.{FindsNone, FindsNot, FindsRecord, OpensNot, StartsJournal, Walked, error_at}
+use Rattle.curp_mlog.specs.Records.{after, framed, records}
 use Rattle.curp_model.specs.Manager.{ManagerState, Shape, opening_manager}
 use Rattle.curp_msg.specs.declared.machine.Input.{Input}
 use Rattle.curp_mlog.specs.Answering.{StaysBy}
@@ -40,23 +39,12 @@ module _ (content : List ℕ) (gate : ℕ) (state : ManagerState) (w : Walked co
   abbrev front : List ℕ
   front = header w.shape ++ records w.inputs
 
-  pub walk_within : gate < length content
-  walk_within = omega (arith, ap length w.is, length-append front (w.byte ∷ w.rest), w.place)
-
   at_gate : drop gate content ≡ w.byte ∷ w.rest
   at_gate = ap (λ (l : List ℕ). drop gate l) w.is ∙ drop_at front (w.byte ∷ w.rest) gate w.place
 
   -- with what was found at the gate
   seen_so : (bytes : List ℕ) → drop gate content ≡ bytes → content ≡ front ++ bytes
   seen_so bytes is = w.is ∙ ap (λ (l : List ℕ). front ++ l) (sym at_gate ∙ is)
-
-  pub walk_shut : FindsShut (drop gate content) → IsOpened content gate state
-  walk_shut f = record {
-    shape = w.shape;
-    inputs = w.inputs;
-    reads = record { byte = f.byte; rest = f.rest; is = seen_so (f.byte ∷ f.rest) f.is; place = w.place; shut = f.shut; shape_ok = w.shape_ok; taken = w.taken };
-    state_is = w.state_is;
-  }
 
   pub walk_none : FindsNone (drop gate content) → IsDamaged content gate
   walk_none f = record {

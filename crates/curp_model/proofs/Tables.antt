@@ -266,9 +266,6 @@ check_other t id other a index client apart = check_none (note t other a index) 
 pub greater_back : (a b : RequestId) → id_cmp a b ≡ Less → id_cmp b a ≡ Greater
 greater_back a b e = ids_total.antisymm b a ∙ ap ordering_reverse e
 
-pub less_back : (a b : RequestId) → id_cmp a b ≡ Greater → id_cmp b a ≡ Less
-less_back a b e = ids_total.antisymm b a ∙ ap ordering_reverse e
-
 pub less_not_self : (a b : RequestId) → id_cmp a b ≡ Less → a ≡ b → ⊥
 less_not_self a b e same =
     let tied : id_cmp a b ≡ Equal = subst (λ (x : RequestId). id_cmp a x ≡ Equal) same (tied_itself ids_total a) in

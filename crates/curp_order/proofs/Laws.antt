@@ -12,10 +12,6 @@ pub answers_append : (s : Contents) (xs ys : List (RequestId × Command)) → an
 answers_append s [] ys = refl
 answers_append s (x ∷ xs) ys = ap (λ (w : List Answer). (applied s x.1).answer ∷ w) (answers_append (applied s x.1).after xs ys)
 
-pub store_after-append : (s : Contents) (xs ys : List (RequestId × Command)) → store_after s (xs ++ ys) ≡ store_after (store_after s xs) ys
-store_after-append s [] ys = refl
-store_after-append s (x ∷ xs) ys = store_after-append (applied s x.1).after xs ys
-
 pub length-answers : (s : Contents) (xs : List (RequestId × Command)) → length (answers_from s xs) ≡ length xs
 length-answers s [] = refl
 length-answers s (x ∷ xs) = ap suc (length-answers (applied s x.1).after xs)

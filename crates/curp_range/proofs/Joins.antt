@@ -1,9 +1,8 @@
 -- What a range added to spans in ascending order makes of them, as the spans that it meets or touches are taken into it one by one.
-use Rattle.std.proofs.Common.{◌≡◌, ℕ, zero, suc, ◌+◌, ◌-◌, ◌^◌, ◌<◌, ◌≤◌, min, max, Bool, ◌||◌, List, [], ◌∷◌, length, get_or, insert, remove, refl, ap, sym, ◌∙◌, subst, arith}
+use Rattle.std.proofs.Common.{◌≡◌, ℕ, zero, suc, ◌+◌, ◌-◌, ◌^◌, ◌<◌, ◌≤◌, min, max, Bool, ◌||◌, List, [], ◌∷◌, length, get_or, insert, remove, ap, sym, ◌∙◌, subst, arith}
 use Rattle.std.proofs.lemmas.Bool.Decides.{nat_tests}
 use Rattle.std.proofs.lemmas.List.Edits.{length-remove, get_or-remove_below, get_or-remove_above}
 use Rattle.curp_range.specs.Spans.{Span, is_in, is_owned, AscendWithin, SpansAscend, AreSpansOf}
-use Rattle.curp_range.specs.Places.{IsSpanPlace}
 use Rattle.curp_range.proofs.Ascending.{ends, rise, owned_read, owned-insert, or_under}
 use Rattle.curp_range.proofs.Cuts.{ascend-replaced}
 
@@ -16,17 +15,6 @@ pub record IsJoining (old : List Span) (lo hi : ℕ) (spans : List Span) (at fir
   pub apart : (k : ℕ) (d : Span) → k < at → (get_or spans k d).1 + 1 < first
   pub reach : (k : ℕ) (d : Span) → at ≤ k → k < length spans → first ≤ (get_or spans k d).1 + 1
   pub owned : (h : ℕ) → (is_owned spans h || is_in first last h) ≡ (is_owned old h || is_in lo hi h)
-
-pub joining_none : (xs : List Span) (lo hi at : ℕ) → SpansAscend xs → lo ≤ hi → hi < 2 ^ 64 → IsSpanPlace xs (lo - 1) at → IsJoining xs lo hi xs at lo hi
-joining_none xs lo hi at a o u p = record {
-  ascend = a;
-  within = p.within;
-  ordered = o;
-  below = u;
-  apart = λ k d l. omega (arith, p.before k d l);
-  reach = λ k d l m. omega (arith, p.from k d l m);
-  owned = λ h. refl;
-}
 
 -- two ranges that meet or touch are one
 pub united : (a b first last h : ℕ) → a ≤ b → first ≤ last → a ≤ last + 1 → first ≤ b + 1 → is_in (min first a) (max last b) h ≡ (is_in a b h || is_in first last h)

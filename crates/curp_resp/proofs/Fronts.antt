@@ -223,9 +223,6 @@ one_request one other its others rest left h i same =
 pub some_ahead : (bytes : List ℕ) (arguments : List (List ℕ)) (rest : List ℕ) → StandsFirst bytes arguments rest → bytes ≢ []
 some_ahead bytes arguments rest h = λ none. absurd (omega (arith, request_some bytes arguments rest h, ap length none))
 
-pub none_stands : NoneStandsFirst []
-none_stands = λ arguments rest stands. some_ahead [] arguments rest stands refl
-
 -- bytes behind others are counted as all of them are
 pub place_more : (place one other : ℕ) → place_behind (place_behind place one) other ≡ place_behind place (one + other)
 place_more place one other = omega arith

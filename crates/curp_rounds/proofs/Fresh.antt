@@ -25,9 +25,6 @@ among_fresh b xs ys here next its missing its_next =
     let none : is_among b xs ≡ false = sym its ∙ missing in
     rw (list_any-append, none) (its_next ∙ sym (among_next b xs ys none))
 
-pub among_here : (b : NodeId) (xs more : List NodeId) (here : Bool) → here ≡ is_among b xs → here ≡ true → true ≡ is_among b (xs ++ more)
-among_here b xs more here its there = rw (list_any-append, sym its ∙ there) refl
-
 -- a phase that is open is the one that has no lists
 pub open_is : (p : Phase) (is : Bool) → is ≡ is_open p → is ≡ true → p ≡ Open
 open_is Open b is there = refl

@@ -2,7 +2,7 @@ use Rattle.std.proofs.Common.{◌≤◌, Ok, ap, arith}
 use Rattle.std.proofs.Math.Bridge.{le_prop}
 use Rattle.curp_items.specs.declared.bounds.Bounds.{Bounds}
 use Rattle.curp_items.specs.Items.{bounds}
-use Rattle.curp_items.proofs.Ranges.{range_is, no_range}
+use Rattle.curp_items.proofs.Ranges.{range_is}
 use Rattle.curp_items.proofs.bounds.BoundsItem.read.Goals as goal
 
 pub returns : goal.returns

@@ -1,1 +1,0 @@
--- The first item that passes a test.
