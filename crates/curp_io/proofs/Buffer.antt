@@ -1,5 +1,5 @@
 -- Lemmas on a buffer of lines.
-use Rattle.std.proofs.Common.{◌≡◌, ◌≢◌, ℕ, suc, ◌+◌, ◌-◌, ◌<◌, ◌≤◌, Some, None, List, [], ◌∷◌, ◌++◌, length, take, drop, ap, sym, ◌∙◌, subst, arith, append-nil, length-append, length-drop, length-take}
+use Rattle.std.proofs.Common.{◌≡◌, ◌≢◌, ℕ, suc, ◌+◌, ◌-◌, ◌<◌, ◌≤◌, Option, Some, None, IfSome, MatchOption, List, [], ◌∷◌, ◌++◌, length, take, drop, refl, ap, sym, ◌∙◌, subst, arith, append-nil, length-append, length-drop, length-take}
 use Rattle.std.proofs.Math.Seq.{take-add}
 use Rattle.std.proofs.lemmas.List.{take_all, take-append-drop, length-take-le, drop-drop, drop-take, drop_all}
 use Rattle.std.proofs.lemmas.Slice.{between_from_start}
@@ -105,3 +105,19 @@ finds_last old ahead left bytes n adds none len some empty all =
           ∙ drop_all (suc (length (line_of ahead))) ahead (omega (arith, ap length is_line))
           ∙ sym (ap (λ w. drop (n + 1) ahead ++ w) empty ∙ append-nil (drop (n + 1) ahead) ∙ drop_all (n + 1) ahead (omega arith));
     }
+
+-- ---- a first line that is looked for among the bytes ahead
+
+pub feed_within : (place : Option ℕ) (ahead : List ℕ) → MatchOption place (line_of ahead ≡ ahead) (IsFeedPlace ahead) → length ahead ≤ 65537
+    → IfSome place (λ n. (n ≤ length ahead) × (n ≤ 65536))
+feed_within None ahead is room = tt
+feed_within (Some n) ahead is room = (omega (arith, is.within), omega (arith, is.within))
+
+pub feed_finds : (place : Option ℕ) (ahead left : List ℕ) → MatchOption place (line_of ahead ≡ ahead) (IsFeedPlace ahead)
+    → IfSome place (FindsLine (ahead ++ left) ahead left)
+feed_finds None ahead left is = tt
+feed_finds (Some n) ahead left is = finds_feed ahead left (ahead ++ left) n is refl
+
+pub no_feed_place : (place : Option ℕ) (ahead : List ℕ) → MatchOption place (line_of ahead ≡ ahead) (IsFeedPlace ahead) → place ≡ None → line_of ahead ≡ ahead
+no_feed_place None ahead is none = is
+no_feed_place (Some n) ahead is none = absurd cc

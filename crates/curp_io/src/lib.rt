@@ -5,7 +5,9 @@
 //!   `flushed` whether a flush was done after the last byte that a sink took.
 //! - `Lines::next_line`, clause `bytes`: it gives the lines of the bytes in order, whatever the sizes of the pieces in
 //!   which the source gives them, or says that a line is too long exactly where it has more than 65,536 bytes.
-//!   `repeats`: after a fault or a line that is too long it answers the same for ever.
+//!   `repeats`: after a fault or a line that is too long it answers the same for ever. `ready_line` gives the lines that
+//!   were read ahead whole, exactly those (`no_feed`), and has no source to ask: so one can do something else before
+//!   `next_line` waits for the source.
 //! - `write_piece`, clause `bytes`: the whole piece was put, or a front of it after a refusal. `next_line` and
 //!   `write_piece` carry `cause` and `told`.
 //! - `MemorySource`, `MemorySink`: exact, also which calls fail, as a `Schedule` says (`turn`, exact). `SureSource`,

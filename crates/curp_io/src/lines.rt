@@ -1,6 +1,6 @@
-ghost use Rattle.std.specs.Prelude.{◌≡◌, ◌≢◌, ◌≤◌, ◌++◌, [], true, None, Some, IfOk};
-ghost use Rattle.curp_io.specs.Streams.{Rose, SameCount};
-ghost use Rattle.curp_io.specs.Text.{IsNextLine, line_of, nothing_read, number_after, repeated};
+ghost use Rattle.std.specs.Prelude.{◌≡◌, ◌≢◌, ◌≤◌, ◌+◌, ◌++◌, List, ℕ, [], drop, length, take, true, false, None, Some, IfOk};
+ghost use Rattle.curp_io.specs.Streams.{Rose, SameCount, one_more};
+ghost use Rattle.curp_io.specs.Text.{GivesLine, IsNextLine, line_of, nothing_read, number_after, repeated};
 
 use crate::source::Source;
 use crate::window::{Found, Window};
@@ -98,8 +98,7 @@ impl Lines {
         self.window.forget_line();
         match self.window.find_line(source) {
             Found::Line(len) => {
-                self.window.give_line(len);
-                self.number = self.number.saturating_add(1);
+                self.give(len);
                 NextLine::Line
             }
             Found::End => NextLine::End,
@@ -108,6 +107,47 @@ impl Lines {
                 at: self.number.saturating_add(1),
             }),
         }
+    }
+
+    /// Gives the next line where its line feed is read ahead too. It has no source to ask: `next_line` gives what isn't
+    /// ready.
+    pub fn ready_line(&mut self) -> bool
+        ensures line { (left : List ℕ) → result ≡ true
+            → GivesLine (self.old.ahead ++ left) self.new.line (self.new.ahead ++ left) }
+        ensures number { result ≡ true → self.new.number ≡ one_more self.old.number }
+        ensures failed { self.new.failed ≡ self.old.failed }
+        ensures going_on { result ≡ true → self.old.failed ≡ None }
+        ensures not_ready { result ≡ false → self.old.failed ≡ None → self.new ≡ record self.old { line = [] } }
+        ensures no_feed { result ≡ false → self.old.failed ≡ None → line_of self.old.ahead ≡ self.old.ahead }
+        ensures repeats { (answer : NextLine) → self.old.failed ≡ Some answer
+            → (result ≡ false) × (self.new ≡ self.old) }
+    {
+        if self.failed.is_some() {
+            return false;
+        }
+        match self.window.ready_line() {
+            Some(len) => {
+                self.give(len);
+                true
+            }
+            None => {
+                self.window.forget_line();
+                false
+            }
+        }
+    }
+
+    /// Gives the first bytes ahead as the next line, without the byte behind them.
+    fn give(&mut self, len: usize)
+        requires { len ≤ length self.old.ahead }
+        ensures after { self.new ≡ record self.old {
+          ahead = drop (len + 1) self.old.ahead;
+          line = take len self.old.ahead;
+          number = one_more self.old.number;
+        } }
+    {
+        self.window.give_line(len);
+        self.number = self.number.saturating_add(1);
     }
 
     /// Answers, now and from now on.

@@ -1,9 +1,9 @@
-ghost use Rattle.std.specs.Prelude.{◌≡◌, ◌≢◌, ◌≤◌, ◌<◌, ◌+◌, ◌-◌, ◌++◌, ◌==◌, true, IfOk, MatchOption};
-ghost use Rattle.std.specs.Prelude.{length, take, drop, [], vec_len};
+ghost use Rattle.std.specs.Prelude.{◌≡◌, ◌≢◌, ◌≤◌, ◌<◌, ◌+◌, ◌-◌, ◌++◌, ◌==◌, ℕ, true, IfOk, IfSome, MatchOption};
+ghost use Rattle.std.specs.Prelude.{List, length, take, drop, [], None, vec_len};
 ghost use Rattle.std.specs.List.{between, position};
 ghost use Rattle.curp_io.specs.Streams.{FitsBuffer, Rose, SameCount, Takes};
 ghost use Rattle.curp_io.specs.Text.{line_of};
-ghost use Rattle.curp_io.specs.Buffer.{Adds, Finds, IsFeedPlace, IsWithin};
+ghost use Rattle.curp_io.specs.Buffer.{Adds, Finds, FindsLine, IsFeedPlace, IsWithin};
 
 use crate::source::{Source, Taken};
 use curp_base::NoMemory;
@@ -107,6 +107,16 @@ impl Window {
     {
         let at = find_line_feed(&self.buffer[self.start + from..self.end])?;
         Some(from + at)
+    }
+
+    /// The length of the first line, where its line feed is ahead.
+    pub(crate) fn ready_line(&self) -> Option<usize>
+        ensures within { IfSome result (λ len. (len ≤ length self.now.ahead) × (len ≤ 65536)) }
+        ensures bytes { (left : List ℕ)
+            → IfSome result (FindsLine (self.now.ahead ++ left) self.now.ahead left) }
+        ensures no_feed { result ≡ None → line_of self.now.ahead ≡ self.now.ahead }
+    {
+        self.line_feed(0)
     }
 
     /// Reads more bytes behind those ahead. The last line is lost.
