@@ -1,4 +1,4 @@
-ghost use Rattle.std.specs.Prelude.{◌≡◌, ◌≢◌, ◌+◌, ◌≤◌, ◌++◌, [], true, false, ⊤};
+ghost use Rattle.std.specs.Prelude.{◌≡◌, ◌≢◌, ◌⊎◌, ◌+◌, ◌≤◌, ◌++◌, [], true, false, ⊤};
 ghost use Rattle.curp_io.specs.Streams.{HoldsPart, Rose, SameCount};
 ghost use Rattle.curp_manage.specs.Lines.{manage_script_in};
 ghost use Rattle.curp_manage.specs.Text.{HoldsManaged, manage_says, managed, managed_of, texts_of_managed};
@@ -16,9 +16,9 @@ use std::alloc::Global;
 /// Reads a header and orders for a manager, gives them to it, and writes what it does. Its journal stands on a disk that
 /// crashes where a line says so. It takes no handle, and returns.
 ///
-/// The text of a line is written as one piece, before the next line is read. Input and output that don't tell their
-/// bytes, as the standard streams, still have the promises on faults and on the flush. The disk is one in memory, which
-/// grows by some hundred bytes for each input since the last crash.
+/// The text of a line is put into the sink before the next line is looked at, and passed on before the source is asked
+/// for more. Input and output that don't tell their bytes, as the standard streams, still have the promises on faults
+/// and on the flush. The disk is one in memory, which grows by some hundred bytes for each input since the last crash.
 pub fn manage_orders<S: Source, K: Sink>(alloc: Global, source: &mut S, sink: &mut K) -> Status
     // It ends as the script does, read to its end or at the first line that is refused, unless a fault or want of
     // memory cuts it short.
@@ -38,6 +38,9 @@ pub fn manage_orders<S: Source, K: Sink>(alloc: Global, source: &mut S, sink: &m
     // Where reading fails, it has written what the whole lines say that it was given.
     ensures at_fault { S.tells source.old ≡ true → K.tells sink.old ≡ true → result ≡ Status.ReadFault
         → HoldsManaged (S.left source.old) (S.left source.new) (K.held sink.old) (K.held sink.new) }
+    // Before it waited for more input it had passed on what it wrote; where memory runs out, it does so in the end.
+    ensures passed_on { result ≡ Status.ReadFault → (K.flushed sink.new ≡ true) ⊎ (sink.new ≡ sink.old) }
+    ensures out_of_memory { result ≡ Status.NoMemory → K.flushed sink.new ≡ true }
 
     // A fault comes exactly where the count of faults rose first.
     ensures read_fault { result ≡ Status.ReadFault → Rose (S.faults source.old) (S.faults source.new) }

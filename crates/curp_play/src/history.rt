@@ -46,6 +46,7 @@ pub fn play_history<S: Source, K: Sink>(alloc: Global, source: &mut S, sink: &mu
     ensures front { S.tells source.old ≡ true → K.tells sink.old ≡ true
         → HoldsPart (K.held sink.old) (K.held sink.new) (claim_of (script_in (S.left source.old))) }
     ensures flushed { is_cut_short result ≡ false → K.flushed sink.new ≡ true }
+    ensures out_of_memory { result ≡ Status.NoMemory → K.flushed sink.new ≡ true }
 
     // These lines are read back as a history and an order of it, so `check` says yes.
     ensures claim { S.tells source.old ≡ true → result ≡ Status.Ok

@@ -1,4 +1,4 @@
-ghost use Rattle.std.specs.Prelude.{◌≡◌, ◌≢◌, ◌++◌, [], true, false, None, IfOk, OnOk, ⊤, string_bytes};
+ghost use Rattle.std.specs.Prelude.{◌≡◌, ◌≢◌, ◌⊎◌, ◌++◌, [], true, false, None, IfOk, OnOk, ⊤, string_bytes};
 ghost use Rattle.curp_io.specs.Streams.{HoldsPart, Rose, SameCount};
 ghost use Rattle.curp_model.specs.World as model;
 ghost use Rattle.curp_play.specs.Play.{HasAnOrder, HoldsWholeLines, OrderStands};
@@ -23,9 +23,9 @@ use std::marker::Model;
 /// Reads a script, plays it, and writes what every step did and one order of the requests. It takes no handle, and
 /// returns.
 ///
-/// The text of a step is written as one piece, before the next line is read. Before a refused line the texts of all
-/// earlier steps are written, and no order. Input and output that don't tell their bytes, as the standard streams,
-/// still have the promises on faults and on the flush.
+/// The text of a step is put into the sink before the next line is looked at, and passed on before the source is asked
+/// for more. Before a refused line the texts of all earlier steps are written, and no order. Input and output that don't
+/// tell their bytes, as the standard streams, still have the promises on faults and on the flush.
 pub fn play_script<S: Source, K: Sink>(alloc: Global, source: &mut S, sink: &mut K) -> Status
     // It ends as the script does, read to its end or at the first line that is refused, unless a fault or want of
     // memory cuts it short.
@@ -45,6 +45,9 @@ pub fn play_script<S: Source, K: Sink>(alloc: Global, source: &mut S, sink: &mut
     // Where reading fails, it has written what the whole lines say that it was given.
     ensures at_fault { S.tells source.old ≡ true → K.tells sink.old ≡ true → result ≡ Status.ReadFault
         → HoldsWholeLines (S.left source.old) (S.left source.new) (K.held sink.old) (K.held sink.new) }
+    // Before it waited for more input it had passed on what it wrote; where memory runs out, it does so in the end.
+    ensures passed_on { result ≡ Status.ReadFault → (K.flushed sink.new ≡ true) ⊎ (sink.new ≡ sink.old) }
+    ensures out_of_memory { result ≡ Status.NoMemory → K.flushed sink.new ≡ true }
 
     // The order that it prints is one of the history: each completed request stands once, each answer is that of one
     // thread, and what completed before another was invoked stands before it.

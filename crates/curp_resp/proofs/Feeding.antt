@@ -7,6 +7,7 @@ use Rattle.curp_resp.specs.Ahead.{Ahead}
 use Rattle.curp_resp.specs.Feeds.{Passes, TakesByte, read_on}
 use Rattle.curp_resp.specs.Frames.{frame_step}
 use Rattle.curp_resp.specs.Kept.{kept_by}
+use Rattle.curp_resp.specs.Read.{Gives, Refuses}
 use Rattle.curp_resp.specs.declared.frame.Step.{Step}
 use Rattle.curp_resp.specs.declared.frame.Step.TheVariants as step
 use Rattle.curp_resp.specs.declared.reading.Progress.TheVariants as progress
@@ -33,7 +34,7 @@ passes_more old now new front byte h first is = record {
 fed_first : (bytes : List ℕ) (byte : ℕ) (reading : Reading) → first_of bytes ≡ Some byte → read_on bytes reading ≡ read_on (byte ∷ drop 1 bytes) reading
 fed_first bytes byte reading first = ap (λ w. read_on w reading) (first_rest bytes byte first)
 
-more_by : (s : Step) (rest : List ℕ) (byte : ℕ) (reading new : Reading) → frame_step reading.frame byte ≡ s → TakesByte s byte reading.arguments progress.More new
+pub more_by : (s : Step) (rest : List ℕ) (byte : ℕ) (reading new : Reading) → frame_step reading.frame byte ≡ s → TakesByte s byte reading.arguments progress.More new
     → read_on (byte ∷ rest) reading ≡ read_on rest new
 more_by (step.On next does) rest byte reading new e h =
     runs.read_on kept_by byte rest reading.frame reading.arguments next does e ∙ ap (λ r. read_on rest r) (sym h.1)
@@ -44,3 +45,16 @@ pub fed_more : (bytes : List ℕ) (byte : ℕ) (reading new : Reading) → first
     → TakesByte (frame_step reading.frame byte) byte reading.arguments progress.More new → read_on bytes reading ≡ read_on (drop 1 bytes) new
 fed_more bytes byte reading new first h =
     fed_first bytes byte reading first ∙ more_by (frame_step reading.frame byte) (drop 1 bytes) byte reading new refl h
+
+pub whole_by : (s : Step) (rest : List ℕ) (byte : ℕ) (reading new : Reading) → frame_step reading.frame byte ≡ s → TakesByte s byte reading.arguments progress.Whole new
+    → read_on (byte ∷ rest) reading ≡ Gives new.arguments rest
+whole_by (step.On next does) rest byte reading new e h = absurd (cc h.0)
+whole_by step.Whole rest byte reading new e h =
+    runs.read_whole kept_by byte rest reading.frame reading.arguments e ∙ ap (λ k. Gives k rest) (sym h.1)
+whole_by step.Refused rest byte reading new e h = absurd (cc h)
+
+pub refused_by : (s : Step) (rest : List ℕ) (byte : ℕ) (reading new : Reading) → frame_step reading.frame byte ≡ s → TakesByte s byte reading.arguments progress.Refused new
+    → read_on (byte ∷ rest) reading ≡ Refuses (byte ∷ rest)
+refused_by (step.On next does) rest byte reading new e h = absurd (cc h.0)
+refused_by step.Whole rest byte reading new e h = absurd (cc h.0)
+refused_by step.Refused rest byte reading new e h = runs.read_refused kept_by byte rest reading.frame reading.arguments e

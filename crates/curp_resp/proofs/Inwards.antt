@@ -5,7 +5,7 @@ use Rattle.std.proofs.Math.Seq.{drop-append_seam}
 use Rattle.curp_resp.specs.Ahead.{Ahead}
 use Rattle.curp_resp.specs.Feeds.{Feeds, Passes, read_first, read_on}
 use Rattle.curp_resp.specs.Frames.{argument_step, bytes_step, count_step, frame_step, fresh_frame, is_fresh, no_digits, number_step, rest_most, size_step, stage_rest, stage_step}
-use Rattle.curp_resp.specs.Input.{BreaksOff, StandsFirst, place_behind}
+use Rattle.curp_resp.specs.Input.{BreaksOff, NoneStandsFirst, SomeStandsFirst, StandsFirst, place_behind}
 use Rattle.curp_resp.specs.Kept.{KeptArguments, Parts, kept_by, no_parts, nothing_kept}
 use Rattle.curp_resp.specs.KeptMeaning.{meaning_of_kept}
 use Rattle.curp_resp.specs.Language.{carriage_return, dollar, line_feed, star}
@@ -23,7 +23,7 @@ use Rattle.curp_resp.specs.declared.number.NumberStep.TheVariants as number
 use Rattle.curp_resp.specs.declared.number.Digits.{Digits}
 use Rattle.curp_resp.specs.declared.reading.Progress.TheVariants as progress
 use Rattle.curp_resp.specs.declared.reading.Reading.{Reading}
-use Rattle.curp_resp.proofs.Fronts.{breaks_at, breaks_at_end, inside_none, place_more, reads, refuses_at, some_ahead}
+use Rattle.curp_resp.proofs.Fronts.{breaks_at, breaks_at_end, inside_none, place_more, reads, refuses_at, refuses_none, some_ahead}
 use Rattle.curp_resp.proofs.Keeps.{kept_of, kept_read, meaning_kept, reads_kept}
 use Rattle.curp_resp.proofs.Numbers.{NumberSteps, number_steps}
 use Rattle.curp_resp.proofs.Runs as runs
@@ -321,3 +321,15 @@ pub untouched : {A : Type 0} (start window new : Ahead) (old source then_left : 
 untouched start window new old source then_left arguments rest stands same_source same_window same =
     let both = same (λ none. some_ahead start.bytes arguments rest stands (ap (λ w. w.bytes) (sym same_window) ∙ none)) in
     (both.0 ∙ same_window, both.1 ∙ same_source)
+
+-- ---- whether bytes begin with a whole request
+
+pub begins_whole : (bytes rest : List ℕ) (kept : KeptArguments) → read_first bytes ≡ Gives kept rest → SomeStandsFirst bytes
+begins_whole bytes rest kept h =
+    let whole = gives_parts bytes kept rest h in (whole.0.whole, rest, runs.read_first bytes whole.0 rest whole.1)
+
+pub begins_refused : (bytes rest : List ℕ) → read_first bytes ≡ Refuses rest → NoneStandsFirst bytes
+begins_refused bytes rest h = refuses_none bytes rest (refuses_parts bytes rest h)
+
+pub begins_inside : (bytes : List ℕ) (frame : Frame) (kept : KeptArguments) → read_first bytes ≡ Inside frame kept → NoneStandsFirst bytes
+begins_inside bytes frame kept h = let parts = inside_parts bytes frame kept h in inside_none bytes frame parts.0 parts.1

@@ -12,6 +12,10 @@ pub record StandsFirst (bytes : List ℕ) (arguments : List (List ℕ)) (rest : 
 abbrev pub NoneStandsFirst : List ℕ → Type 0
 NoneStandsFirst bytes = (arguments : List (List ℕ)) (rest : List ℕ) → StandsFirst bytes arguments rest → ⊥
 
+-- some request stands at the front
+abbrev pub SomeStandsFirst : List ℕ → Type 0
+SomeStandsFirst bytes = (arguments : List (List ℕ)) × (rest : List ℕ) × StandsFirst bytes arguments rest
+
 -- some request begins with the first bytes, so many, and none with more of them
 pub record IsLongestFront (bytes : List ℕ) (count : ℕ) : Type 0 where
   pub within : count ≤ length bytes

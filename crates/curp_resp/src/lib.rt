@@ -19,8 +19,8 @@
 //! - `Requests::next_request`, clause `bytes`: it gives the requests of the bytes in order by their meaning
 //!   (`meaning`), whatever the sizes of the pieces in which the source gives them; `asked`, `end`, `bad_request`: each
 //!   answer comes exactly where it is due, a bad request at exactly the place where the bytes break off (`BreaksOff`);
-//!   `waits`: nothing is read while a whole request is read ahead. `repeats`: after a fault or a bad request it answers
-//!   the same for ever. `cause` and `told` are those of a source.
+//!   `waits`: nothing is read while a whole request is read ahead, which `has_request` tells. `repeats`: after a fault
+//!   or a bad request it answers the same for ever. `cause` and `told` are those of a source.
 //! - `reply_text`, `wrong_text`, `protocol_text`: exact (`reply_of`, `wrong_of`, `protocol_error`).
 //! - `laws`: no request begins another, an input is requests and a rest in exactly one way, and that rest is empty or
 //!   breaks off at exactly one place.

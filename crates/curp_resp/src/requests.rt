@@ -1,7 +1,7 @@
-ghost use Rattle.std.specs.Prelude.{◌≡◌, ◌≢◌, ◌≤◌, ◌<◌, ◌^◌, ◌++◌, ◌↔◌, ℕ, List, [], true, None, Some, IfOk};
+ghost use Rattle.std.specs.Prelude.{◌≡◌, ◌≢◌, ◌≤◌, ◌<◌, ◌^◌, ◌++◌, ◌↔◌, ℕ, List, [], true, false, None, Some, IfOk};
 ghost use Rattle.curp_io.specs.Streams.{Rose, SameCount};
 ghost use Rattle.curp_resp.specs.Feeds.{Feeds, Passes, read_on};
-ghost use Rattle.curp_resp.specs.Input.{StandsFirst};
+ghost use Rattle.curp_resp.specs.Input.{NoneStandsFirst, SomeStandsFirst, StandsFirst};
 ghost use Rattle.curp_resp.specs.Meaning.{meaning};
 ghost use Rattle.curp_resp.specs.Next.{BreaksOffAt, IsNextRequest, nothing_read, repeated};
 
@@ -79,6 +79,14 @@ impl Requests {
         })
     }
 
+    /// Whether a whole request is read ahead: then `next_request` gives it, and reads nothing.
+    pub fn has_request(&self) -> bool
+        ensures yes { result ≡ true → SomeStandsFirst self.now.ahead }
+        ensures no { result ≡ false → NoneStandsFirst self.now.ahead }
+    {
+        begins_with_request(self.window.bytes())
+    }
+
     /// Gives the next request of the bytes read ahead and those that the source has left. It takes no memory, and takes
     /// what the source gives at a time, and nothing while a whole request is read ahead. A read fault and a bad request
     /// are answered by every later call again, which then reads nothing.
@@ -101,6 +109,9 @@ impl Requests {
         // A request that is read ahead is given before anything is read.
         ensures waits { (arguments : List (List ℕ)) (rest : List ℕ) → StandsFirst self.old.ahead arguments rest
             → source.new ≡ source.old }
+        ensures ready { (arguments : List (List ℕ)) (rest : List ℕ) → StandsFirst self.old.ahead arguments rest
+            → self.old.failed ≡ None → result ≢ NextRequest.ReadFault }
+        ensures none_ahead { self.old.failed ≡ None → result ≡ NextRequest.ReadFault → self.new.ahead ≡ [] }
         ensures failed { self.old.failed ≡ None → self.new.failed ≡ repeated result }
         ensures repeats { (answer : NextRequest) → self.old.failed ≡ Some answer
             → (result ≡ answer) × (self.new ≡ self.old) × (source.new ≡ source.old) }
@@ -119,6 +130,22 @@ impl Requests {
     }
 }
 
+/// Whether bytes begin with a whole request.
+fn begins_with_request(bytes: &[u8]) -> bool
+    ensures yes { result ≡ true → SomeStandsFirst bytes.now }
+    ensures no { result ≡ false → NoneStandsFirst bytes.now }
+{
+    let mut reading = Reading::new();
+    'reads: for byte in bytes {
+        match reading.take(*byte) {
+            Progress::More => {}
+            Progress::Whole => return true,
+            Progress::Refused => return false,
+        }
+    }
+    false
+}
+
 /// Finds what is next, and reads as much as that needs.
 fn find_request<S: Source>(window: &mut Window, source: &mut S) -> NextRequest
     requires { window.old.passed < 2 ^ 64 }
@@ -128,6 +155,9 @@ fn find_request<S: Source>(window: &mut Window, source: &mut S) -> NextRequest
     ensures range { window.new.passed < 2 ^ 64 }
     ensures waits { (arguments : List (List ℕ)) (rest : List ℕ) → StandsFirst window.old.bytes arguments rest
         → source.new ≡ source.old }
+    ensures ready { (arguments : List (List ℕ)) (rest : List ℕ) → StandsFirst window.old.bytes arguments rest
+        → result ≢ NextRequest.ReadFault }
+    ensures none_ahead { result ≡ NextRequest.ReadFault → window.new.bytes ≡ [] }
     ensures tells { S.tells source.old ≡ true → S.tells source.new ≡ true }
     ensures cause { result ≡ NextRequest.ReadFault → Rose (S.faults source.old) (S.faults source.new) }
     ensures told { result ≢ NextRequest.ReadFault → SameCount (S.faults source.old) (S.faults source.new) }

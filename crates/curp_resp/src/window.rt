@@ -51,6 +51,13 @@ impl Window {
         self.passed
     }
 
+    /// The bytes ahead.
+    pub(crate) fn bytes(&self) -> &[u8]
+        ensures { result.now ≡ self.now.bytes }
+    {
+        &self.buffer[self.start..self.end]
+    }
+
     /// The first byte ahead.
     pub(crate) fn first(&self) -> Option<u8>
         ensures { result ≡ first_of self.now.bytes }

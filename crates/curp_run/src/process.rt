@@ -3,7 +3,7 @@ ghost use Rattle.std.specs.Process.{exit_status};
 ghost use Rattle.std.specs.IoError.{error_kind};
 ghost use Rattle.curp_io.specs.Streams.{Rose, SameCount};
 ghost use Rattle.curp_runner.specs.Status.{TellsStatus, code_of};
-ghost use Rattle.curp_run.specs.Ran.{RanTo, took_of, wrote_of};
+ghost use Rattle.curp_run.specs.Does.{EndsWith, took_of, wrote_of};
 ghost use Rattle.curp_run.specs.Run.{asked, unread_words};
 ghost use Rattle.curp_run.specs.declared.complaints.Blame.TheVariants.{Unknown};
 ghost use Rattle.curp_words.specs.declared.task.LivePlan.{LivePlan};
@@ -17,31 +17,43 @@ use curp_runner::Status;
 use curp_seat::{Gate, OpenGate};
 use curp_words::Task;
 use std::alloc::Global;
+use std::io::BufWriter;
 use std::process::ExitCode;
 use std::rt::Env;
 use std::sync::Wait;
 use std::thread::Threads;
 use std::{env, io};
 
-/// Does all that `main` does: runs the arguments of the process over the standard streams, as `run_to_end`. Words that are
-/// no text are no command line.
+/// How many bytes of output wait at most until they are passed on together.
+const OUTPUT_ROOM: usize = 65_536;
+
+/// Does all that `main` does: runs the arguments of the process over the standard streams, as `run_to_end`. Output is
+/// held back until it is passed on, or until 65,536 bytes wait, so that many lines make one call of the system.
 pub fn start(
     rt: &(impl Env + Input + Print + Eprint + AllocGlobal + Threads + Wait + Sync),
 ) -> ExitCode
     ensures { TellsStatus (exit_status result) }
 {
-    let mut source = StdSource::new(rt.reader());
-    let mut sink = StdSink::new(io::writer(rt));
+    match BufWriter::with_capacity(rt.alloc(), OUTPUT_ROOM, io::writer(rt)) {
+        Ok(writer) => {
+            let mut source = StdSource::new(rt.reader());
+            let mut sink = StdSink::new(writer);
+            run_process(rt, &mut source, &mut sink)
+        }
+        Err(_) => told(rt, &Complaints::of_status(Status::NoMemory)),
+    }
+}
+
+/// Runs the arguments of the process. Words that are no text are no command line.
+fn run_process<S: Source, K: Sink>(
+    rt: &(impl Env + Eprint + AllocGlobal + Threads + Wait + Sync),
+    source: &mut S,
+    sink: &mut K,
+) -> ExitCode
+    ensures { TellsStatus (exit_status result) }
+{
     match arguments_of(rt) {
-        Ok(arguments) => run_to_end(
-            rt,
-            rt.alloc(),
-            &arguments,
-            &mut source,
-            &mut sink,
-            rt,
-            &OpenGate,
-        ),
+        Ok(arguments) => run_to_end(rt, rt.alloc(), &arguments, source, sink, rt, &OpenGate),
         Err(error) => told(rt, &Complaints::of_status(of_unread_words(&error))),
     }
 }
@@ -66,7 +78,7 @@ pub fn run_to_end<R: Threads + Wait + Sync, G: Gate + Sync, S: Source, K: Sink, 
     gate: &G,
 ) -> ExitCode
     // It ends with the number of a status, and what that run took and wrote is as `run` says of this status.
-    ensures ran { RanTo (exit_status result) (asked arguments.now) (took_of S.tells S.left S.faults source.old source.new)
+    ensures ran { EndsWith (exit_status result) (asked arguments.now) (took_of S.tells S.left S.faults source.old source.new)
         (wrote_of K.tells K.held K.flushed K.faults sink.old sink.new) }
     // For words that are no command line nothing is read or written, and for `make` and `live` nothing is read.
     ensures untouched { asked arguments.now ≡ None → (source.new ≡ source.old) × (sink.new ≡ sink.old) }

@@ -115,6 +115,21 @@ told_nothing meaning rules bytes w held = record {
   is = sym (append-nil held);
 }
 
+-- what is held stays
+pub told_so_far : {A W : Type 0} (meaning : List ℕ → Result A LineError) (rules : Rules A W) (bytes now : List ℕ) (number : ℕ) (opened world : W) (old held more : List ℕ)
+    → more ≡ held → Told meaning rules bytes now number opened world old held → Told meaning rules bytes now number opened world old more
+told_so_far meaning rules bytes now number opened world old held more same t = record {
+  read = t.read;
+  said = t.said;
+  split = t.split;
+  lines = t.lines;
+  goes_on = t.goes_on;
+  are = t.are;
+  counted = t.counted;
+  leads = t.leads;
+  is = same ∙ t.is;
+}
+
 -- one line more, and its text
 pub told_more : {A W : Type 0} (meaning : List ℕ → Result A LineError) (rules : Rules A W) (bytes now rest line : List ℕ) (number : ℕ) (opened world new : W) (old held more : List ℕ) (s : A)
     → Told meaning rules bytes now number opened world old held → GivesLine now line rest → meaning line ≡ Ok s → number ≤ step_limit

@@ -53,3 +53,7 @@ goes_further text old now new piece rest s more = record {
 pub is_whole : (text old now due : List ℕ) → SoFar text old now due → due ≡ [] → now ≡ old ++ text
 is_whole text old now due s none =
     s.is ∙ ap (λ w. old ++ w) (sym (append-nil s.done) ∙ ap (λ w. s.done ++ w) (sym none) ∙ s.goes_on)
+
+-- what is held stays
+pub written_so_far : (text old before now due : List ℕ) → now ≡ before → SoFar text old before due → SoFar text old now due
+written_so_far text old before now due same s = record { done = s.done; is = same ∙ s.is; goes_on = s.goes_on }

@@ -33,6 +33,12 @@ is_cut_short status.WriteFault = true
 is_cut_short status.NoMemory = true
 is_cut_short _ = false
 
+-- reading or writing failed
+abbrev pub is_fault : Status → Bool
+is_fault status.ReadFault = true
+is_fault status.WriteFault = true
+is_fault _ = false
+
 -- the status of a run that a line ends. Want of memory says nothing of the line
 abbrev pub refused_at : ℕ → LineError → Status
 refused_at line NoMemory = status.NoMemory

@@ -15,4 +15,4 @@ mod writing;
 pub use reading::ScriptLine;
 pub use running::{Player, run};
 pub use status::{Complaint, Status};
-pub use writing::{close, write};
+pub use writing::{close, pass_on, write};

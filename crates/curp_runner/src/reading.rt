@@ -10,8 +10,9 @@ ghost use Rattle.curp_runner.specs.Reading.{GivesSaid, HasNoHeader, IsBehind, Is
 ghost use Rattle.curp_runner.specs.Reading.{LeavesLess, ReadsLine, Said, StopsAs, due, script_by, with_line};
 
 use crate::status::Status;
+use crate::writing::pass_on;
 use curp_base::NoMemory;
-use curp_io::{Lines, NextLine, Source};
+use curp_io::{Lines, NextLine, Sink, Source};
 use curp_msg::STEP_LIMIT;
 use curp_script::{Header, LineError, LineReader, ManageLine, Step};
 use std::alloc::Global;
@@ -107,14 +108,78 @@ impl<L: ScriptLine> ScriptReader<L> {
     }
 
     /// Reads what the line of the step of that number says, which is the line behind it. None is left at the end of the
-    /// script.
-    pub(crate) fn read_line<S: Source>(
+    /// script. What the sink holds back is passed on before the source is asked for more.
+    pub(crate) fn read_line<S: Source, K: Sink>(
         &mut self,
-        source: &mut S,
         number: u64,
+        source: &mut S,
+        sink: &mut K,
     ) -> Result<Option<L>, Status>
         requires behind { IsBehind self.old number }
         requires counted { number ≤ step_limit + 1 }
+        ensures due { S.tells source.old ≡ true → GivesSaid (due L.meaning self.old (S.left source.old)) result
+            (due L.meaning self.new (S.left source.new)) }
+        ensures line { S.tells source.old ≡ true → IfOk result (λ read. IfSome read (λ line. ReadsLine L.meaning
+            (self.old.ahead ++ S.left source.old) line (self.new.ahead ++ S.left source.new))) }
+        ensures fault { S.tells source.old ≡ true → result ≡ Err Status.ReadFault
+            → LeavesLess (self.old.ahead ++ S.left source.old) self.new.ahead (S.left source.new) }
+        ensures end { S.tells source.old ≡ true → result ≡ Ok None → S.left source.new ≡ [] }
+        ensures goes_on { IfOk result (λ read. IfSome read (λ line. IsBehind self.new (number + 1))) }
+        ensures counted { IfOk result (λ read. IfSome read (λ line. number ≤ step_limit)) }
+        ensures said { IfOk result (λ read. IfSome read (λ line. IsSaid L.meaning line)) }
+        ensures valid { IfOk result (λ read. IfSome read L.IsValid) }
+        ensures held { K.tells sink.old ≡ true → K.held sink.new ≡ K.held sink.old }
+        ensures passed_on { result ≡ Err Status.ReadFault → K.flushed sink.new ≡ true }
+        ensures source_tells { S.tells source.old ≡ true → S.tells source.new ≡ true }
+        ensures sink_tells { K.tells sink.old ≡ true → K.tells sink.new ≡ true }
+        ensures read_fault { result ≡ Err Status.ReadFault → Rose (S.faults source.old) (S.faults source.new) }
+        ensures no_read_fault { result ≢ Err Status.ReadFault → SameCount (S.faults source.old) (S.faults source.new) }
+        ensures write_fault { result ≡ Err Status.WriteFault → Rose (K.faults sink.old) (K.faults sink.new) }
+        ensures no_write_fault { result ≢ Err Status.WriteFault → SameCount (K.faults sink.old) (K.faults sink.new) }
+        ensures never_usage { result ≢ Err Status.Usage }
+        ensures never_ok { result ≢ Err Status.Ok }
+    {
+        if let Some(line) = self.ready_line(number)? {
+            return Ok(Some(line));
+        }
+        pass_on(sink)?;
+        self.wait_for_line(number, source, sink)
+    }
+
+    /// Reads a line that was read ahead whole. None says that there is no such line.
+    fn ready_line(&mut self, number: u64) -> Result<Option<L>, Status>
+        requires behind { IsBehind self.old number }
+        requires counted { number ≤ step_limit + 1 }
+        ensures due { (left : List ℕ) → result ≢ Ok None
+            → GivesSaid (due L.meaning self.old left) result (due L.meaning self.new left) }
+        ensures line { (left : List ℕ) → IfOk result (λ read. IfSome read (λ line. ReadsLine L.meaning
+            (self.old.ahead ++ left) line (self.new.ahead ++ left))) }
+        ensures not_ready { result ≡ Ok None → self.new ≡ record self.old { line = [] } }
+        ensures goes_on { IfOk result (λ read. IfSome read (λ line. IsBehind self.new (number + 1))) }
+        ensures counted { IfOk result (λ read. IfSome read (λ line. number ≤ step_limit)) }
+        ensures said { IfOk result (λ read. IfSome read (λ line. IsSaid L.meaning line)) }
+        ensures valid { IfOk result (λ read. IfSome read L.IsValid) }
+        ensures reading { IfErr result IsOfReading }
+        ensures never_read { result ≢ Err Status.ReadFault }
+    {
+        if !self.lines.ready_line() {
+            return Ok(None);
+        }
+        let line = line_of_text(&mut self.line_reader, number, self.lines.text())?;
+        Ok(Some(line))
+    }
+
+    /// Reads a line, for which the source may be asked. The sink holds nothing back meanwhile: who sends the lines may
+    /// wait for what it was told of them.
+    fn wait_for_line<S: Source, K: Sink>(
+        &mut self,
+        number: u64,
+        source: &mut S,
+        sink: &K,
+    ) -> Result<Option<L>, Status>
+        requires behind { IsBehind self.old number }
+        requires counted { number ≤ step_limit + 1 }
+        requires passed_on { K.flushed sink.now ≡ true }
         ensures due { S.tells source.old ≡ true → GivesSaid (due L.meaning self.old (S.left source.old)) result
             (due L.meaning self.new (S.left source.new)) }
         ensures line { S.tells source.old ≡ true → IfOk result (λ read. IfSome read (λ line. ReadsLine L.meaning

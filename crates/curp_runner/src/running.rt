@@ -1,4 +1,4 @@
-ghost use Rattle.std.specs.Prelude.{◌≡◌, ◌≢◌, ◌+◌, ◌≤◌, ◌++◌, ℕ, [], true, false, List, None, Err, Ok, OnOk, IfOk, IfErr, string_bytes};
+ghost use Rattle.std.specs.Prelude.{◌≡◌, ◌≢◌, ◌⊎◌, ◌+◌, ◌≤◌, ◌++◌, ℕ, [], true, false, List, None, Err, Ok, OnOk, IfOk, IfErr, string_bytes};
 ghost use Rattle.curp_io.specs.Streams.{HoldsPart, Rose, SameCount};
 ghost use Rattle.curp_msg.specs.Limits.{step_limit};
 ghost use Rattle.curp_msg.specs.declared.script.Header.{Header};
@@ -76,7 +76,9 @@ pub trait Player: Drop {
 
 /// Reads a script, does what its lines say, and writes what comes of it.
 ///
-/// The text of a line is written as one piece, before the next line is read.
+/// The text of a line is put into the sink before the next line is looked at, and passed on before the source is asked
+/// for more: who waits for it has it while the source is waited for. A sink that holds back what it is given until then
+/// makes one call of the lines that came together.
 pub fn run<P: Player, S: Source, K: Sink>(
     alloc: Global,
     source: &mut S,
@@ -91,6 +93,7 @@ pub fn run<P: Player, S: Source, K: Sink>(
         → HoldsPart (K.held sink.old) (K.held sink.new) (P.script_text (S.left source.old)) }
     ensures at_fault { S.tells source.old ≡ true → K.tells sink.old ≡ true → result ≡ Err Status.ReadFault
         → HoldsRead P.line_texts (S.left source.old) (S.left source.new) (K.held sink.old) (K.held sink.new) }
+    ensures passed_on { result ≡ Err Status.ReadFault → (K.flushed sink.new ≡ true) ⊎ (sink.new ≡ sink.old) }
     ensures stands { S.tells source.old ≡ true → OnOk result (P.Stands (S.left source.old)) }
     ensures tells { K.tells sink.old ≡ true → K.tells sink.new ≡ true }
     ensures read_fault { result ≡ Err Status.ReadFault → Rose (S.faults source.old) (S.faults source.new) }
@@ -127,6 +130,7 @@ fn do_lines<P: Player, S: Source, K: Sink>(
     ensures at_fault { S.tells source.old ≡ true → K.tells sink.old ≡ true → result ≡ Err Status.ReadFault
         → HoldsRead (line_texts_in P.Line.meaning P.rules player) (script.old.ahead ++ S.left source.old)
         (S.left source.new) (K.held sink.old) (K.held sink.new) }
+    ensures passed_on { result ≡ Err Status.ReadFault → K.flushed sink.new ≡ true }
     ensures holds { S.tells source.old ≡ true
         → OnOk result (P.Holds (after P.rules player (due P.Line.meaning script.old (S.left source.old)).lines)) }
     ensures tells { K.tells sink.old ≡ true → K.tells sink.new ≡ true }
@@ -139,7 +143,7 @@ fn do_lines<P: Player, S: Source, K: Sink>(
 {
     let mut text = String::new(alloc);
     let mut number = 1;
-    'lines: while let Some(line) = script.read_line(source, number)? {
+    'lines: while let Some(line) = script.read_line(number, source, sink)? {
         player = do_line(player, number, &line, &mut text, sink)?;
         number += 1;
     }

@@ -1,5 +1,5 @@
 ghost use Rattle.std.specs.Prelude.{◌≡◌, option_map};
-ghost use Rattle.curp_runner.specs.Status.{code_of, complaint_of, ended, is_cut_short, refused_at};
+ghost use Rattle.curp_runner.specs.Status.{code_of, complaint_of, ended, is_fault, refused_at};
 
 use curp_base::NoMemory;
 use curp_check::{CLAIM_LIMIT, Clause};
@@ -87,14 +87,11 @@ impl Status {
         }
     }
 
-    /// Whether a fault or want of memory ended the run before its script did.
-    pub(crate) fn is_cut_short(&self) -> bool
-        ensures { result ≡ is_cut_short self.now }
+    /// Whether reading or writing failed.
+    pub(crate) fn is_fault(&self) -> bool
+        ensures { result ≡ is_fault self.now }
     {
-        matches!(
-            self,
-            Status::ReadFault | Status::WriteFault | Status::NoMemory
-        )
+        matches!(self, Status::ReadFault | Status::WriteFault)
     }
 }
 

@@ -40,6 +40,7 @@ fn each_failing_call_is_a_fault(rt: HostRuntime) {
     try_order(&rt, alloc, read(2), Status::ReadFault, STEP);
     try_order(&rt, alloc, write(1), Status::WriteFault, "");
     try_order(&rt, alloc, write(2), Status::WriteFault, STEP);
-    try_order(&rt, alloc, write(3), Status::WriteFault, WHOLE);
+    try_order(&rt, alloc, write(3), Status::WriteFault, STEP);
+    try_order(&rt, alloc, write(4), Status::WriteFault, WHOLE);
     try_order(&rt, alloc, NONE, Status::Ok, WHOLE);
 }

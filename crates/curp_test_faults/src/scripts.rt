@@ -37,17 +37,18 @@ fn try_header(rt: &impl Abort, alloc: Global, failing: Failing, status: Status, 
     drop(ended);
 }
 
-/// The header is read in one piece; its end is looked for, and then a step. The order is written in one piece and then
-/// flushed.
+/// The header is read in one piece; its end is looked for, and then, behind a flush, a step. The order is written in one
+/// piece and then flushed.
 #[test]
 fn each_failing_call_is_a_fault(rt: HostRuntime) {
     let alloc = rt.alloc();
-    let behind = Failing { read: 4, write: 3 };
+    let behind = Failing { read: 4, write: 4 };
     try_header(&rt, alloc, read(1), Status::ReadFault, "");
     try_header(&rt, alloc, read(2), Status::ReadFault, "");
     try_header(&rt, alloc, read(3), Status::ReadFault, "");
     try_header(&rt, alloc, write(1), Status::WriteFault, "");
-    try_header(&rt, alloc, write(2), Status::WriteFault, "order 0\n");
+    try_header(&rt, alloc, write(2), Status::WriteFault, "");
+    try_header(&rt, alloc, write(3), Status::WriteFault, "order 0\n");
     try_header(&rt, alloc, behind, Status::Ok, "order 0\n");
 }
 
@@ -71,13 +72,17 @@ fn try_invocations(rt: &impl Abort, alloc: Global, failing: Failing, status: Sta
     drop(ended);
 }
 
-/// The text of a step is written before more is read, and before the next step is made.
+/// The text of a step is put before the next step is made, and the texts of both are passed on before more is read.
 #[test]
-fn each_step_is_written_at_once(rt: HostRuntime) {
+fn steps_that_came_together_are_passed_on_together(rt: HostRuntime) {
     let alloc = rt.alloc();
-    try_invocations(&rt, alloc, read(2), Status::ReadFault, BOTH_STEPS);
     try_invocations(&rt, alloc, write(1), Status::WriteFault, "");
     try_invocations(&rt, alloc, write(2), Status::WriteFault, FIRST_STEP);
+    try_invocations(&rt, alloc, write(3), Status::WriteFault, BOTH_STEPS);
+    let ended = played(&rt, alloc, TWO_INVOCATIONS, read(2));
+    assert!(rt; ended.is(Status::ReadFault, BOTH_STEPS));
+    assert!(rt; ended.is_flushed());
+    drop(ended);
 }
 
 /// What is written for the put.

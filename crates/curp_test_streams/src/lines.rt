@@ -116,3 +116,23 @@ fn a_read_fault_repeats(rt: HostRuntime) {
     assert!(rt; pieces_give(&rt, alloc, ("one\n", 9), &[1], "", fault));
     assert!(rt; pieces_give(&rt, alloc, ("one\ntwo\n", 3), &[3], "one|", fault));
 }
+
+// Whether the next line is ready, and this text.
+fn is_ready(lines: &mut Lines, text: &str) -> bool {
+    lines.ready_line() && lines.text() == text.as_bytes()
+}
+
+/// A line is ready once its line feed was read ahead; the last one, without a line feed, never is.
+#[test]
+fn lines_that_came_together_are_ready(rt: HostRuntime) {
+    let alloc = rt.alloc();
+    let mut source = SureSource::new(alloc, b"one\ntwo\n\nfour").expect(&rt, "no memory");
+    let mut lines = fresh(&rt, alloc);
+    assert!(rt; !lines.ready_line());
+    assert!(rt; are_next(&mut lines, &mut source, "one|"));
+    assert!(rt; is_ready(&mut lines, "two") && is_ready(&mut lines, ""));
+    assert!(rt; !lines.ready_line());
+    assert!(rt; are_next(&mut lines, &mut source, "four|"));
+    drop(source);
+    drop(lines);
+}

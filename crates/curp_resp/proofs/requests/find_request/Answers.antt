@@ -4,6 +4,7 @@ use Rattle.curp_resp.specs.Feeds.{Feeds, read_on}
 use Rattle.curp_resp.specs.Input.{StandsFirst}
 use Rattle.curp_resp.specs.declared.reading.Progress.TheVariants as progress
 use Rattle.curp_resp.proofs.Inwards.{Inwards, ends_fresh, ends_inside, gives_request, inwards_filled, inwards_more, loses_front, lower_more, no_bytes, no_more_ahead, refuses_bytes, untouched}
+use Rattle.curp_resp.proofs.Fronts.{some_ahead}
 use Rattle.curp_resp.proofs.requests.find_request.Given as given
 use Rattle.curp_resp.proofs.requests.find_request.Goals as goal
 use Rattle.curp_resp.proofs.requests.find_request.Goals.{After-fill}
@@ -71,3 +72,10 @@ returns-in-Refused-clause-bytes g c = λ told. rw c.bad_request-in-Refused.ensur
 
 pub returns-in-Refused-clause-waits : goal.returns-in-Refused-clause-waits
 returns-in-Refused-clause-waits g c = waits g (goal.at.returns-in-Refused-clause-waits g c).After-fill
+
+-- a whole request was ahead, so the source wasn't asked
+pub returns-in-Failed-clause-ready : goal.returns-in-Failed-clause-ready
+returns-in-Failed-clause-ready g c = λ arguments rest first failed.
+    let at = c.pieces.invariant.waits arguments rest first in
+    let same = untouched c.args.window.now c.pieces.window c.fill.new.self c.args.source.now c.pieces.source c.fill.new.source arguments rest first at.0 at.1 c.fill.ensures.same in
+    some_ahead c.args.window.now.bytes arguments rest first (ap (λ w. w.bytes) (sym same.0) ∙ c.in-Failed.ensures.len)

@@ -33,3 +33,7 @@ returns-clause-bad_request g c = λ told none sure at.
 pub returns-clause-waits : goal.returns-clause-waits
 returns-clause-waits g c = λ arguments rest stands.
     c.find_request-answer.ensures.waits arguments rest (subst (λ p. StandsFirst p.ahead arguments rest) (sym c.self.view_is) stands)
+
+pub returns-clause-ready : goal.returns-clause-ready
+returns-clause-ready g c = λ arguments rest first going.
+    c.find_request-answer.ensures.ready arguments rest (subst (λ p. StandsFirst p.ahead arguments rest) (sym c.self.view_is) first)
