@@ -1,5 +1,5 @@
 ghost use Rattle.std.specs.Prelude.{◌≡◌, None, Some};
-ghost use Rattle.curp_run.specs.Ran.{Ran, took_of, wrote_of};
+ghost use Rattle.curp_run.specs.Does.{DoesRun, took_of, wrote_of};
 ghost use Rattle.curp_run.specs.Run.{asked};
 ghost use Rattle.curp_words.specs.declared.task.LivePlan.{LivePlan};
 ghost use Rattle.curp_words.specs.declared.task.MakePlan.{MakePlan};
@@ -15,7 +15,7 @@ use curp_play::{play_history, play_script};
 use curp_runner::Status;
 use curp_seat::Gate;
 use curp_session::answer_requests;
-use curp_session::laws::{replies_are_of_one_thread, scripts_complete_each_command};
+use curp_session::laws::sessions_are_of_one_thread;
 use curp_words::{Report, Task, WordsError};
 use std::alloc::Global;
 use std::sync::Wait;
@@ -37,8 +37,8 @@ pub fn run<R: Threads + Wait + Sync, G: Gate + Sync, S: Source, K: Sink>(
     sink: &mut K,
     gate: &G,
 ) -> Status
-    // What it took, what it wrote and how it ended is as `Ran` says of the task that the words ask for.
-    ensures ran { Ran (asked arguments.now) (took_of S.tells S.left S.faults source.old source.new)
+    // What it took, what it wrote and how it ended is as `DoesRun` says of the task that the words ask for.
+    ensures ran { DoesRun (asked arguments.now) (took_of S.tells S.left S.faults source.old source.new)
         (wrote_of K.tells K.held K.flushed K.faults sink.old sink.new) result }
 
     // For words that are no command line nothing is read or written, and for `make` and `live` nothing is read.
@@ -55,8 +55,7 @@ pub fn run<R: Threads + Wait + Sync, G: Gate + Sync, S: Source, K: Sink>(
         Ok(Task::Check) => check_claim(alloc, source, sink),
         Ok(Task::Manage) => manage_orders(alloc, source, sink),
         Ok(Task::Resp(plan)) => {
-            replies_are_of_one_thread();
-            scripts_complete_each_command();
+            sessions_are_of_one_thread();
             answer_requests(alloc, &plan, source, sink)
         }
         Err(WordsError::Usage) => Status::Usage,

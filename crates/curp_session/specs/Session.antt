@@ -1,8 +1,10 @@
 -- A session of requests: each is answered, by a cluster that serves its command, before the next one is looked at.
 use Rattle.std.specs.Prelude.{◌≡◌, ℕ, ◌+◌, ◌==◌, if◌then◌else◌, List, [], ◌∷◌, ◌++◌, map, Option, Some, None}
+use Rattle.curp_base.specs.Words.{IsPrefix}
 use Rattle.curp_cmd.specs.declared.command.Answer.{Answer}
 use Rattle.curp_cmd.specs.declared.command.Command.{Command}
-use Rattle.curp_law_served.specs.Served.{Limit, Served, TooLarge, TooManySteps, answer_behind, begun, header_of, serve}
+use Rattle.curp_law_served.specs.Served.{Limit, Served, TooLarge, TooManySteps, answer_behind, answered, begun, header_of, in_turn, serve}
+use Rattle.curp_model.specs.World.{world}
 use Rattle.curp_runner.specs.declared.status.Status.{Status}
 use Rattle.curp_runner.specs.declared.status.Status.TheVariants as status
 use Rattle.curp_resp.specs.Input.{BreaksOff, place_behind}
@@ -119,3 +121,14 @@ replies_behind before (asked.Wrong why ∷ rest) = wrong_of why ++ replies_behin
 -- what one thread replies to the requests, each by its arguments
 abbrev pub replies_of_one_thread : List (List (List ℕ)) → List ℕ
 replies_of_one_thread requests = replies_behind [] (map meaning requests)
+
+-- ---- what the steps show
+
+-- The replies are those to the first of the requests; the run of the steps first completes the commands of these in turn,
+-- each with the answer that one thread gives.
+pub record ShowsReplied (f : ℕ) (requests : List Asked) (k : Session) : Type 0 where
+  pub replied : List Asked
+  pub rest : List Asked
+  pub is : requests ≡ replied ++ rest
+  pub replies : k.replies ≡ replies_behind [] replied
+  pub shown : IsPrefix (in_turn (answered (commands_in replied))) (world (header_of f) k.served.steps).history
