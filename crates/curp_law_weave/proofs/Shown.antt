@@ -1,5 +1,5 @@
 -- What a run shows of what its journals hold.
-use Rattle.std.proofs.Common.{◌≡◌, ◌≢◌, ℕ, zero, suc, ◌+◌, if◌then◌else◌, Bool, true, false, List, [], ◌∷◌, ◌++◌, length, map, Option, Some, None, refl, ap, sym, ◌∙◌, subst, arith}
+use Rattle.std.proofs.Common.{◌≡◌, ℕ, zero, suc, ◌+◌, if◌then◌else◌, Bool, true, false, List, [], ◌∷◌, ◌++◌, length, map, Option, Some, None, refl, ap, sym, ◌∙◌, subst, arith}
 use Rattle.std.specs.Prelude.{option_to_list}
 use Rattle.curp_base.specs.Words.{At, Each, numbered}
 use Rattle.curp_base.proofs.Lists.{Each-at, at_append, at_append_right, at_map}
@@ -24,7 +24,7 @@ use Rattle.curp_journal.specs.declared.item.Item.{Item}
 use Rattle.curp_turns.specs.Legal.{deed_for}
 use Rattle.curp_turns.specs.Turns.{Did, IsKnown, Journal, Placed, Quits, Turn, completed_by, of, turns_of}
 use Rattle.curp_turns.specs.Work.{IsCompletedIn, commands_among, invocations, invoked_by, invoked_in, ordered, orders_to, recoveries, recoveries_among, recoveries_in, recovery_by}
-use Rattle.curp_law_weave.specs.Run.{IsCompletedBy, IsNoStop, RunOf, Runs, completions}
+use Rattle.curp_law_weave.specs.Run.{HasEnded, IsCompletedBy, RunOf, Runs, StopsEnded, completions}
 
 -- ---- orders
 
@@ -197,27 +197,36 @@ no_quit [] t stamp at = absurd cc
 no_quit (item ∷ items) zero stamp at = absurd cc
 no_quit (item ∷ items) (suc t) stamp at = no_quit items t stamp at
 
-by_deed : (w : World) (s : Step) (at : NodeId) (turn : Turn) → deed_of w s ≡ deed_for (record { node = at; turn = turn }) → ((stamp : ℕ) → turn ≢ Quits stamp) → IsNoStop s
-by_deed w (steps.Stop id) at (Did item) deed other = absurd cc
-by_deed w (steps.Stop id) at (Quits stamp) deed other = absurd (other stamp refl)
-by_deed w (steps.Invoke n command) at turn deed other = tt
-by_deed w (steps.Deliver number) at turn deed other = tt
-by_deed w (steps.Retry n seq) at turn deed other = tt
-by_deed w (steps.Fetch n) at turn deed other = tt
-by_deed w (steps.Sync n) at turn deed other = tt
-by_deed w (steps.Collect n) at turn deed other = tt
-by_deed w (steps.Recover part backup witness) at turn deed other = tt
-by_deed w (steps.Replace keeper part place) at turn deed other = tt
-by_deed w (steps.Migrate lo hi to) at turn deed other = tt
-by_deed w steps.Nudge at turn deed other = tt
-by_deed w (steps.Expire n) at turn deed other = tt
+-- nor one of a journal that hasn't ended
+quit_ended : (items : List Item) (ended : Bool) (t stamp : ℕ) → At (map Did items ++ (if ended then Quits (last_stamp 0 items) ∷ [] else [])) t (Quits stamp) → ended ≡ true
+quit_ended items true t stamp at = refl
+quit_ended items false t stamp at = absurd (no_quit items t stamp at)
 
-never_stop : (w : World) (ss : List Step) (ps : List Placed) → Runs w ss ps → ((u : ℕ) (p : Placed) → At ps u p → (stamp : ℕ) → p.turn ≢ Quits stamp) → Each IsNoStop ss
-never_stop w [] [] runs none = tt
-never_stop w [] (p ∷ ps) runs none = absurd runs
-never_stop w (s ∷ ss) [] runs none = absurd runs
-never_stop w (s ∷ ss) (p ∷ ps) runs none =
-    (by_deed w s p.node p.turn runs.0.deed (none 0 p refl), never_stop (step w s).world ss ps runs.1 (λ u q at. none (suc u) q at))
+by_deed : (journals : List Journal) (w : World) (s : Step) (at : NodeId) (turn : Turn) → deed_of w s ≡ deed_for (record { node = at; turn = turn })
+    → ((stamp : ℕ) → turn ≡ Quits stamp → HasEnded journals at) → StopsEnded journals s
+by_deed journals w (steps.Stop id) at (Did item) deed ended = absurd cc
+by_deed journals w (steps.Stop id) at (Quits stamp) deed ended =
+    let same : at ≡ id = cc in
+    subst (λ (node : NodeId). HasEnded journals node) same (ended stamp refl)
+by_deed journals w (steps.Invoke n command) at turn deed ended = tt
+by_deed journals w (steps.Deliver number) at turn deed ended = tt
+by_deed journals w (steps.Retry n seq) at turn deed ended = tt
+by_deed journals w (steps.Fetch n) at turn deed ended = tt
+by_deed journals w (steps.Sync n) at turn deed ended = tt
+by_deed journals w (steps.Collect n) at turn deed ended = tt
+by_deed journals w (steps.Recover part backup witness) at turn deed ended = tt
+by_deed journals w (steps.Replace keeper part place) at turn deed ended = tt
+by_deed journals w (steps.Migrate lo hi to) at turn deed ended = tt
+by_deed journals w steps.Nudge at turn deed ended = tt
+by_deed journals w (steps.Expire n) at turn deed ended = tt
+
+stop_ended : (journals : List Journal) (w : World) (ss : List Step) (ps : List Placed) → Runs w ss ps
+    → ((u : ℕ) (p : Placed) → At ps u p → (stamp : ℕ) → p.turn ≡ Quits stamp → HasEnded journals p.node) → Each (StopsEnded journals) ss
+stop_ended journals w [] [] runs ended = tt
+stop_ended journals w [] (p ∷ ps) runs ended = absurd runs
+stop_ended journals w (s ∷ ss) [] runs ended = absurd runs
+stop_ended journals w (s ∷ ss) (p ∷ ps) runs ended =
+    (by_deed journals w s p.node p.turn runs.0.deed (ended 0 p refl), stop_ended journals (step w s).world ss ps runs.1 (λ u q at. ended (suc u) q at))
 
 -- ---- the whole
 
@@ -238,14 +247,14 @@ module _ (journals : List Journal) (h : Header) (ss : List Step) (placed : List 
       let c = runs_complete (opening h) ss placed p.0 p.1.0 is.completed run.runs p.1.1.0 (ap completed_by p.1.1.1 ∙ is.is) in
       record { place = c.0; completed = is.completed; stands = c.1; its_id = is.its_id }
 
-  pub none_stopped : ((k : ℕ) (j : Journal) → At journals k j → j.ended ≡ false) → Each IsNoStop ss
-  none_stopped running = never_stop (opening h) ss placed run.runs other
+  pub stopped_are : Each (StopsEnded journals) ss
+  stopped_are = stop_ended journals (opening h) ss placed run.runs ended
     where
-      other : (u : ℕ) (p : Placed) → At placed u p → (stamp : ℕ) → p.turn ≢ Quits stamp
-      other u p at stamp quits =
+      ended : (u : ℕ) (p : Placed) → At placed u p → (stamp : ℕ) → p.turn ≡ Quits stamp → HasEnded journals p.node
+      ended u p at stamp quits =
           let known = Each-at (λ (q : Placed). IsKnown journals q.node) placed run.turns.known u p at in
           let j : Journal = known.journal in
           let t = placed_turn placed u p at in
           let whole : of p.node placed ≡ turns_of j = ap (λ (node : NodeId). of node placed) (sym known.its_name) ∙ run.turns.whole known.place j known.stands in
           let here : At (turns_of j) t.0 (Quits stamp) = subst (λ (x : Turn). At (turns_of j) t.0 x) quits (subst (λ (ts : List Turn). At ts t.0 p.turn) whole t.1) in
-          no_quit j.items t.0 stamp (subst (λ (b : Bool). At (map Did j.items ++ (if b then Quits (last_stamp 0 j.items) ∷ [] else [])) t.0 (Quits stamp)) (running known.place j known.stands) here)
+          record { place = known.place; journal = j; stands = known.stands; its_name = known.its_name; ended = quit_ended j.items j.ended t.0 stamp here }

@@ -1,9 +1,10 @@
 -- What it is that steps are a run of journals: one step for each thing that a journal holds (this project's own).
-use Rattle.std.specs.Prelude.{◌≡◌, ◌≢◌, ◌≤◌, ◌⊎◌, ℕ, false, List, [], ◌∷◌, ◌++◌, map, Some, None, option_to_list, ⊤}
+use Rattle.std.specs.Prelude.{◌≡◌, ◌≢◌, ◌≤◌, ◌⊎◌, ℕ, true, false, List, [], ◌∷◌, ◌++◌, map, Some, None, option_to_list, ⊤}
 use Rattle.std.specs.List.{sum}
 use Rattle.curp_base.specs.Words.{At, first_of}
 use Rattle.curp_cmd.specs.Node.{manager_node}
 use Rattle.curp_cmd.specs.declared.command.RequestId.{RequestId}
+use Rattle.curp_cmd.specs.declared.node.NodeId.{NodeId}
 use Rattle.curp_msg.specs.Weight.{weight_of}
 use Rattle.curp_msg.specs.declared.machine.Completed.{Completed}
 use Rattle.curp_msg.specs.declared.outcome.StepResult.TheVariants.{Done}
@@ -57,10 +58,18 @@ pub record IsCompletedBy (h : Header) (ss : List Step) (id : RequestId) : Type 0
   pub stands : At (completions (opening h) ss) place completed
   pub its_id : completed.id ≡ id
 
--- a step that stops no node
-abbrev pub IsNoStop : Step → Type 0
-IsNoStop (steps.Stop node) = ⊥
-IsNoStop _ = ⊤
+-- the node has a journal with a last stop
+pub record HasEnded (journals : List Journal) (node : NodeId) : Type 0 where
+  pub place : ℕ
+  pub journal : Journal
+  pub stands : At journals place journal
+  pub its_name : journal.id ≡ node
+  pub ended : journal.ended ≡ true
+
+-- where a step stops a node, that has a journal with a last stop
+abbrev pub StopsEnded : List Journal → Step → Type 0
+StopsEnded journals (steps.Stop node) = HasEnded journals node
+StopsEnded journals _ = ⊤
 
 -- ---- what is asked of lists alone
 

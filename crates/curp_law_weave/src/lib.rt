@@ -10,7 +10,7 @@
 //!   a journal completes in the run.
 #![tactic(auto)]
 
-ghost use Rattle.std.specs.Prelude.{◌≡◌, ℕ, ◌<◌, false, List, Some, length};
+ghost use Rattle.std.specs.Prelude.{◌≡◌, ℕ, ◌<◌, List, Some, length};
 ghost use Rattle.curp_base.specs.Words.{At, Each, numbered};
 ghost use Rattle.curp_cmd.specs.Node.{backup_node, client_node, manager_node, master_node, witness_node};
 ghost use Rattle.curp_cmd.specs.declared.command.RequestId.{RequestId};
@@ -18,7 +18,7 @@ ghost use Rattle.curp_journal.specs.Journal.{IsJournal};
 ghost use Rattle.curp_journal.specs.declared.item.Item.{Item};
 ghost use Rattle.curp_law_weave.specs.NodeStates.{ABackup, AClient, AManager, AMaster, AWitness, machine_of};
 ghost use Rattle.curp_law_weave.specs.Openings.{ComesAs, OpensAs, numbered_machine};
-ghost use Rattle.curp_law_weave.specs.Run.{IsCompletedBy, IsNoStop, Legal, RunOf};
+ghost use Rattle.curp_law_weave.specs.Run.{IsCompletedBy, Legal, RunOf, StopsEnded};
 ghost use Rattle.curp_model.specs.Backup.{BackupState, backup_input, fresh_backup};
 ghost use Rattle.curp_model.specs.Client.{ClientState, client_input};
 ghost use Rattle.curp_model.specs.Manager.{ManagerState, manager_input};
@@ -71,8 +71,8 @@ pub fn journals_of_a_kind_are_journals()
         → IsJournal (machine_of (witness_node x.number)) (AWitness x.state) items }
 {}
 
-/// A run shows what its journals hold: the orders that came, and what completed; and it stops no node where no journal
-/// has a last stop.
+/// A run shows what its journals hold: the orders that came, and what completed; and it stops only nodes whose journals have
+/// a last stop.
 pub fn runs_show_their_journals()
     ensures invocations { (journals : List Journal) (h : Header) (ss : List Step) (placed : List Placed)
         → RunOf journals h ss placed → (k n : ℕ) (j : Journal) → At journals k j → j.id ≡ client_node n
@@ -83,7 +83,6 @@ pub fn runs_show_their_journals()
     ensures completed { (journals : List Journal) (h : Header) (ss : List Step) (placed : List Placed)
         → RunOf journals h ss placed → (k : ℕ) (j : Journal) (id : RequestId) → At journals k j
         → IsCompletedIn j.items id → IsCompletedBy h ss id }
-    ensures none_stopped { (journals : List Journal) (h : Header) (ss : List Step) (placed : List Placed)
-        → RunOf journals h ss placed → ((k : ℕ) (j : Journal) → At journals k j → j.ended ≡ false)
-        → Each IsNoStop ss }
+    ensures stopped { (journals : List Journal) (h : Header) (ss : List Step) (placed : List Placed)
+        → RunOf journals h ss placed → Each (StopsEnded journals) ss }
 {}
