@@ -6,7 +6,7 @@
 //!   (`checked`). It gives nothing just where they aren't those of a run of the plan in which the work was done.
 //!   `anew_at_opening` gives the inputs again so for any journals of a header's nodes, and what it gives can be gathered
 //!   (`AreOf`).
-//! - `stops` says which nodes the driver of a run stops, and `MOST_PENDING` how many requests a client may have pending.
+//! - `stops` says which nodes the driver of a run stops.
 #![tactic(auto)]
 
 mod anew;
@@ -19,4 +19,3 @@ mod work;
 pub use checking::{anew_at_opening, checked};
 pub use nodes::LiveNodes;
 pub use stopping::stops;
-pub use work::MOST_PENDING;

@@ -8,11 +8,9 @@ use curp_cmd::{Command, RequestId};
 use curp_journal::{Arrived, Item};
 use curp_msg::Local;
 use curp_nodes::ClientNode;
+use curp_policy::PENDING_AT_ONCE;
 use curp_same::Same;
 use curp_seat::Kept;
-
-/// How many requests of a client are pending at a time.
-pub const MOST_PENDING: usize = 4;
 
 /// Whether each client did its list of work; the first has the number 1.
 pub(crate) fn did_all(work: &[Vec<Command>], clients: &[Kept<ClientNode>]) -> bool
@@ -137,7 +135,7 @@ fn has_few_pending(items: &[Item]) -> bool
     for item in items {
         invoked += invocations(item);
         completed += completions(item);
-        if invoked.saturating_sub(completed) > MOST_PENDING as u64 {
+        if invoked.saturating_sub(completed) > PENDING_AT_ONCE as u64 {
             return false;
         }
     }

@@ -1,16 +1,10 @@
 // What clients and masters are ordered by their own threads.
-use curp_anew::MOST_PENDING;
 use curp_base::{NoMemory, Shared};
 use curp_cmd::{Command, RequestId};
 use curp_msg::Local;
+use curp_policy::{COLLECT_AFTER, PENDING_AT_ONCE, SYNC_AFTER};
 use curp_seat::{Chores, Took};
 use std::alloc::Global;
-
-/// After so many updates and syncs a master begins a round.
-const SYNC_AFTER: u64 = 8;
-
-/// After so many it lets its witnesses drop what is stored.
-const COLLECT_AFTER: u64 = 32;
 
 /// A client's: it retries all that is pending after each configuration, in the order in which it was invoked, and
 /// invokes its commands in order, at most four at a time.
@@ -36,7 +30,7 @@ impl<'a> ClientChores<'a> {
             alloc,
             left: commands,
             invoked: 0,
-            pending: Vec::with_capacity(alloc, MOST_PENDING)?,
+            pending: Vec::with_capacity(alloc, PENDING_AT_ONCE)?,
             retried: 0,
         })
     }
@@ -51,7 +45,7 @@ impl<'a> ClientChores<'a> {
 
     /// The next command, if so few requests are pending that there is room for it.
     fn invoke(&mut self) -> Result<Option<Local>, NoMemory> {
-        if self.pending.len() >= MOST_PENDING {
+        if self.pending.len() >= PENDING_AT_ONCE {
             return Ok(None);
         }
         let Some((command, left)) = self.left.split_first() else {
