@@ -1,5 +1,5 @@
 -- What an outbox holds (this project's own).
-use Rattle.std.specs.Prelude.{◌≡◌, ℕ, ◌+◌, Bool, false, List, [], ◌∷◌, ◌++◌, map, Some, option_map}
+use Rattle.std.specs.Prelude.{◌≡◌, ◌≤◌, ℕ, ◌+◌, ◌-◌, ◌^◌, min, Bool, false, List, [], ◌∷◌, ◌++◌, length, map, take, Some, option_map}
 use Rattle.curp_cmd.specs.declared.node.NodeId.{NodeId}
 use Rattle.curp_journal.specs.Journal.{NodeJournal}
 use Rattle.curp_journal.specs.Sending.{named_of}
@@ -31,21 +31,31 @@ step_by arrived item = record {
   stamp = item.stamp;
 }
 
--- what lies on a desk: the node with its journal, its number as a sender, what is to be sent, whether the node has ended, and
--- whether there was no memory for what a step sent
+-- what lies on a desk: the node with its journal, its number as a sender, how many items it had when it came there, how many
+-- messages the courier was handed since, what is to be sent, whether the node has ended, and whether there was no memory for
+-- what a step sent
 pub record OnDesk (N : Type 0) : Type 0 where
   pub log : NodeJournal N
   pub number : ℕ
+  pub begun : ℕ
+  pub handed : ℕ
   pub outs : List Out
   pub ended : Bool
   pub short : Bool
 
--- what was taken from the outbox and then what it holds is all that the journal's items sent; but for what there was no memory
--- for, behind which nothing was put out
+-- a number as a `u64` counts it, which stands still at its type's end
+abbrev pub counted : ℕ → ℕ
+counted n = min n (2 ^ 64 - 1)
+
+-- What the items sent before the node came to the desk, what the courier was handed, which is as many as were counted, and then
+-- what the outbox holds is all that the journal's items sent; but for what there was no memory for, behind which nothing was
+-- put out
 pub record IsOutbox {N : Type 0} (on : OnDesk N) : Type 0 where
   pub taken : List Named
   pub due : List Named
   pub lost : List Named
+  pub within : on.begun ≤ length on.log.items
+  pub handed_are : on.handed ≡ counted (length taken)
   pub outs_are : on.outs ≡ map (out_of on.number) due
-  pub sent_are : taken ++ (due ++ lost) ≡ all_sent on.log.id 1 on.log.items
+  pub sent_are : all_sent on.log.id 1 (take on.begun on.log.items) ++ (taken ++ (due ++ lost)) ≡ all_sent on.log.id 1 on.log.items
   pub none_lost : on.short ≡ false → lost ≡ []

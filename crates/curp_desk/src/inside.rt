@@ -1,7 +1,7 @@
-ghost use Rattle.std.specs.Prelude.{◌≡◌, ◌⊎◌, ◌++◌, [], ◌∷◌, false, true, None, map, IfOk, IfSome, OnErr, OnOk, MatchOption, option_map};
+ghost use Rattle.std.specs.Prelude.{◌≡◌, ◌⊎◌, ◌+◌, ◌++◌, [], ◌∷◌, false, true, None, length, map, IfOk, IfSome, OnErr, OnOk, MatchOption, option_map};
 ghost use Rattle.curp_journal.specs.Journal.{NodeJournal};
 ghost use Rattle.curp_seat.specs.Making.{item_of, with_item};
-ghost use Rattle.curp_desk.specs.Outbox.{out_of, step_by};
+ghost use Rattle.curp_desk.specs.Outbox.{counted, out_of, step_by};
 
 use crate::MadeStep;
 use curp_base::NoMemory;
@@ -27,6 +27,10 @@ pub(crate) struct Inside<N: Core> {
     alloc: Global,
     running: Running<N>,
     number: u32,
+    /// How many items the node had when it came here.
+    begun: u64,
+    /// How many messages the courier was handed.
+    handed: u64,
     outbox: VecDeque<Out>,
     ended: bool,
     /// There was no memory for what a step sent, or for the step.
@@ -41,6 +45,8 @@ impl<N: Core> Model for Inside<N> {
     ghost view = { λ inside. record {
       log = inside.running;
       number = inside.number;
+      begun = inside.begun;
+      handed = inside.handed;
       outs = inside.outbox.items;
       ended = inside.ended;
       short = inside.short;
@@ -49,6 +55,8 @@ impl<N: Core> Model for Inside<N> {
     ghost invariant = { λ inside. IsOutbox (record {
       log = inside.running;
       number = inside.number;
+      begun = inside.begun;
+      handed = inside.handed;
       outs = inside.outbox.items;
       ended = inside.ended;
       short = inside.short;
@@ -58,12 +66,23 @@ impl<N: Core> Model for Inside<N> {
 impl<N: Core> Inside<N> {
     pub(crate) fn new(alloc: Global, number: u32, kept: Kept<N>) -> Inside<N>
         requires { kept.ended ≡ false }
-        ensures { result ≡ record { log = kept; number = number; outs = []; ended = false; short = false } }
+        ensures { result ≡ record {
+          log = kept;
+          number = number;
+          begun = length kept.items;
+          handed = 0;
+          outs = [];
+          ended = false;
+          short = false;
+        } }
     {
+        let begun = kept.journal().len() as u64;
         Inside {
             alloc,
             running: Running::new(alloc, kept),
             number,
+            begun,
+            handed: 0,
             outbox: VecDeque::new(alloc),
             ended: false,
             short: false,
@@ -82,6 +101,8 @@ impl<N: Core> Inside<N> {
             step ≡ step_by arrived (item_of N.machine self.old.log arrived))) }
         ensures refused { IfOk result (λ made. made ≡ None → self.new ≡ self.old) }
         ensures err { OnErr result ((self.new.log ≡ self.old.log) ⊎ (self.new.log ≡ with_item N.machine self.old.log arrived)) }
+        ensures handed { self.new.handed ≡ self.old.handed }
+        ensures begun { self.new.begun ≡ self.old.begun }
     {
         if self.short {
             return Err(AllocError);
@@ -103,12 +124,17 @@ impl<N: Core> Inside<N> {
         }))
     }
 
-    /// What is to be sent next.
+    /// What is to be sent next: it is the courier's then.
     pub(crate) fn next(&mut self) -> Option<Out>
         ensures next { MatchOption result (self.old.outs ≡ []) (λ out. self.old.outs ≡ out ∷ self.new.outs) }
+        ensures handed { MatchOption result (self.new.handed ≡ self.old.handed) (λ _. self.new.handed ≡ counted (self.old.handed + 1)) }
         ensures log { self.new.log ≡ self.old.log }
     {
-        self.outbox.pop_front()
+        let next = self.outbox.pop_front();
+        if next.is_some() {
+            self.handed = self.handed.saturating_add(1);
+        }
+        next
     }
 
     /// The node has ended.
