@@ -34,6 +34,12 @@ GivesBytes content at (did.Done n) buffer = (n ≡ min (length buffer) (length c
 GivesBytes content at did.Failed buffer = ⊤
 GivesBytes content at did.NoMemory buffer = ⊤
 
+-- no more bytes than there is room for
+abbrev pub IsWithin : Did → ℕ → Type 0
+IsWithin (did.Done n) room = n ≤ room
+IsWithin did.Failed room = ⊤
+IsWithin did.NoMemory room = ⊤
+
 -- so many bytes are there
 abbrev pub HasLength : List ℕ → Long → Type 0
 HasLength content (long.Bytes n) = n ≡ length content

@@ -1,6 +1,7 @@
-ghost use Rattle.std.specs.Prelude.{◌≡◌, ◌≢◌, ◌≤◌, List, ℕ, length};
+ghost use Rattle.std.specs.Prelude.{◌≡◌, ◌≢◌, ◌≤◌, Bool, List, ℕ, length, true};
 ghost use Rattle.curp_io.specs.Streams.{Rose, SameCount};
-ghost use Rattle.curp_disk.specs.Disk.{Elapses, CrashesFollow, GivesBytes, Narrows, Synced, HasLength, Torn, Wrote};
+ghost use Rattle.curp_disk.specs.Disk.{CrashesFollow, Elapses, GivesBytes, HasLength, IsWithin, Narrows};
+ghost use Rattle.curp_disk.specs.Disk.{Synced, Torn, Wrote};
 ghost use Rattle.curp_disk.specs.declared.disk.Did.{Did};
 
 /// What a call of `read`, `write_at` or `sync` did.
@@ -27,6 +28,10 @@ pub enum Long {
 /// call, or between two" is said by a clock: `left_since` has what a crash at some moment from a given one on may have
 /// left, so a clause on the disk after a call speaks of each moment in the call.
 pub trait Disk {
+    /// Whether disks of this kind tell what they read as. Of the others, as of a file, no clause says which bytes they
+    /// have; their counts of faults mean the same.
+    ghost tells: { Bool };
+
     /// The bytes that it reads as.
     ghost seen: { Self → List ℕ };
 
@@ -53,7 +58,8 @@ pub trait Disk {
 
     /// Reads as many bytes as there are from a place on, up to the buffer's length.
     fn read(&mut self, at: u64, buf: &mut [u8]) -> Did
-        ensures bytes { GivesBytes (seen self.old) at result buf.new }
+        ensures within { IsWithin result (length buf.new) }
+        ensures bytes { tells ≡ true → GivesBytes (seen self.old) at result buf.new }
         ensures seen { seen self.new ≡ seen self.old }
         ensures crash { Narrows (may_leave self.old) (may_leave self.new) }
         ensures time { Elapses (moment self.old) (moment self.new) (left_since self.old) (left_since self.new)
@@ -65,7 +71,7 @@ pub trait Disk {
 
     /// How many bytes it reads as.
     fn length(&mut self) -> Long
-        ensures bytes { HasLength (seen self.old) result }
+        ensures bytes { tells ≡ true → HasLength (seen self.old) result }
         ensures seen { seen self.new ≡ seen self.old }
         ensures crash { Narrows (may_leave self.old) (may_leave self.new) }
         ensures time { Elapses (moment self.old) (moment self.new) (left_since self.old) (left_since self.new)
@@ -78,8 +84,8 @@ pub trait Disk {
     /// Writes over what is there, and past the end. Until a sync, a crash may leave any bytes in the range and past
     /// the old end.
     fn write_at(&mut self, at: u64, bytes: &[u8]) -> Did
-        requires { at ≤ length (seen self.old) }
-        ensures bytes { Wrote (seen self.old) at bytes.now result (seen self.new) }
+        requires { tells ≡ true → at ≤ length (seen self.old) }
+        ensures bytes { tells ≡ true → Wrote (seen self.old) at bytes.now result (seen self.new) }
         ensures crash { CrashesFollow (Torn at (length bytes.now)) (may_leave self.old) (may_leave self.new) }
         ensures time { Elapses (moment self.old) (moment self.new) (left_since self.old) (left_since self.new)
             (may_leave self.new) }
@@ -91,7 +97,7 @@ pub trait Disk {
 
     /// After it, a crash leaves what the disk reads as.
     fn sync(&mut self) -> Did
-        ensures durable { Synced (seen self.old) result (may_leave self.new) }
+        ensures durable { tells ≡ true → Synced (seen self.old) result (may_leave self.new) }
         ensures seen { seen self.new ≡ seen self.old }
         ensures crash { Narrows (may_leave self.old) (may_leave self.new) }
         ensures time { Elapses (moment self.old) (moment self.new) (left_since self.old) (left_since self.new)

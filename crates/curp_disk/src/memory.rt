@@ -1,4 +1,4 @@
-ghost use Rattle.std.specs.Prelude.{◌≡◌, [], length, IfOk};
+ghost use Rattle.std.specs.Prelude.{◌≡◌, true, [], length, IfOk, refl};
 ghost use Rattle.curp_io.specs.Memory.{fresh_calls};
 ghost use Rattle.curp_disk.specs.Calls.{seen_of, LeftNow, LeftSince};
 ghost use Rattle.curp_disk.specs.InMemory.{MemoryRan, crashed};
@@ -7,6 +7,7 @@ ghost use Rattle.curp_disk.specs.declared.medium.Call.TheVariants.{Write, Sync};
 
 use crate::disk::{Did, Disk, Long};
 use crate::medium::Medium;
+use crate::telling::TellingDisk;
 use curp_base::NoMemory;
 use curp_io::{Schedule, Turn};
 use std::alloc::Global;
@@ -60,6 +61,8 @@ impl MemoryDisk {
 }
 
 impl Disk for MemoryDisk {
+    ghost tells = { true };
+
     ghost seen = { λ d. seen_of d.played };
 
     ghost may_leave = { λ d. LeftNow d.played };
@@ -109,4 +112,8 @@ impl Disk for MemoryDisk {
             Turn::Goes => self.medium.keep(),
         }
     }
+}
+
+impl TellingDisk for MemoryDisk {
+    ghost is_telling = { refl };
 }

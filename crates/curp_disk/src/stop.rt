@@ -1,4 +1,4 @@
-ghost use Rattle.std.specs.Prelude.{◌≡◌, ◌≤◌, length, [], None, Some, if◌then◌else◌};
+ghost use Rattle.std.specs.Prelude.{◌≡◌, true, ◌≤◌, length, [], None, Some, if◌then◌else◌, refl};
 ghost use Rattle.curp_disk.specs.Calls.{seen_of, LeftNow, LeftSince};
 ghost use Rattle.curp_disk.specs.InMemory.{StopRan, crashed, one_less, stopped, stops};
 ghost use Rattle.curp_disk.specs.Moments.{reads_now, counts_now, only_now};
@@ -6,6 +6,7 @@ ghost use Rattle.curp_disk.specs.declared.medium.Call.TheVariants.{Write, Sync};
 
 use crate::disk::{Did, Disk, Long};
 use crate::medium::Medium;
+use crate::telling::TellingDisk;
 use curp_io::Turn;
 use std::alloc::Global;
 use std::marker::Model;
@@ -91,6 +92,8 @@ impl StopDisk {
 }
 
 impl Disk for StopDisk {
+    ghost tells = { true };
+
     ghost seen = { λ d. seen_of d.played };
 
     ghost may_leave = { λ d. LeftNow d.played };
@@ -134,4 +137,8 @@ impl Disk for StopDisk {
             Turn::Goes => self.medium.keep(),
         }
     }
+}
+
+impl TellingDisk for StopDisk {
+    ghost is_telling = { refl };
 }

@@ -5,11 +5,11 @@ ghost use Rattle.curp_mlog.specs.Machine.{IsShape, opening};
 
 use crate::error::FormatError;
 use curp_changes::Shape;
-use curp_disk::{Did, Disk};
+use curp_disk::{Did, TellingDisk, telling};
 
 /// Writes a journal with no input on an empty disk, and syncs it. Where it answers an error, the disk is to be emptied
 /// before it is called again.
-pub fn format<D: Disk>(disk: &mut D, shape: &Shape) -> Result<(), FormatError>
+pub fn format<D: TellingDisk>(disk: &mut D, shape: &Shape) -> Result<(), FormatError>
     requires empty { D.seen disk.old ≡ [] }
     requires shape { IsShape shape.now }
     ensures ok { OnOk result
@@ -19,8 +19,8 @@ pub fn format<D: Disk>(disk: &mut D, shape: &Shape) -> Result<(), FormatError>
     ensures never_falls { D.faults disk.old ≤ D.faults disk.new }
 {
     let bytes = opening_bytes(shape);
-    match disk.write_at(0, &bytes) {
-        Did::Done(_) => match disk.sync() {
+    match telling::write_at(disk, 0, &bytes) {
+        Did::Done(_) => match telling::sync(disk) {
             Did::Done(_) => Ok(()),
             Did::Failed => Err(FormatError::DiskFault),
             Did::NoMemory => Err(FormatError::NoMemory),

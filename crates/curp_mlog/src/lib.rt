@@ -1,5 +1,5 @@
 //! The manager's journal: what it decides stands on a disk before its messages go out, so that no crash takes a decision
-//! back. The format is this project's own.
+//! back. The format is this project's own. The disk is any that tells its bytes (`TellingDisk`).
 //!
 //! `specs/Journal.antt` says what a journal is: the letters CURPMLOG and a shape, and records of inputs, each behind a gate
 //! of one byte; what stands behind the first gate that isn't open says nothing. A record is written behind its shut gate

@@ -16,7 +16,7 @@ use crate::machine::take;
 use crate::opening::replay;
 use crate::writing::{Kept, append};
 use curp_config::Manager;
-use curp_disk::{Disk, StopDisk};
+use curp_disk::{Disk, StopDisk, TellingDisk};
 use curp_msg::{Input, Message};
 use std::alloc::Global;
 use std::marker::Model;
@@ -85,7 +85,7 @@ fn decide(
     Ok(Decided { piece, sent })
 }
 
-impl<D: Disk> Logged<D> {
+impl<D: TellingDisk> Logged<D> {
     /// Opens the journal of a disk, which is synced before it is read: the manager gets the inputs that stand there. It
     /// takes a call of the disk or two for each, and the manager's memory; what it sends is dropped. Nothing is written.
     pub fn open(alloc: Global, mut disk: D) -> Result<Logged<D>, OpenFailed<D>>

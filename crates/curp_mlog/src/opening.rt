@@ -12,7 +12,7 @@ use crate::input::input_in;
 use crate::machine::{Declined, take};
 use curp_changes::Shape;
 use curp_config::Manager;
-use curp_disk::{Did, Disk, Long};
+use curp_disk::{Did, Long, TellingDisk, telling};
 use curp_msg::Input;
 use std::alloc::Global;
 
@@ -52,7 +52,7 @@ fn head_in(bytes: &[u8]) -> Head
 }
 
 /// What stands at a gate.
-fn head_at<D: Disk>(disk: &mut D, gate: u64) -> Result<Head, OpenError>
+fn head_at<D: TellingDisk>(disk: &mut D, gate: u64) -> Result<Head, OpenError>
     requires within { gate < length (D.seen disk.old) }
     ensures quiet { Quiet D.seen D.may_leave D.moment D.left_since disk.old disk.new }
     ensures ok { IfOk result (FindsHead (drop gate (D.seen disk.old))) }
@@ -62,7 +62,7 @@ fn head_at<D: Disk>(disk: &mut D, gate: u64) -> Result<Head, OpenError>
     ensures never_falls { D.faults disk.old ≤ D.faults disk.new }
 {
     let mut bytes = [0; 5];
-    match disk.read(gate, &mut bytes) {
+    match telling::read(disk, gate, &mut bytes) {
         Did::Done(n) => Ok(head_in(&bytes[..n])),
         Did::Failed => Err(OpenError::DiskFault),
         Did::NoMemory => Err(OpenError::NoMemory),
@@ -70,7 +70,7 @@ fn head_at<D: Disk>(disk: &mut D, gate: u64) -> Result<Head, OpenError>
 }
 
 /// The input that so many bytes from a place on spell, if they spell one.
-fn input_at<D: Disk>(
+fn input_at<D: TellingDisk>(
     alloc: Global,
     disk: &mut D,
     at: u64,
@@ -88,7 +88,7 @@ fn input_at<D: Disk>(
         Ok(bytes) => bytes,
         Err(_) => return Err(OpenError::NoMemory),
     };
-    match disk.read(at, &mut bytes) {
+    match telling::read(disk, at, &mut bytes) {
         Did::Done(_) => match input_in(alloc, &bytes) {
             Ok(input) => Ok(input),
             Err(_) => Err(OpenError::NoMemory),
@@ -101,7 +101,7 @@ fn input_at<D: Disk>(
 /// The input behind an open gate, whose spelling has this length, and where the next gate stands. A length that reaches
 /// past the end, or is longer than any spelling, takes no memory.
 #[tactic(auto, using(crate::proofs::Parsing::too_long, crate::proofs::Parsing::too_few_bytes))]
-fn record_at<D: Disk>(
+fn record_at<D: TellingDisk>(
     alloc: Global,
     disk: &mut D,
     gate: u64,
@@ -132,7 +132,7 @@ fn record_at<D: Disk>(
 }
 
 /// The input behind a gate, and where the next gate stands; none behind a shut gate.
-fn next_at<D: Disk>(
+fn next_at<D: TellingDisk>(
     alloc: Global,
     disk: &mut D,
     gate: u64,
@@ -155,7 +155,7 @@ fn next_at<D: Disk>(
 }
 
 /// Goes on from a gate: the manager takes the input behind it, and the next gate is found. None, where the gate is shut.
-fn go_on<D: Disk>(
+fn go_on<D: TellingDisk>(
     alloc: Global,
     disk: &mut D,
     manager: &mut Manager,
@@ -191,7 +191,7 @@ fn error_at(gate: u64, why: Declined) -> OpenError
 }
 
 /// Walks along the journal from its first gate on.
-fn walk<D: Disk>(
+fn walk<D: TellingDisk>(
     alloc: Global,
     disk: &mut D,
     shape: &Shape,
@@ -269,7 +269,7 @@ fn shape_of(f: u32, parts: u32, clients: u32) -> Option<Shape>
     }
 }
 
-fn read_shape<D: Disk>(disk: &mut D) -> Result<Shape, OpenError>
+fn read_shape<D: TellingDisk>(disk: &mut D) -> Result<Shape, OpenError>
     ensures quiet { Quiet D.seen D.may_leave D.moment D.left_since disk.old disk.new }
     ensures ok { IfOk result (StartsJournal (D.seen disk.old)) }
     ensures err { IfErr result (OpensNot (D.seen disk.old)) }
@@ -278,7 +278,7 @@ fn read_shape<D: Disk>(disk: &mut D) -> Result<Shape, OpenError>
     ensures never_falls { D.faults disk.old ≤ D.faults disk.new }
 {
     let mut bytes = [0; 21];
-    match disk.read(0, &mut bytes) {
+    match telling::read(disk, 0, &mut bytes) {
         Did::Done(n) => match shape_in(&bytes[..n]) {
             Some(shape) => Ok(shape),
             None => Err(OpenError::NotFormatted),
@@ -289,7 +289,7 @@ fn read_shape<D: Disk>(disk: &mut D) -> Result<Shape, OpenError>
 }
 
 /// Syncs, so that what is read is what a crash leaves, and says how many bytes there are.
-fn make_ready<D: Disk>(disk: &mut D) -> Result<u64, OpenError>
+fn make_ready<D: TellingDisk>(disk: &mut D) -> Result<u64, OpenError>
     ensures quiet { Quiet D.seen D.may_leave D.moment D.left_since disk.old disk.new }
     ensures durable { OnOk result (Only (D.seen disk.new) (D.may_leave disk.new)) }
     ensures size { IfOk result (λ size. size ≡ length (D.seen disk.old)) }
@@ -298,8 +298,8 @@ fn make_ready<D: Disk>(disk: &mut D) -> Result<u64, OpenError>
     ensures cause { result ≡ Err OpenError.DiskFault → Rose (D.faults disk.old) (D.faults disk.new) }
     ensures never_falls { D.faults disk.old ≤ D.faults disk.new }
 {
-    match disk.sync() {
-        Did::Done(_) => match disk.length() {
+    match telling::sync(disk) {
+        Did::Done(_) => match telling::length(disk) {
             Long::Bytes(size) => Ok(size),
             Long::Failed => Err(OpenError::DiskFault),
         },
@@ -309,7 +309,10 @@ fn make_ready<D: Disk>(disk: &mut D) -> Result<u64, OpenError>
 }
 
 /// Reads the journal and gives its inputs to a fresh manager; also says where the last gate stands.
-pub(crate) fn replay<D: Disk>(alloc: Global, disk: &mut D) -> Result<(Manager, u64), OpenError>
+pub(crate) fn replay<D: TellingDisk>(
+    alloc: Global,
+    disk: &mut D,
+) -> Result<(Manager, u64), OpenError>
     ensures quiet { Quiet D.seen D.may_leave D.moment D.left_since disk.old disk.new }
     ensures ok { IfOk result (λ r. IsOpened (D.seen disk.old) r.1 r.0) }
     ensures durable { OnOk result (Only (D.seen disk.new) (D.may_leave disk.new)) }

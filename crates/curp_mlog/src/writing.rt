@@ -4,7 +4,7 @@ ghost use Rattle.curp_disk.specs.Disk.{LeavesOnly, Only, Torn, over};
 ghost use Rattle.curp_io.specs.Streams.{Rose};
 ghost use Rattle.curp_mlog.specs.Appending.{RunsCalls, ShutOrStaged, appending, keeping};
 
-use curp_disk::{Did, Disk};
+use curp_disk::{Did, TellingDisk, telling};
 
 /// What became of bytes that were to be kept.
 #[derive(Clone, Copy, Debug, PartialEq, Eq)]
@@ -15,7 +15,7 @@ pub(crate) enum Kept {
 }
 
 /// Writes bytes and syncs.
-pub(crate) fn keep<D: Disk>(disk: &mut D, at: u64, bytes: &[u8]) -> Kept
+pub(crate) fn keep<D: TellingDisk>(disk: &mut D, at: u64, bytes: &[u8]) -> Kept
     requires at { at ≤ length (D.seen disk.old) }
     requires durable { Only (D.seen disk.old) (D.may_leave disk.old) }
     ensures seen { result ≡ Kept.Kept → D.seen disk.new ≡ over (D.seen disk.old) at bytes.now }
@@ -27,8 +27,8 @@ pub(crate) fn keep<D: Disk>(disk: &mut D, at: u64, bytes: &[u8]) -> Kept
     ensures cause { result ≡ Kept.Failed → Rose (D.faults disk.old) (D.faults disk.new) }
     ensures never_falls { D.faults disk.old ≤ D.faults disk.new }
 {
-    match disk.write_at(at, bytes) {
-        Did::Done(_) => match disk.sync() {
+    match telling::write_at(disk, at, bytes) {
+        Did::Done(_) => match telling::sync(disk) {
             Did::Done(_) => Kept::Kept,
             Did::Failed => Kept::Failed,
             Did::NoMemory => Kept::NoMemory,
@@ -39,7 +39,7 @@ pub(crate) fn keep<D: Disk>(disk: &mut D, at: u64, bytes: &[u8]) -> Kept
 }
 
 /// Writes a record behind a gate, and then opens the gate.
-pub(crate) fn append<D: Disk>(disk: &mut D, gate: u64, piece: &[u8]) -> Kept
+pub(crate) fn append<D: TellingDisk>(disk: &mut D, gate: u64, piece: &[u8]) -> Kept
     requires gate { gate < length (D.seen disk.old) }
     requires place { gate < 2 ^ 63 }
     requires durable { Only (D.seen disk.old) (D.may_leave disk.old) }

@@ -2,7 +2,7 @@
 ghost use Rattle.std.specs.Prelude.{◌≡◌, []};
 
 use curp_changes::Shape;
-use curp_disk::{Disk, MemoryDisk};
+use curp_disk::{MemoryDisk, TellingDisk};
 use curp_mlog::{Logged, LoggedError, OpenError, OpenFailed, format};
 use curp_msg::{Input, Local};
 use std::alloc::Global;
@@ -11,7 +11,7 @@ use std::process::Abort;
 // ---- what is called
 
 /// How many messages the manager sends on an input.
-pub(crate) fn sent_on<D: Disk>(
+pub(crate) fn sent_on<D: TellingDisk>(
     logged: &mut Logged<D>,
     input: &Input,
 ) -> Result<usize, LoggedError> {
@@ -21,14 +21,17 @@ pub(crate) fn sent_on<D: Disk>(
     Ok(count)
 }
 
-fn why<D: Disk + Drop>(failed: OpenFailed<D>) -> OpenError {
+fn why<D: TellingDisk + Drop>(failed: OpenFailed<D>) -> OpenError {
     let error = failed.error;
     drop(failed);
     error
 }
 
 /// The journal of a disk.
-pub(crate) fn opened<D: Disk + Drop>(alloc: Global, disk: D) -> Result<Logged<D>, OpenError> {
+pub(crate) fn opened<D: TellingDisk + Drop>(
+    alloc: Global,
+    disk: D,
+) -> Result<Logged<D>, OpenError> {
     match Logged::open(alloc, disk) {
         Ok(logged) => Ok(logged),
         Err(failed) => Err(why(failed)),
@@ -36,7 +39,7 @@ pub(crate) fn opened<D: Disk + Drop>(alloc: Global, disk: D) -> Result<Logged<D>
 }
 
 /// Writes a journal of one backup, one partition and 64 clients on an empty disk.
-fn begin<D: Disk>(rt: &impl Abort, disk: &mut D)
+fn begin<D: TellingDisk>(rt: &impl Abort, disk: &mut D)
     requires { D.seen disk.old ≡ [] }
 {
     let shape = Shape {
@@ -67,20 +70,20 @@ pub(crate) const NUDGE: Input = Input::Local(Local::Nudge);
 pub(crate) const NUDGED: usize = 2;
 
 /// How many clients are gone: the manager sends one message more for each, on a nudge.
-pub(crate) fn gone<D: Disk>(rt: &impl Abort, logged: &mut Logged<D>) -> usize {
+pub(crate) fn gone<D: TellingDisk>(rt: &impl Abort, logged: &mut Logged<D>) -> usize {
     let sent = sent_on(logged, &NUDGE).expect(rt, "no nudge");
     sent.saturating_sub(NUDGED)
 }
 
 /// So many clients go, one after the other.
-fn expire_each<D: Disk>(rt: &impl Abort, logged: &mut Logged<D>, clients: u32) {
+fn expire_each<D: TellingDisk>(rt: &impl Abort, logged: &mut Logged<D>, clients: u32) {
     for client in 1..=clients {
         assert_eq!(rt; sent_on(logged, &expire(client)), Ok(1));
     }
 }
 
 /// A journal on an empty disk, by which so many clients are gone.
-pub(crate) fn journal<D: Disk + Drop>(
+pub(crate) fn journal<D: TellingDisk + Drop>(
     rt: &impl Abort,
     alloc: Global,
     mut disk: D,
@@ -95,7 +98,7 @@ pub(crate) fn journal<D: Disk + Drop>(
 }
 
 /// How many clients are gone by the journal of a disk.
-pub(crate) fn gone_by<D: Disk + Drop>(
+pub(crate) fn gone_by<D: TellingDisk + Drop>(
     rt: &impl Abort,
     alloc: Global,
     disk: D,
