@@ -1,0 +1,4 @@
+pub mod Arrivals
+pub mod Batches
+pub mod Orders
+pub mod Prefixes

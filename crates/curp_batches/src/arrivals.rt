@@ -1,0 +1,201 @@
+//! One that comes to a node, as bytes.
+ghost use Rattle.std.specs.Prelude.{◌≡◌, ◌≤◌, ◌<◌, ◌^◌, ◌∷◌, ◌++◌, length, true, OnOk};
+ghost use Rattle.curp_items.specs.Calls.{ReadsIfMemory};
+ghost use Rattle.curp_journal.specs.declared.arrived.Arrived.TheVariants as arrived;
+ghost use Rattle.curp_batches.specs.Arrivals as format;
+ghost use Rattle.curp_batches.specs.Arrivals.{arrival, frame, is_light_arrival, named, stamped};
+ghost use Rattle.curp_batches.specs.Prefixes.{Begins, IsErrorOf, ReadsPrefix};
+
+use crate::order::{read_order, write_order};
+use curp_base::NoMemory;
+use curp_cmd::NodeId;
+use curp_items::{Fault, Item, ReadError, Reader, Writer, is_node};
+use curp_journal::{Arrived, Named};
+use curp_msg::{Local, Message};
+use curp_wire::{FrameError, decode, encode, is_light};
+use std::alloc::Global;
+
+/// Whether `encode` takes it: a message whose frame is short enough for certain (`curp_wire::is_light`) and whose sender
+/// is a node, or any order.
+pub fn is_light_arrival(arrived: &Arrived) -> bool
+    ensures { result ≡ is_light_arrival arrived.now }
+{
+    match arrived {
+        Arrived::Message(named) => is_node(&named.from) && is_light(&named.message),
+        Arrived::Local(_, _) => true,
+    }
+}
+
+/// Writes its encoding. Out of memory, what was written is not to be used.
+#[tactic(auto, unfolding(crate::specs::Arrivals::arrival))]
+pub fn write_arrival(alloc: Global, arrived: &Arrived, out: &mut Writer) -> Result<(), NoMemory>
+    requires { is_light_arrival arrived.now ≡ true }
+    ensures writes { OnOk result (out.new ≡ record {
+      front = out.old.front;
+      text = out.old.text
+          ++ arrival.of arrived.now;
+    }) }
+    ensures fits { OnOk result (arrival.Fits arrived.now) }
+{
+    match arrived {
+        Arrived::Message(named) => {
+            out.byte(0)?;
+            write_named(alloc, named, out)
+        }
+        Arrived::Local(order, stamp) => {
+            out.byte(1)?;
+            write_stamped(order, *stamp, out)
+        }
+    }
+}
+
+#[tactic(auto, unfolding(crate::specs::Arrivals::named, crate::specs::Arrivals::name, crate::specs::Arrivals::frame), using(crate::proofs::Encodings::frame_fits, crate::proofs::Encodings::frame_text))]
+fn write_named(alloc: Global, sent: &Named, out: &mut Writer) -> Result<(), NoMemory>
+    requires { is_light_arrival (arrived.Message sent.now) ≡ true }
+    ensures writes { OnOk result (out.new ≡ record {
+      front = out.old.front;
+      text = out.old.text
+          ++ named.of sent.now;
+    }) }
+    ensures fits { OnOk result (named.Fits sent.now) }
+{
+    let frame = encode(alloc, &sent.message)?;
+    (sent.from, (sent.step, (sent.place, sent.stamp))).write(out)?;
+    out.bytes(&frame)
+}
+
+#[tactic(auto, unfolding(crate::specs::Arrivals::stamped))]
+fn write_stamped(order: &Local, stamp: u64, out: &mut Writer) -> Result<(), NoMemory>
+    ensures writes { OnOk result (out.new ≡ record {
+      front = out.old.front;
+      text = out.old.text
+          ++ stamped.of (order.now, stamp);
+    }) }
+    ensures fits { OnOk result (stamped.Fits (order.now, stamp)) }
+{
+    write_order(order, out)?;
+    stamp.write(out)
+}
+
+#[tactic(auto, unfolding(crate::specs::Arrivals::stamped))]
+fn read_stamped(alloc: Global, reader: &mut Reader) -> Result<(Local, u64), ReadError>
+    ensures { ReadsIfMemory result reader.new (stamped.read reader.old) }
+{
+    let order = read_order(alloc, reader)?;
+    let stamp = Item::read(reader)?;
+    Ok((order, stamp))
+}
+
+/// The order and its stamp at the start of bytes.
+fn stamped_at(alloc: Global, bytes: &[u8]) -> Result<((Local, u64), usize), ReadError>
+    ensures { ReadsPrefix stamped bytes.now result }
+{
+    let mut reader = Reader::new(bytes);
+    let found = read_stamped(alloc, &mut reader);
+    let length = reader.place() as usize;
+    match found {
+        Ok(found) => Ok((found, length)),
+        Err(why) => Err(why),
+    }
+}
+
+/// The name at the start of bytes.
+fn name_at(bytes: &[u8]) -> Result<((NodeId, (u64, (u64, u64))), usize), ReadError>
+    ensures { ReadsPrefix format.name bytes.now result }
+{
+    let mut reader = Reader::new(bytes);
+    let found = Item::read(&mut reader);
+    let length = reader.place() as usize;
+    match found {
+        Ok(found) => Ok((found, length)),
+        Err(fault) => Err(ReadError::Fault { place: fault.place }),
+    }
+}
+
+fn error_of(why: FrameError) -> ReadError
+    ensures { IsErrorOf why result }
+{
+    match why {
+        FrameError::NoMemory => ReadError::NoMemory,
+        FrameError::Short { .. } | FrameError::BadTag | FrameError::BadField { .. } => {
+            ReadError::Fault { place: 0 }
+        }
+    }
+}
+
+/// The message whose frame stands at the start of bytes, and how many bytes that has.
+pub fn frame_at(alloc: Global, bytes: &[u8]) -> Result<(Message, usize), ReadError>
+    ensures { ReadsPrefix frame bytes.now result }
+{
+    match decode(alloc, bytes) {
+        Ok((message, length)) => Ok((message, length)),
+        Err(why) => Err(error_of(why)),
+    }
+}
+
+/// The message with its name at the start of bytes.
+fn named_at(alloc: Global, bytes: &[u8]) -> Result<(Named, usize), ReadError>
+    ensures { ReadsPrefix named bytes.now result }
+{
+    match name_at(bytes) {
+        Ok((name, at)) => named_behind(alloc, bytes, name, at),
+        Err(why) => Err(why),
+    }
+}
+
+/// The same, where the name was read, up to this place.
+fn named_behind(
+    alloc: Global,
+    bytes: &[u8],
+    name: (NodeId, (u64, (u64, u64))),
+    at: usize,
+) -> Result<(Named, usize), ReadError>
+    requires begins { Begins format.name bytes.now name at }
+    requires within { at ≤ length bytes.now }
+    ensures { ReadsPrefix named bytes.now result }
+{
+    let (from, (step, (place, stamp))) = name;
+    match frame_at(alloc, &bytes[at..]) {
+        Ok((message, length)) => {
+            let named = Named {
+                from,
+                step,
+                place,
+                stamp,
+                message,
+            };
+            Ok((named, at + length))
+        }
+        Err(why) => Err(why),
+    }
+}
+
+/// What stands at the start of bytes, and how many bytes it has.
+#[tactic(auto, using(crate::proofs::Encodings::empty_not))]
+pub fn arrival_at(alloc: Global, bytes: &[u8]) -> Result<(Arrived, usize), ReadError>
+    ensures { ReadsPrefix arrival bytes.now result }
+{
+    match bytes {
+        [] => Err(ReadError::Fault { place: 0 }),
+        [tag, rest @ ..] => tagged_at(alloc, *tag, rest),
+    }
+}
+
+/// What stands behind a tag.
+#[tactic(auto, using(crate::proofs::Encodings::no_tag, crate::proofs::Encodings::message_begins, crate::proofs::Encodings::message_fails, crate::proofs::Encodings::order_begins, crate::proofs::Encodings::order_fails))]
+fn tagged_at(alloc: Global, tag: u8, rest: &[u8]) -> Result<(Arrived, usize), ReadError>
+    requires { length rest.now < 2 ^ 63 }
+    ensures { ReadsPrefix arrival (tag ∷ rest.now) result }
+{
+    match tag {
+        0 => match named_at(alloc, rest) {
+            Ok((named, length)) => Ok((Arrived::Message(named), length + 1)),
+            Err(why) => Err(why),
+        },
+        1 => match stamped_at(alloc, rest) {
+            Ok((stamped, length)) => Ok((Arrived::Local(stamped.0, stamped.1), length + 1)),
+            Err(why) => Err(why),
+        },
+        _ => Err(ReadError::Fault { place: 0 }),
+    }
+}

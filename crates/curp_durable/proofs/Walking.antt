@@ -1,0 +1,88 @@
+-- How a walk along a journal goes on.
+use Rattle.std.specs.Prelude.{◌≡◌, ◌≢◌, ℕ, ◌+◌, ◌<◌, ◌≤◌, List, [], ◌∷◌, ◌++◌, length, take, drop, get_or, refl}
+use Rattle.std.proofs.Common.{sym, ◌∙◌, ap, arith, append_assoc, length-append, take-append-drop}
+use Rattle.std.proofs.lemmas.List.{append-nil, drop_at, take_at, drop_more}
+use Rattle.curp_base.specs.Words.{all_of}
+use Rattle.curp_journal.specs.declared.arrived.Arrived.{Arrived}
+use Rattle.curp_msg.specs.Moved.{Moved}
+use Rattle.curp_msg.specs.declared.machine.Input.{Input}
+use Rattle.curp_durable.specs.Journal.{Batch, IsNotFormatted, framed, records}
+use Rattle.curp_durable.specs.Opening.{FindsRecord, StartsJournal, Walked, WalkedBy, WalkedOver}
+use Rattle.curp_durable.specs.Standing.{Standing, after, begun}
+use Rattle.curp_durable.specs.declared.error.OpenError.TheVariants as opened
+use Rattle.curp_durable.proofs.Reading.{records-push, encoded-push}
+use Rattle.curp_durable.proofs.Standings.{after-append, all-push}
+
+-- a title at the start
+pub title_there : (content title : List ℕ) → length title < length content → take (length title) content ≡ title → StartsJournal content title
+title_there content title long same = record {
+  byte = get_or content (length title) 0;
+  rest = drop (length title + 1) content;
+  is = sym (take-append-drop (length title) content) ∙ ap (λ (l : List ℕ). l ++ drop (length title) content) same ∙ ap (λ (l : List ℕ). title ++ l) (drop_more content (length title) 0 long);
+}
+
+pub title_short : (content title : List ℕ) → length content ≤ length title → IsNotFormatted content title
+title_short content title short byte rest same = absurd (omega (arith, short, ap length same, length-append title (byte ∷ rest)))
+
+pub title_other : (content title : List ℕ) → take (length title) content ≢ title → IsNotFormatted content title
+title_other content title other byte rest same = other (ap (λ (l : List ℕ). take (length title) l) same ∙ take_at title (byte ∷ rest) (length title) refl)
+
+module _ (content title : List ℕ) where
+  walk_starts : StartsJournal content title → Walked content title (length title) []
+  walk_starts s = record {
+    byte = s.byte;
+    rest = s.rest;
+    is = s.is ∙ ap (λ (l : List ℕ). l ++ s.byte ∷ s.rest) (sym (append-nil title));
+    place = ap length (append-nil title);
+    encoded = tt;
+  }
+
+  module _ (gate : ℕ) (batches : List Batch) (w : Walked content title gate batches) where
+    abbrev prefix : List ℕ
+    prefix = title ++ records batches
+
+    at_gate : drop gate content ≡ w.byte ∷ w.rest
+    at_gate = ap (λ (l : List ℕ). drop gate l) w.is ∙ drop_at prefix (w.byte ∷ w.rest) gate w.place
+
+    -- with what was found at the gate
+    seen_so : (bytes : List ℕ) → drop gate content ≡ bytes → content ≡ prefix ++ bytes
+    seen_so bytes is = w.is ∙ ap (λ (l : List ℕ). prefix ++ l) (sym at_gate ∙ is)
+
+    walk_on : (b : Batch) (step : ℕ) → FindsRecord (drop gate content) b step → Walked content title (gate + step) (batches ++ b ∷ [])
+    walk_on b step f = record {
+      byte = f.byte;
+      rest = f.rest;
+      is = seen_so (1 ∷ (framed b ++ f.byte ∷ f.rest)) f.is ∙ sym (append_assoc prefix (1 ∷ framed b) (f.byte ∷ f.rest)) ∙ ap (λ (l : List ℕ). l ++ f.byte ∷ f.rest) (sym grown);
+      place = omega (arith, ap length grown, length-append prefix (1 ∷ framed b), w.place, f.far);
+      encoded = encoded-push batches b w.encoded f.encodes;
+    }
+      where
+        grown : title ++ records (batches ++ b ∷ []) ≡ prefix ++ 1 ∷ framed b
+        grown = ap (λ (l : List ℕ). title ++ l) (records-push batches b) ∙ sym (append_assoc title (records batches) (1 ∷ framed b))
+
+-- ---- a walk that gives a node what it finds
+
+module _ {N : Type 0} (machine : N → Input → Moved N) (content title : List ℕ) (opening : N) where
+  pub by_starts : StartsJournal content title → WalkedBy machine content title opening (length title) (begun opening)
+  by_starts s = record { batches = []; walked = walk_starts content title s; stand_is = refl }
+
+  module _ (gate : ℕ) (stand : Standing N) (w : WalkedBy machine content title opening gate stand) where
+    pub by_on : (b : Batch) (step : ℕ) (next : Standing N) → FindsRecord (drop gate content) b step → next ≡ after machine stand b → WalkedBy machine content title opening (gate + step) next
+    by_on b step next f is = record {
+      batches = w.batches ++ b ∷ [];
+      walked = walk_on content title gate w.batches w.walked b step f;
+      stand_is = is ∙ ap (λ (s : Standing N). after machine s b) w.stand_is ∙ sym (after-append machine (all_of w.batches) b (begun opening)) ∙ ap (after machine (begun opening)) (sym (all-push w.batches b));
+    }
+
+-- ---- a walk that collects it
+
+module _ (content title : List ℕ) where
+  pub over_starts : StartsJournal content title → WalkedOver content title (length title) []
+  over_starts s = record { batches = []; walked = walk_starts content title s; all = refl }
+
+  pub over_on : (gate : ℕ) (inputs : List Arrived) (w : WalkedOver content title gate inputs) (b : Batch) (step : ℕ) → FindsRecord (drop gate content) b step → WalkedOver content title (gate + step) (inputs ++ b)
+  over_on gate inputs w b step f = record {
+    batches = w.batches ++ b ∷ [];
+    walked = walk_on content title gate w.batches w.walked b step f;
+    all = all-push w.batches b ∙ ap (λ (l : List Arrived). l ++ b) w.all;
+  }

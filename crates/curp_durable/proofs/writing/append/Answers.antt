@@ -1,0 +1,21 @@
+use Rattle.std.proofs.Common.{◌+◌, length, refl, inl, inr, subst}
+use Rattle.curp_disk.specs.Disk.{Torn}
+use Rattle.curp_durable.specs.Appending.{ShutOrStaged}
+use Rattle.curp_durable.proofs.Going.{chained, weaker}
+use Rattle.curp_durable.proofs.Gates.{torn_behind, torn_gate}
+use Rattle.curp_durable.proofs.writing.append.Goals as goal
+
+pub returns-in-Kept-clause-any_moment : goal.returns-in-Kept-clause-any_moment
+returns-in-Kept-clause-any_moment g c told =
+    let seen = g.D.Disk.seen in
+    let old = c.args.disk.now in
+    let mid = c.keep.new.disk in
+    let new = c.keep-in-Kept.new.disk in
+    let gate = c.args.gate in
+    let piece = c.args.piece.now in
+    let P = ShutOrStaged (seen old) gate piece in
+    chained seen g.D.Disk.may_leave g.D.Disk.moment g.D.Disk.left_since g.met.D.Disk.only_now old mid new P
+    (weaker seen g.D.Disk.may_leave g.D.Disk.moment g.D.Disk.left_since g.met.D.Disk.only_now old mid (Torn (gate + 1) (length piece) (seen old)) P
+    (λ f torn. inl (torn_behind (seen old) gate (length piece) f torn)) (c.keep.ensures.any_moment told))
+    (weaker seen g.D.Disk.may_leave g.D.Disk.moment g.D.Disk.left_since g.met.D.Disk.only_now mid new (Torn gate 1 (seen mid)) P
+    (λ f torn. inr (torn_gate (seen old) gate piece (c.requires.gate told) f (subst (λ l. Torn gate 1 l f) (c.in-Kept.ensures.seen told refl) torn))) (c.keep-in-Kept.ensures.any_moment told))

@@ -1,0 +1,67 @@
+-- Why a batch was not taken.
+use Rattle.std.specs.Prelude.{◌≡◌, ℕ, ◌+◌, ◌<◌, ◌≤◌, ◌^◌, ◌⊎◌, Bool, true, false, List, [], ◌∷◌, ◌++◌, length}
+use Rattle.std.specs.List.{list_all}
+use Rattle.curp_batches.specs.Arrivals.{is_light_arrival}
+use Rattle.curp_batches.specs.Batches.{batch_of}
+use Rattle.curp_io.specs.Streams.{Rose}
+use Rattle.curp_journal.specs.declared.arrived.Arrived.{Arrived}
+use Rattle.curp_msg.specs.Moved.{Moved}
+use Rattle.curp_msg.specs.declared.machine.Input.{Input}
+use Rattle.curp_durable.specs.Journal.{HasEncoding, framed}
+use Rattle.curp_durable.specs.Standing.{Standing, answers_of, taken}
+use Rattle.curp_durable.specs.Value.{DurableParts}
+use Rattle.curp_durable.specs.declared.deciding.Stopped.{Stopped}
+use Rattle.curp_durable.specs.declared.deciding.Stopped.TheVariants as stopped
+use Rattle.curp_durable.specs.declared.error.DurableError.{DurableError}
+use Rattle.curp_durable.specs.declared.error.DurableError.TheVariants as durable
+use Rattle.curp_durable.specs.declared.stand.Answered.{Answered}
+
+-- a batch's record: its encoding behind the length of that, and a shut gate
+abbrev pub record_of : List Arrived → List ℕ
+record_of b = framed b ++ 0 ∷ []
+
+-- where the record of a batch would end behind the gate at this place
+abbrev pub end_of : ℕ → List Arrived → ℕ
+end_of gate b = gate + 1 + length (record_of b)
+
+abbrev pub are_light : List Arrived → Bool
+are_light inputs = list_all is_light_arrival inputs
+
+-- no journal takes these: one of them is a message whose frame might be too long or whose sender is no node, or the
+-- encoding of all is longer than four bytes tell
+abbrev pub AreTooHeavy : List Arrived → Type 0
+AreTooHeavy inputs = (are_light inputs ≡ false) ⊎ (2 ^ 32 ≤ length (batch_of inputs))
+
+-- the record of a batch, for which there is room behind the gate
+abbrev pub IsRecord : (gate size_limit : ℕ) → List Arrived → List ℕ → Type 0
+IsRecord gate size_limit b piece = HasEncoding b × (piece ≡ record_of b) × (gate + 1 + length piece ≤ size_limit)
+
+-- those of the inputs that are taken have a record; where none is taken, there is none
+abbrev pub IsPiece : (gate size_limit : ℕ) → List Arrived → List ℕ → Type 0
+IsPiece gate size_limit taken piece = ((taken ≡ []) × (piece ≡ [])) ⊎ IsRecord gate size_limit taken piece
+
+-- what the inputs lead to
+pub record Decides {N : Type 0} (machine : N → Input → Moved N) (s : Standing N) (gate size_limit : ℕ) (inputs : List Arrived) (piece : List ℕ) (answers : List Answered) : Type 0 where
+  pub answers_are : answers ≡ answers_of machine s inputs
+  pub piece_is : IsPiece gate size_limit (taken machine s inputs) piece
+
+-- why a batch isn't taken, before anything is done
+abbrev pub Declines : (gate size_limit : ℕ) → List Arrived → DurableError → Type 0
+Declines gate size_limit inputs durable.TooHeavy = AreTooHeavy inputs
+Declines gate size_limit inputs durable.Full = (are_light inputs ≡ true) × (size_limit < end_of gate inputs)
+Declines gate size_limit inputs durable.NoMemory = are_light inputs ≡ true
+Declines gate size_limit inputs durable.DiskFault = ⊥
+Declines gate size_limit inputs durable.Spent = ⊥
+
+-- why nothing was decided: the node stands where it stood, or the memory ran out when it was asked
+abbrev pub Stops : {N : Type 0} → (old new : Standing N) → (gate size_limit : ℕ) → List Arrived → Stopped → Type 0
+Stops old new gate size_limit inputs (stopped.Unchanged why) = (new ≡ old) × Declines gate size_limit inputs why
+Stops old new gate size_limit inputs stopped.Moved = are_light inputs ≡ true
+
+-- Why a batch was refused, and what was then changed: by each error a cause
+abbrev pub RefusesBatch : {N D : Type 0} → (D → ℕ) → DurableParts N D → DurableParts N D → List Arrived → DurableError → Type 0
+RefusesBatch faults old new inputs durable.Spent = (old.spent ≡ true) × (new ≡ old)
+RefusesBatch faults old new inputs durable.TooHeavy = (old.spent ≡ false) × AreTooHeavy inputs × (new ≡ old)
+RefusesBatch faults old new inputs durable.Full = (old.spent ≡ false) × (are_light inputs ≡ true) × (old.size_limit < end_of old.gate inputs) × (new ≡ old)
+RefusesBatch faults old new inputs durable.DiskFault = (old.spent ≡ false) × (are_light inputs ≡ true) × Rose (faults old.disk) (faults new.disk) × (new.spent ≡ true)
+RefusesBatch faults old new inputs durable.NoMemory = (old.spent ≡ false) × (are_light inputs ≡ true) × (new.spent ≡ false → new ≡ old)

@@ -1,0 +1,123 @@
+-- How bytes are read from their start on.
+use Rattle.std.specs.Prelude.{◌≡◌, ◌≢◌, ℕ, ◌+◌, ◌<◌, ◌^◌, List, ◌∷◌, ◌++◌, length, drop, Option, Some, None, ⊤}
+use Rattle.std.specs.Int.{to_be_bytes, w32}
+use Rattle.curp_base.specs.Words.{Each, all_of}
+use Rattle.curp_journal.specs.declared.arrived.Arrived.{Arrived}
+use Rattle.curp_msg.specs.Moved.{Moved}
+use Rattle.curp_msg.specs.declared.machine.Input.{Input}
+use Rattle.curp_durable.specs.Journal.{Batch, HasEncoding, IsDamaged, IsNotFormatted, ReadsJournal, framed, records}
+use Rattle.curp_durable.specs.Standing.{Standing, after, begun}
+use Rattle.curp_durable.specs.declared.error.OpenError.{OpenError}
+use Rattle.curp_durable.specs.declared.error.OpenError.TheVariants as opened
+use Rattle.curp_durable.specs.declared.opening.Found.{Found}
+use Rattle.curp_durable.specs.declared.opening.Next.{Next}
+use Rattle.curp_durable.specs.declared.opening.Next.TheVariants as next
+
+-- ---- one record
+
+-- an open gate with a record behind it, and some next gate
+pub record FindsRecord (bytes : List ℕ) (b : Batch) (step : ℕ) : Type 0 where
+  pub byte : ℕ
+  pub rest : List ℕ
+  pub is : bytes ≡ 1 ∷ (framed b ++ byte ∷ rest)
+  pub encodes : HasEncoding b
+  pub far : step ≡ length (framed b) + 1
+
+-- an open gate with no such record
+pub record FindsNone (bytes : List ℕ) : Type 0 where
+  pub rest : List ℕ
+  pub is : bytes ≡ 1 ∷ rest
+  pub none : (b : Batch) (byte : ℕ) (tail : List ℕ) → HasEncoding b → rest ≢ framed b ++ byte ∷ tail
+
+-- a gate that isn't open
+pub record FindsShut (bytes : List ℕ) : Type 0 where
+  pub byte : ℕ
+  pub rest : List ℕ
+  pub is : bytes ≡ byte ∷ rest
+  pub shut : byte ≢ 1
+
+-- an open gate, and so many bytes behind it and their length, and more
+pub record FindsPiece (bytes : List ℕ) (len : ℕ) : Type 0 where
+  pub rest : List ℕ
+  pub is : bytes ≡ 1 ∷ (to_be_bytes w32 len ++ rest)
+  pub within : len < length rest
+  pub small : len < 2 ^ 32
+
+-- what stands at the start of bytes
+abbrev pub FindsNext : List ℕ → Next → Type 0
+FindsNext bytes next.Shut = FindsShut bytes
+FindsNext bytes (next.Piece len) = FindsPiece bytes len
+FindsNext bytes next.Cut = FindsNone bytes
+
+-- the batch that stands at a gate, and where the next gate stands
+abbrev pub FindsBatch : List ℕ → ℕ → Option Found → Type 0
+FindsBatch content gate None = FindsShut (drop gate content)
+FindsBatch content gate (Some found) = (step : ℕ) × FindsRecord (drop gate content) found.batch.items step × (found.behind ≡ gate + step)
+
+-- an open gate with no record that can stand there
+abbrev pub FindsNot : List ℕ → ℕ → OpenError → Type 0
+FindsNot content gate opened.NotFormatted = ⊥
+FindsNot content gate (opened.Damaged place) = FindsNone (drop gate content) × (place ≡ gate)
+FindsNot content gate opened.DiskFault = ⊥
+FindsNot content gate opened.NoMemory = ⊤
+
+-- ---- all records
+
+-- A journal of these batches up to a gate of any byte
+pub record Walked (content title : List ℕ) (gate : ℕ) (batches : List Batch) : Type 0 where
+  pub byte : ℕ
+  pub rest : List ℕ
+  pub is : content ≡ (title ++ records batches) ++ byte ∷ rest
+  pub place : length (title ++ records batches) ≡ gate
+  pub encoded : Each HasEncoding batches
+
+-- such a journal, and where its batches led the node
+pub record WalkedBy {N : Type 0} (machine : N → Input → Moved N) (content title : List ℕ) (opening : N) (gate : ℕ) (stand : Standing N) : Type 0 where
+  pub batches : List Batch
+  pub walked : Walked content title gate batches
+  pub stand_is : stand ≡ after machine (begun opening) (all_of batches)
+
+-- such a journal, and its inputs
+pub record WalkedOver (content title : List ℕ) (gate : ℕ) (inputs : List Arrived) : Type 0 where
+  pub batches : List Batch
+  pub walked : Walked content title gate batches
+  pub all : all_of batches ≡ inputs
+
+-- the journal of these batches, and where they led the node
+pub record IsOpened {N : Type 0} (machine : N → Input → Moved N) (content title : List ℕ) (opening : N) (gate : ℕ) (stand : Standing N) : Type 0 where
+  pub batches : List Batch
+  pub reads : ReadsJournal content title batches gate
+  pub stand_is : stand ≡ after machine (begun opening) (all_of batches)
+
+-- why there is no journal to open
+abbrev pub OpensNot : List ℕ → List ℕ → OpenError → Type 0
+OpensNot content title opened.NotFormatted = IsNotFormatted content title
+OpensNot content title (opened.Damaged place) = IsDamaged content title place
+OpensNot content title opened.DiskFault = ⊤
+OpensNot content title opened.NoMemory = ⊤
+
+-- a title stands at the start, and a gate behind it
+pub record StartsJournal (content title : List ℕ) : Type 0 where
+  pub byte : ℕ
+  pub rest : List ℕ
+  pub is : content ≡ title ++ byte ∷ rest
+
+-- ---- what an opening tells
+
+-- none of the causes why there is no journal holds
+abbrev pub Exists : List ℕ → List ℕ → Type 0
+Exists content title = (IsNotFormatted content title → ⊥) × ((place : ℕ) → IsDamaged content title place → ⊥)
+
+-- where the cause is one of these, no other holds
+abbrev pub IsOnlyCause : List ℕ → List ℕ → OpenError → Type 0
+IsOnlyCause content title opened.NotFormatted = (place : ℕ) → IsDamaged content title place → ⊥
+IsOnlyCause content title (opened.Damaged place) = (IsNotFormatted content title → ⊥) × ((other : ℕ) → IsDamaged content title other → other ≡ place)
+IsOnlyCause content title opened.DiskFault = ⊤
+IsOnlyCause content title opened.NoMemory = ⊤
+
+-- neither of the causes that say something of the disk's bytes
+abbrev pub IsOfTheMoment : OpenError → Type 0
+IsOfTheMoment opened.NotFormatted = ⊥
+IsOfTheMoment (opened.Damaged place) = ⊥
+IsOfTheMoment opened.DiskFault = ⊤
+IsOfTheMoment opened.NoMemory = ⊤

@@ -1,0 +1,138 @@
+//! What a batch leads to, before it is kept.
+ghost use Rattle.std.specs.Prelude.{◌≡◌, ◌+◌, ◌<◌, ◌≤◌, ◌^◌, ◌∷◌, ◌++◌, [], length, true, false, IfOk, IfErr, OnOk};
+ghost use Rattle.curp_durable.specs.Answering.{Decides, Declines, IsRecord, Stops, are_light};
+ghost use Rattle.curp_durable.specs.Journal.{behind_length};
+ghost use Rattle.curp_durable.specs.Standing.{after, made_inputs};
+
+use crate::error::DurableError;
+use crate::stand::{Answered, Stand, count_made, made_inputs};
+use curp_base::NoMemory;
+use curp_batches::{encode, is_light_arrival};
+use curp_journal::Arrived;
+use curp_msg::Core;
+use std::alloc::Global;
+
+/// What a batch leads to: the record of those that were taken, empty where none was, and what is answered.
+#[derive(Drop)]
+pub(crate) struct Decided {
+    pub piece: Vec<u8>,
+    pub answers: Vec<Answered>,
+}
+
+/// Why nothing is decided.
+#[derive(Clone, Copy, Debug, PartialEq, Eq)]
+pub(crate) enum Stopped {
+    /// Before the node was asked.
+    Unchanged(DurableError),
+    /// Memory ran out once it was asked.
+    Moved,
+}
+
+fn are_light(inputs: &[Arrived]) -> bool
+    ensures { result ≡ are_light inputs.now }
+{
+    inputs.iter().all(|arrived| is_light_arrival(arrived))
+}
+
+/// Whether four bytes tell the length.
+fn is_short(bytes: &[u8]) -> bool
+    ensures yes { result ≡ true → length bytes.now < 2 ^ 32 }
+    ensures no { result ≡ false → 2 ^ 32 ≤ length bytes.now }
+{
+    bytes.len() <= u32::MAX as usize
+}
+
+/// Whether there is room behind a gate for the record of so many bytes.
+fn has_room(gate: u64, size_limit: u64, length: usize) -> bool
+    ensures yes { result ≡ true → gate + 6 + length ≤ size_limit }
+    ensures no { result ≡ false → size_limit < gate + 6 + length }
+{
+    gate <= size_limit
+        && length as u64 <= size_limit - gate
+        && size_limit - gate - length as u64 >= 6
+}
+
+/// Bytes behind their length, and a shut gate.
+fn piece_of(alloc: Global, bytes: &[u8]) -> Result<Vec<u8>, NoMemory>
+    requires { length bytes.now < 2 ^ 32 }
+    ensures { IfOk result (λ piece. piece.items ≡ behind_length bytes.now ++ 0 ∷ []) }
+{
+    let mut piece = Vec::from_slice(alloc, &(bytes.len() as u32).to_be_bytes())?;
+    piece.extend_from_slice(bytes)?;
+    piece.push(0)?;
+    Ok(piece)
+}
+
+/// The record of a batch, if a journal takes it and there is room behind the gate.
+#[tactic(auto, using(crate::proofs::Pieces::each_light, crate::proofs::Pieces::full, crate::proofs::Pieces::not_light, crate::proofs::Pieces::record_is, crate::proofs::Pieces::too_long))]
+fn record_of(
+    alloc: Global,
+    gate: u64,
+    size_limit: u64,
+    inputs: &[Arrived],
+) -> Result<Vec<u8>, DurableError>
+    ensures ok { IfOk result (λ piece. IsRecord gate size_limit inputs.now piece.items) }
+    ensures light { OnOk result (are_light inputs.now ≡ true) }
+    ensures err { IfErr result (Declines gate size_limit inputs.now) }
+{
+    if !are_light(inputs) {
+        return Err(DurableError::TooHeavy);
+    }
+    let bytes = encode(alloc, inputs)?;
+    if !is_short(&bytes) {
+        return Err(DurableError::TooHeavy);
+    }
+    if !has_room(gate, size_limit, bytes.len()) {
+        return Err(DurableError::Full);
+    }
+    Ok(piece_of(alloc, &bytes)?)
+}
+
+/// Encodes a batch, sees that there is room for it, and gives it to the node.
+pub(crate) fn decide<N: Core>(
+    alloc: Global,
+    stand: &mut Stand<N>,
+    gate: u64,
+    size_limit: u64,
+    inputs: Vec<Arrived>,
+) -> Result<Decided, Stopped>
+    ensures decides { IfOk result (λ d. Decides N.machine stand.old gate size_limit inputs.items d.piece.items
+        d.answers.items) }
+    ensures state { OnOk result (stand.new ≡ after N.machine stand.old inputs.items) }
+    ensures light { OnOk result (are_light inputs.items ≡ true) }
+    ensures stops { IfErr result (Stops stand.old stand.new gate size_limit inputs.items) }
+{
+    let piece = match record_of(alloc, gate, size_limit, &inputs) {
+        Ok(piece) => piece,
+        Err(why) => return Err(Stopped::Unchanged(why)),
+    };
+    let count = inputs.len();
+    let Ok(answers) = stand.step_all(alloc, inputs) else {
+        return Err(Stopped::Moved);
+    };
+    let made = count_made(&answers);
+    if made == 0 {
+        let piece = Vec::new(alloc);
+        return Ok(Decided { piece, answers });
+    }
+    if made == count {
+        return Ok(Decided { piece, answers });
+    }
+    match record_again(alloc, gate, size_limit, &answers) {
+        Ok(piece) => Ok(Decided { piece, answers }),
+        Err(_) => Err(Stopped::Moved),
+    }
+}
+
+/// The record of those that were made.
+fn record_again(
+    alloc: Global,
+    gate: u64,
+    size_limit: u64,
+    answers: &[Answered],
+) -> Result<Vec<u8>, DurableError>
+    ensures { IfOk result (λ piece. IsRecord gate size_limit (made_inputs answers.now) piece.items) }
+{
+    let inputs = made_inputs(alloc, answers)?;
+    record_of(alloc, gate, size_limit, &inputs)
+}

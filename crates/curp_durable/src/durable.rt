@@ -1,0 +1,204 @@
+ghost use Rattle.std.specs.Prelude.{◌≡◌, ◌≢◌, ◌≤◌, ◌++◌, List, ℕ, true, false, IfOk, IfErr, IsOk, OnOk};
+ghost use Rattle.curp_disk.specs.Disk.{LeavesOnly};
+ghost use Rattle.curp_io.specs.Streams.{Rose};
+ghost use Rattle.curp_journal.specs.declared.arrived.Arrived.{Arrived};
+ghost use Rattle.curp_durable.specs.Answering.{RefusesBatch};
+ghost use Rattle.curp_durable.specs.Appending.{Quiet};
+ghost use Rattle.curp_durable.specs.Journal.{HasSettled, HoldsJournal, IsBeforeOrAfter, IsSettled};
+ghost use Rattle.curp_durable.specs.Opening.{Exists, IsOfTheMoment, IsOnlyCause, IsOpened, OpensNot};
+ghost use Rattle.curp_durable.specs.Standing.{after, answers_of, taken};
+
+use crate::deciding::{Stopped, decide};
+use crate::error::{DurableError, OpenError};
+use crate::opening::recover;
+use crate::stand::{Answered, Stand};
+use crate::writing::{Kept, append};
+use curp_disk::Disk;
+use curp_journal::Arrived;
+use curp_msg::Core;
+use std::alloc::Global;
+use std::marker::Model;
+
+/// How many bytes a journal has at most, its last gate counted, where the caller has no reason for another limit.
+pub const SIZE_LIMIT: u64 = 1_073_741_824;
+
+/// A node whose inputs stand on a disk before what it sends goes out. Of its journal it keeps no item in memory.
+#[derive(Drop)]
+pub struct Durable<N: Core, D: Disk> {
+    alloc: Global,
+    disk: D,
+    stand: Stand<N>,
+    // The place of the last gate, which is shut.
+    gate: u64,
+    size_limit: u64,
+    spent: bool,
+}
+
+impl<N: Core, D: Disk> Model for Durable<N, D> {
+    ghost use Rattle.std.specs.Prelude.{◌≡◌, ◌+◌, ◌<◌, ◌^◌, false, true};
+    ghost use Rattle.curp_durable.specs.Value.{DurableParts};
+    ghost use Rattle.curp_durable.specs.Journal.{HasSettled};
+
+    ghost Value = { DurableParts N D };
+
+    ghost view = { λ d. record {
+      disk = d.disk;
+      stand = d.stand;
+      gate = d.gate;
+      size_limit = d.size_limit;
+      spent = d.spent;
+    } };
+
+    ghost invariant = { λ d. (D.tells ≡ true → d.spent ≡ false
+        → HasSettled N.machine D.seen D.may_leave d.disk d.stand d.gate) × (d.gate + 1 < 2 ^ 64) };
+}
+
+/// Why a journal wasn't opened, with its disk.
+#[derive(Drop)]
+pub struct OpenFailed<D> {
+    pub error: OpenError,
+    pub disk: D,
+}
+
+impl<N: Core + Drop, D: Disk> Durable<N, D> {
+    /// Opens the journal of a title, on a disk that is synced before it is read: the node, which is to be as before any
+    /// input, gets the inputs that stand there. It takes memory for the journal's bytes and for what the node holds;
+    /// what the node sends is dropped. Nothing is written.
+    ///
+    /// The size limit is how many bytes the journal may have, its last gate counted (`SIZE_LIMIT` where the caller has
+    /// no reason for another). A longer journal is opened too; it takes no more batches.
+    pub fn open(
+        alloc: Global,
+        mut disk: D,
+        title: &[u8],
+        node: N,
+        size_limit: u64,
+    ) -> Result<Durable<N, D>, OpenFailed<D>>
+        ensures ok { D.tells ≡ true → IfOk result (λ d. (d.spent ≡ false)
+            × IsOpened N.machine (D.seen disk) title.now node d.gate d.stand) }
+        ensures fresh { IfOk result (λ d. d.spent ≡ false) }
+        ensures limit { IfOk result (λ d. d.size_limit ≡ size_limit) }
+        ensures quiet { IfOk result (λ d. Quiet D.seen D.may_leave D.moment D.left_since disk d.disk) }
+        ensures err { D.tells ≡ true → IfErr result (λ f. OpensNot (D.seen disk) title.now f.error) }
+        ensures quiet_err { IfErr result (λ f. Quiet D.seen D.may_leave D.moment D.left_since disk f.disk) }
+        ensures cause { IfErr result (λ f. f.error ≡ OpenError.DiskFault → Rose (D.faults disk) (D.faults f.disk)) }
+        ensures never_falls { IfOk result (λ d. D.faults disk ≤ D.faults d.disk) }
+        ensures sound { D.sound disk → IfOk result (λ d. D.sound d.disk) }
+        ensures sound_err { D.sound disk → IfErr result (λ f. (f.error ≢ OpenError.DiskFault) × D.sound f.disk) }
+        ensures only_there { D.tells ≡ true → OnOk result (Exists (D.seen disk) title.now) }
+        ensures one_cause { D.tells ≡ true → IfErr result (λ f. IsOnlyCause (D.seen disk) title.now f.error) }
+        ensures journal { (inputs : List Arrived) → D.tells ≡ true → HoldsJournal (D.seen disk) title.now inputs
+            → IfOk result (λ d. IsSettled N.machine D.seen D.may_leave d.disk d.stand d.gate title.now node inputs) }
+        ensures journal_err { (inputs : List Arrived) → D.tells ≡ true → HoldsJournal (D.seen disk) title.now inputs
+            → IfErr result (λ f. IsOfTheMoment f.error) }
+    {
+        match recover(alloc, &mut disk, title, node) {
+            Ok((stand, gate)) => Ok(Durable {
+                alloc,
+                disk,
+                stand,
+                gate,
+                size_limit,
+                spent: false,
+            }),
+            Err(error) => Err(OpenFailed { error, disk }),
+        }
+    }
+
+    /// A batch comes. Those of it that the node takes stand on the disk, in one record, before anything is answered.
+    pub fn on_all(&mut self, inputs: Vec<Arrived>) -> Result<Vec<Answered>, DurableError>
+        ensures answers { IfOk result (λ answers. answers.items ≡ answers_of N.machine self.old.stand inputs.items) }
+        ensures state { OnOk result (self.new.stand ≡ after N.machine self.old.stand inputs.items) }
+        ensures goes_on { OnOk result ((self.old.spent ≡ false) × (self.new.spent ≡ false)) }
+        ensures limit { self.new.size_limit ≡ self.old.size_limit }
+        ensures err { IfErr result (RefusesBatch D.faults self.old self.new inputs.items) }
+        ensures kept { (title : List ℕ) (opening : N) (so_far : List Arrived) → D.tells ≡ true → IsOk result
+            → IsSettled N.machine D.seen D.may_leave self.old.disk self.old.stand self.old.gate title opening so_far
+            → IsSettled N.machine D.seen D.may_leave self.new.disk self.new.stand self.new.gate title opening
+            (so_far ++ taken N.machine self.old.stand inputs.items) }
+        ensures any_moment { (title : List ℕ) (opening : N) (so_far : List Arrived) → D.tells ≡ true
+            → self.old.spent ≡ false
+            → IsSettled N.machine D.seen D.may_leave self.old.disk self.old.stand self.old.gate title opening so_far
+            → LeavesOnly D.moment D.left_since self.old.disk self.new.disk
+            (IsBeforeOrAfter title so_far (taken N.machine self.old.stand inputs.items)) }
+        ensures sound { D.sound self.old.disk → (result ≢ Err DurableError.DiskFault) × D.sound self.new.disk }
+        ensures never_falls { D.faults self.old.disk ≤ D.faults self.new.disk }
+    {
+        if self.spent {
+            return Err(DurableError::Spent);
+        }
+        let size_limit = self.size_limit;
+        match decide(self.alloc, &mut self.stand, self.gate, size_limit, inputs) {
+            Ok(decided) => {
+                if decided.piece.is_empty() {
+                    return Ok(decided.answers);
+                }
+                match append(&mut self.disk, self.gate, &decided.piece) {
+                    Kept::Kept => {
+                        self.gate += decided.piece.len() as u64;
+                        Ok(decided.answers)
+                    }
+                    Kept::Failed => {
+                        self.spent = true;
+                        Err(DurableError::DiskFault)
+                    }
+                    Kept::NoMemory => {
+                        self.spent = true;
+                        Err(DurableError::NoMemory)
+                    }
+                }
+            }
+            Err(Stopped::Unchanged(why)) => Err(why),
+            Err(Stopped::Moved) => {
+                self.spent = true;
+                Err(DurableError::NoMemory)
+            }
+        }
+    }
+
+    /// Whether an earlier call stopped where the node or the disk may have moved on. The disk is then to be taken out,
+    /// and opened again.
+    pub fn spent(&self) -> bool
+        ensures value { result ≡ self.now.spent }
+        ensures settled { D.tells ≡ true → self.now.spent ≡ false
+            → HasSettled N.machine D.seen D.may_leave self.now.disk self.now.stand self.now.gate }
+    {
+        self.spent
+    }
+
+    /// How many inputs the node took.
+    pub fn count(&self) -> u64
+        ensures { result ≡ self.now.stand.count }
+    {
+        self.stand.count()
+    }
+
+    /// The stamp of the last input that the node took, 0 if there is none.
+    pub fn last_stamp(&self) -> u64
+        ensures { result ≡ self.now.stand.last }
+    {
+        self.stand.last()
+    }
+
+    /// The node, behind all that it took.
+    pub fn node(&self) -> &N
+        ensures { result.now ≡ self.now.stand.node }
+    {
+        self.stand.node()
+    }
+
+    /// Gives the disk back.
+    pub fn into_disk(self) -> D
+        ensures { result ≡ self.disk }
+    {
+        let Durable {
+            alloc: _,
+            disk,
+            stand: _,
+            gate: _,
+            size_limit: _,
+            spent: _,
+        } = self;
+        disk
+    }
+}

@@ -1,0 +1,55 @@
+ghost use Rattle.std.specs.Prelude.{◌≡◌};
+ghost use Rattle.curp_durable.specs.declared.error.DurableError.TheVariants as durable;
+ghost use Rattle.curp_durable.specs.declared.error.OpenError.TheVariants as opened;
+
+use curp_base::NoMemory;
+
+/// Why a disk wasn't formatted.
+#[derive(Clone, Copy, Debug, PartialEq, Eq)]
+pub enum FormatError {
+    /// More bytes are there than an empty journal has.
+    NotEmpty,
+    DiskFault,
+    NoMemory,
+}
+
+/// Why a journal wasn't opened.
+#[derive(Clone, Copy, Debug, PartialEq, Eq)]
+pub enum OpenError {
+    DiskFault,
+    /// There is no journal of this title: the title and one byte aren't there.
+    NotFormatted,
+    /// The open gate at this place isn't followed by the record of a batch and one byte.
+    Damaged { place: u64 },
+    NoMemory,
+}
+
+/// Why a batch wasn't taken.
+#[derive(Clone, Copy, Debug, PartialEq, Eq)]
+pub enum DurableError {
+    /// The record of all would end past the journal's size limit. A shorter batch may still have room.
+    Full,
+    /// No journal takes it: one is a message whose frame might be too long (`curp_wire::is_light`) or whose sender is
+    /// no node, or the encoding of all has 2^32 bytes or more.
+    TooHeavy,
+    DiskFault,
+    /// An earlier call stopped where the node or the disk may have moved on: the journal is to be opened again.
+    Spent,
+    NoMemory,
+}
+
+impl From<NoMemory> for OpenError {
+    ghost from_gives = { λ _ e. e ≡ opened.NoMemory };
+
+    fn from(_: NoMemory) -> OpenError {
+        OpenError::NoMemory
+    }
+}
+
+impl From<NoMemory> for DurableError {
+    ghost from_gives = { λ _ e. e ≡ durable.NoMemory };
+
+    fn from(_: NoMemory) -> DurableError {
+        DurableError::NoMemory
+    }
+}

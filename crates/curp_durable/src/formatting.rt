@@ -1,0 +1,49 @@
+ghost use Rattle.std.specs.Prelude.{◌≡◌, ◌≢◌, ◌≤◌, ◌++◌, ◌∷◌, [], true, length, IfOk, OnOk};
+ghost use Rattle.curp_disk.specs.Disk.{Only};
+ghost use Rattle.curp_io.specs.Streams.{Rose};
+ghost use Rattle.curp_durable.specs.Journal.{HoldsJournal};
+
+use crate::error::FormatError;
+use curp_base::NoMemory;
+use curp_disk::{Did, Disk, Long};
+use std::alloc::Global;
+
+/// Writes a journal with no input on a disk that has no more bytes than that, and syncs it. After a crash or an error
+/// it may be called again.
+pub fn format<D: Disk>(alloc: Global, disk: &mut D, title: &[u8]) -> Result<(), FormatError>
+    ensures ok { D.tells ≡ true → OnOk result (HoldsJournal (D.seen disk.new) title.now []) }
+    ensures durable { D.tells ≡ true → OnOk result (Only (D.seen disk.new) (D.may_leave disk.new)) }
+    ensures cause { result ≡ Err FormatError.DiskFault → Rose (D.faults disk.old) (D.faults disk.new) }
+    ensures sound { D.sound disk.old → (result ≢ Err FormatError.DiskFault) × D.sound disk.new }
+    ensures never_falls { D.faults disk.old ≤ D.faults disk.new }
+{
+    let Ok(bytes) = opening_bytes(alloc, title) else {
+        return Err(FormatError::NoMemory);
+    };
+    match disk.length() {
+        Long::Bytes(size) => {
+            if size > bytes.len() as u64 {
+                return Err(FormatError::NotEmpty);
+            }
+        }
+        Long::Failed => return Err(FormatError::DiskFault),
+    }
+    match disk.write_at(0, &bytes) {
+        Did::Done(_) => match disk.sync() {
+            Did::Done(_) => Ok(()),
+            Did::Failed => Err(FormatError::DiskFault),
+            Did::NoMemory => Err(FormatError::NoMemory),
+        },
+        Did::Failed => Err(FormatError::DiskFault),
+        Did::NoMemory => Err(FormatError::NoMemory),
+    }
+}
+
+/// The title, and a shut gate.
+fn opening_bytes(alloc: Global, title: &[u8]) -> Result<Vec<u8>, NoMemory>
+    ensures { IfOk result (λ bytes. bytes.items ≡ title.now ++ 0 ∷ []) }
+{
+    let mut bytes = Vec::from_slice(alloc, title)?;
+    bytes.push(0)?;
+    Ok(bytes)
+}

@@ -1,0 +1,29 @@
+//! Any node outlives its process: what comes to it stands on a disk before what it sends goes out.
+//!
+//! `specs/Journal.antt` says what a journal is: a title, and records of batches of arrivals, each behind a gate of one
+//! byte; what stands behind the first gate that isn't open says nothing. A record is written behind its shut gate and
+//! synced, then the gate is opened by a write of its own and synced.
+//!
+//! - `format` writes an empty journal. `Durable::open` reads one and gives its inputs to a fresh node: `NotFormatted` and
+//!   `Damaged` come exactly where the bytes are so, and never where they are a journal (`journal`). `read_inputs` gives
+//!   the inputs alone.
+//! - `Durable::on_all` gives the node a batch. The answers come once those that the node takes are on the disk
+//!   (`answers`, `kept`). After a crash at any moment in the call the disk has the journal with all of these or with none
+//!   (`any_moment`).
+//! - `laws`: bytes are one journal of a title at most, and never one and damaged; what is damaged is so at one place.
+#![tactic(auto)]
+
+mod deciding;
+mod durable;
+mod error;
+mod formatting;
+pub mod laws;
+mod opening;
+mod stand;
+mod writing;
+
+pub use durable::{Durable, OpenFailed, SIZE_LIMIT};
+pub use error::{DurableError, FormatError, OpenError};
+pub use formatting::format;
+pub use opening::read_inputs;
+pub use stand::Answered;

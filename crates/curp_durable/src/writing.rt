@@ -1,0 +1,58 @@
+//! Records behind gates.
+ghost use Rattle.std.specs.Prelude.{◌≡◌, ◌≢◌, ◌+◌, ◌^◌, ◌<◌, ◌≤◌, [], ◌∷◌, length, true};
+ghost use Rattle.curp_disk.specs.Disk.{LeavesOnly, Only, Torn, over};
+ghost use Rattle.curp_io.specs.Streams.{Rose};
+ghost use Rattle.curp_durable.specs.Appending.{ShutOrStaged};
+
+use curp_disk::{Did, Disk};
+
+/// What became of bytes that were to be kept.
+#[derive(Clone, Copy, Debug, PartialEq, Eq)]
+pub(crate) enum Kept {
+    Kept,
+    Failed,
+    NoMemory,
+}
+
+/// Writes bytes and syncs.
+pub(crate) fn keep<D: Disk>(disk: &mut D, at: u64, bytes: &[u8]) -> Kept
+    requires at { D.tells ≡ true → at ≤ length (D.seen disk.old) }
+    requires durable { D.tells ≡ true → Only (D.seen disk.old) (D.may_leave disk.old) }
+    ensures seen { D.tells ≡ true → result ≡ Kept.Kept → D.seen disk.new ≡ over (D.seen disk.old) at bytes.now }
+    ensures durable { D.tells ≡ true → result ≡ Kept.Kept → Only (D.seen disk.new) (D.may_leave disk.new) }
+    ensures any_moment { D.tells ≡ true → LeavesOnly D.moment D.left_since disk.old disk.new
+        (Torn at (length bytes.now) (D.seen disk.old)) }
+    ensures sound { D.sound disk.old → (result ≢ Kept.Failed) × D.sound disk.new }
+    ensures cause { result ≡ Kept.Failed → Rose (D.faults disk.old) (D.faults disk.new) }
+    ensures never_falls { D.faults disk.old ≤ D.faults disk.new }
+{
+    match disk.write_at(at, bytes) {
+        Did::Done(_) => match disk.sync() {
+            Did::Done(_) => Kept::Kept,
+            Did::Failed => Kept::Failed,
+            Did::NoMemory => Kept::NoMemory,
+        },
+        Did::Failed => Kept::Failed,
+        Did::NoMemory => Kept::NoMemory,
+    }
+}
+
+/// Writes a record behind a gate, and then opens the gate.
+pub(crate) fn append<D: Disk>(disk: &mut D, gate: u64, piece: &[u8]) -> Kept
+    requires gate { D.tells ≡ true → gate < length (D.seen disk.old) }
+    requires place { gate + 1 < 2 ^ 64 }
+    requires durable { D.tells ≡ true → Only (D.seen disk.old) (D.may_leave disk.old) }
+    ensures seen { D.tells ≡ true → result ≡ Kept.Kept
+        → D.seen disk.new ≡ over (over (D.seen disk.old) (gate + 1) piece.now) gate (1 ∷ []) }
+    ensures durable { D.tells ≡ true → result ≡ Kept.Kept → Only (D.seen disk.new) (D.may_leave disk.new) }
+    ensures any_moment { D.tells ≡ true → LeavesOnly D.moment D.left_since disk.old disk.new
+        (ShutOrStaged (D.seen disk.old) gate piece.now) }
+    ensures sound { D.sound disk.old → (result ≢ Kept.Failed) × D.sound disk.new }
+    ensures cause { result ≡ Kept.Failed → Rose (D.faults disk.old) (D.faults disk.new) }
+    ensures never_falls { D.faults disk.old ≤ D.faults disk.new }
+{
+    match keep(disk, gate + 1, piece) {
+        Kept::Kept => keep(disk, gate, &[1]),
+        refused => refused,
+    }
+}

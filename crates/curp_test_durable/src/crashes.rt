@@ -1,0 +1,136 @@
+// Crashes between the calls of the disk, a disk that was refused, and inputs that are.
+use crate::build::{TITLE, add, begin, fence, fences, nudged, numbers, opened, opened_as};
+use curp_disk::StopDisk;
+use curp_durable::{Durable, DurableError, OpenError, SIZE_LIMIT};
+use curp_journal::Arrived;
+use curp_nodes::BackupNode;
+use std::alloc::Global;
+use std::process::Abort;
+
+fn backup(alloc: Global) -> BackupNode {
+    BackupNode::new(alloc, 1, 1)
+}
+
+fn reopened(rt: &impl Abort, alloc: Global, disk: StopDisk) -> Durable<BackupNode, StopDisk> {
+    opened(alloc, disk, backup(alloc)).expect(rt, "no journal")
+}
+
+/// A disk with the journal of a backup that took three messages.
+fn disk_of_three(rt: &impl Abort, alloc: Global) -> StopDisk {
+    let mut disk = StopDisk::new(alloc);
+    begin(rt, alloc, &mut disk);
+    let mut durable = reopened(rt, alloc, disk);
+    assert_eq!(rt; keeps(rt, alloc, &mut durable, 3), Ok(3));
+    durable.into_disk()
+}
+
+fn keeps(
+    rt: &impl Abort,
+    alloc: Global,
+    durable: &mut Durable<BackupNode, StopDisk>,
+    count: u32,
+) -> Result<usize, DurableError> {
+    let numbers = numbers(alloc, durable, fences(rt, alloc, count))?;
+    let count = numbers.len();
+    drop(numbers);
+    Ok(count)
+}
+
+/// The disk once it stopped at that call while five messages more were kept.
+fn stopped(rt: &impl Abort, alloc: Global, call: u64) -> StopDisk {
+    let mut disk = disk_of_three(rt, alloc);
+    // The sync of the opening is a call too.
+    disk.arm(call.wrapping_add(1));
+    let mut durable = reopened(rt, alloc, disk);
+    assert_eq!(rt;
+        keeps(rt, alloc, &mut durable, 5),
+        Err(DurableError::DiskFault)
+    );
+    assert!(rt; durable.spent());
+    assert_eq!(rt; keeps(rt, alloc, &mut durable, 1), Err(DurableError::Spent));
+    durable.into_disk()
+}
+
+/// A batch is kept where the last call was made and what was written since the last sync is kept.
+fn try_crash(rt: &impl Abort, alloc: Global, call: u64, kept: bool) {
+    let mut disk = stopped(rt, alloc, call);
+    disk.crash(kept);
+    let mut durable = reopened(rt, alloc, disk);
+    let wanted = if call == 4 && kept { 8 } else { 3 };
+    let (count, _) = nudged(rt, alloc, &mut durable);
+    drop(durable);
+    assert_eq!(rt; count, wanted, "{call} {kept}");
+}
+
+#[test]
+fn a_batch_is_kept_once_its_gate_is(rt: HostRuntime) {
+    for call in 1..=4 {
+        try_crash(&rt, rt.alloc(), call, false);
+        try_crash(&rt, rt.alloc(), call, true);
+    }
+}
+
+/// Two messages, and between them one that has the highest stamp.
+fn mixed(rt: &impl Abort, alloc: Global) -> Vec<Arrived> {
+    let mut inputs = Vec::new(alloc);
+    add(rt, &mut inputs, fence(1, 1));
+    add(rt, &mut inputs, fence(2, u64::MAX));
+    add(rt, &mut inputs, fence(3, 7));
+    inputs
+}
+
+/// The disk once three messages more came, of which one is refused.
+fn disk_of_mixed(rt: &impl Abort, alloc: Global) -> StopDisk {
+    let mut durable = reopened(rt, alloc, disk_of_three(rt, alloc));
+    let numbers = numbers(alloc, &mut durable, mixed(rt, alloc)).expect(rt, "no answer");
+    assert!(rt; numbers.as_slice() == [4, 1255, 5].as_slice());
+    durable.into_disk()
+}
+
+#[test]
+fn what_is_refused_is_not_kept(rt: HostRuntime) {
+    let alloc = rt.alloc();
+    let mut disk = disk_of_mixed(&rt, alloc);
+    disk.crash(false);
+    let mut durable = reopened(&rt, alloc, disk);
+    let told = nudged(&rt, alloc, &mut durable);
+    drop(durable);
+    assert_eq!(rt; told, (5, 0));
+}
+
+/// Why a disk isn't opened as of that title.
+fn error_by(rt: &impl Abort, alloc: Global, title: &[u8]) -> Option<OpenError> {
+    let disk = disk_of_three(rt, alloc);
+    match opened_as(alloc, disk, title, backup(alloc), SIZE_LIMIT) {
+        Ok(durable) => {
+            drop(durable);
+            None
+        }
+        Err(why) => Some(why),
+    }
+}
+
+#[test]
+fn another_title_is_not_opened(rt: HostRuntime) {
+    let alloc = rt.alloc();
+    let other = Some(OpenError::NotFormatted);
+    assert_eq!(rt; error_by(&rt, alloc, b"node"), None);
+    assert_eq!(rt; error_by(&rt, alloc, b"nods"), other);
+}
+
+fn try_to_fill(rt: &impl Abort, alloc: Global, durable: &mut Durable<BackupNode, StopDisk>) {
+    assert_eq!(rt; keeps(rt, alloc, durable, 2), Err(DurableError::Full));
+    assert_eq!(rt; keeps(rt, alloc, durable, 1), Ok(1));
+    assert_eq!(rt; keeps(rt, alloc, durable, 1), Err(DurableError::Full));
+}
+
+/// A message has 49 bytes, a batch 13 more, the title and the last gate 5: with a fourth message the journal has 227.
+#[test]
+fn a_journal_may_be_full(rt: HostRuntime) {
+    let alloc = rt.alloc();
+    let disk = disk_of_three(&rt, alloc);
+    let opened = opened_as(alloc, disk, TITLE, backup(alloc), 227);
+    let mut durable = opened.expect(&rt, "no journal");
+    try_to_fill(&rt, alloc, &mut durable);
+    drop(durable);
+}

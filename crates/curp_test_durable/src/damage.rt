@@ -1,0 +1,262 @@
+// Journals by their bytes, which were written by hand: the checksums by another program.
+use crate::build::{add, begin, nudged, numbers, opened};
+use curp_base::{Items, Shared};
+use curp_changes::Shape;
+use curp_cmd::{Command, Key, NodeId, Request, RequestId};
+use curp_disk::{Did, Disk, MemoryDisk};
+use curp_durable::OpenError;
+use curp_journal::{Arrived, Named};
+use curp_msg::{Body, Config, Core, Local, Message, Protocol, Record};
+use curp_nodes::{BackupNode, ClientNode, ManagerNode, MasterNode, WitnessNode};
+use std::alloc::Global;
+use std::process::Abort;
+
+/// Three batches: an expiry; a fence for a backup, and a record for a witness; a fetch by a client, and a nudge.
+static JOURNAL: [u8; 191] = [
+    b'n', b'o', b'd', b'e', //
+    1, 0, 0, 0, 22, //
+    1, 5, 0, 0, 0, 1, 0, 0, 0, 0, 0, 0, 0, 0, //
+    73, 67, 109, 56, 167, 114, 63, 40, //
+    1, 0, 0, 0, 121, //
+    0, 2, 0, 0, 0, 2, 0, 0, 0, 0, 0, 0, 0, 1, 0, 0, 0, 0, 0, 0, 0, 1, 0, 0, 0, 0, 0, 0, 0, 7, 0, 0,
+    0, 15, 19, //
+    2, 0, 0, 0, 2, 3, 0, 0, 0, 1, 0, 0, 0, 5, //
+    0, 1, 0, 0, 0, 1, 0, 0, 0, 0, 0, 0, 0, 3, 0, 0, 0, 0, 0, 0, 0, 2, 0, 0, 0, 0, 0, 0, 0, 4, 0, 0,
+    0, 30, 4, 1, //
+    0, 0, 0, 1, 4, 0, 0, 0, 1, 0, 0, 0, 1, 0, 0, 0, 2, 0, 0, 0, 2, 1, 1, 97, 0, 0, 0, 5, //
+    120, 217, 249, 132, 173, 237, 202, 244, //
+    1, 0, 0, 0, 28, //
+    1, 8, 0, 0, 0, 0, 0, 0, 0, 0, //
+    1, 4, 0, 0, 0, 0, 0, 0, 0, 9, //
+    65, 126, 89, 187, 159, 130, 90, 238, //
+    0,
+];
+
+fn in_memory(rt: &impl Abort, alloc: Global) -> MemoryDisk {
+    MemoryDisk::new(alloc, &[]).expect(rt, "no memory")
+}
+
+// ---- what is written
+
+fn first(rt: &impl Abort, alloc: Global) -> Vec<Arrived> {
+    let mut batch = Vec::new(alloc);
+    add(rt, &mut batch, Arrived::Local(Local::Expire(1), 0));
+    batch
+}
+
+fn second(rt: &impl Abort, alloc: Global) -> Vec<Arrived> {
+    let mut batch = Vec::new(alloc);
+    add(rt, &mut batch, fence());
+    add(rt, &mut batch, record(rt, alloc));
+    batch
+}
+
+fn third(rt: &impl Abort, alloc: Global) -> Vec<Arrived> {
+    let mut batch = Vec::new(alloc);
+    add(rt, &mut batch, Arrived::Local(Local::Fetch, 0));
+    add(rt, &mut batch, Arrived::Local(Local::Nudge, 9));
+    batch
+}
+
+fn fence() -> Arrived {
+    Arrived::Message(Named {
+        from: NodeId::master(2),
+        step: 1,
+        place: 1,
+        stamp: 7,
+        message: Message {
+            from: NodeId::master(2),
+            to: NodeId::backup(1),
+            body: Body::Fence { epoch: 5 },
+        },
+    })
+}
+
+fn record(rt: &impl Abort, alloc: Global) -> Arrived {
+    let key = Key::new(b"a").expect(rt, "no key");
+    let request = Request {
+        id: RequestId { client: 1, seq: 2 },
+        first: 2,
+        command: Command::Get(key),
+    };
+    let request = Shared::new(alloc, request).ok().expect(rt, "no memory");
+    Arrived::Message(Named {
+        from: NodeId::client(1),
+        step: 3,
+        place: 2,
+        stamp: 4,
+        message: Message {
+            from: NodeId::client(1),
+            to: NodeId::witness(1),
+            body: Body::Record(Record { request, epoch: 5 }),
+        },
+    })
+}
+
+fn is_read(disk: &mut MemoryDisk, buf: &mut [u8], count: usize) -> bool {
+    disk.read(0, buf) == Did::Done(count)
+}
+
+/// Whether the disk has just these bytes.
+fn has_bytes(mut disk: MemoryDisk, bytes: &[u8]) -> bool {
+    let mut buf = [0; 200];
+    let is_read = is_read(&mut disk, &mut buf, bytes.len());
+    drop(disk);
+    is_read && buf.starts_with(bytes)
+}
+
+/// The disk of a journal of the three batches.
+fn written(rt: &impl Abort, alloc: Global) -> MemoryDisk {
+    let mut disk = in_memory(rt, alloc);
+    begin(rt, alloc, &mut disk);
+    let mut durable = opened(alloc, disk, backup(alloc)).expect(rt, "no journal");
+    for batch in [first(rt, alloc), second(rt, alloc), third(rt, alloc)] {
+        assert!(rt; numbers(alloc, &mut durable, batch).is_ok());
+    }
+    durable.into_disk()
+}
+
+#[test]
+fn a_journal_is_written_so(rt: HostRuntime) {
+    let disk = written(&rt, rt.alloc());
+    assert!(rt; has_bytes(disk, &JOURNAL));
+}
+
+// ---- nodes of each kind
+
+fn manager(rt: &impl Abort, alloc: Global) -> ManagerNode {
+    let shape = Shape {
+        f: 1,
+        parts: 1,
+        clients: 64,
+    };
+    ManagerNode::new(alloc, &shape).expect(rt, "no memory")
+}
+
+fn client(alloc: Global) -> ClientNode {
+    let config = Config {
+        serial: 1,
+        parts: Items::new(Vec::new(alloc)),
+    };
+    ClientNode::new(alloc, 1, true, Protocol::One, config)
+}
+
+fn backup(alloc: Global) -> BackupNode {
+    BackupNode::new(alloc, 1, 1)
+}
+
+fn witness(rt: &impl Abort, alloc: Global) -> WitnessNode {
+    WitnessNode::new(alloc, 1, 16, 4, 1)
+        .ok()
+        .expect(rt, "no memory")
+}
+
+// ---- what is read
+
+/// A disk of these bytes.
+fn disk_of(rt: &impl Abort, alloc: Global, bytes: &[u8]) -> MemoryDisk {
+    let mut disk = in_memory(rt, alloc);
+    assert!(rt; disk.write_at(0, bytes) == Did::Done(bytes.len()));
+    disk
+}
+
+/// How many inputs the node took by these bytes, and how many messages it then sends on a nudge.
+fn took<N: Core + Drop>(
+    rt: &impl Abort,
+    alloc: Global,
+    bytes: &[u8],
+    node: N,
+) -> Result<(u64, usize), OpenError> {
+    let mut durable = opened(alloc, disk_of(rt, alloc, bytes), node)?;
+    let told = nudged(rt, alloc, &mut durable);
+    drop(durable);
+    Ok(told)
+}
+
+fn with_sent(count: Result<u64, OpenError>, sent: usize) -> Result<(u64, usize), OpenError> {
+    match count {
+        Ok(count) => Ok((count, sent)),
+        Err(why) => Err(why),
+    }
+}
+
+fn try_told(
+    rt: &impl Abort,
+    told: Result<(u64, usize), OpenError>,
+    wanted: Result<u64, OpenError>,
+    sent: usize,
+) {
+    assert_eq!(rt; told, with_sent(wanted, sent));
+}
+
+/// By the first of the inputs one client is gone, so the manager then sends one message more on a nudge.
+fn try_manager(rt: &impl Abort, alloc: Global, bytes: &[u8], wanted: Result<u64, OpenError>) {
+    let sent = if wanted == Ok(0) { 2 } else { 3 };
+    try_told(rt, took(rt, alloc, bytes, manager(rt, alloc)), wanted, sent);
+}
+
+/// Each kind of node took so many inputs by the bytes, or they are no journal for this reason.
+fn try_bytes(rt: &impl Abort, alloc: Global, bytes: &[u8], wanted: Result<u64, OpenError>) {
+    try_manager(rt, alloc, bytes, wanted);
+    try_told(rt, took(rt, alloc, bytes, client(alloc)), wanted, 0);
+    try_told(
+        rt,
+        took(rt, alloc, bytes, MasterNode::fresh(alloc, 1)),
+        wanted,
+        0,
+    );
+    try_told(rt, took(rt, alloc, bytes, backup(alloc)), wanted, 0);
+    try_told(rt, took(rt, alloc, bytes, witness(rt, alloc)), wanted, 0);
+}
+
+fn damaged(place: u64) -> Result<u64, OpenError> {
+    Err(OpenError::Damaged { place })
+}
+
+/// How a journal opens that ends here.
+fn of_prefix(end: usize) -> Result<u64, OpenError> {
+    match end {
+        0..=4 => Err(OpenError::NotFormatted),
+        5..=31 => damaged(4),
+        32..=157 => damaged(31),
+        158..=190 => damaged(157),
+        _ => Ok(5),
+    }
+}
+
+#[test]
+fn a_journal_may_be_cut_anywhere(rt: HostRuntime) {
+    for end in 0..=191 {
+        try_bytes(&rt, rt.alloc(), &JOURNAL[..end], of_prefix(end));
+    }
+}
+
+/// How a journal opens whose byte at this place has some bits turned, the lowest among them or not.
+fn of_change(place: usize, lowest: bool) -> Result<u64, OpenError> {
+    match place {
+        0..=3 => Err(OpenError::NotFormatted),
+        4 => Ok(0),
+        5..=30 => damaged(4),
+        31 => Ok(1),
+        32..=156 => damaged(31),
+        157 => Ok(3),
+        158..=189 => damaged(157),
+        _ => { if lowest { damaged(190) } else { Ok(5) } }
+    }
+}
+
+/// Turns these bits of each byte, one byte a time.
+fn try_bits(rt: &impl Abort, alloc: Global, bits: u8) {
+    for place in 0..191 {
+        let mut bytes = JOURNAL;
+        bytes[place] ^= bits;
+        try_bytes(rt, alloc, &bytes, of_change(place, bits == 1));
+    }
+}
+
+#[test]
+fn each_byte_may_be_another(rt: HostRuntime) {
+    for bits in [1, 128, 254] {
+        try_bits(&rt, rt.alloc(), bits);
+    }
+}

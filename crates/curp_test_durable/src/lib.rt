@@ -1,0 +1,12 @@
+//! Tests of the journals of nodes by the public calls: crashes, what is refused, and bytes that are written by hand, cut
+//! or changed.
+#![tactic(auto)]
+
+#[cfg(test)]
+mod build;
+#[cfg(test)]
+mod crashes;
+#[cfg(test)]
+mod damage;
+#[cfg(test)]
+mod orders;
