@@ -1,0 +1,5 @@
+pub mod Buffers
+pub mod Formats
+pub mod Found
+pub mod Lengths
+pub mod Reading

@@ -1,0 +1,4 @@
+pub mod Buffer
+pub mod Outgoing
+pub mod Parcels
+pub mod Reading

@@ -1,0 +1,27 @@
+//! Laws of parcels. Each is the contract of a function that does nothing: a caller has it by calling that function.
+ghost use Rattle.std.specs.Prelude.{◌≡◌, ◌++◌, ℕ, List};
+ghost use Rattle.curp_journal.specs.declared.arrived.Arrived.{Arrived};
+ghost use Rattle.curp_parcels.specs.Outgoing.{outgoing};
+ghost use Rattle.curp_parcels.specs.Parcels.{IsParcel, incoming};
+ghost use Rattle.curp_parcels.specs.Reading.{StandsFirst};
+ghost use Rattle.curp_parcels.specs.declared.outgoing.Outgoing.{Outgoing};
+
+/// No parcel begins another, and a parcel has one arrival.
+pub fn no_arrival_begins_another()
+    ensures { (one other : Arrived) (front front_other rest rest_other : List ℕ) → IsParcel incoming one front
+        → IsParcel incoming other front_other → front ++ rest ≡ front_other ++ rest_other
+        → (one ≡ other) × (rest ≡ rest_other) }
+{}
+
+/// The same of what goes out.
+pub fn no_saying_begins_another()
+    ensures { (one other : Outgoing) (front front_other rest rest_other : List ℕ) → IsParcel outgoing one front
+        → IsParcel outgoing other front_other → front ++ rest ≡ front_other ++ rest_other
+        → (one ≡ other) × (rest ≡ rest_other) }
+{}
+
+/// The bytes of an input that stand first behind their length are the same however they are looked at.
+pub fn one_stands_first()
+    ensures { (bytes one other rest rest_other : List ℕ) → StandsFirst bytes one rest → StandsFirst bytes other rest_other
+        → (one ≡ other) × (rest ≡ rest_other) }
+{}
