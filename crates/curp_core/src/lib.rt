@@ -49,10 +49,10 @@
 //! | `Nudge` | the manager | what it sent may be lost, as after it was opened again: it sends again all that it waits for |
 //! | `Migrate`, `Expire` | the manager | hashes are to move; a client is gone for good |
 //!
-//! The nodes have no policy of their own. That of `curp live` is in `curp_live/src/chores.rt`: a client has at most 4
-//! requests pending, and retries all of them in order after each configuration (`MOST_PENDING`, `ClientChores`); a master
-//! is ordered `Sync` after each 8 updates and syncs that come, and behind it `Collect` after each 32 (`SYNC_AFTER`,
-//! `COLLECT_AFTER`, `MasterChores`). Clients are ordered `Fetch` once a recovered master serves.
+//! The nodes have no policy of their own. That of `curp live` has its numbers in `policy`, and its code in
+//! `curp_live/src/chores.rt`: a client has at most `PENDING_AT_ONCE` requests pending, and retries all of them in order
+//! after each configuration; a master is ordered `Sync` after each `SYNC_AFTER` updates and syncs that come, and behind it
+//! `Collect` after each `COLLECT_AFTER`. Clients are ordered `Fetch` once a recovered master serves.
 //!
 //! # What an embedder owes
 //!
@@ -60,11 +60,11 @@
 //!
 //! - **A number is used once.** No two nodes of a kind ever have the same one, also not one after the other: what a
 //!   stopped node said still counts. A client that lost its state is a new one.
-//! - **After a restart a journal is opened; `new` is for the first time alone.** Today only the manager has a journal
-//!   (`manager_log`). A master, a backup or a witness that lost its state is gone: its partition is recovered, or it is
-//!   replaced.
-//! - **What is answered goes out once it is kept.** `manager_log::Logged::on` answers only then. Who keeps a journal of
-//!   another node writes the input before `sent` and `completed` go anywhere.
+//! - **After a restart a journal is opened; `new` is for the first time alone.** Any node may have a journal (`durable`).
+//!   A master, a backup or a witness that lost its state is gone: its partition is recovered, or it is replaced.
+//! - **What is answered goes out once it is kept.** `Durable::on_all` answers only then; what was answered before a crash
+//!   is dropped when the journal is opened, and the protocol sends it again. Who keeps a journal of another kind writes
+//!   the input before `sent` and `completed` go anywhere.
 //! - **Fresh nodes are made before their messages come**, with the numbers that the manager would give next, taken before
 //!   the order: `next_master()`, and `keepers()` numbers from `next_backup()` and from `next_witness()` on for a
 //!   `Recover`, one for a `Replace`. Where the order is refused they wait for the next one.
@@ -73,10 +73,16 @@
 //!
 //! - `frames`: `encode` spells a message where `is_light` says that it may be; `decode` finds the message that bytes begin
 //!   with and its length, or says how many bytes are needed (`FrameError::Short`). No frame has a checksum.
-//! - `journal`: an `Item` is what came to a node, and what it did then. They are types in memory; nothing writes them.
-//! - `manager_log`: `format` writes an empty journal to a `Disk`, `Logged::open` opens it, `Logged::on` takes the place of
-//!   `on`. A disk that refused a call is taken out (`into_disk`) and opened again. Disks here are in memory; one over a
-//!   file is an `impl Disk` of yours, with its clauses.
+//! - `journal`: an `Item` is what came to a node, and what it did then; a message comes with its sender's name for it, and
+//!   an order with a stamp (`Arrived`).
+//! - `durable`: a journal of any node on any disk. `format` writes an empty one under a title (`title_of` makes that of a
+//!   node of a header), once; `Durable::open` gives a fresh node the inputs that stand there; `Durable::on_all` takes the
+//!   place of `on`, for as many inputs as there are at a time: they cost two syncs together. After an error that leaves it
+//!   `spent` the disk is taken out (`into_disk`) and opened again. Disks: `FileDisk` is a file of the system; `MemoryDisk`
+//!   and `StopDisk` are for tests, and tell their bytes, so that all clauses hold over them without a premise.
+//! - `manager_log`: the manager's journal as `curp manage` has it, over disks that tell their bytes (`TellingDisk`).
+//! - `world`: all nodes of a header, every message that was ever sent, and one order of the requests, step by step: for
+//!   tests of yours that ask what the nodes do with a sequence of messages, losses and stops, as `curp play` does.
 #![tactic(auto)]
 
 pub use curp_base::{Boxed, Items, NoMemory, Shared};
@@ -115,9 +121,28 @@ pub mod journal {
     pub use curp_journal::{Arrived, Item, Named};
 }
 
-/// The manager's journal on a disk.
+/// The numbers of a policy: when orders are given.
+pub mod policy {
+    pub use curp_policy::{COLLECT_AFTER, PENDING_AT_ONCE, SYNC_AFTER};
+}
+
+/// A world of nodes that takes the steps of a script.
+pub mod world {
+    pub use curp_world::{BeginError, FieldName, Header, Outcome, Step, StepResult, World};
+}
+
+/// A journal of any node, on any disk.
+pub mod durable {
+    pub use curp_disk::{Did, Disk, FileDisk, FileError, Long, MemoryDisk, StopDisk};
+    pub use curp_durable::{
+        Answered, Durable, DurableError, FormatError, OpenError, OpenFailed, SIZE_LIMIT, format,
+    };
+    pub use curp_title::{Title, title_in, title_of};
+}
+
+/// The manager's journal on a disk that tells its bytes.
 pub mod manager_log {
-    pub use curp_disk::{Did, Disk, Long, MemoryDisk, StopDisk};
+    pub use curp_disk::{MemoryDisk, StopDisk, TellingDisk};
     pub use curp_mlog::{
         FormatError, Logged, LoggedError, OpenError, OpenFailed, SIZE_LIMIT, format,
     };
