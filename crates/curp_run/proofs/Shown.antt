@@ -1,25 +1,27 @@
 -- A run of journals shows the work that was done.
 use Rattle.std.proofs.Common.{◌≡◌, ℕ, zero, suc, ◌+◌, ◌≤◌, List, length, map, refl, ap, sym, ◌∙◌, subst, arith}
 use Rattle.curp_base.specs.Words.{At, numbers_from}
-use Rattle.curp_base.proofs.Lists.{Each-at, at_append, at_map, at_some}
+use Rattle.curp_base.proofs.Lists.{Each-at, Each-weaker, at_append, at_map, at_some}
 use Rattle.curp_base.proofs.Numbered.{numbers_at}
 use Rattle.curp_cmd.specs.Node.{client_node}
 use Rattle.curp_msg.specs.Moved.{Node}
 use Rattle.curp_msg.specs.declared.script.Step.{Step}
+use Rattle.curp_msg.specs.declared.script.Step.TheVariants as steps
 use Rattle.curp_journal.specs.Journal.{NodeJournal}
 use Rattle.curp_model.specs.Client.{ClientState}
 use Rattle.curp_model.specs.World.{opening}
 use Rattle.curp_turns.specs.Work.{DidWork}
-use Rattle.curp_law_weave.proofs.Shown.{completed_are, invocations_are, recoveries_are}
+use Rattle.curp_law_weave.proofs.Shown.{completed_are, invocations_are, recoveries_are, stopped_are}
+use Rattle.curp_law_weave.specs.Run.{StopsEnded}
 use Rattle.curp_gather.specs.Journals.{IsClientJournal, IsScriptOf, journal_of, journals_of}
 use Rattle.curp_gather.specs.declared.journals.Journals.{Journals}
 use Rattle.curp_gen.specs.Commands.{workload_of}
 use Rattle.curp_gen.proofs.Workloads.{length-workload}
-use Rattle.curp_anew.specs.Live.{IsLiveRun}
+use Rattle.curp_anew.specs.Live.{IsLiveRun, stops}
 use Rattle.curp_words.specs.Plan.{live_header}
 use Rattle.curp_opening.proofs.Numbers.{named_length}
 use Rattle.curp_words.specs.declared.task.LivePlan.{LivePlan}
-use Rattle.curp_run.specs.Live.{Shows, work_of}
+use Rattle.curp_run.specs.Live.{Shows, StopsAsPlanned, work_of}
 use Rattle.curp_run.proofs.Stops.{run_prints}
 
 module _ (plan : LivePlan) (j : Journals) (ss : List Step) (run : IsLiveRun plan (work_of plan) j) (script : IsScriptOf (live_header plan) (journals_of j) ss) where
@@ -49,6 +51,21 @@ module _ (plan : LivePlan) (j : Journals) (ss : List Step) (run : IsLiveRun plan
         did = subst (λ (n : ℕ). DidWork n (workload_of plan.number n plan.commands) (found.0).items) (sym e) (subst (λ (n : ℕ). DidWork (k + 1) (workload_of plan.number n plan.commands) (found.0).items) (one ∙ e) did.1);
       }
 
+  -- a node whose journal has a last stop is one that the plan stops
+  planned : (s : Step) → StopsEnded (journals_of j) s → StopsAsPlanned plan s
+  planned (steps.Stop node) h = ap (stops plan) (sym h.its_name) ∙ (sym (run.stopped h.place h.journal h.stands) ∙ h.ended)
+  planned (steps.Invoke n command) h = tt
+  planned (steps.Deliver number) h = tt
+  planned (steps.Retry n seq) h = tt
+  planned (steps.Fetch n) h = tt
+  planned (steps.Sync n) h = tt
+  planned (steps.Collect n) h = tt
+  planned (steps.Recover part backup witness) h = tt
+  planned (steps.Replace keeper part place) h = tt
+  planned (steps.Migrate lo hi to) h = tt
+  planned steps.Nudge h = tt
+  planned (steps.Expire n) h = tt
+
   pub shown : Shows plan ss
   shown = record {
     invoked = λ n low high.
@@ -59,5 +76,6 @@ module _ (plan : LivePlan) (j : Journals) (ss : List Step) (run : IsLiveRun plan
         let many : length (workload_of plan.number n plan.commands) ≡ plan.commands = length-workload plan.number n plan.commands in
         completed_are (journals_of j) (live_header plan) ss script.placed script.run w.k (journal_of w.log) (record { client = n; seq = seq }) w.stands (w.did.completed seq first (omega (arith, many, last)));
     recovered = recoveries_are (journals_of j) (live_header plan) ss script.placed script.run 0 (journal_of j.manager) refl run.are.manager.its_name ∙ run.recoveries;
+    stopped = Each-weaker (StopsEnded (journals_of j)) (StopsAsPlanned plan) planned ss (stopped_are (journals_of j) (live_header plan) ss script.placed script.run);
     printable = run_prints (opening (live_header plan)) ss script.placed script.run.runs;
   }

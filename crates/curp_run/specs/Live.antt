@@ -1,16 +1,18 @@
 -- What `live` writes, and what the script in it shows of the work.
-use Rattle.std.specs.Prelude.{◌≡◌, ◌≢◌, ◌≤◌, ◌⊎◌, ℕ, List, [], ◌∷◌, ◌++◌, map, Some}
+use Rattle.std.specs.Prelude.{◌≡◌, ◌≢◌, ◌≤◌, ◌⊎◌, ℕ, List, [], ◌∷◌, ◌++◌, map, Some, true, ⊤}
 use Rattle.curp_base.specs.Words.{Each, numbers_from}
 use Rattle.curp_io.specs.Streams.{HoldsPart}
 use Rattle.curp_cmd.specs.declared.command.Command.{Command}
 use Rattle.curp_msg.specs.Limits.{step_limit, weight_limit}
 use Rattle.curp_msg.specs.declared.script.Step.{Step}
+use Rattle.curp_msg.specs.declared.script.Step.TheVariants.{Stop}
 use Rattle.curp_script.specs.Printed.{NamesNode}
 use Rattle.curp_script.specs.Script.{Script, Whole}
 use Rattle.curp_script.specs.Texts.{script_lines}
 use Rattle.curp_model.specs.World.{world}
 use Rattle.curp_turns.specs.Turns.{Journal}
 use Rattle.curp_turns.specs.Work.{invocations, recoveries}
+use Rattle.curp_anew.specs.Live.{stops}
 use Rattle.curp_merge.specs.Held.{AllHeld}
 use Rattle.curp_merge.specs.Merging.{turn_count, weight_sent}
 use Rattle.curp_gather_ruled.specs.Causes.{IsRuledCause}
@@ -27,13 +29,19 @@ use Rattle.curp_runner.specs.Reading.{script_in}
 abbrev pub work_of : LivePlan → List (List Command)
 work_of plan = map (λ n. workload_of plan.number n plan.commands) (numbers_from 1 plan.clients)
 
+-- where a step stops a node, the plan stops it: a master that a recovery with an odd number replaces
+abbrev pub StopsAsPlanned : LivePlan → Step → Type 0
+StopsAsPlanned plan (Stop node) = stops plan node ≡ true
+StopsAsPlanned plan _ = ⊤
+
 -- In the steps each client invokes its workload in order, and each of these requests completes. As many recoveries are
--- ordered as the plan asks, and each step can be printed
+-- ordered as the plan asks, no node is stopped that the plan doesn't stop, and each step can be printed
 pub record Shows (plan : LivePlan) (steps : List Step) : Type 0 where
   pub invoked : (n : ℕ) → 1 ≤ n → n ≤ plan.clients → invocations n steps ≡ workload_of plan.number n plan.commands
   pub completed : (n seq : ℕ) → 1 ≤ n → n ≤ plan.clients → 1 ≤ seq → seq ≤ plan.commands
       → IsCompletedBy (live_header plan) steps (record { client = n; seq = seq })
   pub recovered : recoveries steps ≡ plan.recoveries
+  pub stopped : Each (StopsAsPlanned plan) steps
   pub printable : Each NamesNode steps
 
 -- journals are a script that is short and light enough to be played

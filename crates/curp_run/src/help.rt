@@ -12,8 +12,8 @@ curp plays, makes and checks runs of a store that keeps completed updates throug
 \n\
 \x20 curp play [--history]    reads a script, and prints what each step does, and an order of the requests\n\
 \x20 curp make [options]      prints a made script, for play\n\
-\x20 curp live [options]      runs the nodes on threads, and prints the script of what they did and what play prints for it\n\
-\x20 curp check               reads a history and an order, and prints yes where the order is one of the history, else no\n\
+\x20 curp live [options]      runs nodes on threads; prints the script of what they did, and what play prints for it\n\
+\x20 curp check               reads a history and an order; prints yes where the order is one of the history, else no\n\
 \x20 curp resp [options]      reads requests of Redis' protocol, and prints the replies of a cluster\n\
 \x20 curp manage              reads orders for a manager whose journal is kept, and prints what it does\n\
 \n\

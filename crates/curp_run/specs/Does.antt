@@ -19,8 +19,8 @@ use Rattle.curp_resp.specs.Input.{Decomposes}
 use Rattle.curp_resp.specs.Meaning.{meaning}
 use Rattle.curp_run.specs.Live.{IsLive, IsLiveFront}
 use Rattle.curp_run.specs.Run.{EndsMade, IsOfMaking}
-use Rattle.curp_script.specs.Script.{Whole}
-use Rattle.curp_session.specs.Session.{EndsSession, commands_in, replies_of_one_thread, session, session_text}
+use Rattle.curp_script.specs.Script.{Ending, Whole}
+use Rattle.curp_session.specs.Session.{EndsSession, ShowsReplied, commands_in, replies_of_one_thread, session, session_text}
 use Rattle.curp_words.specs.declared.task.LivePlan.{LivePlan}
 use Rattle.curp_words.specs.declared.task.MakePlan.{MakePlan}
 use Rattle.curp_words.specs.declared.task.Output.{Output}
@@ -35,7 +35,7 @@ use Rattle.curp_words.specs.declared.task.Task.TheVariants.{Play, Make, Live, Ch
 
 -- what a source tells of a run: whether it tells its bytes, which were left before the run and behind it, and its counts
 -- of faults
-pub record Took : Type 0 where
+pub record TookBytes : Type 0 where
   pub tells : Bool
   pub before : List ℕ
   pub after : List ℕ
@@ -43,7 +43,7 @@ pub record Took : Type 0 where
   pub faults_after : ℕ
 
 -- the same of any source, by what its kind tells, and by what it was before and behind the run
-abbrev pub took_of : {A : Type 0} → (A → Bool) → (A → List ℕ) → (A → ℕ) → (old new : A) → Took
+abbrev pub took_of : {A : Type 0} → (A → Bool) → (A → List ℕ) → (A → ℕ) → (old new : A) → TookBytes
 took_of tells left faults old new = record {
   tells = tells old;
   before = left old;
@@ -54,7 +54,7 @@ took_of tells left faults old new = record {
 
 -- what a sink tells of a run: whether it tells its bytes, what it held before the run and holds behind it, whether all of
 -- that was passed on, and its counts of faults
-pub record Wrote : Type 0 where
+pub record WroteBytes : Type 0 where
   pub tells : Bool
   pub before : List ℕ
   pub after : List ℕ
@@ -62,7 +62,7 @@ pub record Wrote : Type 0 where
   pub faults_before : ℕ
   pub faults_after : ℕ
 
-abbrev pub wrote_of : {A : Type 0} → (A → Bool) → (A → List ℕ) → (A → Bool) → (A → ℕ) → (old new : A) → Wrote
+abbrev pub wrote_of : {A : Type 0} → (A → Bool) → (A → List ℕ) → (A → Bool) → (A → ℕ) → (old new : A) → WroteBytes
 wrote_of tells held flushed faults old new = record {
   tells = tells old;
   before = held old;
@@ -72,38 +72,41 @@ wrote_of tells held flushed faults old new = record {
   faults_after = faults new;
 }
 
+-- what it wrote is passed on, or it wrote nothing
+abbrev pub IsPassedOn : WroteBytes → Type 0
+IsPassedOn wrote = (wrote.flushed ≡ true) ⊎ (wrote.after ≡ wrote.before)
+
 -- ---- what each word does
 
--- `play`: the text of the script
-pub record Played (took : Took) (wrote : Wrote) (s : Status) : Type 0 where
+-- a script is read line by line, and done: it ends so, and that is its whole text
+pub record DoesScript (ending : Ending) (whole : List ℕ) (took : TookBytes) (wrote : WroteBytes) (s : Status) : Type 0 where
   -- it ends as the script does, unless a fault or want of memory cuts it short
-  pub ends : took.tells ≡ true → is_cut_short s ≡ false → s ≡ status_of (script_in took.before).body.ending
+  pub ends : took.tells ≡ true → is_cut_short s ≡ false → s ≡ status_of ending
   pub end : took.tells ≡ true → s ≡ status.Ok → took.after ≡ []
-  pub complete : took.tells ≡ true → (script_in took.before).body.ending ≡ Whole
+  pub complete : took.tells ≡ true → ending ≡ Whole
       → EndsWhole s took.faults_before took.faults_after wrote.faults_before wrote.faults_after
   -- the text of the script; where it is cut short, a front of the text
-  pub text : took.tells ≡ true → wrote.tells ≡ true → is_cut_short s ≡ false
-      → wrote.after ≡ wrote.before ++ text_of (script_in took.before)
-  pub front : took.tells ≡ true → wrote.tells ≡ true → HoldsPart wrote.before wrote.after (text_of (script_in took.before))
+  pub text : took.tells ≡ true → wrote.tells ≡ true → is_cut_short s ≡ false → wrote.after ≡ wrote.before ++ whole
+  pub front : took.tells ≡ true → wrote.tells ≡ true → HoldsPart wrote.before wrote.after whole
+
+-- `play`: the text of the script
+pub record PlaysScript (took : TookBytes) (wrote : WroteBytes) (s : Status) : Type 0 where
+  pub does : DoesScript (script_in took.before).body.ending (text_of (script_in took.before)) took wrote s
   -- where reading failed, the text of the whole lines that were taken
   pub at_fault : took.tells ≡ true → wrote.tells ≡ true → s ≡ status.ReadFault
       → HoldsWholeLines took.before took.after wrote.before wrote.after
+  -- before it waited for more input it had passed on what it wrote
+  pub passed_on : s ≡ status.ReadFault → IsPassedOn wrote
   -- the order that it prints is one of the history
   pub order : took.tells ≡ true → s ≡ status.Ok → HasAnOrder (script_in took.before)
 
 -- `play --history`: the lines of what clients saw and of the order, which `check` reads back and says yes to
-pub record ToldHistory (took : Took) (wrote : Wrote) (s : Status) : Type 0 where
-  pub ends : took.tells ≡ true → is_cut_short s ≡ false → s ≡ status_of (script_in took.before).body.ending
-  pub end : took.tells ≡ true → s ≡ status.Ok → took.after ≡ []
-  pub complete : took.tells ≡ true → (script_in took.before).body.ending ≡ Whole
-      → EndsWhole s took.faults_before took.faults_after wrote.faults_before wrote.faults_after
-  pub text : took.tells ≡ true → wrote.tells ≡ true → is_cut_short s ≡ false
-      → wrote.after ≡ wrote.before ++ claim_of (script_in took.before)
-  pub front : took.tells ≡ true → wrote.tells ≡ true → HoldsPart wrote.before wrote.after (claim_of (script_in took.before))
+pub record TellsHistory (took : TookBytes) (wrote : WroteBytes) (s : Status) : Type 0 where
+  pub does : DoesScript (script_in took.before).body.ending (claim_of (script_in took.before)) took wrote s
   pub order : took.tells ≡ true → s ≡ status.Ok → IsClaimOfOrder (claim_of (script_in took.before))
 
 -- `make`: what the plan gives, or a front of it
-pub record Made (plan : MakePlan) (form : Output) (wrote : Wrote) (s : Status) : Type 0 where
+pub record MakesScript (plan : MakePlan) (form : Output) (wrote : WroteBytes) (s : Status) : Type 0 where
   pub of_making : IsOfMaking s
   pub complete : EndsMade s wrote.faults_before wrote.faults_after
   pub text : wrote.tells ≡ true → s ≡ status.Ok → wrote.after ≡ wrote.before ++ made_text plan form
@@ -113,14 +116,14 @@ pub record Made (plan : MakePlan) (form : Output) (wrote : Wrote) (s : Status) :
 
 -- `live`: a script, an empty line, and what `play` writes for that script. In the script each client invokes its workload in
 -- order, and each of these requests completes
-pub record Lived (plan : LivePlan) (wrote : Wrote) (s : Status) : Type 0 where
+pub record RunsLive (plan : LivePlan) (wrote : WroteBytes) (s : Status) : Type 0 where
   pub of_making : IsOfMaking s
   pub complete : EndsMade s wrote.faults_before wrote.faults_after
   pub text : wrote.tells ≡ true → s ≡ status.Ok → IsLive plan wrote.before wrote.after
   pub front : wrote.tells ≡ true → IsLiveFront plan wrote.before wrote.after
 
 -- `check`: the verdict on the claim, read to its end, or on the first line that is refused, is too long or is one too many
-pub record Judged (took : Took) (wrote : Wrote) (s : Status) : Type 0 where
+pub record JudgesClaim (took : TookBytes) (wrote : WroteBytes) (s : Status) : Type 0 where
   pub ends : took.tells ≡ true → is_cut_short s ≡ false → EndsAs took.before s
   -- yes exactly where the order is one of the history, and else the first clause that fails
   pub yes : took.tells ≡ true → is_cut_short s ≡ false → (s ≡ status.Ok) ↔ IsClaimOfOrder took.before
@@ -133,20 +136,14 @@ pub record Judged (took : Took) (wrote : Wrote) (s : Status) : Type 0 where
   pub front : took.tells ≡ true → wrote.tells ≡ true → IsJudgedFront took.before wrote.before wrote.after
 
 -- `manage`: what the manager's definition says over the inputs that are kept
-pub record Managed (took : Took) (wrote : Wrote) (s : Status) : Type 0 where
-  pub ends : took.tells ≡ true → is_cut_short s ≡ false → s ≡ status_of (manage_script_in took.before).body.ending
-  pub end : took.tells ≡ true → s ≡ status.Ok → took.after ≡ []
-  pub complete : took.tells ≡ true → (manage_script_in took.before).body.ending ≡ Whole
-      → EndsWhole s took.faults_before took.faults_after wrote.faults_before wrote.faults_after
-  pub text : took.tells ≡ true → wrote.tells ≡ true → is_cut_short s ≡ false
-      → wrote.after ≡ wrote.before ++ managed_of (manage_script_in took.before)
-  pub front : took.tells ≡ true → wrote.tells ≡ true
-      → HoldsPart wrote.before wrote.after (managed_of (manage_script_in took.before))
+pub record ManagesOrders (took : TookBytes) (wrote : WroteBytes) (s : Status) : Type 0 where
+  pub does : DoesScript (manage_script_in took.before).body.ending (managed_of (manage_script_in took.before)) took wrote s
   pub at_fault : took.tells ≡ true → wrote.tells ≡ true → s ≡ status.ReadFault
       → HoldsManaged took.before took.after wrote.before wrote.after
+  pub passed_on : s ≡ status.ReadFault → IsPassedOn wrote
 
 -- `resp`: the replies to the requests, or the script of the steps that serve them
-pub record AnsweredRequests (plan : RespPlan) (took : Took) (wrote : Wrote) (s : Status) : Type 0 where
+pub record AnswersRequests (plan : RespPlan) (took : TookBytes) (wrote : WroteBytes) (s : Status) : Type 0 where
   -- it ends by the first limit that is met, or as the input does
   pub ends : (requests : List (List (List ℕ))) (rest : List ℕ) → took.tells ≡ true → Decomposes requests took.before rest
       → is_cut_short s ≡ false
@@ -168,31 +165,34 @@ pub record AnsweredRequests (plan : RespPlan) (took : Took) (wrote : Wrote) (s :
       → (session plan requests).served.stopped ≡ None → (session plan requests).replies ≡ replies_of_one_thread requests
   pub front_of_one_thread : (requests : List (List (List ℕ))) → is_cut_short s ≡ false
       → IsPrefix (session plan requests).replies (replies_of_one_thread requests)
+  -- also where a limit was met, its run shows what was replied
+  pub shows_replied : (requests : List (List (List ℕ))) → is_cut_short s ≡ false
+      → ShowsReplied plan.f (map meaning requests) (session plan requests)
   -- its run completes each command before the next, with the answer that one thread gives
   pub completes_in_turn : (requests : List (List (List ℕ))) → is_cut_short s ≡ false → (session plan requests).served.stopped ≡ None
       → (world (header_of plan.f) (session plan requests).served.steps).history
       ≡ in_turn (answered (commands_in (map meaning requests)))
 
 -- what a task does
-abbrev pub Did : Task → Took → Wrote → Status → Type 0
-Did (Play Steps) took wrote s = Played took wrote s
-Did (Play History) took wrote s = ToldHistory took wrote s
-Did (Make plan form) took wrote s = Made plan form wrote s
-Did (Live plan) took wrote s = Lived plan wrote s
-Did Check took wrote s = Judged took wrote s
-Did Manage took wrote s = Managed took wrote s
-Did (Resp plan) took wrote s = AnsweredRequests plan took wrote s
+abbrev pub DoesTask : Task → TookBytes → WroteBytes → Status → Type 0
+DoesTask (Play Steps) took wrote s = PlaysScript took wrote s
+DoesTask (Play History) took wrote s = TellsHistory took wrote s
+DoesTask (Make plan form) took wrote s = MakesScript plan form wrote s
+DoesTask (Live plan) took wrote s = RunsLive plan wrote s
+DoesTask Check took wrote s = JudgesClaim took wrote s
+DoesTask Manage took wrote s = ManagesOrders took wrote s
+DoesTask (Resp plan) took wrote s = AnswersRequests plan took wrote s
 
 -- words that ask for none are refused, unless there is no memory to read them
-abbrev pub DidAsked : Option Task → Took → Wrote → Status → Type 0
-DidAsked None took wrote s = (s ≡ status.Usage) ⊎ (s ≡ status.NoMemory)
-DidAsked (Some task) took wrote s = Did task took wrote s
+abbrev pub DoesAsked : Option Task → TookBytes → WroteBytes → Status → Type 0
+DoesAsked None took wrote s = (s ≡ status.Usage) ⊎ (s ≡ status.NoMemory)
+DoesAsked (Some task) took wrote s = DoesTask task took wrote s
 
 -- ---- a run
 
 -- a run that was asked for that task, or for none
-pub record Ran (asked : Option Task) (took : Took) (wrote : Wrote) (s : Status) : Type 0 where
-  pub did : DidAsked asked took wrote s
+pub record DoesRun (asked : Option Task) (took : TookBytes) (wrote : WroteBytes) (s : Status) : Type 0 where
+  pub did : DoesAsked asked took wrote s
   pub usage : s ≡ status.Usage → asked ≡ None
   -- what it wrote is passed on
   pub flushed : asked ≢ None → is_cut_short s ≡ false → wrote.flushed ≡ true
@@ -203,7 +203,7 @@ pub record Ran (asked : Option Task) (took : Took) (wrote : Wrote) (s : Status) 
   pub no_write_fault : s ≢ status.WriteFault → SameCount wrote.faults_before wrote.faults_after
 
 -- such a run ended with a status of this number
-pub record RanTo (number : ℕ) (asked : Option Task) (took : Took) (wrote : Wrote) : Type 0 where
+pub record EndsWith (number : ℕ) (asked : Option Task) (took : TookBytes) (wrote : WroteBytes) : Type 0 where
   pub status : Status
-  pub ran : Ran asked took wrote status
+  pub ran : DoesRun asked took wrote status
   pub is : number ≡ code_of status
