@@ -10,7 +10,9 @@ Run it with nothing else on the machine. Processor seconds are those of the prov
 started, read from /proc twice a second, so a crate may have half a second more. A crate has a proof, and may have tests,
 whose proof is another, and wrong bodies that are tried. Of the functions that the gate proves in a crate the drops are
 those that it has to prove for types of others. The longest chain is that of the crates whose proofs wait for each other
-and take most time by the clock; the tests of its last crate are part of it.
+and take most time by the clock; the tests of its last crate are part of it. How fast a processor is tells the kit's own
+example, which is proved, built and run by `rt selftest` before the gate is: the limits are raw seconds, and of two tables
+from two machines the ratio of these says which is the slower one.
 """
 
 import argparse
@@ -100,15 +102,22 @@ class Sampler:
         return [(*self.known[key], ticks / TICK, first, last) for key, (first, ticks, last) in self.calls.items()]
 
 
+def spent_by(words):
+    """Runs a command, and returns what it said, and the processor seconds of it and of all that it started."""
+    before = os.times()
+    ran = subprocess.run(words, cwd=TOP, stdout=subprocess.PIPE, stderr=subprocess.STDOUT, text=True, errors="replace")
+    after = os.times()
+    return ran.stdout, after.children_user + after.children_system - before.children_user - before.children_system
+
+
 def run_gate():
     """Runs the gate from nothing, and returns what was measured, with all that it said."""
+    _, example = spent_by(["rt", "selftest"])
     sampler, begun = Sampler(), time.time()
-    before = os.times()
-    ran = subprocess.run(["rt", "ci", "--anew"], cwd=TOP, stdout=subprocess.PIPE, stderr=subprocess.STDOUT, text=True, errors="replace")
-    after, took = os.times(), time.time() - begun
+    said, spent = spent_by(["rt", "ci", "--anew"])
+    took = time.time() - begun
     calls = sampler.end()
-    spent = after.children_user + after.children_system - before.children_user - before.children_system
-    return {"calls": calls, "said": ran.stdout, "took": took, "spent": spent, "processors": os.cpu_count()}
+    return {"calls": calls, "said": said, "took": took, "spent": spent, "processors": os.cpu_count(), "example": example}
 
 
 # ---- what was measured, by crate
@@ -183,7 +192,8 @@ def table(measured):
     last = measured["said"].strip().splitlines()[-1] if measured["said"].strip() else "nothing"
     lines = [
         f"From nothing, on {measured['processors']} processors that did nothing else: {measured['took'] / 60:.0f} minutes, "
-        f"{measured['spent']:,.0f} seconds of processors, `{last}`. It proves {functions:,} functions; {drops:,} of them are drops.",
+        f"{measured['spent']:,.0f} seconds of processors, `{last}`. It proves {functions:,} functions; {drops:,} of them are drops. "
+        f"The kit's own example (`rt selftest`) takes {measured['example']:.0f} seconds of a processor there.",
         "",
         f"The longest chain takes {chain / 60:.0f} minutes: {', '.join(f'`{name}`' for name in names)}.",
         "",
