@@ -1,4 +1,5 @@
 pub mod Naming
 pub mod OneThread
 pub mod Standing
+pub mod Taken
 pub mod Texts

@@ -105,11 +105,11 @@ none_first bytes none arguments rest h = let some = request_some bytes arguments
 
 -- ---- behind a request
 
-counted_more : (every : ℕ) (a : Asked) (k : Session) → (answered_by every a k).requests ≡ k.requests + 1
+pub counted_more : (every : ℕ) (a : Asked) (k : Session) → (answered_by every a k).requests ≡ k.requests + 1
 counted_more every (asked.Command command) k = refl
 counted_more every (asked.Wrong why) k = refl
 
-free_by : (o : Option Limit) → Ok tt ≡ ended_by o → o ≡ None
+pub free_by : (o : Option Limit) → Ok tt ≡ ended_by o → o ≡ None
 free_by None e = refl
 free_by (Some why) e = absurd cc
 
@@ -141,6 +141,21 @@ stands_on aim tells held new old state count bytes rest passed then given h g ro
       printable = λ script. subst (λ (s : Served). AreReadBack s.steps) (sym is) (printable script (h.printable script));
       wrote = λ told. wrote told (h.wrote told);
     }
+
+-- what the sink holds stays
+pub still_stands : (aim : Aim) (tells : Bool) (held new : List ℕ) (state : Served) (count : ℕ) (bytes : List ℕ) (passed : ℕ)
+    → IsSession aim tells held state count bytes passed → (tells ≡ true → new ≡ held) → IsSession aim tells new state count bytes passed
+still_stands aim tells held new state count bytes passed h same = record {
+  now = h.now;
+  at = h.at;
+  due = h.due;
+  decomposes = h.decomposes;
+  leads = h.leads;
+  passes = h.passes;
+  within = h.within;
+  printable = h.printable;
+  wrote = λ told. same told ∙ h.wrote told;
+}
 
 -- ---- how it finishes
 

@@ -102,6 +102,16 @@ pub record IsSession (aim : Aim) (tells : Bool) (held : List ℕ) (state : Serve
   pub printable : aim.output ≡ output.Script → AreReadBack state.steps
   pub wrote : tells ≡ true → held ≡ aim.before ++ so_far aim.output aim.f now
 
+-- Of the input these requests were read, which lead to this state, and the other bytes are left. The sink holds what is
+-- written for them.
+pub record HasAnswered (plan : RespPlan) (input before held : List ℕ) (state : Served) (count : ℕ) (bytes : List ℕ) : Type 0 where
+  pub requests : List (List (List ℕ))
+  pub read : List ℕ
+  pub decomposes : Decomposes requests read []
+  pub left : read ++ bytes ≡ input
+  pub at : IsAt (session plan requests) state count
+  pub wrote : held ≡ before ++ so_far plan.output plan.f (session plan requests)
+
 -- it has come to its end with this status, or was cut short
 pub record Finishes (aim : Aim) (tells : Bool) (held : List ℕ) (result : Status) : Type 0 where
   pub ends : is_cut_short result ≡ false

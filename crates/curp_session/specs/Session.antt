@@ -7,7 +7,8 @@ use Rattle.curp_law_served.specs.Served.{Limit, Served, TooLarge, TooManySteps, 
 use Rattle.curp_model.specs.World.{world}
 use Rattle.curp_runner.specs.declared.status.Status.{Status}
 use Rattle.curp_runner.specs.declared.status.Status.TheVariants as status
-use Rattle.curp_resp.specs.Input.{BreaksOff, place_behind}
+use Rattle.curp_resp.specs.Input.{BreaksOff, Decomposes, place_behind}
+use Rattle.curp_resp.specs.Language.{IsFront}
 use Rattle.curp_resp.specs.Meaning.{meaning}
 use Rattle.curp_resp.specs.Reply.{protocol_error, reply_of, wrong_of}
 use Rattle.curp_resp.specs.declared.asked.Asked.{Asked}
@@ -102,6 +103,19 @@ text_by output.Script f k rest = script_lines (header_of f) k.served.steps
 -- what a session writes
 abbrev pub session_text : RespPlan → List (List (List ℕ)) → List ℕ → List ℕ
 session_text plan requests rest = text_by plan.output plan.f (session plan requests) rest
+
+-- ---- where reading fails
+
+-- The bytes that were taken are these requests, and behind them a rest that only begins one. What stands behind what was
+-- held before is what a session of these requests writes.
+pub record HoldsAnswers (plan : RespPlan) (left_before left_after held_before held_after : List ℕ) : Type 0 where
+  pub taken : List ℕ
+  pub requests : List (List (List ℕ))
+  pub rest : List ℕ
+  pub is : left_before ≡ taken ++ left_after
+  pub decomposes : Decomposes requests taken rest
+  pub begins : IsFront rest
+  pub held : held_after ≡ held_before ++ session_text plan requests []
 
 -- ---- one thread
 

@@ -8,24 +8,25 @@ ghost use Rattle.curp_msg.specs.Script.{IsHeader};
 ghost use Rattle.curp_runner.specs.Reading.{IsOfWriting, script_in};
 ghost use Rattle.curp_runner.specs.Status.{ended, is_cut_short};
 ghost use Rattle.curp_resp.specs.Input.{Decomposes};
-ghost use Rattle.curp_resp.specs.Next.{nothing_read};
+ghost use Rattle.curp_resp.specs.Next.{IsNextRequest, nothing_read, repeated};
 ghost use Rattle.curp_resp.specs.Reply.{protocol_error, reply_of, wrong_of};
 ghost use Rattle.curp_script.specs.Printed.{NamesNode};
 ghost use Rattle.curp_script.specs.Script.{Whole};
 ghost use Rattle.curp_script.specs.Texts.{line_text, lines_text};
 ghost use Rattle.curp_serve.specs.Serving.{answer_in, begins, limit_in, next};
-ghost use Rattle.curp_session.specs.Answering.{Aim, AnswersNext, AreReadBack, Finishes, IsAt, IsOfAnswering, IsSession, aim_of, due_of, ended_by, if_replies, so_far};
-ghost use Rattle.curp_session.specs.Session.{EndsSession, Session, answered_by, fresh, most_requests, reads, reply_to, session, session_text};
+ghost use Rattle.curp_session.specs.Answering.{Aim, AnswersNext, AreReadBack, Finishes, HasAnswered, IsAt, IsOfAnswering, IsSession, aim_of, due_of, ended_by, if_replies, so_far};
+ghost use Rattle.curp_session.specs.Session.{EndsSession, HoldsAnswers, Session, answered_by, fresh, most_requests, reads, reply_to, session, session_text};
 ghost use Rattle.curp_words.specs.Plan.{IsRespPlan};
+ghost use Rattle.curp_words.specs.declared.task.RespPlan.{RespPlan};
 
 use curp_base::NoMemory;
 use curp_cmd::{Answer, Command};
-use curp_io::{Flushed, Sink, Source};
+use curp_io::{Sink, Source};
 use curp_law_print::{printed_scripts_are_read, step_is_in_range};
 use curp_msg::Step;
 use curp_print::{print_header, print_line};
 use curp_resp::{Asked, NextRequest, Requests, Wrong, protocol_text, reply_text, wrong_text};
-use curp_runner::{Status, close, write};
+use curp_runner::{Status, close, pass_on, write};
 use curp_serve::{ServeError, Served};
 use curp_words::{RespOutput, RespPlan};
 use std::alloc::Global;
@@ -36,7 +37,8 @@ const REQUEST_LIMIT: u64 = 200_000;
 /// Reads requests of Redis' protocol, has each command served by a cluster, and writes the replies; or, as the plan
 /// asks, the script of the steps that the cluster made. It takes no handle, and returns.
 ///
-/// What is due for a request is written and passed on before the next one is waited for.
+/// What is due for a request is put into the sink before the next one is looked at, and passed on before the source is
+/// asked for more: replies to requests that came together go out together, and who waits for one has it.
 pub fn answer_requests<S: Source, K: Sink>(
     alloc: Global,
     plan: &RespPlan,
@@ -57,6 +59,12 @@ pub fn answer_requests<S: Source, K: Sink>(
         → K.tells sink.old ≡ true → Decomposes requests (S.left source.old) rest
         → HoldsPart (K.held sink.old) (K.held sink.new) (session_text plan.now requests rest) }
     ensures flushed { is_cut_short result ≡ false → K.flushed sink.new ≡ true }
+    // Where reading fails, it has written what is due for the whole requests that it was given.
+    ensures at_fault { S.tells source.old ≡ true → K.tells sink.old ≡ true → result ≡ Status.ReadFault
+        → HoldsAnswers plan.now (S.left source.old) (S.left source.new) (K.held sink.old) (K.held sink.new) }
+    // Before it waited for more input it had passed on what it wrote; where memory runs out, it does so in the end.
+    ensures passed_on { result ≡ Status.ReadFault → K.flushed sink.new ≡ true }
+    ensures out_of_memory { result ≡ Status.NoMemory → K.flushed sink.new ≡ true }
 
     // The script that it writes is read whole: as the header and the steps of the session.
     ensures plays { (requests : List (List (List ℕ))) (rest : List ℕ) → S.tells source.old ≡ true
@@ -91,6 +99,9 @@ fn answer_all<S: Source, K: Sink>(
         → Decomposes requests (S.left source.old) rest → Finishes
         (aim_of plan.now requests rest (S.left source.old) (K.held sink.old)) (K.tells sink.old) (K.held sink.new)
         (ended result) }
+    ensures at_fault { S.tells source.old ≡ true → K.tells sink.old ≡ true → result ≡ Err Status.ReadFault
+        → HoldsAnswers plan.now (S.left source.old) (S.left source.new) (K.held sink.old) (K.held sink.new) }
+    ensures passed_on { result ≡ Err Status.ReadFault → K.flushed sink.new ≡ true }
     ensures tells { K.tells sink.old ≡ true → K.tells sink.new ≡ true }
     ensures write_fault { result ≡ Err Status.WriteFault → Rose (K.faults sink.old) (K.faults sink.new) }
     ensures no_write_fault { result ≢ Err Status.WriteFault → SameCount (K.faults sink.old) (K.faults sink.new) }
@@ -121,6 +132,9 @@ fn answer_begun<S: Source, K: Sink>(
         → Decomposes requests (S.left source.old) rest → Finishes
         (aim_of plan.now requests rest (S.left source.old) (K.held sink.old)) (K.tells sink.old) (K.held sink.new)
         (ended result) }
+    ensures at_fault { S.tells source.old ≡ true → K.tells sink.old ≡ true → result ≡ Err Status.ReadFault
+        → HoldsAnswers plan.now (S.left source.old) (S.left source.new) (K.held sink.old) (K.held sink.new) }
+    ensures passed_on { result ≡ Err Status.ReadFault → K.flushed sink.new ≡ true }
     ensures tells { K.tells sink.old ≡ true → K.tells sink.new ≡ true }
     ensures write_fault { result ≡ Err Status.WriteFault → Rose (K.faults sink.old) (K.faults sink.new) }
     ensures no_write_fault { result ≢ Err Status.WriteFault → SameCount (K.faults sink.old) (K.faults sink.new) }
@@ -156,6 +170,19 @@ fn answer_next<S: Source, K: Sink>(
         ++ S.left source.old) requests.old.passed
         → AnswersNext aim tells (K.held sink.new) served.new.state (count + 1)
         (requests.new.ahead ++ S.left source.new) requests.new.passed result }
+    ensures reads { (plan : RespPlan) (input before : List ℕ) → plan.output ≡ output → plan.f ≡ served.old.f
+        → plan.every ≡ served.old.every
+        → S.tells source.old ≡ true → K.tells sink.old ≡ true
+        → HasAnswered plan input before (K.held sink.old) served.old.state count (requests.old.ahead ++ S.left source.old)
+        → result ≡ Ok true
+        → HasAnswered plan input before (K.held sink.new) served.new.state (count + 1)
+        (requests.new.ahead ++ S.left source.new) }
+    ensures at_fault { (plan : RespPlan) (input before : List ℕ) → plan.output ≡ output → plan.f ≡ served.old.f
+        → plan.every ≡ served.old.every
+        → S.tells source.old ≡ true → K.tells sink.old ≡ true
+        → HasAnswered plan input before (K.held sink.old) served.old.state count (requests.old.ahead ++ S.left source.old)
+        → result ≡ Err Status.ReadFault → HoldsAnswers plan input (S.left source.new) before (K.held sink.new) }
+    ensures passed_on { result ≡ Err Status.ReadFault → K.flushed sink.new ≡ true }
     ensures going { result ≡ Ok true → served.new.is_spent ≡ false }
     ensures reading { result ≡ Ok true → requests.new.failed ≡ None }
     ensures few { result ≡ Ok true → count + 1 ≤ most_requests }
@@ -169,7 +196,8 @@ fn answer_next<S: Source, K: Sink>(
     ensures no_read_fault { result ≢ Err Status.ReadFault → SameCount (S.faults source.old) (S.faults source.new) }
     ensures never_usage { result ≢ Err Status.Usage }
 {
-    match requests.next_request(source) {
+    let next = next_request(requests, source, sink)?;
+    match next {
         NextRequest::Asked(asked) => {
             answer(alloc, output, served, count, asked, sink)?;
             Ok(true)
@@ -181,6 +209,56 @@ fn answer_next<S: Source, K: Sink>(
             Err(Status::BadRequest { at })
         }
     }
+}
+
+// Gives the next request. What the sink holds back is passed on before the source is asked for more.
+fn next_request<S: Source, K: Sink>(
+    requests: &mut Requests,
+    source: &mut S,
+    sink: &mut K,
+) -> Result<NextRequest, Status>
+    requires { requests.old.failed ≡ None }
+    ensures bytes { S.tells source.old ≡ true
+        → IfOk result (λ next. IsNextRequest (requests.old.ahead ++ S.left source.old) requests.old.passed next
+        (requests.new.ahead ++ S.left source.new) requests.new.passed) }
+    ensures failed { IfOk result (λ next. requests.new.failed ≡ repeated next) }
+    ensures none_ahead { result ≡ Ok NextRequest.ReadFault → requests.new.ahead ≡ [] }
+    ensures passed_on { result ≡ Ok NextRequest.ReadFault → K.flushed sink.new ≡ true }
+    ensures held { K.tells sink.old ≡ true → K.held sink.new ≡ K.held sink.old }
+    ensures stops { IfErr result (λ stop. stop ≡ Status.WriteFault) }
+    ensures source_tells { S.tells source.old ≡ true → S.tells source.new ≡ true }
+    ensures tells { K.tells sink.old ≡ true → K.tells sink.new ≡ true }
+    ensures write_fault { result ≡ Err Status.WriteFault → Rose (K.faults sink.old) (K.faults sink.new) }
+    ensures no_write_fault { result ≢ Err Status.WriteFault → SameCount (K.faults sink.old) (K.faults sink.new) }
+    ensures read_fault { result ≡ Ok NextRequest.ReadFault → Rose (S.faults source.old) (S.faults source.new) }
+    ensures no_read_fault { result ≢ Ok NextRequest.ReadFault → SameCount (S.faults source.old) (S.faults source.new) }
+{
+    if requests.has_request() {
+        return Ok(requests.next_request(source));
+    }
+    pass_on(sink)?;
+    Ok(wait_for_request(requests, source, sink))
+}
+
+// Gives the next request, for which the source may be asked. The sink holds nothing back meanwhile: who sends the
+// requests may wait for the replies.
+fn wait_for_request<S: Source, K: Sink>(
+    requests: &mut Requests,
+    source: &mut S,
+    sink: &K,
+) -> NextRequest
+    requires reading { requests.old.failed ≡ None }
+    requires passed_on { K.flushed sink.now ≡ true }
+    ensures bytes { S.tells source.old ≡ true
+        → IsNextRequest (requests.old.ahead ++ S.left source.old) requests.old.passed result
+        (requests.new.ahead ++ S.left source.new) requests.new.passed }
+    ensures failed { requests.new.failed ≡ repeated result }
+    ensures none_ahead { result ≡ NextRequest.ReadFault → requests.new.ahead ≡ [] }
+    ensures tells { S.tells source.old ≡ true → S.tells source.new ≡ true }
+    ensures cause { result ≡ NextRequest.ReadFault → Rose (S.faults source.old) (S.faults source.new) }
+    ensures told { result ≢ NextRequest.ReadFault → SameCount (S.faults source.old) (S.faults source.new) }
+{
+    requests.next_request(source)
 }
 
 // Answers a request, behind so many. A limit that is met is an error here.
@@ -325,7 +403,7 @@ fn write_reply<K: Sink>(alloc: Global, answer: Option<Answer>, sink: &mut K) -> 
     ensures no_fault { result ≢ Err Status.WriteFault → SameCount (K.faults sink.old) (K.faults sink.new) }
 {
     match answer {
-        Some(answer) => write_now(sink, &reply_text(alloc, &answer)?),
+        Some(answer) => write(sink, &reply_text(alloc, &answer)?),
         None => Ok(()),
     }
 }
@@ -347,7 +425,7 @@ fn write_wrong<K: Sink>(
     ensures no_fault { result ≢ Err Status.WriteFault → SameCount (K.faults sink.old) (K.faults sink.new) }
 {
     match output {
-        RespOutput::Replies => write_now(sink, &wrong_text(alloc, wrong)?),
+        RespOutput::Replies => write(sink, &wrong_text(alloc, wrong)?),
         RespOutput::Script => Ok(()),
     }
 }
@@ -396,7 +474,7 @@ fn write_due<K: Sink>(
     }
 }
 
-// Writes the lines of the steps behind so many, and passes them on.
+// Writes the lines of the steps behind so many.
 fn write_steps<K: Sink>(
     alloc: Global,
     served: &Served,
@@ -417,8 +495,7 @@ fn write_steps<K: Sink>(
     ensures in_range { OnOk result (Each StepInRange (drop before served.now.state.steps)) }
 {
     let steps = served.steps();
-    write_lines(alloc, &steps[before..], sink)?;
-    pass_on(sink)
+    write_lines(alloc, &steps[before..], sink)
 }
 
 // Writes the lines of steps.
@@ -451,31 +528,4 @@ fn write_line<K: Sink>(mut line: Vec<u8>, sink: &mut K) -> Result<(), Status>
     line.reserve(1)?;
     line.push_reserved(b'\n');
     write(sink, &line)
-}
-
-// Writes a piece, and passes it on.
-fn write_now<K: Sink>(sink: &mut K, bytes: &[u8]) -> Result<(), Status>
-    ensures wrote { K.tells sink.old ≡ true → OnOk result (K.held sink.new ≡ K.held sink.old ++ bytes.now) }
-    ensures front { K.tells sink.old ≡ true → HoldsPart (K.held sink.old) (K.held sink.new) (bytes.now) }
-    ensures writing { IfErr result IsOfWriting }
-    ensures tells { K.tells sink.old ≡ true → K.tells sink.new ≡ true }
-    ensures fault { result ≡ Err Status.WriteFault → Rose (K.faults sink.old) (K.faults sink.new) }
-    ensures no_fault { result ≢ Err Status.WriteFault → SameCount (K.faults sink.old) (K.faults sink.new) }
-{
-    write(sink, bytes)?;
-    pass_on(sink)
-}
-
-// Passes on what is held back.
-fn pass_on<K: Sink>(sink: &mut K) -> Result<(), Status>
-    ensures held { K.tells sink.old ≡ true → K.held sink.new ≡ K.held sink.old }
-    ensures writing { IfErr result IsOfWriting }
-    ensures tells { K.tells sink.old ≡ true → K.tells sink.new ≡ true }
-    ensures fault { result ≡ Err Status.WriteFault → Rose (K.faults sink.old) (K.faults sink.new) }
-    ensures no_fault { result ≢ Err Status.WriteFault → SameCount (K.faults sink.old) (K.faults sink.new) }
-{
-    match sink.flush() {
-        Flushed::Done => Ok(()),
-        Flushed::Failed => Err(Status::WriteFault),
-    }
 }

@@ -1,6 +1,8 @@
-// Sessions of Redis' protocol from a source that gives a byte a call.
-use crate::streams::{Ended, NONE, sink, source};
-use curp_io::{MemorySink, MemorySource};
+// Sessions of Redis' protocol from a source that gives a byte a call, or a request a call, or all at once.
+ghost use Rattle.std.specs.Prelude.{◌<◌};
+
+use crate::streams::{CountingSink, Ended, Failing, NONE, sink, source};
+use curp_io::{MemorySource, Sink};
 use curp_runner::Status;
 use curp_session::answer_requests;
 use curp_words::{RespPlan, Task, WordsError, read};
@@ -12,11 +14,11 @@ fn task(alloc: Global, words: &[&str]) -> Result<Task, WordsError> {
 }
 
 /// How a session by these words ends.
-fn answer(
+fn answer<K: Sink>(
     alloc: Global,
     words: &[&str],
     source: &mut MemorySource,
-    sink: &mut MemorySink,
+    sink: &mut K,
 ) -> Status {
     match read(alloc, words) {
         Ok(Task::Resp(plan)) => answer_requests(alloc, &plan, source, sink),
@@ -97,4 +99,56 @@ static SELDOM: [&str; 3] = ["resp", "--every", "1000000"];
 fn a_recovery_may_be_seldom(rt: HostRuntime) {
     let plan = plan_of(rt.alloc(), &SELDOM).expect(&rt, "no plan");
     assert_eq!(rt; plan.every, 1_000_000);
+}
+
+/// The bytes of the put.
+const PUT_LENGTH: usize = 27;
+
+/// Reading fails at that call of a source that gives the put and then the get. All of this text was passed on before.
+fn try_fault(rt: &impl Abort, alloc: Global, call: u64, text: &str) {
+    let failing = Failing {
+        read: call,
+        write: 0,
+    };
+    let mut source = source(rt, alloc, BOTH, failing, PUT_LENGTH);
+    let mut sink = sink(rt, alloc, failing);
+    let status = answer(alloc, &ONE_BACKUP, &mut source, &mut sink);
+    drop(source);
+    let ended = Ended { status, sink };
+    assert!(rt; ended.is(Status::ReadFault, text), "{text}");
+    assert!(rt; ended.is_flushed(), "{text}");
+    drop(ended);
+}
+
+/// The reply to a request is passed on before the source is asked for the next one.
+#[test]
+fn a_reply_is_passed_on_before_more_is_asked_for(rt: HostRuntime) {
+    let alloc = rt.alloc();
+    try_fault(&rt, alloc, 1, "");
+    try_fault(&rt, alloc, 2, "+OK\r\n");
+    try_fault(&rt, alloc, 3, REPLIES);
+}
+
+/// How often replies to the put and the get are passed on, of which so many bytes come a call.
+fn passed_on(rt: &impl Abort, alloc: Global, piece: usize) -> u64
+    requires { 0 < piece }
+{
+    let mut source = source(rt, alloc, BOTH, NONE, piece);
+    let mut sink = CountingSink::new(rt, alloc);
+    let status = answer(alloc, &ONE_BACKUP, &mut source, &mut sink);
+    drop(source);
+    assert!(rt; status == Status::Ok);
+    assert!(rt; sink.bytes() == REPLIES.as_bytes());
+    let passed_on = sink.passed_on();
+    drop(sink);
+    passed_on
+}
+
+/// Each by itself where they come one by one, and both together where they come together.
+#[test]
+fn replies_to_requests_that_came_together_go_out_together(rt: HostRuntime) {
+    let alloc = rt.alloc();
+    assert_eq!(rt; passed_on(&rt, alloc, 1), 2);
+    assert_eq!(rt; passed_on(&rt, alloc, PUT_LENGTH), 2);
+    assert_eq!(rt; passed_on(&rt, alloc, 70_000), 1);
 }

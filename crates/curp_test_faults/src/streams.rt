@@ -1,7 +1,7 @@
 // Streams in memory.
-ghost use Rattle.std.specs.Prelude.{◌<◌};
+ghost use Rattle.std.specs.Prelude.{◌<◌, true};
 
-use curp_io::{MemorySink, MemorySource};
+use curp_io::{Flushed, MemorySink, MemorySource, Put, Sink};
 use curp_runner::Status;
 use std::alloc::Global;
 use std::process::Abort;
@@ -45,6 +45,52 @@ pub(crate) fn source(
 
 pub(crate) fn sink(rt: &impl Abort, alloc: Global, failing: Failing) -> MemorySink {
     MemorySink::new(alloc, &[failing.write]).expect(rt, "no memory")
+}
+
+/// A sink that never fails, and counts the flushes that had something to pass on.
+#[derive(Drop)]
+pub(crate) struct CountingSink {
+    sink: MemorySink,
+    passed_on: u64,
+}
+
+impl CountingSink {
+    pub(crate) fn new(rt: &impl Abort, alloc: Global) -> CountingSink {
+        CountingSink {
+            sink: sink(rt, alloc, NONE),
+            passed_on: 0,
+        }
+    }
+
+    /// How often bytes were passed on.
+    pub(crate) fn passed_on(&self) -> u64 {
+        self.passed_on
+    }
+
+    pub(crate) fn bytes(&self) -> &[u8] {
+        self.sink.bytes()
+    }
+}
+
+impl Sink for CountingSink {
+    ghost tells = { λ _. true };
+
+    ghost held = { λ s. s.sink.held };
+
+    ghost faults = { λ s. s.sink.calls.faults };
+
+    ghost flushed = { λ s. s.sink.flushed };
+
+    fn put(&mut self, bytes: &[u8]) -> Put {
+        self.sink.put(bytes)
+    }
+
+    fn flush(&mut self) -> Flushed {
+        if !self.sink.is_flushed() {
+            self.passed_on = self.passed_on.saturating_add(1);
+        }
+        self.sink.flush()
+    }
 }
 
 /// What a run came to.

@@ -1,7 +1,7 @@
 use Rattle.std.proofs.Common.{◌≡◌, ◌≤◌, ◌+◌, ◌-◌, ◌++◌, List, ℕ, None, true, false}
 use Rattle.curp_io.specs.Streams.{SameCount}
 use Rattle.curp_resp.specs.Input.{Decomposes}
-use Rattle.curp_session.specs.Answering.{IsSession, aim_of}
+use Rattle.curp_session.specs.Answering.{HasAnswered, IsSession, aim_of}
 use Rattle.curp_session.specs.Session.{most_requests}
 use Rattle.curp_session.proofs.session.answer_begun.Given as goal
 
@@ -21,6 +21,9 @@ invariant-answers g l = record {
       → Decomposes requests (g.S.Source.left l.fn.source) rest
       → IsSession (aim_of l.fn.plan requests rest (g.S.Source.left l.fn.source) (g.K.Sink.held l.fn.sink)) (g.K.Sink.tells l.fn.sink)
       (g.K.Sink.held l.sink) l.served.state l.count (l.requests.ahead ++ g.S.Source.left l.source) l.requests.passed;
+  answered : g.S.Source.tells l.fn.source ≡ true → g.K.Sink.tells l.fn.sink ≡ true
+      → HasAnswered l.fn.plan (g.S.Source.left l.fn.source) (g.K.Sink.held l.fn.sink) (g.K.Sink.held l.sink) l.served.state l.count
+      (l.requests.ahead ++ g.S.Source.left l.source);
 }
 
 abbrev pub decreases-answers : goal.decreases-answers
