@@ -5,7 +5,7 @@ use Rattle.curp_runner.specs.declared.status.Status.{Status}
 use Rattle.curp_runner.specs.declared.status.Status.TheVariants as status
 use Rattle.curp_runner.specs.Reading.{IsOfWriting}
 use Rattle.curp_runner.specs.Status.{is_cut_short}
-use Rattle.curp_run.specs.Run.{IsOfMaking}
+use Rattle.curp_show.specs.Show.{IsOfMaking}
 
 -- it ends with this error
 pub ends_with : {A : Type 0} (r : Result A Status) (e : Status) → IsErrAnd r (λ s. s ≡ e) → r ≡ Err e

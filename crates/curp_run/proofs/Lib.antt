@@ -1,6 +1,5 @@
 pub mod Ends
 pub mod Nothing
-pub mod Printing
 pub mod Runs
 pub mod Shown
 pub mod Steps

@@ -1,4 +1,4 @@
--- What a run on threads shows, and what is written of it.
+-- What a run on threads shows.
 use Rattle.std.proofs.Common.{◌≡◌, Result, Ok, Err, Option, Some, None, IfOk, IfSome, [], ◌∷◌, ◌++◌, ℕ, List, Global, Vec, length, map, ap, sym, ◌∙◌, subst, append_assoc}
 use Rattle.std.proofs.lemmas.List.{length-map}
 use Rattle.curp_cmd.specs.declared.command.Command.{Command}
@@ -12,11 +12,7 @@ use Rattle.curp_gather.specs.declared.journals.Journals.{Journals}
 use Rattle.curp_gen.specs.Commands.{workload_of}
 use Rattle.curp_anew.specs.Live.{IsLiveRun}
 use Rattle.curp_opening.proofs.Numbers.{named_length}
-use Rattle.curp_io.specs.Streams.{HoldsPart}
-use Rattle.curp_play.specs.Play.{text_of}
-use Rattle.curp_runner.specs.Reading.{script_in}
-use Rattle.curp_run.specs.Live.{IsLive, Shows, played, work_of}
-use Rattle.curp_runner.proofs.Pieces.{first_of_two, second_of_two}
+use Rattle.curp_run.specs.Live.{Shows, work_of}
 use Rattle.curp_run.proofs.Shown.{shown}
 
 -- vectors as lists
@@ -48,15 +44,3 @@ pub if_found : {T E : Type 0} (found : Result (Option T) E) (P Q : T → Type 0)
 if_found (Ok (Some x)) P Q implies holds = implies x holds
 if_found (Ok None) P Q implies holds = tt
 if_found (Err _) P Q implies holds = tt
-
--- a front of a script and the empty line
-pub script_front : (text old new : List ℕ) → HoldsPart old new (text ++ 10 ∷ []) → HoldsPart old new (played text)
-script_front text old new h =
-    subst (λ (t : List ℕ). HoldsPart old new t) (append_assoc text (10 ∷ []) (text_of (script_in text)))
-    (first_of_two old new (text ++ 10 ∷ []) (text_of (script_in text)) h)
-
--- both, and a front of what is played
-pub played_front : (text old mid new : List ℕ) → mid ≡ old ++ (text ++ 10 ∷ []) → HoldsPart mid new (text_of (script_in text)) → HoldsPart old new (played text)
-played_front text old mid new whole h =
-    subst (λ (t : List ℕ). HoldsPart old new t) (append_assoc text (10 ∷ []) (text_of (script_in text)))
-    (second_of_two old mid new (text ++ 10 ∷ []) (text_of (script_in text)) whole h)

@@ -18,9 +18,9 @@ use Rattle.curp_judge.specs.Check.{EndsAs, EndsJudged, IsBrokenClaim, IsJudgedFr
 use Rattle.curp_resp.specs.Input.{Decomposes}
 use Rattle.curp_resp.specs.Meaning.{meaning}
 use Rattle.curp_run.specs.Live.{IsLive, IsLiveFront}
-use Rattle.curp_run.specs.Run.{EndsMade, IsOfMaking}
+use Rattle.curp_show.specs.Show.{EndsMade, IsOfMaking}
 use Rattle.curp_script.specs.Script.{Ending, Whole}
-use Rattle.curp_session.specs.Session.{EndsSession, ShowsReplied, commands_in, replies_of_one_thread, session, session_text}
+use Rattle.curp_session.specs.Session.{EndsSession, HoldsAnswers, ShowsReplied, commands_in, replies_of_one_thread, session, session_text}
 use Rattle.curp_words.specs.declared.task.LivePlan.{LivePlan}
 use Rattle.curp_words.specs.declared.task.MakePlan.{MakePlan}
 use Rattle.curp_words.specs.declared.task.Output.{Output}
@@ -153,6 +153,11 @@ pub record AnswersRequests (plan : RespPlan) (took : TookBytes) (wrote : WroteBy
       → wrote.after ≡ wrote.before ++ session_text plan requests rest
   pub front : (requests : List (List (List ℕ))) (rest : List ℕ) → took.tells ≡ true → wrote.tells ≡ true
       → Decomposes requests took.before rest → HoldsPart wrote.before wrote.after (session_text plan requests rest)
+  -- where reading failed, what is due for the whole requests that were taken
+  pub at_fault : took.tells ≡ true → wrote.tells ≡ true → s ≡ status.ReadFault
+      → HoldsAnswers plan took.before took.after wrote.before wrote.after
+  -- before it waited for more input it had passed on what it wrote
+  pub passed_on : s ≡ status.ReadFault → wrote.flushed ≡ true
   -- the script is read whole, as the steps that serve
   pub plays : (requests : List (List (List ℕ))) (rest : List ℕ) → took.tells ≡ true → Decomposes requests took.before rest
       → is_cut_short s ≡ false → plan.output ≡ resp_output.Script

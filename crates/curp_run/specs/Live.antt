@@ -1,5 +1,5 @@
 -- What `live` writes, and what the script in it shows of the work.
-use Rattle.std.specs.Prelude.{◌≡◌, ◌≢◌, ◌≤◌, ◌⊎◌, ℕ, List, [], ◌∷◌, ◌++◌, map, Some, true, ⊤}
+use Rattle.std.specs.Prelude.{◌≡◌, ◌≢◌, ◌≤◌, ◌⊎◌, ℕ, List, ◌++◌, map, Some, true, ⊤}
 use Rattle.curp_base.specs.Words.{Each, numbers_from}
 use Rattle.curp_io.specs.Streams.{HoldsPart}
 use Rattle.curp_cmd.specs.declared.command.Command.{Command}
@@ -22,8 +22,9 @@ use Rattle.curp_law_weave.specs.Run.{IsCompletedBy}
 use Rattle.curp_words.specs.declared.task.LivePlan.{LivePlan}
 use Rattle.curp_words.specs.Plan.{live_header}
 use Rattle.curp_gen.specs.Commands.{workload_of}
-use Rattle.curp_play.specs.Play.{OrderStands, text_of}
+use Rattle.curp_play.specs.Play.{OrderStands}
 use Rattle.curp_runner.specs.Reading.{script_in}
+use Rattle.curp_show.specs.Show.{played}
 
 -- the work of each client, that of client 1 first
 abbrev pub work_of : LivePlan → List (List Command)
@@ -66,10 +67,6 @@ pub record IsLiveText (plan : LivePlan) (text : List ℕ) : Type 0 where
   pub printed : text ≡ script_lines (live_header plan) steps
   pub reads : script_in text ≡ whole_script plan steps
   pub shows : Shows plan steps
-
--- a text, an empty line, and what playing the text writes
-abbrev pub played : List ℕ → List ℕ
-played text = text ++ (10 ∷ [] ++ text_of (script_in text))
 
 -- what was written is a script, an empty line, and the script's text; the script shows the work
 pub record IsLive (plan : LivePlan) (old new : List ℕ) : Type 0 where

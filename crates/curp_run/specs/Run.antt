@@ -1,11 +1,10 @@
 -- How a run of the program ends.
-use Rattle.std.specs.Prelude.{◌≡◌, ◌⊎◌, ℕ, Option, List, String, drop, map, string_bytes}
+use Rattle.std.specs.Prelude.{Option, List, String, drop, map, string_bytes}
 use Rattle.std.specs.declared.alloc.Global.{Global}
 use Rattle.std.specs.declared.io.ErrorKind.{ErrorKind}
 use Rattle.std.specs.declared.io.ErrorKind.TheVariants as kind
 use Rattle.clap.specs.Walk.{Text}
 use Rattle.curp_base.specs.Words.{Each}
-use Rattle.curp_io.specs.Streams.{Rose}
 use Rattle.curp_law_print.specs.Ranges.{StepInRange}
 use Rattle.curp_msg.specs.declared.script.Step.{Step}
 use Rattle.curp_runner.specs.declared.status.Status.{Status}
@@ -26,14 +25,6 @@ asked arguments = task_in (words_of arguments)
 abbrev pub unread_words : ErrorKind → Status
 unread_words kind.InvalidData = status.Usage
 unread_words _ = status.NoMemory
-
--- what is made is written, or writing failed, or there was no memory
-abbrev pub IsOfMaking : Status → Type 0
-IsOfMaking result = (result ≡ status.Ok) ⊎ ((result ≡ status.WriteFault) ⊎ (result ≡ status.NoMemory))
-
--- with no fault of its output, it ends with the status 0, or for want of memory
-abbrev pub EndsMade : Status → (before after : ℕ) → Type 0
-EndsMade result before after = (Rose before after → ⊥) → (result ≡ status.Ok) ⊎ (result ≡ status.NoMemory)
 
 -- each of the steps names a node that can be printed, and each of its values is in the range that its type gives it
 pub record ArePrintable (steps : List Step) : Type 0 where

@@ -4,7 +4,8 @@ ghost use Rattle.curp_gen.specs.Texts.{made_script, made_text, script_text, summ
 ghost use Rattle.curp_script.specs.Texts.{line_text, lines_text};
 ghost use Rattle.curp_gen.specs.Making.{after, begun, steps_from, summary_of};
 ghost use Rattle.curp_runner.specs.Reading.{IsOfWriting, script_in};
-ghost use Rattle.curp_run.specs.Run.{ArePrintable, EndsMade, IsOfMaking};
+ghost use Rattle.curp_run.specs.Run.{ArePrintable};
+ghost use Rattle.curp_show.specs.Show.{EndsMade, IsOfMaking};
 ghost use Rattle.curp_words.specs.Plan.{IsPlan};
 
 use curp_gen::Maker;

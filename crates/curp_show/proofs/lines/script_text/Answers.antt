@@ -1,6 +1,6 @@
 use Rattle.curp_law_print.specs.Ranges.{StepInRange}
-use Rattle.curp_run.proofs.Printing.{first_line, next_line, next_too}
-use Rattle.curp_run.proofs.live.lines.script_text.Goals as goal
+use Rattle.curp_show.proofs.Printing.{first_line, next_line, next_too}
+use Rattle.curp_show.proofs.lines.script_text.Goals as goal
 
 pub loop-step-init : goal.loop-step-init
 loop-step-init c = record {

@@ -2,7 +2,7 @@ use Rattle.std.proofs.Common.{◌≡◌, ◌++◌, take}
 use Rattle.curp_base.specs.Words.{Each}
 use Rattle.curp_law_print.specs.Ranges.{StepInRange}
 use Rattle.curp_script.specs.Texts.{header_line, lines_text}
-use Rattle.curp_run.proofs.live.lines.script_text.Given as goal
+use Rattle.curp_show.proofs.lines.script_text.Given as goal
 
 -- so many steps are printed
 abbrev pub invariant-loop-step : goal.invariant-loop-step

@@ -1,4 +1,4 @@
-// A script as text.
+//! A script as text.
 ghost use Rattle.std.specs.Prelude.{◌≡◌, ◌++◌, IfOk, OnOk};
 ghost use Rattle.curp_base.specs.Words.{Each};
 ghost use Rattle.curp_law_print.specs.Ranges.{StepInRange};
@@ -13,11 +13,7 @@ use curp_print::{print_header, print_line};
 use std::alloc::Global;
 
 /// The lines of a script.
-pub(crate) fn script_text(
-    alloc: Global,
-    header: &Header,
-    steps: &[Step],
-) -> Result<Vec<u8>, NoMemory>
+pub fn script_text(alloc: Global, header: &Header, steps: &[Step]) -> Result<Vec<u8>, NoMemory>
     requires in_range { IsHeader header.now }
     requires printable { Each NamesNode steps.now }
     ensures text { IfOk result (λ text. text.items ≡ script_lines header.now steps.now) }
@@ -31,7 +27,7 @@ pub(crate) fn script_text(
     Ok(text)
 }
 
-// The text, with the line of a step behind it.
+/// The text, with the line of a step behind it.
 fn push_line(alloc: Global, step: &Step, text: &mut Vec<u8>) -> Result<(), NoMemory>
     requires { NamesNode step.now }
     ensures added { OnOk result (text.new.items ≡ text.old.items ++ step_line step.now) }

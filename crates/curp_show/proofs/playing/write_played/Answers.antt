@@ -1,8 +1,8 @@
 use Rattle.std.proofs.Common.{sym, subst}
 use Rattle.curp_io.specs.Streams.{HoldsPart}
-use Rattle.curp_run.specs.Live.{played}
-use Rattle.curp_run.proofs.Runs.{played_front, script_front}
-use Rattle.curp_run.proofs.live.write_played.Goals as goal
+use Rattle.curp_show.specs.Show.{played}
+use Rattle.curp_show.proofs.Parts.{played_front, script_front}
+use Rattle.curp_show.proofs.playing.write_played.Goals as goal
 
 pub returns-in-Ok-clause-front : goal.returns-in-Ok-clause-front
 returns-in-Ok-clause-front g c = λ tells.
