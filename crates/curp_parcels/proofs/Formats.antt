@@ -82,7 +82,10 @@ outgoing_sound = (
         variant_sound outgoing_parts 3 (u64 ▸ byte) (λ p. out.Refused p.0 p.1) (λ y. refl) refused_is,
         (
           variant_sound outgoing_parts 4 (u64 ▸ u64) (λ p. out.NoParcel p.0 p.1) (λ y. refl) pair_is,
-          (variant_sound outgoing_parts 5 name (λ p. out.Withheld p.0 p.1.0 p.1.1) (λ y. refl) name_is, tt),
+          (
+            variant_sound outgoing_parts 5 name (λ p. out.Withheld p.0 p.1.0 p.1.1) (λ y. refl) name_is,
+            (variant_sound outgoing_parts 6 id (λ r. out.Pending r) (λ y. refl) id_is, tt),
+          ),
         ),
       ),
     ),
@@ -96,6 +99,7 @@ outgoing_again (out.Completed stamp c) start place rest fits = fields_again 2 co
 outgoing_again (out.Refused number by) start place rest fits = fields_again 3 (u64 ▸ byte) (λ p. out.Refused p.0 p.1) refused_is (number, by) place rest fits
 outgoing_again (out.NoParcel number at) start place rest fits = fields_again 4 (u64 ▸ u64) (λ p. out.NoParcel p.0 p.1) pair_is (number, at) place rest fits
 outgoing_again (out.Withheld step at stamp) start place rest fits = fields_again 5 name (λ p. out.Withheld p.0 p.1.0 p.1.1) name_is (step, (at, stamp)) place rest fits
+outgoing_again (out.Pending r) start place rest fits = fields_again 6 id (λ r. out.Pending r) id_is r place rest fits
 
 pub outgoing_is : IsFormat outgoing
 unfolding outgoing
@@ -151,6 +155,7 @@ no_sent bytes none (out.Completed stamp c) e = absurd (cc e.is)
 no_sent bytes none (out.Refused number by) e = absurd (cc e.is)
 no_sent bytes none (out.NoParcel number at) e = absurd (cc e.is)
 no_sent bytes none (out.Withheld step at stamp) e = absurd (cc e.is)
+no_sent bytes none (out.Pending r) e = absurd (cc e.is)
 
 -- behind another byte than that of a message it is read as all are
 plain_same : (tag : ℕ) (rest : List ℕ) → tag ≢ 1 → outgoing.read (input 0 (tag ∷ rest)) ≡ plain.read (input 0 (tag ∷ rest))
@@ -284,3 +289,4 @@ outgoing_size (out.Completed stamp c) f = omega (arith, completion_size (stamp, 
 outgoing_size (out.Refused number by) f = omega (arith, length-append (u64.of number) (by ∷ []), u64_size number)
 outgoing_size (out.NoParcel number at) f = omega (arith, length-append (u64.of number) (u64.of at), u64_size number, u64_size at)
 outgoing_size (out.Withheld step at stamp) f = omega (arith, name_size (step, (at, stamp)))
+outgoing_size (out.Pending r) f = omega (arith, id_size r)

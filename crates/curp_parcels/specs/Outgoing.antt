@@ -60,6 +60,7 @@ outgoing_parts (out.Completed stamp c) = tagged 2 completion (stamp, c)
 outgoing_parts (out.Refused input number) = tagged 3 (u64 ▸ byte) (input, number)
 outgoing_parts (out.NoParcel input at) = tagged 4 (u64 ▸ u64) (input, at)
 outgoing_parts (out.Withheld step place stamp) = tagged 5 name (step, (place, stamp))
+outgoing_parts (out.Pending r) = tagged 6 id r
 
 -- those without a message
 abbrev pub plain_variants : List (Variant Outgoing)
@@ -69,6 +70,7 @@ plain_variants =
     ∷ variant 3 (u64 ▸ byte) (λ p. out.Refused p.0 p.1)
     ∷ variant 4 (u64 ▸ u64) (λ p. out.NoParcel p.0 p.1)
     ∷ variant 5 name (λ p. out.Withheld p.0 p.1.0 p.1.1)
+    ∷ variant 6 id (λ r. out.Pending r)
     ∷ []
 
 unfoldable pub plain : Format Outgoing

@@ -1,6 +1,7 @@
 ghost use Rattle.std.specs.Prelude.{◌≡◌};
 ghost use Rattle.curp_parcels.specs.Outgoing.{has_encoding, is_capture};
 
+use curp_cmd::RequestId;
 use curp_items::is_node;
 use curp_msg::{Capture, Completed, Message};
 use curp_wire::is_light;
@@ -43,6 +44,11 @@ pub enum Outgoing {
         place: u64,
         stamp: u64,
     },
+    /// The request of this id was invoked, and hasn't completed. Only the start of a process says so, of all that its
+    /// journal has.
+    Pending {
+        id: RequestId,
+    },
 }
 
 impl Drop for Outgoing {
@@ -69,6 +75,7 @@ impl Drop for Outgoing {
                 place: _,
                 stamp: _,
             } => {}
+            Outgoing::Pending { id: _ } => {}
         }
     }
 }
@@ -85,6 +92,7 @@ pub fn has_encoding(said: &Outgoing) -> bool
         Outgoing::Refused { .. } => true,
         Outgoing::NoParcel { .. } => true,
         Outgoing::Withheld { .. } => true,
+        Outgoing::Pending { .. } => true,
     }
 }
 

@@ -1,7 +1,9 @@
-ghost use Rattle.std.specs.Prelude.{◌≡◌, ◌≢◌, ◌≤◌, ◌+◌, ◌++◌, List, ℕ, [], length, take, drop, true, IfSome, Some};
+ghost use Rattle.std.specs.Prelude.{◌≡◌, ◌≢◌, ◌≤◌, ◌<◌, ◌+◌, ◌++◌, List, ℕ, [], length, take, drop, true, false, IfSome, None, Some};
 ghost use Rattle.curp_io.specs.Streams.{Rose, SameCount};
 ghost use Rattle.curp_parcels.specs.Buffer.{Adds};
-ghost use Rattle.curp_parcels.specs.Reading.{FindsFirst, IsAtEnd, IsNextParcel, IsReady, OfBytes, StandsFirst, nothing_read, place_behind};
+ghost use Rattle.curp_parcels.specs.Parcels.{parcel_limit};
+ghost use Rattle.curp_parcels.specs.Reading.{FindsFirst, IsAtEnd, IsNextParcel, IsReady, LeavesAll, OfBytes, StandsFirst, StandsNot};
+ghost use Rattle.curp_parcels.specs.Reading.{nothing_read, place_behind};
 ghost use Rattle.curp_parcels.specs.declared.framing.First.TheVariants as first;
 
 use crate::buffer::{Filled, drop_first, read_behind};
@@ -102,6 +104,55 @@ impl Parcels {
                 Filled::Bytes(_) => {}
             }
         }
+    }
+
+    /// Reads until a parcel is read ahead whole, or a length that no parcel has: then `ready_parcel` has the answer. Else
+    /// it tells why there is none. Nothing is passed over.
+    pub fn await_parcel<S: Source>(&mut self, source: &mut S) -> Option<NextParcel>
+        ensures ready { result ≡ None → StandsNot self.new.ahead → ⊥ }
+        ensures left { S.tells source.old ≡ true → LeavesAll (self.old.ahead ++ S.left source.old) self.old.passed
+            (self.new.ahead ++ S.left source.new) self.new.passed }
+        ensures why { S.tells source.old ≡ true → IfSome result (λ answer.
+            IsNextParcel (self.old.ahead ++ S.left source.old) self.old.passed answer (self.new.ahead ++ S.left source.new)
+            self.new.passed) }
+        // Where one is read ahead, nothing is read.
+        ensures waits { (content rest : List ℕ) → StandsFirst self.old.ahead content rest
+            → (result ≡ None) × (source.new ≡ source.old) × (self.new ≡ self.old) }
+        ensures tells { S.tells source.old ≡ true → S.tells source.new ≡ true }
+        ensures cause { result ≡ Some NextParcel.ReadFault → Rose (S.faults source.old) (S.faults source.new) }
+        ensures told { result ≢ Some NextParcel.ReadFault → SameCount (S.faults source.old) (S.faults source.new) }
+        ensures never_falls { S.faults source.old ≤ S.faults source.new }
+    {
+        'fills: loop {
+            if !self.is_part() {
+                return None;
+            }
+            match self.fill(source) {
+                Filled::Failed => return Some(NextParcel::ReadFault),
+                Filled::NoMemory => return Some(NextParcel::NoMemory),
+                Filled::Bytes(0) => return Some(self.at_end()),
+                Filled::Bytes(_) => {}
+            }
+        }
+    }
+
+    /// What stands behind the next length, where that parcel is read ahead whole. It stays there: `ready_parcel` takes it.
+    pub fn ready_content(&self) -> Option<&[u8]>
+        ensures content { IfSome result (λ content. (rest : List ℕ) × StandsFirst self.now.ahead content.now rest) }
+        ensures none { result ≡ None → (content rest : List ℕ) → StandsFirst self.now.ahead content rest → ⊥ }
+    {
+        match first_in(self.bytes()) {
+            First::Whole(count) => Some(self.content(count)),
+            First::TooLong | First::Part => None,
+        }
+    }
+
+    /// Whether more bytes are to come before there is an answer.
+    fn is_part(&self) -> bool
+        ensures yes { result ≡ true → StandsNot self.now.ahead × (length self.now.ahead < parcel_limit + 4) }
+        ensures no { result ≡ false → StandsNot self.now.ahead → ⊥ }
+    {
+        matches!(first_in(self.bytes()), First::Part)
     }
 
     /// Gives the next parcel where it is read ahead whole. It has no source to ask: `next_parcel` gives what isn't ready.

@@ -67,6 +67,10 @@ fn write(alloc: Global, said: &Outgoing, out: &mut Writer) -> Result<(), NoMemor
             out.byte(5)?;
             (*step, (*place, *stamp)).write(out)
         }
+        Outgoing::Pending { id } => {
+            out.byte(6)?;
+            id.write(out)
+        }
     }
 }
 
@@ -179,6 +183,10 @@ fn read_plain(reader: &mut Reader) -> Result<Outgoing, Fault>
         5 => {
             let (step, (place, stamp)) = Item::read(reader)?;
             Ok(Outgoing::Withheld { step, place, stamp })
+        }
+        6 => {
+            let id = Item::read(reader)?;
+            Ok(Outgoing::Pending { id })
         }
         _ => Err(Fault { place }),
     }
