@@ -1,0 +1,7 @@
+pub mod Coming
+pub mod Keeping
+pub mod Replies
+pub mod Running
+pub mod Saying
+pub mod Together
+pub mod Turning

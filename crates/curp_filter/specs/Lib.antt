@@ -1,0 +1,4 @@
+pub mod Coming
+pub mod Keeping
+pub mod Saying
+pub mod Turning

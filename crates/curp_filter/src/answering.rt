@@ -1,0 +1,139 @@
+//! What the node answers, and what is said of it.
+ghost use Rattle.std.specs.Prelude.{◌≡◌, ◌≢◌, ◌≤◌, ◌++◌, [], true, false, IfOk, IfErr, IsOk, OnOk, Ok, Err};
+ghost use Rattle.curp_durable.specs.Standing.{after, answers_of, taken};
+ghost use Rattle.curp_io.specs.Streams.{HoldsPart, Rose, SameCount};
+ghost use Rattle.curp_told.specs.Told.{all_told, parcels_of};
+ghost use Rattle.curp_filter.specs.Coming.{arrivals_of, came_last, came_together, number_behind};
+ghost use Rattle.curp_filter.specs.Keeping.{Keeps, Outlasts, kind};
+ghost use Rattle.curp_filter.specs.Saying.{last_said, text_of};
+ghost use Rattle.curp_filter.specs.Turning.{EndsAnswering, EndsSaying, IsOfWriting, MovesBy, Unanswered, Wrote, outlet};
+
+use crate::end::FilterEnd;
+use crate::gathering::Batch;
+use curp_base::NoMemory;
+use curp_disk::Disk;
+use curp_durable::{Answered, Durable};
+use curp_io::{Flushed, Sink, Written, write_piece};
+use curp_msg::Core;
+use curp_parcels::Outgoing;
+use curp_told::{tell, tell_one};
+use std::alloc::Global;
+
+/// What is said of inputs, and the number of the input behind them.
+#[derive(Drop)]
+struct Said {
+    text: Vec<u8>,
+    behind: u64,
+}
+
+/// Gives a batch to the node, the first input of which has this number, and writes what is said of it, once the node's
+/// journal has what the node took. It gives the number of the next input.
+pub(crate) fn answer<N: Core + Drop, D: Disk, K: Sink>(
+    alloc: Global,
+    node: &mut Durable<N, D>,
+    number: u64,
+    batch: Batch,
+    sink: &mut K,
+) -> Result<u64, FilterEnd>
+    ensures counted { IfOk result (λ behind. behind
+        ≡ number_behind number (came_together batch.arrived.items batch.no_parcel)) }
+    ensures moved { OnOk result (MovesBy N.machine (kind D.tells D.seen D.may_leave D.moment D.left_since D.faults)
+        (arrivals_of (came_together batch.arrived.items batch.no_parcel)) node.old node.new) }
+    ensures wrote { OnOk result (Wrote
+        (text_of N.machine node.old.stand number (came_together batch.arrived.items batch.no_parcel))
+        (outlet (K.held sink.old) (K.tells sink.old) (K.faults sink.old) (K.flushed sink.old))
+        (outlet (K.held sink.new) (K.tells sink.new) (K.faults sink.new) (K.flushed sink.new))) }
+    ensures unanswered { IfErr result (Unanswered N.machine
+        (kind D.tells D.seen D.may_leave D.moment D.left_since D.faults)
+        (came_together batch.arrived.items batch.no_parcel) number node.old node.new
+        (outlet (K.held sink.old) (K.tells sink.old) (K.faults sink.old) (K.flushed sink.old))
+        (outlet (K.held sink.new) (K.tells sink.new) (K.faults sink.new) (K.flushed sink.new))) }
+    ensures cause { IfErr result (EndsAnswering (kind D.tells D.seen D.may_leave D.moment D.left_since D.faults)
+        (came_together batch.arrived.items batch.no_parcel) node.old node.new
+        (outlet (K.held sink.old) (K.tells sink.old) (K.faults sink.old) (K.flushed sink.old))
+        (outlet (K.held sink.new) (K.tells sink.new) (K.faults sink.new) (K.flushed sink.new))) }
+{
+    let said = say(alloc, node, number, batch)?;
+    put(sink, &said.text)?;
+    Ok(said.behind)
+}
+
+/// Gives a batch to the node, and puts what is said of it into a text.
+fn say<N: Core + Drop, D: Disk>(
+    alloc: Global,
+    node: &mut Durable<N, D>,
+    number: u64,
+    batch: Batch,
+) -> Result<Said, FilterEnd>
+    ensures text { IfOk result (λ said. said.text.items
+        ≡ text_of N.machine node.old.stand number (came_together batch.arrived.items batch.no_parcel)) }
+    ensures counted { IfOk result (λ said. said.behind
+        ≡ number_behind number (came_together batch.arrived.items batch.no_parcel)) }
+    ensures moved { OnOk result (MovesBy N.machine (kind D.tells D.seen D.may_leave D.moment D.left_since D.faults)
+        batch.arrived.items node.old node.new) }
+    ensures outlasts { Outlasts N.machine (kind D.tells D.seen D.may_leave D.moment D.left_since D.faults)
+        (taken N.machine node.old.stand batch.arrived.items) node.old node.new }
+    ensures disk_faults { D.faults node.old.disk ≤ D.faults node.new.disk }
+    ensures cause { IfErr result (EndsSaying D.faults batch.arrived.items node.old node.new) }
+{
+    let Batch { arrived, no_parcel } = batch;
+    let behind = number.saturating_add(arrived.len() as u64);
+    let answers = node.on_all(arrived)?;
+    Ok(text_for(alloc, number, &answers, behind, no_parcel)?)
+}
+
+/// What is said of answers, and of what stands behind them, if that is no parcel.
+fn text_for(
+    alloc: Global,
+    number: u64,
+    answers: &[Answered],
+    behind: u64,
+    no_parcel: Option<u64>,
+) -> Result<Said, NoMemory>
+    ensures text { IfOk result (λ said. said.text.items
+        ≡ parcels_of (all_told number answers.now) ++ parcels_of (last_said behind no_parcel)) }
+    ensures counted { IfOk result (λ said. said.behind ≡ number_behind behind (came_last no_parcel)) }
+{
+    let mut text = Vec::new(alloc);
+    tell(alloc, number, answers, &mut text)?;
+    let Some(at) = no_parcel else {
+        return Ok(Said { text, behind });
+    };
+    tell_one(alloc, &Outgoing::NoParcel { input: behind, at }, &mut text)?;
+    Ok(Said {
+        text,
+        behind: behind.saturating_add(1),
+    })
+}
+
+/// Writes a text, and passes it on.
+fn put<K: Sink>(sink: &mut K, text: &[u8]) -> Result<(), FilterEnd>
+    ensures wrote { K.tells sink.old ≡ true → OnOk result (K.held sink.new ≡ K.held sink.old ++ text.now) }
+    ensures part { K.tells sink.old ≡ true → HoldsPart (K.held sink.old) (K.held sink.new) text.now }
+    ensures passed_on { OnOk result (K.flushed sink.new ≡ true) }
+    ensures writing { IfErr result IsOfWriting }
+    ensures tells { K.tells sink.old ≡ true → K.tells sink.new ≡ true }
+    ensures cause { result ≡ Err FilterEnd.WriteFault → Rose (K.faults sink.old) (K.faults sink.new) }
+    ensures told { result ≢ Err FilterEnd.WriteFault → SameCount (K.faults sink.old) (K.faults sink.new) }
+{
+    match write_piece(sink, text) {
+        Written::Whole => pass_on(sink),
+        Written::WriteFault => Err(FilterEnd::WriteFault),
+        Written::NoMemory => Err(FilterEnd::NoMemory),
+    }
+}
+
+/// Passes on what the sink holds back.
+fn pass_on<K: Sink>(sink: &mut K) -> Result<(), FilterEnd>
+    ensures held { K.tells sink.old ≡ true → K.held sink.new ≡ K.held sink.old }
+    ensures passed_on { OnOk result (K.flushed sink.new ≡ true) }
+    ensures stops { IfErr result (λ end. end ≡ FilterEnd.WriteFault) }
+    ensures tells { K.tells sink.old ≡ true → K.tells sink.new ≡ true }
+    ensures cause { result ≡ Err FilterEnd.WriteFault → Rose (K.faults sink.old) (K.faults sink.new) }
+    ensures told { result ≢ Err FilterEnd.WriteFault → SameCount (K.faults sink.old) (K.faults sink.new) }
+{
+    match sink.flush() {
+        Flushed::Done => Ok(()),
+        Flushed::Failed => Err(FilterEnd::WriteFault),
+    }
+}
