@@ -84,18 +84,28 @@ pub(crate) fn add(rt: &impl Abort, inputs: &mut Vec<Arrived>, input: Arrived) {
     assert!(rt; inputs.push(input).is_ok());
 }
 
-/// Gives the node a nudge: how many inputs it took before, and how many messages go out by the nudge.
+/// Gives the node an order: how many inputs it took before, and how many messages go out by it.
+pub(crate) fn ordered<N: Core + Drop, D: Disk>(
+    rt: &impl Abort,
+    alloc: Global,
+    durable: &mut Durable<N, D>,
+    order: Local,
+) -> Result<(u64, usize), DurableError> {
+    let mut inputs = Vec::new(alloc);
+    add(rt, &mut inputs, Arrived::Local(order, 0));
+    let answers = durable.on_all(inputs)?;
+    let told = told_by(&answers);
+    drop(answers);
+    Ok(told)
+}
+
+/// The same of a nudge.
 pub(crate) fn nudged<N: Core + Drop, D: Disk>(
     rt: &impl Abort,
     alloc: Global,
     durable: &mut Durable<N, D>,
 ) -> (u64, usize) {
-    let mut inputs = Vec::new(alloc);
-    add(rt, &mut inputs, Arrived::Local(Local::Nudge, 0));
-    let answers = durable.on_all(inputs).expect(rt, "no answer");
-    let told = told_by(&answers);
-    drop(answers);
-    told
+    ordered(rt, alloc, durable, Local::Nudge).expect(rt, "no answer")
 }
 
 fn told_by(answers: &[Answered]) -> (u64, usize) {

@@ -154,7 +154,7 @@ fn witness(rt: &impl Abort, alloc: Global) -> WitnessNode {
 // ---- what is read
 
 /// A disk of these bytes.
-fn disk_of(rt: &impl Abort, alloc: Global, bytes: &[u8]) -> MemoryDisk {
+pub(crate) fn disk_of(rt: &impl Abort, alloc: Global, bytes: &[u8]) -> MemoryDisk {
     let mut disk = in_memory(rt, alloc);
     assert!(rt; disk.write_at(0, bytes) == Did::Done(bytes.len()));
     disk

@@ -9,4 +9,6 @@ mod crashes;
 #[cfg(test)]
 mod damage;
 #[cfg(test)]
+mod manager;
+#[cfg(test)]
 mod orders;

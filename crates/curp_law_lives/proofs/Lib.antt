@@ -1,0 +1,4 @@
+pub mod Orders
+pub mod Batches
+pub mod Runs
+pub mod Events

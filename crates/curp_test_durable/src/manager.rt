@@ -1,0 +1,120 @@
+// A manager whose disk stops: what it decided is sent again once its journal is opened.
+use crate::build::{TITLE, add, begin, nudged, opened, ordered};
+use crate::damage::disk_of;
+use curp_changes::Shape;
+use curp_disk::{Disk, MemoryDisk, StopDisk};
+use curp_durable::{Durable, DurableError, OpenError, SIZE_LIMIT};
+use curp_journal::Arrived;
+use curp_law_lives::{batch_happens, crash_happens, lives_are_one_run, opening_happens};
+use curp_msg::Local;
+use curp_nodes::ManagerNode;
+use std::alloc::Global;
+use std::process::Abort;
+
+fn manager(rt: &impl Abort, alloc: Global) -> ManagerNode {
+    let shape = Shape {
+        f: 1,
+        parts: 1,
+        clients: 1,
+    };
+    ManagerNode::new(alloc, &shape).expect(rt, "no memory")
+}
+
+fn reopened(rt: &impl Abort, alloc: Global, disk: StopDisk) -> Durable<ManagerNode, StopDisk> {
+    opened(alloc, disk, manager(rt, alloc)).expect(rt, "no journal")
+}
+
+/// The manager with an empty journal, of which the disk stops at that call.
+fn begun(rt: &impl Abort, alloc: Global, call: u64) -> Durable<ManagerNode, StopDisk> {
+    let mut disk = StopDisk::new(alloc);
+    begin(rt, alloc, &mut disk);
+    // The sync of the opening is a call too.
+    disk.arm(call.wrapping_add(1));
+    reopened(rt, alloc, disk)
+}
+
+fn recover() -> Local {
+    Local::Recover {
+        part: 1,
+        backup: 1,
+        witness: 1,
+    }
+}
+
+/// The disk of a manager that began a recovery, once it stopped at the last of the four calls that keep an expiry.
+fn stopped(rt: &impl Abort, alloc: Global) -> StopDisk {
+    let mut durable = begun(rt, alloc, 8);
+    assert_eq!(rt; ordered(rt, alloc, &mut durable, recover()), Ok((0, 3)));
+    assert_eq!(rt;
+        ordered(rt, alloc, &mut durable, Local::Expire(1)),
+        Err(DurableError::DiskFault)
+    );
+    durable.into_disk()
+}
+
+/// How many decisions the manager has behind a crash, and how many messages it then sends on a nudge.
+fn behind_crash(rt: &impl Abort, alloc: Global, kept: bool) -> (u64, usize) {
+    let mut disk = stopped(rt, alloc);
+    disk.crash(kept);
+    let mut durable = reopened(rt, alloc, disk);
+    let told = nudged(rt, alloc, &mut durable);
+    drop(durable);
+    told
+}
+
+/// The three messages of the recovery, and that of the expiry where the crash kept it.
+#[test]
+fn a_manager_sends_again_what_it_decided(rt: HostRuntime) {
+    let alloc = rt.alloc();
+    assert_eq!(rt; behind_crash(&rt, alloc, true), (2, 4));
+    assert_eq!(rt; behind_crash(&rt, alloc, false), (1, 3));
+}
+
+#[test]
+fn a_manager_whose_disk_stops_is_spent(rt: HostRuntime) {
+    let alloc = rt.alloc();
+    let mut durable = begun(&rt, alloc, 1);
+    for error in [DurableError::DiskFault, DurableError::Spent] {
+        let told = ordered(&rt, alloc, &mut durable, Local::Nudge);
+        assert_eq!(rt; told, Err(error));
+    }
+    drop(durable);
+}
+
+fn error_of(rt: &impl Abort, alloc: Global, disk: MemoryDisk) -> Option<OpenError> {
+    match opened(alloc, disk, manager(rt, alloc)) {
+        Ok(durable) => {
+            drop(durable);
+            None
+        }
+        Err(why) => Some(why),
+    }
+}
+
+/// An empty disk; and an empty journal whose gate was opened with nothing behind it.
+#[test]
+fn what_is_no_journal_is_told(rt: HostRuntime) {
+    let alloc = rt.alloc();
+    let disk = MemoryDisk::new(alloc, &[]).expect(&rt, "no memory");
+    assert_eq!(rt; error_of(&rt, alloc, disk), Some(OpenError::NotFormatted));
+    let disk = disk_of(&rt, alloc, b"node\x01");
+    let damaged = Some(OpenError::Damaged { place: 4 });
+    assert_eq!(rt; error_of(&rt, alloc, disk), damaged);
+}
+
+/// The calls by which a node's lives are spoken of do what those of its journal do.
+#[test]
+fn a_manager_lives_by_the_law(rt: HostRuntime) {
+    let alloc = rt.alloc();
+    let mut disk = StopDisk::new(alloc);
+    begin(&rt, alloc, &mut disk);
+    let opened = opening_happens(alloc, disk, TITLE, manager(&rt, alloc), SIZE_LIMIT);
+    let mut durable = opened.ok().expect(&rt, "no journal");
+    let mut inputs = Vec::new(alloc);
+    add(&rt, &mut inputs, Arrived::Local(Local::Expire(1), 0));
+    assert!(rt; batch_happens(&mut durable, inputs).is_ok());
+    crash_happens(&durable);
+    lives_are_one_run::<ManagerNode>();
+    assert_eq!(rt; nudged(&rt, alloc, &mut durable), (1, 3));
+    drop(durable);
+}
