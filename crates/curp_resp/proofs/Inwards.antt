@@ -1,16 +1,18 @@
 -- A request of which a front was read, and what the next bytes make of it.
-use Rattle.std.proofs.Common.{◌≡◌, ◌≢◌, ℕ, zero, suc, ◌+◌, ◌-◌, ◌^◌, ◌<◌, Bool, true, false, List, [], ◌∷◌, ◌++◌, length, drop, refl, ap, sym, ◌∙◌, subst, arith, append_assoc, append-nil, length-append}
+use Rattle.std.proofs.Common.{◌≡◌, ◌≢◌, ℕ, zero, suc, ◌+◌, ◌-◌, ◌^◌, ◌<◌, Bool, true, false, List, [], ◌∷◌, ◌++◌, length, take, drop, refl, ap, sym, ◌∙◌, subst, arith, append_assoc, append-nil, length-append, length-drop}
 use Rattle.std.specs.Prelude.{◌==◌, if◌then◌else◌}
-use Rattle.std.proofs.Math.Seq.{drop-append_seam}
+use Rattle.std.proofs.Math.Seq.{drop-append_seam, take-append_seam}
 use Rattle.curp_resp.specs.Ahead.{Ahead}
 use Rattle.curp_resp.specs.Feeds.{Feeds, Passes, read_first, read_on}
+use Rattle.curp_resp.specs.First.{IsFirst, first_by, first_in}
 use Rattle.curp_resp.specs.Frames.{argument_step, bytes_step, count_step, frame_step, fresh_frame, is_fresh, no_digits, number_step, rest_most, size_step, stage_rest, stage_step}
 use Rattle.curp_resp.specs.Input.{BreaksOff, NoneStandsFirst, SomeStandsFirst, StandsFirst, place_behind}
 use Rattle.curp_resp.specs.Kept.{KeptArguments, Parts, kept_by, no_parts, nothing_kept}
 use Rattle.curp_resp.specs.KeptMeaning.{meaning_of_kept}
-use Rattle.curp_resp.specs.Language.{carriage_return, dollar, line_feed, star}
+use Rattle.curp_resp.specs.Language.{IsRequest, carriage_return, dollar, line_feed, star}
 use Rattle.curp_resp.specs.Next.{GivesRequest, LosesFront, RefusesBytes}
 use Rattle.curp_resp.specs.Read.{Read, Inside, Gives, Refuses, read_by}
+use Rattle.curp_resp.specs.declared.first.FirstRequest.TheVariants as first
 use Rattle.curp_resp.specs.declared.frame.Effect.{Effect}
 use Rattle.curp_resp.specs.declared.frame.Effect.TheVariants as effect
 use Rattle.curp_resp.specs.declared.frame.Frame.{Frame}
@@ -333,3 +335,38 @@ begins_refused bytes rest h = refuses_none bytes rest (refuses_parts bytes rest 
 
 pub begins_inside : (bytes : List ℕ) (frame : Frame) (kept : KeptArguments) → read_first bytes ≡ Inside frame kept → NoneStandsFirst bytes
 begins_inside bytes frame kept h = let parts = inside_parts bytes frame kept h in inside_none bytes frame parts.0 parts.1
+
+-- ---- what stands first
+
+pub first_stands : (bytes : List ℕ) → IsFirst bytes (first_in bytes)
+first_stands bytes =
+    elim (read_first bytes) as (λ r. read_first bytes ≡ r → IsFirst bytes (first_by bytes r)) [
+      | Inside frame kept ↦ λ e.
+          let parts = inside_parts bytes frame kept e in
+          record { front = runs.read_front bytes frame parts.0 parts.1; none = inside_none bytes frame parts.0 parts.1 }
+      | Gives kept rest ↦ λ e.
+          let whole = gives_parts bytes kept rest e in
+          let first = runs.read_first bytes whole.0 rest whole.1 in
+          let len : length bytes - length rest ≡ length first.spelled = omega (arith, ap length first.is, length-append first.spelled rest) in
+          let front : take (length bytes - length rest) bytes ≡ first.spelled =
+          ap (λ n. take n bytes) len ∙ ap (λ w. take (length first.spelled) w) (sym first.is) ∙ take-append_seam first.spelled rest in
+          record {
+            arguments = whole.0.whole;
+            within = omega arith;
+            request = subst (λ w. IsRequest w whole.0.whole) (sym front) first.request;
+            meant = ap meaning_of_kept whole.2 ∙ meaning_kept whole.0;
+          }
+      | Refuses rest ↦ λ e.
+          let at = refuses_at bytes rest fresh_frame no_parts (refuses_parts bytes rest e) in
+          record {
+            place = length at.front;
+            within = omega (arith, ap length at.is, length-append at.front (at.byte ∷ at.others));
+            broken = subst (λ w. BreaksOff w (length at.front)) at.is (breaks_at at.front at.byte at.others at.last at.parts at.inside at.refused);
+          }
+    ] refl
+
+-- a request ends behind the byte at this place
+pub whole_first : (bytes : List ℕ) (at : ℕ) (kept : KeptArguments) → at < length bytes → read_first bytes ≡ Gives kept (drop (suc at) bytes)
+    → first.Whole (meaning_of_kept kept) (at + 1) ≡ first_in bytes
+whole_first bytes at kept within e =
+    sym (ap (first_by bytes) e ∙ ap (λ n. first.Whole (meaning_of_kept kept) n) (omega (arith, length-drop (suc at) bytes)))

@@ -1,5 +1,6 @@
 pub mod Ahead
 pub mod Feeds
+pub mod First
 pub mod Frames
 pub mod Input
 pub mod Kept

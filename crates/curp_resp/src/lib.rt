@@ -21,6 +21,7 @@
 //!   answer comes exactly where it is due, a bad request at exactly the place where the bytes break off (`BreaksOff`);
 //!   `waits`: nothing is read while a whole request is read ahead, which `has_request` tells. `repeats`: after a fault
 //!   or a bad request it answers the same for ever. `cause` and `told` are those of a source.
+//! - `first_request`: the same of bytes that stand in memory, of which more may come (`IsFirst`).
 //! - `reply_text`, `wrong_text`, `protocol_text`: exact (`reply_of`, `wrong_of`, `protocol_error`).
 //! - `laws`: no request begins another, an input is requests and a rest in exactly one way, and that rest is empty or
 //!   breaks off at exactly one place.
@@ -30,6 +31,7 @@ mod argument;
 mod arguments;
 mod asked;
 mod command;
+mod first;
 mod frame;
 pub mod laws;
 mod number;
@@ -40,5 +42,6 @@ mod window;
 mod word;
 
 pub use asked::{Asked, Wrong};
+pub use first::{FirstRequest, first_request};
 pub use reply::{protocol_text, reply_text, wrong_text};
 pub use requests::{NextRequest, Requests};

@@ -1,0 +1,5 @@
+pub mod Finding
+pub mod Replies
+pub mod Settling
+pub mod Splitting
+pub mod Talk

@@ -1,0 +1,16 @@
+use Rattle.std.proofs.Common.{[], ◌∷◌, ap, sym, ◌∙◌}
+use Rattle.curp_front.specs.Conversation.{has_number, settled}
+use Rattle.curp_front.specs.Fronts.{changed_at}
+use Rattle.curp_front.proofs.Finding.{found_at, found_none}
+use Rattle.curp_front.proofs.connections.settle.Goals as goal
+
+pub returns-in-Some : goal.returns-in-Some
+returns-in-Some c =
+    let connections = c.args.connections.now.items in
+    let f = found_at (has_number c.args.number) connections c.in-Some.at (rw c.deref.ensures.value at c.in-Some.ensures) in
+    c.settle_at.ensures f.found f.stands ∙ sym (ap (changed_at (λ x. settled c.args.due.now x ∷ []) connections) f.is)
+
+pub returns-in_default : goal.returns-in_default
+returns-in_default c =
+    let connections = c.args.connections.now.items in
+    sym (ap (changed_at (λ x. settled c.args.due.now x ∷ []) connections) (found_none (has_number c.args.number) connections (rw c.deref.ensures.value at c.in_default.ensures)))

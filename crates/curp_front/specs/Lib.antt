@@ -1,0 +1,6 @@
+pub mod Conversation
+pub mod Finding
+pub mod Fronts
+pub mod Replies
+pub mod Talk
+pub mod Words

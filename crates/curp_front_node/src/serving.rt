@@ -1,0 +1,363 @@
+ghost use Rattle.std.specs.Prelude.{◌≡◌, ◌≢◌, IfErr, IsErr};
+ghost use Rattle.curp_io.specs.Streams.{Rose, SameCount};
+ghost use Rattle.curp_front_node.specs.Ends.{IsOfNode, IsOfWaiting, IsOfWriting};
+
+use curp_base::{Items, NoMemory, Shared};
+use curp_client::InvokeError;
+use curp_cmd::{Command, RequestId};
+use curp_disk::Disk;
+use curp_durable::{Answered, Durable};
+use curp_filter::FilterEnd;
+use curp_front::{
+    Admitted, FrontInput, FrontOutput, Fronts, Refusal, front_input_in, is_short, too_many_text,
+    write_front_output,
+};
+use curp_io::{Flushed, Sink, Source, Written, write_piece};
+use curp_journal::Arrived;
+use curp_msg::Local;
+use curp_nodes::ClientNode;
+use curp_parcels::{NextParcel, Outgoing, Parcels};
+use curp_told::{tell, tell_one};
+use std::alloc::Global;
+
+/// How many requests of a client are pending at most (this project's own).
+const MOST_PENDING: usize = 8;
+
+/// Reads parcels and the bytes of connections until the input ends, and answers both. The client is of this number.
+/// Commands of connections are invoked with the last stamp of the node's journal.
+pub fn serve<D: Disk, S: Source, K: Sink>(
+    alloc: Global,
+    client: u32,
+    node: &mut Durable<ClientNode, D>,
+    source: &mut S,
+    sink: &mut K,
+) -> FilterEnd
+    ensures read_fault { result ≡ FilterEnd.ReadFault → Rose (S.faults source.old) (S.faults source.new) }
+    ensures no_read_fault { result ≢ FilterEnd.ReadFault → SameCount (S.faults source.old) (S.faults source.new) }
+    ensures write_fault { result ≡ FilterEnd.WriteFault → Rose (K.faults sink.old) (K.faults sink.new) }
+    ensures no_write_fault { result ≢ FilterEnd.WriteFault → SameCount (K.faults sink.old) (K.faults sink.new) }
+{
+    let mut parcels = Parcels::new(alloc);
+    let mut server = Server {
+        alloc,
+        client,
+        node,
+        fronts: Fronts::new(alloc),
+        inputs: 0,
+        text: Vec::new(alloc),
+    };
+    for _ in 0..u64::MAX {
+        if let Some(stop) = parcels.await_parcel(source) {
+            return end_of(&stop);
+        }
+        if let Err(end) = server.turn(&mut parcels, sink) {
+            return end;
+        }
+    }
+    FilterEnd::TooManyInputs
+}
+
+/// How a process ends that waits for a parcel.
+fn end_of(stop: &NextParcel) -> FilterEnd
+    ensures fault { result ≡ FilterEnd.ReadFault → stop.now ≡ NextParcel.ReadFault }
+    ensures no_fault { result ≢ FilterEnd.ReadFault → stop.now ≢ NextParcel.ReadFault }
+    ensures of_waiting { IsOfWaiting result }
+{
+    match stop {
+        NextParcel::Inside { at } => FilterEnd::Inside { at: *at },
+        NextParcel::TooLong { at } => FilterEnd::TooLong { at: *at },
+        NextParcel::ReadFault => FilterEnd::ReadFault,
+        NextParcel::NoMemory => FilterEnd::NoMemory,
+        NextParcel::End | NextParcel::Arrived(_) | NextParcel::NoParcel { .. } => FilterEnd::End,
+    }
+}
+
+/// What was read ahead: inputs of the node, and the place of what stands behind them, if that is no parcel.
+#[derive(Drop)]
+struct Taken {
+    arrived: Vec<Arrived>,
+    no_parcel: Option<u64>,
+}
+
+/// The node, the connections in front of it, and what is to be written.
+struct Server<'a, D: Disk> {
+    alloc: Global,
+    client: u32,
+    node: &'a mut Durable<ClientNode, D>,
+    fronts: Fronts,
+    /// How many inputs were told of.
+    inputs: u64,
+    text: Vec<u8>,
+}
+
+impl<'a, D: Disk> Drop for Server<'a, D> {
+    fn drop(self) {
+        let Server {
+            alloc: _,
+            client: _,
+            node: _,
+            fronts: _,
+            inputs: _,
+            text: _,
+        } = self;
+    }
+}
+
+impl<'a, D: Disk> Server<'a, D> {
+    /// Answers what is read ahead, and what connections ask for, and writes it at once.
+    fn turn<K: Sink>(&mut self, parcels: &mut Parcels, sink: &mut K) -> Result<(), FilterEnd>
+        ensures of_writing { IfErr result IsOfWriting }
+        ensures cause { result ≡ Err FilterEnd.WriteFault → Rose (K.faults sink.old) (K.faults sink.new) }
+        ensures told { result ≢ Err FilterEnd.WriteFault → SameCount (K.faults sink.old) (K.faults sink.new) }
+    {
+        self.answer_all(parcels)?;
+        put(sink, &self.text)?;
+        self.text.clear();
+        Ok(())
+    }
+
+    /// Answers what is read ahead, and what connections ask for.
+    fn answer_all(&mut self, parcels: &mut Parcels) -> Result<(), FilterEnd>
+        ensures { IfErr result IsOfNode }
+    {
+        let taken = self.take(parcels)?;
+        self.answer(taken.arrived)?;
+        self.tell_no_parcel(taken.no_parcel)?;
+        self.tell_connections()?;
+        // What connections are told may bring their next commands.
+        for _ in 0..u64::MAX {
+            if !self.invoke()? {
+                break;
+            }
+            self.tell_connections()?;
+        }
+        Ok(())
+    }
+
+    /// Takes what is read ahead whole, up to what is no parcel: inputs of the node are given back, and connections get what
+    /// is theirs.
+    fn take(&mut self, parcels: &mut Parcels) -> Result<Taken, NoMemory> {
+        let mut arrived = Vec::new(self.alloc);
+        for _ in 0..u64::MAX {
+            let front = front_ahead(self.alloc, parcels)?;
+            match (parcels.ready_parcel(), front) {
+                (Some(NextParcel::Arrived(input)), _) => arrived.push(input)?,
+                (Some(NextParcel::NoParcel { .. }), Some(input)) => self.take_front(&input)?,
+                (Some(NextParcel::NoParcel { at }), None) => {
+                    return Ok(Taken {
+                        arrived,
+                        no_parcel: Some(at),
+                    });
+                }
+                (_, _) => break,
+            }
+        }
+        Ok(Taken {
+            arrived,
+            no_parcel: None,
+        })
+    }
+
+    /// Gives connections what is theirs.
+    fn take_front(&mut self, input: &FrontInput) -> Result<(), NoMemory> {
+        match input {
+            FrontInput::Bytes { connection, bytes } => {
+                match self.fronts.on_bytes(*connection, bytes.as_slice())? {
+                    Admitted::Taken => Ok(()),
+                    Admitted::TooMany => self.turn_away(*connection),
+                }
+            }
+            FrontInput::Closed { connection } => {
+                self.fronts.on_closed(*connection);
+                Ok(())
+            }
+        }
+    }
+
+    fn tell_no_parcel(&mut self, no_parcel: Option<u64>) -> Result<(), NoMemory> {
+        let Some(at) = no_parcel else {
+            return Ok(());
+        };
+        self.inputs = self.inputs.saturating_add(1);
+        let input = self.inputs;
+        tell_one(
+            self.alloc,
+            &Outgoing::NoParcel { input, at },
+            &mut self.text,
+        )
+    }
+
+    /// Tells a connection that there are too many.
+    fn turn_away(&mut self, connection: u64) -> Result<(), NoMemory> {
+        let bytes = Items::new(Vec::from_slice(self.alloc, too_many_text())?);
+        self.tell_front(&FrontOutput::Reply { connection, bytes })?;
+        self.tell_front(&FrontOutput::Close { connection })
+    }
+
+    /// Gives the node its inputs, and tells what it answers.
+    fn answer(&mut self, arrived: Vec<Arrived>) -> Result<(), FilterEnd>
+        ensures { IfErr result IsOfNode }
+    {
+        if arrived.is_empty() {
+            return Ok(());
+        }
+        let answers = self.node.on_all(arrived)?;
+        let first = self.inputs.saturating_add(1);
+        tell(self.alloc, first, &answers, &mut self.text)?;
+        self.inputs = self.inputs.saturating_add(answers.len() as u64);
+        for answered in answers.iter() {
+            self.hear(answered);
+        }
+        Ok(())
+    }
+
+    /// Tells connections of a request that completed.
+    fn hear(&mut self, answered: &Answered) {
+        if let Answered::Made { item, .. } = answered {
+            if let Some(completed) = &item.done.completed {
+                self.fronts.on_completed(completed.id, &completed.answer);
+            }
+        }
+    }
+
+    /// Has the node invoke what connections ask for, as much as may be pending, if they ask for anything.
+    fn invoke(&mut self) -> Result<bool, FilterEnd>
+        ensures { IfErr result IsOfNode }
+    {
+        let Asked {
+            connections,
+            orders,
+        } = self.next_commands()?;
+        if orders.is_empty() {
+            return Ok(false);
+        }
+        let before = self.node.node().last();
+        let answers = self.node.on_all(orders)?;
+        self.settle(before, &connections, &answers);
+        self.tell_messages(&answers)?;
+        Ok(true)
+    }
+
+    /// The next commands that connections ask for.
+    fn next_commands(&mut self) -> Result<Asked, NoMemory> {
+        let mut asked = Asked {
+            connections: Vec::new(self.alloc),
+            orders: Vec::new(self.alloc),
+        };
+        let pending = self.node.node().pending();
+        for more in 0..MOST_PENDING {
+            let Some((connection, command)) = self
+                .fronts
+                .next_command(pending.saturating_add(more))?
+            else {
+                break;
+            };
+            let order = self.order(&command)?;
+            asked.connections.push(connection)?;
+            asked.orders.push(order)?;
+        }
+        Ok(asked)
+    }
+
+    fn order(&self, command: &Command) -> Result<Arrived, NoMemory> {
+        let shared = Shared::of(self.alloc, command)?;
+        Ok(Arrived::Local(Local::Invoke(shared), self.node.last_stamp()))
+    }
+
+    /// Tells each connection which request its command is, or why it is none. A client's requests are numbered one by one.
+    fn settle(&mut self, before: u32, connections: &[u64], answers: &[Answered]) {
+        let mut seq = before;
+        for (connection, answered) in connections.iter().zip(answers.iter()) {
+            match answered {
+                Answered::Made { .. } => {
+                    seq = seq.saturating_add(1);
+                    let client = self.client;
+                    self.fronts
+                        .on_invoked(*connection, RequestId { client, seq });
+                }
+                Answered::Refused { number } => {
+                    self.fronts.on_refused(*connection, refusal_of(*number));
+                }
+            }
+        }
+    }
+
+    /// Tells what invoked requests send. A command that is refused has its reply at its connection.
+    fn tell_messages(&mut self, answers: &[Answered]) -> Result<(), NoMemory> {
+        for answered in answers {
+            if let Answered::Made { .. } = answered {
+                let one = std::slice::from_ref(answered);
+                tell(self.alloc, self.inputs, one, &mut self.text)?;
+            }
+        }
+        Ok(())
+    }
+
+    /// Tells connections what is due.
+    fn tell_connections(&mut self) -> Result<(), NoMemory> {
+        for _ in 0..u64::MAX {
+            match self.fronts.next_output()? {
+                Some(output) => self.tell_front(&output)?,
+                None => break,
+            }
+        }
+        Ok(())
+    }
+
+    fn tell_front(&mut self, output: &FrontOutput) -> Result<(), NoMemory> {
+        if is_short(output) {
+            write_front_output(output, &mut self.text)
+        } else {
+            Ok(())
+        }
+    }
+}
+
+/// Commands that connections ask for, as orders, and the connection of each.
+#[derive(Drop)]
+struct Asked {
+    connections: Vec<u64>,
+    orders: Vec<Arrived>,
+}
+
+/// What of a connection stands next, if it is that.
+fn front_ahead(alloc: Global, parcels: &Parcels) -> Result<Option<FrontInput>, NoMemory> {
+    match parcels.ready_content() {
+        Some(content) => front_input_in(alloc, content),
+        None => Ok(None),
+    }
+}
+
+/// Why a command wasn't invoked, by the number of the refusal.
+fn refusal_of(number: u8) -> Refusal {
+    if number == InvokeError::Split.number() {
+        Refusal::Split
+    } else {
+        Refusal::Spent
+    }
+}
+
+/// Writes a text, and passes it on.
+fn put<K: Sink>(sink: &mut K, text: &[u8]) -> Result<(), FilterEnd>
+    ensures of_writing { IfErr result IsOfWriting }
+    ensures cause { result ≡ Err FilterEnd.WriteFault → Rose (K.faults sink.old) (K.faults sink.new) }
+    ensures told { result ≢ Err FilterEnd.WriteFault → SameCount (K.faults sink.old) (K.faults sink.new) }
+{
+    match write_piece(sink, text) {
+        Written::Whole => pass_on(sink),
+        Written::WriteFault => Err(FilterEnd::WriteFault),
+        Written::NoMemory => Err(FilterEnd::NoMemory),
+    }
+}
+
+/// Passes on what the sink holds back.
+fn pass_on<K: Sink>(sink: &mut K) -> Result<(), FilterEnd>
+    ensures of_writing { IfErr result IsOfWriting }
+    ensures cause { result ≡ Err FilterEnd.WriteFault → Rose (K.faults sink.old) (K.faults sink.new) }
+    ensures told { result ≢ Err FilterEnd.WriteFault → SameCount (K.faults sink.old) (K.faults sink.new) }
+{
+    match sink.flush() {
+        Flushed::Done => Ok(()),
+        Flushed::Failed => Err(FilterEnd::WriteFault),
+    }
+}
