@@ -76,8 +76,8 @@ fn add_anew<N: Core + Drop>(
     Ok(true)
 }
 
-/// Whether there is a first item, and it took a message.
-fn takes_first(items: &[Item]) -> bool
+/// Whether there is a first item, and it took a message, as that of a node that isn't there before any step.
+pub fn takes_first(items: &[Item]) -> bool
     ensures { IsTrue result ↔ TakesFirst items.now }
 {
     match items {

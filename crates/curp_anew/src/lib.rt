@@ -6,6 +6,7 @@
 //!   (`checked`). It gives nothing just where they aren't those of a run of the plan in which the work was done.
 //!   `anew_at_opening` gives the inputs again so for any journals of a header's nodes, and what it gives can be gathered
 //!   (`AreOf`).
+//! - `is_own`, `takes_first` and `fresh_witness` serve whoever reads journals of single nodes.
 //! - `stops` says which nodes the driver of a run stops.
 #![tactic(auto)]
 
@@ -16,6 +17,8 @@ mod own;
 mod stopping;
 mod work;
 
+pub use anew::takes_first;
 pub use checking::{anew_at_opening, checked};
-pub use nodes::LiveNodes;
+pub use nodes::{LiveNodes, fresh_witness};
+pub use own::is_own;
 pub use stopping::stops;

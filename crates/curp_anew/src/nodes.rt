@@ -150,7 +150,8 @@ fn with_fresh_witnesses(
     Ok(witnesses)
 }
 
-fn fresh_witness(alloc: Global, header: &Header, number: u32) -> Result<WitnessNode, NoMemory>
+/// The witness of that number that a recovery or a replacement starts, in the shape of the header's witnesses.
+pub fn fresh_witness(alloc: Global, header: &Header, number: u32) -> Result<WitnessNode, NoMemory>
     ensures number { IfOk result (λ w. w.number ≡ number) }
     ensures state { IfOk result (λ w. w.state ≡ fresh_witness header.now.sets header.now.ways) }
 {

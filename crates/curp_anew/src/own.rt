@@ -19,7 +19,7 @@ pub(crate) fn all_own(id: NodeId, items: &[Item]) -> bool
 }
 
 /// Whether it is a message to the node, or an order that a script can give to it.
-fn is_own(id: NodeId, arrived: &Arrived) -> bool
+pub fn is_own(id: NodeId, arrived: &Arrived) -> bool
     ensures { IsTrue result ↔ IsOwn id arrived.now }
 {
     match arrived {

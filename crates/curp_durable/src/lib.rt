@@ -6,7 +6,7 @@
 //!
 //! - `format` writes an empty journal. `Durable::open` reads one and gives its inputs to a fresh node: `NotFormatted` and
 //!   `Damaged` come exactly where the bytes are so, and never where they are a journal (`journal`). `read_inputs` gives
-//!   the inputs alone.
+//!   the inputs alone, and `inputs_in` those of bytes that were read before.
 //! - `Durable::on_all` gives the node a batch. The answers come once those that the node takes are on the disk
 //!   (`answers`, `kept`). After a crash at any moment in the call the disk has the journal with all of these or with none
 //!   (`any_moment`).
@@ -25,5 +25,5 @@ mod writing;
 pub use durable::{Durable, OpenFailed, SIZE_LIMIT};
 pub use error::{DurableError, FormatError, OpenError};
 pub use formatting::format;
-pub use opening::read_inputs;
+pub use opening::{inputs_in, read_inputs};
 pub use stand::Answered;

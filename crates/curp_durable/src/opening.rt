@@ -158,8 +158,9 @@ fn collect(alloc: Global, content: &[u8], title: &[u8]) -> Result<Vec<Arrived>, 
     }
 }
 
-/// The inputs of the journal of a title.
-fn inputs_in(alloc: Global, content: &[u8], title: &[u8]) -> Result<Vec<Arrived>, OpenError>
+/// The inputs of the journal of a title, which these bytes begin with. It takes memory for the inputs. Bytes that were read
+/// of a file to which a node still writes are a journal too, of the inputs up to a gate that wasn't open yet.
+pub fn inputs_in(alloc: Global, content: &[u8], title: &[u8]) -> Result<Vec<Arrived>, OpenError>
     ensures ok { IfOk result (λ inputs. HoldsJournal content.now title.now inputs.items) }
     ensures err { IfErr result (OpensNot content.now title.now) }
     ensures no_fault { IfErr result (λ e. e ≢ OpenError.DiskFault) }

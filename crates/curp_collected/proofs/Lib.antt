@@ -1,0 +1,13 @@
+pub mod Begun
+pub mod Counts
+pub mod Failing
+pub mod Finding
+pub mod Logs
+pub mod Names
+pub mod OneLog
+pub mod Openings
+pub mod Printable
+pub mod Reading
+pub mod Taken
+pub mod Titles
+pub mod Whole

@@ -1,0 +1,5 @@
+pub mod Causes
+pub mod Collected
+pub mod Files
+pub mod Kinds
+pub mod Taking
