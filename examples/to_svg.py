@@ -220,15 +220,16 @@ line, path { stroke: #222; stroke-width: 1.2; fill: none } .life { stroke: #bbb 
 """
 
 
-def picture(script, output):
-    """The whole picture, as one text."""
+def picture(script, output, marks=lambda steps, columns, height: []):
+    """The whole picture, as one text. `marks` gives what else is drawn."""
     steps = steps_of(script, output)
     columns = columns_of(steps)
     height = place_all(steps)
     width = LEFT + COLUMN * len(columns)
     point = '<path d="M0,0 L9,4 L0,8 z" class="head"/>'
     head = f'<marker id="head" markerWidth="9" markerHeight="8" refX="8" refY="4" orient="auto">{point}</marker>'
-    parts = life_lines(steps, columns, height) + arrows(steps, columns) + own_marks(steps, columns)
+    parts = life_lines(steps, columns, height) + marks(steps, columns, height)
+    parts += arrows(steps, columns) + own_marks(steps, columns)
     return "\n".join(
         [f'<svg xmlns="http://www.w3.org/2000/svg" width="{width}" height="{height}" viewBox="0 0 {width} {height}">']
         + [f"<style>{STYLE}</style>", f"<defs>{head}</defs>", f'<rect width="{width}" height="{height}" fill="#fff"/>']

@@ -1,17 +1,20 @@
 #!/usr/bin/env python3
 """Lets a real client of Redis talk to the cluster, and compares what it is told.
 
-    tools/redis_session.py CURP       CURP is the program, as `rt run` in crates/curp leaves it in crates/curp/out/curp
+    tools/redis_session.py CURP [CURPD]    CURP is the program, as `rt run` in crates/curp leaves it in crates/curp/out/curp
 
 It needs Debian's packages socat and redis-tools. socat serves one connection of a port of this machine with `curp resp`,
 and redis-cli sends its commands over it, each once it has the reply to the one before. It prints what was sent and what
-came, and ends with 1 where a reply is another than the one that is wanted.
+came, and ends with 1 where a reply is another than the one that is wanted. With CURPD, the program of a node, it does the
+same at the port of a cluster that `cluster/run` runs.
 """
 
+import contextlib
 import os
 import socket
 import subprocess
 import sys
+import tempfile
 import time
 
 SESSION = [
@@ -42,12 +45,37 @@ def free_port():
         return one.getsockname()[1]
 
 
+def wait_for(port):
+    """Waits until a port is open, for at most half a minute."""
+    for _ in range(300):
+        with contextlib.suppress(OSError), socket.create_connection(("127.0.0.1", port)):
+            return
+        time.sleep(0.1)
+
+
 def replies(curp, words):
     """What redis-cli prints for the session, line by line, where `curp resp` runs with these words."""
     port = free_port()
     served = f"EXEC:{curp} resp {words}".strip()
-    server = subprocess.Popen(["socat", f"TCP-LISTEN:{port},bind=127.0.0.1,reuseaddr", served])
+    server = subprocess.Popen(["socat", f"TCP-LISTEN:{port},bind=127.0.0.1,reuseaddr,nodelay", served])
+    # It serves one connection, so nobody may look whether it is there.
     time.sleep(1)
+    return told_by(server, port)
+
+
+def replies_of_cluster(curpd):
+    """The same for a port of `cluster/run`."""
+    port = free_port()
+    run = os.path.join(os.path.dirname(os.path.abspath(__file__)), "..", "cluster", "run")
+    with tempfile.TemporaryDirectory() as folder:
+        words = [run, folder, "--clients", "3", "--redis-port", str(port), "--curpd", curpd]
+        server = subprocess.Popen(words, stdin=subprocess.DEVNULL)
+        wait_for(port)
+        return told_by(server, port)
+
+
+def told_by(server, port):
+    """What redis-cli prints for the session. The server is ended then."""
     commands = "".join(f"{command}\n" for command, _ in SESSION)
     client = ["redis-cli", "--no-raw", "-2", "-p", str(port)]
     try:
@@ -59,13 +87,16 @@ def replies(curp, words):
 
 
 def main():
-    if len(sys.argv) != 2:
+    if len(sys.argv) not in (2, 3):
         sys.exit(__doc__)
-    curp = os.path.abspath(sys.argv[1])
+    curp, *curpd = map(os.path.abspath, sys.argv[1:])
+    served = ("", "--f 1 --every 1", "--f 5 --every 3")
+    sessions = [(f"curp resp {words}".strip(), replies, (curp, words)) for words in served]
+    sessions += [("cluster/run", replies_of_cluster, (path,)) for path in curpd]
     good = True
-    for words in ("", "--f 1 --every 1", "--f 5 --every 3"):
-        print(f"curp resp {words}".strip())
-        lines = replies(curp, words)
+    for name, told, words in sessions:
+        print(name)
+        lines = told(*words)
         good &= len(lines) == len(SESSION)
         for (command, wanted), line in zip(SESSION, lines):
             good &= line == wanted

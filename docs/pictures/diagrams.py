@@ -99,6 +99,31 @@ def deployment():
     return whole(810, 660, parts)
 
 
+def cluster():
+    """The processes of a cluster that runs, and what is between them."""
+    parts = ['<rect x="20" y="20" width="760" height="300" rx="6" class="ground"/>']
+    parts += [text(32, 38, "one program of Python: cluster/run, or cluster/break", "small", "start")]
+    for x, name, chores in (
+        (50, "host of C1", ["retries after silence,", "fetches after a refusal"]),
+        (230, "host of M1", ["sync and collect, by", "updates or milliseconds"]),
+        (410, "host of B1, W1, ..", ["nothing"]),
+        (590, "host of G", ["probes; nudge, recover,", "replace"]),
+    ):
+        parts += box(x, 180, 160, 80, name, chores)
+        parts += [arrow([(x + 60, 260), (x + 60, 378)]), arrow([(x + 100, 380), (x + 100, 262)])]
+        parts += [arrow([(x + 80, 180), (x + 80, 122)]), arrow([(x + 80, 120), (x + 80, 178)])]
+        parts += [text(x + 52, 305, "in", "label small", "end"), text(x + 108, 305, "out", "label small", "start")]
+        parts += box(x, 380, 160, 60, "curpd node", ["a process, proved"], "code")
+        parts += [arrow([(x + 80, 440), (x + 80, 478)])] + box(x + 20, 480, 120, 40, "its journal", [], "shared")
+    parts += box(50, 60, 700, 60, "the wire", ["TCP on the loopback, or within the program: may lose, repeat, delay and reorder"])
+    parts += lines(30, 550, [
+        "What a host gives its process: messages that came, as the sender's process said them, and orders, each with the highest",
+        "stamp that was seen. What the process says: its messages, once they stand in its journal; completions; refusals.",
+        "Afterwards `curpd gather` makes one script of the journals, whatever the hosts and the wire did.",
+    ], "", "start")
+    return whole(800, 600, parts)
+
+
 def master():
     """What a master goes through, and by which message."""
     parts = box(40, 60, 150, 64, "fresh", ["refuses: switching"])
@@ -191,4 +216,4 @@ def layers():
 
 def drawn():
     """Each picture by its name."""
-    return {"deployment": deployment(), "life-of-a-master": master(), "layers": layers()}
+    return {"deployment": deployment(), "cluster": cluster(), "life-of-a-master": master(), "layers": layers()}

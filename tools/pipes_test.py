@@ -1,0 +1,328 @@
+#!/usr/bin/env python3
+"""Runs the nodes of a cluster as one process each over pipes, and compares what they answer with what is wanted.
+
+    tools/pipes_test.py CURPD FOLDER [--curp CURP]
+
+CURPD is the program `curpd`, CURP the program `curp`: that of the environment's CURP, or crates/curp/out/curp, where
+none is said. Each scenario has a cluster of its own (G, M1, B1, W1, C1, C2), its journals in FOLDER/NAME, and leaves
+what it gathers as FOLDER/NAME.script. What is done and heard is printed, and the status is 1 where something else comes
+than is wanted.
+"""
+
+import argparse
+import asyncio
+import os
+import shutil
+import subprocess
+import sys
+from collections.abc import Callable
+from pathlib import Path
+
+TOP = Path(__file__).resolve().parent.parent
+sys.path.insert(0, str(TOP / "cluster"))
+sys.dont_write_bytecode = True
+import hosts  # noqa: E402
+import node  # noqa: E402
+import parcels  # noqa: E402
+import recorder  # noqa: E402
+from recorder import Wrong  # noqa: E402
+
+HEADER = {"clients": 2, "f": 1, "fast": True, "parts": 1, "protocol": 1, "sets": 64, "ways": 4}
+LIMIT = 20  # seconds for anything that is waited for
+LIMIT_OF_ALL = 300
+
+
+class Bench:
+    """A cluster whose messages are carried as they come, but for those that `loses` names."""
+
+    def __init__(self, name: str, options: argparse.Namespace, header: dict = HEADER):
+        self.name, self.options = name, options
+        self.folder = Path(options.folder) / name
+        shutil.rmtree(self.folder, ignore_errors=True)
+        self.folder.mkdir(parents=True)
+        self.setting = node.Setting(options.curpd, header, self.folder)
+        self.nodes: dict[str, node.Node] = {}
+        self.said: dict[str, list[parcels.Parcel]] = {}
+        self.ended: dict[str, int] = {}
+        self.highest = 0
+        self.lost: list[parcels.Sent] = []
+        self.loses: Callable[[parcels.Sent], bool] = lambda message: False
+        self.news = asyncio.Event()
+
+    async def begin(self, *names: str) -> None:
+        for name in names:
+            if name not in self.nodes:
+                heard, ended = self.hearing(name), self.ending(name)
+                self.nodes[name] = node.Node(name, self.setting, heard, ended)
+            self.said[name] = []
+            hosts.write_event(self.folder, name, "up", self.highest)
+            await self.nodes[name].start()
+            await self.until(f"{name} stands", lambda: self.stands(name))
+
+    def hearing(self, name: str) -> Callable[[parcels.Parcel], None]:
+        return lambda said: self.heard(name, said)
+
+    def ending(self, name: str) -> Callable[[int], None]:
+        return lambda status: self.note_end(name, status)
+
+    def note_end(self, name: str, status: int) -> None:
+        self.ended[name] = status
+        self.news.set()
+
+    def heard(self, name: str, said: parcels.Parcel) -> None:
+        self.said[name].append(said)
+        self.highest = max(self.highest, parcels.stamp_of(said))
+        if isinstance(said, parcels.Sent):
+            if self.loses(said):
+                self.lost.append(said)
+            elif said.addressee in self.nodes:
+                self.nodes[said.addressee].give(parcels.arriving(said))
+        self.news.set()
+
+    def stands(self, name: str) -> bool:
+        return any(isinstance(said, parcels.Stands) for said in self.said[name])
+
+    def sends(self, name: str, tag: int) -> bool:
+        """Whether the process of a node sent a message with that tag, since it began."""
+        return any(isinstance(said, parcels.Sent) and said.tag == tag for said in self.said[name])
+
+    async def until(self, what: str, holds: Callable[[], bool]) -> None:
+        """Waits until it holds."""
+        try:
+            async with asyncio.timeout(LIMIT):
+                while not holds():
+                    self.news.clear()
+                    await self.news.wait()
+        except TimeoutError:
+            raise Wrong(f"{self.name}: {what}: not within {LIMIT} seconds") from None
+
+    def order(self, name: str, order: bytes) -> int:
+        return self.nodes[name].give(parcels.ordering(order, self.highest))
+
+    def completed(self, client: int, number: int) -> list | None:
+        """The answer to a request, once it completed."""
+        for said in self.said[f"C{client}"]:
+            if isinstance(said, parcels.Completed) and (said.client, said.number) == (client, number):
+                return said.answer
+        return None
+
+    async def answer(self, client: int, number: int, wanted: list) -> None:
+        """Waits for the answer to a request, and compares it."""
+        await self.until(f"request {client}.{number} completes", lambda: self.completed(client, number) is not None)
+        self.same(f"the answer to {client}.{number}", self.completed(client, number), wanted)
+
+    async def ask(self, client: int, number: int, command: list, wanted: list) -> None:
+        self.order(f"C{client}", parcels.invoke(command))
+        await self.answer(client, number, wanted)
+
+    def same(self, what: str, found, wanted) -> None:
+        if found != wanted:
+            raise Wrong(f"{self.name}: {what} is {found}, and {wanted} is wanted")
+        print(f"    {what}: {found}")
+
+    async def kill(self, name: str) -> None:
+        self.nodes[name].kill()
+        await self.nodes[name].gone()
+        hosts.write_event(self.folder, name, "killed", self.highest)
+        print(f"    {name} is killed")
+
+    async def finish(self) -> None:
+        """Ends each input: each process answers what came, and ends well."""
+        for name, one in self.nodes.items():
+            if one.is_up():
+                await one.finish()
+                if self.ended[name] != node.ENDED:
+                    raise Wrong(f"{self.name}: {name} ends with {self.ended[name]}")
+
+    def gather(self) -> str:
+        """Gathers the journals, keeps the script, and compares what is printed for it with what `curp play` prints."""
+        script, played = recorder.gather(self.options.curpd, list(self.folder.glob("*.journal")))
+        (Path(self.options.folder) / f"{self.name}.script").write_text(script, encoding="utf-8")
+        recorder.check_script(self.options.curp, script, played)
+        print(f"    gathered: {len(script.splitlines()) - 1} steps, and play prints the same")
+        return played
+
+    def ordered(self, played: str) -> list[str]:
+        """The requests of the order that is printed, with their answers."""
+        lines = played.splitlines()
+        at = next(place for place, line in enumerate(lines) if line.startswith("order "))
+        return lines[at + 1 :]
+
+
+def is_kind(*tags: int) -> Callable[[parcels.Sent], bool]:
+    return lambda message: message.tag in tags
+
+
+OPENING = node.opening_names(HEADER)
+
+
+async def put_and_get(options: argparse.Namespace) -> None:
+    """A put of one client, and a get of the other."""
+    bench = Bench("put-and-get", options)
+    await bench.begin(*OPENING)
+    bench.same("items of a journal that was made", [s for s in bench.said["M1"]], [parcels.Stands(0, 0)])
+    await bench.ask(1, 1, ["put", "61", "31"], ["done"])
+    await bench.ask(2, 1, ["get", "61"], ["found", "31"])
+    await bench.ask(2, 2, ["get", "62"], ["found", None])
+    await bench.finish()
+    order = bench.ordered(bench.gather())
+    bench.same("the order", order, ["1.1 put 61 31 -> done", "2.1 get 61 -> found 31", "2.2 get 62 -> none"])
+
+
+async def lost_reply(options: argparse.Namespace) -> None:
+    """A reply that is lost, and a retry: the increment is done once."""
+    bench = Bench("lost-reply", options)
+    await bench.begin(*OPENING)
+    bench.loses = is_kind(parcels.REPLY)
+    bench.order("C1", parcels.invoke(["incr", "6e"]))
+    await bench.until("a reply is lost", lambda: bool(bench.lost))
+    bench.same("answers while the reply is lost", bench.completed(1, 1), None)
+    bench.loses = lambda message: False
+    bench.order("C1", parcels.retry(1))
+    await bench.answer(1, 1, ["number", 1])
+    await bench.ask(2, 1, ["incr", "6e"], ["number", 2])
+    refused = bench.order("C1", parcels.retry(1))
+    await bench.until("the retry is refused", lambda: parcels.Refused(refused, 1) in bench.said["C1"])
+    await bench.finish()
+    order = bench.ordered(bench.gather())
+    bench.same("the order", order, ["1.1 incr 6e -> number 1", "2.1 incr 6e -> number 2"])
+
+
+async def killed_master(options: argparse.Namespace) -> None:
+    """The master is killed with its reply lost; it begins again with what it kept, and a retry has the answer."""
+    bench = Bench("killed-master", options)
+    await bench.begin(*OPENING)
+    bench.loses = is_kind(parcels.REPLY)
+    bench.order("C1", parcels.invoke(["incr", "6e"]))
+    await bench.until("a reply is lost", lambda: bool(bench.lost))
+    await bench.kill("M1")
+    bench.loses = lambda message: False
+    await bench.begin("M1")
+    bench.same("items of M1", bench.said["M1"][0].items, 1)
+    bench.order("C1", parcels.retry(1))
+    await bench.answer(1, 1, ["number", 1])
+    await bench.finish()
+    bench.same("the order", bench.ordered(bench.gather()), ["1.1 incr 6e -> number 1"])
+
+
+async def killed_in_turn(options: argparse.Namespace) -> None:
+    """Each process is killed while a request is pending, and begins again."""
+    bench = Bench("killed-in-turn", options)
+    await bench.begin(*OPENING)
+    for number, name in enumerate(OPENING, 1):
+        bench.loses, bench.lost = is_kind(parcels.REPLY, parcels.WORTH), []
+        bench.order("C1", parcels.invoke(["incr", "6e"]))
+        await bench.until("a reply is lost", lambda: bool(bench.lost))
+        await bench.kill(name)
+        bench.loses = lambda message: False
+        await bench.begin(name)
+        first = bench.said[name][0]
+        bench.same(f"{name} has items", first.items > 0, name not in ("G", "C2"))
+        if name == "C1":
+            await bench.until(f"1.{number} is told", lambda: parcels.Pending(1, number) in bench.said["C1"])
+            done = [said.number for said in bench.said["C1"] if isinstance(said, parcels.Completed)]
+            bench.same("completions that C1 tells again", done, list(range(1, number)))
+        # A round that the killed process missed is made good by the next one.
+        bench.order("M1", parcels.SYNC_ORDER)
+        bench.order("C1", parcels.retry(number))
+        await bench.answer(1, number, ["number", number])
+    await bench.ask(2, 1, ["get", "6e"], ["found", f"{len(OPENING):016x}"])
+    await bench.finish()
+    bench.same("requests in the order", len(bench.ordered(bench.gather())), len(OPENING) + 1)
+
+
+async def recovery(options: argparse.Namespace) -> None:
+    """M1 is gone for good with what no backup has. M2 begins fresh by its name, with B2 and W2."""
+    bench = Bench("recovery", options)
+    await bench.begin(*OPENING)
+    await bench.ask(1, 1, ["put", "61", "31"], ["done"])
+    await bench.ask(1, 2, ["incr", "6e"], ["number", 1])
+    await bench.kill("M1")
+    await bench.begin("M2", "B2", "W2")
+    bench.order("G", parcels.recover(1, 1, 1))
+    await bench.until("M2 is adopted", lambda: bench.sends("G", parcels.ADOPTED))
+    bench.order("C2", parcels.invoke(["get", "61"]))
+    bench.order("C2", parcels.FETCH_ORDER)
+    await bench.until("C2 is told", lambda: bench.sends("G", parcels.CONFIGURATION))
+    bench.order("C2", parcels.retry(1))
+    await bench.answer(2, 1, ["found", "31"])
+    await bench.ask(2, 2, ["incr", "6e"], ["number", 2])
+    await bench.finish()
+    order = bench.ordered(bench.gather())
+    bench.same("requests in the order", sorted(line.split()[0] for line in order), ["1.1", "1.2", "2.1", "2.2"])
+
+
+async def recovery_cut(options: argparse.Namespace) -> None:
+    """The manager and the fresh master are killed in the middle of a recovery, and the backup that is asked too."""
+    bench = Bench("recovery-cut", options)
+    await bench.begin(*OPENING)
+    await bench.ask(1, 1, ["append", "61", "31"], ["length", 1])
+    await bench.kill("M1")
+    await bench.begin("M2", "B2", "W2")
+    bench.loses = is_kind(parcels.FENCE_ANSWER, parcels.FROZEN_ANSWER)
+    bench.order("G", parcels.recover(1, 1, 1))
+    await bench.until("answers are lost", lambda: len(bench.lost) == 2)
+    for name in ("G", "M2", "B1", "W1"):
+        await bench.kill(name)
+        await bench.begin(name)
+    bench.loses = lambda message: False
+    bench.order("M2", parcels.SYNC_ORDER)
+    await bench.until("M2 is adopted", lambda: bench.sends("G", parcels.ADOPTED))
+    bench.order("C1", parcels.FETCH_ORDER)
+    await bench.until("C1 is told", lambda: bench.sends("G", parcels.CONFIGURATION))
+    await bench.ask(1, 2, ["append", "61", "32"], ["length", 2])
+    await bench.finish()
+    bench.same("requests in the order", len(bench.ordered(bench.gather())), 2)
+
+
+async def bad_input(options: argparse.Namespace) -> None:
+    """What is no parcel is told and passed over; an input that ends inside one, or has one too long, ends the run."""
+    bench = Bench("bad-input", options)
+    await bench.begin(*OPENING)
+    bench.nodes["G"].give(parcels.parcel(b"\7nothing"))
+    await bench.until("it is told", lambda: parcels.NoParcel(1, 0) in bench.said["G"])
+    bench.order("G", parcels.NUDGE_ORDER)
+    await bench.until("the next parcel is taken", lambda: any(isinstance(s, parcels.Sent) for s in bench.said["G"]))
+    for name, data in (("B1", b"\0\0\0\5\1"), ("W1", b"\xff\xff\xff\xff")):
+        bench.nodes[name].process.stdin.write(data)
+        await bench.nodes[name].finish()
+        bench.same(f"the status of {name}", bench.ended[name], node.CUT)
+    bench.nodes["B1"].begun = True
+    bench.setting.journal("B1").unlink()
+    await bench.nodes["B1"].start()
+    await bench.nodes["B1"].gone()
+    bench.same("the status without a journal", bench.ended["B1"], node.NO_JOURNAL)
+    words = bench.setting.words("W1", "format")
+    again = subprocess.run(words, capture_output=True)
+    bench.same("a journal that is there is made again", again.returncode == 0, False)
+    await bench.finish()
+    bench.gather()
+
+
+SCENARIOS = [put_and_get, lost_reply, killed_master, killed_in_turn, recovery, recovery_cut, bad_input]
+
+
+async def run_all(options: argparse.Namespace) -> None:
+    async with asyncio.timeout(LIMIT_OF_ALL):
+        for scenario in SCENARIOS:
+            print(f"{scenario.__name__}: {scenario.__doc__}")
+            await scenario(options)
+
+
+def main() -> None:
+    default = os.environ.get("CURP", str(TOP / "crates/curp/out/curp"))
+    words = argparse.ArgumentParser(description=__doc__, formatter_class=argparse.RawDescriptionHelpFormatter)
+    words.add_argument("curpd")
+    words.add_argument("folder")
+    words.add_argument("--curp", default=default)
+    options = words.parse_args()
+    options.curpd, options.curp = node.program(options.curpd), node.program(options.curp)
+    try:
+        asyncio.run(run_all(options))
+    except (Wrong, TimeoutError) as wrong:
+        sys.exit(f"wrong: {wrong!r}" if isinstance(wrong, TimeoutError) else f"wrong: {wrong}")
+    print("all is as wanted")
+
+
+if __name__ == "__main__":
+    main()
