@@ -459,7 +459,9 @@ def main():
         "machine. Memory below 17 MB isn't told apart.",
     ]
     parts += plan_part(curp) + beside_part(curp) + recovery_part(curp) + round_trip_part(curp) + full_set_part(curp) + frame_part() + live_part(curp)
-    PAGE.write_text("\n\n".join(parts) + "\n", encoding="utf-8")
+    # That part of the page is written by tools/measure_curpd.py.
+    kept = PAGE.read_text(encoding="utf-8").partition("\n## Nodes as processes\n")
+    PAGE.write_text("\n\n".join(parts) + "\n" + "".join(kept[1:]), encoding="utf-8")
 
 
 if __name__ == "__main__":

@@ -1,0 +1,230 @@
+#!/usr/bin/env python3
+"""Kills the process of a node again and again, damages its journal, and fills its disk: nothing that was answered is lost.
+
+    tools/journal_test.py CURPD FOLDER [--runs N] [--seed N]
+
+CURPD is the program `curpd`. Journals are left in FOLDER. What was tried is counted and printed, and the status is 1 at the
+first thing that comes otherwise than is wanted. A client is run alone, and told to fetch the configuration: each such order
+makes an item of its journal, which sends one message, so the answers tell which items were answered.
+"""
+
+import argparse
+import random
+import resource
+import signal
+import subprocess
+import sys
+import threading
+import time
+from pathlib import Path
+
+sys.dont_write_bytecode = True
+sys.path.insert(0, str(Path(__file__).resolve().parent))
+import curpparcels  # noqa: E402
+import curpwire  # noqa: E402
+
+HEADER = '{"clients":2,"f":1,"fast":true,"parts":1,"protocol":1,"sets":64,"ways":4}'
+OTHER_HEADER = HEADER.replace('"clients":2', '"clients":3')
+TITLE = 36  # bytes of a journal before its first gate
+FETCH = curpparcels.encode("in", {"kind": "order", "order": {"kind": "fetch"}, "stamp": 0})
+CLOSED, USAGE, NO_JOURNAL, DISK = 0, 2, 8, 12  # numbers with which a process ends
+
+
+class Wrong(Exception):
+    """Something came otherwise than is wanted."""
+
+
+def want(what, got, wanted):
+    if got != wanted:
+        raise Wrong(f"{what}: {got!r}, wanted {wanted!r}")
+
+
+def words(options, journal, name="C1", header=HEADER):
+    return [options.curpd, "node", "--name", name, "--journal", str(journal), "--header", header]
+
+
+def formatted(options, name):
+    """A new journal of client 1."""
+    journal = Path(options.folder) / name
+    journal.unlink(missing_ok=True)
+    made = [options.curpd, "format", "--name", "C1", "--journal", str(journal), "--header", HEADER]
+    subprocess.run(made, check=True, timeout=20)
+    return journal
+
+
+def parcels_of(data):
+    """The whole parcels at the start of what a process said."""
+    said = []
+    while True:
+        try:
+            parcel, data = curpparcels.decode("out", data)
+        except curpwire.ShortFrame:
+            return said
+        said.append(parcel)
+
+
+def run(options, journal, given=b"", name="C1", header=HEADER, limit=None):
+    """Runs a process to its end: its number, and what it said."""
+
+    def limited():
+        if limit is not None:
+            signal.signal(signal.SIGXFSZ, signal.SIG_IGN)
+            resource.setrlimit(resource.RLIMIT_FSIZE, (limit, limit))
+
+    done = subprocess.run(
+        words(options, journal, name, header), input=given, capture_output=True, timeout=60, preexec_fn=limited
+    )
+    return done.returncode, parcels_of(done.stdout)
+
+
+def items(options, journal):
+    """How many items a journal has that can be opened."""
+    number, said = run(options, journal)
+    want("a journal is opened", number, CLOSED)
+    return said[0]["items"]
+
+
+def answered(said):
+    """The last item that was answered, 0 if none was. They come in order, and none is left out."""
+    steps = [parcel["step"] for parcel in said if parcel["kind"] == "sent"]
+    if steps:
+        want("steps of answers", steps, list(range(steps[0], steps[0] + len(steps))))
+    return steps[-1] if steps else 0
+
+
+# ---- kills
+
+
+def killed_run(options, journal, chance):
+    """Runs a process and kills it at some moment: how many items stood there, and which was answered last."""
+    process = subprocess.Popen(words(options, journal), stdin=subprocess.PIPE, stdout=subprocess.PIPE)
+    said = []
+    reader = threading.Thread(target=lambda: said.append(process.stdout.read()))
+    reader.start()
+    end = time.monotonic() + chance.uniform(0.0, 0.05)
+    try:
+        while time.monotonic() < end:
+            process.stdin.write(FETCH * chance.randint(1, 64))
+            process.stdin.flush()
+            time.sleep(chance.uniform(0.0, 0.002))
+    except BrokenPipeError as gone:
+        raise Wrong("a process ended by itself") from gone
+    process.kill()
+    reader.join()
+    process.wait()
+    process.stdout.close()
+    parcels = parcels_of(said[0])
+    return (parcels[0]["items"], max(parcels[0]["items"], answered(parcels))) if parcels else (None, 0)
+
+
+def try_kills(options):
+    """Kills a process at random moments, and starts it again."""
+    chance = random.Random(options.seed)
+    journal, heard, most = formatted(options, "killed.journal"), 0, 0
+    for _ in range(options.runs):
+        there, last = killed_run(options, journal, chance)
+        if there is not None and there < heard:
+            raise Wrong(f"{heard} items were answered, and {there} stand there")
+        heard = max(heard, last)
+        most = max(most, there or 0)
+    left = items(options, journal)
+    if left < heard:
+        raise Wrong(f"{heard} items were answered, and {left} are left")
+    print(f"{options.runs} kills: {left} items, {heard} of them answered")
+
+
+# ---- damage
+
+
+def batches(options, journal):
+    """A journal of four batches, and where each of its gates stands."""
+    gates = [TITLE]
+    for count in (1, 3, 2, 5):
+        want("a batch", run(options, journal, FETCH * count)[0], CLOSED)
+        gates.append(journal.stat().st_size - 1)
+    return gates
+
+
+def try_damage(options):
+    """Cuts a journal at each byte, and changes each: a prefix of its batches is opened, or it is told what is wrong."""
+    journal = formatted(options, "whole.journal")
+    batches(options, journal)
+    whole = journal.read_bytes()
+    count = items(options, journal)
+    damaged = Path(options.folder) / "damaged.journal"
+    opened = refused = 0
+    for place in range(len(whole)):
+        for bytes_ in (whole[:place], whole[:place] + bytes([whole[place] ^ 1]) + whole[place + 1 :]):
+            damaged.write_bytes(bytes_)
+            number, said = run(options, damaged)
+            if number == CLOSED:
+                opened += 1
+                want("a prefix", said[0]["items"] <= count, True)
+            else:
+                refused += 1
+                want(f"a journal with byte {place} cut or changed", (number, said), (NO_JOURNAL, []))
+    # Only a gate that is shut ends a journal before its end.
+    want("journals that were opened", opened, 4)
+    print(f"{2 * len(whole)} damaged journals: {opened} opened as a prefix, {refused} refused")
+
+
+# ---- files and disks
+
+
+def try_files(options):
+    """What is no journal of this node is refused, and so is one that is in use."""
+    journal, folder = formatted(options, "file.journal"), Path(options.folder)
+    want("another node", run(options, journal, name="C2")[0], NO_JOURNAL)
+    want("another cluster", run(options, journal, header=OTHER_HEADER)[0], NO_JOURNAL)
+    want("no file", run(options, folder / "missing")[0], NO_JOURNAL)
+    want("a folder", run(options, folder)[0], NO_JOURNAL)
+    want("no name", run(options, journal, name="X1")[0], USAGE)
+    want("no such client", run(options, journal, name="C3")[0], USAGE)
+    again = subprocess.run(
+        [options.curpd, "format", "--name", "C1", "--journal", str(journal), "--header", HEADER], stderr=subprocess.DEVNULL
+    )
+    want("a journal that is there", again.returncode, NO_JOURNAL)
+    user = subprocess.Popen(words(options, journal), stdin=subprocess.PIPE, stdout=subprocess.PIPE)
+    user.stdout.read(4 + 17)
+    want("a journal in use", run(options, journal)[0], NO_JOURNAL)
+    user.communicate(timeout=20)
+    want("a journal that was in use", items(options, journal), 0)
+    print("8 files that can't be opened, each refused")
+
+
+def try_full_disks(options):
+    """A file may get no longer than so many bytes: what was answered stands there, and a longer disk goes on."""
+    rooms = range(TITLE + 1, TITLE + 400, 7)
+    for room in rooms:
+        journal = formatted(options, "full.journal")
+        heard = 0
+        number, said = run(options, journal, FETCH * 5, limit=room)
+        heard = max(heard, answered(said))
+        while number == CLOSED:
+            number, said = run(options, journal, FETCH * 5, limit=room)
+            heard = max(heard, answered(said))
+        want("a full disk", number, DISK)
+        left = items(options, journal)
+        if left < heard:
+            raise Wrong(f"on {room} bytes {heard} items were answered, and {left} are left")
+        want("a disk with more room", answered(run(options, journal, FETCH)[1]), left + 1)
+    print(f"{len(rooms)} full disks: what was answered stands there, and they go on with more room")
+
+
+def main():
+    parser = argparse.ArgumentParser(description=__doc__, formatter_class=argparse.RawDescriptionHelpFormatter)
+    parser.add_argument("curpd")
+    parser.add_argument("folder")
+    parser.add_argument("--runs", type=int, default=200)
+    parser.add_argument("--seed", type=int, default=1)
+    options = parser.parse_args()
+    Path(options.folder).mkdir(parents=True, exist_ok=True)
+    try:
+        for test in (try_files, try_damage, try_full_disks, try_kills):
+            test(options)
+    except Wrong as wrong:
+        sys.exit(f"wrong: {wrong}")
+
+
+if __name__ == "__main__":
+    main()
