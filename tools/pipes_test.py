@@ -212,7 +212,9 @@ async def killed_in_turn(options: argparse.Namespace) -> None:
     for number, name in enumerate(OPENING, 1):
         bench.loses, bench.lost = is_kind(parcels.REPLY, parcels.WORTH), []
         bench.order("C1", parcels.invoke(["incr", "6e"]))
-        await bench.until("a reply is lost", lambda: bool(bench.lost))
+        # The reply to this one: that to the retry of the one before may come as late.
+        mine = (1, number)
+        await bench.until("its reply is lost", lambda: mine in [lost.request() for lost in bench.lost])
         await bench.kill(name)
         bench.loses = lambda message: False
         await bench.begin(name)
@@ -299,7 +301,34 @@ async def bad_input(options: argparse.Namespace) -> None:
     bench.gather()
 
 
-SCENARIOS = [put_and_get, lost_reply, killed_master, killed_in_turn, recovery, recovery_cut, bad_input]
+def replies(bench: Bench, connection: int) -> bytes:
+    """What the process of client 1 told a connection."""
+    return b"".join(s.data for s in bench.said["C1"] if isinstance(s, parcels.Bytes) and s.connection == connection)
+
+
+async def connections(options: argparse.Namespace) -> None:
+    """Connections of Redis' protocol in front of a client: replies in order, more requests than may be pending, a bad one."""
+    bench = Bench("connections", options)
+    bench.setting.fronts = frozenset({"C1"})
+    await bench.begin(*OPENING)
+    front = bench.nodes["C1"]
+    incr, get = b"*2\r\n$4\r\nINCR\r\n$1\r\nn\r\n", b"*2\r\n$3\r\nGET\r\n$1\r\nn\r\n"
+    front.give(parcels.bytes_of(1, incr * 20 + get))
+    found = b"$8\r\n" + (20).to_bytes(8, "big") + b"\r\n"  # a counter is a value of eight bytes
+    wanted = b"".join(b":%d\r\n" % count for count in range(1, 21)) + found
+    await bench.until("20 increments and a get are replied to", lambda: len(replies(bench, 1)) >= len(wanted))
+    bench.same("the replies", replies(bench, 1), wanted)
+    front.give(parcels.bytes_of(2, get + b"none\r\n" + get))
+    await bench.until("a bad request ends its connection", lambda: parcels.Close(2) in bench.said["C1"])
+    bench.same("the replies to it", replies(bench, 2), found + b"-ERR protocol\r\n")
+    front.give(parcels.closed(2))
+    front.give(parcels.bytes_of(1, incr))
+    await bench.until("the other goes on", lambda: replies(bench, 1).endswith(b":21\r\n"))
+    await bench.finish()
+    bench.same("requests in the order", len(bench.ordered(bench.gather())), 23)
+
+
+SCENARIOS = [put_and_get, lost_reply, killed_master, killed_in_turn, recovery, recovery_cut, bad_input, connections]
 
 
 async def run_all(options: argparse.Namespace) -> None:
