@@ -16,7 +16,7 @@ import sys
 from collections import Counter
 from pathlib import Path
 
-LEAST, MOST = 11, 16_777_216  # bytes behind the length of a frame
+LEAST, MOST = 11, 4_294_967_295  # bytes behind the length of a frame
 NODES = "GCMBW"  # manager, client, master, backup, witness
 SIZES = {"byte": 1, "truth": 1, "count": 4, "u32": 4, "u64": 8, "hash": 8, "node": 5}  # bytes
 STRINGS = {"key": (1, 32), "value": (0, 128)}  # least and most bytes, behind a byte for their number
@@ -295,7 +295,7 @@ ONE_OF = re.compile(r"^An? \*\*([a-z-]+)\*\* is a byte and then its fields:\n\n(
 ONE_KIND = re.compile(r"^\| (\d+) \| `([a-z-]+)` \| ([^|]*) \|", re.MULTILINE)
 BODY = re.compile(r"^### (\d+) ([a-z-]+)\n[^#]*?^Fields: (.*)\.$", re.MULTILINE)
 TEST_FRAME = re.compile(r'"([0-9a-f]{8} [0-9a-f ]+)"')
-TEST_FAULT = re.compile(r'"([0-9a-f ]+)",\s*(?:(\d+)|FrameError::(?:BadTag|Short \{ need: ([\d_]+) \})),?\s*\)')
+TEST_FAULT = re.compile(r'"([0-9a-f ]+)",\s*(?:(\d+)|FrameError::(?:BadTag|Short \{\s*need: ([\d_]+),?\s*\})),?\s*\)')
 
 
 class Check:

@@ -1,5 +1,5 @@
 -- Arrivals are a format, and what is read at the start of bytes stands there.
-use Rattle.std.specs.Prelude.{◌≡◌, ◌≢◌, ℕ, suc, ◌+◌, ◌-◌, ◌<◌, ◌≤◌, List, ◌∷◌, ◌++◌, length, take, drop, get_or, Result, Ok, Err, refl}
+use Rattle.std.specs.Prelude.{◌≡◌, ◌≢◌, ℕ, suc, ◌+◌, ◌-◌, ◌<◌, ◌≤◌, List, ◌∷◌, ◌++◌, length, take, drop, get_or, false, Result, Ok, Err, refl}
 use Rattle.std.proofs.Common.{sym, ◌∙◌, ap, subst, arith, append_assoc, length-append, length-drop, take-append-drop}
 use Rattle.std.proofs.lemmas.List.{drop_at, length-take-le, take_all}
 use Rattle.curp_base.specs.Words.{AreBytes}
@@ -7,7 +7,7 @@ use Rattle.curp_items.proofs.Combining.{Again, IsFormat, SoundVariants, done, fi
 use Rattle.curp_items.proofs.Formats.{node_is, u64_is}
 use Rattle.curp_items.specs.Calls.{ReadsNot}
 use Rattle.curp_items.specs.Format.{Format, Input, ◌▸◌}
-use Rattle.curp_items.specs.Items.{node, u64}
+use Rattle.curp_items.specs.Items.{is_node, node, u64}
 use Rattle.curp_items.specs.declared.fault.Fault.{Fault}
 use Rattle.curp_items.specs.declared.fault.ReadError.{ReadError}
 use Rattle.curp_items.specs.declared.fault.ReadError.TheVariants as error
@@ -16,8 +16,9 @@ use Rattle.curp_journal.specs.declared.arrived.Arrived.TheVariants as arrived
 use Rattle.curp_journal.specs.declared.arrived.Named.{Named}
 use Rattle.curp_msg.specs.declared.machine.Local.{Local}
 use Rattle.curp_msg.specs.declared.message.Message.{Message}
-use Rattle.curp_wire.proofs.Frames.{IsFound, frame_again, frame_found}
-use Rattle.curp_wire.specs.Frame.{Frame, frame_in}
+use Rattle.curp_fields.proofs.Having.{node_passes}
+use Rattle.curp_wire.proofs.Frames.{IsFound, frame_again, frame_found, frame_had}
+use Rattle.curp_wire.specs.Frame.{Frame, frame_in, has_frame}
 use Rattle.curp_wire.specs.declared.error.FrameError.{FrameError}
 use Rattle.curp_wire.specs.declared.error.FrameError.TheVariants as wire
 use Rattle.curp_batches.specs.Arrivals.{Name, arrival, arrival_parts, arrival_variants, frame, frame_of, frame_step, name, named, named_made, named_parts, stamped}
@@ -37,6 +38,14 @@ frame_fits m bytes f = same_frame m bytes f
 pub frame_text : (m : Message) (bytes : List ℕ) → Frame m bytes → bytes ≡ frame.of m
 unfolding frame
 frame_text m bytes f = f.is
+
+pub no_sender : (n : Named) → is_node n.from ≡ false → named.Fits n → ⊥
+unfolding named name
+no_sender n none fits = absurd (cc (sym none ∙ node_passes n.from fits.0.0))
+
+pub unframed : (n : Named) → has_frame n.message ≡ false → named.Fits n → ⊥
+unfolding named frame
+unframed n none fits = absurd (cc (sym none ∙ frame_had n.message (frame_of n.message) fits.1))
 
 found_begins : (bytes : List ℕ) (found : Message × ℕ) → IsFound bytes found → (bytes ≡ frame_of found.0 ++ drop found.1 bytes) × (found.1 ≡ length (frame_of found.0))
 found_begins bytes found f =

@@ -1,16 +1,15 @@
 -- What comes to a node as bytes (this project's own).
-use Rattle.std.specs.Prelude.{ℕ, ◌+◌, ◌&&◌, Bool, true, List, [], ◌∷◌, ◌++◌, length, drop, Result, Ok, Err}
+use Rattle.std.specs.Prelude.{ℕ, ◌+◌, List, [], ◌∷◌, ◌++◌, length, drop, Result, Ok, Err}
 use Rattle.std.specs.Int.{to_be_bytes, w32}
 use Rattle.curp_cmd.specs.declared.node.NodeId.{NodeId}
 use Rattle.curp_items.specs.Format.{Format, Input, Tagged, Variant, one_of, shaped, tagged, variant, ◌▸◌}
-use Rattle.curp_items.specs.Items.{is_node, node, u64}
+use Rattle.curp_items.specs.Items.{node, u64}
 use Rattle.curp_journal.specs.declared.arrived.Arrived.{Arrived}
 use Rattle.curp_journal.specs.declared.arrived.Arrived.TheVariants as arrived
 use Rattle.curp_journal.specs.declared.arrived.Named.{Named}
 use Rattle.curp_msg.specs.declared.machine.Local.{Local}
 use Rattle.curp_msg.specs.declared.message.Message.{Message}
 use Rattle.curp_wire.specs.Frame.{Frame, content, frame_in}
-use Rattle.curp_wire.specs.Light.{is_light}
 use Rattle.curp_wire.specs.declared.error.FrameError.{FrameError}
 use Rattle.curp_batches.specs.Orders.{orders}
 
@@ -63,8 +62,3 @@ arrival_variants = variant 0 named arrived.Message ∷ variant 1 stamped (λ p. 
 
 unfoldable pub arrival : Format Arrived
 arrival = one_of arrival_parts arrival_variants
-
--- its frame is surely short enough, and its sender is a node
-abbrev pub is_light_arrival : Arrived → Bool
-is_light_arrival (arrived.Message n) = is_node n.from && is_light n.message
-is_light_arrival (arrived.Local order stamp) = true

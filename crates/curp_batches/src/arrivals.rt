@@ -1,41 +1,30 @@
 //! One that comes to a node, as bytes.
-ghost use Rattle.std.specs.Prelude.{◌≡◌, ◌≤◌, ◌<◌, ◌^◌, ◌∷◌, ◌++◌, length, true, OnOk};
+ghost use Rattle.std.specs.Prelude.{◌≡◌, ◌≤◌, ◌<◌, ◌^◌, ◌∷◌, ◌++◌, length, Err, OnOk};
 ghost use Rattle.curp_items.specs.Calls.{ReadsIfMemory};
-ghost use Rattle.curp_journal.specs.declared.arrived.Arrived.TheVariants as arrived;
 ghost use Rattle.curp_batches.specs.Arrivals as format;
-ghost use Rattle.curp_batches.specs.Arrivals.{arrival, frame, is_light_arrival, named, stamped};
+ghost use Rattle.curp_batches.specs.Arrivals.{arrival, frame, named, stamped};
 ghost use Rattle.curp_batches.specs.Prefixes.{Begins, IsErrorOf, ReadsPrefix};
 
+use crate::error::WriteError;
 use crate::order::{read_order, write_order};
 use curp_base::NoMemory;
 use curp_cmd::NodeId;
 use curp_items::{Fault, Item, ReadError, Reader, Writer, is_node};
 use curp_journal::{Arrived, Named};
 use curp_msg::{Local, Message};
-use curp_wire::{FrameError, decode, encode, is_light};
+use curp_wire::{FrameError, decode, encode};
 use std::alloc::Global;
 
-/// Whether `encode` takes it: a message whose frame is short enough for certain (`curp_wire::is_light`) and whose sender
-/// is a node, or any order.
-pub fn is_light_arrival(arrived: &Arrived) -> bool
-    ensures { result ≡ is_light_arrival arrived.now }
-{
-    match arrived {
-        Arrived::Message(named) => is_node(&named.from) && is_light(&named.message),
-        Arrived::Local(_, _) => true,
-    }
-}
-
-/// Writes its encoding. Out of memory, what was written is not to be used.
+/// Writes its encoding. After an error, what was written is not to be used.
 #[tactic(auto, unfolding(crate::specs::Arrivals::arrival))]
-pub fn write_arrival(alloc: Global, arrived: &Arrived, out: &mut Writer) -> Result<(), NoMemory>
-    requires { is_light_arrival arrived.now ≡ true }
+pub fn write_arrival(alloc: Global, arrived: &Arrived, out: &mut Writer) -> Result<(), WriteError>
     ensures writes { OnOk result (out.new ≡ record {
       front = out.old.front;
       text = out.old.text
           ++ arrival.of arrived.now;
     }) }
     ensures fits { OnOk result (arrival.Fits arrived.now) }
+    ensures none { result ≡ Err WriteError.NoEncoding → arrival.Fits arrived.now → ⊥ }
 {
     match arrived {
         Arrived::Message(named) => {
@@ -44,24 +33,29 @@ pub fn write_arrival(alloc: Global, arrived: &Arrived, out: &mut Writer) -> Resu
         }
         Arrived::Local(order, stamp) => {
             out.byte(1)?;
-            write_stamped(order, *stamp, out)
+            write_stamped(order, *stamp, out)?;
+            Ok(())
         }
     }
 }
 
-#[tactic(auto, unfolding(crate::specs::Arrivals::named, crate::specs::Arrivals::name, crate::specs::Arrivals::frame), using(crate::proofs::Encodings::frame_fits, crate::proofs::Encodings::frame_text))]
-fn write_named(alloc: Global, sent: &Named, out: &mut Writer) -> Result<(), NoMemory>
-    requires { is_light_arrival (arrived.Message sent.now) ≡ true }
+#[tactic(auto, unfolding(crate::specs::Arrivals::named, crate::specs::Arrivals::name, crate::specs::Arrivals::frame), using(crate::proofs::Encodings::frame_fits, crate::proofs::Encodings::frame_text, crate::proofs::Encodings::no_sender, crate::proofs::Encodings::unframed))]
+fn write_named(alloc: Global, sent: &Named, out: &mut Writer) -> Result<(), WriteError>
     ensures writes { OnOk result (out.new ≡ record {
       front = out.old.front;
       text = out.old.text
           ++ named.of sent.now;
     }) }
     ensures fits { OnOk result (named.Fits sent.now) }
+    ensures none { result ≡ Err WriteError.NoEncoding → named.Fits sent.now → ⊥ }
 {
+    if !is_node(&sent.from) {
+        return Err(WriteError::NoEncoding);
+    }
     let frame = encode(alloc, &sent.message)?;
     (sent.from, (sent.step, (sent.place, sent.stamp))).write(out)?;
-    out.bytes(&frame)
+    out.bytes(&frame)?;
+    Ok(())
 }
 
 #[tactic(auto, unfolding(crate::specs::Arrivals::stamped))]

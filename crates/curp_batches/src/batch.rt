@@ -1,10 +1,11 @@
 //! Batches as bytes.
-ghost use Rattle.std.specs.Prelude.{◌≡◌, ◌≢◌, true, false, None, option_map, IfOk};
+ghost use Rattle.std.specs.Prelude.{◌≡◌, ◌≢◌, true, false, None, option_map, Err, IfOk};
 ghost use Rattle.curp_base.specs.Words.{Each};
-ghost use Rattle.curp_batches.specs.Arrivals.{is_light_arrival};
+ghost use Rattle.curp_batches.specs.Arrivals.{arrival};
 ghost use Rattle.curp_batches.specs.Batches.{AreArrivals, AreArrivalsIn, IsBatchIn, IsEncoding, checksum_of};
 
 use crate::arrivals::{arrival_at, write_arrival};
+use crate::error::WriteError;
 use curp_base::NoMemory;
 use curp_cmd::bytes_hash;
 use curp_items::{ReadError, Writer};
@@ -15,9 +16,9 @@ use std::alloc::{AllocError, Global};
 const CHECKSUM_LENGTH: usize = 8;
 
 /// Encodes a batch: its arrivals one behind the other, and the checksum of these bytes.
-pub fn encode(alloc: Global, batch: &[Arrived]) -> Result<Vec<u8>, NoMemory>
-    requires { Each (λ arrived. is_light_arrival arrived ≡ true) batch.now }
-    ensures { IfOk result (λ bytes. IsEncoding batch.now bytes.items) }
+pub fn encode(alloc: Global, batch: &[Arrived]) -> Result<Vec<u8>, WriteError>
+    ensures encoding { IfOk result (λ bytes. IsEncoding batch.now bytes.items) }
+    ensures none { result ≡ Err WriteError.NoEncoding → Each arrival.Fits batch.now → ⊥ }
 {
     let mut bytes = encode_arrivals(alloc, batch)?;
     let checksum = checksum_of(&bytes);
@@ -25,9 +26,9 @@ pub fn encode(alloc: Global, batch: &[Arrived]) -> Result<Vec<u8>, NoMemory>
     Ok(bytes)
 }
 
-fn encode_arrivals(alloc: Global, batch: &[Arrived]) -> Result<Vec<u8>, NoMemory>
-    requires { Each (λ arrived. is_light_arrival arrived ≡ true) batch.now }
-    ensures { IfOk result (λ bytes. AreArrivals batch.now bytes.items) }
+fn encode_arrivals(alloc: Global, batch: &[Arrived]) -> Result<Vec<u8>, WriteError>
+    ensures encoding { IfOk result (λ bytes. AreArrivals batch.now bytes.items) }
+    ensures none { result ≡ Err WriteError.NoEncoding → Each arrival.Fits batch.now → ⊥ }
 {
     let mut out = Writer::new(Vec::new(alloc));
     for arrived in batch {

@@ -6,14 +6,16 @@
 //!
 //! - `write_arrival` and `arrival_at`: one arrival, written behind others and read at the start of bytes, exact; `frame_at`
 //!   reads a message's frame.
-//! - `encode` writes a batch; `batch_in` is exact, both ways.
+//! - `encode` writes a batch, or says that one of it has no encoding; `batch_in` is exact, both ways.
 //! - `laws`: bytes are the encoding of one batch at most, and with one byte changed they are none's.
 #![tactic(auto)]
 
 mod arrivals;
 mod batch;
+mod error;
 pub mod laws;
 mod order;
 
-pub use arrivals::{arrival_at, frame_at, is_light_arrival, write_arrival};
+pub use arrivals::{arrival_at, frame_at, write_arrival};
 pub use batch::{batch_in, encode};
+pub use error::WriteError;

@@ -2,7 +2,7 @@
 //!
 //! `Fields.antt` is the table: a tag and a list of fields for each body, over the formats of `curp_items`. `Part` is what
 //! has fields: `write` and `read` are exact over the part's format, and `HasSpelling` says which parts have a spelling.
-//! `curp_wire` makes frames of these.
+//! `has_fields` is the test of that for a body. `curp_wire` makes frames of these.
 #![tactic(auto)]
 
 mod answers;
@@ -11,5 +11,7 @@ mod config;
 mod keeping;
 mod managing;
 mod part;
+mod spelled;
 
 pub use part::{Part, read_parts, write_parts};
+pub use spelled::has_fields;

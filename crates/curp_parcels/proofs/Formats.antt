@@ -1,42 +1,36 @@
--- What comes in and what goes out are formats, and how long their encodings are at most.
-use Rattle.std.specs.Prelude.{◌≡◌, ◌≢◌, ℕ, ◌+◌, ◌<◌, ◌≤◌, false, Option, Some, None, option_map, List, [], ◌∷◌, ◌++◌, length, drop, Result, Ok, Err, refl}
+-- What comes in and what goes out are formats, and which of what goes out has a parcel.
+use Rattle.std.specs.Prelude.{◌≡◌, ◌≢◌, ℕ, ◌+◌, ◌<◌, ◌≤◌, ◌&&◌, Bool, true, false, Option, Some, None, option_map, List, [], ◌∷◌, ◌++◌, length, drop, Result, Ok, Err, refl}
 use Rattle.std.specs.Int.{to_be_bytes, w32}
 use Rattle.std.proofs.Common.{sym, ◌∙◌, ap, subst, arith, length-append}
-use Rattle.std.proofs.lemmas.Bool.{ne_eqb}
+use Rattle.std.proofs.lemmas.Bool.{and_from, le-leb, lt-leb, ne_eqb}
 use Rattle.std.proofs.lemmas.List.{append-nil, drop_all, length-drop}
 use Rattle.curp_base.specs.Cases.{◌>>=◌}
 use Rattle.curp_base.specs.Words.{AreBytes}
-use Rattle.curp_items.proofs.Combining.{Again, IsFormat, SoundVariants, bind_ok, byte_is, done, fields_again, input, one_of_is, only_is, optional_is, shaped_is, then_is, variant_sound}
+use Rattle.curp_items.proofs.Combining.{Again, IsFormat, SoundVariants, bind_ok, byte_is, done, fields_again, input, one_of_is, optional_is, shaped_is, then_is, variant_sound}
 use Rattle.curp_items.proofs.Formats.{answer_is, id_is, node_is, u32_is, u64_is}
 use Rattle.curp_items.specs.Format.{Format, Input, byte, optional, variant, ◌▸◌}
-use Rattle.curp_items.specs.Items.{answer, command, id, node, request, truth, u32, u64}
+use Rattle.curp_items.specs.Items.{answer, id, node, u32, u64}
 use Rattle.curp_journal.specs.declared.arrived.Arrived.{Arrived}
-use Rattle.curp_journal.specs.declared.arrived.Arrived.TheVariants as arrived
-use Rattle.curp_journal.specs.declared.arrived.Named.{Named}
 use Rattle.curp_cmd.specs.declared.node.NodeId.{NodeId}
 use Rattle.curp_msg.specs.declared.machine.Capture.{Capture}
 use Rattle.curp_msg.specs.declared.machine.Completed.{Completed}
-use Rattle.curp_msg.specs.declared.machine.Local.{Local}
-use Rattle.curp_msg.specs.declared.machine.Local.TheVariants as order
 use Rattle.curp_msg.specs.declared.message.Message.{Message}
-use Rattle.curp_wire.proofs.ItemSizes.{answer_size, id_size, node_size, request_most, truth_size, u32_size, u64_size}
-use Rattle.curp_wire.specs.Frame.{content}
-use Rattle.curp_cmd.specs.declared.command.Command.{Command}
-use Rattle.curp_cmd.specs.declared.command.Request.{Request}
+use Rattle.curp_wire.proofs.ItemSizes.{answer_size, id_size, node_size, u32_size, u64_size}
+use Rattle.curp_fields.proofs.Having.{node_passes}
+use Rattle.curp_wire.proofs.Frames.{frame_had}
+use Rattle.curp_wire.specs.Frame.{content, has_frame}
 use Rattle.curp_batches.proofs.Encodings.{arrival_is, frame_is, one_prefix, prefix_within}
-use Rattle.curp_batches.specs.Arrivals.{arrival, frame, frame_of, is_light_arrival, stamped}
-use Rattle.curp_batches.specs.Arrivals as batches
-use Rattle.curp_batches.specs.Orders.{is_backup, orders}
+use Rattle.curp_batches.specs.Arrivals.{arrival, frame, frame_of}
 use Rattle.curp_batches.specs.Prefixes.{Begins, BeginsNot}
-use Rattle.curp_parcels.specs.Outgoing.{Completion, Name, capture_made, capture_parts, completion, completion_made, completion_parts, name, outgoing, outgoing_parts, plain, plain_read, plain_variants, sent, sent_made, whole}
-use Rattle.curp_parcels.specs.Parcels.{IsEncoding, IsIn, incoming, parcel_limit}
+use Rattle.curp_parcels.specs.Outgoing.{Completion, Name, capture_made, capture_parts, completion, completion_made, completion_parts, has_encoding, has_room, is_capture, name, outgoing, outgoing_parts, plain, plain_read, plain_variants, sent, sent_front, sent_made, whole}
+use Rattle.curp_parcels.specs.Parcels.{IsEncoding, IsIn, IsParcel, incoming, parcel_limit}
 use Rattle.curp_parcels.specs.declared.outgoing.Outgoing.{Outgoing}
 use Rattle.curp_parcels.specs.declared.outgoing.Outgoing.TheVariants as out
 
 -- ---- formats
 
 pub incoming_is : IsFormat incoming
-incoming_is = only_is is_light_arrival arrival arrival_is
+incoming_is = arrival_is
 
 pub name_is : IsFormat name
 unfolding name
@@ -129,15 +123,10 @@ module _ {A : Type 0} (f : Format A) (is : IsFormat f) where
 -- ---- what comes in
 
 pub arrival_longer : (bytes : List ℕ) (a : Arrived) (n : ℕ) → Begins arrival bytes a n → n ≢ length bytes → IsIn incoming bytes None
-arrival_longer bytes a n b more x e = more_begins arrival arrival_is bytes a n b more x (record { fits = e.fits.0; is = e.is })
-
-pub arrival_heavy : (bytes : List ℕ) (a : Arrived) (n : ℕ) → Begins arrival bytes a n → is_light_arrival a ≡ false → IsIn incoming bytes None
-arrival_heavy bytes a n b heavy x e =
-    let same = same_begins arrival arrival_is bytes a x n b (record { fits = e.fits.0; is = e.is }) in
-    absurd (cc (sym heavy ∙ ap is_light_arrival same.0 ∙ e.fits.1))
+arrival_longer bytes a n b more = more_begins arrival arrival_is bytes a n b more
 
 pub arrival_none : (bytes : List ℕ) → BeginsNot arrival bytes → IsIn incoming bytes None
-arrival_none bytes none x e = none_begins arrival arrival_is bytes none x (record { fits = e.fits.0; is = e.is })
+arrival_none bytes none = none_begins arrival arrival_is bytes none
 
 -- ---- what goes out
 
@@ -197,69 +186,6 @@ name_size : (p : Name) → length (name.of p) ≡ 24
 unfolding name
 name_size p = omega (arith, length-append (u64.of p.0) (u64.of p.1.0 ++ u64.of p.1.1), length-append (u64.of p.1.0) (u64.of p.1.1), u64_size p.0, u64_size p.1.0, u64_size p.1.1)
 
-frame_size : (m : Message) → frame.Fits m → length (frame.of m) ≤ 16777220
-unfolding frame
-frame_size m f = omega (arith, length-append (to_be_bytes w32 (length (content m))) (content m), f.short)
-
-zero_fits : u32.Fits 0
-unfolding u32
-zero_fits = omega arith
-
-id_fits : id.Fits (record { client = 0; seq = 0 })
-unfolding id
-id_fits = (zero_fits, zero_fits)
-
-command_size : (c : Command) → command.Fits c → length (command.of c) ≤ 662
-unfolding request
-command_size c f =
-    let r : Request = record { id = record { client = 0; seq = 0 }; first = 0; command = c } in
-    omega (arith, request_most r (id_fits, (zero_fits, f)), length-append (id.of r.id) (u32.of r.first ++ command.of c), length-append (u32.of r.first) (command.of c))
-
-order_size : (o : Local) → orders.Fits o → length (orders.of o) ≤ 663
-unfolding orders
-order_size (order.Recover part backup witness) f =
-    omega (arith, length-append (u32.of part) (u32.of backup ++ u32.of witness), length-append (u32.of backup) (u32.of witness), u32_size part, u32_size backup, u32_size witness)
-order_size (order.Replace kind part place) f =
-    omega (arith, length-append (u32.of part) (truth.of (is_backup kind) ++ u32.of place), length-append (truth.of (is_backup kind)) (u32.of place), u32_size part, truth_size (is_backup kind), u32_size place)
-order_size (order.Migrate lo hi to) f =
-    omega (arith, length-append (u64.of lo) (u64.of hi ++ u32.of to), length-append (u64.of hi) (u32.of to), u64_size lo, u64_size hi, u32_size to)
-order_size order.Nudge f = omega arith
-order_size (order.Expire client) f = omega (arith, u32_size client)
-order_size (order.Invoke c) f = omega (arith, command_size c f)
-order_size (order.Retry seq) f = omega (arith, u32_size seq)
-order_size order.Fetch f = omega arith
-order_size order.Sync f = omega arith
-order_size order.Collect f = omega arith
-
-stamped_size : (p : Local × ℕ) → stamped.Fits p → length (stamped.of p) ≤ 671
-unfolding stamped
-stamped_size p f = omega (arith, length-append (orders.of p.0) (u64.of p.1), order_size p.0 f.0, u64_size p.1)
-
-sender_size : (p : batches.Name) → length (batches.name.of p) ≡ 29
-unfolding batches.name
-sender_size p =
-    omega (
-      arith,
-      length-append (node.of p.0) (u64.of p.1.0 ++ (u64.of p.1.1.0 ++ u64.of p.1.1.1)),
-      length-append (u64.of p.1.0) (u64.of p.1.1.0 ++ u64.of p.1.1.1),
-      length-append (u64.of p.1.1.0) (u64.of p.1.1.1),
-      node_size p.0,
-      u64_size p.1.0,
-      u64_size p.1.1.0,
-      u64_size p.1.1.1,
-    )
-
-named_size : (n : Named) → batches.named.Fits n → length (batches.named.of n) ≤ 16777249
-unfolding batches.named
-named_size n f =
-    let p = batches.named_parts n in
-    omega (arith, length-append (batches.name.of p.0) (frame.of p.1), sender_size p.0, frame_size p.1 f.1)
-
-pub arrival_size : (a : Arrived) → arrival.Fits a → length (arrival.of a) ≤ parcel_limit
-unfolding arrival
-arrival_size (arrived.Message n) f = omega (arith, named_size n f)
-arrival_size (arrived.Local order stamp) f = omega (arith, stamped_size (order, stamp) f)
-
 by_size : (by : Option (NodeId × (ℕ × ℕ))) → length ((optional (node ▸ u32 ▸ u64)).of by) ≤ 18
 by_size None = omega arith
 by_size (Some p) =
@@ -281,12 +207,48 @@ completion_size c f =
       by_size by,
     )
 
-pub outgoing_size : (said : Outgoing) → outgoing.Fits said → length (outgoing.of said) ≤ parcel_limit
-unfolding outgoing sent
-outgoing_size (out.Stands items last) f = omega (arith, length-append (u64.of items) (u64.of last), u64_size items, u64_size last)
-outgoing_size (out.Sent step at stamp m) f = omega (arith, length-append (name.of (step, (at, stamp))) (frame.of m), name_size (step, (at, stamp)), frame_size m f.1)
-outgoing_size (out.Completed stamp c) f = omega (arith, completion_size (stamp, c) f)
-outgoing_size (out.Refused number by) f = omega (arith, length-append (u64.of number) (by ∷ []), u64_size number)
-outgoing_size (out.NoParcel number at) f = omega (arith, length-append (u64.of number) (u64.of at), u64_size number, u64_size at)
-outgoing_size (out.Withheld step at stamp) f = omega (arith, name_size (step, (at, stamp)))
-outgoing_size (out.Pending r) f = omega (arith, id_size r)
+sent_size : (p : Name) (m : Message) → length (sent.of (p, m)) ≡ 28 + length (content m)
+unfolding sent frame
+sent_size p m = omega (arith, length-append (name.of p) (frame_of m), name_size p, length-append (to_be_bytes w32 (length (content m))) (content m))
+
+and_false : (b : Bool) → (b && false) ≡ false
+and_false true = refl
+and_false false = refl
+
+no_room : (m : Message) → parcel_limit < sent_front + length (content m) → (has_frame m && has_room m) ≡ false
+no_room m long = ap (λ (b : Bool). has_frame m && b) (lt-leb (sent_front + length (content m)) parcel_limit long) ∙ and_false (has_frame m)
+
+pub too_long_said : (said : Outgoing) → outgoing.Fits said → parcel_limit < length (outgoing.of said) → has_encoding said ≡ false
+unfolding outgoing
+too_long_said (out.Stands items last) f long = absurd (omega (arith, long, length-append (u64.of items) (u64.of last), u64_size items, u64_size last))
+too_long_said (out.Sent step at stamp m) f long = no_room m (omega (arith, long, sent_size (step, (at, stamp)) m))
+too_long_said (out.Completed stamp c) f long = absurd (omega (arith, long, completion_size (stamp, c) f))
+too_long_said (out.Refused number by) f long = absurd (omega (arith, long, length-append (u64.of number) (by ∷ []), u64_size number))
+too_long_said (out.NoParcel number at) f long = absurd (omega (arith, long, length-append (u64.of number) (u64.of at), u64_size number, u64_size at))
+too_long_said (out.Withheld step at stamp) f long = absurd (omega (arith, long, name_size (step, (at, stamp))))
+too_long_said (out.Pending r) f long = absurd (omega (arith, long, id_size r))
+
+-- ---- what has a parcel
+
+captured : (by : Option Capture) → (optional (node ▸ u32 ▸ u64)).Fits (option_map capture_parts by) → is_capture by ≡ true
+captured None f = refl
+captured (Some c) f = node_passes c.master f.0
+
+sent_had : (p : Name) (m : Message) → sent.Fits (p, m) → has_frame m ≡ true
+unfolding sent frame
+sent_had p m f = frame_had m (frame_of m) f.1
+
+capture_passes : (c : ℕ × Completed) → completion.Fits c → is_capture c.1.by ≡ true
+unfolding completion
+capture_passes (stamp, c) f = captured c.by f.1.1.1
+
+pub parcel_had : (said : Outgoing) (bytes : List ℕ) → IsParcel outgoing said bytes → has_encoding said ≡ true
+unfolding outgoing
+parcel_had (out.Stands items last) bytes p = refl
+parcel_had (out.Sent step at stamp m) bytes p =
+    and_from (has_frame m) (has_room m) (sent_had (step, (at, stamp)) m p.fits) (le-leb (sent_front + length (content m)) parcel_limit (omega (arith, p.short, sent_size (step, (at, stamp)) m)))
+parcel_had (out.Completed stamp c) bytes p = capture_passes (stamp, c) p.fits
+parcel_had (out.Refused number by) bytes p = refl
+parcel_had (out.NoParcel number at) bytes p = refl
+parcel_had (out.Withheld step at stamp) bytes p = refl
+parcel_had (out.Pending r) bytes p = refl

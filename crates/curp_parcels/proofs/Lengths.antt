@@ -1,7 +1,7 @@
 -- Bytes behind their length.
-use Rattle.std.specs.Prelude.{◌≡◌, ℕ, ◌-◌, ◌^◌, ◌<◌, ◌≤◌, List, ◌++◌, length, take, drop, refl}
+use Rattle.std.specs.Prelude.{◌≡◌, ℕ, ◌+◌, ◌-◌, ◌^◌, ◌<◌, ◌≤◌, List, ◌++◌, length, take, drop, refl}
 use Rattle.std.specs.Int.{to_be_bytes, from_be_bytes, w32}
-use Rattle.std.proofs.Common.{sym, ◌∙◌, ap, arith, append_assoc, length-append, take-append-drop}
+use Rattle.std.proofs.Common.{sym, ◌∙◌, ap, arith, append_assoc, length-append, length-drop, take-append-drop}
 use Rattle.std.proofs.lemmas.Nat.{from_be_bytes-to_be_bytes_4}
 use Rattle.std.proofs.lemmas.List.{length-take-le, take_at, drop_at}
 use Rattle.curp_items.specs.Format.{Format}
@@ -46,11 +46,31 @@ whole_first count rest short within =
 
 -- ---- a parcel that is written
 
-pub made_parcel : (content zeros all : List ℕ) → all ≡ zeros ++ content → length zeros ≡ 4 → to_be_bytes w32 (length all - 4) ++ drop 4 all ≡ behind_length content
-made_parcel content zeros all is len =
-    let many : length all - 4 ≡ length content = omega (arith, ap length is, length-append zeros content, len) in
-    ap (λ (n : ℕ). to_be_bytes w32 n ++ drop 4 all) many
-    ∙ ap (λ (l : List ℕ). to_be_bytes w32 (length content) ++ l) (ap (drop 4) is ∙ drop_at zeros content 4 len)
+pub parcel_there : (bytes : List ℕ) → 4 ≤ length bytes → to_be_bytes w32 (length bytes - 4) ++ drop 4 bytes ≡ behind_length (drop 4 bytes)
+parcel_there bytes four =
+    let many : length bytes - 4 ≡ length (drop 4 bytes) = omega (arith, length-drop 4 bytes, four) in
+    ap (λ (n : ℕ). to_be_bytes w32 n ++ drop 4 bytes) many
+
+-- bytes behind room for their length
+pub record HasRoomBefore (content all : List ℕ) : Type 0 where
+  pub long : length all ≡ 4 + length content
+  pub content_is : drop 4 all ≡ content
+
+pub room_before : (content zeros all : List ℕ) → all ≡ zeros ++ content → length zeros ≡ 4 → HasRoomBefore content all
+room_before content zeros all is len = record {
+  long = omega (arith, ap length is, length-append zeros content, len);
+  content_is = ap (drop 4) is ∙ drop_at zeros content 4 len;
+}
+
+pub made_parcel : {A : Type 0} (f : Format A) (x : A) (all parcel : List ℕ) → f.Fits x → HasRoomBefore (f.of x) all → length all ≤ 4 + parcel_limit → parcel ≡ behind_length (drop 4 all) → IsParcel f x parcel
+made_parcel f x all parcel fits r short is = record {
+  fits = fits;
+  short = omega (arith, short, r.long);
+  is = is ∙ ap behind_length r.content_is;
+}
+
+pub no_parcel : {A : Type 0} (f : Format A) (x : A) (all bytes : List ℕ) → HasRoomBefore (f.of x) all → 4 + parcel_limit < length all → IsParcel f x bytes → ⊥
+no_parcel f x all bytes r long p = absurd (omega (arith, p.short, r.long, long))
 
 -- ---- laws
 

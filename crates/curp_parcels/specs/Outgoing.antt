@@ -1,5 +1,5 @@
 -- What a node's process says, as bytes (this project's own).
-use Rattle.std.specs.Prelude.{ℕ, Bool, true, List, [], ◌∷◌, Option, Some, None, option_map, Result, Ok, Err, ◌≡◌}
+use Rattle.std.specs.Prelude.{ℕ, ◌+◌, nat_le, ◌&&◌, Bool, true, List, [], ◌∷◌, Option, Some, None, option_map, length, Result, Ok, Err, ◌≡◌}
 use Rattle.curp_base.specs.Cases.{◌>>=◌}
 use Rattle.curp_batches.specs.Arrivals.{frame}
 use Rattle.curp_cmd.specs.declared.command.Answer.{Answer}
@@ -11,7 +11,8 @@ use Rattle.curp_items.specs.Items.{answer, id, is_node, node, u32, u64}
 use Rattle.curp_msg.specs.declared.machine.Capture.{Capture}
 use Rattle.curp_msg.specs.declared.machine.Completed.{Completed}
 use Rattle.curp_msg.specs.declared.message.Message.{Message}
-use Rattle.curp_wire.specs.Light.{is_light}
+use Rattle.curp_wire.specs.Frame.{content, has_frame}
+use Rattle.curp_parcels.specs.Parcels.{parcel_limit}
 use Rattle.curp_parcels.specs.declared.outgoing.Outgoing.{Outgoing}
 use Rattle.curp_parcels.specs.declared.outgoing.Outgoing.TheVariants as out
 
@@ -97,8 +98,16 @@ abbrev pub is_capture : Option Capture → Bool
 is_capture None = true
 is_capture (Some c) = is_node c.master
 
--- a message whose frame is surely short enough, a completion by a node that there may be, and all else
+-- how many bytes stand before the content of a message in its parcel: a tag, its name, and the length of its frame
+abbrev pub sent_front : ℕ
+sent_front = 29
+
+-- a parcel has room for the message
+abbrev pub has_room : Message → Bool
+has_room m = nat_le (sent_front + length (content m)) parcel_limit
+
+-- a message whose frame a parcel has room for, a completion by a node that there may be, and all else
 abbrev pub has_encoding : Outgoing → Bool
-has_encoding (out.Sent step place stamp m) = is_light m
+has_encoding (out.Sent step place stamp m) = has_frame m && has_room m
 has_encoding (out.Completed stamp c) = is_capture c.by
 has_encoding _ = true

@@ -1,13 +1,14 @@
 -- Parcels: bytes behind their length (this project's own).
 use Rattle.std.specs.Prelude.{◌≡◌, ℕ, ◌≤◌, List, ◌++◌, length, Option, Some, None}
 use Rattle.std.specs.Int.{to_be_bytes, w32}
-use Rattle.curp_batches.specs.Arrivals.{arrival, is_light_arrival}
-use Rattle.curp_items.specs.Format.{Format, only}
+use Rattle.curp_batches.specs.Arrivals.{arrival}
+use Rattle.curp_items.specs.Format.{Format}
 use Rattle.curp_journal.specs.declared.arrived.Arrived.{Arrived}
 
--- how many bytes a parcel has behind its length: as many as the longest arrival
+-- how many bytes a parcel has behind its length: as many as the longest arrival that a journal takes, where eight of 2^32 - 1
+-- bytes are a checksum
 abbrev pub parcel_limit : ℕ
-parcel_limit = 16777250
+parcel_limit = 4294967287
 
 abbrev pub behind_length : List ℕ → List ℕ
 behind_length content = to_be_bytes w32 (length content) ++ content
@@ -28,6 +29,6 @@ abbrev pub IsIn : {A : Type 0} → Format A → List ℕ → Option A → Type 0
 IsIn {A} f bytes None = (x : A) → IsEncoding f x bytes → ⊥
 IsIn f bytes (Some x) = IsEncoding f x bytes
 
--- what comes to a node in a parcel: any order, and a message that a journal takes
+-- what comes to a node in a parcel: any order, and any message that has a frame
 abbrev pub incoming : Format Arrived
-incoming = only is_light_arrival arrival
+incoming = arrival

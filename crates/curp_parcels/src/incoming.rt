@@ -1,29 +1,31 @@
 //! What comes to a node, as parcels.
-ghost use Rattle.std.specs.Prelude.{◌≡◌, ◌≢◌, ◌≤◌, length, true, None, IfOk};
-ghost use Rattle.curp_batches.specs.Arrivals.{arrival, is_light_arrival};
+ghost use Rattle.std.specs.Prelude.{◌≡◌, ◌≢◌, ℕ, List, None, Err, IfOk};
+ghost use Rattle.curp_batches.specs.Arrivals.{arrival};
 ghost use Rattle.curp_batches.specs.Prefixes.{Begins};
 ghost use Rattle.curp_parcels.specs.Parcels.{IsIn, IsParcel, incoming};
 
-use crate::framing::with_length;
+use crate::framing::parcel_of;
 use curp_base::NoMemory;
-use curp_batches::{arrival_at, is_light_arrival, write_arrival};
+use curp_batches::{WriteError, arrival_at, write_arrival};
 use curp_items::{ReadError, Writer};
 use curp_journal::Arrived;
 use std::alloc::{AllocError, Global};
 
-/// The parcel of what comes to a node. `curp_batches::is_light_arrival` is the test.
-pub fn encode_arrival(alloc: Global, arrived: &Arrived) -> Result<Vec<u8>, NoMemory>
-    requires { is_light_arrival arrived.now ≡ true }
-    ensures { IfOk result (λ bytes. IsParcel incoming arrived.now bytes.items) }
+/// The parcel of what comes to a node.
+pub fn encode_arrival(alloc: Global, arrived: &Arrived) -> Result<Vec<u8>, WriteError>
+    ensures parcel { IfOk result (λ bytes. IsParcel incoming arrived.now bytes.items) }
+    ensures none { result ≡ Err WriteError.NoEncoding → (bytes : List ℕ) → IsParcel incoming arrived.now bytes → ⊥ }
 {
     // The length is put there once it is known.
     let mut out = Writer::new(vec![in alloc; 0; 4]?);
     write_arrival(alloc, arrived, &mut out)?;
-    Ok(with_length(out.into_vec()))
+    match parcel_of(out.into_vec()) {
+        Some(parcel) => Ok(parcel),
+        None => Err(WriteError::NoEncoding),
+    }
 }
 
-/// What comes to a node by the bytes behind a length. There is none where they are no arrival, or a message that no journal
-/// takes.
+/// What comes to a node by the bytes behind a length. There is none where they are no arrival.
 pub fn arrival_in(alloc: Global, content: &[u8]) -> Result<Option<Arrived>, NoMemory>
     ensures { IfOk result (IsIn incoming content.now) }
 {
@@ -33,12 +35,12 @@ pub fn arrival_in(alloc: Global, content: &[u8]) -> Result<Option<Arrived>, NoMe
     }
 }
 
-/// The arrival that so many first bytes are, where these are all, and a journal takes it.
+/// The arrival that so many first bytes are, where these are all.
 fn whole_arrival(content: &[u8], arrived: Arrived, length: usize) -> Option<Arrived>
     requires { Begins arrival content.now arrived length }
     ensures { IsIn incoming content.now result }
 {
-    if length == content.len() && is_light_arrival(&arrived) {
+    if length == content.len() {
         Some(arrived)
     } else {
         None

@@ -1,7 +1,7 @@
 //! Laws of parcels. Each is the contract of a function that does nothing: a caller has it by calling that function.
-ghost use Rattle.std.specs.Prelude.{◌≡◌, ◌++◌, ℕ, List};
+ghost use Rattle.std.specs.Prelude.{◌≡◌, ◌++◌, ℕ, List, true};
 ghost use Rattle.curp_journal.specs.declared.arrived.Arrived.{Arrived};
-ghost use Rattle.curp_parcels.specs.Outgoing.{outgoing};
+ghost use Rattle.curp_parcels.specs.Outgoing.{has_encoding, outgoing};
 ghost use Rattle.curp_parcels.specs.Parcels.{IsParcel, incoming};
 ghost use Rattle.curp_parcels.specs.Reading.{StandsFirst};
 ghost use Rattle.curp_parcels.specs.declared.outgoing.Outgoing.{Outgoing};
@@ -24,4 +24,9 @@ pub fn no_saying_begins_another()
 pub fn one_stands_first()
     ensures { (bytes one other rest rest_other : List ℕ) → StandsFirst bytes one rest → StandsFirst bytes other rest_other
         → (one ≡ other) × (rest ≡ rest_other) }
+{}
+
+/// What has a parcel has one by the test too: so `encode_outgoing` refuses nothing that has one.
+pub fn what_is_said_has_an_encoding()
+    ensures { (said : Outgoing) (bytes : List ℕ) → IsParcel outgoing said bytes → has_encoding said ≡ true }
 {}

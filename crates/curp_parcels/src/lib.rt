@@ -4,7 +4,7 @@
 //! `curp_batches` encodes it; `specs/Outgoing.antt` has what goes out. `specs/Reading.antt` has which parcel stands first
 //! in an input, and what stands there where there is none.
 //!
-//! - `encode_arrival` and `encode_outgoing` write a parcel; `arrival_in` and `outgoing_in` are exact, both ways: what the
+//! - `encode_arrival` and `encode_outgoing` write a parcel, or say that there is none; `arrival_in` and `outgoing_in` are exact, both ways: what the
 //!   bytes behind a length say, or that they say nothing.
 //! - `Parcels::next`, clause `bytes`: it gives the parcels of the bytes in order, whatever the sizes of the pieces in which
 //!   the source gives them, and says of one that is none where it stands. `ready` gives what was read ahead whole, and has
@@ -21,6 +21,6 @@ mod parcels;
 mod saying;
 
 pub use incoming::{arrival_in, encode_arrival};
-pub use outgoing::{Outgoing, has_encoding};
+pub use outgoing::Outgoing;
 pub use parcels::{NextParcel, Parcels};
 pub use saying::{encode_outgoing, outgoing_in};

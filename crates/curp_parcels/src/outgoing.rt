@@ -1,10 +1,9 @@
 ghost use Rattle.std.specs.Prelude.{◌≡◌};
-ghost use Rattle.curp_parcels.specs.Outgoing.{has_encoding, is_capture};
+ghost use Rattle.curp_parcels.specs.Outgoing.{is_capture};
 
 use curp_cmd::RequestId;
 use curp_items::is_node;
 use curp_msg::{Capture, Completed, Message};
-use curp_wire::is_light;
 
 /// What the process of a node says. Items and inputs are counted from 1.
 pub enum Outgoing {
@@ -26,7 +25,8 @@ pub enum Outgoing {
         stamp: u64,
         completed: Completed,
     },
-    /// The input of this number was refused: by this number of the node, or by 255 where no stamp is left.
+    /// The input of this number was refused: by this number of the node, by 255 where no stamp is left, or by 254 where
+    /// the node isn't given it, since it may not take it.
     Refused {
         input: u64,
         number: u8,
@@ -37,8 +37,8 @@ pub enum Outgoing {
         input: u64,
         at: u64,
     },
-    /// What the item of this number and stamp has at this place has no encoding: a message that may be too long, or, at
-    /// place 0, a completion by a node that there can't be.
+    /// What the item of this number and stamp has at this place has no encoding: a message that has no frame, or none that
+    /// a parcel has room for, or, at place 0, a completion by a node that there can't be.
     Withheld {
         step: u64,
         place: u64,
@@ -80,23 +80,8 @@ impl Drop for Outgoing {
     }
 }
 
-/// Whether `encode_outgoing` takes it: a message that is light (`curp_wire::is_light`), a completion whose capture, if it has
-/// one, is that of a node that there may be, and all else.
-pub fn has_encoding(said: &Outgoing) -> bool
-    ensures { result ≡ has_encoding said.now }
-{
-    match said {
-        Outgoing::Sent { message, .. } => is_light(message),
-        Outgoing::Completed { completed, .. } => is_capture(&completed.by),
-        Outgoing::Stands { .. } => true,
-        Outgoing::Refused { .. } => true,
-        Outgoing::NoParcel { .. } => true,
-        Outgoing::Withheld { .. } => true,
-        Outgoing::Pending { .. } => true,
-    }
-}
-
-fn is_capture(by: &Option<Capture>) -> bool
+/// Whether a completion's capture, if it has one, is that of a node that there may be.
+pub(crate) fn is_capture(by: &Option<Capture>) -> bool
     ensures { result ≡ is_capture by.now }
 {
     match by {

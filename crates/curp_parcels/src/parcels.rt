@@ -26,7 +26,7 @@ pub enum NextParcel {
     End,
     /// The input ends behind this place, inside a length or before as many bytes as that says.
     Inside { at: u64 },
-    /// A length of more than 16,777,250, which no parcel has. What stands behind it can't be found.
+    /// A length of more than 4,294,967,287, which no parcel has. What stands behind it can't be found.
     TooLong { at: u64 },
     /// The source failed.
     ReadFault,

@@ -1,5 +1,5 @@
 //! What the process of a node says, as parcels.
-ghost use Rattle.std.specs.Prelude.{◌≡◌, ◌≢◌, ◌≤◌, ◌∷◌, ◌++◌, ℕ, List, None, length, option_map, true, IfOk, OnOk};
+ghost use Rattle.std.specs.Prelude.{◌≡◌, ◌≢◌, ◌≤◌, ◌∷◌, ◌++◌, ℕ, List, None, length, option_map, false, Err, IfOk, OnOk};
 ghost use Rattle.curp_batches.specs.Arrivals.{frame};
 ghost use Rattle.curp_batches.specs.Prefixes.{Begins, ReadsPrefix};
 ghost use Rattle.curp_items.specs.Calls.{ReadsItem};
@@ -7,39 +7,43 @@ ghost use Rattle.curp_parcels.specs.Outgoing as format;
 ghost use Rattle.curp_parcels.specs.Outgoing.{ReadsWhole, capture_made, capture_parts, completion, has_encoding, is_capture};
 ghost use Rattle.curp_parcels.specs.Outgoing.{outgoing, plain, plain_read, sent};
 ghost use Rattle.curp_parcels.specs.Parcels.{IsIn, IsParcel};
-ghost use Rattle.curp_wire.specs.Light.{is_light};
+ghost use Rattle.curp_wire.specs.Frame.{has_frame};
 
-use crate::framing::with_length;
-use crate::outgoing::Outgoing;
+use crate::framing::parcel_of;
+use crate::outgoing::{Outgoing, is_capture};
 use curp_base::NoMemory;
-use curp_batches::frame_at;
+use curp_batches::{WriteError, frame_at};
 use curp_cmd::NodeId;
 use curp_items::{Fault, Item, ReadError, Reader, Writer};
 use curp_msg::{Capture, Completed, Message};
 use curp_wire::encode;
 use std::alloc::{AllocError, Global};
 
-/// The parcel of what the process of a node says. `has_encoding` is the test.
-pub fn encode_outgoing(alloc: Global, said: &Outgoing) -> Result<Vec<u8>, NoMemory>
-    requires { has_encoding said.now ≡ true }
-    ensures { IfOk result (λ bytes. IsParcel outgoing said.now bytes.items) }
+/// The parcel of what the process of a node says.
+pub fn encode_outgoing(alloc: Global, said: &Outgoing) -> Result<Vec<u8>, WriteError>
+    ensures parcel { IfOk result (λ bytes. IsParcel outgoing said.now bytes.items) }
+    // `laws::what_is_said_has_an_encoding`: then there is none.
+    ensures none { result ≡ Err WriteError.NoEncoding → has_encoding said.now ≡ false }
 {
     // The length is put there once it is known.
     let mut out = Writer::new(vec![in alloc; 0; 4]?);
     write(alloc, said, &mut out)?;
-    Ok(with_length(out.into_vec()))
+    match parcel_of(out.into_vec()) {
+        Some(parcel) => Ok(parcel),
+        None => Err(WriteError::NoEncoding),
+    }
 }
 
 #[tactic(auto, unfolding(crate::specs::Outgoing::outgoing, crate::specs::Outgoing::name))]
-fn write(alloc: Global, said: &Outgoing, out: &mut Writer) -> Result<(), NoMemory>
-    requires { has_encoding said.now ≡ true }
+fn write(alloc: Global, said: &Outgoing, out: &mut Writer) -> Result<(), WriteError>
     ensures writes { OnOk result (out.new ≡ record { front = out.old.front; text = out.old.text ++ outgoing.of said.now }) }
     ensures fits { OnOk result (outgoing.Fits said.now) }
+    ensures none { result ≡ Err WriteError.NoEncoding → has_encoding said.now ≡ false }
 {
     match said {
         Outgoing::Stands { items, last } => {
             out.byte(0)?;
-            (*items, *last).write(out)
+            (*items, *last).write(out)?;
         }
         Outgoing::Sent {
             step,
@@ -48,30 +52,31 @@ fn write(alloc: Global, said: &Outgoing, out: &mut Writer) -> Result<(), NoMemor
             message,
         } => {
             out.byte(1)?;
-            write_sent(alloc, (*step, (*place, *stamp)), message, out)
+            write_sent(alloc, (*step, (*place, *stamp)), message, out)?;
         }
         Outgoing::Completed { stamp, completed } => {
             out.byte(2)?;
-            write_completion(*stamp, completed, out)
+            write_completion(*stamp, completed, out)?;
         }
         Outgoing::Refused { input, number } => {
             out.byte(3)?;
             input.write(out)?;
-            out.byte(*number)
+            out.byte(*number)?;
         }
         Outgoing::NoParcel { input, at } => {
             out.byte(4)?;
-            (*input, *at).write(out)
+            (*input, *at).write(out)?;
         }
         Outgoing::Withheld { step, place, stamp } => {
             out.byte(5)?;
-            (*step, (*place, *stamp)).write(out)
+            (*step, (*place, *stamp)).write(out)?;
         }
         Outgoing::Pending { id } => {
             out.byte(6)?;
-            id.write(out)
+            id.write(out)?;
         }
     }
+    Ok(())
 }
 
 #[tactic(auto, unfolding(crate::specs::Outgoing::sent, crate::specs::Outgoing::name, curp_batches::specs::Arrivals::frame), using(curp_batches::proofs::Encodings::frame_fits, curp_batches::proofs::Encodings::frame_text))]
@@ -80,24 +85,29 @@ fn write_sent(
     name: (u64, (u64, u64)),
     message: &Message,
     out: &mut Writer,
-) -> Result<(), NoMemory>
-    requires { is_light message.now ≡ true }
+) -> Result<(), WriteError>
     ensures writes { OnOk result (out.new ≡ record { front = out.old.front; text = out.old.text ++ sent.of (name, message.now) }) }
     ensures fits { OnOk result (sent.Fits (name, message.now)) }
+    ensures none { result ≡ Err WriteError.NoEncoding → has_frame message.now ≡ false }
 {
     let frame = encode(alloc, message)?;
     name.write(out)?;
-    out.bytes(&frame)
+    out.bytes(&frame)?;
+    Ok(())
 }
 
 #[tactic(auto, unfolding(crate::specs::Outgoing::completion))]
-fn write_completion(stamp: u64, completed: &Completed, out: &mut Writer) -> Result<(), NoMemory>
-    requires { is_capture completed.now.by ≡ true }
+fn write_completion(stamp: u64, completed: &Completed, out: &mut Writer) -> Result<(), WriteError>
     ensures writes { OnOk result (out.new ≡ record { front = out.old.front; text = out.old.text ++ completion.of (stamp, completed.now) }) }
     ensures fits { OnOk result (completion.Fits (stamp, completed.now)) }
+    ensures none { result ≡ Err WriteError.NoEncoding → is_capture completed.now.by ≡ false }
 {
+    if !is_capture(&completed.by) {
+        return Err(WriteError::NoEncoding);
+    }
     let by = parts_of(&completed.by);
-    (stamp, (completed.id, (completed.answer, by))).write(out)
+    (stamp, (completed.id, (completed.answer, by))).write(out)?;
+    Ok(())
 }
 
 fn parts_of(by: &Option<Capture>) -> Option<(NodeId, (u32, u64))>

@@ -6,18 +6,20 @@ use crate::holds::must_hold;
 use curp_base::NoMemory;
 use curp_msg::{Body, Message};
 use curp_same::Same;
-use curp_wire::{FrameError, decode, encode, is_light};
+use curp_wire::{FrameError, decode, encode, encode_light, is_light};
 use std::alloc::Global;
 use std::process::Abort;
 
 // ---- what is called, of which the tests know nothing
 
-/// The frame of a message, if it is light.
+/// The frame of a light message, which both calls write.
 fn frame_of(alloc: Global, message: &Message) -> Option<Vec<u8>> {
     if !is_light(message) {
         return None;
     }
-    encode(alloc, message).ok()
+    let frame = encode_light(alloc, message).ok()?;
+    let other = encode(alloc, message).ok()?;
+    if frame == other { Some(frame) } else { None }
 }
 
 fn read_frame(alloc: Global, bytes: &[u8]) -> Result<(Message, usize), FrameError> {

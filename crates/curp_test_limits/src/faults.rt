@@ -30,9 +30,15 @@ fn try_places(rt: &impl Abort, alloc: Global, rows: &[(&str, u64)]) {
     }
 }
 
-static NO_FRAMES: [(&str, FrameError); 5] = [
-    // at the limit, what is behind the length, and no tag
-    ("01000000", FrameError::Short { need: 16_777_220 }),
+static NO_FRAMES: [(&str, FrameError); 6] = [
+    // above 2^24 and at the limit, what is behind the length, and no tag
+    ("01000001", FrameError::Short { need: 16_777_221 }),
+    (
+        "ffffffff",
+        FrameError::Short {
+            need: 4_294_967_299,
+        },
+    ),
     (
         "0000000b 05 0100000001 02000000",
         FrameError::Short { need: 15 },
@@ -42,10 +48,9 @@ static NO_FRAMES: [(&str, FrameError); 5] = [
     ("0000000b ff 0500000001 0000000000", FrameError::BadTag),
 ];
 
-static LENGTHS: [(&str, u64); 8] = [
-    // a length of 10, and one of one more than the limit
+static LENGTHS: [(&str, u64); 7] = [
+    // a length of 10
     ("0000000a 05 0100000001 02000000", 0),
-    ("01000001", 0),
     // no kind of node, a client without a number, a manager with one
     ("0000000b 05 0500000001 0000000000", 5),
     ("0000000b 05 0100000000 0000000000", 5),

@@ -2,15 +2,25 @@
 
 use curp_msg::Message;
 use curp_same::Same;
-use curp_wire::{FrameError, decode, encode, is_light};
+use curp_wire::{EncodeError, FrameError, decode, encode, is_light};
 use std::alloc::Global;
 
-/// The frame of a message, if it is light.
+/// The frame of a message, if it has one.
 pub(crate) fn frame_of(alloc: Global, message: &Message) -> Option<Vec<u8>> {
-    if !is_light(message) {
-        return None;
-    }
     encode(alloc, message).ok()
+}
+
+/// Why a message wasn't encoded.
+pub(crate) fn refusal_of(alloc: Global, message: &Message) -> Option<EncodeError> {
+    encode(alloc, message).err()
+}
+
+/// The message whose frame the bytes begin with.
+pub(crate) fn message_in(alloc: Global, bytes: &[u8]) -> Option<Message> {
+    match read_frame(alloc, bytes) {
+        Ok((message, _)) => Some(message),
+        Err(_) => None,
+    }
 }
 
 fn read_frame(alloc: Global, bytes: &[u8]) -> Result<(Message, usize), FrameError> {

@@ -1,4 +1,4 @@
-//! The largest frames of light messages, with memory for them.
+//! The largest frames of light messages, and larger ones of others, with memory for them.
 
 use crate::build::{
     add, ascending, boxed, held, key, largest, message, op_of, request, share, value,
@@ -53,6 +53,14 @@ fn requests_of_a_witness(rt: HostRuntime) {
     assert!(rt; is_heavy(frozen(&rt, alloc, 20_000)));
 }
 
+/// More than 2^24 bytes stand behind the length.
+#[test]
+fn more_requests_of_a_witness(rt: HostRuntime) {
+    let alloc = rt.alloc();
+    let length = 4 + 11 + 4 + 25_344 * (12 + 2 + 4 * 162);
+    assert!(rt; has_frame_of(alloc, frozen(&rt, alloc, 25_344), length));
+}
+
 /// A key of 32 bytes that begins with the number.
 fn numbered(rt: &impl Abort, number: u32) -> Key {
     let mut bytes = [255; 32];
@@ -91,6 +99,8 @@ fn a_package(rt: HostRuntime) {
     let length = 4 + 11 + 4 + 16 + 4 + 19_999 * 162 + 12;
     assert!(rt; has_frame_of(alloc, taken(&rt, alloc, 19_999), length));
     assert!(rt; is_heavy(taken(&rt, alloc, 20_000)));
+    let length = 4 + 11 + 4 + 16 + 4 + 20_000 * 162 + 12;
+    assert!(rt; has_frame_of(alloc, taken(&rt, alloc, 20_000), length));
 }
 
 /// An operation of that client.

@@ -1,5 +1,5 @@
-//! Tests of what is no frame, and of the largest frames, by the public calls: faults with their places, and messages that
-//! just are light or just aren't.
+//! Tests of what is no frame, of large frames, and of messages that have none, by the public calls: faults with their
+//! places, messages that just are light or just aren't, and frames of heavy ones.
 #![tactic(auto)]
 
 #[cfg(test)]
@@ -8,6 +8,8 @@ mod build;
 mod faults;
 #[cfg(test)]
 mod frames;
+#[cfg(test)]
+mod heavy;
 #[cfg(test)]
 mod hex;
 #[cfg(test)]

@@ -1,13 +1,23 @@
 -- What is told of inputs one behind the other.
-use Rattle.std.specs.Prelude.{◌≡◌, ℕ, suc, ◌+◌, ◌<◌, ◌≤◌, ◌^◌, List, [], ◌∷◌, ◌++◌, length, drop, get_or}
+use Rattle.std.specs.Prelude.{◌≡◌, Bool, true, if◌then◌else◌, ℕ, suc, ◌+◌, ◌<◌, ◌≤◌, ◌^◌, List, [], ◌∷◌, ◌++◌, length, drop, get_or}
 use Rattle.std.proofs.Common.{sym, ◌∙◌, ap, arith, append_assoc}
 use Rattle.std.proofs.lemmas.Grind.{flat_map-append}
 use Rattle.std.proofs.lemmas.List.{append-nil, drop_all, drop_more}
 use Rattle.curp_durable.specs.declared.stand.Answered.{Answered}
 use Rattle.curp_journal.specs.declared.item.Item.{Item}
 use Rattle.curp_msg.specs.declared.message.Message.{Message}
+use Rattle.curp_parcels.specs.Outgoing.{has_encoding, outgoing}
+use Rattle.curp_parcels.specs.Parcels.{IsParcel}
 use Rattle.curp_parcels.specs.declared.outgoing.Outgoing.{Outgoing}
-use Rattle.curp_told.specs.Told.{all_told, completion_told, completions_told, input_behind, message_told, messages_told, parcel_of, parcels_of, told}
+use Rattle.curp_parcels.specs.declared.outgoing.Outgoing.TheVariants as out
+use Rattle.curp_told.specs.Told.{all_told, completion_told, completions_told, input_behind, message_told, messages_told, parcel_of, parcels_of, said_or_withheld, told}
+
+-- what has an encoding is said as it is
+pub said_whole : (step place stamp : ℕ) (said : Outgoing) (bytes : List ℕ) → has_encoding said ≡ true → IsParcel outgoing said bytes
+    → bytes ≡ parcels_of (said_or_withheld step place stamp said ∷ [])
+said_whole step place stamp said bytes has p =
+    p.is ∙ sym (append-nil (parcel_of said))
+    ∙ ap (λ (x : Outgoing). parcels_of (x ∷ [])) (ap (λ (b : Bool). if b then said else out.Withheld step place stamp) (sym has))
 
 pub parcels_join : (xs ys : List Outgoing) → parcels_of (xs ++ ys) ≡ parcels_of xs ++ parcels_of ys
 parcels_join xs ys = flat_map-append parcel_of xs ys

@@ -16,18 +16,21 @@ use Rattle.curp_journal.specs.declared.item.Item.{Item}
 use Rattle.curp_msg.specs.declared.machine.Completed.{Completed}
 use Rattle.curp_msg.specs.declared.machine.Local.TheVariants as local
 use Rattle.curp_msg.specs.declared.message.Message.{Message}
-use Rattle.curp_parcels.specs.Outgoing.{is_capture, outgoing}
+use Rattle.curp_parcels.specs.Outgoing.{has_encoding, outgoing}
 use Rattle.curp_parcels.specs.Parcels.{behind_length}
 use Rattle.curp_parcels.specs.Reading.{place_behind}
 use Rattle.curp_parcels.specs.declared.outgoing.Outgoing.{Outgoing}
 use Rattle.curp_parcels.specs.declared.outgoing.Outgoing.TheVariants as out
-use Rattle.curp_wire.specs.Light.{is_light}
 
 -- ---- what is said of an input
 
--- a message goes out where its frame is one that a journal takes
+-- what has an encoding is said, and of what has none that it is withheld
+abbrev pub said_or_withheld : (step place stamp : ℕ) → Outgoing → Outgoing
+said_or_withheld step place stamp said = if has_encoding said then said else out.Withheld step place stamp
+
+-- a message goes out
 abbrev pub message_told : (step place stamp : ℕ) → Message → Outgoing
-message_told step place stamp m = if is_light m then out.Sent step place stamp m else out.Withheld step place stamp
+message_told step place stamp m = said_or_withheld step place stamp (out.Sent step place stamp m)
 
 -- the messages of an item, the first of which has this place
 abbrev pub messages_told : (step place stamp : ℕ) → List Message → List Outgoing
@@ -37,7 +40,7 @@ messages_told step place stamp (m ∷ more) = message_told step place stamp m �
 -- the request that an item completes, if it completes one
 abbrev pub completion_told : (step stamp : ℕ) → Option Completed → List Outgoing
 completion_told step stamp None = []
-completion_told step stamp (Some c) = (if is_capture c.by then out.Completed stamp c else out.Withheld step 0 stamp) ∷ []
+completion_told step stamp (Some c) = said_or_withheld step 0 stamp (out.Completed stamp c) ∷ []
 
 -- of the input of this number: its item's messages and the request that it completes, or that it was refused
 abbrev pub told : (input : ℕ) → Answered → List Outgoing

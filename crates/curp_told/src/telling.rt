@@ -1,25 +1,53 @@
 //! What is said of the answers to a batch.
-ghost use Rattle.std.specs.Prelude.{◌≡◌, ◌∷◌, ◌++◌, [], Some, true, IfOk, OnErr, OnOk};
+ghost use Rattle.std.specs.Prelude.{◌≡◌, ◌∷◌, ◌++◌, [], true, OnErr, OnOk};
 ghost use Rattle.curp_parcels.specs.Outgoing.{has_encoding};
-ghost use Rattle.curp_told.specs.Told.{all_told, completion_told, message_told, messages_told, parcels_of, told};
+ghost use Rattle.curp_told.specs.Told.{all_told, completion_told, message_told, messages_told, parcels_of};
+ghost use Rattle.curp_told.specs.Told.{said_or_withheld, told};
 
 use curp_base::NoMemory;
+use curp_batches::WriteError;
 use curp_durable::Answered;
 use curp_journal::Item;
 use curp_msg::{Completed, Message};
-use curp_parcels::{Outgoing, encode_outgoing, has_encoding};
-use curp_wire::is_light;
-use std::alloc::Global;
+use curp_parcels::laws::what_is_said_has_an_encoding;
+use curp_parcels::{Outgoing, encode_outgoing};
+use std::alloc::{AllocError, Global};
 
-/// Puts the parcel of what is said behind a text. After an error the text is as it was. `curp_parcels::has_encoding` is
-/// the test.
+/// Puts the parcel of what is said behind a text. After an error the text is as it was.
 pub fn tell_one(alloc: Global, said: &Outgoing, text: &mut Vec<u8>) -> Result<(), NoMemory>
     requires { has_encoding said.now ≡ true }
     ensures tells { OnOk result (text.new.items ≡ text.old.items ++ parcels_of (said.now ∷ [])) }
     ensures err { OnErr result (text.new.items ≡ text.old.items) }
 {
-    let parcel = encode_outgoing(alloc, said)?;
-    text.extend_from_slice(&parcel)
+    match encode_outgoing(alloc, said) {
+        Ok(parcel) => text.extend_from_slice(&parcel),
+        Err(WriteError::NoEncoding) => unreachable!(),
+        Err(WriteError::NoMemory) => Err(AllocError),
+    }
+}
+
+/// Puts there the parcel of what the item of this number and stamp has at this place, or, if that has no encoding, that it is
+/// withheld.
+#[tactic(auto, using(crate::proofs::Joining::said_whole))]
+fn tell_or_withhold(
+    alloc: Global,
+    said: &Outgoing,
+    step: u64,
+    place: u64,
+    stamp: u64,
+    text: &mut Vec<u8>,
+) -> Result<(), NoMemory>
+    ensures { OnOk result (text.new.items ≡ text.old.items
+        ++ parcels_of (said_or_withheld step place stamp said.now ∷ [])) }
+{
+    what_is_said_has_an_encoding();
+    match encode_outgoing(alloc, said) {
+        Ok(parcel) => text.extend_from_slice(&parcel),
+        Err(WriteError::NoEncoding) => {
+            tell_one(alloc, &Outgoing::Withheld { step, place, stamp }, text)
+        }
+        Err(WriteError::NoMemory) => Err(AllocError),
+    }
 }
 
 /// Puts the parcels of what is said of these answers behind a text. The first is the answer to the input of this
@@ -75,33 +103,29 @@ fn tell_messages(
     ensures { OnOk result (text.new.items ≡ text.old.items ++ parcels_of (messages_told step 1 stamp messages.now)) }
 {
     for (before, message) in messages.iter().enumerate() {
-        let said = said_of(alloc, step, before as u64 + 1, stamp, message)?;
-        tell_one(alloc, &said, text)?;
+        tell_message(alloc, step, before as u64 + 1, stamp, message, text)?;
     }
     Ok(())
 }
 
-/// What is said of the message at this place.
-fn said_of(
+/// The same of the message at this place.
+fn tell_message(
     alloc: Global,
     step: u64,
     place: u64,
     stamp: u64,
     message: &Message,
-) -> Result<Outgoing, NoMemory>
-    ensures says { IfOk result (λ said. said ≡ message_told step place stamp message.now) }
-    ensures encodes { IfOk result (λ said. has_encoding said ≡ true) }
+    text: &mut Vec<u8>,
+) -> Result<(), NoMemory>
+    ensures { OnOk result (text.new.items ≡ text.old.items ++ parcels_of (message_told step place stamp message.now ∷ [])) }
 {
-    if is_light(message) {
-        Ok(Outgoing::Sent {
-            step,
-            place,
-            stamp,
-            message: message.copy(alloc)?,
-        })
-    } else {
-        Ok(Outgoing::Withheld { step, place, stamp })
-    }
+    let said = Outgoing::Sent {
+        step,
+        place,
+        stamp,
+        message: message.copy(alloc)?,
+    };
+    tell_or_withhold(alloc, &said, step, place, stamp, text)
 }
 
 /// Puts there the parcel of the request that the item of this number and stamp completes, if it completes one.
@@ -116,23 +140,12 @@ pub(crate) fn tell_completion(
 {
     match completed {
         None => Ok(()),
-        Some(completed) => tell_one(alloc, &completion_said(step, stamp, *completed), text),
-    }
-}
-
-/// What is said of a request that completed.
-fn completion_said(step: u64, stamp: u64, completed: Completed) -> Outgoing
-    ensures says { completion_told step stamp (Some completed) ≡ result ∷ [] }
-    ensures encodes { has_encoding result ≡ true }
-{
-    let said = Outgoing::Completed { stamp, completed };
-    if has_encoding(&said) {
-        said
-    } else {
-        Outgoing::Withheld {
-            step,
-            place: 0,
-            stamp,
+        Some(completed) => {
+            let said = Outgoing::Completed {
+                stamp,
+                completed: *completed,
+            };
+            tell_or_withhold(alloc, &said, step, 0, stamp, text)
         }
     }
 }

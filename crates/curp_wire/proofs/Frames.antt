@@ -1,10 +1,10 @@
 -- The frame that bytes begin with is what reading them finds.
-use Rattle.std.proofs.Common.{◌≡◌, ℕ, zero, suc, ◌+◌, ◌^◌, ◌<◌, ◌≤◌, Bool, true, false, ◌-◌, ◌≢◌, ◌||◌, cond, ltb, List, [], ◌∷◌, ◌++◌, length, take, drop, Result, Ok, Err, refl, sym, ap, subst, ◌∙◌, append_assoc, arith}
-use Rattle.std.proofs.lemmas.Bool.{cond-false, le-ltb, ltb-false, or_from, or_parts}
+use Rattle.std.proofs.Common.{◌≡◌, ℕ, zero, suc, ◌+◌, ◌^◌, ◌<◌, ◌≤◌, Bool, true, false, ◌-◌, ◌≢◌, ◌&&◌, cond, ltb, List, [], ◌∷◌, ◌++◌, length, take, drop, Result, Ok, Err, refl, sym, ap, subst, ◌∙◌, append_assoc, arith}
+use Rattle.std.proofs.lemmas.Bool.{cond-false, le-ltb, le-leb, lt-leb, ltb-false, and_from}
 use Rattle.std.proofs.lemmas.List.{append-nil, drop-take, drop_at, length-append, length-drop, length-take, take-append-drop, take-take, take_at}
 use Rattle.std.proofs.lemmas.List.Elements.{All-drop, All-head, All-tail, All-take}
 use Rattle.std.proofs.lemmas.Nat.{be_bytes_4, from_be_bytes-to_be_bytes_4}
-use Rattle.std.specs.Prelude.{IfOk}
+use Rattle.std.specs.Prelude.{IfOk, nat_le}
 use Rattle.std.specs.Int.{w32, from_be_bytes, to_be_bytes}
 use Rattle.curp_base.specs.Cases.{◌>>=◌}
 use Rattle.curp_base.specs.Words.{AreBytes}
@@ -12,14 +12,16 @@ use Rattle.curp_cmd.specs.declared.node.NodeId.{NodeId}
 use Rattle.curp_items.proofs.Combining.{IsByte, TakesFields, bind_ok, by_tag_sound, byte_in, done, input, ok_is, taken_bytes}
 use Rattle.curp_items.proofs.Formats.{node_is}
 use Rattle.curp_items.specs.Format.{Input, by_tag}
-use Rattle.curp_items.specs.Items.{node}
+use Rattle.curp_items.specs.Items.{is_node, node}
 use Rattle.curp_msg.specs.declared.body.Body.{Body}
 use Rattle.curp_msg.specs.declared.body.Body.TheVariants as body
 use Rattle.curp_msg.specs.declared.message.Message.{Message}
 use Rattle.curp_wire.proofs.ItemSizes.{node_size}
 use Rattle.curp_fields.proofs.Formats.{bodies_again, bodies_sound}
+use Rattle.curp_fields.proofs.Having.{fields_pass, node_passes}
 use Rattle.curp_fields.specs.Fields.{body_parts, body_variants}
-use Rattle.curp_wire.specs.Frame.{Frame, IsMessage, content, content_limit, ended, frame_in, frame_of_length, in_fields, is_tag, message_in, read_message}
+use Rattle.curp_fields.specs.Spelled.{has_fields}
+use Rattle.curp_wire.specs.Frame.{Frame, IsMessage, content, content_limit, ended, frame_in, frame_of_length, has_content, has_frame, in_fields, is_tag, message_in, read_message}
 use Rattle.curp_wire.specs.declared.error.FrameError.{FrameError}
 use Rattle.curp_wire.specs.declared.error.FrameError.TheVariants as error
 
@@ -159,10 +161,9 @@ take-more n m xs =
 abbrev pub IsFound : List ℕ → Message × ℕ → Type 0
 IsFound bytes found = Frame found.0 (take found.1 bytes) × (found.1 ≤ length bytes)
 
-of_length : (bytes : List ℕ) (n : ℕ) (found : Message × ℕ) → AreBytes bytes → 4 ≤ length bytes → to_be_bytes w32 n ≡ take 4 bytes → frame_of_length n bytes ≡ Ok found → IsFound bytes found
-of_length bytes n found h four number e =
-    let a = passed (ltb n 11 || ltb content_limit n) (error.BadField 0) _ found e in
-    let range = or_parts (ltb n 11) (ltb content_limit n) a.0 in
+of_length : (bytes : List ℕ) (n : ℕ) (found : Message × ℕ) → AreBytes bytes → 4 ≤ length bytes → n ≤ content_limit → to_be_bytes w32 n ≡ take 4 bytes → frame_of_length n bytes ≡ Ok found → IsFound bytes found
+of_length bytes n found h four most number e =
+    let a = passed (ltb n 11) (error.BadField 0) _ found e in
     let b = passed (ltb (length bytes) (4 + n)) (error.Short (4 + n)) _ found a.1 in
     let long : 4 + n ≤ length bytes = ltb-false (length bytes) (4 + n) b.0 in
     let c = bind_ok' (message_in (take n (drop 4 bytes))) (λ m. Ok (m, 4 + n)) found b.1 in
@@ -172,7 +173,7 @@ of_length bytes n found h four number e =
     let made : IsFound bytes (m, 4 + n) = (
       record {
         message = is.0;
-        short = omega (arith, size, ltb-false content_limit n range.1);
+        short = omega (arith, size, most);
         is = take-more 4 n bytes ∙ ap (λ (r : List ℕ). r ++ take n (drop 4 bytes)) (sym number) ∙ ap (λ (r : List ℕ). to_be_bytes w32 n ++ r) is.1 ∙ ap (λ (k : ℕ). to_be_bytes w32 k ++ content m) (sym size);
       },
       long,
@@ -186,19 +187,19 @@ frame_found bytes found h e =
     let front = take 4 bytes in
     let size : length front ≡ 4 = omega (arith, length-take 4 bytes) in
     let fits = byte_in front (All-take IsByte 4 bytes h) in
-    of_length bytes (from_be_bytes w32 front) found h four (be_bytes_4 front (from_be_bytes w32 front) size fits refl) a.1
+    let most : from_be_bytes w32 front ≤ content_limit = omega (arith, fits 0, fits 1, fits 2, fits 3) in
+    of_length bytes (from_be_bytes w32 front) found h four most (be_bytes_4 front (from_be_bytes w32 front) size fits refl) a.1
 
 -- four bytes that are a length, and enough behind them
-framed : (number more : List ℕ) (n : ℕ) → length number ≡ 4 → from_be_bytes w32 number ≡ n → 11 ≤ n → n ≤ content_limit → n ≤ length more → frame_in (number ++ more) ≡ (message_in (take n more) >>= λ m. okay (m, 4 + n))
-framed number more n four is least most long =
+framed : (number more : List ℕ) (n : ℕ) → length number ≡ 4 → from_be_bytes w32 number ≡ n → 11 ≤ n → n ≤ length more → frame_in (number ++ more) ≡ (message_in (take n more) >>= λ m. okay (m, 4 + n))
+framed number more n four is least long =
     let bytes = number ++ more in
     let all = length-append number more in
     let there : ltb (length bytes) 4 ≡ false = le-ltb (length bytes) 4 (omega (arith, all)) in
-    let range : (ltb n 11 || ltb content_limit n) ≡ false = or_from (ltb n 11) (ltb content_limit n) (le-ltb n 11 least) (le-ltb content_limit n most) in
     let whole : ltb (length bytes) (4 + n) ≡ false = le-ltb (length bytes) (4 + n) (omega (arith, all)) in
     cond-false (ltb (length bytes) 4) (Err (error.Short 4)) (frame_of_length (from_be_bytes w32 (take 4 bytes)) bytes) there
     ∙ ap (λ (k : ℕ). frame_of_length k bytes) (ap (from_be_bytes w32) (take_at number more 4 four) ∙ is)
-    ∙ cond-false (ltb n 11 || ltb content_limit n) (Err (error.BadField 0)) _ range
+    ∙ cond-false (ltb n 11) (Err (error.BadField 0)) _ (le-ltb n 11 least)
     ∙ cond-false (ltb (length bytes) (4 + n)) (Err (error.Short (4 + n))) _ whole
     ∙ ap (λ (c : List ℕ). message_in (take n c) >>= λ m. okay (m, 4 + n)) (drop_at number more 4 four)
 
@@ -214,7 +215,7 @@ frame_again m frame rest f =
     let number = to_be_bytes w32 n in
     let laid : frame ++ rest ≡ number ++ (content m ++ rest) = ap (λ (r : List ℕ). r ++ rest) f.is ∙ append_assoc number (content m) rest in
     let small : n < 2 ^ 32 = omega (arith, f.short) in
-    let read = framed number (content m ++ rest) n refl (from_be_bytes-to_be_bytes_4 n small) (content_least m f.message) f.short (omega (arith, length-append (content m) rest)) in
+    let read = framed number (content m ++ rest) n refl (from_be_bytes-to_be_bytes_4 n small) (content_least m f.message) (omega (arith, length-append (content m) rest)) in
     let front = ap message_in (take_at (content m) rest n refl) ∙ content_again m f.message in
     ap frame_in laid ∙ read
     ∙ ap (λ (r : Result Message FrameError). r >>= λ m. okay (m, 4 + n)) front
@@ -231,18 +232,37 @@ one_frame a b of_a of_b after_a after_b f g e =
     )
 
 -- the same of bytes that are cut behind the length
-pub framed_at : (bytes : List ℕ) (n : ℕ) → 4 ≤ length bytes → n ≡ from_be_bytes w32 (take 4 bytes) → 11 ≤ n → n ≤ content_limit → n ≤ length (drop 4 bytes) → frame_in bytes ≡ (message_in (take n (drop 4 bytes)) >>= λ m. okay (m, 4 + n))
-framed_at bytes n four is least most long =
-    ap frame_in (sym (take-append-drop 4 bytes)) ∙ framed (take 4 bytes) (drop 4 bytes) n (omega (arith, length-take 4 bytes)) (sym is) least most long
+pub framed_at : (bytes : List ℕ) (n : ℕ) → 4 ≤ length bytes → n ≡ from_be_bytes w32 (take 4 bytes) → 11 ≤ n → n ≤ length (drop 4 bytes) → frame_in bytes ≡ (message_in (take n (drop 4 bytes)) >>= λ m. okay (m, 4 + n))
+framed_at bytes n four is least long =
+    ap frame_in (sym (take-append-drop 4 bytes)) ∙ framed (take 4 bytes) (drop 4 bytes) n (omega (arith, length-take 4 bytes)) (sym is) least long
 
-pub made_frame : (m : Message) (zeros items : List ℕ) → length zeros ≡ 4 → items ≡ zeros ++ content m → IsMessage m → length (content m) ≤ content_limit → Frame m (to_be_bytes w32 (length items - 4) ++ drop 4 items)
-made_frame m zeros items four are is short =
-    let size : length items - 4 ≡ length (content m) = omega (arith, ap length are, length-append zeros (content m), four) in
+-- ---- what is written
+
+pub made_frame : (m : Message) (items : List ℕ) → length items ≡ 4 + length (content m) → drop 4 items ≡ content m → IsMessage m → length (content m) ≤ content_limit → Frame m (to_be_bytes w32 (length items - 4) ++ drop 4 items)
+made_frame m items all dropped is short =
+    let size : length items - 4 ≡ length (content m) = omega (arith, all) in
     record {
       message = is;
       short = short;
-      is = ap (λ (k : ℕ). to_be_bytes w32 k ++ drop 4 items) size ∙ ap (λ (r : List ℕ). to_be_bytes w32 (length (content m)) ++ r) (ap (drop 4) are ∙ drop_at zeros (content m) 4 four);
+      is = ap (λ (k : ℕ). to_be_bytes w32 k ++ drop 4 items) size ∙ ap (λ (r : List ℕ). to_be_bytes w32 (length (content m)) ++ r) dropped;
     }
+
+pub no_content : (m : Message) → has_content m ≡ false → has_frame m ≡ false
+no_content m none = ap (λ (b : Bool). b && nat_le (length (content m)) content_limit) none
+
+and_false : (b : Bool) → (b && false) ≡ false
+and_false true = refl
+and_false false = refl
+
+pub too_long : (m : Message) → content_limit < length (content m) → has_frame m ≡ false
+too_long m long =
+    ap (λ (b : Bool). has_content m && b) (lt-leb (length (content m)) content_limit long) ∙ and_false (has_content m)
+
+pub frame_had : (m : Message) (bytes : List ℕ) → Frame m bytes → has_frame m ≡ true
+frame_had m bytes f =
+    let ends = and_from (is_node m.from) (is_node m.to) (node_passes m.from f.message.from) (node_passes m.to f.message.to) in
+    let all = and_from (is_node m.from && is_node m.to) (has_fields m.body) ends (fields_pass m.body f.message.fields) in
+    and_from (has_content m) (nat_le (length (content m)) content_limit) all (le-leb (length (content m)) content_limit f.short)
 
 -- ---- what a call finds
 

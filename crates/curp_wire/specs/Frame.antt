@@ -1,17 +1,18 @@
 -- Frames: messages as bytes (this project's own).
-use Rattle.std.specs.Prelude.{◌≡◌, ℕ, ◌+◌, ◌≤◌, nat_le, nat_lt, ◌&&◌, ◌||◌, if◌then◌else◌, Bool, List, [], ◌∷◌, ◌++◌, length, take, drop, Result, Ok, Err}
+use Rattle.std.specs.Prelude.{◌≡◌, ℕ, ◌+◌, ◌≤◌, nat_le, nat_lt, ◌&&◌, if◌then◌else◌, Bool, List, [], ◌∷◌, ◌++◌, length, take, drop, Result, Ok, Err}
 use Rattle.std.specs.Int.{w32, from_be_bytes, to_be_bytes}
 use Rattle.curp_base.specs.Cases.{◌>>=◌}
 use Rattle.curp_items.specs.Format.{Input, Reading, by_tag}
-use Rattle.curp_items.specs.Items.{node}
+use Rattle.curp_items.specs.Items.{is_node, node}
 use Rattle.curp_msg.specs.declared.message.Message.{Message}
 use Rattle.curp_fields.specs.Fields.{body_parts, body_variants}
+use Rattle.curp_fields.specs.Spelled.{has_fields}
 use Rattle.curp_wire.specs.declared.error.FrameError.{FrameError}
 use Rattle.curp_wire.specs.declared.error.FrameError.TheVariants as error
 
--- how many bytes a frame may have behind its length
+-- how many bytes a frame may have behind its length, which has 32 bits
 abbrev pub content_limit : ℕ
-content_limit = 16777216
+content_limit = 4294967295
 
 -- All that is in a message is in its range: the manager alone has the number 0, and numbers, keys, values and lists are as
 -- those of each value of their types
@@ -29,6 +30,15 @@ pub record Frame (m : Message) (bytes : List ℕ) : Type 0 where
   pub message : IsMessage m
   pub short : length (content m) ≤ content_limit
   pub is : bytes ≡ to_be_bytes w32 (length (content m)) ++ content m
+
+-- the tag, the sender, the addressee and the fields have a spelling: each node is one that there may be, and each list is
+-- short enough for its count
+abbrev pub has_content : Message → Bool
+has_content m = is_node m.from && is_node m.to && has_fields m.body
+
+-- there is a frame of the message
+abbrev pub has_frame : Message → Bool
+has_frame m = has_content m && nat_le (length (content m)) content_limit
 
 -- ---- which frame bytes begin with, or why with none, by the first that holds
 
@@ -64,7 +74,7 @@ message_in (tag ∷ rest) =
 -- a frame whose content should have this length
 abbrev pub frame_of_length : ℕ → List ℕ → Result (Message × ℕ) FrameError
 frame_of_length n bytes =
-    if nat_lt n 11 || nat_lt content_limit n then Err (error.BadField 0)
+    if nat_lt n 11 then Err (error.BadField 0)
     else if nat_lt (length bytes) (4 + n) then Err (error.Short (4 + n))
     else message_in (take n (drop 4 bytes)) >>= λ m. Ok (m, 4 + n)
 

@@ -1,6 +1,28 @@
 ghost use Rattle.std.specs.Prelude.{◌≡◌};
+ghost use Rattle.curp_wire.specs.declared.error.EncodeError.TheVariants as writing;
 
+use curp_base::NoMemory;
 use curp_items::{Fault, ReadError};
+use thiserror::Error;
+
+/// Why a message wasn't written as a frame.
+#[derive(Clone, Copy, Debug, PartialEq, Eq, Error)]
+pub enum EncodeError {
+    /// There is no frame of it: a node in it has the number 0 and isn't the manager, or the other way round, or a list has
+    /// more elements than 32 bits count, or more bytes would stand behind the length than that tells.
+    #[error("the message has no frame")]
+    NoFrame,
+    #[error("out of memory")]
+    NoMemory,
+}
+
+impl From<NoMemory> for EncodeError {
+    ghost from_gives = { λ _ e. e ≡ writing.NoMemory };
+
+    fn from(_: NoMemory) -> EncodeError {
+        EncodeError::NoMemory
+    }
+}
 
 /// Why bytes begin with no frame. The first that holds is told.
 #[derive(Clone, Copy, Debug, PartialEq, Eq)]

@@ -1,7 +1,7 @@
-//! Limits of frames, and of the messages that are written as frames (this project's own choice).
+//! Limits of frames, and of light messages (this project's own choice).
 
-/// How many bytes a frame may have behind its length.
-pub(crate) const CONTENT_LIMIT: usize = 16_777_216;
+/// How many bytes a frame may have behind its length, which has 32 bits.
+pub(crate) const CONTENT_LIMIT: usize = 4_294_967_295;
 
 /// The greatest number of a client in a light message.
 pub const CLIENT_LIMIT: u32 = 64;

@@ -1,14 +1,23 @@
 //! What stands in a frame behind its length.
-ghost use Rattle.std.specs.Prelude.{◌≡◌, OnOk};
+ghost use Rattle.std.specs.Prelude.{◌≡◌, true, OnOk};
 ghost use Rattle.curp_items.specs.Calls.{ReadsIfMemory, WritesItem};
-ghost use Rattle.curp_wire.specs.Frame.{IsMessage, content, is_tag, read_message};
+ghost use Rattle.curp_wire.specs.Frame.{IsMessage, content, has_content, is_tag, read_message};
 ghost use Rattle.curp_fields.specs.Spelling.{HasContent};
 
 use crate::body::{read_fields, tag_of, write_fields};
 use curp_base::NoMemory;
-use curp_items::{Item, ReadError, Reader, Writer};
+use curp_fields::has_fields;
+use curp_items::{Item, ReadError, Reader, Writer, is_node};
 use curp_msg::Message;
 use std::alloc::Global;
+
+/// Whether the tag, the sender, the addressee and the fields have a spelling.
+pub(crate) fn has_content(message: &Message) -> bool
+    ensures test { result ≡ has_content message.now }
+    ensures spelled { result ≡ true → HasContent message.now }
+{
+    is_node(&message.from) && is_node(&message.to) && has_fields(&message.body)
+}
 
 /// Writes the tag, the sender, the addressee and the fields.
 pub(crate) fn write_content(message: &Message, out: &mut Writer) -> Result<(), NoMemory>

@@ -1,11 +1,10 @@
 //! From bytes to a message.
-ghost use Rattle.std.specs.Prelude.{◌≡◌, ◌≢◌, ◌<◌, ◌≤◌, ◌++◌, ℕ, List, length, take, drop, Ok, Err, IfOk, IfNone, IfSome, OnSome};
+ghost use Rattle.std.specs.Prelude.{◌≡◌, ◌≢◌, ◌<◌, ◌≤◌, ◌^◌, ◌++◌, ℕ, List, length, take, drop, Ok, Err, IfOk, IfNone, IfSome, OnSome};
 ghost use Rattle.std.specs.Int.{w32, from_be_bytes};
 ghost use Rattle.curp_msg.specs.declared.message.Message.{Message};
-ghost use Rattle.curp_wire.specs.Frame.{Frame, content_limit, frame_in, message_in};
+ghost use Rattle.curp_wire.specs.Frame.{Frame, frame_in, message_in};
 
 use crate::error::FrameError;
-use crate::limits::CONTENT_LIMIT;
 use crate::message::{is_tag, read_message};
 use curp_items::Reader;
 use curp_msg::Message;
@@ -31,7 +30,7 @@ fn frame_at(alloc: Global, bytes: &[u8]) -> Result<(Message, usize), FrameError>
     let Some((length, rest)) = split_length(bytes) else {
         return Err(FrameError::Short { need: 4 });
     };
-    if length < 11 || length > CONTENT_LIMIT {
+    if length < 11 {
         return Err(FrameError::BadField { place: 0 });
     }
     if rest.len() < length {
@@ -47,6 +46,7 @@ fn split_length(bytes: &[u8]) -> Option<(usize, &[u8])>
     ensures short { IfNone result (length bytes.now < 4) }
     ensures long { OnSome result (4 ≤ length bytes.now) }
     ensures length { IfSome result (λ split. split.0 ≡ from_be_bytes w32 (take 4 bytes.now)) }
+    ensures small { IfSome result (λ split. split.0 < 2 ^ 32) }
     ensures rest { IfSome result (λ split. split.1.now ≡ drop 4 bytes.now) }
 {
     if bytes.len() < 4 {

@@ -1,5 +1,4 @@
-use Rattle.std.proofs.Common.{◌+◌, ◌∷◌, ◌++◌, ◌∙◌, [], refl, ap}
-use Rattle.curp_parcels.specs.declared.outgoing.Outgoing.{Outgoing}
+use Rattle.std.proofs.Common.{◌+◌, ◌++◌, refl}
 use Rattle.curp_told.specs.Told.{messages_told, parcels_of}
 use Rattle.curp_told.proofs.Joining.{ends, messages_on}
 use Rattle.curp_told.proofs.telling.tell_messages.Goals as goal
@@ -8,8 +7,8 @@ pub loop-before-preserved : goal.loop-before-preserved
 loop-before-preserved c =
     let l = c.loop-before in
     let whole = c.args.text.now.items ++ parcels_of (messages_told c.args.step 1 c.args.stamp c.args.messages.now) in
-    messages_on l.before l.text.items c.tell_one.new.text.items whole c.args.step c.args.stamp c.args.messages.now c.index-messages-before.result c.loop-before-test.true c.index-messages-before.is
-    (c.in_ok-tell_one.ensures.tells ∙ ap (λ (said : Outgoing). l.text.items ++ parcels_of (said ∷ [])) c.in_ok-said.ensures.says)
+    messages_on l.before l.text.items c.tell_message.new.text.items whole c.args.step c.args.stamp c.args.messages.now c.index-messages-before.result c.loop-before-test.true c.index-messages-before.is
+    c.in_ok-tell_message.ensures
     l.invariant
 
 pub returns : goal.returns

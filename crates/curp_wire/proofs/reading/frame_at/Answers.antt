@@ -18,7 +18,7 @@ pub returns : goal.returns
 returns c = λ other.
     let n = c.in-Some.length in
     let m = c.in_ok-message.message in
-    let read = framed_at c.args.bytes.now n c.in-Some.ensures.long c.in-Some.ensures.length (omega (arith, c.if-length-lt11.false)) (omega (arith, c.if-length-gt-CONTENT_LIMIT.false)) (omega (arith, ap length c.in-Some.ensures.rest, c.if-rest-length.false)) in
+    let read = framed_at c.args.bytes.now n c.in-Some.ensures.long c.in-Some.ensures.length (omega (arith, c.if-length-lt11.false)) (omega (arith, ap length c.in-Some.ensures.rest, c.if-rest-length.false)) in
     let there : okay m ≢ Err error.NoMemory = λ same. absurd cc in
     let found = c.in_ok-message.ensures there in
     sym (read ∙ ap (λ (r : Result Message FrameError). r >>= λ m. okay (m, 4 + n)) (sym (found ∙ ap (λ rest. message_in (take n rest)) c.in-Some.ensures.rest)))
@@ -26,7 +26,7 @@ returns c = λ other.
 pub returns-in_err-message : goal.returns-in_err-message
 returns-in_err-message c = λ other.
     let n = c.in-Some.length in
-    let read = framed_at c.args.bytes.now n c.in-Some.ensures.long c.in-Some.ensures.length (omega (arith, c.if-length-lt11.false)) (omega (arith, c.if-length-gt-CONTENT_LIMIT.false)) (omega (arith, ap length c.in-Some.ensures.rest, c.if-rest-length.false)) in
+    let read = framed_at c.args.bytes.now n c.in-Some.ensures.long c.in-Some.ensures.length (omega (arith, c.if-length-lt11.false)) (omega (arith, ap length c.in-Some.ensures.rest, c.if-rest-length.false)) in
     let p = err_from_is_err_and c.from_residual.result c.from_residual.ensures.1 in
     let why = c.in_err-message.field-0.0 in
     let is : c.from_residual.result ≡ failed why = rw (p.1, p.2) refl in
