@@ -71,16 +71,17 @@
 //!
 //! # Bytes, journals, tests
 //!
-//! - `frames`: `encode` spells a message where `is_light` says that it may be; `decode` finds the message that bytes begin
-//!   with and its length, or says how many bytes are needed (`FrameError::Short`). No frame has a checksum.
+//! - `frames`: `encode` writes a message as a frame, or says that it has none (`EncodeError::NoFrame`); `encode_light` does
+//!   so of a message that is light, which always has one. `decode` finds the message that bytes begin with and its length,
+//!   or says how many bytes are needed (`FrameError::Short`). No frame has a checksum.
 //! - `journal`: an `Item` is what came to a node, and what it did then; a message comes with its sender's name for it, and
 //!   an order with a stamp (`Arrived`).
 //! - `durable`: a journal of any node on any disk. `format` writes an empty one under a title (`title_of` makes that of a
 //!   node of a header), once; `Durable::open` gives a fresh node the inputs that stand there; `Durable::on_all` takes the
-//!   place of `on`, for as many inputs as there are at a time: they cost two syncs together. After an error that leaves it
-//!   `spent` the disk is taken out (`into_disk`) and opened again. Disks: `FileDisk` is a file of the system; `MemoryDisk`
-//!   and `StopDisk` are for tests, and tell their bytes, so that all clauses hold over them without a premise.
-//! - `manager_log`: the manager's journal as `curp manage` has it, over disks that tell their bytes (`TellingDisk`).
+//!   place of `on`, for as many inputs as there are at a time: they cost two syncs together. `on`, `on_message` and
+//!   `on_order` take one, and answer as a `Core`'s do, but that the disk may fail (`DurableError`). `node` lends the node.
+//!   After an error that leaves it `spent` the disk is taken out (`into_disk`) and opened again. Disks: `FileDisk` is a file
+//!   of the system; `MemoryDisk` and `StopDisk` are for tests, and tell their bytes, so that all clauses hold over them.
 //! - `world`: all nodes of a header, every message that was ever sent, and one order of the requests, step by step: for
 //!   tests of yours that ask what the nodes do with a sequence of messages, losses and stops, as `curp play` does.
 #![tactic(auto)]
@@ -113,7 +114,7 @@ pub mod bodies {
 
 /// Messages as bytes.
 pub mod frames {
-    pub use curp_wire::{FrameError, decode, encode, is_light};
+    pub use curp_wire::{EncodeError, FrameError, decode, encode, encode_light, is_light};
 }
 
 /// What came to a node, and what it did.
@@ -138,12 +139,4 @@ pub mod durable {
         Answered, Durable, DurableError, FormatError, OpenError, OpenFailed, SIZE_LIMIT, format,
     };
     pub use curp_title::{Title, title_in, title_of};
-}
-
-/// The manager's journal on a disk that tells its bytes.
-pub mod manager_log {
-    pub use curp_disk::{MemoryDisk, StopDisk, TellingDisk};
-    pub use curp_mlog::{
-        FormatError, Logged, LoggedError, OpenError, OpenFailed, SIZE_LIMIT, format,
-    };
 }

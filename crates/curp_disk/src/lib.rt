@@ -4,8 +4,7 @@
 //!   what a crash may then leave, `time` the same of each moment in the call, `durable` that a crash after a sync leaves
 //!   what the disk reads as, `cause` that a failure raises the count of faults, `told` that any other answer leaves it,
 //!   and `sound` that a disk which has no failing call before it has none. `whole` is what one kind of disk adds.
-//! - What of it speaks of bytes has the premise that the kind of disk tells them (`tells`). For a `TellingDisk` the
-//!   functions of `telling` do the same calls, and their clauses have no premise.
+//! - What of it speaks of bytes has the premise that the kind of disk tells them (`tells`).
 //! - `FileDisk`: a file of the system. It tells no byte, and counts its faults.
 //! - `MemoryDisk`: its listed calls fail. `StopDisk`: it fails from an armed call on. Of both `whole` is exact: which
 //!   writes and syncs were made, in their order; `crash`, exact, keeps the unsynced writes, or none of them.
@@ -16,11 +15,9 @@ mod file;
 mod medium;
 mod memory;
 mod stop;
-pub mod telling;
 
 pub use disk::{Did, Disk, Long};
 pub use file::{FileDisk, FileError};
 pub use medium::Call;
 pub use memory::MemoryDisk;
 pub use stop::StopDisk;
-pub use telling::TellingDisk;

@@ -1,4 +1,4 @@
-ghost use Rattle.std.specs.Prelude.{◌≡◌, true, [], length, IfOk, refl};
+ghost use Rattle.std.specs.Prelude.{◌≡◌, true, [], length, IfOk};
 ghost use Rattle.curp_io.specs.Memory.{fresh_calls};
 ghost use Rattle.curp_disk.specs.Calls.{seen_of, LeftNow, LeftSince};
 ghost use Rattle.curp_disk.specs.InMemory.{MemoryRan, crashed};
@@ -7,7 +7,6 @@ ghost use Rattle.curp_disk.specs.declared.medium.Call.TheVariants.{Write, Sync};
 
 use crate::disk::{Did, Disk, Long};
 use crate::medium::Medium;
-use crate::telling::TellingDisk;
 use curp_base::NoMemory;
 use curp_io::{Schedule, Turn};
 use std::alloc::Global;
@@ -112,8 +111,4 @@ impl Disk for MemoryDisk {
             Turn::Goes => self.medium.keep(),
         }
     }
-}
-
-impl TellingDisk for MemoryDisk {
-    ghost is_telling = { refl };
 }

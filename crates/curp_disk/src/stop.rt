@@ -1,4 +1,4 @@
-ghost use Rattle.std.specs.Prelude.{◌≡◌, true, ◌≤◌, length, [], None, Some, if◌then◌else◌, refl};
+ghost use Rattle.std.specs.Prelude.{◌≡◌, true, ◌≤◌, length, [], None, Some, if◌then◌else◌};
 ghost use Rattle.curp_disk.specs.Calls.{seen_of, LeftNow, LeftSince};
 ghost use Rattle.curp_disk.specs.InMemory.{StopRan, crashed, one_less, stopped, stops};
 ghost use Rattle.curp_disk.specs.Moments.{reads_now, counts_now, only_now};
@@ -6,7 +6,6 @@ ghost use Rattle.curp_disk.specs.declared.medium.Call.TheVariants.{Write, Sync};
 
 use crate::disk::{Did, Disk, Long};
 use crate::medium::Medium;
-use crate::telling::TellingDisk;
 use curp_io::Turn;
 use std::alloc::Global;
 use std::marker::Model;
@@ -137,8 +136,4 @@ impl Disk for StopDisk {
             Turn::Goes => self.medium.keep(),
         }
     }
-}
-
-impl TellingDisk for StopDisk {
-    ghost is_telling = { refl };
 }

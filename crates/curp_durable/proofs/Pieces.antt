@@ -2,38 +2,37 @@
 use Rattle.std.specs.Prelude.{◌≡◌, ℕ, ◌+◌, ◌<◌, ◌≤◌, ◌^◌, ◌==◌, true, false, List, [], ◌∷◌, ◌++◌, length, refl}
 use Rattle.std.proofs.Common.{inl, inr, sym, ◌∙◌, ap, subst, arith, length-append}
 use Rattle.std.proofs.lemmas.Bool.{eqb-true}
-use Rattle.curp_batches.specs.Arrivals.{is_light_arrival}
+use Rattle.curp_batches.specs.Arrivals.{arrival}
 use Rattle.curp_batches.specs.Batches.{IsEncoding, batch_of}
 use Rattle.curp_base.specs.Words.{Each}
 use Rattle.curp_journal.specs.declared.arrived.Arrived.{Arrived}
 use Rattle.curp_msg.specs.Moved.{Moved}
 use Rattle.curp_msg.specs.declared.machine.Input.{Input}
-use Rattle.curp_wire.proofs.ItemSizes.{all_each}
-use Rattle.curp_durable.specs.Answering.{AreTooHeavy, Decides, IsPiece, IsRecord, are_light, end_of, record_of}
+use Rattle.curp_durable.specs.Answering.{Decides, HaveNoEncoding, IsPiece, IsRecord, end_of, record_of}
 use Rattle.curp_durable.specs.Journal.{HasEncoding, behind_length, framed}
 use Rattle.curp_durable.specs.Standing.{Standing, answers_of, made_inputs, taken}
 use Rattle.curp_durable.specs.declared.stand.Answered.{Answered}
 use Rattle.curp_durable.proofs.Parsing.{length-framed}
 use Rattle.curp_durable.proofs.Standings.{all_taken, made_taken, none_there}
 
-pub each_light : (inputs : List Arrived) → are_light inputs ≡ true → Each (λ a. is_light_arrival a ≡ true) inputs
-each_light inputs is = all_each is_light_arrival inputs is
-
 pub record-length : (b : List Arrived) → length (record_of b) ≡ 5 + length (batch_of b)
 record-length b = omega (arith, length-append (framed b) (0 ∷ []), length-framed b)
+
+pub too_long : (b : List Arrived) (bytes : List ℕ) → IsEncoding b bytes → 2 ^ 32 ≤ length bytes → HaveNoEncoding b
+too_long b bytes s long = inr (omega (arith, long, ap length s.is))
+
+pub none_of_one : (b : List Arrived) → (Each arrival.Fits b → ⊥) → HaveNoEncoding b
+none_of_one b none = inl none
+
+pub encoded : (b : List Arrived) (bytes : List ℕ) → IsEncoding b bytes → length bytes < 2 ^ 32 → HasEncoding b
+encoded b bytes s short = record { fits = s.fits; short = omega (arith, short, ap length s.is) }
 
 -- a record for which there is room
 pub record_is : (gate size_limit : ℕ) (b : List Arrived) (bytes piece : List ℕ) → IsEncoding b bytes → length bytes < 2 ^ 32 → gate + 6 + length bytes ≤ size_limit → piece ≡ behind_length bytes ++ 0 ∷ [] → IsRecord gate size_limit b piece
 record_is gate size_limit b bytes piece s short room is =
     let whole : piece ≡ record_of b = is ∙ ap (λ (l : List ℕ). behind_length l ++ 0 ∷ []) s.is in
     let long = ap length s.is in
-    (record { fits = s.fits; short = omega (arith, short, long) }, whole, omega (arith, room, ap length whole, record-length b, long))
-
-pub too_long : (b : List Arrived) (bytes : List ℕ) → IsEncoding b bytes → 2 ^ 32 ≤ length bytes → AreTooHeavy b
-too_long b bytes s long = inr (omega (arith, long, ap length s.is))
-
-pub not_light : (b : List Arrived) → are_light b ≡ false → AreTooHeavy b
-not_light b heavy = inl heavy
+    (encoded b bytes s short, whole, omega (arith, room, ap length whole, record-length b, long))
 
 pub full : (gate size_limit : ℕ) (b : List Arrived) (bytes : List ℕ) → IsEncoding b bytes → size_limit < gate + 6 + length bytes → size_limit < end_of gate b
 full gate size_limit b bytes s room = omega (arith, room, record-length b, ap length s.is)
@@ -45,6 +44,9 @@ module _ {N : Type 0} (machine : N → Input → Moved N) (s : Standing N) (gate
   -- none was taken
   pub decides_none : length (made_inputs answers) ≡ 0 → Decides machine s gate size_limit inputs [] answers
   decides_none none = record { answers_are = are; piece_is = inl (none_there (taken machine s inputs) (ap length (sym made_are) ∙ none), refl) }
+
+  pub none_made : taken machine s inputs ≡ [] → length (made_inputs answers) ≡ 0
+  none_made none = ap length (made_are ∙ none)
 
   -- all were
   pub decides_all : (piece : List ℕ) → length (made_inputs answers) ≡ length inputs → IsRecord gate size_limit inputs piece → Decides machine s gate size_limit inputs piece answers

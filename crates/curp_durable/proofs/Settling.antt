@@ -7,7 +7,7 @@ use Rattle.curp_journal.specs.declared.arrived.Arrived.{Arrived}
 use Rattle.curp_msg.specs.Moved.{Moved}
 use Rattle.curp_msg.specs.declared.machine.Input.{Input}
 use Rattle.curp_durable.specs.Appending.{ShutOrStaged}
-use Rattle.curp_durable.specs.Journal.{HasEncoding, HoldsJournal, IsBeforeOrAfter, IsSettled, ReadsJournal, framed}
+use Rattle.curp_durable.specs.Journal.{HasEncoding, HoldsJournal, HoldsUpTo, IsBeforeOrAfter, IsSettled, ReadsJournal, framed}
 use Rattle.curp_durable.specs.Opening.{IsOpened}
 use Rattle.curp_durable.specs.Standing.{Standing, after, begun, taken}
 use Rattle.curp_durable.proofs.Going.{weaker}
@@ -72,12 +72,11 @@ module _ {N D : Type 0} (machine : N → Input → Moved N) (seen : D → List �
       record { batches = o.batches; all = all; reads = subst (λ (l : List ℕ). ReadsJournal l title o.batches gate) (sym same) o.reads; stand_is = o.stand_is ∙ ap (after machine (begun opening)) all; durable = only }
 
 -- a journal with no input was written on a disk that had no more bytes
-pub fresh : (before now_there : List ℕ) (bytes title : List ℕ) → length before ≤ length bytes → bytes ≡ title ++ 0 ∷ [] → now_there ≡ over before 0 bytes → HoldsJournal now_there title []
+pub fresh : (before now_there : List ℕ) (bytes title : List ℕ) → length before ≤ length bytes → bytes ≡ title ++ 0 ∷ [] → now_there ≡ over before 0 bytes → HoldsUpTo now_there title [] (length title)
 fresh before now_there bytes title short is now =
     let all : over before 0 bytes ≡ bytes = ap (λ (l : List ℕ). bytes ++ l) (drop_all (0 + length bytes) before (omega (arith, short))) ∙ append-nil bytes in
     record {
       batches = [];
-      gate = length title;
       all = refl;
       reads = record {
         byte = 0;
@@ -88,3 +87,7 @@ fresh before now_there bytes title short is now =
         encoded = tt;
       };
     }
+
+-- a journal whose last gate stands somewhere
+pub some_gate : (content title : List ℕ) (inputs : List Arrived) (gate : ℕ) → HoldsUpTo content title inputs gate → HoldsJournal content title inputs
+some_gate content title inputs gate h = record { batches = h.batches; gate = gate; all = h.all; reads = h.reads }

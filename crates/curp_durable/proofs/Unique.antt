@@ -51,6 +51,9 @@ module _ (content title : List ℕ) where
   pub reads_once : (bs cs : List Batch) (g h : ℕ) → ReadsJournal content title bs g → ReadsJournal content title cs h → bs ≡ cs
   reads_once bs cs g h r q = one_journal bs cs r.byte q.byte r.rest q.rest r.encoded q.encoded (inl r.shut) (inl q.shut) r.is q.is
 
+  pub one_gate : (bs cs : List Batch) (g h : ℕ) → ReadsJournal content title bs g → ReadsJournal content title cs h → g ≡ h
+  one_gate bs cs g h r q = sym r.place ∙ ap (λ (k : List Batch). length (title ++ records k)) (reads_once bs cs g h r q) ∙ q.place
+
   -- the byte behind the prefix is the same in both
   next_byte : (prefix : List ℕ) (x y : ℕ) (xs ys : List ℕ) → content ≡ prefix ++ x ∷ xs → content ≡ prefix ++ y ∷ ys → x ≡ y
   next_byte prefix x y xs ys a b = ap (λ (l : List ℕ). get_or l 0 0) (append_cancel_left prefix (x ∷ xs) (y ∷ ys) (sym a ∙ b))

@@ -1,7 +1,7 @@
 -- Why a batch was not taken.
-use Rattle.std.specs.Prelude.{◌≡◌, ℕ, ◌+◌, ◌<◌, ◌≤◌, ◌^◌, ◌⊎◌, Bool, true, false, List, [], ◌∷◌, ◌++◌, length}
-use Rattle.std.specs.List.{list_all}
-use Rattle.curp_batches.specs.Arrivals.{is_light_arrival}
+use Rattle.std.specs.Prelude.{◌≡◌, ℕ, ◌+◌, ◌<◌, ◌≤◌, ◌^◌, ◌⊎◌, true, false, ⊤, List, [], ◌∷◌, ◌++◌, length}
+use Rattle.curp_base.specs.Words.{Each}
+use Rattle.curp_batches.specs.Arrivals.{arrival}
 use Rattle.curp_batches.specs.Batches.{batch_of}
 use Rattle.curp_io.specs.Streams.{Rose}
 use Rattle.curp_journal.specs.declared.arrived.Arrived.{Arrived}
@@ -24,13 +24,9 @@ record_of b = framed b ++ 0 ∷ []
 abbrev pub end_of : ℕ → List Arrived → ℕ
 end_of gate b = gate + 1 + length (record_of b)
 
-abbrev pub are_light : List Arrived → Bool
-are_light inputs = list_all is_light_arrival inputs
-
--- no journal takes these: one of them is a message whose frame might be too long or whose sender is no node, or the
--- encoding of all is longer than four bytes tell
-abbrev pub AreTooHeavy : List Arrived → Type 0
-AreTooHeavy inputs = (are_light inputs ≡ false) ⊎ (2 ^ 32 ≤ length (batch_of inputs))
+-- no journal takes these: one of them has no encoding, or that of all is longer than four bytes tell
+abbrev pub HaveNoEncoding : List Arrived → Type 0
+HaveNoEncoding inputs = (Each arrival.Fits inputs → ⊥) ⊎ (2 ^ 32 ≤ length (batch_of inputs))
 
 -- the record of a batch, for which there is room behind the gate
 abbrev pub IsRecord : (gate size_limit : ℕ) → List Arrived → List ℕ → Type 0
@@ -47,21 +43,21 @@ pub record Decides {N : Type 0} (machine : N → Input → Moved N) (s : Standin
 
 -- why a batch isn't taken, before anything is done
 abbrev pub Declines : (gate size_limit : ℕ) → List Arrived → DurableError → Type 0
-Declines gate size_limit inputs durable.TooHeavy = AreTooHeavy inputs
-Declines gate size_limit inputs durable.Full = (are_light inputs ≡ true) × (size_limit < end_of gate inputs)
-Declines gate size_limit inputs durable.NoMemory = are_light inputs ≡ true
+Declines gate size_limit inputs durable.NoEncoding = HaveNoEncoding inputs
+Declines gate size_limit inputs durable.Full = HasEncoding inputs × (size_limit < end_of gate inputs)
+Declines gate size_limit inputs durable.NoMemory = ⊤
 Declines gate size_limit inputs durable.DiskFault = ⊥
 Declines gate size_limit inputs durable.Spent = ⊥
 
 -- why nothing was decided: the node stands where it stood, or the memory ran out when it was asked
 abbrev pub Stops : {N : Type 0} → (old new : Standing N) → (gate size_limit : ℕ) → List Arrived → Stopped → Type 0
 Stops old new gate size_limit inputs (stopped.Unchanged why) = (new ≡ old) × Declines gate size_limit inputs why
-Stops old new gate size_limit inputs stopped.Moved = are_light inputs ≡ true
+Stops old new gate size_limit inputs stopped.Moved = HasEncoding inputs
 
 -- Why a batch was refused, and what was then changed: by each error a cause
 abbrev pub RefusesBatch : {N D : Type 0} → (D → ℕ) → DurableParts N D → DurableParts N D → List Arrived → DurableError → Type 0
 RefusesBatch faults old new inputs durable.Spent = (old.spent ≡ true) × (new ≡ old)
-RefusesBatch faults old new inputs durable.TooHeavy = (old.spent ≡ false) × AreTooHeavy inputs × (new ≡ old)
-RefusesBatch faults old new inputs durable.Full = (old.spent ≡ false) × (are_light inputs ≡ true) × (old.size_limit < end_of old.gate inputs) × (new ≡ old)
-RefusesBatch faults old new inputs durable.DiskFault = (old.spent ≡ false) × (are_light inputs ≡ true) × Rose (faults old.disk) (faults new.disk) × (new.spent ≡ true)
-RefusesBatch faults old new inputs durable.NoMemory = (old.spent ≡ false) × (are_light inputs ≡ true) × (new.spent ≡ false → new ≡ old)
+RefusesBatch faults old new inputs durable.NoEncoding = (old.spent ≡ false) × HaveNoEncoding inputs × (new ≡ old)
+RefusesBatch faults old new inputs durable.Full = (old.spent ≡ false) × HasEncoding inputs × (old.size_limit < end_of old.gate inputs) × (new ≡ old)
+RefusesBatch faults old new inputs durable.DiskFault = (old.spent ≡ false) × HasEncoding inputs × Rose (faults old.disk) (faults new.disk) × (new.spent ≡ true)
+RefusesBatch faults old new inputs durable.NoMemory = (old.spent ≡ false) × (new.spent ≡ false → new ≡ old) × (new.spent ≡ true → HasEncoding inputs)

@@ -47,6 +47,12 @@ pub record HoldsJournal (content title : List ℕ) (inputs : List Arrived) : Typ
   pub all : all_of batches ≡ inputs
   pub reads : ReadsJournal content title batches gate
 
+-- the same, whose last gate stands at this place
+pub record HoldsUpTo (content title : List ℕ) (inputs : List Arrived) (gate : ℕ) : Type 0 where
+  pub batches : List Batch
+  pub all : all_of batches ≡ inputs
+  pub reads : ReadsJournal content title batches gate
+
 -- the journal from before some inputs, with all of them or with none
 abbrev pub IsBeforeOrAfter : List ℕ → List Arrived → List Arrived → List ℕ → Type 0
 IsBeforeOrAfter title inputs more content = HoldsJournal content title inputs ⊎ HoldsJournal content title (inputs ++ more)

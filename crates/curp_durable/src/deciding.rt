@@ -1,13 +1,13 @@
 //! What a batch leads to, before it is kept.
 ghost use Rattle.std.specs.Prelude.{◌≡◌, ◌+◌, ◌<◌, ◌≤◌, ◌^◌, ◌∷◌, ◌++◌, [], length, true, false, IfOk, IfErr, OnOk};
-ghost use Rattle.curp_durable.specs.Answering.{Decides, Declines, IsRecord, Stops, are_light};
-ghost use Rattle.curp_durable.specs.Journal.{behind_length};
-ghost use Rattle.curp_durable.specs.Standing.{after, made_inputs};
+ghost use Rattle.curp_durable.specs.Answering.{Decides, Declines, IsRecord, Stops};
+ghost use Rattle.curp_durable.specs.Journal.{HasEncoding, behind_length};
+ghost use Rattle.curp_durable.specs.Standing.{after, made_inputs, taken};
 
 use crate::error::DurableError;
 use crate::stand::{Answered, Stand, count_made, made_inputs};
 use curp_base::NoMemory;
-use curp_batches::{encode, is_light_arrival};
+use curp_batches::encode;
 use curp_journal::Arrived;
 use curp_msg::Core;
 use std::alloc::Global;
@@ -26,12 +26,6 @@ pub(crate) enum Stopped {
     Unchanged(DurableError),
     /// Memory ran out once it was asked.
     Moved,
-}
-
-fn are_light(inputs: &[Arrived]) -> bool
-    ensures { result ≡ are_light inputs.now }
-{
-    inputs.iter().all(|arrived| is_light_arrival(arrived))
 }
 
 /// Whether four bytes tell the length.
@@ -64,7 +58,7 @@ fn piece_of(alloc: Global, bytes: &[u8]) -> Result<Vec<u8>, NoMemory>
 }
 
 /// The record of a batch, if a journal takes it and there is room behind the gate.
-#[tactic(auto, using(crate::proofs::Pieces::each_light, crate::proofs::Pieces::full, crate::proofs::Pieces::not_light, crate::proofs::Pieces::record_is, crate::proofs::Pieces::too_long))]
+#[tactic(auto, using(crate::proofs::Pieces::encoded, crate::proofs::Pieces::full, crate::proofs::Pieces::none_of_one, crate::proofs::Pieces::record_is, crate::proofs::Pieces::too_long))]
 fn record_of(
     alloc: Global,
     gate: u64,
@@ -72,15 +66,11 @@ fn record_of(
     inputs: &[Arrived],
 ) -> Result<Vec<u8>, DurableError>
     ensures ok { IfOk result (λ piece. IsRecord gate size_limit inputs.now piece.items) }
-    ensures light { OnOk result (are_light inputs.now ≡ true) }
     ensures err { IfErr result (Declines gate size_limit inputs.now) }
 {
-    if !are_light(inputs) {
-        return Err(DurableError::TooHeavy);
-    }
     let bytes = encode(alloc, inputs)?;
     if !is_short(&bytes) {
-        return Err(DurableError::TooHeavy);
+        return Err(DurableError::NoEncoding);
     }
     if !has_room(gate, size_limit, bytes.len()) {
         return Err(DurableError::Full);
@@ -98,8 +88,9 @@ pub(crate) fn decide<N: Core>(
 ) -> Result<Decided, Stopped>
     ensures decides { IfOk result (λ d. Decides N.machine stand.old gate size_limit inputs.items d.piece.items
         d.answers.items) }
+    ensures nothing { IfOk result (λ d. taken N.machine stand.old inputs.items ≡ [] → d.piece.items ≡ []) }
     ensures state { OnOk result (stand.new ≡ after N.machine stand.old inputs.items) }
-    ensures light { OnOk result (are_light inputs.items ≡ true) }
+    ensures encoded { OnOk result (HasEncoding inputs.items) }
     ensures stops { IfErr result (Stops stand.old stand.new gate size_limit inputs.items) }
 {
     let piece = match record_of(alloc, gate, size_limit, &inputs) {

@@ -1,21 +1,25 @@
-ghost use Rattle.std.specs.Prelude.{◌≡◌, ◌≢◌, ◌≤◌, ◌++◌, List, ℕ, true, false, IfOk, IfErr, IsOk, OnOk};
+ghost use Rattle.std.specs.Prelude.{◌≡◌, ◌≢◌, ◌≤◌, ◌∷◌, ◌++◌, [], List, ℕ, Some, true, false, IfOk, IfErr, IsOk, OnOk};
 ghost use Rattle.curp_disk.specs.Disk.{LeavesOnly};
 ghost use Rattle.curp_io.specs.Streams.{Rose};
 ghost use Rattle.curp_journal.specs.declared.arrived.Arrived.{Arrived};
+ghost use Rattle.curp_journal.specs.declared.arrived.Arrived.TheVariants as arrived;
 ghost use Rattle.curp_durable.specs.Answering.{RefusesBatch};
 ghost use Rattle.curp_durable.specs.Appending.{Quiet};
-ghost use Rattle.curp_durable.specs.Journal.{HasSettled, HoldsJournal, IsBeforeOrAfter, IsSettled};
+ghost use Rattle.curp_durable.specs.Journal.{HasSettled, HoldsJournal, HoldsUpTo, IsBeforeOrAfter, IsSettled};
+ghost use Rattle.curp_durable.specs.Lone.{done_by};
 ghost use Rattle.curp_durable.specs.Opening.{Exists, IsOfTheMoment, IsOnlyCause, IsOpened, OpensNot};
-ghost use Rattle.curp_durable.specs.Standing.{after, answers_of, taken};
+ghost use Rattle.curp_durable.specs.Running.{AllMade, RanUntil, calls_for, gate_behind};
+ghost use Rattle.curp_durable.specs.Standing.{after, answers_of, stepped, taken};
 
 use crate::deciding::{Stopped, decide};
 use crate::error::{DurableError, OpenError};
 use crate::opening::recover;
-use crate::stand::{Answered, Stand};
+use crate::stand::{Answered, Stand, done_in};
 use crate::writing::{Kept, append};
-use curp_disk::Disk;
-use curp_journal::Arrived;
-use curp_msg::Core;
+use curp_base::NoMemory;
+use curp_disk::{Disk, StopDisk};
+use curp_journal::{Arrived, Named};
+use curp_msg::{Core, Done, Local};
 use std::alloc::Global;
 use std::marker::Model;
 
@@ -89,6 +93,8 @@ impl<N: Core + Drop, D: Disk> Durable<N, D> {
         ensures one_cause { D.tells ≡ true → IfErr result (λ f. IsOnlyCause (D.seen disk) title.now f.error) }
         ensures journal { (inputs : List Arrived) → D.tells ≡ true → HoldsJournal (D.seen disk) title.now inputs
             → IfOk result (λ d. IsSettled N.machine D.seen D.may_leave d.disk d.stand d.gate title.now node inputs) }
+        ensures gate { (inputs : List Arrived) (gate : ℕ) → D.tells ≡ true
+            → HoldsUpTo (D.seen disk) title.now inputs gate → IfOk result (λ d. d.gate ≡ gate) }
         ensures journal_err { (inputs : List Arrived) → D.tells ≡ true → HoldsJournal (D.seen disk) title.now inputs
             → IfErr result (λ f. IsOfTheMoment f.error) }
     {
@@ -111,7 +117,13 @@ impl<N: Core + Drop, D: Disk> Durable<N, D> {
         ensures state { OnOk result (self.new.stand ≡ after N.machine self.old.stand inputs.items) }
         ensures goes_on { OnOk result ((self.old.spent ≡ false) × (self.new.spent ≡ false)) }
         ensures limit { self.new.size_limit ≡ self.old.size_limit }
+        ensures gate { OnOk result (self.new.gate
+            ≡ gate_behind self.old.gate (taken N.machine self.old.stand inputs.items)) }
+        ensures ran { OnOk result (AllMade D.wrote D.synced (calls_for self.old.gate
+            (taken N.machine self.old.stand inputs.items)) self.old.disk self.new.disk) }
         ensures err { IfErr result (RefusesBatch D.faults self.old self.new inputs.items) }
+        ensures ran_err { IfErr result (RanUntil D.wrote D.synced self.old.gate
+            (taken N.machine self.old.stand inputs.items) self.old.disk self.new.disk) }
         ensures kept { (title : List ℕ) (opening : N) (so_far : List Arrived) → D.tells ≡ true → IsOk result
             → IsSettled N.machine D.seen D.may_leave self.old.disk self.old.stand self.old.gate title opening so_far
             → IsSettled N.machine D.seen D.may_leave self.new.disk self.new.stand self.new.gate title opening
@@ -156,6 +168,101 @@ impl<N: Core + Drop, D: Disk> Durable<N, D> {
         }
     }
 
+    /// What comes alone is a batch of one; it is answered by what the node does. Its number is then the count, and its
+    /// stamp the last stamp. Where no stamp is left it is refused by 255.
+    pub fn on(&mut self, arrived: Arrived) -> Result<Done, DurableError>
+        ensures done { IfOk result (λ done. done ≡ done_by N.machine self.old.stand arrived) }
+        ensures state { OnOk result (self.new.stand ≡ stepped N.machine self.old.stand arrived) }
+        ensures goes_on { OnOk result ((self.old.spent ≡ false) × (self.new.spent ≡ false)) }
+        ensures limit { self.new.size_limit ≡ self.old.size_limit }
+        ensures gate { OnOk result (self.new.gate
+            ≡ gate_behind self.old.gate (taken N.machine self.old.stand (arrived ∷ []))) }
+        ensures ran { OnOk result (AllMade D.wrote D.synced (calls_for self.old.gate
+            (taken N.machine self.old.stand (arrived ∷ []))) self.old.disk self.new.disk) }
+        ensures err { IfErr result (RefusesBatch D.faults self.old self.new (arrived ∷ [])) }
+        ensures ran_err { IfErr result (RanUntil D.wrote D.synced self.old.gate
+            (taken N.machine self.old.stand (arrived ∷ [])) self.old.disk self.new.disk) }
+        ensures kept { (title : List ℕ) (opening : N) (so_far : List Arrived) → D.tells ≡ true → IsOk result
+            → IsSettled N.machine D.seen D.may_leave self.old.disk self.old.stand self.old.gate title opening so_far
+            → IsSettled N.machine D.seen D.may_leave self.new.disk self.new.stand self.new.gate title opening
+            (so_far ++ taken N.machine self.old.stand (arrived ∷ [])) }
+        ensures any_moment { (title : List ℕ) (opening : N) (so_far : List Arrived) → D.tells ≡ true
+            → self.old.spent ≡ false
+            → IsSettled N.machine D.seen D.may_leave self.old.disk self.old.stand self.old.gate title opening so_far
+            → LeavesOnly D.moment D.left_since self.old.disk self.new.disk
+            (IsBeforeOrAfter title so_far (taken N.machine self.old.stand (arrived ∷ []))) }
+        ensures sound { D.sound self.old.disk → (result ≢ Err DurableError.DiskFault) × D.sound self.new.disk }
+        ensures never_falls { D.faults self.old.disk ≤ D.faults self.new.disk }
+    {
+        if self.spent() {
+            return Err(DurableError::Spent);
+        }
+        let alloc = self.alloc();
+        let Ok(inputs) = alone(alloc, arrived) else {
+            return Err(DurableError::NoMemory);
+        };
+        match self.on_all(inputs) {
+            Ok(answers) => Ok(done_in(alloc, answers)),
+            Err(why) => Err(why),
+        }
+    }
+
+    /// A message comes to the node, with its sender's name for it.
+    pub fn on_message(&mut self, named: Named) -> Result<Done, DurableError>
+        ensures done { IfOk result (λ done. done ≡ done_by N.machine self.old.stand (arrived.Message named)) }
+        ensures state { OnOk result (self.new.stand ≡ stepped N.machine self.old.stand (arrived.Message named)) }
+        ensures goes_on { OnOk result ((self.old.spent ≡ false) × (self.new.spent ≡ false)) }
+        ensures limit { self.new.size_limit ≡ self.old.size_limit }
+        ensures gate { OnOk result (self.new.gate
+            ≡ gate_behind self.old.gate (taken N.machine self.old.stand (arrived.Message named ∷ []))) }
+        ensures ran { OnOk result (AllMade D.wrote D.synced (calls_for self.old.gate
+            (taken N.machine self.old.stand (arrived.Message named ∷ []))) self.old.disk self.new.disk) }
+        ensures err { IfErr result (RefusesBatch D.faults self.old self.new (arrived.Message named ∷ [])) }
+        ensures ran_err { IfErr result (RanUntil D.wrote D.synced self.old.gate
+            (taken N.machine self.old.stand (arrived.Message named ∷ [])) self.old.disk self.new.disk) }
+        ensures kept { (title : List ℕ) (opening : N) (so_far : List Arrived) → D.tells ≡ true → IsOk result
+            → IsSettled N.machine D.seen D.may_leave self.old.disk self.old.stand self.old.gate title opening so_far
+            → IsSettled N.machine D.seen D.may_leave self.new.disk self.new.stand self.new.gate title opening
+            (so_far ++ taken N.machine self.old.stand (arrived.Message named ∷ [])) }
+        ensures any_moment { (title : List ℕ) (opening : N) (so_far : List Arrived) → D.tells ≡ true
+            → self.old.spent ≡ false
+            → IsSettled N.machine D.seen D.may_leave self.old.disk self.old.stand self.old.gate title opening so_far
+            → LeavesOnly D.moment D.left_since self.old.disk self.new.disk
+            (IsBeforeOrAfter title so_far (taken N.machine self.old.stand (arrived.Message named ∷ []))) }
+        ensures sound { D.sound self.old.disk → (result ≢ Err DurableError.DiskFault) × D.sound self.new.disk }
+        ensures never_falls { D.faults self.old.disk ≤ D.faults self.new.disk }
+    {
+        self.on(Arrived::Message(named))
+    }
+
+    /// The node gets an order, with a stamp.
+    pub fn on_order(&mut self, order: Local, stamp: u64) -> Result<Done, DurableError>
+        ensures done { IfOk result (λ done. done ≡ done_by N.machine self.old.stand (arrived.Local order stamp)) }
+        ensures state { OnOk result (self.new.stand ≡ stepped N.machine self.old.stand (arrived.Local order stamp)) }
+        ensures goes_on { OnOk result ((self.old.spent ≡ false) × (self.new.spent ≡ false)) }
+        ensures limit { self.new.size_limit ≡ self.old.size_limit }
+        ensures gate { OnOk result (self.new.gate
+            ≡ gate_behind self.old.gate (taken N.machine self.old.stand (arrived.Local order stamp ∷ []))) }
+        ensures ran { OnOk result (AllMade D.wrote D.synced (calls_for self.old.gate
+            (taken N.machine self.old.stand (arrived.Local order stamp ∷ []))) self.old.disk self.new.disk) }
+        ensures err { IfErr result (RefusesBatch D.faults self.old self.new (arrived.Local order stamp ∷ [])) }
+        ensures ran_err { IfErr result (RanUntil D.wrote D.synced self.old.gate
+            (taken N.machine self.old.stand (arrived.Local order stamp ∷ [])) self.old.disk self.new.disk) }
+        ensures kept { (title : List ℕ) (opening : N) (so_far : List Arrived) → D.tells ≡ true → IsOk result
+            → IsSettled N.machine D.seen D.may_leave self.old.disk self.old.stand self.old.gate title opening so_far
+            → IsSettled N.machine D.seen D.may_leave self.new.disk self.new.stand self.new.gate title opening
+            (so_far ++ taken N.machine self.old.stand (arrived.Local order stamp ∷ [])) }
+        ensures any_moment { (title : List ℕ) (opening : N) (so_far : List Arrived) → D.tells ≡ true
+            → self.old.spent ≡ false
+            → IsSettled N.machine D.seen D.may_leave self.old.disk self.old.stand self.old.gate title opening so_far
+            → LeavesOnly D.moment D.left_since self.old.disk self.new.disk
+            (IsBeforeOrAfter title so_far (taken N.machine self.old.stand (arrived.Local order stamp ∷ []))) }
+        ensures sound { D.sound self.old.disk → (result ≢ Err DurableError.DiskFault) × D.sound self.new.disk }
+        ensures never_falls { D.faults self.old.disk ≤ D.faults self.new.disk }
+    {
+        self.on(Arrived::Local(order, stamp))
+    }
+
     /// Whether an earlier call stopped where the node or the disk may have moved on. The disk is then to be taken out,
     /// and opened again.
     pub fn spent(&self) -> bool
@@ -187,6 +294,10 @@ impl<N: Core + Drop, D: Disk> Durable<N, D> {
         self.stand.node()
     }
 
+    fn alloc(&self) -> Global {
+        self.alloc
+    }
+
     /// Gives the disk back.
     pub fn into_disk(self) -> D
         ensures { result ≡ self.disk }
@@ -201,4 +312,22 @@ impl<N: Core + Drop, D: Disk> Durable<N, D> {
         } = self;
         disk
     }
+}
+
+impl<N: Core + Drop> Durable<N, StopDisk> {
+    /// Arms the disk, and changes nothing else.
+    pub fn arm(&mut self, call: u64)
+        ensures { self.new ≡ record self.old { disk = record self.old.disk { armed = Some call } } }
+    {
+        self.disk.arm(call);
+    }
+}
+
+/// A batch of one.
+fn alone(alloc: Global, arrived: Arrived) -> Result<Vec<Arrived>, NoMemory>
+    ensures { IfOk result (λ inputs. inputs.items ≡ arrived ∷ []) }
+{
+    let mut inputs = Vec::with_capacity(alloc, 1)?;
+    inputs.push(arrived)?;
+    Ok(inputs)
 }

@@ -3,6 +3,7 @@ ghost use Rattle.curp_durable.specs.declared.error.DurableError.TheVariants as d
 ghost use Rattle.curp_durable.specs.declared.error.OpenError.TheVariants as opened;
 
 use curp_base::NoMemory;
+use curp_batches::WriteError;
 
 /// Why a disk wasn't formatted.
 #[derive(Clone, Copy, Debug, PartialEq, Eq)]
@@ -29,9 +30,9 @@ pub enum OpenError {
 pub enum DurableError {
     /// The record of all would end past the journal's size limit. A shorter batch may still have room.
     Full,
-    /// No journal takes it: one is a message whose frame might be too long (`curp_wire::is_light`) or whose sender is
-    /// no node, or the encoding of all has 2^32 bytes or more.
-    TooHeavy,
+    /// No journal takes it: one is a message that has no frame (`curp_wire::EncodeError::NoFrame`) or whose sender is a
+    /// node that there can't be, or the encoding of all has 2^32 bytes or more. Of many, a shorter batch may have one.
+    NoEncoding,
     DiskFault,
     /// An earlier call stopped where the node or the disk may have moved on: the journal is to be opened again.
     Spent,
@@ -51,5 +52,18 @@ impl From<NoMemory> for DurableError {
 
     fn from(_: NoMemory) -> DurableError {
         DurableError::NoMemory
+    }
+}
+
+impl From<WriteError> for DurableError {
+    ghost use Rattle.curp_durable.specs.Errors.{durable_error};
+
+    ghost from_gives = { λ why e. e ≡ durable_error why };
+
+    fn from(why: WriteError) -> DurableError {
+        match why {
+            WriteError::NoEncoding => DurableError::NoEncoding,
+            WriteError::NoMemory => DurableError::NoMemory,
+        }
     }
 }

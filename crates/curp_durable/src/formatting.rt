@@ -1,7 +1,7 @@
-ghost use Rattle.std.specs.Prelude.{◌≡◌, ◌≢◌, ◌≤◌, ◌++◌, ◌∷◌, [], true, length, IfOk, OnOk};
+ghost use Rattle.std.specs.Prelude.{◌≡◌, ◌≢◌, ◌+◌, ◌<◌, ◌≤◌, ◌++◌, ◌∷◌, [], true, length, IfOk, OnOk};
 ghost use Rattle.curp_disk.specs.Disk.{Only};
 ghost use Rattle.curp_io.specs.Streams.{Rose};
-ghost use Rattle.curp_durable.specs.Journal.{HoldsJournal};
+ghost use Rattle.curp_durable.specs.Journal.{HoldsJournal, HoldsUpTo};
 
 use crate::error::FormatError;
 use curp_base::NoMemory;
@@ -12,7 +12,10 @@ use std::alloc::Global;
 /// it may be called again.
 pub fn format<D: Disk>(alloc: Global, disk: &mut D, title: &[u8]) -> Result<(), FormatError>
     ensures ok { D.tells ≡ true → OnOk result (HoldsJournal (D.seen disk.new) title.now []) }
+    ensures gate { D.tells ≡ true → OnOk result (HoldsUpTo (D.seen disk.new) title.now [] (length title.now)) }
     ensures durable { D.tells ≡ true → OnOk result (Only (D.seen disk.new) (D.may_leave disk.new)) }
+    ensures not_empty { D.tells ≡ true → result ≡ Err FormatError.NotEmpty
+        → length title.now + 1 < length (D.seen disk.old) }
     ensures cause { result ≡ Err FormatError.DiskFault → Rose (D.faults disk.old) (D.faults disk.new) }
     ensures sound { D.sound disk.old → (result ≢ Err FormatError.DiskFault) × D.sound disk.new }
     ensures never_falls { D.faults disk.old ≤ D.faults disk.new }

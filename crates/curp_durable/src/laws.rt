@@ -1,9 +1,15 @@
 //! Laws of journals. Each is the contract of a function that does nothing: a caller has it by calling that function.
-ghost use Rattle.std.specs.Prelude.{◌≡◌, ℕ, List};
+ghost use Rattle.std.specs.Prelude.{◌≡◌, ℕ, Bool, List};
+ghost use Rattle.curp_disk.specs.Calls.{seen_of};
+ghost use Rattle.curp_disk.specs.InMemory.{StopParts, crashed};
 ghost use Rattle.curp_journal.specs.declared.arrived.Arrived.{Arrived};
-ghost use Rattle.curp_durable.specs.Journal.{HoldsJournal, IsDamaged};
+ghost use Rattle.curp_durable.specs.Journal.{HoldsJournal, HoldsUpTo, IsDamaged, IsSettled};
 ghost use Rattle.curp_durable.specs.Opening.{Exists, IsOnlyCause, OpensNot};
+ghost use Rattle.curp_durable.specs.Standing.{Standing};
+ghost use Rattle.curp_durable.specs.Stopping.{IsStopped, StopLeaves, kept_gate, kept_inputs, stop_seen};
 ghost use Rattle.curp_durable.specs.declared.error.OpenError.{OpenError};
+
+use curp_msg::Core;
 
 /// Bytes are one journal of a title at most: of one list of inputs.
 pub fn bytes_are_one_journal()
@@ -27,4 +33,15 @@ pub fn damage_has_one_place()
 pub fn a_cause_excludes_others()
     ensures { (content title : List ℕ) (error : OpenError) → OpensNot content title error
         → IsOnlyCause content title error }
+{}
+
+/// On a disk that was armed at one of the four calls that keep a batch, and so stopped there, a crash leaves a journal:
+/// with all of the batch exactly where that was the last of them, and the unsynced writes are kept.
+pub fn a_stopped_batch_is_kept_or_lost<N: Core>()
+    ensures { (old new : StopParts) (stand : Standing N) (gate k : ℕ) (title : List ℕ) (opening : N)
+        (inputs batch : List Arrived) (unsynced : Bool)
+        → IsSettled N.machine stop_seen StopLeaves old stand gate title opening inputs
+        → IsStopped old new gate k batch
+        → HoldsUpTo (seen_of (crashed unsynced new.played)) title (kept_inputs inputs batch k unsynced)
+        (kept_gate gate batch k unsynced) }
 {}

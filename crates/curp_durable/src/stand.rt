@@ -1,7 +1,9 @@
 //! A node and where it stands.
 ghost use Rattle.std.specs.Prelude.{◌≡◌, ◌≢◌, ◌≤◌, ◌∷◌, ◌++◌, [], length, IfOk, OnOk, OnErr};
 ghost use Rattle.curp_journal.specs.Given.{given};
+ghost use Rattle.curp_durable.specs.Lone.{done_in};
 ghost use Rattle.curp_durable.specs.Standing.{after, answer_of, answers_of, begun, made_input, made_inputs, stepped};
+ghost use Rattle.curp_durable.specs.declared.stand.Answered.{Answered};
 ghost use Rattle.curp_msg.specs.Moved.{Moves};
 
 use curp_base::NoMemory;
@@ -9,6 +11,7 @@ use curp_journal::{Arrived, Item};
 use curp_msg::{Core, Done};
 use std::alloc::Global;
 use std::marker::Model;
+use std::mem;
 
 /// What a node answers to one input of a batch.
 pub enum Answered {
@@ -23,6 +26,20 @@ impl Drop for Answered {
         match self {
             Answered::Made { step: _, item: _ } => {}
             Answered::Refused { number: _ } => {}
+        }
+    }
+}
+
+impl Answered {
+    /// What the node did, alone: nothing but a refusal, where it refused. It takes no memory.
+    pub fn into_done(self, alloc: Global) -> Done
+        ensures { result ≡ done_in self }
+    {
+        match self {
+            Answered::Made { step: _, mut item } => {
+                mem::replace(&mut item.done, Done::quiet(alloc))
+            }
+            Answered::Refused { number } => Done::refuses(alloc, number),
         }
     }
 }
@@ -178,5 +195,16 @@ fn add_made(alloc: Global, inputs: &mut Vec<Arrived>, answered: &Answered) -> Re
             Ok(())
         }
         Answered::Refused { .. } => Ok(()),
+    }
+}
+
+/// What the node did by the one answer to a batch of one.
+pub(crate) fn done_in(alloc: Global, mut answers: Vec<Answered>) -> Done
+    requires { length answers.items ≡ 1 }
+    ensures { (answered : Answered) → answers.items ≡ answered ∷ [] → result ≡ done_in answered }
+{
+    match answers.pop() {
+        Some(answered) => answered.into_done(alloc),
+        None => unreachable!(),
     }
 }

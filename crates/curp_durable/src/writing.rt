@@ -3,6 +3,7 @@ ghost use Rattle.std.specs.Prelude.{◌≡◌, ◌≢◌, ◌+◌, ◌^◌, ◌<
 ghost use Rattle.curp_disk.specs.Disk.{LeavesOnly, Only, Torn, over};
 ghost use Rattle.curp_io.specs.Streams.{Rose};
 ghost use Rattle.curp_durable.specs.Appending.{ShutOrStaged};
+ghost use Rattle.curp_durable.specs.Running.{RunsCalls, appending, keeping};
 
 use curp_disk::{Did, Disk};
 
@@ -22,6 +23,7 @@ pub(crate) fn keep<D: Disk>(disk: &mut D, at: u64, bytes: &[u8]) -> Kept
     ensures durable { D.tells ≡ true → result ≡ Kept.Kept → Only (D.seen disk.new) (D.may_leave disk.new) }
     ensures any_moment { D.tells ≡ true → LeavesOnly D.moment D.left_since disk.old disk.new
         (Torn at (length bytes.now) (D.seen disk.old)) }
+    ensures ran { RunsCalls D.wrote D.synced (keeping at bytes.now) disk.old result disk.new }
     ensures sound { D.sound disk.old → (result ≢ Kept.Failed) × D.sound disk.new }
     ensures cause { result ≡ Kept.Failed → Rose (D.faults disk.old) (D.faults disk.new) }
     ensures never_falls { D.faults disk.old ≤ D.faults disk.new }
@@ -47,6 +49,7 @@ pub(crate) fn append<D: Disk>(disk: &mut D, gate: u64, piece: &[u8]) -> Kept
     ensures durable { D.tells ≡ true → result ≡ Kept.Kept → Only (D.seen disk.new) (D.may_leave disk.new) }
     ensures any_moment { D.tells ≡ true → LeavesOnly D.moment D.left_since disk.old disk.new
         (ShutOrStaged (D.seen disk.old) gate piece.now) }
+    ensures ran { RunsCalls D.wrote D.synced (appending gate piece.now) disk.old result disk.new }
     ensures sound { D.sound disk.old → (result ≢ Kept.Failed) × D.sound disk.new }
     ensures cause { result ≡ Kept.Failed → Rose (D.faults disk.old) (D.faults disk.new) }
     ensures never_falls { D.faults disk.old ≤ D.faults disk.new }

@@ -1,21 +1,25 @@
 -- The inputs that lines give: they are the manager's, and have short records.
-use Rattle.std.proofs.Common.{◌≡◌, ℕ, ◌≤◌, Bool, false, Option, Some, None, option_and_then, find, Result, Ok, Err, IfOk, IfSome, List, [], ◌∷◌, length, refl, arith, length-append}
+use Rattle.std.proofs.Common.{◌≡◌, ℕ, ◌+◌, ◌<◌, ◌≤◌, ◌^◌, Bool, Option, Some, None, option_and_then, find, Result, Ok, Err, IfOk, IfSome, List, [], ◌∷◌, ◌++◌, length, refl, arith, length-append}
 use Rattle.std.proofs.lemmas.Bool.{cond_both}
 use Rattle.std.specs.Option.{ok_or}
 use Rattle.std.specs.Str.{bytes_eq}
 use Rattle.serde_json.specs.Data.{Data}
 use Rattle.curp_base.specs.Words.{Each}
+use Rattle.curp_cmd.specs.declared.node.Keeper.{Keeper}
 use Rattle.curp_cmd.specs.declared.node.Keeper.TheVariants as keeper
-use Rattle.curp_items.specs.Items.{node, truth, u32, u64}
-use Rattle.curp_manage.specs.Kept.{IsSmallInput}
+use Rattle.curp_items.specs.Items.{IsNodeName, node, truth, u32, u64}
+use Rattle.curp_batches.specs.Arrivals as format
+use Rattle.curp_batches.specs.Arrivals.{arrival, frame, frame_of, name, stamped}
+use Rattle.curp_batches.specs.Batches.{batch_of, checksum_of}
+use Rattle.curp_batches.specs.Orders.{orders}
+use Rattle.curp_durable.proofs.Pieces.{record-length}
+use Rattle.curp_durable.specs.Answering.{record_of}
+use Rattle.curp_journal.specs.declared.arrived.Arrived.{Arrived}
+use Rattle.curp_journal.specs.declared.arrived.Arrived.TheVariants as arrived
+use Rattle.curp_journal.specs.Given.{stamp_of}
+use Rattle.curp_manage.specs.Kept.{IsSmallInput, recovered_arrived}
 use Rattle.curp_manage.specs.Lines.{IsForManager}
 use Rattle.curp_manage.specs.Managed.{recovered_by_first}
-use Rattle.curp_mlog.specs.Answering.{record_of}
-use Rattle.curp_mlog.specs.Orders.{orders}
-use Rattle.curp_mlog.specs.Records.{is_heavy, is_others, is_others_order, spelled}
-use Rattle.curp_msg.specs.Weight.{weight_of}
-use Rattle.curp_msg.specs.declared.machine.Input.TheVariants as input
-use Rattle.curp_msg.specs.declared.machine.Local.{Local}
 use Rattle.curp_msg.specs.declared.machine.Local.TheVariants as order
 use Rattle.curp_script.specs.declared.error.FieldName.{FieldName}
 use Rattle.curp_script.specs.declared.error.FieldName.TheVariants as field
@@ -31,6 +35,7 @@ use Rattle.curp_script.specs.Nodes.{keeper_of}
 use Rattle.curp_script.specs.Text.{field_text}
 use Rattle.serde_json.specs.Find.{as_bool, as_str, get}
 use Rattle.curp_fields.specs.Fields.{recovered_fields}
+use Rattle.curp_wire.specs.Frame.{Frame, content}
 
 -- ---- lines
 
@@ -118,41 +123,66 @@ own_line line l is = of_ok IsForManager (manage_in line) l is (line_own line)
 
 -- ---- inputs
 
-pub own_order : (o : Local) → is_others_order o ≡ false → is_others (input.Local o) ≡ false
-unfolding is_others
-own_order o own = own
+-- an arrival of at most 100 bytes has a record of at most 128
+short_record : (a : Arrived) → length (arrival.of a) ≤ 100 → length (record_of (a ∷ [])) ≤ 128
+unfolding batch_of
+short_record a short =
+    let bytes : List ℕ = arrival.of a ++ [] in
+    let eight : length (checksum_of bytes) ≡ 8 = refl in
+    let whole : length (batch_of (a ∷ [])) ≡ length bytes + length (checksum_of bytes) = length-append bytes (checksum_of bytes) in
+    omega (arith, short, record-length (a ∷ []), whole, eight, length-append (arrival.of a) [])
 
-pub light_order : (o : Local) → is_heavy (input.Local o) ≡ false
-unfolding is_heavy
-light_order o = refl
+-- such an arrival that fits is small
+small : (a : Arrived) → arrival.Fits a → length (arrival.of a) ≤ 100 → stamp_of a ≡ 0 → IsSmallInput a
+small a fits short unstamped = record { fits = fits; short = short_record a short; unstamped = unstamped }
 
-order_size : (o : Local) → is_others_order o ≡ false → length (orders.of o) ≤ 21
-unfolding orders u32 u64 truth
-order_size (order.Recover part backup witness) own = let e : length (orders.of (order.Recover part backup witness)) ≡ 13 = refl in omega (arith, e)
-order_size (order.Replace keeper.Backup part place) own = let e : length (orders.of (order.Replace keeper.Backup part place)) ≡ 10 = refl in omega (arith, e)
-order_size (order.Replace keeper.Witness part place) own = let e : length (orders.of (order.Replace keeper.Witness part place)) ≡ 10 = refl in omega (arith, e)
-order_size (order.Migrate lo hi to) own = let e : length (orders.of (order.Migrate lo hi to)) ≡ 21 = refl in omega (arith, e)
-order_size order.Nudge own = omega arith
-order_size (order.Expire client) own = let e : length (orders.of (order.Expire client)) ≡ 5 = refl in omega (arith, e)
-order_size (order.Invoke command) own = absurd cc
-order_size (order.Retry seq) own = absurd cc
-order_size order.Fetch own = absurd cc
-order_size order.Sync own = absurd cc
-order_size order.Collect own = absurd cc
+pub small_recover : (part backup witness : ℕ) → part < 2 ^ 32 → backup < 2 ^ 32 → witness < 2 ^ 32 → IsSmallInput (arrived.Local (order.Recover part backup witness) 0)
+unfolding arrival stamped orders u32 u64
+small_recover part backup witness p b w =
+    let a = arrived.Local (order.Recover part backup witness) 0 in
+    let size : length (arrival.of a) ≡ 22 = refl in
+    small a ((p, (b, w)), omega arith) (omega (arith, size)) refl
 
-pub small_order : (o : Local) → is_others_order o ≡ false → IsSmallInput (input.Local o)
-unfolding spelled
-small_order o own = simp length-append (omega (arith, order_size o own))
+pub small_replace : (kind : Keeper) (part place : ℕ) → part < 2 ^ 32 → place < 2 ^ 32 → IsSmallInput (arrived.Local (order.Replace kind part place) 0)
+unfolding arrival stamped orders u32 u64 truth
+small_replace keeper.Backup part place p q =
+    let a = arrived.Local (order.Replace keeper.Backup part place) 0 in
+    let size : length (arrival.of a) ≡ 19 = refl in
+    small a ((p, (tt, q)), omega arith) (omega (arith, size)) refl
+small_replace keeper.Witness part place p q =
+    let a = arrived.Local (order.Replace keeper.Witness part place) 0 in
+    let size : length (arrival.of a) ≡ 19 = refl in
+    small a ((p, (tt, q)), omega arith) (omega (arith, size)) refl
 
-pub own_message : (part epoch : ℕ) → is_others (input.Message (recovered_by_first part epoch)) ≡ false
-unfolding is_others
-own_message part epoch = refl
+pub small_migrate : (lo hi to : ℕ) → lo < 2 ^ 64 → hi < 2 ^ 64 → to < 2 ^ 32 → IsSmallInput (arrived.Local (order.Migrate lo hi to) 0)
+unfolding arrival stamped orders u32 u64
+small_migrate lo hi to l h t =
+    let a = arrived.Local (order.Migrate lo hi to) 0 in
+    let size : length (arrival.of a) ≡ 30 = refl in
+    small a ((l, (h, t)), omega arith) (omega (arith, size)) refl
 
-pub light_message : (part epoch : ℕ) → is_heavy (input.Message (recovered_by_first part epoch)) ≡ false
-unfolding is_heavy weight_of
-light_message part epoch = refl
+pub small_nudge : IsSmallInput (arrived.Local order.Nudge 0)
+unfolding arrival stamped orders u64
+small_nudge =
+    let a = arrived.Local order.Nudge 0 in
+    let size : length (arrival.of a) ≡ 10 = refl in
+    small a (tt, omega arith) (omega (arith, size)) refl
 
-pub small_message : (part epoch : ℕ) → IsSmallInput (input.Message (recovered_by_first part epoch))
-unfolding spelled node recovered_fields u32
-small_message part epoch =
-    let e : length (record_of (input.Message (recovered_by_first part epoch))) ≡ 29 = refl in omega (arith, e)
+pub small_expire : (client : ℕ) → client < 2 ^ 32 → IsSmallInput (arrived.Local (order.Expire client) 0)
+unfolding arrival stamped orders u32 u64
+small_expire client c =
+    let a = arrived.Local (order.Expire client) 0 in
+    let size : length (arrival.of a) ≡ 14 = refl in
+    small a (c, omega arith) (omega (arith, size)) refl
+
+pub small_message : (part epoch : ℕ) → part < 2 ^ 32 → epoch < 2 ^ 32 → IsSmallInput (recovered_arrived part epoch)
+unfolding arrival format.named name frame node recovered_fields u32 u64
+small_message part epoch p e =
+    let a = recovered_arrived part epoch in
+    let m = recovered_by_first part epoch in
+    let size : length (arrival.of a) ≡ 53 = refl in
+    let long : length (content m) ≡ 19 = refl in
+    let master : IsNodeName m.from = record { named = refl; number = omega arith } in
+    let manager : IsNodeName m.to = record { named = refl; number = omega arith } in
+    let framed : Frame m (frame_of m) = record { message = record { from = master; to = manager; fields = (p, e) }; short = omega (arith, long); is = refl } in
+    small a ((master, (omega arith, (omega arith, omega arith))), framed) (omega (arith, size)) refl

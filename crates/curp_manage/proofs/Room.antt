@@ -1,24 +1,21 @@
--- There is always room for one input more.
-use Rattle.std.proofs.Common.{◌≡◌, ℕ, ◌*◌, ◌<◌, ◌≤◌, List, [], ◌∷◌, length, refl, arith, length-append}
-use Rattle.curp_base.specs.Words.{Each}
-use Rattle.curp_manage.specs.Kept.{IsSmallInput}
-use Rattle.curp_mlog.specs.Answering.{end_of, size_limit}
-use Rattle.curp_mlog.specs.Journal.{ReadsJournal, header}
-use Rattle.curp_mlog.specs.Records.{framed, records}
-use Rattle.curp_model.specs.Manager.{Shape}
+-- A journal takes each input of a line: it has an encoding, and there is room for it.
+use Rattle.std.proofs.Common.{inl, inr, ◌<◌, Option, [], ◌∷◌, arith}
+use Rattle.curp_disk.specs.InMemory.{StopParts}
+use Rattle.curp_durable.proofs.Pieces.{record-length}
+use Rattle.curp_durable.specs.Answering.{HaveNoEncoding, end_of}
+use Rattle.curp_durable.specs.Value.{DurableParts}
+use Rattle.curp_journal.specs.declared.arrived.Arrived.{Arrived}
+use Rattle.curp_manage.specs.Kept.{IsManaged, IsSmallInput}
+use Rattle.curp_manage.specs.declared.managing.Crash.{Crash}
+use Rattle.curp_model.specs.Manager.{ManagerState}
 use Rattle.curp_msg.specs.Limits.{step_limit}
-use Rattle.curp_msg.specs.declared.machine.Input.{Input}
+use Rattle.curp_msg.specs.declared.script.Header.{Header}
 
-records_small : (is : List Input) → Each IsSmallInput is → length (records is) ≤ 64 * length is
-records_small [] small = omega arith
-records_small (i ∷ is) small =
-    omega (arith, small.0, records_small is small.1, length-append (framed i) (0 ∷ []), length-append (framed i) (records is))
-
-header_size : (s : Shape) → length (header s) ≡ 20
-header_size s = refl
+pub encoded : (a : Arrived) → IsSmallInput a → HaveNoEncoding (a ∷ []) → ⊥
+encoded a small (inl none) = none (small.fits, tt)
+encoded a small (inr long) = omega (arith, long, small.short, record-length (a ∷ []))
 
 -- the record of a further input ends within the limit
-pub has_room : (content : List ℕ) (shape : Shape) (inputs : List Input) (gate : ℕ) (i : Input)
-    → ReadsJournal content shape inputs gate → Each IsSmallInput inputs → IsSmallInput i → length inputs < step_limit → end_of gate i ≤ size_limit
-has_room content shape inputs gate i reads all small few =
-    omega (arith, reads.place, length-append (header shape) (records inputs), header_size shape, records_small inputs all, small)
+pub has_room : (h : Header) (d : DurableParts ManagerState StopParts) (crash : Option Crash) (a : Arrived) → IsManaged h d crash → IsSmallInput a → d.stand.count < step_limit
+    → d.size_limit < end_of d.gate (a ∷ []) → ⊥
+has_room h d crash a managed small few full = omega (arith, managed.short, managed.limit, small.short, few, full)

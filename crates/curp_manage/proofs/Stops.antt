@@ -1,31 +1,20 @@
 -- A disk that is armed within some calls doesn't make them all.
-use Rattle.std.proofs.Common.{◌≡◌, ◌⊎◌, ℕ, ◌-◌, ◌≤◌, nat_lt, false, List, [], ◌∷◌, length, Some, sym, ap, ◌∙◌, arith}
+use Rattle.std.proofs.Common.{◌≡◌, ℕ, ◌-◌, ◌≤◌, nat_lt, false, List, [], ◌∷◌, length, Some, sym, ap, ◌∙◌, arith}
 use Rattle.std.proofs.lemmas.Bool.{cond-false, ltb-false}
 use Rattle.curp_disk.specs.InMemory.{StopParts, StopRan, one_less, stops}
 use Rattle.curp_disk.specs.declared.disk.Did.{Did}
 use Rattle.curp_disk.specs.declared.disk.Did.TheVariants as did
 use Rattle.curp_disk.specs.declared.medium.Call.{Call}
 use Rattle.curp_disk.specs.declared.medium.Call.TheVariants as call
-use Rattle.curp_mlog.specs.Appending.{RanCall, RanThen}
-use Rattle.curp_mlog.specs.Stopping.{StopSynced, StopWrote}
+use Rattle.curp_durable.specs.Running.{AllMade, RanCall}
+use Rattle.curp_durable.specs.Stopping.{StopSynced, StopWrote}
 
 as_stop : (old new : StopParts) (c : Call) (answer : Did) → RanCall StopWrote StopSynced old c answer new → StopRan old c answer new
 as_stop old new (call.Write at bytes) answer ran = ran
 as_stop old new call.Sync answer ran = ran
 
--- calls were made one after the other, all of them
-abbrev pub AllMade : List Call → StopParts → StopParts → Type 0
-AllMade [] old new = new ≡ old
-AllMade (c ∷ calls) old new = RanThen (λ d. RanCall StopWrote StopSynced d c) (λ d. AllMade calls d new) old
-
--- the same, up to the first that was refused by a fault
-abbrev pub SomeFailed : List Call → StopParts → StopParts → Type 0
-SomeFailed [] old new = ⊥
-SomeFailed (c ∷ calls) old new =
-    RanCall StopWrote StopSynced old c did.Failed new ⊎ RanThen (λ d. RanCall StopWrote StopSynced d c) (λ d. SomeFailed calls d new) old
-
 pub not_all : (calls : List Call) (old new : StopParts) (k : ℕ) → old.armed ≡ Some k → 1 ≤ k → k ≤ length calls
-    → AllMade calls old new → ⊥
+    → AllMade StopWrote StopSynced calls old new → ⊥
 not_all [] old new k armed first last ran = omega arith
 not_all (c ∷ calls) old new k armed first last ran =
     let mid = ran.1 in

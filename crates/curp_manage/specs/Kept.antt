@@ -1,21 +1,72 @@
 -- What a run of `manage` keeps: a journal of the inputs that are kept.
-use Rattle.std.specs.Prelude.{◌≡◌, ℕ, ◌+◌, ◌≤◌, ◌<◌, ◌^◌, false, List, length, Option, Some, None, option_map, ⊤}
-use Rattle.curp_base.specs.Words.{Each}
+use Rattle.std.specs.Prelude.{◌≡◌, ℕ, ◌+◌, ◌*◌, ◌==◌, ◌≤◌, ◌<◌, ◌^◌, false, if◌then◌else◌, List, [], ◌∷◌, length, Option, Some, None, option_map, ⊤}
+use Rattle.curp_batches.specs.Arrivals.{arrival}
+use Rattle.curp_cmd.specs.Node.{manager_node, master_node}
 use Rattle.curp_disk.specs.Calls.{seen_of}
 use Rattle.curp_disk.specs.InMemory.{StopParts}
+use Rattle.curp_durable.specs.Answering.{record_of}
+use Rattle.curp_durable.specs.Journal.{HoldsUpTo, IsSettled}
+use Rattle.curp_durable.specs.Stopping.{StopLeaves, stop_seen}
+use Rattle.curp_durable.specs.Value.{DurableParts}
+use Rattle.curp_journal.specs.Given.{stamp_of}
+use Rattle.curp_journal.specs.declared.arrived.Arrived.{Arrived}
+use Rattle.curp_journal.specs.declared.arrived.Arrived.TheVariants as arrived
+use Rattle.curp_manage.specs.Managed.{LineDone, Managed, recovered_by_first}
+use Rattle.curp_manage.specs.declared.managing.Crash.{Crash}
 use Rattle.curp_manage.specs.declared.outcome.LineOutcome.{LineOutcome}
 use Rattle.curp_manage.specs.declared.outcome.LineOutcome.TheVariants as outcome
-use Rattle.curp_manage.specs.declared.managing.Crash.{Crash}
-use Rattle.curp_mlog.specs.Answering.{record_of}
-use Rattle.curp_mlog.specs.Journal.{HoldsJournal, IsSettled}
-use Rattle.curp_mlog.specs.Stopping.{StopLeaves, stop_seen}
-use Rattle.curp_mlog.specs.Value.{LoggedParts}
-use Rattle.curp_model.specs.Manager.{Shape}
-use Rattle.curp_msg.specs.declared.machine.Input.{Input}
+use Rattle.curp_model.specs.Manager.{ManagerState, opening_manager}
+use Rattle.curp_model.specs.World.{shape_of}
+use Rattle.curp_msg.specs.declared.machine.Done.{Done}
+use Rattle.curp_msg.specs.declared.script.Header.{Header}
+use Rattle.curp_nodes.specs.Machines.{manager_machine}
+use Rattle.curp_title.specs.Title.{title_bytes}
 
--- its record has at most 64 bytes, the gate behind it counted
-abbrev pub IsSmallInput : Input → Type 0
-IsSmallInput i = length (record_of i) ≤ 64
+-- ---- the journal
+
+-- the title of the manager's journal
+abbrev pub title_for : Header → List ℕ
+title_for h = title_bytes (record { node = manager_node; header = h })
+
+-- the journal on its disk has these inputs, and they led the manager of the header to where it stands
+abbrev pub Keeps : Header → DurableParts ManagerState StopParts → List Arrived → Type 0
+Keeps h d inputs = IsSettled manager_machine stop_seen StopLeaves d.disk d.stand d.gate (title_for h) (opening_manager (shape_of h)) inputs
+
+-- what a disk reads as is a journal of these inputs, whose last gate stands here
+abbrev pub IsJournalOn : Header → StopParts → List Arrived → ℕ → Type 0
+IsJournalOn h disk inputs gate = HoldsUpTo (seen_of disk.played) (title_for h) inputs gate
+
+abbrev pub HasJournal : Header → StopParts → Type 0
+HasJournal h disk = (inputs : List Arrived) × (gate : ℕ) × IsJournalOn h disk inputs gate
+
+-- how many bytes a journal may have
+abbrev pub size_limit : ℕ
+size_limit = 2 ^ 30
+
+-- such a journal was opened, on a disk that isn't armed
+pub record IsOpenedAgain (h : Header) (d : DurableParts ManagerState StopParts) (inputs : List Arrived) (gate : ℕ) : Type 0 where
+  pub fresh : d.spent ≡ false
+  pub limit : d.size_limit ≡ size_limit
+  pub keeps : Keeps h d inputs
+  pub gate_is : d.gate ≡ gate
+  pub disarmed : d.disk.armed ≡ None
+
+-- it has an encoding, its record has at most 128 bytes, and it came with no stamp
+pub record IsSmallInput (a : Arrived) : Type 0 where
+  pub fits : arrival.Fits a
+  pub short : length (record_of (a ∷ [])) ≤ 128
+  pub unstamped : stamp_of a ≡ 0
+
+-- The message of a line as it comes: under a name that no item has, since items and places count from 1
+abbrev pub recovered_arrived : ℕ → ℕ → Arrived
+recovered_arrived part epoch = arrived.Message (record { from = master_node 1; step = 0; place = 0; stamp = 0; message = recovered_by_first part epoch })
+
+-- there are no more than sixteen partitions, of no more than five backups
+pub record HasFewNodes (h : Header) : Type 0 where
+  pub f : h.f ≤ 5
+  pub parts : h.parts ≤ 16
+
+-- ---- a crash to come
 
 -- a crash is at one of the four calls that keep an input
 abbrev pub IsAtCall : Option Crash → Type 0
@@ -26,26 +77,25 @@ IsAtCall (Some c) = (1 ≤ c.call) × (c.call ≤ 4)
 abbrev pub stop_call : Option Crash → Option ℕ
 stop_call crash = option_map (λ (c : Crash). c.call) crash
 
--- The journal has these inputs, so many, and its disk stops where the crash to come says
-pub record IsManaged (logged : LoggedParts StopParts) (decisions : ℕ) (crash : Option Crash) : Type 0 where
-  pub shape : Shape
-  pub inputs : List Input
-  pub fresh : logged.spent ≡ false
-  pub settled : IsSettled stop_seen StopLeaves logged.disk logged.state logged.gate shape inputs
-  pub counted : length inputs ≡ decisions
-  pub small : Each IsSmallInput inputs
-  pub armed : logged.disk.armed ≡ stop_call crash
+-- ---- the manager with its journal
+
+-- The journal has what led the manager to where it stands, all of it small, and its disk stops where the crash to come says
+pub record IsManaged (h : Header) (d : DurableParts ManagerState StopParts) (crash : Option Crash) : Type 0 where
+  pub few : HasFewNodes h
+  pub inputs : List Arrived
+  pub fresh : d.spent ≡ false
+  pub limit : d.size_limit ≡ size_limit
+  pub keeps : Keeps h d inputs
+  pub short : d.gate ≤ 36 + 128 * d.stand.count
+  pub stamps : d.stand.last ≡ d.stand.count
+  pub armed : d.disk.armed ≡ stop_call crash
   pub at_call : IsAtCall crash
 
--- what a disk reads as is a journal
-abbrev pub HasJournal : StopParts → Type 0
-HasJournal disk = (shape : Shape) × (inputs : List Input) × HoldsJournal (seen_of disk.played) shape inputs
-
--- a journal was opened on a disk that isn't armed
-pub record IsOpenedAgain (logged : LoggedParts StopParts) (shape : Shape) (inputs : List Input) : Type 0 where
-  pub fresh : logged.spent ≡ false
-  pub settled : IsSettled stop_seen StopLeaves logged.disk logged.state logged.gate shape inputs
-  pub disarmed : logged.disk.armed ≡ None
+-- the manager did this: its messages go out, or nothing has changed
+abbrev pub done_told : Managed → Done → LineDone
+done_told m done =
+    if done.refused == 0 then record { now = record m { next = m.next + length done.sent }; outcome = outcome.Done done.sent }
+    else record { now = m; outcome = outcome.Refused done.refused }
 
 -- the numbers of the messages that went out fit
 abbrev pub IsNumberedBy : ℕ → LineOutcome → Type 0

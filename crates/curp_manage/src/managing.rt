@@ -1,29 +1,31 @@
-ghost use Rattle.std.specs.Prelude.{◌≡◌, ◌+◌, ◌<◌, ◌≤◌, ◌^◌, if◌then◌else◌, length, List, [], None, false, IfOk};
-ghost use Rattle.curp_disk.specs.Calls.{seen_of};
+ghost use Rattle.std.specs.Prelude.{◌≡◌, false, ◌<◌, ◌+◌, ◌≤◌, ◌^◌, length, List, ℕ, [], None, IfOk};
 ghost use Rattle.curp_disk.specs.InMemory.{crashed};
-ghost use Rattle.curp_manage.specs.Kept.{HasJournal, IsManaged, IsNumberedBy, IsOpenedAgain, IsSmallInput};
-ghost use Rattle.curp_manage.specs.Lines.{IsForManager};
-ghost use Rattle.curp_manage.specs.Managed.{crash_ordered, input_given, keeps_input, line_done, managed_opening, recovered_by_first};
-ghost use Rattle.curp_manage.specs.declared.outcome.LineOutcome.TheVariants as outcome;
-ghost use Rattle.curp_mlog.specs.Journal.{HoldsJournal};
-ghost use Rattle.curp_mlog.specs.Machine.{IsShape};
-ghost use Rattle.curp_mlog.specs.Records.{is_heavy, is_others};
-ghost use Rattle.curp_model.specs.Manager.{Shape};
+ghost use Rattle.curp_journal.specs.Given.{given};
+ghost use Rattle.curp_journal.specs.declared.arrived.Arrived.{Arrived};
+ghost use Rattle.curp_journal.specs.declared.arrived.Arrived.TheVariants as arrived;
+ghost use Rattle.curp_manage.specs.Kept.{HasFewNodes, HasJournal, IsJournalOn, IsManaged, IsNumberedBy, IsOpenedAgain};
+ghost use Rattle.curp_manage.specs.Kept.{IsSmallInput, done_told, recovered_arrived};
+ghost use Rattle.curp_manage.specs.Lines.{IsForManager, is_others_order};
+ghost use Rattle.curp_manage.specs.Managed.{crash_ordered, input_given, keeps_input, line_done, managed_opening};
+ghost use Rattle.curp_model.specs.Manager.{opening_manager};
+ghost use Rattle.curp_model.specs.World.{shape_of};
 ghost use Rattle.curp_msg.specs.Limits.{step_limit};
-ghost use Rattle.curp_msg.specs.declared.machine.Input.{Input};
-ghost use Rattle.curp_msg.specs.declared.machine.Input.TheVariants as input;
+ghost use Rattle.curp_msg.specs.declared.machine.Local.TheVariants as order;
 ghost use Rattle.curp_script.specs.Headers.{bad_field};
 ghost use Rattle.curp_script.specs.Manage.{HasCall};
 
 use crate::outcome::LineOutcome;
 use curp_base::{Items, NoMemory};
 use curp_changes::Shape;
-use curp_cmd::NodeId;
+use curp_cmd::{Keeper, NodeId};
 use curp_disk::StopDisk;
-use curp_mlog::laws::a_stopped_input_is_kept_or_lost;
-use curp_mlog::{FormatError, Logged, LoggedError, OpenError, format};
-use curp_msg::{Body, Input, Message, Recovered};
+use curp_durable::laws::a_stopped_batch_is_kept_or_lost;
+use curp_durable::{Durable, DurableError, FormatError, OpenError, SIZE_LIMIT, format};
+use curp_journal::{Arrived, Named};
+use curp_msg::{Body, Done, Local, Message, Recovered};
+use curp_nodes::ManagerNode;
 use curp_script::{Header, ManageLine};
+use curp_title::title_of;
 use std::alloc::{AllocError, Global};
 use std::marker::Model;
 
@@ -48,9 +50,8 @@ impl Crash {
 #[derive(Drop)]
 pub(crate) struct Managing {
     alloc: Global,
-    logged: Logged<StopDisk>,
-    // How many inputs are kept.
-    decisions: u64,
+    header: Header,
+    manager: Durable<ManagerNode, StopDisk>,
     // The number of the next message.
     next: u64,
     crash: Option<Crash>,
@@ -62,38 +63,57 @@ impl Model for Managing {
 
     ghost Value = { Managed };
 
-    ghost view = { λ m. record { state = m.logged.state; decisions = m.decisions; next = m.next; crash = m.crash } };
+    ghost view = { λ m. record {
+      state = m.manager.stand.node;
+      decisions = m.manager.stand.count;
+      next = m.next;
+      crash = m.crash;
+    } };
 
-    ghost invariant = { λ m. IsManaged m.logged m.decisions m.crash };
+    ghost invariant = { λ m. IsManaged m.header m.manager m.crash };
 }
 
 impl Managing {
     /// The manager of a header, with an empty journal.
+    #[tactic(auto, using(crate::proofs::Headers::few_nodes))]
     pub(crate) fn begin(alloc: Global, header: &Header) -> Result<Managing, NoMemory>
         requires { bad_field header.now ≡ None }
         ensures { IfOk result (λ managing. managing ≡ managed_opening header.now) }
     {
-        let shape = Shape {
-            f: header.f,
-            parts: header.parts,
-            clients: header.clients,
-        };
-        let disk = formatted(alloc, &shape)?;
-        let logged = open_again(alloc, disk)?;
-        Ok(Managing {
+        let disk = formatted(alloc, header)?;
+        let manager = open_again(alloc, header, disk)?;
+        Ok(Managing::over(alloc, *header, manager, 1))
+    }
+
+    /// A manager whose journal was opened, with no crash to come.
+    fn over(
+        alloc: Global,
+        header: Header,
+        manager: Durable<ManagerNode, StopDisk>,
+        next: u64,
+    ) -> Managing
+        requires { IsManaged header manager None }
+        ensures { result ≡ record {
+          state = manager.stand.node;
+          decisions = manager.stand.count;
+          next = next;
+          crash = None;
+        } }
+    {
+        Managing {
             alloc,
-            logged,
-            decisions: 0,
-            next: 1,
+            header,
+            manager,
+            next,
             crash: None,
-        })
+        }
     }
 
     /// How many inputs are kept.
     pub(crate) fn decisions(&self) -> u64
         ensures { result ≡ self.now.decisions }
     {
-        self.decisions
+        self.manager.count()
     }
 
     /// The number of the next message.
@@ -104,7 +124,7 @@ impl Managing {
     }
 
     /// Does what a line says.
-    #[tactic(auto, using(crate::proofs::Orders::own_order, crate::proofs::Orders::light_order, crate::proofs::Orders::small_order, crate::proofs::Orders::own_message, crate::proofs::Orders::light_message, crate::proofs::Orders::small_message), unfolding(crate::specs::Managed::line_done))]
+    #[tactic(auto, unfolding(crate::specs::Managed::line_done))]
     pub(crate) fn obey(self, line: &ManageLine) -> Result<(Managing, LineOutcome), NoMemory>
         requires few { self.decisions < step_limit }
         requires own { IsForManager line.now }
@@ -113,8 +133,8 @@ impl Managing {
         ensures numbered { IfOk result (λ r. IsNumberedBy self.next r.1) }
     {
         match line {
-            ManageLine::Order(order) => self.give(&Input::Local(order.copy()?)),
-            ManageLine::Recovered { part, epoch } => self.give(&recovered(*part, *epoch)),
+            ManageLine::Order(order) => self.give(ordered(order)),
+            ManageLine::Recovered { part, epoch } => self.give(recovered(*part, *epoch)),
             ManageLine::Crash { call, kept } => Ok(self.order_crash(Crash {
                 call: *call,
                 kept: *kept,
@@ -130,16 +150,16 @@ impl Managing {
     {
         let Managing {
             alloc,
-            mut logged,
-            decisions,
+            header,
+            mut manager,
             next,
             crash: _,
         } = self;
-        logged.arm(u64::from(crash.call));
+        manager.arm(u64::from(crash.call));
         let managing = Managing {
             alloc,
-            logged,
-            decisions,
+            header,
+            manager,
             next,
             crash: Some(crash),
         };
@@ -147,55 +167,56 @@ impl Managing {
     }
 
     /// Gives the manager an input.
-    fn give(self, input: &Input) -> Result<(Managing, LineOutcome), NoMemory>
+    fn give(self, arrived: Arrived) -> Result<(Managing, LineOutcome), NoMemory>
         requires few { self.decisions < step_limit }
-        requires own { is_others input.now ≡ false }
-        requires light { is_heavy input.now ≡ false }
-        requires small { IsSmallInput input.now }
-        ensures done { IfOk result (λ r. record { now = r.0; outcome = r.1 } ≡ input_given self input.now) }
+        requires small { IsSmallInput arrived }
+        ensures done { IfOk result (λ r. record { now = r.0; outcome = r.1 } ≡ input_given self (given arrived)) }
         ensures numbered { IfOk result (λ r. IsNumberedBy self.next r.1) }
     {
-        a_stopped_input_is_kept_or_lost();
+        a_stopped_batch_is_kept_or_lost::<ManagerNode>();
         let Managing {
             alloc,
-            mut logged,
-            decisions,
+            header,
+            mut manager,
             next,
             crash,
         } = self;
-        match logged.on(input) {
-            Ok(sent) => {
-                let behind = number_behind(next, &sent)?;
+        match manager.on(arrived) {
+            Ok(done) => {
                 let managing = Managing {
                     alloc,
-                    logged,
-                    decisions: decisions + 1,
-                    next: behind,
-                    crash,
-                };
-                Ok((managing, LineOutcome::Done(Items::new(sent))))
-            }
-            Err(LoggedError::Refused { number }) => {
-                let managing = Managing {
-                    alloc,
-                    logged,
-                    decisions,
+                    header,
+                    manager,
                     next,
                     crash,
                 };
-                Ok((managing, LineOutcome::Refused { number }))
+                managing.tell(done)
             }
-            Err(LoggedError::DiskFault) => {
+            Err(DurableError::DiskFault) => {
                 let Some(stop) = crash else { unreachable!() };
-                let logged = open_crashed(alloc, logged, stop.kept)?;
+                let manager = open_crashed(alloc, &header, manager, stop.kept)?;
+                let managing = Managing::over(alloc, header, manager, next);
                 let kept = stop.keeps_input();
-                Ok(after_crash(alloc, logged, decisions, next, kept))
+                Ok((managing, LineOutcome::Stopped { kept }))
             }
-            Err(LoggedError::NoMemory) => Err(AllocError),
-            Err(LoggedError::TooHeavy) => unreachable!(),
-            Err(LoggedError::Full) => unreachable!(),
-            Err(LoggedError::Spent) => unreachable!(),
+            Err(DurableError::NoMemory) => Err(AllocError),
+            Err(DurableError::NoEncoding) => unreachable!(),
+            Err(DurableError::Full) => unreachable!(),
+            Err(DurableError::Spent) => unreachable!(),
         }
+    }
+
+    /// The manager did this.
+    fn tell(mut self, done: Done) -> Result<(Managing, LineOutcome), NoMemory>
+        ensures done { IfOk result (λ r. record { now = r.0; outcome = r.1 } ≡ done_told self done) }
+        ensures numbered { IfOk result (λ r. IsNumberedBy self.next r.1) }
+    {
+        if done.refused != 0 {
+            let number = done.refused;
+            return Ok((self, LineOutcome::Refused { number }));
+        }
+        self.next = number_behind(self.next, done.sent.as_slice())?;
+        Ok((self, LineOutcome::Done(done.sent)))
     }
 }
 
@@ -206,84 +227,146 @@ fn number_behind(next: u64, sent: &[Message]) -> Result<u64, NoMemory>
     next.checked_add(sent.len() as u64).ok_or(AllocError)
 }
 
-/// The manager whose journal was opened again behind a crash, which kept the stopped input or lost it.
-fn after_crash(
-    alloc: Global,
-    logged: Logged<StopDisk>,
-    decisions: u64,
-    next: u64,
-    kept: bool,
-) -> (Managing, LineOutcome)
-    requires few { decisions < step_limit }
-    requires managed { IsManaged logged (if kept then decisions + 1 else decisions) None }
-    ensures managing { result.0 ≡ record {
-      state = logged.state;
-      decisions = if kept then decisions + 1 else decisions;
-      next = next;
-      crash = None;
-    } }
-    ensures outcome { result.1 ≡ outcome.Stopped kept }
+/// An order of the manager comes, with no stamp.
+fn ordered(order: &Local) -> Arrived
+    requires { is_others_order order.now ≡ false }
+    ensures is { result ≡ arrived.Local order.now 0 }
+    ensures small { IsSmallInput result }
 {
-    let decisions = if kept { decisions + 1 } else { decisions };
-    let managing = Managing {
-        alloc,
-        logged,
-        decisions,
-        next,
-        crash: None,
-    };
-    (managing, LineOutcome::Stopped { kept })
+    match order {
+        Local::Recover {
+            part,
+            backup,
+            witness,
+        } => to_recover(*part, *backup, *witness),
+        Local::Replace {
+            keeper,
+            part,
+            place,
+        } => to_replace(*keeper, *part, *place),
+        Local::Migrate { lo, hi, to } => to_migrate(*lo, *hi, *to),
+        Local::Nudge => to_nudge(),
+        Local::Expire(client) => to_expire(*client),
+        Local::Invoke(_) | Local::Retry(_) | Local::Fetch | Local::Sync | Local::Collect => {
+            unreachable!()
+        }
+    }
 }
 
-/// The first master says that it has recovered a partition.
-fn recovered(part: u32, epoch: u32) -> Input
-    ensures { result ≡ input.Message (recovered_by_first part epoch) }
+fn to_recover(part: u32, backup: u32, witness: u32) -> Arrived
+    ensures is { result ≡ arrived.Local (order.Recover part backup witness) 0 }
+    ensures small { IsSmallInput result }
 {
-    Input::Message(Message {
+    let order = Local::Recover {
+        part,
+        backup,
+        witness,
+    };
+    Arrived::Local(order, 0)
+}
+
+fn to_replace(keeper: Keeper, part: u32, place: u32) -> Arrived
+    ensures is { result ≡ arrived.Local (order.Replace keeper part place) 0 }
+    ensures small { IsSmallInput result }
+{
+    let order = Local::Replace {
+        keeper,
+        part,
+        place,
+    };
+    Arrived::Local(order, 0)
+}
+
+fn to_migrate(lo: u64, hi: u64, to: u32) -> Arrived
+    ensures is { result ≡ arrived.Local (order.Migrate lo hi to) 0 }
+    ensures small { IsSmallInput result }
+{
+    Arrived::Local(Local::Migrate { lo, hi, to }, 0)
+}
+
+#[tactic(auto, using(crate::proofs::Orders::small_nudge))]
+fn to_nudge() -> Arrived
+    ensures is { result ≡ arrived.Local order.Nudge 0 }
+    ensures small { IsSmallInput result }
+{
+    Arrived::Local(Local::Nudge, 0)
+}
+
+fn to_expire(client: u32) -> Arrived
+    ensures is { result ≡ arrived.Local (order.Expire client) 0 }
+    ensures small { IsSmallInput result }
+{
+    Arrived::Local(Local::Expire(client), 0)
+}
+
+/// The first master says that it has recovered a partition. No item of a master has the name with which it comes: items
+/// and places count from 1.
+fn recovered(part: u32, epoch: u32) -> Arrived
+    ensures is { result ≡ recovered_arrived part epoch }
+    ensures small { IsSmallInput result }
+{
+    Arrived::Message(Named {
         from: NodeId::master(1),
-        to: NodeId::manager(),
-        body: Body::Recovered(Recovered { part, epoch }),
+        step: 0,
+        place: 0,
+        stamp: 0,
+        message: Message {
+            from: NodeId::master(1),
+            to: NodeId::manager(),
+            body: Body::Recovered(Recovered { part, epoch }),
+        },
     })
 }
 
 /// An empty journal on a disk.
-fn formatted(alloc: Global, shape: &Shape) -> Result<StopDisk, NoMemory>
-    requires { IsShape shape.now }
-    ensures journal { IfOk result (λ disk. HoldsJournal (seen_of disk.played) shape.now []) }
+fn formatted(alloc: Global, header: &Header) -> Result<StopDisk, NoMemory>
+    ensures journal { IfOk result (λ disk. IsJournalOn header.now disk [] 36) }
     ensures disarmed { IfOk result (λ disk. disk.armed ≡ None) }
 {
+    let title = title_of(NodeId::manager(), header);
     let mut disk = StopDisk::new(alloc);
-    match format(&mut disk, shape) {
+    match format(alloc, &mut disk, &title) {
         Ok(()) => Ok(disk),
         Err(FormatError::NoMemory) => Err(AllocError),
         Err(FormatError::DiskFault) => unreachable!(),
+        Err(FormatError::NotEmpty) => unreachable!(),
     }
 }
 
-/// Crashes the disk of a journal, which is then opened again.
+/// The disk of a journal crashes, and the journal is opened again.
 fn open_crashed(
     alloc: Global,
-    logged: Logged<StopDisk>,
+    header: &Header,
+    manager: Durable<ManagerNode, StopDisk>,
     kept: bool,
-) -> Result<Logged<StopDisk>, NoMemory>
-    requires { HasJournal (record logged.disk { played = crashed kept logged.disk.played }) }
-    ensures { (shape : Shape) (inputs : List Input) → HoldsJournal (seen_of (crashed kept logged.disk.played)) shape inputs
-        → IfOk result (λ l. IsOpenedAgain l shape inputs) }
+) -> Result<Durable<ManagerNode, StopDisk>, NoMemory>
+    requires few { HasFewNodes header.now }
+    requires journal { HasJournal header.now (record manager.disk { played = crashed kept manager.disk.played }) }
+    ensures { (inputs : List Arrived) (gate : ℕ)
+        → IsJournalOn header.now (record manager.disk { played = crashed kept manager.disk.played }) inputs gate
+        → IfOk result (λ d. IsOpenedAgain header.now d inputs gate) }
 {
-    let mut disk = logged.into_disk();
+    let mut disk = manager.into_disk();
     disk.crash(kept);
-    open_again(alloc, disk)
+    open_again(alloc, header, disk)
 }
 
 /// Opens the journal of a disk. Nothing but memory can be wanting.
-fn open_again(alloc: Global, disk: StopDisk) -> Result<Logged<StopDisk>, NoMemory>
-    requires journal { HasJournal disk }
+fn open_again(
+    alloc: Global,
+    header: &Header,
+    disk: StopDisk,
+) -> Result<Durable<ManagerNode, StopDisk>, NoMemory>
+    requires few { HasFewNodes header.now }
+    requires journal { HasJournal header.now disk }
     requires disarmed { disk.armed ≡ None }
-    ensures { (shape : Shape) (inputs : List Input) → HoldsJournal (seen_of disk.played) shape inputs
-        → IfOk result (λ l. IsOpenedAgain l shape inputs) }
+    ensures { (inputs : List Arrived) (gate : ℕ) → IsJournalOn header.now disk inputs gate
+        → IfOk result (λ d. IsOpenedAgain header.now d inputs gate) }
 {
-    match Logged::open(alloc, disk) {
-        Ok(logged) => Ok(logged),
+    let title = title_of(NodeId::manager(), header);
+    let node = opening_node(alloc, header)?;
+    match Durable::open(alloc, disk, &title, node, SIZE_LIMIT) {
+        Ok(manager) => Ok(manager),
         Err(failed) => match failed.error {
             OpenError::NoMemory => Err(AllocError),
             OpenError::DiskFault => unreachable!(),
@@ -291,4 +374,18 @@ fn open_again(alloc: Global, disk: StopDisk) -> Result<Logged<StopDisk>, NoMemor
             OpenError::Damaged { .. } => unreachable!(),
         },
     }
+}
+
+/// The manager of a header, before any input.
+#[tactic(auto, using(crate::proofs::Headers::few_keepers))]
+fn opening_node(alloc: Global, header: &Header) -> Result<ManagerNode, NoMemory>
+    requires { HasFewNodes header.now }
+    ensures { IfOk result (λ node. node ≡ opening_manager (shape_of header.now)) }
+{
+    let shape = Shape {
+        f: header.f,
+        parts: header.parts,
+        clients: header.clients,
+    };
+    ManagerNode::new(alloc, &shape)
 }

@@ -117,7 +117,11 @@ fn told_by(answers: &[Answered]) -> (u64, usize) {
 
 /// A fence of that epoch for the first backup, with this stamp.
 pub(crate) fn fence(epoch: u32, stamp: u64) -> Arrived {
-    Arrived::Message(Named {
+    Arrived::Message(fence_by_name(epoch, stamp))
+}
+
+pub(crate) fn fence_by_name(epoch: u32, stamp: u64) -> Named {
+    Named {
         from: NodeId::master(1),
         step: 1,
         place: 1,
@@ -127,7 +131,7 @@ pub(crate) fn fence(epoch: u32, stamp: u64) -> Arrived {
             to: NodeId::backup(1),
             body: Body::Fence { epoch },
         },
-    })
+    }
 }
 
 /// So many fences, of the epochs from 1 on.

@@ -1,13 +1,13 @@
 // Journals by their bytes, which were written by hand: the checksums by another program.
 use crate::build::{add, begin, nudged, numbers, opened};
+use crate::manager::manager;
 use curp_base::{Items, Shared};
-use curp_changes::Shape;
 use curp_cmd::{Command, Key, NodeId, Request, RequestId};
 use curp_disk::{Did, Disk, MemoryDisk};
 use curp_durable::OpenError;
 use curp_journal::{Arrived, Named};
 use curp_msg::{Body, Config, Core, Local, Message, Protocol, Record};
-use curp_nodes::{BackupNode, ClientNode, ManagerNode, MasterNode, WitnessNode};
+use curp_nodes::{BackupNode, ClientNode, MasterNode, WitnessNode};
 use std::alloc::Global;
 use std::process::Abort;
 
@@ -123,15 +123,6 @@ fn a_journal_is_written_so(rt: HostRuntime) {
 }
 
 // ---- nodes of each kind
-
-fn manager(rt: &impl Abort, alloc: Global) -> ManagerNode {
-    let shape = Shape {
-        f: 1,
-        parts: 1,
-        clients: 64,
-    };
-    ManagerNode::new(alloc, &shape).expect(rt, "no memory")
-}
 
 fn client(alloc: Global) -> ClientNode {
     let config = Config {

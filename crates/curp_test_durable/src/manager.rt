@@ -11,16 +11,20 @@ use curp_nodes::ManagerNode;
 use std::alloc::Global;
 use std::process::Abort;
 
-fn manager(rt: &impl Abort, alloc: Global) -> ManagerNode {
+pub(crate) fn manager(rt: &impl Abort, alloc: Global) -> ManagerNode {
     let shape = Shape {
         f: 1,
         parts: 1,
-        clients: 1,
+        clients: 64,
     };
     ManagerNode::new(alloc, &shape).expect(rt, "no memory")
 }
 
-fn reopened(rt: &impl Abort, alloc: Global, disk: StopDisk) -> Durable<ManagerNode, StopDisk> {
+pub(crate) fn reopened(
+    rt: &impl Abort,
+    alloc: Global,
+    disk: StopDisk,
+) -> Durable<ManagerNode, StopDisk> {
     opened(alloc, disk, manager(rt, alloc)).expect(rt, "no journal")
 }
 

@@ -1,22 +1,45 @@
+use Rattle.std.proofs.Common.{List, ℕ, refl, sym, subst}
+use Rattle.curp_disk.specs.Calls.{seen_of}
+use Rattle.curp_durable.proofs.Settling.{some_gate}
+use Rattle.curp_durable.specs.Journal.{HoldsUpTo, IsSettled}
+use Rattle.curp_durable.specs.Stopping.{StopLeaves, stop_seen}
+use Rattle.curp_manage.proofs.Headers.{title_is}
+use Rattle.curp_model.specs.Manager.{ManagerState, opening_manager}
+use Rattle.curp_model.specs.World.{shape_of}
+use Rattle.curp_nodes.specs.Machines.{manager_machine}
 use Rattle.curp_manage.proofs.managing.open_again.Goals as goal
 
 -- the journal is there, so nothing but memory can be wanting
-pub unreachable-requires : goal.unreachable-requires
-unreachable-requires c = absurd ((c.in-Err.ensures.sound_err c.requires.disarmed).0 c.in-DiskFault.is)
-
 pub unreachable-requires-in-NotFormatted : goal.unreachable-requires-in-NotFormatted
 unreachable-requires-in-NotFormatted c =
     let journal = c.requires.journal in
-    absurd (rw c.in-NotFormatted.is at c.in-Err.ensures.journal_err journal.0 journal.1 journal.2)
+    let seen = seen_of c.args.disk.played in
+    let is = title_is c.args.header.now c.manager.result c.title_of-title.result c.title_of-title.ensures c.manager.ensures in
+    let holds = some_gate seen c.title_of-title.result journal.0 journal.1 (subst (λ (t : List ℕ). HoldsUpTo seen t journal.0 journal.1) (sym is) journal.2) in
+    absurd (rw c.in-NotFormatted.is at c.in-Err.ensures.journal_err journal.0 refl holds)
 
 pub unreachable-requires-in-Damaged : goal.unreachable-requires-in-Damaged
 unreachable-requires-in-Damaged c =
     let journal = c.requires.journal in
-    absurd (rw c.in-Damaged.is at c.in-Err.ensures.journal_err journal.0 journal.1 journal.2)
+    let seen = seen_of c.args.disk.played in
+    let is = title_is c.args.header.now c.manager.result c.title_of-title.result c.title_of-title.ensures c.manager.ensures in
+    let holds = some_gate seen c.title_of-title.result journal.0 journal.1 (subst (λ (t : List ℕ). HoldsUpTo seen t journal.0 journal.1) (sym is) journal.2) in
+    absurd (rw c.in-Damaged.is at c.in-Err.ensures.journal_err journal.0 refl holds)
 
 pub returns-in-Ok : goal.returns-in-Ok
-returns-in-Ok c = λ shape inputs holds. record {
-  fresh = c.in-Ok.ensures.ok.0;
-  settled = c.in-Ok.ensures.journal shape inputs holds;
-  disarmed = c.in-Ok.ensures.sound c.requires.disarmed;
-}
+returns-in-Ok c = λ inputs gate journal.
+    let h = c.args.header.now in
+    let d = c.in-Ok.manager in
+    let seen = seen_of c.args.disk.played in
+    let title = c.title_of-title.result in
+    let is = title_is h c.manager.result title c.title_of-title.ensures c.manager.ensures in
+    let at = subst (λ (t : List ℕ). HoldsUpTo seen t inputs gate) (sym is) journal in
+    let settled = c.in-Ok.ensures.journal inputs refl (some_gate seen title inputs gate at) in
+    let of_node = subst (λ (n : ManagerState). IsSettled manager_machine stop_seen StopLeaves d.disk d.stand d.gate title n inputs) c.in_ok-node.ensures settled in
+    record {
+      fresh = c.in-Ok.ensures.fresh;
+      limit = c.in-Ok.ensures.limit;
+      keeps = subst (λ (t : List ℕ). IsSettled manager_machine stop_seen StopLeaves d.disk d.stand d.gate t (opening_manager (shape_of h)) inputs) is of_node;
+      gate_is = c.in-Ok.ensures.gate inputs gate refl at;
+      disarmed = c.in-Ok.ensures.sound c.requires.disarmed;
+    }

@@ -1,9 +1,14 @@
-use Rattle.std.proofs.Common.{◌≡◌, ◌+◌, ◌++◌, length, refl, sym, ◌∙◌, ap, subst, arith}
+use Rattle.std.proofs.Common.{◌≡◌, ◌+◌, ◌++◌, length, refl, inr, sym, ◌∙◌, ap, subst, arith}
 use Rattle.curp_disk.specs.Disk.{LeavesOnly}
 use Rattle.curp_io.specs.Streams.{Rose}
 use Rattle.curp_durable.specs.Journal.{IsBeforeOrAfter, IsSettled}
+use Rattle.curp_disk.specs.declared.disk.Did.TheVariants as did
+use Rattle.curp_durable.specs.Answering.{record_of}
+use Rattle.curp_durable.specs.Running.{AllMade, MadeUntil, RanUntil, calls_for, gate_behind}
 use Rattle.curp_durable.specs.Standing.{taken}
+use Rattle.curp_durable.specs.declared.error.DurableError.TheVariants as durable
 use Rattle.curp_durable.proofs.Pieces.{piece_none, piece_there, true_not}
+use Rattle.curp_durable.proofs.Running.{calls_are, gate_is, no_calls, none_ran, same_gate}
 use Rattle.curp_durable.proofs.Settling.{appended, taken_kept, taken_none}
 use Rattle.curp_durable.proofs.durable.Durable.on_all.Goals as goal
 
@@ -118,11 +123,112 @@ pub returns-in-Failed-clause-err : goal.returns-in-Failed-clause-err
 returns-in-Failed-clause-err g c =
     let D = g.D.Disk in (
       ap (λ v. v.spent) (sym c.self.view_is) ∙ c.if-self.false,
-      c.in-Ok.ensures.light,
+      c.in-Ok.ensures.encoded,
       subst (λ v. Rose (D.faults v.disk) (D.faults c.append.new.disk)) c.self.view_is (c.in-Failed.ensures.cause refl),
       refl,
     )
 
 pub returns-in-NoMemory-clause-err : goal.returns-in-NoMemory-clause-err
 returns-in-NoMemory-clause-err g c =
-    (ap (λ v. v.spent) (sym c.self.view_is) ∙ c.if-self.false, c.in-Ok.ensures.light, λ e. absurd (true_not e))
+    (ap (λ v. v.spent) (sym c.self.view_is) ∙ c.if-self.false, λ e. absurd (true_not e), λ e. c.in-Ok.ensures.encoded)
+
+-- ---- which calls were made
+
+pub returns-then-is_empty-clause-gate : goal.returns-then-is_empty-clause-gate
+returns-then-is_empty-clause-gate g c =
+    let machine = g.N.Core.machine in
+    let D = g.D.Disk in
+    let inside = c.self.inside in
+    let inputs = c.args.inputs.items in
+    let b = taken machine inside.stand inputs in
+    let piece = c.in-Ok.decided.piece in
+    let long : piece.len ≡ length piece.items = omega (arith, piece.ok.0) in
+    let none = piece_none inside.gate inside.size_limit b piece.items piece.len c.in-Ok.ensures.decides.piece_is long (sym c.is_empty.ensures ∙ c.if-is_empty.true) in
+    subst (λ v. inside.gate ≡ gate_behind v.gate (taken machine v.stand inputs)) c.self.view_is (same_gate inside.gate b none)
+
+pub returns-then-is_empty-clause-ran : goal.returns-then-is_empty-clause-ran
+returns-then-is_empty-clause-ran g c =
+    let machine = g.N.Core.machine in
+    let D = g.D.Disk in
+    let inside = c.self.inside in
+    let inputs = c.args.inputs.items in
+    let b = taken machine inside.stand inputs in
+    let piece = c.in-Ok.decided.piece in
+    let long : piece.len ≡ length piece.items = omega (arith, piece.ok.0) in
+    let none = piece_none inside.gate inside.size_limit b piece.items piece.len c.in-Ok.ensures.decides.piece_is long (sym c.is_empty.ensures ∙ c.if-is_empty.true) in
+    subst (λ v. AllMade D.wrote D.synced (calls_for v.gate (taken machine v.stand inputs)) v.disk inside.disk) c.self.view_is (no_calls D.wrote D.synced inside.gate b inside.disk none)
+
+pub returns-in-Kept-clause-gate : goal.returns-in-Kept-clause-gate
+returns-in-Kept-clause-gate g c =
+    let machine = g.N.Core.machine in
+    let D = g.D.Disk in
+    let inside = c.self.inside in
+    let inputs = c.args.inputs.items in
+    let b = taken machine inside.stand inputs in
+    let piece = c.in-Ok.decided.piece in
+    let long : piece.len ≡ length piece.items = omega (arith, piece.ok.0) in
+    let there = piece_there inside.gate inside.size_limit b piece.items piece.len c.in-Ok.ensures.decides.piece_is long (sym c.is_empty.ensures ∙ c.if-is_empty.false) in
+    let written = c.deref.result.now in
+    let is : written ≡ record_of b = c.deref.ensures.value ∙ there.1 in
+    let behind = gate_is inside.gate b written is (λ e. c.deref.ensures.value ∙ c.in-Ok.ensures.nothing e) in
+    subst (λ v. inside.gate + c.len.result ≡ gate_behind v.gate (taken machine v.stand inputs)) c.self.view_is
+    (ap (λ n. inside.gate + n) (c.len.ensures ∙ sym c.deref.ensures.len) ∙ behind)
+
+pub returns-in-Kept-clause-ran : goal.returns-in-Kept-clause-ran
+returns-in-Kept-clause-ran g c =
+    let machine = g.N.Core.machine in
+    let D = g.D.Disk in
+    let inside = c.self.inside in
+    let inputs = c.args.inputs.items in
+    let b = taken machine inside.stand inputs in
+    let piece = c.in-Ok.decided.piece in
+    let long : piece.len ≡ length piece.items = omega (arith, piece.ok.0) in
+    let there = piece_there inside.gate inside.size_limit b piece.items piece.len c.in-Ok.ensures.decides.piece_is long (sym c.is_empty.ensures ∙ c.if-is_empty.false) in
+    let written = c.deref.result.now in
+    let is : written ≡ record_of b = c.deref.ensures.value ∙ there.1 in
+    let calls = calls_are inside.gate b written is (λ e. c.deref.ensures.value ∙ c.in-Ok.ensures.nothing e) in
+    subst (λ v. AllMade D.wrote D.synced (calls_for v.gate (taken machine v.stand inputs)) v.disk c.append.new.disk) c.self.view_is
+    (subst (λ l. AllMade D.wrote D.synced l inside.disk c.append.new.disk) calls c.in-Kept.ensures.ran)
+
+pub returns-in-Failed-clause-ran_err : goal.returns-in-Failed-clause-ran_err
+returns-in-Failed-clause-ran_err g c =
+    let machine = g.N.Core.machine in
+    let D = g.D.Disk in
+    let inside = c.self.inside in
+    let inputs = c.args.inputs.items in
+    let b = taken machine inside.stand inputs in
+    let piece = c.in-Ok.decided.piece in
+    let long : piece.len ≡ length piece.items = omega (arith, piece.ok.0) in
+    let there = piece_there inside.gate inside.size_limit b piece.items piece.len c.in-Ok.ensures.decides.piece_is long (sym c.is_empty.ensures ∙ c.if-is_empty.false) in
+    let written = c.deref.result.now in
+    let is : written ≡ record_of b = c.deref.ensures.value ∙ there.1 in
+    let calls = calls_are inside.gate b written is (λ e. c.deref.ensures.value ∙ c.in-Ok.ensures.nothing e) in
+    subst (λ v. RanUntil D.wrote D.synced v.gate (taken machine v.stand inputs) v.disk c.append.new.disk durable.DiskFault) c.self.view_is
+    (there.0, subst (λ l. MadeUntil D.wrote D.synced did.Failed l inside.disk c.append.new.disk) calls c.in-Failed.ensures.ran)
+
+pub returns-in-NoMemory-clause-ran_err : goal.returns-in-NoMemory-clause-ran_err
+returns-in-NoMemory-clause-ran_err g c =
+    let machine = g.N.Core.machine in
+    let D = g.D.Disk in
+    let inside = c.self.inside in
+    let inputs = c.args.inputs.items in
+    let b = taken machine inside.stand inputs in
+    let piece = c.in-Ok.decided.piece in
+    let long : piece.len ≡ length piece.items = omega (arith, piece.ok.0) in
+    let there = piece_there inside.gate inside.size_limit b piece.items piece.len c.in-Ok.ensures.decides.piece_is long (sym c.is_empty.ensures ∙ c.if-is_empty.false) in
+    let written = c.deref.result.now in
+    let is : written ≡ record_of b = c.deref.ensures.value ∙ there.1 in
+    let calls = calls_are inside.gate b written is (λ e. c.deref.ensures.value ∙ c.in-Ok.ensures.nothing e) in
+    subst (λ v. RanUntil D.wrote D.synced v.gate (taken machine v.stand inputs) v.disk c.append.new.disk durable.NoMemory) c.self.view_is
+    (inr (subst (λ l. MadeUntil D.wrote D.synced did.NoMemory l inside.disk c.append.new.disk) calls c.in-NoMemory.ensures.ran))
+
+pub returns-in-Err-Unchanged-clause-ran_err : goal.returns-in-Err-Unchanged-clause-ran_err
+returns-in-Err-Unchanged-clause-ran_err g c =
+    let machine = g.N.Core.machine in
+    let D = g.D.Disk in
+    let inside = c.self.inside in
+    let inputs = c.args.inputs.items in
+    let why = c.in-Err-Unchanged.why in
+    let stops = rw c.in-Err-Unchanged.field-0-is at c.in-Err-Unchanged.ensures.stops in
+    subst (λ v. RanUntil D.wrote D.synced v.gate (taken machine v.stand inputs) v.disk inside.disk why) c.self.view_is
+    (none_ran D.wrote D.synced inside.gate inside.size_limit (taken machine inside.stand inputs) inputs inside.disk why stops.1)

@@ -1,16 +1,11 @@
-use Rattle.std.proofs.Common.{[], ap}
-use Rattle.curp_manage.proofs.Headers.{managed_at, managed_first, opened_state}
-use Rattle.curp_model.specs.Manager.{ManagerState}
-use Rattle.curp_model.specs.World.{shape_of}
+use Rattle.std.proofs.Common.{[], ◌∙◌}
+use Rattle.curp_manage.proofs.Headers.{few_nodes, managed_first, opens_so}
 use Rattle.curp_manage.proofs.managing.Managing.begin.Goals as goal
 
-pub invariant_of-result : goal.invariant_of-result
-invariant_of-result c =
-    let shape = shape_of c.args.header.now in
-    managed_first c.in_ok-logged.logged shape (c.in_ok-logged.ensures shape [] c.in_ok-disk.ensures.journal)
+pub over-requires : goal.over-requires
+over-requires c =
+    let h = c.args.header.now in
+    managed_first h c.in_ok-manager.manager (c.in_ok-manager.ensures [] 36 c.in_ok-disk.ensures.journal) (few_nodes h c.requires)
 
 pub returns : goal.returns
-returns c =
-    let shape = shape_of c.args.header.now in
-    let state = opened_state c.in_ok-logged.logged shape (c.in_ok-logged.ensures shape [] c.in_ok-disk.ensures.journal) in
-    ap (λ (s : ManagerState). managed_at s) state
+returns c = c.over.ensures ∙ opens_so c.args.header.now c.in_ok-manager.manager (c.in_ok-manager.ensures [] 36 c.in_ok-disk.ensures.journal)

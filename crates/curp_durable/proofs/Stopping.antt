@@ -1,0 +1,143 @@
+-- What is kept on a disk that stops while a batch is to be kept.
+use Rattle.std.specs.Prelude.{◌≡◌, ℕ, zero, suc, ◌+◌, ◌-◌, ◌<◌, ◌≤◌, min, nat_lt, Bool, true, false, List, [], ◌∷◌, ◌++◌, length, take, Some, refl}
+use Rattle.std.proofs.Common.{inl, inr, sym, ◌∙◌, ap, subst, arith, append_assoc}
+use Rattle.std.proofs.lemmas.Bool.{cond-false, ltb-true, ltb-false}
+use Rattle.std.proofs.lemmas.List.{append-nil}
+use Rattle.curp_base.specs.Words.{all_of}
+use Rattle.curp_disk.specs.Calls.{LeftNow, Played, kept_after, kept_of, kept_through, seen_after, seen_of, seen_through}
+use Rattle.curp_disk.specs.Disk.{Only, over}
+use Rattle.curp_disk.specs.InMemory.{StopParts, StopRan, crashed, one_less, stops}
+use Rattle.curp_disk.specs.Moments.{length-over}
+use Rattle.curp_disk.specs.declared.disk.Did.{Did}
+use Rattle.curp_disk.specs.declared.disk.Did.TheVariants as did
+use Rattle.curp_disk.specs.declared.medium.Call.{Call}
+use Rattle.curp_disk.specs.declared.medium.Call.TheVariants as call
+use Rattle.curp_disk.proofs.Playing.{kept_now}
+use Rattle.curp_journal.specs.declared.arrived.Arrived.{Arrived}
+use Rattle.curp_msg.specs.Moved.{Moved}
+use Rattle.curp_msg.specs.declared.machine.Input.{Input}
+use Rattle.curp_durable.specs.Answering.{record_of}
+use Rattle.curp_durable.specs.Journal.{Batch, HasEncoding, HoldsUpTo, IsSettled, ReadsJournal}
+use Rattle.curp_durable.specs.Running.{MadeUntil, RanCall, appending}
+use Rattle.curp_durable.specs.Standing.{Standing}
+use Rattle.curp_durable.specs.Stopping.{IsStopped, StopLeaves, StopSynced, StopWrote, kept_gate, kept_inputs, stop_seen}
+use Rattle.curp_durable.proofs.Gates.{prefix_kept}
+use Rattle.curp_durable.proofs.Reading.{done, gate_within, shut_reads}
+use Rattle.curp_durable.proofs.Standings.{all-push}
+
+-- ---- which calls were made
+
+-- with these calls behind the others
+abbrev with : Played → List Call → Played
+with p calls = record { first = p.first; calls = p.calls ++ calls }
+
+-- with none behind them
+with_none : (p : Played) → with p [] ≡ p
+with_none p = ap (λ (l : List Call). let q : Played = record { first = p.first; calls = l } in q) (append-nil p.calls)
+
+as_stop : (old new : StopParts) (c : Call) (answer : Did) → RanCall StopWrote StopSynced old c answer new → StopRan old c answer new
+as_stop old new (call.Write at bytes) answer ran = ran
+as_stop old new call.Sync answer ran = ran
+
+-- a disk armed at a call made the calls before it
+made_before : (calls : List Call) (old new : StopParts) (k : ℕ) → old.armed ≡ Some k → 1 ≤ k → MadeUntil StopWrote StopSynced did.Failed calls old new → new.played ≡ with old.played (take (k - 1) calls)
+made_before [] old new k armed first ran = absurd ran
+made_before (c ∷ calls) old new k armed first (inl failed) =
+    let r = as_stop old new c did.Failed failed in
+    let stop : nat_lt k 2 ≡ true = ap stops (sym armed) ∙ r.0.0 in
+    let one : k - 1 ≡ 0 = omega (arith, ltb-true k 2 stop) in
+    r.0.1 ∙ sym (with_none old.played) ∙ ap (λ (n : ℕ). with old.played (take n (c ∷ calls))) (sym one)
+made_before (c ∷ calls) old new k armed first (inr more) =
+    let mid = more.1 in
+    let r = as_stop old mid c (did.Done more.0) more.2 in
+    let stop : nat_lt k 2 ≡ false = ap stops (sym armed) ∙ r.0.0 in
+    let two : 2 ≤ k = ltb-false k 2 stop in
+    let armed_next : mid.armed ≡ Some (k - 1) = r.1 ∙ ap one_less armed ∙ cond-false (nat_lt k 2) (Some k) (Some (k - 1)) stop in
+    let rest = made_before calls mid new (k - 1) armed_next (omega (arith, two)) more.3 in
+    let next : suc (k - 1 - 1) ≡ k - 1 = omega (arith, two) in
+    rest ∙ ap (λ (p : Played). with p (take (k - 1 - 1) calls)) r.0.1
+    ∙ ap (λ (l : List Call). let q : Played = record { first = old.played.first; calls = l } in q) (append_assoc old.played.calls (c ∷ []) (take (k - 1 - 1) calls))
+    ∙ ap (λ (n : ℕ). with old.played (take n (c ∷ calls))) next
+
+-- ---- what these leave
+
+seen_behind : (first second : List Call) (seen : List ℕ) → seen_through seen (first ++ second) ≡ seen_through (seen_through seen first) second
+seen_behind [] second seen = refl
+seen_behind (c ∷ first) second seen = seen_behind first second (seen_after seen c)
+
+kept_behind : (first second : List Call) (seen kept : List ℕ) → kept_through seen kept (first ++ second) ≡ kept_through (seen_through seen first) (kept_through seen kept first) second
+kept_behind [] second seen kept = refl
+kept_behind (c ∷ first) second seen kept = kept_behind first second (seen_after seen c) (kept_after seen kept c)
+
+module _ (p : Played) (gate : ℕ) (title : List ℕ) (inputs : List Arrived) (batches : List Batch) (a : Arrived) (more : List Arrived) (all : all_of batches ≡ inputs) (reads : ReadsJournal (seen_of p) title batches gate) (durable : Only (seen_of p) (LeftNow p)) (has : HasEncoding (a ∷ more)) where
+  abbrev now : List ℕ
+  now = seen_of p
+
+  abbrev b : List Arrived
+  b = a ∷ more
+
+  abbrev piece : List ℕ
+  piece = record_of b
+
+  abbrev behind : List ℕ
+  behind = over now (gate + 1) piece
+
+  abbrev first_calls : ℕ → Played
+  first_calls n = with p (take n (appending gate piece))
+
+  within : gate < length now
+  within = gate_within now title batches gate reads
+
+  place : min (gate + 1) (length now) ≡ gate + 1
+  place = omega (arith, within)
+
+  place_of_gate : min gate (length behind) ≡ gate
+  place_of_gate = omega (arith, within, length-over now (gate + 1) piece (omega (arith, within)))
+
+  -- what was kept before
+  was_kept : kept_of p ≡ now
+  was_kept = durable (kept_of p) (kept_now p)
+
+  written : over now (min (gate + 1) (length now)) piece ≡ behind
+  written = ap (λ (n : ℕ). over now n piece) place
+
+  holds_before : (c : List ℕ) → c ≡ now → HoldsUpTo c title inputs gate
+  holds_before c is = record { batches = batches; all = all; reads = subst (λ (l : List ℕ). ReadsJournal l title batches gate) (sym is) reads }
+
+  holds_shut : (c : List ℕ) → c ≡ behind → HoldsUpTo c title inputs gate
+  holds_shut c is = record {
+    batches = batches;
+    all = all;
+    reads = subst (λ (l : List ℕ). ReadsJournal l title batches gate) (sym is) (shut_reads now title batches gate reads behind (prefix_kept now gate piece within));
+  }
+
+  holds_open : (c : List ℕ) → c ≡ over behind gate (1 ∷ []) → HoldsUpTo c title (inputs ++ b) (gate + length piece)
+  holds_open c is = record {
+    batches = batches ++ b ∷ [];
+    all = all-push batches b ∙ ap (λ (l : List Arrived). l ++ b) all;
+    reads = done now title batches gate reads b has c is;
+  }
+
+  opened : over (over now (min (gate + 1) (length now)) piece) (min gate (length (over now (min (gate + 1) (length now)) piece))) (1 ∷ []) ≡ over behind gate (1 ∷ [])
+  opened = ap (λ (l : List ℕ). over l (min gate (length l)) (1 ∷ [])) written ∙ ap (λ (n : ℕ). over behind n (1 ∷ [])) place_of_gate
+
+  left_at : (k : ℕ) → 1 ≤ k → k ≤ 4 → (unsynced : Bool) → HoldsUpTo (seen_of (crashed unsynced (first_calls (k - 1)))) title (kept_inputs inputs b k unsynced) (kept_gate gate b k unsynced)
+  left_at zero first last unsynced = absurd (omega (arith, first))
+  left_at (suc zero) first last true = holds_before (seen_of (first_calls 0)) (seen_behind p.calls [] p.first)
+  left_at (suc zero) first last false = holds_before (kept_of (first_calls 0)) (kept_behind p.calls [] p.first p.first ∙ was_kept)
+  left_at (suc (suc zero)) first last true = holds_shut (seen_of (first_calls 1)) (seen_behind p.calls (take 1 (appending gate piece)) p.first ∙ written)
+  left_at (suc (suc zero)) first last false = holds_before (kept_of (first_calls 1)) (kept_behind p.calls (take 1 (appending gate piece)) p.first p.first ∙ was_kept)
+  left_at (suc (suc (suc zero))) first last true = holds_shut (seen_of (first_calls 2)) (seen_behind p.calls (take 2 (appending gate piece)) p.first ∙ written)
+  left_at (suc (suc (suc zero))) first last false = holds_shut (kept_of (first_calls 2)) (kept_behind p.calls (take 2 (appending gate piece)) p.first p.first ∙ written)
+  left_at (suc (suc (suc (suc zero)))) first last true = holds_open (seen_of (first_calls 3)) (seen_behind p.calls (take 3 (appending gate piece)) p.first ∙ opened)
+  left_at (suc (suc (suc (suc zero)))) first last false = holds_shut (kept_of (first_calls 3)) (kept_behind p.calls (take 3 (appending gate piece)) p.first p.first ∙ written)
+  left_at (suc (suc (suc (suc (suc k))))) first last unsynced = absurd (omega (arith, last))
+
+-- what is left of a journal whose disk stopped
+pub stopped_holds : {N : Type 0} (machine : N → Input → Moved N) (old new : StopParts) (stand : Standing N) (gate k : ℕ) (title : List ℕ) (opening : N) (inputs b : List Arrived) (unsynced : Bool) → IsSettled machine stop_seen StopLeaves old stand gate title opening inputs → IsStopped old new gate k b
+    → HoldsUpTo (seen_of (crashed unsynced new.played)) title (kept_inputs inputs b k unsynced) (kept_gate gate b k unsynced)
+stopped_holds machine old new stand gate k title opening inputs [] unsynced s stopped = absurd stopped.ran
+stopped_holds machine old new stand gate k title opening inputs (a ∷ more) unsynced s stopped =
+    let made = made_before (appending gate (record_of (a ∷ more))) old new k stopped.armed stopped.first stopped.ran in
+    subst (λ (p : Played). HoldsUpTo (seen_of (crashed unsynced p)) title (kept_inputs inputs (a ∷ more) k unsynced) (kept_gate gate (a ∷ more) k unsynced)) (sym made)
+    (left_at old.played gate title inputs s.batches a more s.all s.reads s.durable stopped.encodes k stopped.first stopped.last unsynced)

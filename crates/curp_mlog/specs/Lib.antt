@@ -1,9 +1,0 @@
-pub mod Answering
-pub mod Appending
-pub mod Journal
-pub mod Machine
-pub mod Opening
-pub mod Orders
-pub mod Records
-pub mod Stopping
-pub mod Value

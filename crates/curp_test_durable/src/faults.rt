@@ -1,0 +1,77 @@
+// A disk that fails at one of its calls, at each in turn: at those that read it and ask for its length too.
+use crate::build::{TITLE, fences, numbers, opened};
+use curp_disk::MemoryDisk;
+use curp_durable::{Durable, DurableError, FormatError, OpenError, format};
+use curp_nodes::BackupNode;
+use std::alloc::Global;
+use std::process::Abort;
+
+/// Which call of a journal answers that its disk failed.
+#[derive(Clone, Copy, Debug, PartialEq, Eq)]
+enum Told {
+    ByFormat,
+    ByOpen,
+    ByBatch,
+    ByNone,
+}
+
+/// An empty journal is written, opened, and given a batch, on a disk that fails at the call of this number.
+fn told_by_format(rt: &impl Abort, alloc: Global, failing: u64) -> Told {
+    let mut disk = MemoryDisk::new(alloc, &[failing]).expect(rt, "no memory");
+    match format(alloc, &mut disk, TITLE) {
+        Ok(()) => told_by_open(rt, alloc, disk),
+        Err(error) => {
+            assert!(rt; matches!(error, FormatError::DiskFault));
+            drop(disk);
+            Told::ByFormat
+        }
+    }
+}
+
+fn told_by_open(rt: &impl Abort, alloc: Global, disk: MemoryDisk) -> Told {
+    match opened(alloc, disk, BackupNode::new(alloc, 1, 1)) {
+        Ok(durable) => told_by_batch(rt, alloc, durable),
+        Err(error) => {
+            assert!(rt; matches!(error, OpenError::DiskFault));
+            Told::ByOpen
+        }
+    }
+}
+
+fn told_by_batch(
+    rt: &impl Abort,
+    alloc: Global,
+    mut durable: Durable<BackupNode, MemoryDisk>,
+) -> Told {
+    let kept = numbers(alloc, &mut durable, fences(rt, alloc, 3));
+    drop(durable);
+    match kept {
+        Ok(numbers) => {
+            assert!(rt; numbers.len() == 3);
+            Told::ByNone
+        }
+        Err(error) => {
+            assert!(rt; matches!(error, DurableError::DiskFault));
+            Told::ByBatch
+        }
+    }
+}
+
+/// Writing the journal asks for the length, writes and syncs; opening it syncs, asks for the length and reads; a batch is
+/// written and synced, and then its gate.
+#[test]
+fn each_call_of_a_disk_that_fails_is_told(rt: HostRuntime) {
+    for failing in 1..=11 {
+        let wanted = match failing {
+            1..=3 => Told::ByFormat,
+            4..=6 => Told::ByOpen,
+            7..=10 => Told::ByBatch,
+            _ => Told::ByNone,
+        };
+        assert_eq!(rt;
+            told_by_format(&rt, rt.alloc(), failing),
+            wanted,
+            "{failing}"
+        );
+    }
+}
