@@ -5,12 +5,16 @@
 
 CURPD is the program `curpd`. Journals are left in FOLDER. What was tried is counted and printed, and the status is 1 at the
 first thing that comes otherwise than is wanted. A client is run alone, and told to fetch the configuration: each such order
-makes an item of its journal, which sends one message, so the answers tell which items were answered.
+makes an item of its journal, which sends one message, so the answers tell which items were answered. In talks each parcel
+is given once all has come that is said of those before it.
 """
 
 import argparse
+import contextlib
+import os
 import random
 import resource
+import select
 import signal
 import subprocess
 import sys
@@ -27,6 +31,11 @@ HEADER = '{"clients":2,"f":1,"fast":true,"parts":1,"protocol":1,"sets":64,"ways"
 OTHER_HEADER = HEADER.replace('"clients":2', '"clients":3')
 TITLE = 36  # bytes of a journal before its first gate
 FETCH = curpparcels.encode("in", {"kind": "order", "order": {"kind": "fetch"}, "stamp": 0})
+NUDGE = curpparcels.encode("in", {"kind": "order", "order": {"kind": "nudge"}, "stamp": 0})
+PING = curpparcels.encode("in", {"kind": "bytes", "connection": 1, "bytes": b"*1\r\n$4\r\nPING\r\n".hex()})
+UNKNOWN = {"kind": "bytes", "connection": 1, "bytes": b"-ERR unknown command\r\n".hex()}
+TURNS = 100
+LIMIT = 20  # seconds for what is said of a parcel
 CLOSED, USAGE, NO_JOURNAL, DISK = 0, 2, 8, 12  # numbers with which a process ends
 
 
@@ -43,11 +52,11 @@ def words(options, journal, name="C1", header=HEADER):
     return [options.curpd, "node", "--name", name, "--journal", str(journal), "--header", header]
 
 
-def formatted(options, name):
-    """A new journal of client 1."""
+def formatted(options, name, node="C1"):
+    """A new journal of a node."""
     journal = Path(options.folder) / name
     journal.unlink(missing_ok=True)
-    made = [options.curpd, "format", "--name", "C1", "--journal", str(journal), "--header", HEADER]
+    made = [options.curpd, "format", "--name", node, "--journal", str(journal), "--header", HEADER]
     subprocess.run(made, check=True, timeout=20)
     return journal
 
@@ -168,6 +177,83 @@ def try_damage(options):
     print(f"{2 * len(whole)} damaged journals: {opened} opened as a prefix, {refused} refused")
 
 
+# ---- talks
+
+
+class Talk:
+    """A process, and what it said that wasn't looked at."""
+
+    def __init__(self, child):
+        self.child, self.heard = child, b""
+
+    def send(self, data):
+        os.write(self.child.stdin.fileno(), data)
+
+    def next(self, what):
+        """The next parcel that it says."""
+        while True:
+            with contextlib.suppress(curpwire.ShortFrame):
+                parcel, self.heard = curpparcels.decode("out", self.heard)
+                return parcel
+            if not select.select([self.child.stdout], [], [], LIMIT)[0]:
+                raise Wrong(f"{what}: nothing is said within {LIMIT} seconds")
+            more = os.read(self.child.stdout.fileno(), 65_536)
+            want(f"{what}: the process goes on", bool(more), True)
+            self.heard += more
+
+
+@contextlib.contextmanager
+def talk(options, name, *more):
+    """A talk with the process of a node that has done nothing, to the end of its input."""
+    journal = formatted(options, "talk.journal", name)
+    with subprocess.Popen([*words(options, journal, name), *more], stdin=subprocess.PIPE, stdout=subprocess.PIPE) as child:
+        try:
+            said = Talk(child)
+            want(f"{name} stands", said.next(name)["kind"], "stands")
+            yield said
+            child.stdin.close()
+            want(f"{name} says no more", child.stdout.read(), b"")
+            want(f"{name} ends", child.wait(LIMIT), CLOSED)
+        finally:
+            child.kill()
+
+
+def one_by_one(options):
+    """Each parcel is given once all was heard of the one before."""
+    with talk(options, "C1") as said:
+        for turn in range(1, TURNS + 1):
+            said.send(FETCH)
+            want(f"turn {turn} of a client", said.next(f"turn {turn}")["step"], turn)
+    with talk(options, "G") as said:
+        for turn in range(1, TURNS + 1):
+            said.send(NUDGE)
+            places = [said.next(f"turn {turn}")["place"] for _ in range(2)]
+            want(f"turn {turn} of the manager", places, [1, 2])
+    with talk(options, "C1", "--resp") as said:
+        for turn in range(1, TURNS + 1):
+            said.send(PING)
+            told = [said.next(f"turn {turn}") for _ in range(2)]
+            want(f"turn {turn} of a connection", told, [UNKNOWN, {"kind": "more", "connection": 1}])
+    return 3 * TURNS
+
+
+def in_pieces(options):
+    """A parcel comes in two pieces, the second one once all was heard of the whole parcels before."""
+    with talk(options, "C1") as said:
+        said.send(FETCH[:1])
+        for turn in range(1, len(FETCH)):
+            said.send(FETCH[turn:] + FETCH + FETCH[: (turn + 1) % len(FETCH)])
+            steps = [said.next(f"piece {turn}")["step"] for _ in range(2)]
+            want(f"piece {turn}", steps, [2 * turn - 1, 2 * turn])
+    return len(FETCH) - 1
+
+
+def try_talks(options):
+    """What is said of a parcel comes before the next one is waited for."""
+    turns, pieces = one_by_one(options), in_pieces(options)
+    print(f"{turns} turns and {pieces} pieces: what is said of a parcel comes before the next one is given")
+
+
 # ---- files and disks
 
 
@@ -220,7 +306,7 @@ def main():
     options = parser.parse_args()
     Path(options.folder).mkdir(parents=True, exist_ok=True)
     try:
-        for test in (try_files, try_damage, try_full_disks, try_kills):
+        for test in (try_files, try_talks, try_damage, try_full_disks, try_kills):
             test(options)
     except Wrong as wrong:
         sys.exit(f"wrong: {wrong}")

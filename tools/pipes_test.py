@@ -1,12 +1,12 @@
 #!/usr/bin/env python3
-"""Runs the nodes of a cluster as one process each over pipes, and compares what they answer with what is wanted.
+"""Runs the nodes of a cluster as one process each over named pipes, and compares what they answer with what is wanted.
 
     tools/pipes_test.py CURPD FOLDER [--curp CURP]
 
 CURPD is the program `curpd`, CURP the program `curp`: that of the environment's CURP, or crates/curp/out/curp, where
-none is said. Each scenario has a cluster of its own (G, M1, B1, W1, C1, C2), its journals in FOLDER/NAME, and leaves
-what it gathers as FOLDER/NAME.script. What is done and heard is printed, and the status is 1 where something else comes
-than is wanted.
+none is said. Each scenario has a cluster of its own (G, M1, B1, W1, C1, C2), its journals and the pipes of its nodes in
+FOLDER/NAME, and leaves what it gathers as FOLDER/NAME.script. What is done and heard is printed, and the status is 1
+where something else comes than is wanted.
 """
 
 import argparse
@@ -32,6 +32,43 @@ LIMIT = 20  # seconds for anything that is waited for
 LIMIT_OF_ALL = 300
 
 
+class PipedNode(node.Node):
+    """A node whose process reads one named pipe and writes another, also when it begins again."""
+
+    def pipe(self, end: str) -> Path:
+        path = self.setting.folder / f"{self.name}.{end}"
+        if not path.exists():
+            os.mkfifo(path)
+        return path
+
+    async def _open(self, prefix: tuple[str, ...], log) -> asyncio.StreamReader:
+        # The end that is read is opened first, without waiting for the other one. What a process that was killed left
+        # unread is gone, since nothing had the pipe open between.
+        given, giving = both_ends(self.pipe("in"))
+        hearing, said = both_ends(self.pipe("out"))
+        try:
+            self.process = await self._run("node", prefix, log, given, said)
+        finally:
+            # They are the process's alone: so its input ends when `giving` is closed, and `hearing` ends with it.
+            os.close(given)
+            os.close(said)
+        loop = asyncio.get_running_loop()
+        reader = asyncio.StreamReader()
+        protocol = asyncio.StreamReaderProtocol(reader)
+        await loop.connect_read_pipe(lambda: protocol, os.fdopen(hearing, "rb"))
+        transport, flow = await loop.connect_write_pipe(asyncio.streams.FlowControlMixin, os.fdopen(giving, "wb"))
+        self.stdin = asyncio.StreamWriter(transport, flow, None, loop)
+        return reader
+
+
+def both_ends(pipe: Path) -> tuple[int, int]:
+    """A named pipe, opened to be read and to be written."""
+    reading = os.open(pipe, os.O_RDONLY | os.O_NONBLOCK)
+    writing = os.open(pipe, os.O_WRONLY)
+    os.set_blocking(reading, True)
+    return reading, writing
+
+
 class Bench:
     """A cluster whose messages are carried as they come, but for those that `loses` names."""
 
@@ -53,7 +90,7 @@ class Bench:
         for name in names:
             if name not in self.nodes:
                 heard, ended = self.hearing(name), self.ending(name)
-                self.nodes[name] = node.Node(name, self.setting, heard, ended)
+                self.nodes[name] = PipedNode(name, self.setting, heard, ended)
             self.said[name] = []
             hosts.write_event(self.folder, name, "up", self.highest)
             await self.nodes[name].start()
@@ -280,13 +317,14 @@ async def recovery_cut(options: argparse.Namespace) -> None:
 async def bad_input(options: argparse.Namespace) -> None:
     """What is no parcel is told and passed over; an input that ends inside one, or has one too long, ends the run."""
     bench = Bench("bad-input", options)
+    bench.setting.fronts = frozenset({"C1"})
     await bench.begin(*OPENING)
     bench.nodes["G"].give(parcels.parcel(b"\7nothing"))
     await bench.until("it is told", lambda: parcels.NoParcel(1, 0) in bench.said["G"])
     bench.order("G", parcels.NUDGE_ORDER)
     await bench.until("the next parcel is taken", lambda: any(isinstance(s, parcels.Sent) for s in bench.said["G"]))
-    for name, data in (("B1", b"\0\0\0\5\1"), ("W1", b"\xff\xff\xff\xff")):
-        bench.nodes[name].process.stdin.write(data)
+    for name, data in (("B1", b"\0\0\0\5\1"), ("W1", b"\xff\xff\xff\xff"), ("C1", b"\xff\xff\xff\xff")):
+        bench.nodes[name].stdin.write(data)
         await bench.nodes[name].finish()
         bench.same(f"the status of {name}", bench.ended[name], node.CUT)
     bench.nodes["B1"].begun = True
@@ -301,13 +339,66 @@ async def bad_input(options: argparse.Namespace) -> None:
     bench.gather()
 
 
+NOT_ITS_OWN = 254  # the number by which what isn't a node's own is refused
+ORDERS = {
+    "C": [parcels.invoke(["get", "61"]), parcels.retry(1), parcels.FETCH_ORDER],
+    "M": [parcels.SYNC_ORDER, parcels.COLLECT_ORDER],
+    "G": [
+        parcels.recover(1, 1, 1),
+        parcels.replace(1, "B", 1),
+        parcels.migrate(0, 1, 1),
+        parcels.expire(1),
+        parcels.NUDGE_ORDER,
+    ],
+}
+
+
+async def refuses(bench: Bench, name: str, strays: list[bytes]) -> None:
+    """Gives a process parcels together, each of which it has to refuse, and waits until it has."""
+    numbers = [bench.nodes[name].give(stray) for stray in strays]
+    wanted = [parcels.Refused(number, NOT_ITS_OWN) for number in numbers]
+    await bench.until(f"{name} refuses {len(strays)} parcels", lambda: all(it in bench.said[name] for it in wanted))
+    print(f"    {name} refuses what isn't its own: {len(strays)} parcels")
+
+
+async def misdirected(options: argparse.Namespace) -> None:
+    """What isn't a node's own is refused, and no journal has it: messages to others, other kinds' orders, one first."""
+    bench = Bench("misdirected", options)
+    await bench.begin(*OPENING, "M2", "B2", "W2")
+    await bench.ask(1, 1, ["put", "61", "31"], ["done"])
+    # A fresh master takes no order before its first message, also none behind what it refused.
+    await refuses(bench, "M2", [parcels.ordering(order, bench.highest) for order in ORDERS["M"] * 2])
+    sent = [said for name in OPENING for said in bench.said[name] if isinstance(said, parcels.Sent)]
+    for name in bench.nodes:
+        strays = [parcels.arriving(message) for message in sent if message.addressee != name]
+        others = [order for kind, orders in ORDERS.items() if kind != name[0] for order in orders]
+        await refuses(bench, name, strays + [parcels.ordering(order, bench.highest) for order in others])
+    await bench.kill("M1")
+    bench.order("G", parcels.recover(1, 1, 1))
+    await bench.until("M2 is adopted", lambda: bench.sends("G", parcels.ADOPTED))
+    bench.order("C2", parcels.FETCH_ORDER)
+    await bench.until("C2 is told", lambda: bench.sends("G", parcels.CONFIGURATION))
+    # Between two that are its own, one that isn't.
+    bench.order("C2", parcels.invoke(["incr", "6e"]))
+    await refuses(bench, "C2", [parcels.ordering(parcels.NUDGE_ORDER, bench.highest)])
+    await bench.answer(2, 1, ["number", 1])
+    await bench.ask(2, 2, ["get", "61"], ["found", "31"])
+    await bench.finish()
+    bench.same("requests in the order", len(bench.ordered(bench.gather())), 3)
+
+
 def replies(bench: Bench, connection: int) -> bytes:
     """What the process of client 1 told a connection."""
     return b"".join(s.data for s in bench.said["C1"] if isinstance(s, parcels.Bytes) and s.connection == connection)
 
 
+def refusals(said: list[parcels.Parcel]) -> list[int]:
+    """Why inputs were refused."""
+    return [parcel.number for parcel in said if isinstance(parcel, parcels.Refused)]
+
+
 async def connections(options: argparse.Namespace) -> None:
-    """Connections of Redis' protocol in front of a client: replies in order, more requests than may be pending, a bad one."""
+    """Redis' protocol in front of a client: replies in order, more requests than may be pending, one that is none."""
     bench = Bench("connections", options)
     bench.setting.fronts = frozenset({"C1"})
     await bench.begin(*OPENING)
@@ -322,13 +413,17 @@ async def connections(options: argparse.Namespace) -> None:
     await bench.until("a bad request ends its connection", lambda: parcels.Close(2) in bench.said["C1"])
     bench.same("the replies to it", replies(bench, 2), found + b"-ERR protocol\r\n")
     front.give(parcels.closed(2))
+    bench.order("C1", parcels.NUDGE_ORDER)
+    # Its number isn't known here: what comes of connections isn't counted.
+    await bench.until("a stray order is refused", lambda: NOT_ITS_OWN in refusals(bench.said["C1"]))
     front.give(parcels.bytes_of(1, incr))
     await bench.until("the other goes on", lambda: replies(bench, 1).endswith(b":21\r\n"))
     await bench.finish()
     bench.same("requests in the order", len(bench.ordered(bench.gather())), 23)
 
 
-SCENARIOS = [put_and_get, lost_reply, killed_master, killed_in_turn, recovery, recovery_cut, bad_input, connections]
+SCENARIOS = [put_and_get, lost_reply, killed_master, killed_in_turn, recovery, recovery_cut]
+SCENARIOS += [bad_input, misdirected, connections]
 
 
 async def run_all(options: argparse.Namespace) -> None:

@@ -13,7 +13,7 @@ use Rattle.curp_opening.specs.Nodes.{HasNumbers, states}
 use Rattle.curp_collected.specs.Files.{HasNoneAbove, IsNextNumber}
 use Rattle.curp_collected.specs.Kinds.{AreBegun, AreThere, BeginsBy, Names, Rise, numbered_from}
 use Rattle.curp_collected.specs.declared.beginning.Beginning.{Beginning}
-use Rattle.curp_collected.specs.declared.beginning.Origin.TheVariants.{Opening, Fresh}
+use Rattle.curp_journal.specs.declared.origin.Origin.TheVariants.{Opening, Fresh}
 use Rattle.curp_collected.specs.declared.files.File.{File}
 
 abbrev pub named : NodeKind → ℕ → NodeId

@@ -24,7 +24,7 @@ use Rattle.curp_collected.specs.Files.{IsJournalAt}
 use Rattle.curp_collected.specs.Kinds.{BeginsBy}
 use Rattle.curp_collected.specs.Taking.{IsRefusedAt}
 use Rattle.curp_collected.specs.declared.beginning.Beginning.{Beginning}
-use Rattle.curp_collected.specs.declared.beginning.Origin.TheVariants as origin
+use Rattle.curp_journal.specs.declared.origin.Origin.TheVariants as origin
 use Rattle.curp_collected.specs.declared.error.CollectError.{CollectError}
 use Rattle.curp_collected.specs.declared.error.CollectError.TheVariants as error
 

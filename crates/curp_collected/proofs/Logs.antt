@@ -16,7 +16,7 @@ use Rattle.curp_collected.specs.Files.{AreOfHeader, HasTitleAt, IsJournalAt, con
 use Rattle.curp_collected.specs.Kinds.{AreBegun, AreOfKind, BeginsBy, HasLog, HaveLogs, IsAmong, IsLogOf, IsReadFor, NothingCame, Rise}
 use Rattle.curp_collected.specs.Taking.{IsOfFiles}
 use Rattle.curp_collected.specs.declared.beginning.Beginning.{Beginning}
-use Rattle.curp_collected.specs.declared.beginning.Origin.TheVariants.{Fresh}
+use Rattle.curp_journal.specs.declared.origin.Origin.TheVariants.{Fresh}
 use Rattle.curp_collected.specs.declared.files.Files.{Files}
 use Rattle.curp_title.specs.declared.title.Title.{Title}
 use Rattle.curp_collected.proofs.Begun.{named}

@@ -6,20 +6,21 @@ use Rattle.curp_cmd.specs.declared.node.NodeId.{NodeId}
 use Rattle.curp_msg.specs.Moved.{Moved}
 use Rattle.curp_msg.specs.declared.machine.Input.{Input}
 use Rattle.curp_journal.specs.Journal.{NodeJournal, last_stamp, made}
+use Rattle.curp_journal.specs.Own.{IsArrivedMessage}
 use Rattle.curp_journal.specs.declared.arrived.Arrived.{Arrived}
 use Rattle.curp_journal.specs.declared.arrived.Arrived.TheVariants as arrived
 use Rattle.curp_journal.specs.declared.item.Item.{Item}
 use Rattle.curp_durable.specs.Standing.{Standing, answer_of, begun, number_of, stepped}
 use Rattle.curp_durable.specs.declared.stand.Answered.TheVariants as answered
 use Rattle.curp_anew.specs.Opening.{AllOwn}
-use Rattle.curp_law_weave.specs.Run.{IsArrivedMessage, TakesFirst}
+use Rattle.curp_law_weave.specs.Run.{TakesFirst}
 use Rattle.curp_read_journal.specs.Items.{item_in, items_of}
 use Rattle.curp_collected.specs.Causes.{IsOrderedIn}
 use Rattle.curp_collected.specs.Files.{AreOfHeader, HasNoFile, IsJournalAt, contents_of}
 use Rattle.curp_collected.specs.Kinds.{HasLog}
 use Rattle.curp_collected.specs.Taking.{AreTaken, HasNone, IsReplayOf, NoneWanted, StartsWithOrder}
 use Rattle.curp_collected.specs.declared.beginning.Beginning.{Beginning}
-use Rattle.curp_collected.specs.declared.beginning.Origin.TheVariants.{Opening, Fresh}
+use Rattle.curp_journal.specs.declared.origin.Origin.TheVariants.{Opening, Fresh}
 use Rattle.curp_collected.specs.declared.files.Files.{Files}
 use Rattle.curp_collected.proofs.Finding.{has_none, one_file, title_for, title_of_journal}
 

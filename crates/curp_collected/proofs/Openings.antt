@@ -21,7 +21,7 @@ use Rattle.curp_collected.proofs.Counts.{client_count, long_states, master_count
 use Rattle.curp_collected.specs.Files.{AreOfHeader, IsOfHeader, contents_of}
 use Rattle.curp_collected.specs.Kinds.{AreBegun, AreOfKind, AreThere, BeginsBy, HasLog, HaveLogs, IsLogOf, IsManagerOf, numbered_from}
 use Rattle.curp_collected.specs.declared.beginning.Beginning.{Beginning}
-use Rattle.curp_collected.specs.declared.beginning.Origin.TheVariants.{Opening}
+use Rattle.curp_journal.specs.declared.origin.Origin.TheVariants.{Opening}
 use Rattle.curp_collected.specs.declared.files.File.{File}
 use Rattle.curp_collected.specs.declared.files.Files.{Files}
 use Rattle.curp_collected.proofs.Begun.{SoFar, begin_end, begin_there, named}

@@ -19,14 +19,14 @@ use Rattle.curp_title.specs.declared.title.Title.{Title}
 use Rattle.curp_gather.specs.Journals.{journals_of}
 use Rattle.curp_gather.specs.declared.journals.Journals.{Journals}
 use Rattle.curp_journal.specs.Journal.{NodeJournal}
-use Rattle.curp_merge.specs.Merging.{IsOwn}
+use Rattle.curp_journal.specs.Own.{IsOwn}
 use Rattle.curp_merge.specs.Causes as merge
 use Rattle.curp_merge.specs.declared.error.GatherError.{GatherError}
 use Rattle.curp_collected.specs.Collected.{AreCollected}
 use Rattle.curp_collected.specs.Files.{HasNoTitle, HasTitleAt, IsJournalAt}
 use Rattle.curp_collected.specs.Taking.{IsForeignAt, IsRefusedAt, IsRefusedBy, StartsWithOrder}
 use Rattle.curp_collected.specs.declared.beginning.Beginning.{Beginning}
-use Rattle.curp_collected.specs.declared.beginning.Origin.TheVariants as origin
+use Rattle.curp_journal.specs.declared.origin.Origin.TheVariants as origin
 use Rattle.curp_collected.specs.declared.error.CollectError.{CollectError}
 use Rattle.curp_collected.specs.declared.error.CollectError.TheVariants as error
 use Rattle.curp_collected.specs.declared.error.ScriptError.{ScriptError}

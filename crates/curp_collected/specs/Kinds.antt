@@ -18,7 +18,7 @@ use Rattle.curp_collected.specs.Files.{HasTitleAt, IsJournalAt}
 use Rattle.curp_collected.specs.declared.files.File.{File}
 use Rattle.curp_collected.specs.Taking.{IsOfFiles, NoneWanted}
 use Rattle.curp_collected.specs.declared.beginning.Beginning.{Beginning}
-use Rattle.curp_collected.specs.declared.beginning.Origin.TheVariants.{Opening, Fresh}
+use Rattle.curp_journal.specs.declared.origin.Origin.TheVariants.{Opening, Fresh}
 
 -- ---- how nodes begin
 

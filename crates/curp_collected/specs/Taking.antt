@@ -14,7 +14,7 @@ use Rattle.curp_journal.specs.declared.arrived.Arrived.{Arrived}
 use Rattle.curp_journal.specs.declared.arrived.Arrived.TheVariants as arrived
 use Rattle.curp_journal.specs.declared.item.Item.{Item}
 use Rattle.curp_durable.specs.Standing.{after, begun, number_of}
-use Rattle.curp_merge.specs.Merging.{IsOwn}
+use Rattle.curp_journal.specs.Own.{IsOwn}
 use Rattle.curp_read_journal.specs.Items.{items_of}
 use Rattle.curp_collected.specs.Files.{HasTitleAt, IsJournalAt}
 

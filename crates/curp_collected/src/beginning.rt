@@ -4,17 +4,9 @@ ghost use Rattle.curp_collected.specs.Kinds.{numbered_from};
 
 use curp_base::NoMemory;
 use curp_cmd::{NodeId, NodeKind};
+use curp_journal::Origin;
 use curp_msg::Core;
 use std::alloc::Global;
-
-/// Since when a node is there.
-#[derive(Clone, Copy, PartialEq, Eq)]
-pub(crate) enum Origin {
-    /// It is there before any step.
-    Opening,
-    /// A recovery or a replacement names it.
-    Fresh,
-}
 
 /// A node before any input.
 #[derive(Drop)]

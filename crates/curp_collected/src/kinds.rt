@@ -14,12 +14,13 @@ ghost use Rattle.curp_collected.specs.Files.{AreOfHeader, contents_of};
 ghost use Rattle.curp_collected.specs.Kinds.{AreBegun, AreOfKind, AreThere, IsManagerOf};
 
 use crate::CollectError;
-use crate::beginning::{Beginning, Origin, numbered};
+use crate::beginning::{Beginning, numbered};
 use crate::files::{Files, next_number};
 use crate::replaying::{journal_of, journals_of};
 use curp_anew::fresh_witness;
 use curp_base::NoMemory;
 use curp_cmd::{NodeId, NodeKind};
+use curp_journal::Origin;
 use curp_msg::Config;
 use curp_nodes::{BackupNode, ClientNode, ManagerNode, MasterNode, WitnessNode};
 use curp_seat::Kept;

@@ -1,7 +1,7 @@
 //! The journals of files, given again to nodes.
 ghost use Rattle.std.specs.Prelude.{◌≡◌, false, option_to_list, IfOk, IfErr, OnOk};
 ghost use Rattle.curp_journal.specs.Journal.{next_stamp};
-ghost use Rattle.curp_merge.specs.Merging.{IsOwn};
+ghost use Rattle.curp_journal.specs.Own.{IsOwn};
 ghost use Rattle.curp_seat.specs.Making.{with_item};
 ghost use Rattle.curp_collected.specs.Causes.{Fails, FailsSo, IsUnread, OneFails, StopsAt, StopsBy};
 ghost use Rattle.curp_collected.specs.Files.{AreOfHeader, IsFileOf, IsJournalAt, contents_of};
@@ -9,12 +9,12 @@ ghost use Rattle.curp_collected.specs.Kinds.{HasLog, HaveLogs};
 ghost use Rattle.curp_collected.specs.Taking.{IsRefusedBy, IsReplayOf, IsTakenOf, is_past};
 
 use crate::CollectError;
-use crate::beginning::{Beginning, Origin};
+use crate::beginning::Beginning;
 use crate::files::Files;
-use curp_anew::{is_own, takes_first};
+use curp_anew::takes_first;
 use curp_cmd::NodeId;
 use curp_durable::{OpenError, inputs_in};
-use curp_journal::Arrived;
+use curp_journal::{Arrived, Origin, is_own};
 use curp_msg::Core;
 use curp_seat::Kept;
 use curp_title::title_of;

@@ -6,6 +6,7 @@ use Rattle.curp_journal.specs.declared.arrived.Arrived.{Arrived}
 use Rattle.curp_parcels.specs.Reading.{IsNextParcel, place_behind}
 use Rattle.curp_filter.specs.Coming.{Comes, arrival_in, arrivals_of, arriving, came_last, came_together, number_behind, parcel}
 use Rattle.curp_filter.specs.declared.came.Came.{Came}
+use Rattle.curp_filter.specs.declared.came.PassedOver.{PassedOver}
 use Rattle.curp_told.specs.Told.{input_behind}
 
 -- ---- from the bytes
@@ -33,14 +34,14 @@ arrivals_arriving : (xs : List Arrived) → arrivals_of (arriving xs) ≡ xs
 arrivals_arriving [] = refl
 arrivals_arriving (x ∷ xs) = ap (λ (l : List Arrived). x ∷ l) (arrivals_arriving xs)
 
-arrivals_last : (no_parcel : Option ℕ) → arrivals_of (came_last no_parcel) ≡ []
+arrivals_last : (last : Option PassedOver) → arrivals_of (came_last last) ≡ []
 arrivals_last None = refl
-arrivals_last (Some at) = refl
+arrivals_last (Some it) = refl
 
-pub arrivals_together : (xs : List Arrived) (no_parcel : Option ℕ) → arrivals_of (came_together xs no_parcel) ≡ xs
-arrivals_together xs no_parcel =
-    arrivals-append (arriving xs) (came_last no_parcel)
-    ∙ ap (λ (l : List Arrived). arrivals_of (arriving xs) ++ l) (arrivals_last no_parcel)
+pub arrivals_together : (xs : List Arrived) (last : Option PassedOver) → arrivals_of (came_together xs last) ≡ xs
+arrivals_together xs last =
+    arrivals-append (arriving xs) (came_last last)
+    ∙ ap (λ (l : List Arrived). arrivals_of (arriving xs) ++ l) (arrivals_last last)
     ∙ append-nil (arrivals_of (arriving xs))
     ∙ arrivals_arriving xs
 
@@ -70,6 +71,6 @@ number_rises n (x ∷ xs) small some =
     let more = number_no_less (input_behind n 1) xs (omega (arith, small)) in
     omega (arith, small, more)
 
-pub number_together : (n : ℕ) (xs : List Arrived) (no_parcel : Option ℕ) (behind next : ℕ) → behind ≡ number_behind n (arriving xs) → next ≡ number_behind behind (came_last no_parcel) → next ≡ number_behind n (came_together xs no_parcel)
-number_together n xs no_parcel behind next counted is =
-    is ∙ ap (λ (m : ℕ). number_behind m (came_last no_parcel)) counted ∙ sym (number-append n (arriving xs) (came_last no_parcel))
+pub number_together : (n : ℕ) (xs : List Arrived) (last : Option PassedOver) (behind next : ℕ) → behind ≡ number_behind n (arriving xs) → next ≡ number_behind behind (came_last last) → next ≡ number_behind n (came_together xs last)
+number_together n xs last behind next counted is =
+    is ∙ ap (λ (m : ℕ). number_behind m (came_last last)) counted ∙ sym (number-append n (arriving xs) (came_last last))

@@ -1,4 +1,5 @@
 pub mod Coming
+pub mod Judging
 pub mod Keeping
 pub mod Replies
 pub mod Running

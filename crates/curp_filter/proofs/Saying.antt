@@ -14,6 +14,7 @@ use Rattle.curp_filter.specs.Coming.{arrival_in, arrivals_of, arriving, came_las
 use Rattle.curp_filter.specs.Saying.{last_said, said, said_of, text_of}
 use Rattle.curp_filter.specs.declared.came.Came.{Came}
 use Rattle.curp_filter.specs.declared.came.Came.TheVariants as came
+use Rattle.curp_filter.specs.declared.came.PassedOver.{PassedOver}
 
 module _ {N : Type 0} (machine : N → Input → Moved N) where
   said-append : (xs ys : List Came) (s : Standing N) (n : ℕ) → said machine s n (xs ++ ys) ≡ said machine s n xs ++ said machine (after machine s (arrivals_of xs)) (number_behind n xs) ys
@@ -35,24 +36,24 @@ module _ {N : Type 0} (machine : N → Input → Moved N) where
   said_arriving (x ∷ xs) s n =
       ap (λ (l : List Outgoing). said_of machine s n (came.Arrived x) ++ l) (said_arriving xs (stepped machine s x) (input_behind n 1))
 
-  text_last : (no_parcel : Option ℕ) (s : Standing N) (n : ℕ) → text_of machine s n (came_last no_parcel) ≡ parcels_of (last_said n no_parcel)
+  text_last : (last : Option PassedOver) (s : Standing N) (n : ℕ) → text_of machine s n (came_last last) ≡ parcels_of (last_said n last)
   text_last None s n = refl
-  text_last (Some at) s n = refl
+  text_last (Some it) s n = refl
 
   -- what the code puts together is the text of a batch
-  text_together : (xs : List Arrived) (no_parcel : Option ℕ) (s : Standing N) (n behind : ℕ) → behind ≡ number_behind n (arriving xs)
-      → parcels_of (all_told n (answers_of machine s xs)) ++ parcels_of (last_said behind no_parcel) ≡ text_of machine s n (came_together xs no_parcel)
-  text_together xs no_parcel s n behind is =
+  text_together : (xs : List Arrived) (last : Option PassedOver) (s : Standing N) (n behind : ℕ) → behind ≡ number_behind n (arriving xs)
+      → parcels_of (all_told n (answers_of machine s xs)) ++ parcels_of (last_said behind last) ≡ text_of machine s n (came_together xs last)
+  text_together xs last s n behind is =
       let s2 = after machine s (arrivals_of (arriving xs)) in
-      ap (λ (l : List Outgoing). parcels_of l ++ parcels_of (last_said behind no_parcel)) (sym (said_arriving xs s n))
-      ∙ ap (λ (m : ℕ). text_of machine s n (arriving xs) ++ parcels_of (last_said m no_parcel)) is
-      ∙ ap (λ (l : List ℕ). text_of machine s n (arriving xs) ++ l) (sym (text_last no_parcel s2 (number_behind n (arriving xs))))
-      ∙ sym (text-append (arriving xs) (came_last no_parcel) s n)
+      ap (λ (l : List Outgoing). parcels_of l ++ parcels_of (last_said behind last)) (sym (said_arriving xs s n))
+      ∙ ap (λ (m : ℕ). text_of machine s n (arriving xs) ++ parcels_of (last_said m last)) is
+      ∙ ap (λ (l : List ℕ). text_of machine s n (arriving xs) ++ l) (sym (text_last last s2 (number_behind n (arriving xs))))
+      ∙ sym (text-append (arriving xs) (came_last last) s n)
 
-  pub text_said : (xs : List Arrived) (no_parcel : Option ℕ) (s : Standing N) (n behind : ℕ) (text : List ℕ) (answers : List Answered) → answers ≡ answers_of machine s xs
-      → text ≡ parcels_of (all_told n answers) ++ parcels_of (last_said behind no_parcel) → behind ≡ number_behind n (arriving xs) → text ≡ text_of machine s n (came_together xs no_parcel)
-  text_said xs no_parcel s n behind text answers given is counted =
-      is ∙ ap (λ (l : List Answered). parcels_of (all_told n l) ++ parcels_of (last_said behind no_parcel)) given ∙ text_together xs no_parcel s n behind counted
+  pub text_said : (xs : List Arrived) (last : Option PassedOver) (s : Standing N) (n behind : ℕ) (text : List ℕ) (answers : List Answered) → answers ≡ answers_of machine s xs
+      → text ≡ parcels_of (all_told n answers) ++ parcels_of (last_said behind last) → behind ≡ number_behind n (arriving xs) → text ≡ text_of machine s n (came_together xs last)
+  text_said xs last s n behind text answers given is counted =
+      is ∙ ap (λ (l : List Answered). parcels_of (all_told n l) ++ parcels_of (last_said behind last)) given ∙ text_together xs last s n behind counted
 
   pub texts_again : (xs ys : List Came) (old mid : Standing N) (n m : ℕ) → mid ≡ after machine old (arrivals_of xs) → m ≡ number_behind n xs
       → text_of machine old n xs ++ text_of machine mid m ys ≡ text_of machine old n (xs ++ ys)

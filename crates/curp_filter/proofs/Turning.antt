@@ -13,7 +13,9 @@ use Rattle.curp_filter.specs.Keeping.{DiskKind, Keeps, Outlasts}
 use Rattle.curp_filter.specs.Saying.{text_of}
 use Rattle.curp_filter.specs.Turning.{Intake, MovesBy, Outlet, Point, Took, Turned, Wrote}
 use Rattle.curp_filter.specs.declared.came.Came.{Came}
+use Rattle.curp_filter.specs.declared.came.Role.{Role}
 use Rattle.curp_filter.proofs.Coming.{arrivals-append, comes_again, number-append}
+use Rattle.curp_filter.proofs.Judging.{judged_again}
 use Rattle.curp_filter.proofs.Keeping.{keeps_again, keeps_none, outlasts_again, outlasts_none, taken-append}
 use Rattle.curp_filter.proofs.Saying.{texts_again}
 
@@ -68,22 +70,24 @@ module _ {N D : Type 0} (machine : N → Input → Moved N) (disk : DiskKind D) 
         disk_faults = omega (arith, first.disk_faults, second.disk_faults);
       }
 
-  pub turned_none : (p : Point N D) → Turned machine disk p p
-  turned_none p = record {
+  pub turned_none : (role : Role) (p : Point N D) → Turned machine disk role p p
+  turned_none role p = record {
     cames = [];
+    judged = tt;
     took = took_none p.source;
     moved = moves_none p.node;
     wrote = wrote_none p.sink;
     counted = refl;
   }
 
-  pub turned_again : (old mid new : Point N D) → Turned machine disk old mid → Turned machine disk mid new → Turned machine disk old new
-  turned_again old mid new first second =
+  pub turned_again : (role : Role) (old mid new : Point N D) → Turned machine disk role old mid → Turned machine disk role mid new → Turned machine disk role old new
+  turned_again role old mid new first second =
       let xs = first.cames in
       let ys = second.cames in
       let text = texts_again machine xs ys old.node.stand mid.node.stand old.number mid.number first.moved.stand_is first.counted in
       record {
         cames = xs ++ ys;
+        judged = judged_again machine role xs ys old.node.stand mid.node.stand first.moved.stand_is first.judged second.judged;
         took = took_again xs ys old.source mid.source new.source first.took second.took;
         moved = subst (λ (l : List Arrived). MovesBy machine disk l old.node new.node) (sym (arrivals-append xs ys))
             (moves_again (arrivals_of xs) (arrivals_of ys) old.node mid.node new.node first.moved second.moved);

@@ -1,4 +1,5 @@
 pub mod Coming
 pub mod Keeping
 pub mod Saying
+pub mod Taking
 pub mod Turning

@@ -11,7 +11,10 @@ use Rattle.curp_parcels.specs.Reading.{ParcelsRead, StandsNot, StandsTooLong, no
 use Rattle.curp_filter.specs.Coming.{Comes, arrivals_of, number_behind}
 use Rattle.curp_filter.specs.Keeping.{DiskKind, Keeps, Outlasts}
 use Rattle.curp_filter.specs.Saying.{text_of}
+use Rattle.curp_filter.specs.Taking.{AreJudged}
 use Rattle.curp_filter.specs.declared.came.Came.{Came}
+use Rattle.curp_filter.specs.declared.came.Role.{Role}
+use Rattle.curp_durable.specs.declared.error.DurableError.{DurableError}
 use Rattle.curp_filter.specs.declared.end.FilterEnd.{FilterEnd}
 use Rattle.curp_filter.specs.declared.end.FilterEnd.TheVariants as end
 
@@ -72,9 +75,10 @@ pub record Wrote (text : List ℕ) (old new : Outlet) : Type 0 where
   pub same_faults : SameCount old.faults new.faults
   pub passed_on : old.flushed ≡ true → new.flushed ≡ true
 
--- So many came, the node was led on by them, and all that is to be said of them was written
-pub record Turned {N D : Type 0} (machine : N → Input → Moved N) (disk : DiskKind D) (old new : Point N D) : Type 0 where
+-- So many came, the node was led on by those that it may take, and all that is to be said of them was written
+pub record Turned {N D : Type 0} (machine : N → Input → Moved N) (disk : DiskKind D) (role : Role) (old new : Point N D) : Type 0 where
   pub cames : List Came
+  pub judged : AreJudged machine role old.node.stand cames
   pub took : Took cames old.source new.source
   pub moved : MovesBy machine disk (arrivals_of cames) old.node new.node
   pub wrote : Wrote (text_of machine old.node.stand old.number cames) old.sink new.sink
@@ -110,9 +114,13 @@ IsOfWriting end.WriteFault = ⊤
 IsOfWriting end.NoMemory = ⊤
 IsOfWriting _ = ⊥
 
+-- the node's journal doesn't take these, of which there are some
+abbrev pub KeepsNot : {N D : Type 0} → (D → ℕ) → (inputs : List Arrived) → (old new : DurableParts N D) → DurableError → Type 0
+KeepsNot faults inputs old new why = (inputs ≢ []) × RefusesBatch faults old new inputs why
+
 -- why the node answered nothing, or what it answered has no text
 abbrev pub EndsSaying : {N D : Type 0} → (D → ℕ) → (inputs : List Arrived) → (old new : DurableParts N D) → FilterEnd → Type 0
-EndsSaying faults inputs old new (end.NotKept why) = RefusesBatch faults old new inputs why
+EndsSaying faults inputs old new (end.NotKept why) = KeepsNot faults inputs old new why
 EndsSaying faults inputs old new end.NoMemory = ⊤
 EndsSaying faults inputs old new _ = ⊥
 
@@ -120,7 +128,7 @@ EndsSaying faults inputs old new _ = ⊥
 abbrev pub EndsAnswering : {N D : Type 0} → DiskKind D → (cames : List Came) → (old new : DurableParts N D) → (before behind : Outlet) → FilterEnd → Type 0
 EndsAnswering disk cames old new before behind end.WriteFault = Rose before.faults behind.faults
 EndsAnswering disk cames old new before behind (end.NotKept why) =
-    RefusesBatch disk.faults old new (arrivals_of cames) why × (behind ≡ before)
+    KeepsNot disk.faults (arrivals_of cames) old new why × (behind ≡ before)
 EndsAnswering disk cames old new before behind end.NoMemory = ⊤
 EndsAnswering disk cames old new before behind _ = ⊥
 
@@ -150,7 +158,7 @@ EndsBy disk cames old new end.ReadFault = AsksOnly cames old new end.ReadFault �
 EndsBy disk cames old new end.TooManyInputs = (new ≡ old) × (old.number ≡ 2 ^ 64 - 1)
 EndsBy disk cames old new end.WriteFault = Rose old.sink.faults new.sink.faults
 EndsBy disk cames old new (end.NotKept why) =
-    RefusesBatch disk.faults old.node new.node (arrivals_of cames) why × (new.sink ≡ old.sink)
+    KeepsNot disk.faults (arrivals_of cames) old.node new.node why × (new.sink ≡ old.sink)
 EndsBy disk cames old new end.NoMemory = ⊤
 
 -- these stand first in the bytes that were due
@@ -160,8 +168,9 @@ pub record ComesFirst (cames : List Came) (source : Intake) : Type 0 where
   pub comes : Comes cames source.bytes source.passed rest passed
 
 -- No more is answered: these came last
-pub record Breaks {N D : Type 0} (machine : N → Input → Moved N) (disk : DiskKind D) (old new : Point N D) (it : FilterEnd) : Type 0 where
+pub record Breaks {N D : Type 0} (machine : N → Input → Moved N) (disk : DiskKind D) (role : Role) (old new : Point N D) (it : FilterEnd) : Type 0 where
   pub cames : List Came
+  pub judged : AreJudged machine role old.node.stand cames
   pub came : old.source.tells ≡ true → ComesFirst cames old.source
   pub source_tells : old.source.tells ≡ true → new.source.tells ≡ true
   pub source_faults : SameBut end.ReadFault it old.source.faults new.source.faults
@@ -169,30 +178,32 @@ pub record Breaks {N D : Type 0} (machine : N → Input → Moved N) (disk : Dis
   pub cause : EndsBy disk cames old new it
 
 -- A process ran until it ended so: up to some input each was answered, and then no more
-pub record Ran {N D : Type 0} (machine : N → Input → Moved N) (disk : DiskKind D) (old new : Point N D) (it : FilterEnd) : Type 0 where
+pub record Ran {N D : Type 0} (machine : N → Input → Moved N) (disk : DiskKind D) (role : Role) (old new : Point N D) (it : FilterEnd) : Type 0 where
   pub reached : Point N D
-  pub turned : Turned machine disk old reached
-  pub breaks : Breaks machine disk reached new it
+  pub turned : Turned machine disk role old reached
+  pub breaks : Breaks machine disk role reached new it
 
 -- the same, where nothing was read before, and the bytes read ahead and the inputs' number are no longer seen
-pub record Filters {N D : Type 0} (machine : N → Input → Moved N) (disk : DiskKind D) (old new : DurableParts N D) (left left_then : List ℕ) (tells tells_then : Bool) (faults faults_then : ℕ) (sink sink_then : Outlet) (it : FilterEnd) : Type 0 where
+pub record Filters {N D : Type 0} (machine : N → Input → Moved N) (disk : DiskKind D) (role : Role) (old new : DurableParts N D) (left left_then : List ℕ) (tells tells_then : Bool) (faults faults_then : ℕ) (sink sink_then : Outlet) (it : FilterEnd) : Type 0 where
   pub read : ParcelsRead
   pub number : ℕ
-  pub ran : Ran machine disk (point (intake nothing_read left tells faults) 1 old sink) (point (intake read left_then tells_then faults_then) number new sink_then) it
+  pub ran : Ran machine disk role (point (intake nothing_read left tells faults) 1 old sink) (point (intake read left_then tells_then faults_then) number new sink_then) it
 
 -- ---- the whole input
 
 -- all bytes came as inputs, and all that is to be said of them was written
-pub record AnswersAll {N : Type 0} (machine : N → Input → Moved N) (stand : Standing N) (bytes held held_then : List ℕ) : Type 0 where
+pub record AnswersAll {N : Type 0} (machine : N → Input → Moved N) (role : Role) (stand : Standing N) (bytes held held_then : List ℕ) : Type 0 where
   pub cames : List Came
   pub passed : ℕ
+  pub judged : AreJudged machine role stand cames
   pub comes : Comes cames bytes 0 [] passed
   pub written : held_then ≡ held ++ text_of machine stand 1 cames
 
 -- Whatever ended it: these came first, a part of what is to be said of them was written, and a crash at any moment
 -- leaves the journal that was there, and the first of those that the node took
-pub record AnswersFirst {N D : Type 0} (machine : N → Input → Moved N) (disk : DiskKind D) (old new : DurableParts N D) (source : Intake) (sink sink_then : Outlet) : Type 0 where
+pub record AnswersFirst {N D : Type 0} (machine : N → Input → Moved N) (disk : DiskKind D) (role : Role) (old new : DurableParts N D) (source : Intake) (sink sink_then : Outlet) : Type 0 where
   pub cames : List Came
+  pub judged : AreJudged machine role old.stand cames
   pub came : source.tells ≡ true → ComesFirst cames source
   pub part : sink.tells ≡ true → HoldsPart sink.held sink_then.held (text_of machine old.stand 1 cames)
   pub outlasts : Outlasts machine disk (taken machine old.stand (arrivals_of cames)) old new

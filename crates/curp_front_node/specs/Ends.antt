@@ -12,14 +12,16 @@ IsOfWaiting end.ReadFault = ⊤
 IsOfWaiting end.NoMemory = ⊤
 IsOfWaiting _ = ⊥
 
--- its journal
+-- what it reads ahead, or its journal
 abbrev pub IsOfNode : FilterEnd → Type 0
+IsOfNode (end.TooLong at) = ⊤
 IsOfNode (end.NotKept why) = ⊤
 IsOfNode end.NoMemory = ⊤
 IsOfNode _ = ⊥
 
 -- that, or what it writes
 abbrev pub IsOfWriting : FilterEnd → Type 0
+IsOfWriting (end.TooLong at) = ⊤
 IsOfWriting end.WriteFault = ⊤
 IsOfWriting (end.NotKept why) = ⊤
 IsOfWriting end.NoMemory = ⊤

@@ -4,19 +4,19 @@ ghost use Rattle.curp_front_node.specs.Ends.{IsOfNode, IsOfWaiting, IsOfWriting}
 
 use curp_base::{Items, NoMemory, Shared};
 use curp_client::InvokeError;
-use curp_cmd::{Command, RequestId};
+use curp_cmd::{Command, NodeId, RequestId};
 use curp_disk::Disk;
 use curp_durable::{Answered, Durable};
-use curp_filter::FilterEnd;
+use curp_filter::{FilterEnd, PassedOver, told_of, write_text};
 use curp_front::{
     Admitted, FrontInput, FrontOutput, Fronts, Refusal, front_input_in, is_short, too_many_text,
     write_front_output,
 };
-use curp_io::{Flushed, Sink, Source, Written, write_piece};
-use curp_journal::Arrived;
+use curp_io::{Sink, Source};
+use curp_journal::{Arrived, is_own};
 use curp_msg::Local;
 use curp_nodes::ClientNode;
-use curp_parcels::{NextParcel, Outgoing, Parcels};
+use curp_parcels::{NextParcel, Parcels};
 use curp_told::{tell, tell_one};
 use std::alloc::Global;
 
@@ -72,11 +72,11 @@ fn end_of(stop: &NextParcel) -> FilterEnd
     }
 }
 
-/// What was read ahead: inputs of the node, and the place of what stands behind them, if that is no parcel.
+/// What was read ahead: inputs of the node, and what stands behind them, if the node isn't given it.
 #[derive(Drop)]
 struct Taken {
     arrived: Vec<Arrived>,
-    no_parcel: Option<u64>,
+    last: Option<PassedOver>,
 }
 
 /// The node, the connections in front of it, and what is to be written.
@@ -111,7 +111,7 @@ impl<'a, D: Disk> Server<'a, D> {
         ensures told { result ≢ Err FilterEnd.WriteFault → SameCount (K.faults sink.old) (K.faults sink.new) }
     {
         self.answer_all(parcels)?;
-        put(sink, &self.text)?;
+        write_text(sink, &self.text)?;
         self.text.clear();
         Ok(())
     }
@@ -122,7 +122,7 @@ impl<'a, D: Disk> Server<'a, D> {
     {
         let taken = self.take(parcels)?;
         self.answer(taken.arrived)?;
-        self.tell_no_parcel(taken.no_parcel)?;
+        self.tell_last(taken.last)?;
         self.tell_connections()?;
         // What connections are told may bring their next commands.
         for _ in 0..u64::MAX {
@@ -134,27 +134,41 @@ impl<'a, D: Disk> Server<'a, D> {
         Ok(())
     }
 
-    /// Takes what is read ahead whole, up to what is no parcel: inputs of the node are given back, and connections get what
-    /// is theirs.
-    fn take(&mut self, parcels: &mut Parcels) -> Result<Taken, NoMemory> {
+    /// Takes what is read ahead whole, up to what the node isn't given: inputs of the node are given back, and connections
+    /// get what is theirs.
+    fn take(&mut self, parcels: &mut Parcels) -> Result<Taken, FilterEnd>
+        ensures { IfErr result IsOfNode }
+    {
         let mut arrived = Vec::new(self.alloc);
-        for _ in 0..u64::MAX {
+        for taken in 0..u64::MAX {
             let front = front_ahead(self.alloc, parcels)?;
-            match (parcels.ready_parcel(), front) {
-                (Some(NextParcel::Arrived(input)), _) => arrived.push(input)?,
-                (Some(NextParcel::NoParcel { .. }), Some(input)) => self.take_front(&input)?,
-                (Some(NextParcel::NoParcel { at }), None) => {
-                    return Ok(Taken {
-                        arrived,
-                        no_parcel: Some(at),
-                    });
+            let Some(ready) = parcels.ready_parcel() else {
+                break;
+            };
+            match ready {
+                NextParcel::Arrived(input) => {
+                    if !is_own(NodeId::client(self.client), &input) {
+                        let last = Some(PassedOver::Misdirected(input));
+                        return Ok(Taken { arrived, last });
+                    }
+                    add(&mut arrived, input)?;
                 }
-                (_, _) => break,
+                NextParcel::NoParcel { at } => {
+                    let Some(input) = front else {
+                        let last = Some(PassedOver::NoParcel { at });
+                        return Ok(Taken { arrived, last });
+                    };
+                    self.take_front(&input)?;
+                }
+                NextParcel::NoMemory => return Err(FilterEnd::NoMemory),
+                // What stands before it is answered first.
+                NextParcel::TooLong { at } if taken == 0 => return Err(FilterEnd::TooLong { at }),
+                _ => break,
             }
         }
         Ok(Taken {
             arrived,
-            no_parcel: None,
+            last: None,
         })
     }
 
@@ -174,17 +188,12 @@ impl<'a, D: Disk> Server<'a, D> {
         }
     }
 
-    fn tell_no_parcel(&mut self, no_parcel: Option<u64>) -> Result<(), NoMemory> {
-        let Some(at) = no_parcel else {
+    fn tell_last(&mut self, last: Option<PassedOver>) -> Result<(), NoMemory> {
+        let Some(it) = last else {
             return Ok(());
         };
         self.inputs = self.inputs.saturating_add(1);
-        let input = self.inputs;
-        tell_one(
-            self.alloc,
-            &Outgoing::NoParcel { input, at },
-            &mut self.text,
-        )
+        tell_one(self.alloc, &told_of(self.inputs, &it), &mut self.text)
     }
 
     /// Tells a connection that there are too many.
@@ -320,6 +329,10 @@ struct Asked {
     orders: Vec<Arrived>,
 }
 
+fn add(arrived: &mut Vec<Arrived>, input: Arrived) -> Result<(), NoMemory> {
+    Ok(arrived.push(input)?)
+}
+
 /// What of a connection stands next, if it is that.
 fn front_ahead(alloc: Global, parcels: &Parcels) -> Result<Option<FrontInput>, NoMemory> {
     match parcels.ready_content() {
@@ -334,30 +347,5 @@ fn refusal_of(number: u8) -> Refusal {
         Refusal::Split
     } else {
         Refusal::Spent
-    }
-}
-
-/// Writes a text, and passes it on.
-fn put<K: Sink>(sink: &mut K, text: &[u8]) -> Result<(), FilterEnd>
-    ensures of_writing { IfErr result IsOfWriting }
-    ensures cause { result ≡ Err FilterEnd.WriteFault → Rose (K.faults sink.old) (K.faults sink.new) }
-    ensures told { result ≢ Err FilterEnd.WriteFault → SameCount (K.faults sink.old) (K.faults sink.new) }
-{
-    match write_piece(sink, text) {
-        Written::Whole => pass_on(sink),
-        Written::WriteFault => Err(FilterEnd::WriteFault),
-        Written::NoMemory => Err(FilterEnd::NoMemory),
-    }
-}
-
-/// Passes on what the sink holds back.
-fn pass_on<K: Sink>(sink: &mut K) -> Result<(), FilterEnd>
-    ensures of_writing { IfErr result IsOfWriting }
-    ensures cause { result ≡ Err FilterEnd.WriteFault → Rose (K.faults sink.old) (K.faults sink.new) }
-    ensures told { result ≢ Err FilterEnd.WriteFault → SameCount (K.faults sink.old) (K.faults sink.new) }
-{
-    match sink.flush() {
-        Flushed::Done => Ok(()),
-        Flushed::Failed => Err(FilterEnd::WriteFault),
     }
 }

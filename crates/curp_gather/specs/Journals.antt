@@ -16,7 +16,8 @@ use Rattle.curp_model.specs.World.{opening}
 use Rattle.curp_msg.specs.Script.{IsHeader}
 use Rattle.curp_turns.specs.Turns.{InOrder, Journal, Placed}
 use Rattle.curp_law_weave.specs.Run.{RunOf, TakesFirst}
-use Rattle.curp_merge.specs.Merging.{IsOwn, NameTaken}
+use Rattle.curp_merge.specs.Merging.{NameTaken}
+use Rattle.curp_journal.specs.Own.{IsOwn}
 use Rattle.curp_gather.specs.declared.journals.Journals.{Journals}
 
 -- ---- the journals

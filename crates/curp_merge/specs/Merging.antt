@@ -5,28 +5,19 @@ use Rattle.curp_base.specs.Words.{At, numbered}
 use Rattle.curp_cmd.specs.declared.node.NodeId.{NodeId}
 use Rattle.curp_cmd.specs.declared.node.NodeKind.{NodeKind}
 use Rattle.curp_cmd.specs.declared.node.NodeKind.TheVariants as kind
-use Rattle.curp_cmd.specs.Node.{manager_node, same_kind}
+use Rattle.curp_cmd.specs.Node.{manager_node}
 use Rattle.curp_msg.specs.Weight.{weight_of}
 use Rattle.curp_msg.specs.declared.machine.Local.{Local}
 use Rattle.curp_msg.specs.declared.script.Step.{Step}
 use Rattle.curp_msg.specs.declared.script.Step.TheVariants as steps
-use Rattle.curp_model.specs.World.{taker_of}
 use Rattle.curp_journal.specs.Journal.{Stamped}
+use Rattle.curp_journal.specs.Own.{IsOwn}
 use Rattle.curp_journal.specs.declared.arrived.Arrived.{Arrived}
 use Rattle.curp_journal.specs.declared.arrived.Arrived.TheVariants as arrived
 use Rattle.curp_journal.specs.declared.arrived.Named.{Named}
 use Rattle.curp_journal.specs.declared.item.Item.{Item}
 use Rattle.curp_turns.specs.Legal.{LegalFrom}
 use Rattle.curp_turns.specs.Turns.{AreApart, AreTurns, Did, InOrder, Journal, Placed, Turn, of, said, sent_by, turns_of}
-
--- a script has a step that gives the order to a node of the kind
-abbrev pub is_order_of : NodeKind → Local → Bool
-is_order_of kind order = same_kind (taker_of order) kind
-
--- what comes to a node is its own: a message that is addressed to it, or an order that a script can give to it
-abbrev pub IsOwn : NodeId → Arrived → Type 0
-IsOwn node (arrived.Local order stamp) = is_order_of node.kind order ≡ true
-IsOwn node (arrived.Message named) = named.message.to ≡ node
 
 -- Journals that can be merged: no two are of one node, there is one manager, stamps rise as a node gives them, and what
 -- came to each node is its own

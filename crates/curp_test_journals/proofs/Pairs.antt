@@ -5,7 +5,8 @@ use Rattle.curp_base.proofs.Lists.{Each-at}
 use Rattle.curp_journal.specs.declared.item.Item.{Item}
 use Rattle.curp_turns.specs.Turns.{AreApart, Journal}
 use Rattle.curp_test_journals.specs.Lines.{IsLine}
-use Rattle.curp_merge.specs.Merging.{AreJournals, IsOwn}
+use Rattle.curp_merge.specs.Merging.{AreJournals}
+use Rattle.curp_journal.specs.Own.{IsOwn}
 
 module _ (a b : Journal) where
   both_apart : a.id ≢ b.id → AreApart (a ∷ b ∷ [])

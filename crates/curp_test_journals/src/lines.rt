@@ -3,13 +3,12 @@ ghost use Rattle.std.specs.Prelude.{◌≡◌, ◌≢◌, IsTrue};
 ghost use Rattle.curp_base.specs.Words.{Each};
 ghost use Rattle.curp_journal.specs.Journal.{Stamped, next_stamp};
 ghost use Rattle.curp_journal.specs.declared.item.Item.{Item};
-ghost use Rattle.curp_merge.specs.Merging.{IsOwn};
+ghost use Rattle.curp_journal.specs.Own.{IsOwn};
 ghost use Rattle.curp_test_journals.specs.Lines.{IsLine};
 
 use curp_cmd::{NodeId, NodeKind};
-use curp_journal::{Arrived, Item};
+use curp_journal::{Item, is_own};
 use curp_merge::Strand;
-use curp_msg::Local;
 
 pub(crate) fn are_apart(first: &Strand<'_>, second: &Strand<'_>) -> bool
     ensures { IsTrue result → first.now.id ≢ second.now.id }
@@ -52,15 +51,5 @@ fn are_own(id: NodeId, items: &[Item]) -> bool
         [one] => is_own(id, &one.input),
         [one, two] => is_own(id, &one.input) && is_own(id, &two.input),
         _ => false,
-    }
-}
-
-fn is_own(id: NodeId, arrived: &Arrived) -> bool
-    ensures { IsTrue result → IsOwn id arrived.now }
-{
-    match arrived {
-        Arrived::Local(Local::Sync, _) => id.kind == NodeKind::Master,
-        Arrived::Local(..) => false,
-        Arrived::Message(named) => named.message.to == id,
     }
 }

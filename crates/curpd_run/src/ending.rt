@@ -148,7 +148,7 @@ impl From<OpenError> for Ending {
 impl From<DurableError> for Ending {
     fn from(error: DurableError) -> Ending {
         match error {
-            DurableError::Full | DurableError::TooHeavy => Ending::Full,
+            DurableError::Full | DurableError::NoEncoding => Ending::Full,
             DurableError::DiskFault | DurableError::Spent => Ending::DiskFault,
             DurableError::NoMemory => Ending::NoMemory,
         }

@@ -1,12 +1,36 @@
 //! The nodes of a cluster as they begin: those of its opening, and fresh ones by their names.
+ghost use Rattle.std.specs.Prelude.{◌≡◌, ◌↔◌};
 ghost use Rattle.curp_msg.specs.Script.{IsHeader};
+ghost use Rattle.curpd_run.specs.Opening.{IsThere};
 
 use crate::ending::Ending;
 use curp_base::NoMemory;
+use curp_cmd::{NodeId, NodeKind};
+use curp_filter::Role;
+use curp_journal::Origin;
 use curp_msg::Header;
 use curp_nodes::{BackupNode, ClientNode, MasterNode, WitnessNode};
 use curp_slots::ShapeError;
 use std::alloc::{AllocError, Global};
+
+/// The role of a node by its name.
+pub(crate) fn role_of(id: NodeId, header: &Header) -> Role
+    requires { IsHeader header.now }
+    ensures id { result.id ≡ id }
+    ensures origin { (result.origin ≡ Origin.Opening) ↔ IsThere header.now id }
+{
+    let is_there = match id.kind {
+        NodeKind::Manager | NodeKind::Client => true,
+        NodeKind::Master => id.number <= header.parts,
+        NodeKind::Backup | NodeKind::Witness => id.number <= header.parts * header.f,
+    };
+    let origin = if is_there {
+        Origin::Opening
+    } else {
+        Origin::Fresh
+    };
+    Role { id, origin }
+}
 
 /// A client is of the opening.
 pub(crate) fn client(alloc: Global, header: &Header, number: u32) -> Result<ClientNode, Ending>

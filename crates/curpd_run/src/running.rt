@@ -2,7 +2,7 @@
 ghost use Rattle.curp_msg.specs.Script.{IsHeader};
 
 use crate::ending::Ending;
-use crate::nodes::{backup, client, master, witness};
+use crate::nodes::{backup, client, master, role_of, witness};
 use curp_cmd::NodeKind;
 use curp_disk::FileDisk;
 use curp_durable::Durable;
@@ -84,7 +84,9 @@ fn run<N: Core + Drop, S: Source, K: Sink>(
     node: N,
     source: &mut S,
     sink: &mut K,
-) -> Result<(), Ending> {
+) -> Result<(), Ending>
+    requires { IsHeader seat.now.header }
+{
     let mut durable = open(alloc, seat, disk, node)?;
     let stands = Outgoing::Stands {
         items: durable.count(),
@@ -92,7 +94,7 @@ fn run<N: Core + Drop, S: Source, K: Sink>(
     };
     let mut greeting = Vec::new(alloc);
     tell_one(alloc, &stands, &mut greeting)?;
-    serve(alloc, &mut durable, &greeting, source, sink)
+    serve(alloc, seat, &mut durable, &greeting, source, sink)
 }
 
 /// Runs a client, which tells again which requests completed: its user may not have heard of it.
@@ -106,7 +108,14 @@ fn run_client<S: Source, K: Sink>(
     requires { IsHeader seat.now.header }
 {
     let mut begun = begin_client(alloc, seat, disk)?;
-    serve(alloc, &mut begun.client, &begun.greeting, source, sink)
+    serve(
+        alloc,
+        seat,
+        &mut begun.client,
+        &begun.greeting,
+        source,
+        sink,
+    )
 }
 
 /// Runs the client of a seat with Redis' protocol in front, until the input ends.
@@ -171,13 +180,17 @@ fn open<N: Core + Drop>(
 /// Says what is said first, and answers parcels until the input ends.
 fn serve<N: Core + Drop, S: Source, K: Sink>(
     alloc: Global,
+    seat: &Seat<'_>,
     durable: &mut Durable<N, FileDisk>,
     greeting: &[u8],
     source: &mut S,
     sink: &mut K,
-) -> Result<(), Ending> {
+) -> Result<(), Ending>
+    requires { IsHeader seat.now.header }
+{
     say(greeting, sink)?;
-    Ending::of_filter(curp_filter::run_node(alloc, durable, source, sink))
+    let role = role_of(seat.node, &seat.header);
+    Ending::of_filter(curp_filter::run_node(alloc, role, durable, source, sink))
 }
 
 fn say<K: Sink>(greeting: &[u8], sink: &mut K) -> Result<(), Ending> {

@@ -142,7 +142,10 @@ fn files<'a>(alloc: Global, matches: &ArgMatches<'a>) -> Result<Vec<&'a str>, Al
 
 impl From<clap::Error> for WordsError {
     fn from(error: clap::Error) -> WordsError {
-        WordsError::Words(error)
+        match error.kind() {
+            clap::error::ErrorKind::OutOfMemory => WordsError::NoMemory,
+            _ => WordsError::Words(error),
+        }
     }
 }
 

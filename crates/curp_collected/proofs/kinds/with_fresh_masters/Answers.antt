@@ -3,7 +3,7 @@ use Rattle.curp_cmd.specs.declared.node.NodeKind.TheVariants as kinds
 use Rattle.curp_model.specs.Recovery.{Fresh}
 use Rattle.curp_model.specs.World.{opening}
 use Rattle.curp_collected.specs.Files.{HasNoneAbove, IsNextNumber}
-use Rattle.curp_collected.specs.declared.beginning.Origin.TheVariants as origin
+use Rattle.curp_journal.specs.declared.origin.Origin.TheVariants as origin
 use Rattle.curp_collected.proofs.Begun.{SoFar, begin_end, begin_next}
 use Rattle.curp_collected.proofs.Openings.{opened}
 use Rattle.curp_collected.proofs.kinds.with_fresh_masters.Goals as goal

@@ -10,7 +10,7 @@ invariant-batches g l =
     let D = g.D.Disk in
     let S = g.S.Source in
     let K = g.K.Sink in
-    Turned g.N.Core.machine (kind D.tells D.seen D.may_leave D.moment D.left_since D.faults)
+    Turned g.N.Core.machine (kind D.tells D.seen D.may_leave D.moment D.left_since D.faults) l.fn.role
     (point (intake nothing_read (S.left l.fn.source) (S.tells l.fn.source) (S.faults l.fn.source)) 1 l.fn.node
     (outlet (K.held l.fn.sink) (K.tells l.fn.sink) (K.faults l.fn.sink) (K.flushed l.fn.sink)))
     (point (intake l.parcels (S.left l.source) (S.tells l.source) (S.faults l.source)) l.number l.node
