@@ -8,7 +8,7 @@ use Rattle.curp_resp.specs.Input.{NoneStandsFirst, StandsFirst}
 use Rattle.curp_resp.specs.Meaning.{meaning}
 use Rattle.curp_resp.specs.declared.asked.Asked.{Asked}
 use Rattle.curp_resp.specs.declared.asked.Asked.TheVariants as asked
-use Rattle.curp_resp.specs.declared.asked.Wrong.{Wrong}
+use Rattle.curp_resp.specs.declared.asked.Other.{Other}
 use Rattle.curp_resp.specs.declared.first.FirstRequest.{FirstRequest}
 use Rattle.curp_resp.specs.declared.first.FirstRequest.TheVariants as first
 use Rattle.curp_resp.proofs.Inwards.{first_stands}
@@ -22,7 +22,7 @@ use Rattle.curp_front.specs.declared.connection.Stage.{Stage}
 use Rattle.curp_front.specs.declared.connection.Stage.TheVariants as stage
 use Rattle.curp_front.specs.declared.due.Due.{Due}
 use Rattle.curp_front.specs.declared.due.Due.TheVariants as due
-use Rattle.curp_front.proofs.Replies.{count_command, count_wrong, replies_command, replies_wrong, told_more}
+use Rattle.curp_front.proofs.Replies.{count_command, count_other, replies_command, replies_other, told_more}
 use Rattle.curp_front.proofs.Splitting.{broken_some, splits_more, splits_next, stands_first}
 
 -- ---- small facts
@@ -66,13 +66,13 @@ settled_length new (d ∷ rest) =
 
 command_is : (a : Asked) → IsCommand a → (command : Command) × (a ≡ asked.Command command)
 command_is (asked.Command command) is = (command, refl)
-command_is (asked.Wrong why) is = absurd is
+command_is (asked.Other other) is = absurd is
 
 -- ---- what stands first
 
 whole_command : (f : FirstRequest) (command : Command) → first_command f ≡ Some command → (len : ℕ) × (f ≡ first.Whole (asked.Command command) len)
 whole_command (first.Whole (asked.Command c) len) command e = (len, cc)
-whole_command (first.Whole (asked.Wrong why) len) command e = absurd cc
+whole_command (first.Whole (asked.Other other) len) command e = absurd cc
 whole_command first.Part command e = absurd cc
 whole_command first.Broken command e = absurd cc
 
@@ -245,14 +245,14 @@ module _ (t : Talk) (h : InOrder t) where
       }
 
   -- the reply to a request that means no command
-  told_wrong : (why : Wrong) (len : ℕ) → h.waiting ≡ [] → first_in t.now.bytes ≡ first.Whole (asked.Wrong why) len → is_served t.now.stage ≡ true
-      → InOrder (record t { now = record t.now { bytes = drop (first_len (first_in t.now.bytes)) t.now.bytes }; outcomes = t.outcomes ++ []; told = t.told ++ said.Wrong why ∷ [] })
-  told_wrong why len none_waits whole served =
+  told_other : (other : Other) (len : ℕ) → h.waiting ≡ [] → first_in t.now.bytes ≡ first.Whole (asked.Other other) len → is_served t.now.stage ≡ true
+      → InOrder (record t { now = record t.now { bytes = drop (first_len (first_in t.now.bytes)) t.now.bytes }; outcomes = t.outcomes ++ []; told = t.told ++ said.Other other ∷ [] })
+  told_other other len none_waits whole served =
       let so = served_ends t.now.stage t.now.bytes h.waiting h.rest h.ending served h.ends in
-      let request : BeginsWithRequest t.now.bytes (asked.Wrong why) len = stands t.now.bytes (first.Whole (asked.Wrong why) len) whole in
+      let request : BeginsWithRequest t.now.bytes (asked.Other other) len = stands t.now.bytes (first.Whole (asked.Other other) len) whole in
       let rest = drop len t.now.bytes in
-      let front = subst (λ w. StandsFirst w request.arguments rest) (sym so.0) (stands_first t.now.bytes (asked.Wrong why) len request) in
-      let requests : map meaning (h.replied ++ request.arguments ∷ []) ≡ map meaning h.replied ++ asked.Wrong why ∷ [] = map_more meaning h.replied request.arguments ∙ ap (λ a. map meaning h.replied ++ a ∷ []) (sym request.meant) in
+      let front = subst (λ w. StandsFirst w request.arguments rest) (sym so.0) (stands_first t.now.bytes (asked.Other other) len request) in
+      let requests : map meaning (h.replied ++ request.arguments ∷ []) ≡ map meaning h.replied ++ asked.Other other ∷ [] = map_more meaning h.replied request.arguments ∙ ap (λ a. map meaning h.replied ++ a ∷ []) (sym request.meant) in
       let replies = replies_to (map meaning h.replied) t.outcomes in
       let all : (h.replied ++ h.waiting) ++ request.arguments ∷ [] ≡ (h.replied ++ request.arguments ∷ []) ++ h.waiting =
       ap (λ w. (h.replied ++ w) ++ request.arguments ∷ []) none_waits ∙ ap (λ w. w ++ request.arguments ∷ []) (append-nil h.replied)
@@ -265,10 +265,10 @@ module _ (t : Talk) (h : InOrder t) where
         splits = subst (λ w. Splits w t.input rest) all (splits_next (h.replied ++ h.waiting) t.input h.rest request.arguments rest h.splits front);
         commands = h.commands;
         due = h.due;
-        outcomes = ap command_count requests ∙ count_wrong (map meaning h.replied) why ∙ h.outcomes ∙ ap length (sym (append-nil t.outcomes));
+        outcomes = ap command_count requests ∙ count_other (map meaning h.replied) other ∙ h.outcomes ∙ ap length (sym (append-nil t.outcomes));
         told =
-            told_more t.told (said.Wrong why) ∙ ap (λ w. w ++ said_text (said.Wrong why)) (h.told ∙ ap (λ w. replies ++ w) so.1 ∙ append-nil replies)
-            ∙ sym (ap (λ a. replies_to a t.outcomes) requests ∙ replies_wrong (map meaning h.replied) t.outcomes why h.outcomes)
+            told_more t.told (said.Other other) ∙ ap (λ w. w ++ said_text (said.Other other)) (h.told ∙ ap (λ w. replies ++ w) so.1 ∙ append-nil replies)
+            ∙ sym (ap (λ a. replies_to a t.outcomes) requests ∙ replies_other (map meaning h.replied) t.outcomes other h.outcomes)
             ∙ ap (λ o. replies_to (map meaning (h.replied ++ request.arguments ∷ [])) o) (sym (append-nil t.outcomes))
             ∙ sym (append-nil (replies_to (map meaning (h.replied ++ request.arguments ∷ [])) (t.outcomes ++ [])))
             ∙ ap (λ w. replies_to (map meaning (h.replied ++ request.arguments ∷ [])) (t.outcomes ++ []) ++ w) (sym so.1);
@@ -303,9 +303,9 @@ module _ (t : Talk) (h : InOrder t) where
 
   told_first : (s : Said) (f : FirstRequest) → first_in t.now.bytes ≡ f → t.now.due ≡ [] → h.waiting ≡ [] → is_served t.now.stage ≡ true → said_at f t.now ≡ Some s → InOrder (tells (Some s) t)
   told_first s (first.Whole (asked.Command command) len) is none_due none_waits served e = absurd cc
-  told_first s (first.Whole (asked.Wrong why) len) is none_due none_waits served e =
-      let same : said.Wrong why ≡ s = cc in
-      subst (λ x. InOrder (tells (Some x) t)) same (told_wrong why len none_waits is served)
+  told_first s (first.Whole (asked.Other other) len) is none_due none_waits served e =
+      let same : said.Other other ≡ s = cc in
+      subst (λ x. InOrder (tells (Some x) t)) same (told_other other len none_waits is served)
   told_first s first.Part is none_due none_waits served e = told_inside s is none_due none_waits served e
   told_first s first.Broken is none_due none_waits served e =
       let so = served_ends t.now.stage t.now.bytes h.waiting h.rest h.ending served h.ends in

@@ -130,7 +130,7 @@ completed id answer c = record c { due = map (completed_due id answer) c.due }
 
 abbrev pub asked_command : Asked → Option Command
 asked_command (asked.Command command) = Some command
-asked_command (asked.Wrong why) = None
+asked_command (asked.Other other) = None
 
 abbrev pub first_command : FirstRequest → Option Command
 first_command (first.Whole asks len) = asked_command asks
@@ -177,7 +177,7 @@ said_inside c =
 -- to a request that means no command
 abbrev pub said_to : Asked → Option Said
 said_to (asked.Command command) = None
-said_to (asked.Wrong why) = Some (said.Wrong why)
+said_to (asked.Other other) = Some (said.Other other)
 
 -- what is said of what stands first among its bytes, where no reply is due
 abbrev pub said_at : FirstRequest → Conversation → Option Said
@@ -227,7 +227,7 @@ abbrev pub passed : Said → Conversation → Conversation
 passed said.More c = record c { peer = peer.Sending }
 passed (said.Answer a) c = record c { due = drop 1 c.due }
 passed (said.Refused why) c = record c { due = drop 1 c.due }
-passed (said.Wrong why) c = without_first c
+passed (said.Other other) c = without_first c
 passed said.Protocol c = failed c
 passed said.TooMuch c = failed c
 passed said.Close c = record c { stage = stage.Closed }

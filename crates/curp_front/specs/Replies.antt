@@ -1,6 +1,6 @@
 -- What a connection is told, as bytes.
 use Rattle.std.specs.Prelude.{ℕ, codes, List, []}
-use Rattle.curp_resp.specs.Reply.{error, protocol_error, reply_of, wrong_of}
+use Rattle.curp_resp.specs.Reply.{error, other_of, protocol_error, reply_of}
 use Rattle.curp_front.specs.declared.connection.Said.{Said}
 use Rattle.curp_front.specs.declared.connection.Said.TheVariants as said
 use Rattle.curp_front.specs.declared.due.Refusal.{Refusal}
@@ -26,7 +26,7 @@ abbrev pub said_text : Said → List ℕ
 said_text said.More = []
 said_text (said.Answer a) = reply_of a
 said_text (said.Refused why) = refusal_text why
-said_text (said.Wrong why) = wrong_of why
+said_text (said.Other other) = other_of other
 said_text said.Protocol = protocol_error
 said_text said.TooMuch = too_many_bytes
 said_text said.Close = []
@@ -36,7 +36,7 @@ abbrev pub output_of : ℕ → Said → FrontOutput
 output_of number said.More = output.More number
 output_of number (said.Answer a) = output.Reply number (said_text (said.Answer a))
 output_of number (said.Refused why) = output.Reply number (said_text (said.Refused why))
-output_of number (said.Wrong why) = output.Reply number (said_text (said.Wrong why))
+output_of number (said.Other other) = output.Reply number (said_text (said.Other other))
 output_of number said.Protocol = output.Reply number (said_text said.Protocol)
 output_of number said.TooMuch = output.Reply number (said_text said.TooMuch)
 output_of number said.Close = output.Close number

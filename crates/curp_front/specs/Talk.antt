@@ -5,7 +5,7 @@ use Rattle.curp_cmd.specs.declared.command.Answer.{Answer}
 use Rattle.curp_cmd.specs.declared.command.RequestId.{RequestId}
 use Rattle.curp_resp.specs.Input.{NoneStandsFirst, StandsFirst}
 use Rattle.curp_resp.specs.Meaning.{meaning}
-use Rattle.curp_resp.specs.Reply.{protocol_error, reply_of, wrong_of}
+use Rattle.curp_resp.specs.Reply.{other_of, protocol_error, reply_of}
 use Rattle.curp_resp.specs.declared.asked.Asked.{Asked}
 use Rattle.curp_resp.specs.declared.asked.Asked.TheVariants as asked
 use Rattle.curp_front.specs.Conversation.{Conversation, came, completed, fresh, gone, is_gone, is_serving, most_bytes, passed, said_by, settled, taken}
@@ -50,7 +50,7 @@ abbrev pub outcome_of : Said → List Due
 outcome_of said.More = []
 outcome_of (said.Answer a) = due.Answered a ∷ []
 outcome_of (said.Refused why) = due.Refused why ∷ []
-outcome_of (said.Wrong why) = []
+outcome_of (said.Other other) = []
 outcome_of said.Protocol = []
 outcome_of said.TooMuch = []
 outcome_of said.Close = []
@@ -88,14 +88,14 @@ outcome_text (due.Refused why) = refusal_text why
 -- to requests, of which the commands come to these in turn, up to the first that has come to nothing
 abbrev pub replies_to : List Asked → List Due → List ℕ
 replies_to [] outcomes = []
-replies_to (asked.Wrong why ∷ rest) outcomes = wrong_of why ++ replies_to rest outcomes
+replies_to (asked.Other other ∷ rest) outcomes = other_of other ++ replies_to rest outcomes
 replies_to (asked.Command command ∷ rest) [] = []
 replies_to (asked.Command command ∷ rest) (outcome ∷ outcomes) = outcome_text outcome ++ replies_to rest outcomes
 
 -- how many of them are commands
 abbrev pub command_count : List Asked → ℕ
 command_count [] = 0
-command_count (asked.Wrong why ∷ rest) = command_count rest
+command_count (asked.Other other ∷ rest) = command_count rest
 command_count (asked.Command command ∷ rest) = command_count rest + 1
 
 -- ---- in order
@@ -108,7 +108,7 @@ Splits (arguments ∷ requests) input rest =
 
 abbrev pub IsCommand : Asked → Type 0
 IsCommand (asked.Command command) = ⊤
-IsCommand (asked.Wrong why) = ⊥
+IsCommand (asked.Other other) = ⊥
 
 abbrev pub MeansCommand : List (List ℕ) → Type 0
 MeansCommand arguments = IsCommand (meaning arguments)

@@ -8,7 +8,7 @@ ghost use Rattle.curp_front.specs.declared.due.Due.TheVariants as given;
 use crate::due::{Due, Refusal};
 use curp_base::NoMemory;
 use curp_cmd::{Answer, Command, RequestId};
-use curp_resp::{Asked, FirstRequest, Wrong, first_request};
+use curp_resp::{Asked, FirstRequest, Other, first_request};
 use std::alloc::Global;
 use std::marker::Model;
 
@@ -51,8 +51,8 @@ pub enum Said {
     Answer(Answer),
     /// Why that command wasn't invoked.
     Refused(Refusal),
-    /// Why its first request means no command.
-    Wrong(Wrong),
+    /// What its first request means, which means no command. It may be no reply, of no bytes.
+    Other(Other),
     /// Its bytes begin with no request.
     Protocol,
     /// More bytes came than may wait.
@@ -253,7 +253,7 @@ impl Connection {
         match said {
             Said::More => self.peer = Peer::Sending,
             Said::Answer(_) | Said::Refused(_) => drop_due(&mut self.due),
-            Said::Wrong(_) => self.pass_first(),
+            Said::Other(_) => self.pass_first(),
             Said::Protocol | Said::TooMuch => self.fail(),
             Said::Close => self.stage = Stage::Closed,
         }
@@ -425,7 +425,7 @@ fn command_asked(asked: &Asked) -> Option<Command>
 {
     match asked {
         Asked::Command(command) => Some(*command),
-        Asked::Wrong(_) => None,
+        Asked::Other(_) => None,
     }
 }
 
@@ -440,7 +440,7 @@ fn said_to(asked: &Asked) -> Option<Said>
     ensures { result ≡ said_to asked.now }
 {
     match asked {
-        Asked::Wrong(why) => Some(Said::Wrong(*why)),
+        Asked::Other(other) => Some(Said::Other(*other)),
         Asked::Command(_) => None,
     }
 }

@@ -3,7 +3,7 @@ ghost use Rattle.curp_front.specs.Replies.{output_of, said_text, too_many_connec
 
 use crate::connection::Said;
 use curp_base::{Items, NoMemory};
-use curp_resp::{protocol_text, reply_text, wrong_text};
+use curp_resp::{other_text, protocol_text, reply_text};
 use std::alloc::Global;
 
 /// What is told to who holds the connections.
@@ -32,7 +32,7 @@ impl FrontOutput {
         match said {
             Said::More => Ok(FrontOutput::More { connection }),
             Said::Close => Ok(FrontOutput::Close { connection }),
-            Said::Answer(_) | Said::Refused(_) | Said::Wrong(_) | Said::Protocol | Said::TooMuch =>
+            Said::Answer(_) | Said::Refused(_) | Said::Other(_) | Said::Protocol | Said::TooMuch =>
                 Ok(FrontOutput::Reply {
                     connection,
                     bytes: Items::new(said.text(alloc)?),
@@ -48,7 +48,7 @@ impl Said {
     {
         match self {
             Said::Answer(answer) => reply_text(alloc, answer),
-            Said::Wrong(why) => wrong_text(alloc, *why),
+            Said::Other(other) => other_text(alloc, other),
             Said::Refused(why) => Ok(Vec::from_slice(alloc, why.text())?),
             Said::Protocol => Ok(Vec::from_slice(alloc, protocol_text())?),
             Said::TooMuch => Ok(Vec::from_slice(alloc, b"-ERR too many bytes\r\n")?),

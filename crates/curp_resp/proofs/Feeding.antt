@@ -38,7 +38,7 @@ pub more_by : (s : Step) (rest : List ℕ) (byte : ℕ) (reading new : Reading) 
     → read_on (byte ∷ rest) reading ≡ read_on rest new
 more_by (step.On next does) rest byte reading new e h =
     runs.read_on kept_by byte rest reading.frame reading.arguments next does e ∙ ap (λ r. read_on rest r) (sym h.1)
-more_by step.Whole rest byte reading new e h = absurd (cc h.0)
+more_by (step.Whole does) rest byte reading new e h = absurd (cc h.0)
 more_by step.Refused rest byte reading new e h = absurd (cc h)
 
 pub fed_more : (bytes : List ℕ) (byte : ℕ) (reading new : Reading) → first_of bytes ≡ Some byte
@@ -49,12 +49,12 @@ fed_more bytes byte reading new first h =
 pub whole_by : (s : Step) (rest : List ℕ) (byte : ℕ) (reading new : Reading) → frame_step reading.frame byte ≡ s → TakesByte s byte reading.arguments progress.Whole new
     → read_on (byte ∷ rest) reading ≡ Gives new.arguments rest
 whole_by (step.On next does) rest byte reading new e h = absurd (cc h.0)
-whole_by step.Whole rest byte reading new e h =
-    runs.read_whole kept_by byte rest reading.frame reading.arguments e ∙ ap (λ k. Gives k rest) (sym h.1)
+whole_by (step.Whole does) rest byte reading new e h =
+    runs.read_whole kept_by byte rest reading.frame reading.arguments does e ∙ ap (λ k. Gives k rest) (sym h.1)
 whole_by step.Refused rest byte reading new e h = absurd (cc h)
 
 pub refused_by : (s : Step) (rest : List ℕ) (byte : ℕ) (reading new : Reading) → frame_step reading.frame byte ≡ s → TakesByte s byte reading.arguments progress.Refused new
     → read_on (byte ∷ rest) reading ≡ Refuses (byte ∷ rest)
 refused_by (step.On next does) rest byte reading new e h = absurd (cc h.0)
-refused_by step.Whole rest byte reading new e h = absurd (cc h.0)
+refused_by (step.Whole does) rest byte reading new e h = absurd (cc h.0)
 refused_by step.Refused rest byte reading new e h = runs.read_refused kept_by byte rest reading.frame reading.arguments e

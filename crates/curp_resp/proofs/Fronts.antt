@@ -5,8 +5,8 @@ use Rattle.std.proofs.lemmas.Bool.{cases_lt}
 use Rattle.std.proofs.lemmas.List.{take_all}
 use Rattle.curp_resp.specs.Frames.{fresh_frame, frame_step}
 use Rattle.curp_resp.specs.Input.{BreaksOff, Decomposes, IsLongestFront, NoneStandsFirst, StandsFirst, place_behind}
-use Rattle.curp_resp.specs.Kept.{Parts, no_parts, parts_by, parts_end}
-use Rattle.curp_resp.specs.Language.{IsFront, IsRequest}
+use Rattle.curp_resp.specs.Kept.{Parts, no_parts, parts_by}
+use Rattle.curp_resp.specs.Language.{IsEmpty, IsFront, IsRequest}
 use Rattle.curp_resp.specs.Read.{Read, Inside, Gives, Refuses, read_by}
 use Rattle.curp_resp.specs.declared.frame.Frame.{Frame}
 use Rattle.curp_resp.specs.declared.frame.Step.TheVariants as step
@@ -83,8 +83,8 @@ refuses_at (byte ∷ bytes) left frame parts h =
             inside = read_on parts_by byte more.front frame parts next does e ∙ more.inside;
             refused = more.refused;
           }
-      | step.Whole ↦ λ e.
-          let none : Gives (parts_end parts) bytes ≡ Refuses left = sym (read_whole parts_by byte bytes frame parts e) ∙ h in
+      | step.Whole does ↦ λ e.
+          let none : Gives (parts_by does byte parts) bytes ≡ Refuses left = sym (read_whole parts_by byte bytes frame parts does e) ∙ h in
           absurd cc
       | step.Refused ↦ λ e.
           let same : Refuses (byte ∷ bytes) ≡ Refuses left = sym (read_refused parts_by byte bytes frame parts e) ∙ h in
@@ -183,9 +183,18 @@ one_decomposition (arguments ∷ requests) (its ∷ others) input rest left h i 
     (cc (first.0, more.0), more.1)
 
 -- a request takes bytes
+request_takes : (spelled : List ℕ) (arguments : List (List ℕ)) → IsRequest spelled arguments → 1 ≤ length spelled
+request_takes spelled arguments (inl array) = omega (arith, ap length array.is)
+request_takes spelled arguments (inr empty) = empty_takes spelled empty.1
+  where
+    empty_takes : (spelled : List ℕ) → IsEmpty spelled → 1 ≤ length spelled
+    empty_takes spelled (inl feed) = omega (arith, ap length feed)
+    empty_takes spelled (inr (inl line)) = omega (arith, ap length line)
+    empty_takes spelled (inr (inr null)) = omega (arith, ap length null)
+
 pub request_some : (bytes : List ℕ) (arguments : List (List ℕ)) (rest : List ℕ) → StandsFirst bytes arguments rest → length rest < length bytes
 request_some bytes arguments rest h =
-    omega (arith, ap length h.is, length-append h.spelled rest, ap length h.request.is)
+    omega (arith, ap length h.is, length-append h.spelled rest, request_takes h.spelled arguments h.request)
 
 -- the input is requests and a rest
 abbrev pub Decomposed : List ℕ → Type 0

@@ -5,7 +5,7 @@ use Rattle.std.proofs.Math.Seq.{drop-append_seam, take-append_seam}
 use Rattle.curp_resp.specs.Ahead.{Ahead}
 use Rattle.curp_resp.specs.Feeds.{Feeds, Passes, read_first, read_on}
 use Rattle.curp_resp.specs.First.{IsFirst, first_by, first_in}
-use Rattle.curp_resp.specs.Frames.{argument_step, bytes_step, count_step, frame_step, fresh_frame, is_fresh, no_digits, number_step, rest_most, size_step, stage_rest, stage_step}
+use Rattle.curp_resp.specs.Frames.{after_byte, argument_step, bytes_step, count_step, frame_step, fresh_frame, is_fresh, is_minus, no_digits, number_step, rest_most, size_step, stage_rest, stage_step}
 use Rattle.curp_resp.specs.Input.{BreaksOff, NoneStandsFirst, SomeStandsFirst, StandsFirst, place_behind}
 use Rattle.curp_resp.specs.Kept.{KeptArguments, Parts, kept_by, no_parts, nothing_kept}
 use Rattle.curp_resp.specs.KeptMeaning.{meaning_of_kept}
@@ -35,7 +35,7 @@ use Rattle.curp_resp.proofs.Runs as runs
 -- what a step goes on to has less to come than this
 abbrev Lowers : Step → ℕ → Type 0
 Lowers (step.On frame does) most = (rest_most frame < most) × (is_fresh frame ≡ false)
-Lowers step.Whole most = Unit {0}
+Lowers (step.Whole does) most = Unit {0}
 Lowers step.Refused most = Unit {0}
 
 after_lowers : (t : Bool) (next : Stage) (does : Effect) (behind most : ℕ) → stage_rest next behind < most → is_fresh (record { stage = next; behind = behind }) ≡ false
@@ -43,16 +43,32 @@ after_lowers : (t : Bool) (next : Stage) (does : Effect) (behind most : ℕ) →
 after_lowers true next does behind most h past = (h, past)
 after_lowers false next does behind most h past = tt
 
-count_lowers : (n : NumberStep) (read : Digits) (byte : ℕ) → NumberSteps 1 64 read byte n → Lowers (count_step n) (stage_rest (stage.Count read) 0)
+count_lowers : (n : NumberStep) (read : Digits) (byte : ℕ) → NumberSteps 64 read byte n → Lowers (count_step n) (stage_rest (stage.Count read) 0)
 count_lowers (number.More more) read byte is = (omega (arith, ap (λ d. d.count) is.0, is.2), refl)
-count_lowers (number.Ends value) read byte is =
-    let same : value - 1 + 1 ≡ value = omega (arith, is.3) in
-    (rw same (omega (arith, is.4)), refl)
+count_lowers (number.Ends zero) read byte is = (omega arith, refl)
+count_lowers (number.Ends (suc behind)) read byte is = (omega (arith, is.3), refl)
 count_lowers number.Refused read byte is = tt
 
-size_lowers : (n : NumberStep) (behind : ℕ) (read : Digits) (byte : ℕ) → NumberSteps 0 65536 read byte n → Lowers (size_step behind n) (stage_rest (stage.Size read) behind)
+length_lowers : (t : Bool) (read : Digits) (behind byte : ℕ)
+    → Lowers (if t then step.On (record { stage = stage.NullDigit; behind = behind }) effect.Nothing else count_step (number_step 64 read byte)) (stage_rest (stage.Count read) 0)
+length_lowers true read behind byte = (omega arith, refl)
+length_lowers false read behind byte = count_lowers (number_step 64 read byte) read byte (number_steps 64 read byte)
+
+first_lowers : (t u : Bool) (behind byte : ℕ)
+    → Lowers (if t then step.Whole effect.Nothing
+    else (if u then step.On (record { stage = stage.EmptyFeed; behind = behind }) effect.Nothing else after_byte star (stage.Count no_digits) effect.Nothing behind byte)) (stage_rest stage.Star behind)
+first_lowers true u behind byte = tt
+first_lowers false true behind byte = (omega arith, refl)
+first_lowers false false behind byte =
+    after_lowers (byte == star) (stage.Count no_digits) effect.Nothing behind (stage_rest stage.Star behind) (omega arith) refl
+
+last_lowers : (t : Bool) (most : ℕ) → Lowers (if t then step.Whole effect.Nothing else step.Refused) most
+last_lowers true most = tt
+last_lowers false most = tt
+
+size_lowers : (n : NumberStep) (behind : ℕ) (read : Digits) (byte : ℕ) → NumberSteps 65536 read byte n → Lowers (size_step behind n) (stage_rest (stage.Size read) behind)
 size_lowers (number.More more) behind read byte is = (omega (arith, ap (λ d. d.count) is.0, is.2), refl)
-size_lowers (number.Ends value) behind read byte is = (omega (arith, is.4), refl)
+size_lowers (number.Ends value) behind read byte is = (omega (arith, is.3), refl)
 size_lowers number.Refused behind read byte is = tt
 
 bytes_lowers : (left behind byte : ℕ) → Lowers (bytes_step left behind byte) (stage_rest (stage.Bytes left) behind)
@@ -66,18 +82,22 @@ feed_lowers true (suc behind) = (omega arith, refl)
 feed_lowers false behind = tt
 
 stage_lowers : (s : Stage) (behind byte : ℕ) → Lowers (stage_step s behind byte) (stage_rest s behind)
-stage_lowers stage.Star behind byte =
-    after_lowers (byte == star) (stage.Count no_digits) effect.Nothing behind (stage_rest stage.Star behind) (omega arith) refl
-stage_lowers (stage.Count read) behind byte = count_lowers (number_step 1 64 read byte) read byte (number_steps 1 64 read byte)
+stage_lowers stage.Star behind byte = first_lowers (byte == line_feed) (byte == carriage_return) behind byte
+stage_lowers (stage.Count read) behind byte = length_lowers (is_minus read byte) read behind byte
 stage_lowers stage.CountFeed behind byte =
     after_lowers (byte == line_feed) stage.Dollar effect.Nothing behind (stage_rest stage.CountFeed behind) (omega arith) refl
 stage_lowers stage.Dollar behind byte =
     after_lowers (byte == dollar) (stage.Size no_digits) effect.Nothing behind (stage_rest stage.Dollar behind) (omega arith) refl
-stage_lowers (stage.Size read) behind byte = size_lowers (number_step 0 65536 read byte) behind read byte (number_steps 0 65536 read byte)
+stage_lowers (stage.Size read) behind byte = size_lowers (number_step 65536 read byte) behind read byte (number_steps 65536 read byte)
 stage_lowers (stage.SizeFeed size) behind byte =
     after_lowers (byte == line_feed) (stage.Bytes size) effect.Begin behind (stage_rest (stage.SizeFeed size) behind) (omega arith) refl
 stage_lowers (stage.Bytes left) behind byte = bytes_lowers left behind byte
 stage_lowers stage.BytesFeed behind byte = feed_lowers (byte == line_feed) behind
+stage_lowers stage.NullDigit behind byte =
+    after_lowers (byte == 49) stage.NullEnd effect.Nothing behind (stage_rest stage.NullDigit behind) (omega arith) refl
+stage_lowers stage.NullEnd behind byte =
+    after_lowers (byte == carriage_return) stage.EmptyFeed effect.Nothing behind (stage_rest stage.NullEnd behind) (omega arith) refl
+stage_lowers stage.EmptyFeed behind byte = last_lowers (byte == line_feed) (stage_rest stage.EmptyFeed behind)
 
 -- and some bytes do
 
@@ -91,8 +111,8 @@ lower_on (byte ∷ bytes) frame last kept later most h low =
     elim (frame_step frame byte) as (λ s. frame_step frame byte ≡ s → Lowers s (rest_most frame) → (rest_most last < most) × (is_fresh last ≡ false)) [
       | step.On next does ↦ λ e lower.
           lower_on bytes next last (kept_by does byte kept) later most (sym (runs.read_on kept_by byte bytes frame kept next does e) ∙ h) (omega (arith, lower.0, low.0), lower.1)
-      | step.Whole ↦ λ e lower.
-          let none : Gives (kept_by effect.End byte kept) bytes ≡ Inside last later = sym (runs.read_whole kept_by byte bytes frame kept e) ∙ h in
+      | step.Whole does ↦ λ e lower.
+          let none : Gives (kept_by does byte kept) bytes ≡ Inside last later = sym (runs.read_whole kept_by byte bytes frame kept does e) ∙ h in
           absurd cc
       | step.Refused ↦ λ e lower.
           let none : Refuses (byte ∷ bytes) ≡ Inside last later = sym (runs.read_refused kept_by byte bytes frame kept e) ∙ h in
@@ -106,8 +126,8 @@ bytes_lower (byte ∷ bytes) frame last kept later some h =
     elim (frame_step frame byte) as (λ s. frame_step frame byte ≡ s → Lowers s (rest_most frame) → (rest_most last < rest_most frame) × (is_fresh last ≡ false)) [
       | step.On next does ↦ λ e low.
           lower_on bytes next last (kept_by does byte kept) later (rest_most frame) (sym (runs.read_on kept_by byte bytes frame kept next does e) ∙ h) low
-      | step.Whole ↦ λ e low.
-          let none : Gives (kept_by effect.End byte kept) bytes ≡ Inside last later = sym (runs.read_whole kept_by byte bytes frame kept e) ∙ h in
+      | step.Whole does ↦ λ e low.
+          let none : Gives (kept_by does byte kept) bytes ≡ Inside last later = sym (runs.read_whole kept_by byte bytes frame kept does e) ∙ h in
           absurd cc
       | step.Refused ↦ λ e low.
           let none : Refuses (byte ∷ bytes) ≡ Inside last later = sym (runs.read_refused kept_by byte bytes frame kept e) ∙ h in

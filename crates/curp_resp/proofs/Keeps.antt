@@ -10,8 +10,8 @@ use Rattle.std.proofs.lemmas.Slice.Eq.{bytes_eq-Decides}
 use Rattle.curp_io.specs.Streams.{one_more}
 use Rattle.curp_resp.specs.Frames.{frame_step}
 use Rattle.curp_resp.specs.Kept.{KeptArguments, Parts, kept_by, parts_by}
-use Rattle.curp_resp.specs.KeptMeaning.{command_behind_kept, command_of_kept, meaning_of_kept}
-use Rattle.curp_resp.specs.Meaning.{are_pairs, asked_by, command_behind, command_by, command_of, key_alone, key_in, meaning, multi_alone, pair_alone, pair_in, pairs_in, spells, swap_alone, value_in, word_of, word_text}
+use Rattle.curp_resp.specs.KeptMeaning.{asked_behind_kept, asked_of_kept, meaning_of_kept}
+use Rattle.curp_resp.specs.Meaning.{are_pairs, asked_behind, asked_by, asked_of, key_alone, key_in, meaning, multi_alone, of_command, or_wrong, pair_alone, pair_in, pairs_in, spells, swap_alone, text_alone, value_in, word_of, word_text}
 use Rattle.curp_resp.specs.Read.{Read, Inside, Gives, Refuses, read_by}
 use Rattle.curp_resp.specs.declared.asked.Wrong.TheVariants as wrong
 use Rattle.curp_resp.specs.declared.frame.Effect.{Effect}
@@ -94,10 +94,10 @@ reads_kept (byte ∷ bytes) frame parts =
           ∙ ap (λ k. read_by kept_by bytes next k) (sym (kept_after does byte parts))
           ∙ reads_kept bytes next (parts_by does byte parts)
           ∙ ap kept_read (sym (read_on parts_by byte bytes frame parts next does e))
-      | step.Whole ↦ λ e.
-          read_whole kept_by byte bytes frame (kept_of parts) e
-          ∙ ap (λ k. Gives k bytes) (sym (kept_after effect.End byte parts))
-          ∙ ap kept_read (sym (read_whole parts_by byte bytes frame parts e))
+      | step.Whole does ↦ λ e.
+          read_whole kept_by byte bytes frame (kept_of parts) does e
+          ∙ ap (λ k. Gives k bytes) (sym (kept_after does byte parts))
+          ∙ ap kept_read (sym (read_whole parts_by byte bytes frame parts does e))
       | step.Refused ↦ λ e.
           read_refused kept_by byte bytes frame (kept_of parts) e ∙ ap kept_read (sym (read_refused parts_by byte bytes frame parts e))
     ] refl
@@ -157,15 +157,21 @@ swap_alone_kept m (key ∷ expected ∷ value ∷ other ∷ rest) room = refl
 multi_alone_kept : (m : ℕ) (arguments : List (List ℕ)) → 129 ≤ m → multi_alone (map (λ a. take m a) arguments) ≡ multi_alone arguments
 multi_alone_kept m arguments room = rw (length-map arguments (λ a. take m a), pairs_kept m arguments room) refl
 
-command_kept : (w : Word) (m : ℕ) (arguments : List (List ℕ)) → 129 ≤ m → command_by w (map (λ a. take m a) arguments) ≡ command_by w arguments
-command_kept word.Get m arguments room = rw (key_alone_kept m arguments room) refl
-command_kept word.Set m arguments room = rw (pair_alone_kept m arguments room) refl
-command_kept word.Del m arguments room = rw (key_alone_kept m arguments room) refl
-command_kept word.Incr m arguments room = rw (key_alone_kept m arguments room) refl
-command_kept word.Append m arguments room = rw (pair_alone_kept m arguments room) refl
-command_kept word.CondPut m arguments room = swap_alone_kept m arguments room
-command_kept word.CondNew m arguments room = rw (pair_alone_kept m arguments room) refl
-command_kept word.MSet m arguments room = multi_alone_kept m arguments room
+text_alone_kept : (m : ℕ) (arguments : List (List ℕ)) → 129 ≤ m → text_alone (map (λ a. take m a) arguments) ≡ text_alone arguments
+text_alone_kept m [] room = refl
+text_alone_kept m (text ∷ []) room = value_kept m text room
+text_alone_kept m (text ∷ other ∷ rest) room = refl
+
+asked_kept : (w : Word) (m : ℕ) (arguments : List (List ℕ)) → 129 ≤ m → asked_by w (map (λ a. take m a) arguments) ≡ asked_by w arguments
+asked_kept word.Get m arguments room = rw (key_alone_kept m arguments room) refl
+asked_kept word.Set m arguments room = rw (pair_alone_kept m arguments room) refl
+asked_kept word.Del m arguments room = rw (key_alone_kept m arguments room) refl
+asked_kept word.Incr m arguments room = rw (key_alone_kept m arguments room) refl
+asked_kept word.Append m arguments room = rw (pair_alone_kept m arguments room) refl
+asked_kept word.CondPut m arguments room = ap of_command (swap_alone_kept m arguments room)
+asked_kept word.CondNew m arguments room = rw (pair_alone_kept m arguments room) refl
+asked_kept word.MSet m arguments room = ap of_command (multi_alone_kept m arguments room)
+asked_kept word.Echo m arguments room = rw (text_alone_kept m arguments room) refl
 
 -- ---- more arguments than are kept are too many
 
@@ -193,15 +199,21 @@ no_pairs count many = grind (arith, nat_tests)
 multi_alone_long : (arguments : List (List ℕ)) → 9 ≤ length arguments → multi_alone arguments ≡ Err wrong.Arguments
 multi_alone_long arguments many = rw (no_pairs (length arguments) many) refl
 
-command_long : (w : Word) (arguments : List (List ℕ)) → 9 ≤ length arguments → command_by w arguments ≡ Err wrong.Arguments
-command_long word.Get arguments many = rw (key_alone_long arguments many) refl
-command_long word.Set arguments many = rw (pair_alone_long arguments many) refl
-command_long word.Del arguments many = rw (key_alone_long arguments many) refl
-command_long word.Incr arguments many = rw (key_alone_long arguments many) refl
-command_long word.Append arguments many = rw (pair_alone_long arguments many) refl
-command_long word.CondPut arguments many = swap_alone_long arguments many
-command_long word.CondNew arguments many = rw (pair_alone_long arguments many) refl
-command_long word.MSet arguments many = multi_alone_long arguments many
+text_alone_long : (arguments : List (List ℕ)) → 9 ≤ length arguments → text_alone arguments ≡ Err wrong.Arguments
+text_alone_long [] many = absurd (omega arith)
+text_alone_long (text ∷ []) many = absurd (omega arith)
+text_alone_long (text ∷ other ∷ rest) many = refl
+
+asked_long : (w : Word) (arguments : List (List ℕ)) → 9 ≤ length arguments → asked_by w arguments ≡ Err wrong.Arguments
+asked_long word.Get arguments many = rw (key_alone_long arguments many) refl
+asked_long word.Set arguments many = rw (pair_alone_long arguments many) refl
+asked_long word.Del arguments many = rw (key_alone_long arguments many) refl
+asked_long word.Incr arguments many = rw (key_alone_long arguments many) refl
+asked_long word.Append arguments many = rw (pair_alone_long arguments many) refl
+asked_long word.CondPut arguments many = ap of_command (swap_alone_long arguments many)
+asked_long word.CondNew arguments many = rw (pair_alone_long arguments many) refl
+asked_long word.MSet arguments many = ap of_command (multi_alone_long arguments many)
+asked_long word.Echo arguments many = rw (text_alone_long arguments many) refl
 
 -- ---- words are short
 
@@ -221,6 +233,7 @@ word_short word.Append = omega arith
 word_short word.CondPut = omega arith
 word_short word.CondNew = omega arith
 word_short word.MSet = omega arith
+word_short word.Echo = omega arith
 
 spells_long : (bytes : List ℕ) (w : Word) → 7 < length bytes → spells bytes w ≡ false
 spells_long bytes w long =
@@ -238,6 +251,7 @@ word_long bytes long =
       spells_long bytes word.CondPut long,
       spells_long bytes word.CondNew long,
       spells_long bytes word.MSet long,
+      spells_long bytes word.Echo long,
     ) refl
 
 word_kept : (m : ℕ) (bytes : List ℕ) → 129 ≤ m → word_of (take m bytes) ≡ word_of bytes
@@ -262,25 +276,25 @@ no_more n = not_less n (min n (2 ^ 64 - 1)) (omega arith)
     not_less m k h = grind (arith, nat_tests)
 
 behind_kept : (w : Option Word) (first : List ℕ) (arguments : List (List ℕ))
-    → command_behind_kept w (nat_lt (length (take 129 first ∷ map (λ a. take 129 a) (take 8 arguments))) (min (length (first ∷ arguments)) (2 ^ 64 - 1))) (map (λ a. take 129 a) (take 8 arguments))
-    ≡ command_behind w arguments
+    → asked_behind_kept w (nat_lt (length (take 129 first ∷ map (λ a. take 129 a) (take 8 arguments))) (min (length (first ∷ arguments)) (2 ^ 64 - 1))) (map (λ a. take 129 a) (take 8 arguments))
+    ≡ asked_behind w arguments
 behind_kept None first arguments = refl
 behind_kept (Some w) first arguments =
     elim (cases_lt 8 (length arguments)) [
       | inl many ↦
           let len : length (take 129 first ∷ map (λ a. take 129 a) (take 8 arguments)) ≡ 9 =
           ap suc (length-map (take 8 arguments) (λ a. take 129 a) ∙ length-take-le 8 arguments (omega arith)) in
-          rw (len, more_than (length (first ∷ arguments)) (omega arith)) (sym (command_long w arguments many))
+          rw (len, more_than (length (first ∷ arguments)) (omega arith)) (sym (asked_long w arguments many))
       | inr few ↦
           let all : take 8 arguments ≡ arguments = take_all 8 arguments few in
           let len : length (take 129 first ∷ map (λ a. take 129 a) arguments) ≡ length (first ∷ arguments) = ap suc (length-map arguments (λ a. take 129 a)) in
-          rw (all, len, no_more (length (first ∷ arguments))) (command_kept w 129 arguments (omega arith))
+          rw (all, len, no_more (length (first ∷ arguments))) (asked_kept w 129 arguments (omega arith))
     ]
 
-command_of_all : (arguments : List (List ℕ))
-    → command_of_kept (map (λ a. take 129 a) (take 9 arguments)) (min (length arguments) (2 ^ 64 - 1)) ≡ command_of arguments
-command_of_all [] = refl
-command_of_all (first ∷ arguments) = rw (word_kept 129 first (omega arith)) (behind_kept (word_of first) first arguments)
+asked_of_all : (arguments : List (List ℕ))
+    → asked_of_kept (map (λ a. take 129 a) (take 9 arguments)) (min (length arguments) (2 ^ 64 - 1)) ≡ asked_of arguments
+asked_of_all [] = refl
+asked_of_all (first ∷ arguments) = rw (word_kept 129 first (omega arith)) (behind_kept (word_of first) first arguments)
 
 pub meaning_kept : (parts : Parts) → meaning_of_kept (kept_of parts) ≡ meaning parts.whole
-meaning_kept parts = ap asked_by (command_of_all parts.whole)
+meaning_kept parts = ap or_wrong (asked_of_all parts.whole)

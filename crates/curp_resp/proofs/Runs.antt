@@ -2,11 +2,10 @@
 use Rattle.std.proofs.Common.{◌≡◌, ℕ, List, [], ◌∷◌, ◌++◌, refl, ap, sym, ◌∙◌}
 use Rattle.curp_resp.specs.Frames.{fresh_frame, frame_step}
 use Rattle.curp_resp.specs.Input.{StandsFirst}
-use Rattle.curp_resp.specs.Kept.{Parts, no_parts, parts_by, parts_end}
+use Rattle.curp_resp.specs.Kept.{Parts, no_parts, parts_by}
 use Rattle.curp_resp.specs.Language.{IsRequest, IsFront}
 use Rattle.curp_resp.specs.Read.{Read, Inside, Gives, Refuses, read_by}
 use Rattle.curp_resp.specs.declared.frame.Effect.{Effect}
-use Rattle.curp_resp.specs.declared.frame.Effect.TheVariants as effect
 use Rattle.curp_resp.specs.declared.frame.Frame.{Frame}
 use Rattle.curp_resp.specs.declared.frame.Step.TheVariants as step
 use Rattle.curp_resp.proofs.Completes.{Completes, CompletesBehind, completes_request, forth, none_completes, request_completes}
@@ -18,8 +17,8 @@ module _ {A : Type 0} (keep : Effect → ℕ → A → A) (byte : ℕ) (bytes : 
   pub read_on : (next : Frame) (does : Effect) → frame_step frame byte ≡ step.On next does → read_by keep (byte ∷ bytes) frame kept ≡ read_by keep bytes next (keep does byte kept)
   read_on next does e = rw (e, read_by) refl
 
-  pub read_whole : frame_step frame byte ≡ step.Whole → read_by keep (byte ∷ bytes) frame kept ≡ Gives (keep effect.End byte kept) bytes
-  read_whole e = rw (e, read_by) refl
+  pub read_whole : (does : Effect) → frame_step frame byte ≡ step.Whole does → read_by keep (byte ∷ bytes) frame kept ≡ Gives (keep does byte kept) bytes
+  read_whole does e = rw (e, read_by) refl
 
   pub read_refused : frame_step frame byte ≡ step.Refused → read_by keep (byte ∷ bytes) frame kept ≡ Refuses (byte ∷ bytes)
   read_refused e = rw (e, read_by) refl
@@ -41,7 +40,7 @@ read_append keep (byte ∷ front) bytes frame kept =
           read_on keep byte (front ++ bytes) frame kept next does e
           ∙ read_append keep front bytes next (keep does byte kept)
           ∙ ap (λ r. read_behind keep r bytes) (sym (read_on keep byte front frame kept next does e))
-      | step.Whole ↦ λ e. read_whole keep byte (front ++ bytes) frame kept e ∙ ap (λ r. read_behind keep r bytes) (sym (read_whole keep byte front frame kept e))
+      | step.Whole does ↦ λ e. read_whole keep byte (front ++ bytes) frame kept does e ∙ ap (λ r. read_behind keep r bytes) (sym (read_whole keep byte front frame kept does e))
       | step.Refused ↦ λ e. read_refused keep byte (front ++ bytes) frame kept e ∙ ap (λ r. read_behind keep r bytes) (sym (read_refused keep byte front frame kept e))
     ] refl
 
@@ -61,9 +60,9 @@ completes_read (byte ∷ spelled) rest frame parts arguments h =
       | step.On next does ↦ λ e c.
           let more = completes_read spelled rest next (parts_by does byte parts) arguments c in
           record { given = more.given; read = read_on parts_by byte (spelled ++ rest) frame parts next does e ∙ more.read; whole = more.whole }
-      | step.Whole ↦ λ e c. record {
-        given = parts_end parts;
-        read = read_whole parts_by byte (spelled ++ rest) frame parts e ∙ ap (λ w. Gives (parts_end parts) (w ++ rest)) c.0;
+      | step.Whole does ↦ λ e c. record {
+        given = parts_by does byte parts;
+        read = read_whole parts_by byte (spelled ++ rest) frame parts does e ∙ ap (λ w. Gives (parts_by does byte parts) (w ++ rest)) c.0;
         whole = c.1;
       }
       | step.Refused ↦ λ e c. absurd c
@@ -89,9 +88,9 @@ read_completes (byte ∷ bytes) frame parts given rest h =
             completes = back frame.stage frame.behind parts byte given.whole more.spelled (rw e more.completes);
             is = ap (λ w. byte ∷ w) more.is;
           }
-      | step.Whole ↦ λ e.
-          let whole : Gives (parts_end parts) bytes ≡ Gives given rest = sym (read_whole parts_by byte bytes frame parts e) ∙ h in
-          let same : parts_end parts ≡ given = cc in
+      | step.Whole does ↦ λ e.
+          let whole : Gives (parts_by does byte parts) bytes ≡ Gives given rest = sym (read_whole parts_by byte bytes frame parts does e) ∙ h in
+          let same : parts_by does byte parts ≡ given = cc in
           record {
             spelled = byte ∷ [];
             completes = back frame.stage frame.behind parts byte given.whole [] (rw e (refl, ap (λ p. p.whole) same));
@@ -117,8 +116,8 @@ inside_completes (byte ∷ bytes) tail frame last parts then arguments h c =
       | step.On next does ↦ λ e.
           back frame.stage frame.behind parts byte arguments (bytes ++ tail)
           (rw e (inside_completes bytes tail next last (parts_by does byte parts) then arguments (sym (read_on parts_by byte bytes frame parts next does e) ∙ h) c))
-      | step.Whole ↦ λ e.
-          let none : Gives (parts_end parts) bytes ≡ Inside last then = sym (read_whole parts_by byte bytes frame parts e) ∙ h in
+      | step.Whole does ↦ λ e.
+          let none : Gives (parts_by does byte parts) bytes ≡ Inside last then = sym (read_whole parts_by byte bytes frame parts does e) ∙ h in
           absurd cc
       | step.Refused ↦ λ e.
           let none : Refuses (byte ∷ bytes) ≡ Inside last then = sym (read_refused parts_by byte bytes frame parts e) ∙ h in
@@ -134,8 +133,8 @@ inside_completable [] frame last parts then some h =
 inside_completable (byte ∷ bytes) frame last parts then some h =
     elim (frame_step frame byte) as (λ s. frame_step frame byte ≡ s → Completable s → SomeCompletion last.stage last.behind then) [
       | step.On next does ↦ λ e more. inside_completable bytes next last (parts_by does byte parts) then more (sym (read_on parts_by byte bytes frame parts next does e) ∙ h)
-      | step.Whole ↦ λ e more.
-          let none : Gives (parts_end parts) bytes ≡ Inside last then = sym (read_whole parts_by byte bytes frame parts e) ∙ h in
+      | step.Whole does ↦ λ e more.
+          let none : Gives (parts_by does byte parts) bytes ≡ Inside last then = sym (read_whole parts_by byte bytes frame parts does e) ∙ h in
           absurd cc
       | step.Refused ↦ λ e more.
           let none : Refuses (byte ∷ bytes) ≡ Inside last then = sym (read_refused parts_by byte bytes frame parts e) ∙ h in

@@ -5,7 +5,7 @@ use Rattle.curp_io.specs.declared.source.Taken.TheVariants as taken
 use Rattle.curp_resp.specs.Ahead.{Ahead}
 use Rattle.curp_resp.specs.Frames.{fresh_frame}
 use Rattle.curp_resp.specs.Input.{place_behind}
-use Rattle.curp_resp.specs.Kept.{KeptArguments, kept_by, kept_end, nothing_kept}
+use Rattle.curp_resp.specs.Kept.{KeptArguments, kept_by, nothing_kept}
 use Rattle.curp_resp.specs.Read.{Read, Inside, Gives, Refuses, read_by}
 use Rattle.curp_resp.specs.declared.frame.Step.{Step}
 use Rattle.curp_resp.specs.declared.frame.Step.TheVariants as step
@@ -17,7 +17,8 @@ use Rattle.curp_resp.specs.declared.reading.Reading.{Reading}
 abbrev pub TakesByte : Step → ℕ → KeptArguments → Progress → Reading → Type 0
 TakesByte (step.On frame effect) byte kept answer new =
     (answer ≡ progress.More) × (new ≡ record { frame = frame; arguments = kept_by effect byte kept })
-TakesByte step.Whole byte kept answer new = (answer ≡ progress.Whole) × (new.arguments ≡ kept_end kept)
+TakesByte (step.Whole effect) byte kept answer new =
+    (answer ≡ progress.Whole) × (new.arguments ≡ kept_by effect byte kept)
 TakesByte step.Refused byte kept answer new = answer ≡ progress.Refused
 
 -- what these bytes come to behind those that were read

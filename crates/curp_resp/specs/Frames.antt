@@ -1,6 +1,6 @@
 -- Where the reading of a request stands, and what its next byte does.
-use Rattle.std.specs.Prelude.{ℕ, zero, suc, ◌+◌, ◌-◌, ◌*◌, ◌==◌, ◌&&◌, ◌||◌, nat_le, nat_lt, Bool, true, false}
-use Rattle.std.specs.Prelude.{if◌then◌else◌, ◌≤◌, ⊤}
+use Rattle.std.specs.Prelude.{ℕ, zero, suc, ◌+◌, ◌-◌, ◌*◌, ◌==◌, ◌&&◌, nat_le, nat_lt, Bool, true, false}
+use Rattle.std.specs.Prelude.{if◌then◌else◌}
 use Rattle.curp_resp.specs.Language.{star, dollar, carriage_return, line_feed}
 use Rattle.curp_resp.specs.declared.frame.Effect.{Effect}
 use Rattle.curp_resp.specs.declared.frame.Effect.TheVariants as effect
@@ -23,37 +23,27 @@ no_digits = record { value = 0; count = 0 }
 abbrev pub with_digit : Digits → ℕ → Digits
 with_digit digits digit = record { value = 10 * digits.value + digit; count = digits.count + 1 }
 
--- a number within these bounds may begin with the digits, where the lower is at most 1
-abbrev pub may_begin : ℕ → ℕ → Digits → Bool
-may_begin low high digits = nat_le digits.value high && (nat_le low digits.value || nat_lt digits.count 5)
-
--- a number within these bounds has these digits
-abbrev pub may_end : ℕ → ℕ → Digits → Bool
-may_end low high digits = nat_le 1 digits.count && nat_le low digits.value && nat_le digits.value high
+-- a number up to this one has these digits
+abbrev pub may_end : ℕ → Digits → Bool
+may_end most digits = nat_le 1 digits.count && nat_le digits.value most
 
 -- the byte is a digit
 abbrev pub is_digit : ℕ → Bool
 is_digit byte = nat_le 48 byte && nat_le byte 57
 
--- what a digit of this value does to a number within these bounds
-abbrev pub digit_step : ℕ → ℕ → Digits → ℕ → NumberStep
-digit_step low high digits digit =
-    if nat_lt digits.count 5 && may_begin low high (with_digit digits digit)
+-- what a digit of this value does to a number up to this one
+abbrev pub digit_step : ℕ → Digits → ℕ → NumberStep
+digit_step most digits digit =
+    if nat_lt digits.count 5 && nat_le (with_digit digits digit).value most
     then number.More (with_digit digits digit)
     else number.Refused
 
 -- what the next byte does to it
-abbrev pub number_step : ℕ → ℕ → Digits → ℕ → NumberStep
-number_step low high digits byte =
+abbrev pub number_step : ℕ → Digits → ℕ → NumberStep
+number_step most digits byte =
     if is_digit byte
-    then digit_step low high digits (byte - 48)
-    else (if byte == carriage_return && may_end low high digits then number.Ends digits.value else number.Refused)
-
--- a number that is whole is at least this
-abbrev pub EndsWithin : ℕ → NumberStep → Type 0
-EndsWithin low (number.More digits) = ⊤
-EndsWithin low (number.Ends value) = low ≤ value
-EndsWithin low number.Refused = ⊤
+    then digit_step most digits (byte - 48)
+    else (if byte == carriage_return && may_end most digits then number.Ends digits.value else number.Refused)
 
 -- ---- frames
 
@@ -70,6 +60,9 @@ is_fresh_stage (stage.Size digits) = false
 is_fresh_stage (stage.SizeFeed size) = false
 is_fresh_stage (stage.Bytes left) = false
 is_fresh_stage stage.BytesFeed = false
+is_fresh_stage stage.NullDigit = false
+is_fresh_stage stage.NullEnd = false
+is_fresh_stage stage.EmptyFeed = false
 
 -- nothing was read at this frame
 abbrev pub is_fresh : Frame → Bool
@@ -80,10 +73,32 @@ abbrev pub after_byte : ℕ → Stage → Effect → ℕ → ℕ → Step
 after_byte wanted next does behind byte =
     if byte == wanted then step.On (record { stage = next; behind = behind }) does else step.Refused
 
+-- the first byte: that of an array, or of an empty line, which a line feed alone is too
+abbrev pub first_step : ℕ → ℕ → Step
+first_step behind byte =
+    if byte == line_feed then step.Whole effect.Nothing
+    else (
+    if byte == carriage_return then step.On (record { stage = stage.EmptyFeed; behind = behind }) effect.Nothing
+    else after_byte star (stage.Count no_digits) effect.Nothing behind byte
+    )
+
 abbrev pub count_step : NumberStep → Step
 count_step (number.More digits) = step.On (record { stage = stage.Count digits; behind = 0 }) effect.Nothing
-count_step (number.Ends count) = step.On (record { stage = stage.CountFeed; behind = count - 1 }) effect.Nothing
+count_step (number.Ends zero) = step.On (record { stage = stage.EmptyFeed; behind = 0 }) effect.Nothing
+count_step (number.Ends (suc behind)) =
+    step.On (record { stage = stage.CountFeed; behind = behind }) effect.Nothing
 count_step number.Refused = step.Refused
+
+-- the minus sign of an array that is none
+abbrev pub is_minus : Digits → ℕ → Bool
+is_minus digits byte = byte == 45 && digits.count == 0
+
+-- a byte of the number of arguments
+abbrev pub length_step : Digits → ℕ → ℕ → Step
+length_step digits behind byte =
+    if is_minus digits byte
+    then step.On (record { stage = stage.NullDigit; behind = behind }) effect.Nothing
+    else count_step (number_step 64 digits byte)
 
 abbrev pub size_step : ℕ → NumberStep → Step
 size_step behind (number.More digits) = step.On (record { stage = stage.Size digits; behind = behind }) effect.Nothing
@@ -97,19 +112,22 @@ bytes_step (suc left) behind byte = step.On (record { stage = stage.Bytes left; 
 
 -- an argument is whole, and so many are to come behind it
 abbrev pub argument_step : ℕ → Step
-argument_step zero = step.Whole
+argument_step zero = step.Whole effect.End
 argument_step (suc behind) = step.On (record { stage = stage.Dollar; behind = behind }) effect.End
 
 -- what the next byte does, where so many arguments are to come behind the one in work
 abbrev pub stage_step : Stage → ℕ → ℕ → Step
-stage_step stage.Star behind byte = after_byte star (stage.Count no_digits) effect.Nothing behind byte
-stage_step (stage.Count digits) behind byte = count_step (number_step 1 64 digits byte)
+stage_step stage.Star behind byte = first_step behind byte
+stage_step (stage.Count digits) behind byte = length_step digits behind byte
 stage_step stage.CountFeed behind byte = after_byte line_feed stage.Dollar effect.Nothing behind byte
 stage_step stage.Dollar behind byte = after_byte dollar (stage.Size no_digits) effect.Nothing behind byte
-stage_step (stage.Size digits) behind byte = size_step behind (number_step 0 65536 digits byte)
+stage_step (stage.Size digits) behind byte = size_step behind (number_step 65536 digits byte)
 stage_step (stage.SizeFeed size) behind byte = after_byte line_feed (stage.Bytes size) effect.Begin behind byte
 stage_step (stage.Bytes left) behind byte = bytes_step left behind byte
 stage_step stage.BytesFeed behind byte = if byte == line_feed then argument_step behind else step.Refused
+stage_step stage.NullDigit behind byte = after_byte 49 stage.NullEnd effect.Nothing behind byte
+stage_step stage.NullEnd behind byte = after_byte carriage_return stage.EmptyFeed effect.Nothing behind byte
+stage_step stage.EmptyFeed behind byte = if byte == line_feed then step.Whole effect.Nothing else step.Refused
 
 abbrev pub frame_step : Frame → ℕ → Step
 frame_step frame byte = stage_step frame.stage frame.behind byte
@@ -130,6 +148,9 @@ stage_rest (stage.Size digits) behind = (5 - digits.count) + 65540 + behind * lo
 stage_rest (stage.SizeFeed size) behind = size + 3 + behind * longest_bulk
 stage_rest (stage.Bytes left) behind = left + 2 + behind * longest_bulk
 stage_rest stage.BytesFeed behind = 1 + behind * longest_bulk
+stage_rest stage.NullDigit behind = 3
+stage_rest stage.NullEnd behind = 2
+stage_rest stage.EmptyFeed behind = 1
 
 abbrev pub rest_most : Frame → ℕ
 rest_most frame = stage_rest frame.stage frame.behind

@@ -1,5 +1,5 @@
--- The requests of Redis' protocol as bytes: arrays of bulk strings (this project's own bounds).
-use Rattle.std.specs.Prelude.{◌≡◌, ℕ, ◌+◌, ◌-◌, ◌*◌, ◌≤◌, List, [], ◌∷◌, ◌++◌, length}
+-- The requests of Redis' protocol as bytes: arrays of bulk strings, and empty lines (this project's own bounds).
+use Rattle.std.specs.Prelude.{◌≡◌, ◌⊎◌, ℕ, ◌+◌, ◌-◌, ◌*◌, ◌≤◌, codes, List, [], ◌∷◌, ◌++◌, length}
 use Rattle.curp_base.specs.Words.{Each}
 
 -- ---- bytes
@@ -35,21 +35,20 @@ abbrev pub number_behind : ℕ → List ℕ → ℕ
 number_behind value [] = value
 number_behind value (digit ∷ digits) = number_behind (10 * value + (digit - 48)) digits
 
--- one to five decimal digits spell a number within these bounds; zeros in front are digits as any
-pub record IsNumber (low high : ℕ) (digits : List ℕ) (number : ℕ) : Type 0 where
+-- one to five decimal digits spell a number up to this one; zeros in front are digits as any
+pub record IsNumber (most : ℕ) (digits : List ℕ) (number : ℕ) : Type 0 where
   pub some : 1 ≤ length digits
   pub few : length digits ≤ 5
   pub decimal : Each IsDigit digits
   pub value : number_behind 0 digits ≡ number
-  pub least : low ≤ number
-  pub most : number ≤ high
+  pub within : number ≤ most
 
 -- ---- requests
 
 -- `$len` and a line's end, so many bytes, and a line's end
 pub record IsBulk (spelled bytes : List ℕ) : Type 0 where
   pub digits : List ℕ
-  pub size : IsNumber 0 65536 digits (length bytes)
+  pub size : IsNumber 65536 digits (length bytes)
   pub is : dollar ∷ line_before digits (line_before bytes []) ≡ spelled
 
 -- a bulk string of these bytes, and such a rest
@@ -66,12 +65,21 @@ AreBulks [] spelled = spelled ≡ []
 AreBulks (bytes ∷ arguments) spelled = BeginsWithBulk (AreBulks arguments) spelled bytes
 
 -- `*n` and a line's end, and so many bulk strings, the arguments
-pub record IsRequest (spelled : List ℕ) (arguments : List (List ℕ)) : Type 0 where
+pub record IsArray (spelled : List ℕ) (arguments : List (List ℕ)) : Type 0 where
   pub digits : List ℕ
   pub bulks : List ℕ
-  pub count : IsNumber 1 64 digits (length arguments)
+  pub count : IsNumber 64 digits (length arguments)
   pub each : AreBulks arguments bulks
   pub is : star ∷ line_before digits bulks ≡ spelled
+
+-- an empty line, which may lack its carriage return, or the array that is none
+abbrev pub IsEmpty : List ℕ → Type 0
+IsEmpty spelled =
+    (spelled ≡ line_feed ∷ []) ⊎ (spelled ≡ line_before [] []) ⊎ (spelled ≡ star ∷ line_before (codes "-1") [])
+
+-- an array, or what stands for no arguments
+abbrev pub IsRequest : List ℕ → List (List ℕ) → Type 0
+IsRequest spelled arguments = IsArray spelled arguments ⊎ ((arguments ≡ []) × IsEmpty spelled)
 
 -- some request begins with these bytes
 pub record IsFront (bytes : List ℕ) : Type 0 where

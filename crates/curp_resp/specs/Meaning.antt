@@ -8,6 +8,7 @@ use Rattle.curp_cmd.specs.declared.command.Command.{Command}
 use Rattle.curp_cmd.specs.declared.command.Command.TheVariants as command
 use Rattle.curp_resp.specs.declared.asked.Asked.{Asked}
 use Rattle.curp_resp.specs.declared.asked.Asked.TheVariants as asked
+use Rattle.curp_resp.specs.declared.asked.Other.TheVariants as other
 use Rattle.curp_resp.specs.declared.asked.Wrong.{Wrong}
 use Rattle.curp_resp.specs.declared.asked.Wrong.TheVariants as wrong
 use Rattle.curp_resp.specs.declared.word.Word.{Word}
@@ -18,7 +19,7 @@ use Rattle.curp_resp.specs.declared.word.Word.TheVariants as word
 -- the words that a request may begin with
 abbrev pub words : List Word
 words =
-    word.Get ∷ word.Set ∷ word.Del ∷ word.Incr ∷ word.Append ∷ word.CondPut ∷ word.CondNew ∷ word.MSet ∷ []
+    word.Get ∷ word.Set ∷ word.Del ∷ word.Incr ∷ word.Append ∷ word.CondPut ∷ word.CondNew ∷ word.MSet ∷ word.Echo ∷ []
 
 abbrev pub word_text : Word → List ℕ
 word_text word.Get = codes "GET"
@@ -29,6 +30,7 @@ word_text word.Append = codes "APPEND"
 word_text word.CondPut = codes "CONDPUT"
 word_text word.CondNew = codes "CONDNEW"
 word_text word.MSet = codes "MSET"
+word_text word.Echo = codes "ECHO"
 
 -- the bytes spell the word, each letter in either case
 abbrev pub spells : List ℕ → Word → Bool
@@ -87,32 +89,41 @@ multi_alone arguments =
     >>= λ pairs. refuse_if (names_twice pairs) wrong.KeyTwice
     >>= λ _. Ok (command.Multi pairs)
 
--- what a word means with these arguments
-abbrev pub command_by : Word → List (List ℕ) → Result Command Wrong
-command_by word.Get arguments = key_alone arguments >>= λ key. Ok (command.Get key)
-command_by word.Set arguments = pair_alone arguments >>= λ p. Ok (command.Put p.0 p.1)
-command_by word.Del arguments = key_alone arguments >>= λ key. Ok (command.Delete key)
-command_by word.Incr arguments = key_alone arguments >>= λ key. Ok (command.Incr key)
-command_by word.Append arguments = pair_alone arguments >>= λ p. Ok (command.Append p.0 p.1)
-command_by word.CondPut arguments = swap_alone arguments
-command_by word.CondNew arguments = pair_alone arguments >>= λ p. Ok (command.CondPut p.0 None p.1)
-command_by word.MSet arguments = multi_alone arguments
+-- one argument, of as many bytes as a value
+abbrev pub text_alone : List (List ℕ) → Result (List ℕ) Wrong
+text_alone (text ∷ []) = value_in text
+text_alone _ = Err wrong.Arguments
+
+abbrev pub of_command : Result Command Wrong → Result Asked Wrong
+of_command r = r >>= λ c. Ok (asked.Command c)
+
+-- what a word asks with these arguments
+abbrev pub asked_by : Word → List (List ℕ) → Result Asked Wrong
+asked_by word.Get arguments = of_command (key_alone arguments >>= λ key. Ok (command.Get key))
+asked_by word.Set arguments = of_command (pair_alone arguments >>= λ p. Ok (command.Put p.0 p.1))
+asked_by word.Del arguments = of_command (key_alone arguments >>= λ key. Ok (command.Delete key))
+asked_by word.Incr arguments = of_command (key_alone arguments >>= λ key. Ok (command.Incr key))
+asked_by word.Append arguments = of_command (pair_alone arguments >>= λ p. Ok (command.Append p.0 p.1))
+asked_by word.CondPut arguments = of_command (swap_alone arguments)
+asked_by word.CondNew arguments = of_command (pair_alone arguments >>= λ p. Ok (command.CondPut p.0 None p.1))
+asked_by word.MSet arguments = of_command (multi_alone arguments)
+asked_by word.Echo arguments = text_alone arguments >>= λ text. Ok (asked.Other (other.Echo text))
 
 -- ---- requests
 
-abbrev pub command_behind : Option Word → List (List ℕ) → Result Command Wrong
-command_behind None arguments = Err wrong.Unknown
-command_behind (Some w) arguments = command_by w arguments
+abbrev pub asked_behind : Option Word → List (List ℕ) → Result Asked Wrong
+asked_behind None arguments = Err wrong.Unknown
+asked_behind (Some w) arguments = asked_by w arguments
 
--- the command of a request, the first argument of which is its word; no request is empty
-abbrev pub command_of : List (List ℕ) → Result Command Wrong
-command_of [] = Err wrong.Unknown
-command_of (first ∷ arguments) = command_behind (word_of first) arguments
+-- what a request asks, the first argument of which is its word; one of no arguments asks nothing
+abbrev pub asked_of : List (List ℕ) → Result Asked Wrong
+asked_of [] = Ok (asked.Other other.Nothing)
+asked_of (first ∷ arguments) = asked_behind (word_of first) arguments
 
-abbrev pub asked_by : Result Command Wrong → Asked
-asked_by (Ok c) = asked.Command c
-asked_by (Err why) = asked.Wrong why
+abbrev pub or_wrong : Result Asked Wrong → Asked
+or_wrong (Ok a) = a
+or_wrong (Err why) = asked.Other (other.Wrong why)
 
--- what a request with these arguments means: a command, or the first of the errors that holds
+-- what a request with these arguments means, or the first of the errors that holds
 abbrev pub meaning : List (List ℕ) → Asked
-meaning arguments = asked_by (command_of arguments)
+meaning arguments = or_wrong (asked_of arguments)

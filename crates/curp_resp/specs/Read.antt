@@ -2,7 +2,6 @@
 use Rattle.std.specs.Prelude.{ℕ, List, [], ◌∷◌}
 use Rattle.curp_resp.specs.Frames.{frame_step}
 use Rattle.curp_resp.specs.declared.frame.Effect.{Effect}
-use Rattle.curp_resp.specs.declared.frame.Effect.TheVariants as effect
 use Rattle.curp_resp.specs.declared.frame.Frame.{Frame}
 use Rattle.curp_resp.specs.declared.frame.Step.TheVariants as step
 
@@ -19,6 +18,6 @@ read_by keep [] frame kept = Inside frame kept
 read_by keep (byte ∷ bytes) frame kept =
     elim (frame_step frame byte) [
       | step.On next effect ↦ read_by keep bytes next (keep effect byte kept)
-      | step.Whole ↦ Gives (keep effect.End byte kept) bytes
+      | step.Whole effect ↦ Gives (keep effect byte kept) bytes
       | step.Refused ↦ Refuses (byte ∷ bytes)
     ]

@@ -5,6 +5,8 @@ use Rattle.std.specs.Fmt.{decimal}
 use Rattle.curp_cmd.specs.declared.command.Answer.{Answer}
 use Rattle.curp_cmd.specs.declared.command.Answer.TheVariants as answer
 use Rattle.curp_resp.specs.Language.{line_before}
+use Rattle.curp_resp.specs.declared.asked.Other.{Other}
+use Rattle.curp_resp.specs.declared.asked.Other.TheVariants as other
 use Rattle.curp_resp.specs.declared.asked.Wrong.{Wrong}
 use Rattle.curp_resp.specs.declared.asked.Wrong.TheVariants as wrong
 
@@ -47,12 +49,18 @@ reply_of answer.Overflow = error (codes "overflow")
 reply_of answer.TooLong = error (codes "too long")
 reply_of (answer.Found value) = found_text value
 
--- the reply to a request that means no command
+-- the reply to a request that is none of the table
 abbrev pub wrong_of : Wrong → List ℕ
 wrong_of wrong.Unknown = error (codes "unknown command")
 wrong_of wrong.Arguments = error (codes "arguments")
 wrong_of wrong.Size = error (codes "size")
 wrong_of wrong.KeyTwice = error (codes "key twice")
+
+-- the reply to a request that means no command; one that asks nothing gets none
+abbrev pub other_of : Other → List ℕ
+other_of other.Nothing = []
+other_of (other.Echo text) = bulk text
+other_of (other.Wrong why) = wrong_of why
 
 -- the reply to bytes that are no request
 abbrev pub protocol_error : List ℕ

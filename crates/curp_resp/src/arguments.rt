@@ -54,7 +54,7 @@ impl Arguments {
     }
 
     /// The argument in work is whole.
-    pub(crate) fn end(&mut self)
+    fn end(&mut self)
         ensures { self.new ≡ kept_end self.old }
     {
         if self.len < MOST_KEPT {

@@ -1,14 +1,25 @@
-use curp_cmd::Command;
+use curp_cmd::{Command, Value};
 
 /// What a request means.
 #[derive(Clone, Copy, PartialEq, Eq)]
 pub enum Asked {
     Command(Command),
-    /// It means no command, for the first of these reasons that holds.
+    /// It means no command. Its reply hangs on nothing else.
+    Other(Other),
+}
+
+/// What a request means that means no command.
+#[derive(Clone, Copy, PartialEq, Eq)]
+pub enum Other {
+    /// It has no arguments, as an empty line, and gets no reply.
+    Nothing,
+    /// These bytes are the reply.
+    Echo(Value),
+    /// It is wrong, for the first of these reasons that holds.
     Wrong(Wrong),
 }
 
-/// Why a request means no command.
+/// Why a request is wrong.
 #[derive(Clone, Copy, Debug, PartialEq, Eq)]
 pub enum Wrong {
     /// Its first argument is no word of the table.

@@ -1,11 +1,11 @@
 ghost use Rattle.std.specs.Prelude.{◌≡◌, ◌≤◌, length, if◌then◌else◌, Ok, Err};
 ghost use Rattle.curp_cmd.specs.Pairs.{names_twice};
-ghost use Rattle.curp_resp.specs.KeptMeaning.{command_of_kept, meaning_of_kept, two_pairs_alone};
-ghost use Rattle.curp_resp.specs.Meaning.{command_by, key_alone, multi_alone, pair_alone, swap_alone};
+ghost use Rattle.curp_resp.specs.KeptMeaning.{asked_of_kept, meaning_of_kept, two_pairs_alone};
+ghost use Rattle.curp_resp.specs.Meaning.{asked_by, key_alone, multi_alone, pair_alone, swap_alone, text_alone};
 
 use crate::argument::{Argument, pair_of};
 use crate::arguments::Arguments;
-use crate::asked::{Asked, Wrong};
+use crate::asked::{Asked, Other, Wrong};
 use crate::word::Word;
 use curp_cmd::{Command, Key, MultiError, Value};
 
@@ -13,18 +13,18 @@ use curp_cmd::{Command, Key, MultiError, Value};
 pub(crate) fn meaning_of(arguments: &Arguments) -> Asked
     ensures { result ≡ meaning_of_kept arguments.now }
 {
-    match command_of(arguments) {
-        Ok(command) => Asked::Command(command),
-        Err(wrong) => Asked::Wrong(wrong),
+    match asked_of(arguments) {
+        Ok(asked) => asked,
+        Err(wrong) => Asked::Other(Other::Wrong(wrong)),
     }
 }
 
-fn command_of(arguments: &Arguments) -> Result<Command, Wrong>
-    ensures { result ≡ command_of_kept arguments.now.whole arguments.now.count }
+fn asked_of(arguments: &Arguments) -> Result<Asked, Wrong>
+    ensures { result ≡ asked_of_kept arguments.now.whole arguments.now.count }
 {
     let whole = arguments.whole();
     let Some((first, others)) = whole.split_first() else {
-        return Err(Wrong::Unknown);
+        return Ok(Asked::Other(Other::Nothing));
     };
     let Some(word) = Word::of(first.bytes()) else {
         return Err(Wrong::Unknown);
@@ -32,32 +32,34 @@ fn command_of(arguments: &Arguments) -> Result<Command, Wrong>
     if (whole.len() as u64) < arguments.count() {
         return Err(Wrong::Arguments);
     }
-    command_by(word, others)
+    asked_by(word, others)
 }
 
-/// What a word means with these arguments.
-fn command_by(word: Word, arguments: &[Argument]) -> Result<Command, Wrong>
-    ensures { result ≡ command_by word arguments.now }
+/// What a word asks with these arguments.
+fn asked_by(word: Word, arguments: &[Argument]) -> Result<Asked, Wrong>
+    ensures { result ≡ asked_by word arguments.now }
 {
-    match word {
-        Word::Get => Ok(Command::Get(key_alone(arguments)?)),
-        Word::Del => Ok(Command::Delete(key_alone(arguments)?)),
-        Word::Incr => Ok(Command::Incr(key_alone(arguments)?)),
+    let command = match word {
+        Word::Get => Command::Get(key_alone(arguments)?),
+        Word::Del => Command::Delete(key_alone(arguments)?),
+        Word::Incr => Command::Incr(key_alone(arguments)?),
         Word::Set => {
             let (key, value) = pair_alone(arguments)?;
-            Ok(Command::Put(key, value))
+            Command::Put(key, value)
         }
         Word::Append => {
             let (key, more) = pair_alone(arguments)?;
-            Ok(Command::Append(key, more))
+            Command::Append(key, more)
         }
         Word::CondNew => {
             let (key, value) = pair_alone(arguments)?;
-            Ok(Command::CondPut(key, None, value))
+            Command::CondPut(key, None, value)
         }
-        Word::CondPut => swap_alone(arguments),
-        Word::MSet => multi_alone(arguments),
-    }
+        Word::CondPut => swap_alone(arguments)?,
+        Word::MSet => multi_alone(arguments)?,
+        Word::Echo => return Ok(Asked::Other(Other::Echo(text_alone(arguments)?))),
+    };
+    Ok(Asked::Command(command))
 }
 
 fn key_alone(arguments: &[Argument]) -> Result<Key, Wrong>
@@ -74,6 +76,15 @@ fn pair_alone(arguments: &[Argument]) -> Result<(Key, Value), Wrong>
 {
     match arguments {
         [key, value] => pair_of(key, value),
+        _ => Err(Wrong::Arguments),
+    }
+}
+
+fn text_alone(arguments: &[Argument]) -> Result<Value, Wrong>
+    ensures { result ≡ text_alone arguments.now }
+{
+    match arguments {
+        [text] => text.value(),
         _ => Err(Wrong::Arguments),
     }
 }

@@ -1,22 +1,19 @@
 ghost use Rattle.std.specs.Prelude.{◌≡◌};
-ghost use Rattle.curp_resp.specs.Frames.{EndsWithin, after_byte, argument_step, count_step, frame_step, fresh_frame};
-ghost use Rattle.curp_resp.specs.Frames.{is_fresh, size_step};
+ghost use Rattle.curp_resp.specs.Frames.{after_byte, argument_step, count_step, first_step, frame_step, fresh_frame};
+ghost use Rattle.curp_resp.specs.Frames.{is_fresh, length_step, size_step};
 
-use crate::number::{Bounds, Digits, NumberStep};
+use crate::number::{Digits, NumberStep};
 
 /// How many arguments a request may have.
-const COUNT: Bounds = Bounds { low: 1, high: 64 };
+const MOST_ARGUMENTS: u32 = 64;
 
 /// How many bytes an argument may have.
-const SIZE: Bounds = Bounds {
-    low: 0,
-    high: 65_536,
-};
+const MOST_SIZE: u32 = 65_536;
 
 /// What is read next of a request.
 #[derive(Clone, Copy)]
 pub(crate) enum Stage {
-    /// The star in front.
+    /// The star in front, or an empty line.
     Star,
     /// The number of arguments, of which these digits were read.
     Count(Digits),
@@ -32,6 +29,12 @@ pub(crate) enum Stage {
     Bytes(u32),
     /// The line feed behind that.
     BytesFeed,
+    /// The `1` behind the minus sign of an array that is none.
+    NullDigit,
+    /// The carriage return behind it.
+    NullEnd,
+    /// The line feed that ends a request of no arguments.
+    EmptyFeed,
 }
 
 /// Where the reading of a request stands.
@@ -58,8 +61,8 @@ pub(crate) enum Effect {
 #[derive(Clone, Copy)]
 pub(crate) enum Step {
     On(Frame, Effect),
-    /// The last argument is whole, and so is the request.
-    Whole,
+    /// The request is whole, and so its last argument, if it has any.
+    Whole(Effect),
     /// No request goes on so.
     Refused,
 }
@@ -86,16 +89,42 @@ impl Frame {
         ensures { result ≡ frame_step self byte }
     {
         match self.stage {
-            Stage::Star => self.after(byte, b'*', Stage::Count(Digits::none()), Effect::Nothing),
-            Stage::Count(digits) => Frame::count_step(digits.step(COUNT, byte)),
+            Stage::Star => self.first_step(byte),
+            Stage::Count(digits) => self.length_step(digits, byte),
             Stage::CountFeed => self.after(byte, b'\n', Stage::Dollar, Effect::Nothing),
             Stage::Dollar => self.after(byte, b'$', Stage::Size(Digits::none()), Effect::Nothing),
-            Stage::Size(digits) => self.size_step(digits.step(SIZE, byte)),
+            Stage::Size(digits) => self.size_step(digits.step(MOST_SIZE, byte)),
             Stage::SizeFeed(size) => self.after(byte, b'\n', Stage::Bytes(size), Effect::Begin),
             Stage::Bytes(0) => self.after(byte, b'\r', Stage::BytesFeed, Effect::Nothing),
             Stage::Bytes(left) => Step::On(self.at(Stage::Bytes(left - 1)), Effect::Keep),
             Stage::BytesFeed if byte == b'\n' => self.argument_step(),
             Stage::BytesFeed => Step::Refused,
+            Stage::NullDigit => self.after(byte, b'1', Stage::NullEnd, Effect::Nothing),
+            Stage::NullEnd => self.after(byte, b'\r', Stage::EmptyFeed, Effect::Nothing),
+            Stage::EmptyFeed if byte == b'\n' => Step::Whole(Effect::Nothing),
+            Stage::EmptyFeed => Step::Refused,
+        }
+    }
+
+    /// The first byte of a request.
+    fn first_step(self, byte: u8) -> Step
+        ensures { result ≡ first_step self.behind byte }
+    {
+        match byte {
+            b'\n' => Step::Whole(Effect::Nothing),
+            b'\r' => Step::On(self.at(Stage::EmptyFeed), Effect::Nothing),
+            _ => self.after(byte, b'*', Stage::Count(Digits::none()), Effect::Nothing),
+        }
+    }
+
+    /// A byte of the number of arguments.
+    fn length_step(self, digits: Digits, byte: u8) -> Step
+        ensures { result ≡ length_step digits self.behind byte }
+    {
+        if byte == b'-' && digits.is_none() {
+            Step::On(self.at(Stage::NullDigit), Effect::Nothing)
+        } else {
+            Frame::count_step(digits.step(MOST_ARGUMENTS, byte))
         }
     }
 
@@ -117,13 +146,19 @@ impl Frame {
     }
 
     fn count_step(step: NumberStep) -> Step
-        requires { EndsWithin 1 step }
         ensures { result ≡ count_step step }
     {
         match step {
             NumberStep::More(digits) => Step::On(
                 Frame {
                     stage: Stage::Count(digits),
+                    behind: 0,
+                },
+                Effect::Nothing,
+            ),
+            NumberStep::Ends(0) => Step::On(
+                Frame {
+                    stage: Stage::EmptyFeed,
                     behind: 0,
                 },
                 Effect::Nothing,
@@ -154,7 +189,7 @@ impl Frame {
         ensures { result ≡ argument_step self.behind }
     {
         match self.behind {
-            0 => Step::Whole,
+            0 => Step::Whole(Effect::End),
             behind => Step::On(
                 Frame {
                     stage: Stage::Dollar,

@@ -1,7 +1,10 @@
 //! Redis' protocol: requests taken apart from bytes, what they mean, and the replies.
 //!
 //! A request is `*n\r\n` and `n` bulk strings `$len\r\nbytes\r\n`. The first of them is the word, each letter in either
-//! case:
+//! case. One of no arguments, `*0\r\n`, asks nothing and gets no reply; so do `*-1\r\n` and an empty line, `\r\n` or
+//! `\n`, which may stand where a request may begin.
+//!
+//! The words:
 //!
 //! | request | command | reply |
 //! |---|---|---|
@@ -13,6 +16,7 @@
 //! | `CONDPUT k e v` | conditional put that expects e | `:1\r\n` or `:0\r\n` |
 //! | `CONDNEW k v` | conditional put that expects no value | `:1\r\n` or `:0\r\n` |
 //! | `MSET k v ..` | multi-put of 1 to 4 pairs | `+OK\r\n` |
+//! | `ECHO text` | none | `$len\r\ntext\r\n`, the text of 0 to 128 bytes |
 //!
 //! The words, their meaning and the bounds are this project's own.
 //!
@@ -22,7 +26,8 @@
 //!   `waits`: nothing is read while a whole request is read ahead, which `has_request` tells. `repeats`: after a fault
 //!   or a bad request it answers the same for ever. `cause` and `told` are those of a source.
 //! - `first_request`: the same of bytes that stand in memory, of which more may come (`IsFirst`).
-//! - `reply_text`, `wrong_text`, `protocol_text`: exact (`reply_of`, `wrong_of`, `protocol_error`).
+//! - `reply_text`, `other_text`, `wrong_text`, `protocol_text`: exact (`reply_of`, `other_of`, `wrong_of`,
+//!   `protocol_error`).
 //! - `laws`: no request begins another, an input is requests and a rest in exactly one way, and that rest is empty or
 //!   breaks off at exactly one place.
 #![tactic(auto)]
@@ -41,7 +46,7 @@ mod requests;
 mod window;
 mod word;
 
-pub use asked::{Asked, Wrong};
+pub use asked::{Asked, Other, Wrong};
 pub use first::{FirstRequest, first_request};
-pub use reply::{protocol_text, reply_text, wrong_text};
+pub use reply::{other_text, protocol_text, reply_text, wrong_text};
 pub use requests::{NextRequest, Requests};

@@ -1,5 +1,5 @@
-ghost use Rattle.std.specs.Prelude.{◌≡◌, ◌<◌};
-ghost use Rattle.curp_resp.specs.Frames.{EndsWithin, digit_step, may_end, no_digits, number_step};
+ghost use Rattle.std.specs.Prelude.{◌≡◌, ◌<◌, ◌==◌};
+ghost use Rattle.curp_resp.specs.Frames.{digit_step, may_end, no_digits, number_step};
 
 /// The digits of a number that were read.
 #[derive(Clone, Copy)]
@@ -8,21 +8,14 @@ pub(crate) struct Digits {
     count: u32,
 }
 
-/// The bounds of a number, of which the lower is 0 or 1.
-#[derive(Clone, Copy)]
-pub(crate) struct Bounds {
-    pub(crate) low: u32,
-    pub(crate) high: u32,
-}
-
 /// What the next byte does to a number.
 #[derive(Clone, Copy)]
 pub(crate) enum NumberStep {
-    /// A number within the bounds may begin with these digits.
+    /// A number may begin with these digits.
     More(Digits),
     /// The number is whole.
     Ends(u32),
-    /// No number within the bounds goes on so.
+    /// No number goes on so.
     Refused,
 }
 
@@ -36,41 +29,43 @@ impl Digits {
         Digits { value: 0, count: 0 }
     }
 
-    /// What the next byte does to a number within these bounds.
-    pub(crate) fn step(self, bounds: Bounds, byte: u8) -> NumberStep
-        ensures step { result ≡ number_step bounds.low bounds.high self byte }
-        ensures least { EndsWithin bounds.low result }
+    /// Whether none was read.
+    pub(crate) fn is_none(self) -> bool
+        ensures { result ≡ (self.count == 0) }
+    {
+        self.count == 0
+    }
+
+    /// What the next byte does to a number up to this one.
+    pub(crate) fn step(self, most: u32, byte: u8) -> NumberStep
+        ensures { result ≡ number_step most self byte }
     {
         match byte {
-            b'0'..=b'9' => self.digit_step(bounds, byte - b'0'),
-            b'\r' if self.may_end(bounds) => NumberStep::Ends(self.value),
+            b'0'..=b'9' => self.digit_step(most, byte - b'0'),
+            b'\r' if self.may_end(most) => NumberStep::Ends(self.value),
             _ => NumberStep::Refused,
         }
     }
 
     /// The same, where the byte is a digit of this value.
-    fn digit_step(self, bounds: Bounds, digit: u8) -> NumberStep
+    fn digit_step(self, most: u32, digit: u8) -> NumberStep
         requires { digit < 10 }
-        ensures { result ≡ digit_step bounds.low bounds.high self digit }
+        ensures { result ≡ digit_step most self digit }
     {
         let value = 10 * u64::from(self.value) + u64::from(digit);
-        if self.count >= MOST_DIGITS || value > u64::from(bounds.high) {
+        if self.count >= MOST_DIGITS || value > u64::from(most) {
             return NumberStep::Refused;
         }
-        let digits = Digits {
+        NumberStep::More(Digits {
             value: value as u32,
             count: self.count + 1,
-        };
-        if digits.value < bounds.low && digits.count == MOST_DIGITS {
-            return NumberStep::Refused;
-        }
-        NumberStep::More(digits)
+        })
     }
 
-    /// Whether a number within the bounds has these digits.
-    fn may_end(self, bounds: Bounds) -> bool
-        ensures { result ≡ may_end bounds.low bounds.high self }
+    /// Whether a number up to this one has these digits.
+    fn may_end(self, most: u32) -> bool
+        ensures { result ≡ may_end most self }
     {
-        self.count >= 1 && self.value >= bounds.low && self.value <= bounds.high
+        self.count >= 1 && self.value <= most
     }
 }

@@ -47,8 +47,8 @@ impl Reading {
                 self.arguments.apply(effect, byte);
                 Progress::More
             }
-            Step::Whole => {
-                self.arguments.end();
+            Step::Whole(effect) => {
+                self.arguments.apply(effect, byte);
                 Progress::Whole
             }
             Step::Refused => Progress::Refused,

@@ -1,7 +1,7 @@
 ghost use Rattle.std.specs.Prelude.{◌≡◌, IfOk};
-ghost use Rattle.curp_resp.specs.Reply.{bulk, error, integer, line, number_text, protocol_error, reply_of, wrong_of};
+ghost use Rattle.curp_resp.specs.Reply.{bulk, error, integer, line, number_text, other_of, protocol_error, reply_of, wrong_of};
 
-use crate::asked::Wrong;
+use crate::asked::{Other, Wrong};
 use curp_base::NoMemory;
 use curp_cmd::Answer;
 use std::alloc::Global;
@@ -27,7 +27,18 @@ pub fn reply_text(alloc: Global, answer: &Answer) -> Result<Vec<u8>, NoMemory>
     }
 }
 
-/// The reply to a request that means no command.
+/// The reply to a request that means no command. One that asks nothing gets none, of no bytes.
+pub fn other_text(alloc: Global, other: &Other) -> Result<Vec<u8>, NoMemory>
+    ensures { IfOk result (λ text. text.items ≡ other_of other.now) }
+{
+    match other {
+        Other::Nothing => Ok(Vec::new(alloc)),
+        Other::Echo(text) => bulk(alloc, text.bytes()),
+        Other::Wrong(wrong) => wrong_text(alloc, *wrong),
+    }
+}
+
+/// The reply to a request that is wrong.
 pub fn wrong_text(alloc: Global, wrong: Wrong) -> Result<Vec<u8>, NoMemory>
     ensures { IfOk result (λ text. text.items ≡ wrong_of wrong) }
 {

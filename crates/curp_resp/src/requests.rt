@@ -29,8 +29,9 @@ pub enum NextRequest {
 
 /// Takes the bytes of a source apart into requests.
 ///
-/// A request is `*n\r\n` and `n` bulk strings `$len\r\nbytes\r\n`, where `n` is 1 to 64 and `len` 0 to 65,536, each in
-/// one to five decimal digits. Bytes that were read ahead are kept here, so one source is to be read by one of these.
+/// A request is `*n\r\n` and `n` bulk strings `$len\r\nbytes\r\n`, where `n` is 0 to 64 and `len` 0 to 65,536, each in
+/// one to five decimal digits; or it has no arguments, and is `*-1\r\n`, `\r\n` or `\n`. Bytes that were read ahead are
+/// kept here, so one source is to be read by one of these.
 pub struct Requests {
     window: Window,
     failed: Option<NextRequest>,

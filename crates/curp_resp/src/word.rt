@@ -12,9 +12,10 @@ pub(crate) enum Word {
     CondPut,
     CondNew,
     MSet,
+    Echo,
 }
 
-const WORDS: [Word; 8] = [
+const WORDS: [Word; 9] = [
     Word::Get,
     Word::Set,
     Word::Del,
@@ -23,6 +24,7 @@ const WORDS: [Word; 8] = [
     Word::CondPut,
     Word::CondNew,
     Word::MSet,
+    Word::Echo,
 ];
 
 impl Word {
@@ -51,6 +53,7 @@ impl Word {
             Word::CondPut => "CONDPUT",
             Word::CondNew => "CONDNEW",
             Word::MSet => "MSET",
+            Word::Echo => "ECHO",
         }
     }
 }

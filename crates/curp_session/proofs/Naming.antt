@@ -9,20 +9,25 @@ use Rattle.curp_cmd.specs.Pairs.{Pair, names_twice}
 use Rattle.curp_cmd.specs.Store.{NamesKey, keys_of}
 use Rattle.curp_cmd.specs.declared.command.Command.{Command}
 use Rattle.curp_cmd.specs.declared.command.Command.TheVariants as command
-use Rattle.curp_resp.specs.Meaning.{are_pairs, asked_by, command_behind, key_alone, meaning, multi_alone, pair_alone, pair_in, pairs_in, spells, swap_alone, value_in, words}
+use Rattle.curp_resp.specs.Meaning.{are_pairs, asked_behind, key_alone, meaning, multi_alone, of_command, or_wrong, pair_alone, pair_in, pairs_in, spells, swap_alone, text_alone, value_in, words}
 use Rattle.curp_resp.specs.declared.asked.Asked.{Asked}
 use Rattle.curp_resp.specs.declared.asked.Asked.TheVariants as asked
+use Rattle.curp_resp.specs.declared.asked.Other.TheVariants as other
 use Rattle.curp_resp.specs.declared.asked.Wrong.{Wrong}
 use Rattle.curp_resp.specs.declared.asked.Wrong.TheVariants as wrong
 
 -- the command of a request, if it means one, is a value of its type
 abbrev pub NamesKeys : Asked → Type 0
 NamesKeys (asked.Command c) = NamesKey c
-NamesKeys (asked.Wrong why) = ⊤
+NamesKeys (asked.Other other) = ⊤
 
 -- the same of what stands for one
+abbrev Asks : Result Asked Wrong → Type 0
+Asks r = NamesKeys (or_wrong r)
+
+-- the same of a command
 abbrev Names : Result Command Wrong → Type 0
-Names r = NamesKeys (asked_by r)
+Names r = Asks (of_command r)
 
 one_key : (c : Command) (key : List ℕ) → keys_of c ≡ key ∷ [] → NamesKey c
 one_key c key is = record { some = omega (arith, ap length is); few = omega (arith, ap length is) }
@@ -99,6 +104,10 @@ multi_names arguments = by (are_pairs (length arguments)) refl (pairs_in argumen
         let same : length (keys_of (command.Multi ps)) ≡ length ps = length-map ps (λ (p : Pair). p.0) in
         made (names_twice ps) ps (record { some = omega (arith, same, few.0); few = omega (arith, same, few.1) })
 
+asks_nothing : (r : Result (List ℕ) Wrong) → Asks (r >>= λ text. Ok (asked.Other (other.Echo text)))
+asks_nothing (Ok text) = tt
+asks_nothing (Err why) = tt
+
 -- what holds of none and of each of a list holds of the one that is found
 found_in : {A : Type 0} (P : Option A → Type 0) (p : A → Bool) (xs : List A) → P None → Each (λ x. P (Some x)) xs → P (find p xs)
 found_in P p [] none each = none
@@ -111,7 +120,7 @@ found_in {A} P p (x ∷ xs) none each = by (p x) (found_in P p xs none each.1)
 pub names_keys : (arguments : List (List ℕ)) → NamesKeys (meaning arguments)
 names_keys [] = tt
 names_keys (first ∷ arguments) =
-    found_in (λ w. Names (command_behind w arguments)) (spells first) words tt (
+    found_in (λ w. Asks (asked_behind w arguments)) (spells first) words tt (
       by_key (λ key. command.Get key) (λ key. one_key (command.Get key) key refl) (key_alone arguments),
       (
         by_pair (λ p. command.Put p.0 p.1) (λ p. one_key (command.Put p.0 p.1) p.0 refl) (pair_alone arguments),
@@ -125,7 +134,7 @@ names_keys (first ∷ arguments) =
                 by_three arguments,
                 (
                   by_pair (λ p. command.CondPut p.0 None p.1) (λ p. one_key (command.CondPut p.0 None p.1) p.0 refl) (pair_alone arguments),
-                  (multi_names arguments, tt),
+                  (multi_names arguments, (asks_nothing (text_alone arguments), tt)),
                 ),
               ),
             ),

@@ -11,7 +11,7 @@ use Rattle.curp_msg.specs.Script.{IsRun}
 use Rattle.curp_msg.specs.declared.script.Step.{Step}
 use Rattle.curp_order.specs.declared.Event.{Event}
 use Rattle.curp_resp.specs.Meaning.{meaning}
-use Rattle.curp_resp.specs.Reply.{reply_of, wrong_of}
+use Rattle.curp_resp.specs.Reply.{other_of, reply_of}
 use Rattle.curp_resp.specs.declared.asked.Asked.{Asked}
 use Rattle.curp_resp.specs.declared.asked.Asked.TheVariants as asked
 use Rattle.curp_session.specs.Session.{Session, ShowsReplied, answered_by, commands_in, fresh, most_requests, reads_all, refused, replies_behind, reply_to, session, unless_stopped}
@@ -141,21 +141,21 @@ goes_on f every serves [] names commands k b = record {
   served = λ free. subst (λ (cs : List Command). Behind f every cs k) (sym (append-nil commands)) b;
   shows = none_more f every serves commands [] k k b refl refl;
 }
-goes_on f every serves (asked.Wrong why ∷ requests) names commands k b =
-    by (k.requests == most_requests) (goes_on f every serves requests names.1 commands (answered_by every (asked.Wrong why) k)
+goes_on f every serves (asked.Other other ∷ requests) names commands k b =
+    by (k.requests == most_requests) (goes_on f every serves requests names.1 commands (answered_by every (asked.Other other) k)
     (record { are = b.are; is = b.is; free = b.free }))
   where
-    by : (full : Bool) → let next = cond full (refused k) (answered_by every (asked.Wrong why) k) in
-        GoesOn f every commands requests (k.replies ++ wrong_of why) (reads_all every requests (answered_by every (asked.Wrong why) k))
-        → GoesOn f every commands (asked.Wrong why ∷ requests) k.replies (unless_stopped next.served.stopped next (reads_all every requests))
+    by : (full : Bool) → let next = cond full (refused k) (answered_by every (asked.Other other) k) in
+        GoesOn f every commands requests (k.replies ++ other_of other) (reads_all every requests (answered_by every (asked.Other other) k))
+        → GoesOn f every commands (asked.Other other ∷ requests) k.replies (unless_stopped next.served.stopped next (reads_all every requests))
     by true more =
-        stopped_there f every commands (asked.Wrong why ∷ requests) k.replies (refused k) TooManySteps refl
-        (prefix_push k.replies (replies_behind commands (asked.Wrong why ∷ requests)))
-        (none_more f every serves commands (asked.Wrong why ∷ requests) k (refused k) b refl refl)
+        stopped_there f every commands (asked.Other other ∷ requests) k.replies (refused k) TooManySteps refl
+        (prefix_push k.replies (replies_behind commands (asked.Other other ∷ requests)))
+        (none_more f every serves commands (asked.Other other ∷ requests) k (refused k) b refl refl)
     by false more =
-        let next = answered_by every (asked.Wrong why) k in
-        subst (λ (o : Option Limit). GoesOn f every commands (asked.Wrong why ∷ requests) k.replies (unless_stopped o next (reads_all every requests))) (sym b.free)
-        (behind_piece f every commands commands requests (asked.Wrong why) k.replies (wrong_of why) (reads_all every requests next) (λ rs. refl) (λ rs. refl) more)
+        let next = answered_by every (asked.Other other) k in
+        subst (λ (o : Option Limit). GoesOn f every commands (asked.Other other ∷ requests) k.replies (unless_stopped o next (reads_all every requests))) (sym b.free)
+        (behind_piece f every commands commands requests (asked.Other other) k.replies (other_of other) (reads_all every requests next) (λ rs. refl) (λ rs. refl) more)
 goes_on f every serves (asked.Command command ∷ requests) names commands k b =
     by (k.requests == most_requests) (λ j behind. goes_on f every serves requests names.1 (commands ++ command ∷ []) j behind)
   where

@@ -5,7 +5,7 @@ use Rattle.std.specs.Result.{IsErrAnd}
 use Rattle.curp_base.specs.Words.{IsPrefix}
 use Rattle.curp_base.proofs.Lists.{prefix_self, prefix_trans}
 use Rattle.curp_io.specs.Streams.{HoldsPart}
-use Rattle.curp_law_served.specs.Served.{Limit, Served}
+use Rattle.curp_law_served.specs.Served.{Limit, Served, begun}
 use Rattle.curp_runner.specs.Reading.{IsOfWriting}
 use Rattle.curp_runner.specs.Status.{ended, is_cut_short}
 use Rattle.curp_runner.specs.declared.status.Status.{Status}
@@ -107,7 +107,7 @@ none_first bytes none arguments rest h = let some = request_some bytes arguments
 
 pub counted_more : (every : ℕ) (a : Asked) (k : Session) → (answered_by every a k).requests ≡ k.requests + 1
 counted_more every (asked.Command command) k = refl
-counted_more every (asked.Wrong why) k = refl
+counted_more every (asked.Other other) k = refl
 
 pub free_by : (o : Option Limit) → Ok tt ≡ ended_by o → o ≡ None
 free_by None e = refl
@@ -289,6 +289,22 @@ broken_cut aim tells held new old count bytes rest passed at stop h r cut more =
     }
 
 -- ---- nothing was read
+
+-- all requests are due
+pub stands_at_first : (plan : RespPlan) (requests : List (List (List ℕ))) (rest input before held : List ℕ) (tells : Bool) → Decomposes requests input rest
+    → (tells ≡ true → held ≡ before ++ so_far plan.output plan.f (fresh plan.f))
+    → IsSession (aim_of plan requests rest input before) tells held (begun plan.f) 0 input 0
+stands_at_first plan requests rest input before held tells d wrote = record {
+  now = fresh plan.f;
+  at = record { served = refl; counted = refl; free = refl };
+  due = requests;
+  decomposes = d;
+  leads = refl;
+  passes = omega arith;
+  within = omega arith;
+  printable = λ script. record { named = tt; in_range = tt; few = omega arith };
+  wrote = wrote;
+}
 
 -- a front of what comes first was written
 pub finishes_unopened : (plan : RespPlan) (requests : List (List (List ℕ))) (rest input before new : List ℕ) (tells : Bool) (stop : Status) → is_cut_short stop ≡ true

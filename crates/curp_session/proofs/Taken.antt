@@ -1,7 +1,7 @@
 -- What was answered of the bytes that were taken.
 use Rattle.std.proofs.Common.{◌≡◌, ◌≢◌, ◌+◌, ℕ, List, [], ◌∷◌, ◌++◌, map, Option, Some, None, Ok, refl, ap, sym, ◌∙◌, append_assoc, append-nil}
 use Rattle.std.proofs.lemmas.List.{map-append}
-use Rattle.curp_law_served.specs.Served.{Limit, Served}
+use Rattle.curp_law_served.specs.Served.{Limit, Served, begun}
 use Rattle.curp_resp.specs.Input.{Decomposes, NoneStandsFirst, StandsFirst}
 use Rattle.curp_resp.specs.Language.{IsRequest}
 use Rattle.curp_resp.specs.Meaning.{meaning}
@@ -38,6 +38,19 @@ one_behind [] read spelled arguments d request =
     ([], record { spelled = spelled; request = request; is = append-nil spelled ∙ sym (ap (λ (b : List ℕ). b ++ spelled) d.0) }, (refl, none_first [] refl))
 one_behind (its ∷ more) read spelled arguments d request =
     (d.0 ++ spelled, first_of_more read spelled its d.0 d.1, one_behind more d.0 spelled arguments d.2 request)
+
+-- ---- before any
+
+pub none_answered : (plan : RespPlan) (input before held : List ℕ) → held ≡ before ++ so_far plan.output plan.f (fresh plan.f)
+    → HasAnswered plan input before held (begun plan.f) 0 input
+none_answered plan input before held wrote = record {
+  requests = [];
+  read = [];
+  decomposes = (refl, none_first [] refl);
+  left = refl;
+  at = record { served = refl; counted = refl; free = refl };
+  wrote = wrote;
+}
 
 -- ---- the session of one more
 

@@ -12,10 +12,10 @@ use Rattle.curp_law_served.specs.Served.{Limit, Served, after_all, and_then, hea
 use Rattle.curp_msg.specs.declared.script.Header.{Header}
 use Rattle.curp_msg.specs.declared.script.Step.{Step}
 use Rattle.curp_msg.specs.declared.script.Step.TheVariants as steps
-use Rattle.curp_resp.specs.Reply.{protocol_error, wrong_of}
+use Rattle.curp_resp.specs.Reply.{other_of, protocol_error}
 use Rattle.curp_resp.specs.declared.asked.Asked.{Asked}
 use Rattle.curp_resp.specs.declared.asked.Asked.TheVariants as asked
-use Rattle.curp_resp.specs.declared.asked.Wrong.{Wrong}
+use Rattle.curp_resp.specs.declared.asked.Other.{Other}
 use Rattle.curp_script.specs.Printed.{header_data}
 use Rattle.curp_script.specs.Texts.{header_line, line_text, lines_text, script_lines, step_line}
 use Rattle.curp_serve.proofs.Going.{quieting_goes, replaces_goes, tidies_goes, turn_goes}
@@ -91,10 +91,10 @@ command_due o f every command k s t a n same new answer count =
     ∙ sym (so_far_command o f every command k)
 
 -- that of one which means no command
-pub so_far_wrong : (o : RespOutput) (f every : ℕ) (why : Wrong) (k : Session)
-    → so_far o f (answered_by every (asked.Wrong why) k) ≡ so_far o f k ++ if_replies o (wrong_of why)
-so_far_wrong output.Replies f every why k = refl
-so_far_wrong output.Script f every why k = sym (append-nil (script_lines (header_of f) k.served.steps))
+pub so_far_other : (o : RespOutput) (f every : ℕ) (other : Other) (k : Session)
+    → so_far o f (answered_by every (asked.Other other) k) ≡ so_far o f k ++ if_replies o (other_of other)
+so_far_other output.Replies f every other k = refl
+so_far_other output.Script f every other k = sym (append-nil (script_lines (header_of f) k.served.steps))
 
 -- that of one too many
 pub so_far_refused : (o : RespOutput) (f : ℕ) (k : Session) → so_far o f (refused k) ≡ so_far o f k
@@ -123,7 +123,7 @@ answered_grows o f every (asked.Command command) k = record {
   rest = due_of o (serve every command k.served).answer (drop (length k.served.steps) (serve every command k.served).steps);
   is = sym (so_far_command o f every command k);
 }
-answered_grows o f every (asked.Wrong why) k = record { rest = if_replies o (wrong_of why); is = sym (so_far_wrong o f every why k) }
+answered_grows o f every (asked.Other other) k = record { rest = if_replies o (other_of other); is = sym (so_far_other o f every other k) }
 
 read_grows : (o : RespOutput) (f every : ℕ) (a : Asked) (k : Session) → IsPrefix (so_far o f k) (so_far o f (reads every a k))
 read_grows o f every a k = by (k.requests == most_requests)
@@ -194,10 +194,10 @@ next_in_range xs k s within here front next =
 
 -- ---- a request that means no command, as the program has it
 
-pub wrong_due : (o : RespOutput) (f every : ℕ) (a : Asked) (why : Wrong) (k : Session) → a ≡ asked.Wrong why → k.requests ≢ most_requests
-    → so_far o f k ++ if_replies o (wrong_of why) ≡ so_far o f (reads every a k)
-wrong_due o f every a why k is room =
-    sym (so_far_wrong o f every why k)
+pub other_due : (o : RespOutput) (f every : ℕ) (a : Asked) (other : Other) (k : Session) → a ≡ asked.Other other → k.requests ≢ most_requests
+    → so_far o f k ++ if_replies o (other_of other) ≡ so_far o f (reads every a k)
+other_due o f every a other k is room =
+    sym (so_far_other o f every other k)
     ∙ ap (λ (x : Asked). so_far o f (answered_by every x k)) (sym is)
     ∙ ap (λ (j : Session). so_far o f j) (sym (reads_answers every a k room))
 

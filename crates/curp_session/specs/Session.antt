@@ -10,7 +10,7 @@ use Rattle.curp_runner.specs.declared.status.Status.TheVariants as status
 use Rattle.curp_resp.specs.Input.{BreaksOff, Decomposes, place_behind}
 use Rattle.curp_resp.specs.Language.{IsFront}
 use Rattle.curp_resp.specs.Meaning.{meaning}
-use Rattle.curp_resp.specs.Reply.{protocol_error, reply_of, wrong_of}
+use Rattle.curp_resp.specs.Reply.{other_of, protocol_error, reply_of}
 use Rattle.curp_resp.specs.declared.asked.Asked.{Asked}
 use Rattle.curp_resp.specs.declared.asked.Asked.TheVariants as asked
 use Rattle.curp_script.specs.Texts.{script_lines}
@@ -41,8 +41,8 @@ reply_to (Some answer) = reply_of answer
 
 -- a command is served; a request that means none makes no step
 abbrev pub answered_by : ℕ → Asked → Session → Session
-answered_by every (asked.Wrong why) k =
-    record k { requests = k.requests + 1; replies = k.replies ++ wrong_of why }
+answered_by every (asked.Other other) k =
+    record k { requests = k.requests + 1; replies = k.replies ++ other_of other }
 answered_by every (asked.Command command) k = record {
   served = serve every command k.served;
   requests = k.requests + 1;
@@ -123,14 +123,14 @@ pub record HoldsAnswers (plan : RespPlan) (left_before left_after held_before he
 abbrev pub commands_in : List Asked → List Command
 commands_in [] = []
 commands_in (asked.Command command ∷ rest) = command ∷ commands_in rest
-commands_in (asked.Wrong why ∷ rest) = commands_in rest
+commands_in (asked.Other other ∷ rest) = commands_in rest
 
 -- what one thread replies to requests, behind commands
 abbrev pub replies_behind : List Command → List Asked → List ℕ
 replies_behind before [] = []
 replies_behind before (asked.Command command ∷ rest) =
     reply_of (answer_behind before command) ++ replies_behind (before ++ command ∷ []) rest
-replies_behind before (asked.Wrong why ∷ rest) = wrong_of why ++ replies_behind before rest
+replies_behind before (asked.Other other ∷ rest) = other_of other ++ replies_behind before rest
 
 -- what one thread replies to the requests, each by its arguments
 abbrev pub replies_of_one_thread : List (List (List ℕ)) → List ℕ

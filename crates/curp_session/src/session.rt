@@ -9,7 +9,7 @@ ghost use Rattle.curp_runner.specs.Reading.{IsOfWriting, script_in};
 ghost use Rattle.curp_runner.specs.Status.{ended, is_cut_short};
 ghost use Rattle.curp_resp.specs.Input.{Decomposes};
 ghost use Rattle.curp_resp.specs.Next.{IsNextRequest, nothing_read, repeated};
-ghost use Rattle.curp_resp.specs.Reply.{protocol_error, reply_of, wrong_of};
+ghost use Rattle.curp_resp.specs.Reply.{other_of, protocol_error, reply_of};
 ghost use Rattle.curp_script.specs.Printed.{NamesNode};
 ghost use Rattle.curp_script.specs.Script.{Whole};
 ghost use Rattle.curp_script.specs.Texts.{line_text, lines_text};
@@ -25,7 +25,7 @@ use curp_io::{Sink, Source};
 use curp_law_print::{printed_scripts_are_read, step_is_in_range};
 use curp_msg::Step;
 use curp_print::{print_header, print_line};
-use curp_resp::{Asked, NextRequest, Requests, Wrong, protocol_text, reply_text, wrong_text};
+use curp_resp::{Asked, NextRequest, Other, Requests, other_text, protocol_text, reply_text};
 use curp_runner::{Status, close, pass_on, write};
 use curp_serve::{ServeError, Served};
 use curp_words::{RespOutput, RespPlan};
@@ -298,7 +298,7 @@ fn answer<K: Sink>(
     }
     match asked {
         Asked::Command(command) => answer_command(alloc, output, served, command, sink),
-        Asked::Wrong(wrong) => write_wrong(alloc, output, wrong, sink),
+        Asked::Other(other) => write_other(alloc, output, &other, sink),
     }
 }
 
@@ -409,23 +409,23 @@ fn write_reply<K: Sink>(alloc: Global, answer: Option<Answer>, sink: &mut K) -> 
 }
 
 // Writes the reply to a request that means no command, where replies are written.
-fn write_wrong<K: Sink>(
+fn write_other<K: Sink>(
     alloc: Global,
     output: RespOutput,
-    wrong: Wrong,
+    other: &Other,
     sink: &mut K,
 ) -> Result<(), Status>
     ensures wrote { K.tells sink.old ≡ true → OnOk result (K.held sink.new ≡ K.held sink.old
-        ++ if_replies output (wrong_of wrong)) }
+        ++ if_replies output (other_of other.now)) }
     ensures front { K.tells sink.old ≡ true → HoldsPart (K.held sink.old) (K.held sink.new) (if_replies output
-        (wrong_of wrong)) }
+        (other_of other.now)) }
     ensures writing { IfErr result IsOfWriting }
     ensures tells { K.tells sink.old ≡ true → K.tells sink.new ≡ true }
     ensures fault { result ≡ Err Status.WriteFault → Rose (K.faults sink.old) (K.faults sink.new) }
     ensures no_fault { result ≢ Err Status.WriteFault → SameCount (K.faults sink.old) (K.faults sink.new) }
 {
     match output {
-        RespOutput::Replies => write(sink, &wrong_text(alloc, wrong)?),
+        RespOutput::Replies => write(sink, &other_text(alloc, other)?),
         RespOutput::Script => Ok(()),
     }
 }

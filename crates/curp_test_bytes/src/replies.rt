@@ -1,7 +1,7 @@
 // The table of replies, written by hand.
 use crate::texts::{filled, must_hold, repeated};
 use curp_cmd::{Answer, Value};
-use curp_resp::{Wrong, protocol_text, reply_text, wrong_text};
+use curp_resp::{Other, Wrong, other_text, protocol_text, reply_text, wrong_text};
 use std::alloc::Global;
 use std::process::Abort;
 
@@ -13,6 +13,14 @@ fn reply(rt: &impl Abort, alloc: Global, answer: &Answer) -> Vec<u8> {
 
 fn reply_to_wrong(rt: &impl Abort, alloc: Global, wrong: Wrong) -> Vec<u8> {
     wrong_text(alloc, wrong).expect(rt, "no memory")
+}
+
+fn reply_to_other(rt: &impl Abort, alloc: Global, other: &Other) -> Vec<u8> {
+    other_text(alloc, other).expect(rt, "no memory")
+}
+
+fn echo(rt: &impl Abort, text: &str) -> Other {
+    Other::Echo(Value::new(text.as_bytes()).expect(rt, "no value"))
 }
 
 fn found(bytes: &[u8]) -> Answer {
@@ -98,4 +106,20 @@ fn each_wrong_request_has_its_reply(rt: HostRuntime) {
     wrong_row(&rt, alloc, Wrong::KeyTwice, "-ERR key twice\r\n");
     let text = b"-ERR protocol\r\n".as_slice();
     must_hold(&rt, "protocol", protocol_text() == text);
+}
+
+/// A row of the table of requests that mean no command.
+fn other_row(rt: &impl Abort, alloc: Global, other: &Other, text: &str) {
+    let reply = reply_to_other(rt, alloc, other);
+    must_hold(rt, text, reply.as_slice() == text.as_bytes());
+}
+
+#[test]
+fn each_other_request_has_its_reply(rt: HostRuntime) {
+    let alloc = rt.alloc();
+    other_row(&rt, alloc, &Other::Nothing, "");
+    other_row(&rt, alloc, &echo(&rt, ""), "$0\r\n\r\n");
+    other_row(&rt, alloc, &echo(&rt, "a\r\nb"), "$4\r\na\r\nb\r\n");
+    let unknown = Other::Wrong(Wrong::Unknown);
+    other_row(&rt, alloc, &unknown, "-ERR unknown command\r\n");
 }

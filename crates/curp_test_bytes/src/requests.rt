@@ -5,7 +5,7 @@ use crate::texts::{filled, must_hold, repeated};
 use curp_base::NoMemory;
 use curp_cmd::{Command, Key, Value};
 use curp_io::{MemorySource, Source, SureSource};
-use curp_resp::{Asked, NextRequest, Requests, Wrong};
+use curp_resp::{Asked, NextRequest, Other, Requests, Wrong};
 use std::alloc::Global;
 use std::process::Abort;
 
@@ -13,11 +13,13 @@ const END: NextRequest = NextRequest::End;
 
 const FAULT: NextRequest = NextRequest::ReadFault;
 
-const UNKNOWN: NextRequest = NextRequest::Asked(Asked::Wrong(Wrong::Unknown));
+const NOTHING: NextRequest = NextRequest::Asked(Asked::Other(Other::Nothing));
 
-const ARGUMENTS: NextRequest = NextRequest::Asked(Asked::Wrong(Wrong::Arguments));
+const UNKNOWN: NextRequest = NextRequest::Asked(Asked::Other(Other::Wrong(Wrong::Unknown)));
 
-const SIZE: NextRequest = NextRequest::Asked(Asked::Wrong(Wrong::Size));
+const ARGUMENTS: NextRequest = NextRequest::Asked(Asked::Other(Other::Wrong(Wrong::Arguments)));
+
+const SIZE: NextRequest = NextRequest::Asked(Asked::Other(Other::Wrong(Wrong::Size)));
 
 // ---- what is called, of which the tests know nothing
 
@@ -57,7 +59,11 @@ fn asked(command: Command) -> NextRequest {
 }
 
 fn refused(wrong: Wrong) -> NextRequest {
-    NextRequest::Asked(Asked::Wrong(wrong))
+    NextRequest::Asked(Asked::Other(Other::Wrong(wrong)))
+}
+
+fn echo(rt: &impl Abort, text: &str) -> NextRequest {
+    NextRequest::Asked(Asked::Other(Other::Echo(value(rt, text))))
 }
 
 fn get(rt: &impl Abort) -> NextRequest {
@@ -167,21 +173,26 @@ fn try_words(rt: &impl Abort, alloc: Global, words: &str, wanted: NextRequest) {
 
 // ---- the tables
 
-static BREAKS: [(&str, u64); 30] = [
+static BREAKS: [(&str, u64); 35] = [
     ("+OK", 0),
-    ("\r\n", 0),
+    ("\r", 1),
+    ("\r\r\n", 1),
+    (" \r\n", 0),
     ("PING\r\n", 0),
     ("$1\r\na\r\n", 0),
     ("*", 1),
     ("*\r\n", 1),
-    ("*-1\r\n", 1),
-    ("*0\r", 2),
+    ("*-2\r\n", 2),
+    ("*-1\n", 3),
+    ("*-1\r*", 4),
+    ("*0-1\r\n", 2),
+    ("*0\r", 3),
     ("*65", 2),
     ("*1\n", 2),
     ("*99999", 2),
-    ("*00000", 5),
+    ("*00000", 6),
     ("*00065", 5),
-    ("*000001", 5),
+    ("*000001", 6),
     ("*000641", 6),
     ("*064\r\n", 6),
     ("*2\r\nX", 4),
@@ -211,7 +222,7 @@ fn bytes_break_off_where_no_request_goes_on(rt: HostRuntime) {
 /// Places behind the request of no known word that such inputs begin with.
 static LATER_BREAKS: [(&str, u64); 3] = [
     ("*1\r\n$4\r\nPING\r\n+", 14),
-    ("*1\r\n$4\r\nPING\r\n*0\r", 16),
+    ("*1\r\n$4\r\nPING\r\n*0\r", 17),
     ("*1\r\n$4\r\nPING\r\n*1", 16),
 ];
 
@@ -221,6 +232,28 @@ fn a_place_is_counted_from_the_whole_input(rt: HostRuntime) {
         let bad = NextRequest::BadRequest { at: *at };
         try_both(&rt, rt.alloc(), text, &[UNKNOWN], &bad);
     }
+}
+
+/// Requests of no arguments, as clients write them.
+static EMPTY: [&str; 5] = ["\r\n", "\n", "*0\r\n", "*00000\r\n", "*-1\r\n"];
+
+#[test]
+fn an_empty_line_asks_nothing(rt: HostRuntime) {
+    for text in &EMPTY {
+        try_both(&rt, rt.alloc(), text, &[NOTHING], &END);
+    }
+}
+
+/// What a client sends behind the bytes that it was given, to hear that all were answered: an empty line, and 20 bytes
+/// that come back.
+const LAST_OF_PIPE: &str =
+    "*1\r\n$4\r\nPING\r\n\r\n*2\r\n$4\r\nECHO\r\n$20\r\na\r\nb*$-+0123456789AB\r\n";
+
+#[test]
+fn a_pipe_ends_with_an_echo(rt: HostRuntime) {
+    let last = echo(&rt, "a\r\nb*$-+0123456789AB");
+    let wanted = [UNKNOWN, NOTHING, last];
+    try_both(&rt, rt.alloc(), LAST_OF_PIPE, &wanted, &END);
 }
 
 fn try_bytes(rt: &impl Abort, alloc: Global, bytes: &[u8], wanted: &[NextRequest]) {
@@ -248,6 +281,8 @@ fn each_word_has_its_command(rt: HostRuntime) {
     row(&rt, alloc, "gEt a", Command::Get(a));
     row(&rt, alloc, "DEL a", Command::Delete(a));
     row(&rt, alloc, "INCR a", Command::Incr(a));
+    try_words(&rt, alloc, "ECHO a", echo(&rt, "a"));
+    try_words(&rt, alloc, "echo ECHO", echo(&rt, "ECHO"));
 }
 
 #[test]
@@ -273,8 +308,13 @@ fn each_word_with_values_has_its_command(rt: HostRuntime) {
     row(&rt, alloc, "MSET b 1 a 2", multi(&rt, &pairs));
 }
 
-static WRONGS: [(&str, Wrong); 18] = [
+static WRONGS: [(&str, Wrong); 23] = [
     ("PING", Wrong::Unknown),
+    ("CLIENT SETINFO LIB-NAME redis-py", Wrong::Unknown),
+    ("HELLO 3", Wrong::Unknown),
+    ("CONFIG GET save", Wrong::Unknown),
+    ("ECHO", Wrong::Arguments),
+    ("ECHO a b", Wrong::Arguments),
     ("GETS a", Wrong::Unknown),
     ("GE a", Wrong::Unknown),
     ("PUT a 1", Wrong::Unknown),
@@ -327,6 +367,7 @@ fn try_fitting(rt: &impl Abort, alloc: Global, sized: (&str, &str)) {
     sized_row(rt, alloc, "CONDNEW K V", sized, put_new);
     let put_two = asked(multi(rt, &[(key(rt, "a"), v), (k, v)]));
     sized_row(rt, alloc, "MSET a V K V", sized, put_two);
+    sized_row(rt, alloc, "ECHO V", sized, echo(rt, sized.1));
 }
 
 fn fitting(rt: &impl Abort, alloc: Global, key_len: usize, value_len: usize) {
@@ -365,6 +406,8 @@ fn keys_and_values_have_their_sizes(rt: HostRuntime) {
     unfit(&rt, alloc, 33, 1);
     unfit(&rt, alloc, 1, 129);
     unfit(&rt, alloc, 200, 200);
+    let long = repeated(&rt, alloc, "v", 129);
+    sized_row(&rt, alloc, "ECHO V", ("k", &long), SIZE);
 }
 
 /// The longest argument stands in place of `X`.

@@ -116,6 +116,24 @@ fn replies_stand_in_the_order_of_requests(rt: HostRuntime) {
 }
 
 #[test]
+fn empty_line_is_passed_over(rt: HostRuntime) {
+    let alloc = rt.alloc();
+    let mut fronts = Fronts::new(alloc);
+    came(&rt, &mut fronts, 1, b"\r\n\r");
+    came(&rt, &mut fronts, 1, b"\n");
+    came(&rt, &mut fronts, 1, SET);
+    came(&rt, &mut fronts, 1, b"\r\n*2\r\n$4\r\nECHO\r\n$2\r\nab\r\n");
+    tells(&rt, alloc, &mut fronts, "11");
+    assert!(rt; invoked(&rt, &mut fronts, 0, 1) == 1, "the command");
+    tells(&rt, alloc, &mut fronts, "");
+    fronts.on_completed(id(1), &Answer::Done);
+    tells(&rt, alloc, &mut fronts, "1+OK\r\n11$2\r\nab\r\n1more\r\n");
+    fronts.on_closed(1);
+    tells(&rt, alloc, &mut fronts, "1close\r\n");
+    drop(fronts);
+}
+
+#[test]
 fn bad_request_ends_its_connection_alone(rt: HostRuntime) {
     let alloc = rt.alloc();
     let mut fronts = Fronts::new(alloc);
