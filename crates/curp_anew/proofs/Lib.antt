@@ -4,5 +4,6 @@ mod Fresh
 mod Handed
 mod Pairs
 mod Pendings
+mod Recovering
 mod Runs
 mod Scans

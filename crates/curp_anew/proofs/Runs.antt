@@ -16,12 +16,12 @@ use Rattle.curp_msg.specs.Moved.{Node}
 use Rattle.curp_journal.specs.Journal.{NodeJournal}
 use Rattle.curp_model.specs.Client.{ClientState}
 use Rattle.curp_turns.specs.Turns.{Journal}
-use Rattle.curp_turns.specs.Work.{recoveries_in}
+use Rattle.curp_law_weave.specs.Run.{ordered_in}
 use Rattle.curp_gather.specs.Journals.{AreOf, IsBackupJournal, IsClientJournal, IsManagerJournal, IsMasterJournal, IsWitnessJournal, journal_of, journals_of}
 use Rattle.curp_gather.specs.declared.journals.Journals.{Journals}
 use Rattle.curp_words.specs.Plan.{IsLivePlan, live_header}
 use Rattle.curp_words.specs.declared.task.LivePlan.{LivePlan}
-use Rattle.curp_anew.specs.Live.{AllEndAsPlanned, DidAll, DidInOrder, FewPending, IsLiveRun, stops}
+use Rattle.curp_anew.specs.Live.{AllEndAsPlanned, DidAll, DidInOrder, FewPending, IsLiveRun, recoveries_from, stops}
 use Rattle.curp_anew.specs.Opening.{AreAllAnew}
 use Rattle.curp_anew.proofs.Begun.{HasOwn, all_own, begins_at, name_at, own_anew, rise, state_at}
 use Rattle.curp_anew.proofs.Counts.{backup_count, master_count, witness_count}
@@ -123,11 +123,11 @@ module _ (h : Header) (recoveries : ℕ) (j : Journals) (are : AreAllAnew h reco
       ends.clients ends.masters ends.backups ends.witnesses
 
 pub live_run : (plan : LivePlan) (work : List (List Command)) (j : Journals) → IsLivePlan plan → AreAllAnew (live_header plan) plan.recoveries j
-    → DidInOrder work j.clients.items → Each (λ (log : NodeJournal (Node ClientState)). FewPending log.items) j.clients.items → recoveries_in j.manager.items ≡ plan.recoveries → AllEndAsPlanned plan j → IsLiveRun plan work j
-live_run plan work j is are did few recoveries ends = record {
+    → DidInOrder work j.clients.items → Each (λ (log : NodeJournal (Node ClientState)). FewPending log.items) j.clients.items → ordered_in j.manager.items ≡ recoveries_from plan 1 → AllEndAsPlanned plan j → IsLiveRun plan work j
+live_run plan work j is are did few recovered ends = record {
   are = are_of (live_header plan) plan.recoveries j are is.header;
   did = did_all (live_header plan) plan.recoveries j are work did;
   pending = few;
-  recoveries = recoveries;
+  recovered = recovered;
   stopped = Each-at (λ (one : Journal). one.ended ≡ stops plan one.id) (journals_of j) (all_stop (live_header plan) plan.recoveries j are plan ends);
 }

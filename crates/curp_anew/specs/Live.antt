@@ -1,16 +1,19 @@
 -- What a run on threads leaves (this project's own).
-use Rattle.std.specs.Prelude.{◌≡◌, ◌≤◌, ◌&&◌, ◌==◌, ◌+◌, ◌%◌, ℕ, Bool, if◌then◌else◌, List, [], ◌∷◌, length, nat_le, take, is_some}
-use Rattle.curp_base.specs.Words.{At, Each}
+use Rattle.std.specs.Prelude.{◌≡◌, ◌≤◌, ◌&&◌, ◌==◌, ◌+◌, ◌-◌, ◌%◌, ℕ, Bool, if◌then◌else◌, List, [], ◌∷◌, length, map, nat_le, take, is_some}
+use Rattle.curp_base.specs.Words.{At, Each, numbers_from}
 use Rattle.curp_cmd.specs.Node.{same_kind}
 use Rattle.curp_cmd.specs.declared.node.NodeId.{NodeId}
 use Rattle.curp_cmd.specs.declared.node.NodeKind.TheVariants as kind
 use Rattle.curp_cmd.specs.declared.command.Command.{Command}
 use Rattle.curp_msg.specs.Moved.{Node}
+use Rattle.curp_msg.specs.declared.machine.Local.{Local}
+use Rattle.curp_msg.specs.declared.machine.Local.TheVariants.{Recover}
 use Rattle.curp_journal.specs.Journal.{NodeJournal}
 use Rattle.curp_journal.specs.declared.item.Item.{Item}
 use Rattle.curp_model.specs.Client.{ClientState}
 use Rattle.curp_turns.specs.Turns.{Journal}
-use Rattle.curp_turns.specs.Work.{DidWork, invoked_in, recoveries_in}
+use Rattle.curp_turns.specs.Work.{DidWork, invoked_in}
+use Rattle.curp_law_weave.specs.Run.{ordered_in}
 use Rattle.curp_gather.specs.Journals.{AreOf, journals_of}
 use Rattle.curp_gather.specs.declared.journals.Journals.{Journals}
 use Rattle.curp_anew.specs.Opening.{AreAllTaken}
@@ -42,6 +45,18 @@ most_pending = 4
 abbrev pub FewPending : List Item → Type 0
 FewPending items = (t : ℕ) → length (invoked_in (take t items)) ≤ completed_count (take t items) + most_pending
 
+-- the partition of a plan's recovery of that number: they take turns
+abbrev pub part_of : LivePlan → ℕ → ℕ
+part_of plan number = (number - 1) % plan.parts + 1
+
+-- what the manager is ordered for it: to recover that partition from its first backup and its first witness
+abbrev pub recovery_of : LivePlan → ℕ → Local
+recovery_of plan number = Recover (part_of plan number) 1 1
+
+-- and for those from a number on, in order
+abbrev pub recoveries_from : LivePlan → ℕ → List Local
+recoveries_from plan number = map (recovery_of plan) (numbers_from number (plan.recoveries + 1 - number))
+
 -- whether a node is stopped for a recovery: each recovery replaces the master that has the recovery's number, and stops it
 -- before where that number is odd
 abbrev pub stops : LivePlan → NodeId → Bool
@@ -58,13 +73,13 @@ pub record AllEndAsPlanned (plan : LivePlan) (journals : Journals) : Type 0 wher
   pub backups : Each (EndsAsPlanned plan) journals.backups.items
   pub witnesses : Each (EndsAsPlanned plan) journals.witnesses.items
 
--- the journals are of the header's nodes, all work was done, with few requests pending at a time, as many recoveries were
--- ordered as the plan asks, and just the masters stopped that the plan stops
+-- the journals are of the header's nodes, all work was done, with few requests pending at a time, the manager was ordered
+-- just the recoveries of the plan, in their order, and just the masters stopped that the plan stops
 pub record IsLiveRun (plan : LivePlan) (work : List (List Command)) (journals : Journals) : Type 0 where
   pub are : AreOf (live_header plan) journals
   pub did : DidAll work journals.clients.items
   pub pending : Each (λ log. FewPending log.items) journals.clients.items
-  pub recoveries : recoveries_in journals.manager.items ≡ plan.recoveries
+  pub recovered : ordered_in journals.manager.items ≡ recoveries_from plan 1
   pub stopped : (k : ℕ) (j : Journal) → At (journals_of journals) k j → j.ended ≡ stops plan j.id
 
 -- journals, as they were taken of all nodes, are those of such a run
@@ -72,5 +87,5 @@ pub record IsTakenRun (plan : LivePlan) (work : List (List Command)) (taken : Jo
   pub are : AreAllTaken (live_header plan) plan.recoveries taken
   pub did : DidInOrder work taken.clients.items
   pub pending : Each (λ log. FewPending log.items) taken.clients.items
-  pub recoveries : recoveries_in taken.manager.items ≡ plan.recoveries
+  pub recovered : ordered_in taken.manager.items ≡ recoveries_from plan 1
   pub ends : AllEndAsPlanned plan taken

@@ -1,4 +1,4 @@
-ghost use Rattle.std.specs.Prelude.{◌≡◌, ◌↔◌, ◌+◌, ◌<◌, ◌≤◌, ◌^◌, false, length, map, Some, IfOk, IfSome, IsSomeAnd, IsTrue};
+ghost use Rattle.std.specs.Prelude.{◌≡◌, ◌↔◌, ◌+◌, ◌<◌, ◌≤◌, ◌^◌, false, length, map, None, Some, Ok, IfOk, IfSome, IsSomeAnd, IsTrue};
 ghost use Rattle.curp_base.specs.Words.{Each};
 ghost use Rattle.curp_cmd.specs.Node.{manager_node};
 ghost use Rattle.curp_msg.specs.Script.{IsHeader};
@@ -9,8 +9,9 @@ ghost use Rattle.curp_words.specs.Plan.{IsLivePlan, live_header};
 
 use crate::anew::{OfKind, anew, both_anew};
 use crate::nodes::LiveNodes;
+use crate::recoveries::recovers_as_planned;
 use crate::stopping::stops;
-use crate::work::{all_have_few_pending, did_all, recovery_count};
+use crate::work::{all_have_few_pending, did_all};
 use curp_base::NoMemory;
 use curp_cmd::{Command, NodeId, NodeKind};
 use curp_gather::Journals;
@@ -34,13 +35,15 @@ pub fn checked(
     ensures same { Each (λ list. length list.items < 2 ^ 32) work.now
         → IsTakenRun plan.now (map (λ list. list.items) work.now) taken
         → IfOk result (λ checked. IsSomeAnd checked (AreHandedOut (live_header plan.now) taken)) }
+    ensures cause { result ≡ Ok None → Each (λ list. length list.items < 2 ^ 32) work.now
+        → IsTakenRun plan.now (map (λ list. list.items) work.now) taken → ⊥ }
 {
     let Some(journals) = all_as_at_opening(alloc, &plan.header(), plan.recoveries, taken)? else {
         return Ok(None);
     };
     if did_all(work, &journals.clients)
         && all_have_few_pending(&journals.clients)
-        && recovery_count(journals.manager.journal()) == plan.recoveries as u64
+        && recovers_as_planned(plan, journals.manager.journal())
         && all_end_as_planned(plan, &journals)
     {
         Ok(Some(journals))
@@ -58,7 +61,9 @@ pub fn anew_at_opening(
     taken: Journals,
 ) -> Result<Option<Journals>, NoMemory>
     requires { IsHeader header.now }
-    ensures { IfOk result (λ made. IfSome made (λ journals. AreOf header.now journals)) }
+    ensures are { IfOk result (λ made. IfSome made (λ journals. AreOf header.now journals)) }
+    ensures same { AreAllTaken header.now 0 taken
+        → IfOk result (λ made. IsSomeAnd made (AreHandedOut header.now taken)) }
 {
     all_as_at_opening(alloc, header, 0, taken)
 }

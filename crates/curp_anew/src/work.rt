@@ -1,7 +1,7 @@
 ghost use Rattle.std.specs.Prelude.{◌≡◌, ◌≢◌, ◌↔◌, ℕ, List, ◌+◌, ◌^◌, ◌<◌, ◌≤◌, ◌++◌, if◌then◌else◌, is_some, length, map, None, IsTrue, IfSome};
 ghost use Rattle.curp_base.specs.Words.{Each};
 ghost use Rattle.curp_cmd.specs.declared.command.Command.{Command};
-ghost use Rattle.curp_turns.specs.Work.{DidWork, IsCompletedIn, invoked_by, invoked_in, recoveries_in};
+ghost use Rattle.curp_turns.specs.Work.{DidWork, IsCompletedIn, invoked_by, invoked_in};
 ghost use Rattle.curp_anew.specs.Live.{DidInOrder, FewPending};
 
 use curp_cmd::{Command, RequestId};
@@ -99,19 +99,6 @@ fn is_completed(items: &[Item], id: RequestId) -> bool
         }
     }
     false
-}
-
-/// How many recoveries were ordered.
-pub(crate) fn recovery_count(items: &[Item]) -> u64
-    ensures { result ≡ recoveries_in items.now }
-{
-    let mut count = 0;
-    for item in items {
-        if let Arrived::Local(Local::Recover { .. }, _) = &item.input {
-            count += 1;
-        }
-    }
-    count
 }
 
 /// Whether each client never has more than so few requests pending.

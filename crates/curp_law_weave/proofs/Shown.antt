@@ -24,17 +24,12 @@ use Rattle.curp_journal.specs.declared.item.Item.{Item}
 use Rattle.curp_turns.specs.Legal.{deed_for}
 use Rattle.curp_turns.specs.Turns.{Did, IsKnown, Journal, Placed, Quits, Turn, completed_by, of, turns_of}
 use Rattle.curp_turns.specs.Work.{IsCompletedIn, commands_among, invocations, invoked_by, invoked_in, ordered, orders_to, recoveries, recoveries_among, recoveries_in, recovery_by}
-use Rattle.curp_law_weave.specs.Run.{HasEnded, IsCompletedBy, RunOf, Runs, StopsEnded, completions}
+use Rattle.curp_law_weave.specs.Run.{HasEnded, IsCompletedBy, RunOf, Runs, StopsEnded, completions, ordered_by, ordered_in}
 
 -- ---- orders
 
--- the order that came
-abbrev order_by : Arrived → List Local
-order_by (arrived.Local order stamp) = order ∷ []
-order_by (arrived.Message named) = []
-
 abbrev turn_order : Turn → List Local
-turn_order (Did item) = order_by item.input
+turn_order (Did item) = ordered_by item.input
 turn_order (Quits stamp) = []
 
 abbrev orders_in : List Turn → List Local
@@ -71,7 +66,7 @@ same_orders w (steps.Stop id) = refl
 turn_orders : (node at : NodeId) (turn : Turn) → ordered node (order_in (deed_for (record { node = at; turn = turn }))) ≡ (if same_node at node then turn_order turn else [])
 turn_orders node at (Did item) = by item.input
   where
-    by : (a : Arrived) → ordered node (order_in (Gives at (given a))) ≡ (if same_node at node then order_by a else [])
+    by : (a : Arrived) → ordered node (order_in (Gives at (given a))) ≡ (if same_node at node then ordered_by a else [])
     by (arrived.Local order stamp) = refl
     by (arrived.Message named) = sym (chosen (same_node at node))
 turn_orders node at (Quits stamp) = sym (chosen (same_node at node))
@@ -93,14 +88,10 @@ runs_order node w (s ∷ ss) (p ∷ ps) runs =
 
 -- ---- the orders of a journal
 
-abbrev orders_of_items : List Item → List Local
-orders_of_items [] = []
-orders_of_items (item ∷ items) = order_by item.input ++ orders_of_items items
-
-orders_of_turns : (items : List Item) (last : ℕ) (ended : Bool) → orders_in (map Did items ++ (if ended then Quits last ∷ [] else [])) ≡ orders_of_items items
+orders_of_turns : (items : List Item) (last : ℕ) (ended : Bool) → orders_in (map Did items ++ (if ended then Quits last ∷ [] else [])) ≡ ordered_in items
 orders_of_turns [] last true = refl
 orders_of_turns [] last false = refl
-orders_of_turns (item ∷ items) last ended = ap (λ os. order_by item.input ++ os) (orders_of_turns items last ended)
+orders_of_turns (item ∷ items) last ended = ap (λ os. ordered_by item.input ++ os) (orders_of_turns items last ended)
 
 commands-append : (xs ys : List Local) → commands_among (xs ++ ys) ≡ commands_among xs ++ commands_among ys
 commands-append [] ys = refl
@@ -115,7 +106,7 @@ commands-append (local.Migrate lo hi to ∷ xs) ys = commands-append xs ys
 commands-append (local.Nudge ∷ xs) ys = commands-append xs ys
 commands-append (local.Expire client ∷ xs) ys = commands-append xs ys
 
-one_invoked : (a : Arrived) → commands_among (order_by a) ≡ invoked_by a
+one_invoked : (a : Arrived) → commands_among (ordered_by a) ≡ invoked_by a
 one_invoked (arrived.Local (local.Invoke command) stamp) = refl
 one_invoked (arrived.Local (local.Retry seq) stamp) = refl
 one_invoked (arrived.Local local.Fetch stamp) = refl
@@ -128,11 +119,11 @@ one_invoked (arrived.Local local.Nudge stamp) = refl
 one_invoked (arrived.Local (local.Expire client) stamp) = refl
 one_invoked (arrived.Message named) = refl
 
-items_invoked : (items : List Item) → commands_among (orders_of_items items) ≡ invoked_in items
+items_invoked : (items : List Item) → commands_among (ordered_in items) ≡ invoked_in items
 items_invoked [] = refl
-items_invoked (item ∷ items) = commands-append (order_by item.input) (orders_of_items items) ∙ cc (one_invoked item.input, items_invoked items)
+items_invoked (item ∷ items) = commands-append (ordered_by item.input) (ordered_in items) ∙ cc (one_invoked item.input, items_invoked items)
 
-recoveries-after : (a : Arrived) (os : List Local) → recoveries_among (order_by a ++ os) ≡ recovery_by a + recoveries_among os
+recoveries-after : (a : Arrived) (os : List Local) → recoveries_among (ordered_by a ++ os) ≡ recovery_by a + recoveries_among os
 recoveries-after (arrived.Local (local.Invoke command) stamp) os = omega arith
 recoveries-after (arrived.Local (local.Retry seq) stamp) os = omega arith
 recoveries-after (arrived.Local local.Fetch stamp) os = omega arith
@@ -145,9 +136,9 @@ recoveries-after (arrived.Local local.Nudge stamp) os = omega arith
 recoveries-after (arrived.Local (local.Expire client) stamp) os = omega arith
 recoveries-after (arrived.Message named) os = omega arith
 
-items_recover : (items : List Item) → recoveries_among (orders_of_items items) ≡ recoveries_in items
+pub items_recover : (items : List Item) → recoveries_among (ordered_in items) ≡ recoveries_in items
 items_recover [] = refl
-items_recover (item ∷ items) = recoveries-after item.input (orders_of_items items) ∙ ap (λ n. recovery_by item.input + n) (items_recover items)
+items_recover (item ∷ items) = recoveries-after item.input (ordered_in items) ∙ ap (λ n. recovery_by item.input + n) (items_recover items)
 
 -- ---- turns
 
@@ -231,7 +222,8 @@ stop_ended journals w (s ∷ ss) (p ∷ ps) runs ended =
 -- ---- the whole
 
 module _ (journals : List Journal) (h : Header) (ss : List Step) (placed : List Placed) (run : RunOf journals h ss placed) where
-  orders_are : (k : ℕ) (j : Journal) → At journals k j → orders_to j.id ss ≡ orders_of_items j.items
+  -- the steps order a node what its journal was ordered
+  pub orders_are : (k : ℕ) (j : Journal) → At journals k j → orders_to j.id ss ≡ ordered_in j.items
   orders_are k j at = runs_order j.id (opening h) ss placed run.runs ∙ (ap orders_in (run.turns.whole k j at) ∙ orders_of_turns j.items (last_stamp 0 j.items) j.ended)
 
   pub invocations_are : (k n : ℕ) (j : Journal) → At journals k j → j.id ≡ client_node n → invocations n ss ≡ invoked_in j.items

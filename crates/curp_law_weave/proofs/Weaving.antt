@@ -37,6 +37,7 @@ use Rattle.curp_law_names.proofs.Others.{Both}
 use Rattle.curp_law_names.proofs.Runs.{step_goes}
 use Rattle.curp_journal.specs.Given.{given}
 use Rattle.curp_journal.specs.Journal.{IsJournal, after, last_stamp}
+use Rattle.curp_journal.specs.Own.{IsArrivedMessage}
 use Rattle.curp_journal.specs.declared.arrived.Arrived.{Arrived}
 use Rattle.curp_journal.specs.declared.arrived.Arrived.TheVariants as arrived
 use Rattle.curp_journal.specs.declared.item.Item.{Item}
@@ -45,7 +46,7 @@ use Rattle.curp_law_weave.specs.NodeStates.{ABackup, AClient, AManager, AMaster,
 use Rattle.curp_turns.specs.Legal.{LegalFrom, deed_for}
 use Rattle.curp_turns.specs.Turns.{Did, IsKnown, Journal, Placed, Quits, Turn, of, said, turns_of}
 use Rattle.curp_turns.proofs.Turns.{of-append, of_first, of_here, of_there, said-append, said-snoc}
-use Rattle.curp_law_weave.specs.Run.{IsJournalOf, IsMade, IsArrivedMessage, Legal, RunOf, Runs, TakesFirst}
+use Rattle.curp_law_weave.specs.Run.{IsJournalOf, IsMade, Legal, RunOf, Runs, TakesFirst}
 use Rattle.curp_law_weave.proofs.Expiring.{expired_client}
 use Rattle.curp_law_weave.proofs.Moves.{Moves, gives_done, manager_there, move_says, moved, stop_done, stop_is, stop_world}
 use Rattle.curp_law_weave.proofs.Turns.{HasQuit, ending, item_next, items_in, items_in-did, items_in-quits, none_after, quit_more, quit_now}

@@ -7,6 +7,7 @@ use Rattle.curp_cmd.specs.declared.command.RequestId.{RequestId}
 use Rattle.curp_cmd.specs.declared.node.NodeId.{NodeId}
 use Rattle.curp_msg.specs.Weight.{weight_of}
 use Rattle.curp_msg.specs.declared.machine.Completed.{Completed}
+use Rattle.curp_msg.specs.declared.machine.Local.{Local}
 use Rattle.curp_msg.specs.declared.outcome.StepResult.TheVariants.{Done}
 use Rattle.curp_msg.specs.declared.script.Header.{Header}
 use Rattle.curp_msg.specs.declared.script.Step.{Step}
@@ -15,6 +16,7 @@ use Rattle.curp_model.specs.World.{World, deed_of, messages, opening, step}
 use Rattle.curp_msg.specs.Limits.{weight_limit}
 use Rattle.curp_msg.specs.Script.{IsHeader}
 use Rattle.curp_journal.specs.Journal.{IsJournal}
+use Rattle.curp_journal.specs.Own.{IsArrivedMessage}
 use Rattle.curp_journal.specs.declared.arrived.Arrived.{Arrived}
 use Rattle.curp_journal.specs.declared.arrived.Arrived.TheVariants as arrived
 use Rattle.curp_journal.specs.declared.item.Item.{Item}
@@ -44,6 +46,18 @@ pub record RunOf (journals : List Journal) (h : Header) (ss : List Step) (placed
   pub turns : AreTurns journals placed
   pub runs : Runs (opening h) ss placed
 
+-- ---- what a journal was ordered
+
+-- the order among what came
+abbrev pub ordered_by : Arrived → List Local
+ordered_by (arrived.Local order stamp) = order ∷ []
+ordered_by (arrived.Message named) = []
+
+-- what a node was ordered, in order
+abbrev pub ordered_in : List Item → List Local
+ordered_in [] = []
+ordered_in (item ∷ items) = ordered_by item.input ++ ordered_in items
+
 -- ---- what a run completes
 
 -- what steps complete, from a world on
@@ -72,11 +86,6 @@ StopsEnded journals (steps.Stop node) = HasEnded journals node
 StopsEnded journals _ = ⊤
 
 -- ---- what is asked of lists alone
-
--- what came is a message
-abbrev pub IsArrivedMessage : Arrived → Type 0
-IsArrivedMessage (arrived.Local order stamp) = ⊥
-IsArrivedMessage (arrived.Message named) = ⊤
 
 -- there is a first item, and what came then is a message
 pub record TakesFirst (items : List Item) : Type 0 where

@@ -1,10 +1,16 @@
 // What clients and masters are ordered by their own threads.
+ghost use Rattle.std.specs.Prelude.{◌≡◌, ◌==◌, [], map, not, ltb, drop, filter, take, option_map, IfOk, OnErr};
+ghost use Rattle.curp_base.specs.Words.{first_of};
+ghost use Rattle.curp_msg.specs.declared.machine.Local.TheVariants as local;
+ghost use Rattle.curp_live.specs.Due.{client_due, client_given, client_noted, master_noted, room, to_retry};
+
 use curp_base::{NoMemory, Shared};
 use curp_cmd::{Command, RequestId};
 use curp_msg::Local;
 use curp_policy::{COLLECT_AFTER, PENDING_AT_ONCE, SYNC_AFTER};
 use curp_seat::{Chores, Took};
 use std::alloc::Global;
+use std::marker::Model;
 
 /// A client's: it retries all that is pending after each configuration, in the order in which it was invoked, and
 /// invokes its commands in order, at most four at a time.
@@ -21,11 +27,24 @@ pub(crate) struct ClientChores<'a> {
     retried: u32,
 }
 
+impl<'a> Model for ClientChores<'a> {
+    ghost use Rattle.curp_live.specs.Due.{ClientWork};
+
+    ghost Value = { ClientWork };
+
+    ghost view = { λ c. record {
+      left = c.left.now;
+      invoked = c.invoked;
+      pending = c.pending.items;
+      retried = c.retried;
+    } };
+}
+
 impl<'a> ClientChores<'a> {
-    pub(crate) fn new(
-        alloc: Global,
-        commands: &'a [Command],
-    ) -> Result<ClientChores<'a>, NoMemory> {
+    pub(crate) fn new(alloc: Global, commands: &'a [Command]) -> Result<ClientChores<'a>, NoMemory>
+        ensures { IfOk result (λ chores.
+            chores ≡ record { left = commands.now; invoked = 0; pending = []; retried = 0 }) }
+    {
         Ok(ClientChores {
             alloc,
             left: commands,
@@ -36,15 +55,22 @@ impl<'a> ClientChores<'a> {
     }
 
     /// The next retry that is due.
-    fn retry(&mut self) -> Option<Local> {
-        let retried = self.retried;
-        let seq = *self.pending.iter().find(|seq| **seq > retried)?;
+    fn retry(&mut self) -> Option<Local>
+        ensures due { result ≡ option_map local.Retry (first_of (to_retry self.old)) }
+        ensures given { self.new ≡ client_given self.old result }
+    {
+        let seq = first_above(&self.pending, self.retried)?;
         self.retried = seq;
         Some(Local::Retry(seq))
     }
 
     /// The next command, if so few requests are pending that there is room for it.
-    fn invoke(&mut self) -> Result<Option<Local>, NoMemory> {
+    fn invoke(&mut self) -> Result<Option<Local>, NoMemory>
+        ensures due { IfOk result (λ due.
+            due ≡ option_map local.Invoke (first_of (take (room self.old) self.old.left))) }
+        ensures given { IfOk result (λ due. self.new ≡ client_given self.old due) }
+        ensures err { OnErr result (self.new ≡ self.old) }
+    {
         if self.pending.len() >= PENDING_AT_ONCE {
             return Ok(None);
         }
@@ -65,21 +91,47 @@ impl<'a> ClientChores<'a> {
 }
 
 impl<'a> Chores for ClientChores<'a> {
-    fn note(&mut self, took: Took, completed: Option<RequestId>) {
+    fn note(&mut self, took: Took, completed: Option<RequestId>)
+        ensures { self.new ≡ client_noted self.old took completed }
+    {
         if let Some(id) = completed {
-            self.pending.retain(|seq| *seq != id.seq);
+            leave_out(&mut self.pending, id.seq);
         }
         if let Took::Configuration { .. } = took {
             self.retried = 0;
         }
     }
 
-    fn due(&mut self) -> Result<Option<Local>, NoMemory> {
+    #[tactic(auto, using(crate::proofs::Due::first_retried, crate::proofs::Due::first_invoked))]
+    fn due(&mut self) -> Result<Option<Local>, NoMemory>
+        ensures due { IfOk result (λ due. due ≡ first_of (client_due self.old)) }
+        ensures given { IfOk result (λ due. self.new ≡ client_given self.old due) }
+        ensures err { OnErr result (self.new ≡ self.old) }
+    {
         match self.retry() {
             Some(retry) => Ok(Some(retry)),
             None => self.invoke(),
         }
     }
+}
+
+/// The first of these numbers that is above another one.
+fn first_above(numbers: &[u32], least: u32) -> Option<u32>
+    ensures { result ≡ first_of (filter (λ number. ltb least number) numbers.now) }
+{
+    for number in numbers {
+        if *number > least {
+            return Some(*number);
+        }
+    }
+    None
+}
+
+/// Leaves one out of these numbers.
+fn leave_out(numbers: &mut Vec<u32>, one: u32)
+    ensures { numbers.new.items ≡ filter (λ number. not (number == one)) numbers.old.items }
+{
+    numbers.retain(|number| *number != one);
 }
 
 /// A master's: `sync` after each 8 updates and syncs, and behind it `collect` after each 32.
@@ -90,8 +142,23 @@ pub(crate) struct MasterChores {
     collect: bool,
 }
 
+impl Model for MasterChores {
+    ghost use Rattle.std.specs.Prelude.{if◌then◌else◌, [], ◌∷◌, ◌++◌};
+    ghost use Rattle.curp_msg.specs.declared.machine.Local.TheVariants.{Collect, Sync};
+    ghost use Rattle.curp_live.specs.Due.{MasterWork};
+
+    ghost Value = { MasterWork };
+
+    ghost view = { λ m. record {
+      asked = m.asked;
+      due = (if m.sync then Sync ∷ [] else []) ++ (if m.collect then Collect ∷ [] else []);
+    } };
+}
+
 impl MasterChores {
-    pub(crate) fn new() -> MasterChores {
+    pub(crate) fn new() -> MasterChores
+        ensures { result ≡ record { asked = 0; due = [] } }
+    {
         MasterChores {
             asked: 0,
             sync: false,
@@ -101,7 +168,9 @@ impl MasterChores {
 }
 
 impl Chores for MasterChores {
-    fn note(&mut self, took: Took, _completed: Option<RequestId>) {
+    fn note(&mut self, took: Took, _completed: Option<RequestId>)
+        ensures { self.new ≡ master_noted self.old took }
+    {
         if took == Took::Asks {
             self.asked = self.asked.wrapping_add(1);
             self.sync = self.asked % SYNC_AFTER == 0;
@@ -109,7 +178,10 @@ impl Chores for MasterChores {
         }
     }
 
-    fn due(&mut self) -> Result<Option<Local>, NoMemory> {
+    fn due(&mut self) -> Result<Option<Local>, NoMemory>
+        ensures due { IfOk result (λ due. due ≡ first_of self.old.due) }
+        ensures given { self.new ≡ record self.old { due = drop 1 self.old.due } }
+    {
         Ok(if self.sync {
             self.sync = false;
             Some(Local::Sync)

@@ -1,17 +1,15 @@
 // Who works in a run: the workers and the couriers of its nodes, and the driver.
 use crate::board::Board;
 use crate::chores::{ClientChores, MasterChores};
-use crate::drive::{Orders, drive};
+use crate::deeds::Deed;
+use crate::drive::Reach;
 use crate::teller::{Speaker, Teller};
 use curp_base::NoMemory;
-use curp_cmd::NodeId;
 use curp_desk::{Carry, Desk, Drive, Posts, Work};
-use curp_journal::Arrived;
-use curp_msg::{Core, Local};
+use curp_msg::Core;
 use curp_nodes::{BackupNode, ClientNode, ManagerNode, MasterNode, WitnessNode};
-use curp_ruled::{Parcel, Take};
+use curp_ruled::Take;
 use curp_seat::{Chores, Gate, NoChores};
-use curp_words::LivePlan;
 use std::alloc::Global;
 use std::sync::Wait;
 
@@ -98,46 +96,26 @@ impl<'s> Carry for Courier<'s> {
     }
 }
 
-/// The driver of a run.
-#[derive(Clone, Copy)]
+/// The driver of a run, with all that it does.
+#[derive(Drop)]
 pub(crate) struct Driver<'s> {
     pub alloc: Global,
-    pub plan: &'s LivePlan,
+    pub deeds: Vec<Deed>,
     pub board: &'s Board,
 }
 
 impl<'s> Drive for Driver<'s> {
     fn drive<R: Wait>(self, rt: &R, posts: &mut Posts) -> Result<(), NoMemory> {
+        let Driver {
+            alloc,
+            deeds,
+            board,
+        } = self;
         let mut reach = Reach {
-            alloc: self.alloc,
+            alloc,
+            board,
             posts,
         };
-        drive(rt, self.plan, self.board, &mut reach)
-    }
-}
-
-/// How the driver reaches the nodes: by its posts. A node is stopped by its end.
-#[derive(Drop)]
-struct Reach<'p> {
-    alloc: Global,
-    posts: &'p mut Posts,
-}
-
-impl<'p> Orders for Reach<'p> {
-    fn order<R: Wait>(
-        &mut self,
-        rt: &R,
-        to: NodeId,
-        order: Local,
-        stamp: u64,
-    ) -> Result<(), NoMemory> {
-        let number = self.posts.sender();
-        let parcel = Parcel::new(self.alloc, number, Arrived::Local(order, stamp))?;
-        self.posts.send(rt, to, parcel);
-        Ok(())
-    }
-
-    fn stop<R: Wait>(&mut self, rt: &R, node: NodeId) {
-        self.posts.end(rt, node);
+        reach.drive(rt, deeds)
     }
 }

@@ -4,13 +4,18 @@
 //!   drives the run itself: it makes the recoveries, and ends all nodes once all requests are completed. Where a thread
 //!   can't be made or finds no memory, every wait ends, and it says so. What comes out of a lock has no clause, so the
 //!   journals are begun anew and compared (`curp_anew`), and what each node took of each other with what that sent
-//!   (`Ruled`). Where anything differs the run is made anew.
-//! - Which orders a client and a master are due (`chores.rt`) and what the driver does (`drive.rt`) know no thread.
+//!   (`Ruled`). Where anything differs the run is made anew, and only there (`judged`).
+//! - What the driver does is a list that follows from the plan alone (`deeds_of`): which partition is recovered, after how
+//!   many completed requests, which master is stopped before, and when clients are told to fetch. It does one after the
+//!   other (`drive.rt`). That it waits as that list says is no clause, since what it waits for lies behind a lock.
+//! - What a client and a master are due to be ordered follows from what they took (`client_due`, `master_due`). It knows no
+//!   thread.
 #![tactic(auto)]
 
 mod board;
 mod chores;
 mod crew;
+mod deeds;
 mod desks;
 mod drive;
 mod members;

@@ -3,6 +3,7 @@ ghost use Rattle.curp_words.specs.Plan.{IsLivePlan};
 
 use crate::board::Board;
 use crate::crew::{Driver, Floor};
+use crate::deeds::deeds;
 use crate::desks::Desks;
 use crate::members::members;
 use curp_anew::LiveNodes;
@@ -44,7 +45,8 @@ fn run_all<R: Threads + Wait + Sync, G: Gate + Sync>(
     desks: &Desks,
     gate: &G,
 ) -> Result<(), NoMemory>
-    requires { 1 ≤ room }
+    requires room { 1 ≤ room }
+    requires plan { IsLivePlan plan.now }
 {
     let board = Board::new(alloc, plan.clients)?;
     let floor = Floor {
@@ -54,7 +56,7 @@ fn run_all<R: Threads + Wait + Sync, G: Gate + Sync>(
     let members = members(alloc, &floor, desks, work)?;
     let driver = Driver {
         alloc,
-        plan,
+        deeds: deeds(alloc, plan)?,
         board: &board,
     };
     run_crew(rt, alloc, room, members, driver)?;

@@ -1,5 +1,7 @@
-ghost use Rattle.std.specs.Prelude.{◌≡◌, ◌≤◌, length, map, IfOk, IfSome};
+ghost use Rattle.std.specs.Prelude.{◌≡◌, ◌≤◌, ◌<◌, ◌^◌, length, map, None, Ok, IfOk, IfSome};
+ghost use Rattle.curp_base.specs.Words.{Each};
 ghost use Rattle.curp_anew.specs.Live.{IsLiveRun};
+ghost use Rattle.curp_live.specs.Judging.{IsRuledRun};
 ghost use Rattle.curp_words.specs.Plan.{IsLivePlan};
 
 use crate::once::once;
@@ -7,6 +9,7 @@ use curp_anew::checked;
 use curp_base::NoMemory;
 use curp_cmd::Command;
 use curp_desk::ROOM;
+use curp_gather::Journals;
 use curp_gather_ruled::Ruled;
 use curp_seat::Gate;
 use curp_words::LivePlan;
@@ -52,7 +55,7 @@ pub fn live_in_rooms<R: Threads + Wait + Sync, G: Gate + Sync>(
     unreachable!()
 }
 
-// One run. None where its journals aren't those of a run of the plan, or aren't ruled.
+// One run. None where the journals that were taken of its nodes aren't those of a ruled run of the plan (`judged`).
 fn tried<R: Threads + Wait + Sync, G: Gate + Sync>(
     rt: &R,
     alloc: Global,
@@ -67,6 +70,23 @@ fn tried<R: Threads + Wait + Sync, G: Gate + Sync>(
     ensures { IfOk result (λ tried. IfSome tried (IsLiveRun plan.now (map (λ list. list.items) work.now))) }
 {
     let taken = once(rt, alloc, room, plan, work, gate)?;
+    judged(alloc, plan, work, taken)
+}
+
+/// The journals that are handed out of those that were taken. None exactly where these aren't those of a ruled run of the
+/// plan.
+fn judged(
+    alloc: Global,
+    plan: &LivePlan,
+    work: &[Vec<Command>],
+    taken: Journals,
+) -> Result<Option<Ruled>, NoMemory>
+    requires plan { IsLivePlan plan.now }
+    requires work { length work.now ≡ plan.now.clients }
+    ensures run { IfOk result (λ judged. IfSome judged (IsLiveRun plan.now (map (λ list. list.items) work.now))) }
+    ensures cause { result ≡ Ok None → Each (λ list. length list.items < 2 ^ 32) work.now
+        → IsRuledRun plan.now (map (λ list. list.items) work.now) taken → ⊥ }
+{
     match checked(alloc, plan, work, taken)? {
         Some(journals) => Ruled::new(alloc, journals),
         None => Ok(None),

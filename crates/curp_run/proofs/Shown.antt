@@ -1,28 +1,36 @@
 -- A run of journals shows the work that was done.
-use Rattle.std.proofs.Common.{◌≡◌, ℕ, zero, suc, ◌+◌, ◌≤◌, List, length, map, refl, ap, sym, ◌∙◌, subst, arith}
+use Rattle.std.proofs.Common.{◌≡◌, ℕ, zero, suc, ◌+◌, ◌-◌, ◌≤◌, List, length, map, refl, ap, sym, ◌∙◌, subst, arith}
 use Rattle.curp_base.specs.Words.{At, numbers_from}
 use Rattle.curp_base.proofs.Lists.{Each-at, Each-weaker, at_append, at_map, at_some}
 use Rattle.curp_base.proofs.Numbered.{numbers_at}
 use Rattle.curp_cmd.specs.Node.{client_node}
+use Rattle.curp_cmd.specs.declared.node.NodeId.{NodeId}
 use Rattle.curp_msg.specs.Moved.{Node}
 use Rattle.curp_msg.specs.declared.script.Step.{Step}
 use Rattle.curp_msg.specs.declared.script.Step.TheVariants as steps
 use Rattle.curp_journal.specs.Journal.{NodeJournal}
 use Rattle.curp_model.specs.Client.{ClientState}
 use Rattle.curp_model.specs.World.{opening}
-use Rattle.curp_turns.specs.Work.{DidWork}
-use Rattle.curp_law_weave.proofs.Shown.{completed_are, invocations_are, recoveries_are, stopped_are}
+use Rattle.curp_turns.specs.Work.{DidWork, orders_to, recoveries_among}
+use Rattle.curp_law_weave.proofs.Shown.{completed_are, invocations_are, items_recover, orders_are, recoveries_are, stopped_are}
 use Rattle.curp_law_weave.specs.Run.{StopsEnded}
 use Rattle.curp_gather.specs.Journals.{IsClientJournal, IsScriptOf, journal_of, journals_of}
 use Rattle.curp_gather.specs.declared.journals.Journals.{Journals}
 use Rattle.curp_gen.specs.Commands.{workload_of}
 use Rattle.curp_gen.proofs.Workloads.{length-workload}
-use Rattle.curp_anew.specs.Live.{IsLiveRun, stops}
+use Rattle.curp_anew.specs.Live.{IsLiveRun, recoveries_from, recovery_of, stops}
 use Rattle.curp_words.specs.Plan.{live_header}
 use Rattle.curp_opening.proofs.Numbers.{named_length}
 use Rattle.curp_words.specs.declared.task.LivePlan.{LivePlan}
 use Rattle.curp_run.specs.Live.{Shows, StopsAsPlanned, work_of}
 use Rattle.curp_run.proofs.Stops.{run_prints}
+
+-- as many recoveries are among those of a plan as there are numbers
+counted : (plan : LivePlan) (number count : ℕ) → recoveries_among (map (recovery_of plan) (numbers_from number count)) ≡ count
+counted plan number zero = refl
+counted plan number (suc count) =
+    let more : 1 + count ≡ suc count = omega arith in
+    ap (λ (n : ℕ). 1 + n) (counted plan (number + 1) count) ∙ more
 
 module _ (plan : LivePlan) (j : Journals) (ss : List Step) (run : IsLiveRun plan (work_of plan) j) (script : IsScriptOf (live_header plan) (journals_of j) ss) where
   -- a client's journal, and what it did
@@ -66,6 +74,9 @@ module _ (plan : LivePlan) (j : Journals) (ss : List Step) (run : IsLiveRun plan
   planned steps.Nudge h = tt
   planned (steps.Expire n) h = tt
 
+  all_counted : recoveries_among (recoveries_from plan 1) ≡ plan.recoveries
+  all_counted = counted plan 1 (plan.recoveries + 1 - 1) ∙ omega arith
+
   pub shown : Shows plan ss
   shown = record {
     invoked = λ n low high.
@@ -75,7 +86,10 @@ module _ (plan : LivePlan) (j : Journals) (ss : List Step) (run : IsLiveRun plan
         let w = worked n low high in
         let many : length (workload_of plan.number n plan.commands) ≡ plan.commands = length-workload plan.number n plan.commands in
         completed_are (journals_of j) (live_header plan) ss script.placed script.run w.k (journal_of w.log) (record { client = n; seq = seq }) w.stands (w.did.completed seq first (omega (arith, many, last)));
-    recovered = recoveries_are (journals_of j) (live_header plan) ss script.placed script.run 0 (journal_of j.manager) refl run.are.manager.its_name ∙ run.recoveries;
+    recovered = recoveries_are (journals_of j) (live_header plan) ss script.placed script.run 0 (journal_of j.manager) refl run.are.manager.its_name
+        ∙ (sym (items_recover j.manager.items) ∙ (ap recoveries_among run.recovered ∙ all_counted));
+    ordered = ap (λ (node : NodeId). orders_to node ss) (sym run.are.manager.its_name)
+        ∙ (orders_are (journals_of j) (live_header plan) ss script.placed script.run 0 (journal_of j.manager) refl ∙ run.recovered);
     stopped = Each-weaker (StopsEnded (journals_of j)) (StopsAsPlanned plan) planned ss (stopped_are (journals_of j) (live_header plan) ss script.placed script.run);
     printable = run_prints (opening (live_header plan)) ss script.placed script.run.runs;
   }

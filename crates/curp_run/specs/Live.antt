@@ -2,6 +2,7 @@
 use Rattle.std.specs.Prelude.{◌≡◌, ◌≢◌, ◌≤◌, ◌⊎◌, ℕ, List, ◌++◌, map, Some, true, ⊤}
 use Rattle.curp_base.specs.Words.{Each, numbers_from}
 use Rattle.curp_io.specs.Streams.{HoldsPart}
+use Rattle.curp_cmd.specs.Node.{manager_node}
 use Rattle.curp_cmd.specs.declared.command.Command.{Command}
 use Rattle.curp_msg.specs.Limits.{step_limit, weight_limit}
 use Rattle.curp_msg.specs.declared.script.Step.{Step}
@@ -11,8 +12,10 @@ use Rattle.curp_script.specs.Script.{Script, Whole}
 use Rattle.curp_script.specs.Texts.{script_lines}
 use Rattle.curp_model.specs.World.{world}
 use Rattle.curp_turns.specs.Turns.{Journal}
-use Rattle.curp_turns.specs.Work.{invocations, recoveries}
-use Rattle.curp_anew.specs.Live.{stops}
+use Rattle.curp_turns.specs.Work.{invocations, orders_to, recoveries}
+use Rattle.curp_gather.specs.Journals.{journals_of}
+use Rattle.curp_gather.specs.declared.journals.Journals.{Journals}
+use Rattle.curp_anew.specs.Live.{IsLiveRun, recoveries_from, stops}
 use Rattle.curp_merge.specs.Held.{AllHeld}
 use Rattle.curp_merge.specs.Merging.{turn_count, weight_sent}
 use Rattle.curp_gather_ruled.specs.Causes.{IsRuledCause}
@@ -36,12 +39,14 @@ StopsAsPlanned plan (Stop node) = stops plan node ≡ true
 StopsAsPlanned plan _ = ⊤
 
 -- In the steps each client invokes its workload in order, and each of these requests completes. As many recoveries are
--- ordered as the plan asks, no node is stopped that the plan doesn't stop, and each step can be printed
+-- ordered as the plan asks, and the manager is ordered just these, in their order; no node is stopped that the plan doesn't
+-- stop, and each step can be printed
 pub record Shows (plan : LivePlan) (steps : List Step) : Type 0 where
   pub invoked : (n : ℕ) → 1 ≤ n → n ≤ plan.clients → invocations n steps ≡ workload_of plan.number n plan.commands
   pub completed : (n seq : ℕ) → 1 ≤ n → n ≤ plan.clients → 1 ≤ seq → seq ≤ plan.commands
       → IsCompletedBy (live_header plan) steps (record { client = n; seq = seq })
   pub recovered : recoveries steps ≡ plan.recoveries
+  pub ordered : orders_to manager_node steps ≡ recoveries_from plan 1
   pub stopped : Each (StopsAsPlanned plan) steps
   pub printable : Each NamesNode steps
 
@@ -56,6 +61,12 @@ pub record IsUnplayable (journals : List Journal) : Type 0 where
   pub why : RuledError
   pub memory : why ≢ error.NoMemory
   pub cause : IsRuledCause journals why
+
+-- there is a run of the plan in which its work was done, and its journals are none that can be played
+pub record HasUnplayableRun (plan : LivePlan) : Type 0 where
+  pub journals : Journals
+  pub run : IsLiveRun plan (work_of plan) journals
+  pub cause : IsUnplayable (journals_of journals)
 
 -- the script of these steps, read to its end
 abbrev pub whole_script : LivePlan → List Step → Script

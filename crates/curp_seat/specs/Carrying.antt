@@ -1,4 +1,4 @@
--- How a message crosses from seat to seat (this project's own).
+-- How a message crosses from node to node (this project's own).
 use Rattle.std.specs.Prelude.{◌≡◌, ℕ, true, false, List}
 use Rattle.curp_cmd.specs.declared.node.NodeId.{NodeId}
 use Rattle.curp_msg.specs.declared.message.Message.{Message}

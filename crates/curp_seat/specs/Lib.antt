@@ -1,5 +1,3 @@
 pub mod Carrying
 pub mod Making
-pub mod Parcels
 pub mod Taking
-pub mod Waiting

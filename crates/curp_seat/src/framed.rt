@@ -7,7 +7,7 @@ use curp_base::NoMemory;
 use curp_cmd::NodeId;
 use curp_journal::Named;
 use curp_msg::Message;
-use curp_wire::{FrameError, decode, encode, is_light};
+use curp_wire::{FrameError, decode, encode_light, is_light};
 use std::alloc::{AllocError, Global};
 use std::marker::Model;
 
@@ -80,7 +80,7 @@ fn packed(alloc: Global, message: Message) -> Result<Carried, NoMemory>
     ensures { IfOk result (λ carried. CrossesAs carried message) }
 {
     if is_light(&message) {
-        Ok(Carried::Frame(encode(alloc, &message)?))
+        Ok(Carried::Frame(encode_light(alloc, &message)?))
     } else {
         Ok(Carried::Whole(message))
     }

@@ -1,4 +1,4 @@
-//! Nodes with their journals, each behind a lock, so that threads can run them.
+//! Nodes with their journals, as threads run them, and messages on their way between nodes.
 //!
 //! - `Kept<N>` means a name, the state that the node began with, its items and whether it has stopped. Its type keeps
 //!   that the items, replayed from that state, give the node and all outputs, and that stamps rise (`journal`, clauses
@@ -10,26 +10,19 @@
 //! - `Running` is a `Kept` that hasn't stopped. `make` tells a `Gate` of a step before it is made, makes it as `step`
 //!   does, and gives what it sent, with names.
 //! - `Chores` say what a node is ordered by its own threads, by what kind of input it took (`Took`) and what it completed.
-//! - `Seat` is a `Running` with its `Chores` under a lock, and an inbox under another, so that `post` never waits for a
-//!   step. Several threads may work at it: each takes the next input, in the order of the posts, and makes that step and
-//!   all that the chores order behind it. An end comes before all that waits. No clause can say what lies under a lock:
-//!   what holds is the invariant of `Running`.
-//! - `Framed` is a message with its name on its way between seats, seen as that. A message that is light crosses as the
+//! - `Framed` is a message with its name on its way between nodes, seen as that. A message that is light crosses as the
 //!   frame that `curp_wire` writes of it, and is decoded by who takes it; another crosses as it is. Its type keeps that.
 #![tactic(auto)]
 
 mod chores;
 mod framed;
 mod gate;
-mod inbox;
 mod kept;
 mod making;
 mod naming;
 mod opening;
-mod parcel;
 mod replay;
 mod running;
-mod seat;
 mod took;
 
 pub use chores::{Chores, NoChores};
@@ -38,5 +31,4 @@ pub use gate::{Gate, OpenGate, Point};
 pub use kept::Kept;
 pub use naming::Sent;
 pub use running::{Made, Running};
-pub use seat::{Seat, Turn, Worked};
 pub use took::Took;

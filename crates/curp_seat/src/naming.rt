@@ -1,8 +1,8 @@
-ghost use Rattle.std.specs.Prelude.{◌≡◌, [], None, option_map, IfOk};
+ghost use Rattle.std.specs.Prelude.{◌≡◌, [], None, IfOk};
 ghost use Rattle.curp_journal.specs.Sending.{named_of};
 
 use curp_base::NoMemory;
-use curp_cmd::{NodeId, RequestId};
+use curp_cmd::NodeId;
 use curp_journal::Named;
 use curp_msg::{Completed, Message};
 use std::alloc::Global;
@@ -15,16 +15,6 @@ pub struct Sent {
 }
 
 impl Sent {
-    /// The request that was completed, if one was.
-    pub(crate) fn completed_id(&self) -> Option<RequestId>
-        ensures { result ≡ option_map (λ completed. completed.id) self.now.completed }
-    {
-        match &self.completed {
-            Some(completed) => Some(completed.id),
-            None => None,
-        }
-    }
-
     /// Nothing was sent or completed. It takes no memory.
     pub(crate) fn nothing(alloc: Global) -> Sent
         ensures named { result.named.items ≡ [] }

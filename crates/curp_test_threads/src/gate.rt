@@ -54,6 +54,11 @@ impl Watching {
         self.master.load(Ordering::SeqCst) == 1
     }
 
+    // Whether the run was made once, or once more.
+    pub(crate) fn heard_two_runs_at_most(&self) -> bool {
+        matches!(self.master.load(Ordering::SeqCst), 1 | 2)
+    }
+
     // Whether the first steps were each due while the other one was.
     pub(crate) fn heard_them_meet(&self) -> bool {
         self.master.load(Ordering::SeqCst) == 1

@@ -1,4 +1,4 @@
-// Nodes on threads: that each run is made once and ends, with small rooms too, and that its nodes don't wait for each other.
+// Nodes on threads: that each run is made once, or at most once more, and ends, with small rooms too, and that its nodes don't wait for each other.
 ghost use Rattle.std.specs.Prelude.{◌≡◌, length, IfOk, IsTrue};
 ghost use Rattle.curp_gather.specs.Journals.{AreOf};
 ghost use Rattle.curp_msg.specs.Script.{IsHeader};
@@ -218,6 +218,60 @@ fn runs_1_to_50_in_protocol_2_are_made_once(rt: HostRuntime) -> Result<(), Fail>
 #[test]
 fn runs_51_to_100_in_protocol_2_are_made_once(rt: HostRuntime) -> Result<(), Fail> {
     assert!(rt; fifty_end(&rt, rt.alloc(), Protocol::Two)?);
+    Ok(())
+}
+
+// Each number of backups, of partitions and of recoveries, with few commands.
+fn of_shape(f: u32, parts: u32, recoveries: u32) -> LivePlan {
+    let protocol = if recoveries % 2 == 0 {
+        Protocol::One
+    } else {
+        Protocol::Two
+    };
+    LivePlan {
+        f,
+        clients: 3,
+        parts,
+        commands: 9,
+        protocol,
+        recoveries,
+        ..LivePlan::default()
+    }
+}
+
+// Whether the runs of a shape with each number of recoveries are each made twice at most.
+fn is_made_twice_at_most<R: Threads + Wait + Sync>(
+    rt: &R,
+    alloc: Global,
+    f: u32,
+    parts: u32,
+) -> Result<bool, NoMemory> {
+    for recoveries in [0, 1, 2, 3, 8] {
+        let gate = Watching::new(false);
+        let plan = of_shape(f, parts, recoveries);
+        let is_script = steps(rt, alloc, None, &plan, &gate)?.is_some();
+        if !is_script || !gate.heard_two_runs_at_most() {
+            return Ok(false);
+        }
+    }
+    Ok(true)
+}
+
+// A run is made anew only where its journals aren't those of a run; each shape is made twice at most.
+
+#[test]
+fn runs_of_each_number_of_partitions_are_made_twice_at_most(rt: HostRuntime) -> Result<(), Fail> {
+    for parts in 1..=16 {
+        assert!(rt; is_made_twice_at_most(&rt, rt.alloc(), 1, parts)?);
+    }
+    Ok(())
+}
+
+#[test]
+fn runs_of_each_number_of_backups_are_made_twice_at_most(rt: HostRuntime) -> Result<(), Fail> {
+    for f in 1..=5 {
+        assert!(rt; is_made_twice_at_most(&rt, rt.alloc(), f, 3)?);
+    }
     Ok(())
 }
 

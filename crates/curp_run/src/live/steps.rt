@@ -1,7 +1,7 @@
 // The steps of a run on threads.
 ghost use Rattle.std.specs.Prelude.{◌≡◌, ◌≤◌, length, map, IfOk, IfSome, None, Ok};
 ghost use Rattle.curp_gather.specs.Journals.{AreOf, IsScriptOf, journals_of};
-ghost use Rattle.curp_run.specs.Live.{IsPlayable, IsUnplayable, Shows, work_of};
+ghost use Rattle.curp_run.specs.Live.{HasUnplayableRun, IsPlayable, IsUnplayable, Shows, work_of};
 ghost use Rattle.curp_msg.specs.Limits.{step_limit};
 ghost use Rattle.curp_words.specs.Plan.{IsLivePlan, live_header};
 
@@ -54,6 +54,7 @@ fn steps_of_one<R: Threads + Wait + Sync, G: Gate + Sync>(
     requires count { length work.now ≡ plan.now.clients }
     ensures shows { IfOk result (λ found. IfSome found (λ steps. Shows plan.now steps.items)) }
     ensures few { IfOk result (λ found. IfSome found (λ steps. length steps.items ≤ step_limit)) }
+    ensures cause { result ≡ Ok None → HasUnplayableRun plan.now }
 {
     let ruled = live(rt, alloc, plan, work, gate)?;
     let steps = script_of(alloc, header, &ruled);

@@ -1,7 +1,7 @@
 use Rattle.std.proofs.Common.{refl, arith}
 use Rattle.curp_base.proofs.Lists.{at_within}
 use Rattle.curp_journal.specs.declared.item.Item.{Item}
-use Rattle.curp_merge.specs.Merging.{IsOwn}
+use Rattle.curp_journal.specs.Own.{IsOwn}
 use Rattle.curp_anew.proofs.Scans.{scan_more}
 use Rattle.curp_anew.proofs.own.all_own.Goals as goal
 

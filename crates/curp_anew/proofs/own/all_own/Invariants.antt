@@ -1,7 +1,7 @@
 use Rattle.std.proofs.Common.{ℕ, ◌<◌}
 use Rattle.curp_base.specs.Words.{At}
 use Rattle.curp_journal.specs.declared.item.Item.{Item}
-use Rattle.curp_merge.specs.Merging.{IsOwn}
+use Rattle.curp_journal.specs.Own.{IsOwn}
 use Rattle.curp_anew.proofs.own.all_own.Given as goal
 
 -- what came so far is its own
