@@ -11,7 +11,7 @@ MOST_PENDING = 8  # a client node refuses what comes beyond
 
 
 class Rejected(Exception):
-    """The client node refuses a command, by the number that docs/RULES.md has of `invoke`."""
+    """The client node refuses a command, by the number that docs/RULES.md has of `invoke`, or 0 where it is none."""
 
 
 @dataclass(eq=False)
@@ -19,6 +19,7 @@ class Call:
     """A command, and its answer to come."""
 
     command: list
+    order: bytes
     answer: asyncio.Future = field(default_factory=lambda: asyncio.get_running_loop().create_future())
     input: int = 0  # its number among the inputs of the process
     number: int = 0  # that of the request, once it is known
@@ -53,8 +54,8 @@ class Client:
         host.listeners.append(self.heard)
 
     async def invoke(self, command: list) -> list:
-        """The answer to a command."""
-        call = Call(command)
+        """The answer to a command. A ValueError comes where it is none."""
+        call = Call(command, parcels.invoke(command))
         self.waiting.append(call)
         self._give()
         return await call.answer
@@ -66,7 +67,7 @@ class Client:
         while self.waiting and self.life == self.host.lives and self.pending() < MOST_PENDING:
             call = self.waiting[0]
             self.watcher.invoked(self.client, call)
-            call.input = self.host.order(parcels.invoke(call.command))
+            call.input = self.host.order(call.order)
             if not call.input:
                 return
             self.given.append(self.waiting.popleft())
@@ -92,11 +93,11 @@ class Client:
             self.given.clear()
 
     def _in_turn(self, said: parcels.Parcel) -> None:
-        if isinstance(said, parcels.Refused):
+        if isinstance(said, parcels.Refused | parcels.NoParcel):
             for call in [call for call in self.given if call.input == said.input]:
                 self.given.remove(call)
                 if not call.answer.done():
-                    call.answer.set_exception(Rejected(said.number))
+                    call.answer.set_exception(Rejected(said.number if isinstance(said, parcels.Refused) else 0))
         elif isinstance(said, parcels.Sent) and said.tag in parcels.ASKS:
             self._number(said.request()[1])
 

@@ -5,6 +5,7 @@ What the bytes mean is the process' own, which is begun by `curpd node --resp`. 
 
 import asyncio
 import contextlib
+import resource
 from dataclasses import dataclass, field
 
 import parcels
@@ -13,6 +14,7 @@ from hosts import Host
 MOST_AT_ONCE = 1 << 16  # bytes of a connection that go to the process at once
 MOST_UNREAD = 1 << 20  # bytes of replies that a connection may leave unread: one that leaves more is ended
 MOST_CONNECTIONS = 1000  # at one client node
+MOST_ENDING = 5.0  # seconds that a connection may take to read the last replies
 
 
 @dataclass
@@ -32,13 +34,14 @@ class Connection:
         try:
             await self._until(ending, self._pass_on(reader))
             self._give(parcels.closed(self.number))
-            await self.ended.wait()
+            await ending
         finally:
             ending.cancel()
-            self.writer.close()
+            await end(self.writer)
 
     async def _pass_on(self, reader: asyncio.StreamReader) -> None:
-        with contextlib.suppress(ConnectionError):
+        """Who doesn't read the replies gets nothing more passed on, and so holds up nobody else."""
+        with contextlib.suppress(OSError):
             while data := await reader.read(MOST_AT_ONCE):
                 self.more.clear()
                 self._give(parcels.bytes_of(self.number, data))
@@ -46,10 +49,8 @@ class Connection:
                 await self.writer.drain()
 
     def _give(self, parcel: bytes) -> None:
-        """Gives the process a parcel; another process than the one that knows the connection doesn't get it."""
-        if self.life == self.host.lives:
-            self.host.give(parcel)
-        else:
+        """Gives the process a parcel. Where another process began, or the parcel is lost, the connection ends."""
+        if self.life != self.host.lives or not self.host.give(parcel):
             self.ended.set()
 
     @staticmethod
@@ -67,6 +68,16 @@ class Connection:
             self.writer.write(data)
 
 
+async def end(writer: asyncio.StreamWriter) -> None:
+    """Closes a connection once its last replies are read, and otherwise too."""
+    writer.close()
+    try:
+        async with asyncio.timeout(MOST_ENDING):
+            await writer.wait_closed()
+    except OSError:
+        writer.transport.abort()
+
+
 class Front:
     """The connections of one client node."""
 
@@ -76,11 +87,10 @@ class Front:
         self.next = 1
         host.listeners.append(self.heard)
 
+    def has_room(self) -> bool:
+        return self.host.is_up() and len(self.connections) < MOST_CONNECTIONS
+
     async def serve(self, reader: asyncio.StreamReader, writer: asyncio.StreamWriter) -> None:
-        if not self.host.is_up() or len(self.connections) >= MOST_CONNECTIONS:
-            writer.write(b"-ERR no room for a connection now\r\n")
-            writer.close()
-            return
         connection = self.connections[self.next] = Connection(self.next, self.host, self.host.lives, writer)
         self.next += 1
         await connection.serve(reader)
@@ -103,7 +113,7 @@ class Front:
 
 
 class RedisPort:
-    """The port: its connections go to the client nodes in turn."""
+    """The port: its connections go to the client nodes in turn, those that have room."""
 
     def __init__(self, hosts: list[Host]):
         self.fronts = [Front(host) for host in hosts]
@@ -112,14 +122,24 @@ class RedisPort:
         self.tasks: set[asyncio.Task] = set()
 
     async def open(self, port: int) -> None:
+        """An OSError comes where the port is in use."""
         self.server = await asyncio.start_server(self._accept, "127.0.0.1", port)
 
     def _accept(self, reader: asyncio.StreamReader, writer: asyncio.StreamWriter) -> None:
-        front = self.fronts[self.count % len(self.fronts)]
-        self.count += 1
-        task = asyncio.create_task(front.serve(reader, writer))
+        task = asyncio.create_task(self._serve(reader, writer))
         self.tasks.add(task)
         task.add_done_callback(self.tasks.discard)
+
+    async def _serve(self, reader: asyncio.StreamReader, writer: asyncio.StreamWriter) -> None:
+        self.count += 1
+        turn = self.count % max(len(self.fronts), 1)
+        having_room = [front for front in self.fronts[turn:] + self.fronts[:turn] if front.has_room()]
+        # Half of the files that this program may have are for connections, those that are ending too.
+        if having_room and len(self.tasks) <= resource.getrlimit(resource.RLIMIT_NOFILE)[0] // 2:
+            await having_room[0].serve(reader, writer)
+        else:
+            writer.write(b"-ERR no room for a connection now\r\n")
+            await end(writer)
 
     async def close(self) -> None:
         if self.server:

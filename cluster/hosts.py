@@ -3,6 +3,7 @@
 import asyncio
 import contextlib
 import json
+import signal
 import time
 from collections.abc import Callable
 from pathlib import Path
@@ -10,10 +11,11 @@ from typing import NamedTuple, Protocol
 
 import parcels
 import policy
-from node import Node, Setting, opening_names
+from node import NAME, Node, Setting, last_line, opening_names
 from parcels import Sent
 
-MOST_KEPT = 1000  # parcels that wait while a process begins
+MOST_BEGINNING = 10  # seconds in which nodes begin before those that are there begin to work
+MOST_KEPT, MOST_KEPT_BYTES = 1000, 8 << 20  # parcels that wait while a process begins: what comes beyond is lost
 
 
 class Probe(NamedTuple):
@@ -37,14 +39,30 @@ class Wire(Protocol):
 
     def carry(self, source: str, target: str, letter: Letter) -> None: ...
 
+    def leave(self, name: str) -> None:
+        """A host is there no longer."""
+
     async def close(self) -> None: ...
 
 
 def write_event(folder: Path, name: str, what: str, stamp: int) -> None:
     """Writes down what became of a node's process, and the highest stamp that had been seen then."""
-    with open(folder / "events.jsonl", "a", encoding="utf-8") as events:
+    # Where the disk is full the cluster goes on.
+    with contextlib.suppress(OSError), open(folder / "events.jsonl", "a", encoding="utf-8") as events:
         event = {"at": round(time.monotonic(), 3), "node": name, "stamp": stamp, "what": what}
         events.write(json.dumps(event) + "\n")
+
+
+def events_in(folder: Path) -> dict[str, list[str]]:
+    """What became of each node's processes in earlier runs."""
+    found: dict[str, list[str]] = {}
+    with contextlib.suppress(FileNotFoundError):
+        for line in (folder / "events.jsonl").read_text(encoding="utf-8").splitlines():
+            # A line that a full disk or a kill cut off says nothing.
+            with contextlib.suppress(ValueError, KeyError, TypeError):
+                event = json.loads(line)
+                found.setdefault(event["node"], []).append(event["what"])
+    return found
 
 
 class Host:
@@ -61,16 +79,20 @@ class Host:
         self.faults = 0  # how often that happened, one behind the other
         self.prefix: tuple[str, ...] = ()
         self.restart = cluster.numbers.restart
-        self.kept: list[bytes] | None = None
+        self.kept: list[bytes] | None = []
         self.restarting: asyncio.Task | None = None
+        self.hears = True  # where it doesn't, what the process says is lost
 
     async def start(self) -> None:
         """Begins the process. What comes meanwhile is kept for it."""
-        self.kept = self.kept or []
+        self.kept, self.hears = self.kept or [], True
         await self.node.gone()
         self.lives += 1
-        await self.node.start(self.prefix)
-        self.cluster.happened(self.name, "up")
+        try:
+            await self.node.start(self.prefix)
+        except OSError as fault:
+            self._failed(f"can't begin: {fault}")
+            return
         kept, self.kept = self.kept, None
         for parcel in kept:
             self.node.give(parcel)
@@ -88,7 +110,7 @@ class Host:
     def give(self, parcel: bytes) -> int:
         if self.kept is None:
             return self.node.give(parcel)
-        if len(self.kept) < MOST_KEPT:
+        if len(self.kept) < MOST_KEPT and sum(map(len, self.kept)) < MOST_KEPT_BYTES:
             self.kept.append(parcel)
         return 0
 
@@ -98,6 +120,10 @@ class Host:
 
     def heard(self, said: parcels.Parcel) -> None:
         """The process said something."""
+        if not self.hears:
+            return
+        if isinstance(said, parcels.Stands):
+            self.cluster.happened(self.name, "up")
         if not isinstance(said, parcels.Stands | parcels.Completed | parcels.Pending):
             self.unwell, self.faults = False, 0
         self.cluster.highest = max(self.cluster.highest, parcels.stamp_of(said))
@@ -145,10 +171,21 @@ class Host:
         self.node.kill()
 
     def _ended(self, status: int) -> None:
-        """The process ended, by whatever: it begins again unless the node is stopped, or the cluster ends."""
-        if status > 0:
-            self.unwell, self.faults = True, self.faults + 1
-            self.cluster.happened(self.name, f"ended {status}")
+        """The process ended, by whatever."""
+        if status == -signal.SIGKILL or self.cluster.ending:
+            self._begin_again()
+        else:
+            why = last_line(self.cluster.setting.log(self.name))
+            self._failed(f"ended {status}: {why}" if why else f"ended {status}")
+
+    def _failed(self, why: str) -> None:
+        """The process ended by a fault, or couldn't begin."""
+        self.unwell, self.faults = True, self.faults + 1
+        self.cluster.happened(self.name, why)
+        self._begin_again()
+
+    def _begin_again(self) -> None:
+        """It begins again unless the node is stopped, or the cluster ends."""
         if not self.stopped and not self.cluster.ending:
             self.restarting = asyncio.create_task(self._again())
 
@@ -175,14 +212,15 @@ class Cluster:
         wire.deliver = self.deliver
         self.highest = 0
         self.ending = False
+        self.ticks = 0  # of the clock, which has fewer of them where the machine has much else to do
         self.clock: asyncio.Task | None = None
         self.beginning: set[asyncio.Task] = set()
         self.hosts: dict[str, Host] = {}
-        for name in opening_names(setting.header):
-            self.add(name)
-        for path in sorted(setting.folder.glob("*.journal")):
-            if path.stem not in self.hosts:
-                self.add(path.stem)
+        before = events_in(setting.folder)
+        there = [path.stem for path in sorted(setting.folder.glob("*.journal")) if NAME.fullmatch(path.stem)]
+        for name in dict.fromkeys([*opening_names(setting.header), *there, *before]):
+            events = before.get(name, [])
+            self.add(name, begun="up" in events).stopped = "retired" in events
 
     def happened(self, name: str, what: str) -> None:
         """Something became of a node's process."""
@@ -191,15 +229,25 @@ class Cluster:
             self.tell(name, what)
 
     async def start(self) -> None:
-        """Begins all nodes of the header, and those that have a journal in the folder."""
-        await asyncio.gather(*(self.begin(host) for host in list(self.hosts.values())))
+        """Begins all nodes of the header, and those that earlier runs of the folder left."""
+        for host in self.hosts.values():
+            if not host.stopped:
+                self._begin(host)
+        # A command of a host may wait for what never comes.
+        await asyncio.wait(self.beginning, timeout=MOST_BEGINNING)
         self.clock = asyncio.create_task(self._tick())
 
-    def add(self, name: str) -> Host:
-        """A node that isn't there yet. What comes before its process is there is kept."""
+    def add(self, name: str, begun: bool = False) -> Host:
+        """A node that isn't there yet. Where a process of it was there in an earlier run, its journal isn't made again:
+        a node whose journal is lost never begins under its name."""
         self.hosts[name] = host = Host(name, self)
-        host.kept = []
+        host.node.begun = begun
         return host
+
+    def _begin(self, host: Host) -> None:
+        task = asyncio.create_task(self.begin(host))
+        self.beginning.add(task)
+        task.add_done_callback(self.beginning.discard)
 
     async def begin(self, host: Host) -> None:
         await self.wire.open(host.name)
@@ -208,9 +256,7 @@ class Cluster:
     def deliver(self, source: str, target: str, letter: Letter) -> None:
         """A letter has come. A node that isn't there begins with the first message for it."""
         if target not in self.hosts and isinstance(letter, Sent) and not self.ending:
-            task = asyncio.create_task(self.begin(self.add(target)))
-            self.beginning.add(task)
-            task.add_done_callback(self.beginning.discard)
+            self._begin(self.add(target))
         if target in self.hosts:
             self.hosts[target].arrived(source, letter)
 
@@ -219,11 +265,13 @@ class Cluster:
         for name in names:
             if name in self.hosts and not self.hosts[name].stopped:
                 self.hosts[name].stop("retired")
+                self.wire.leave(name)
 
     async def _tick(self) -> None:
         while True:
             await asyncio.sleep(self.numbers.tick)
             now = time.monotonic()
+            self.ticks += 1
             for host in list(self.hosts.values()):
                 host.tick(now)
 
@@ -234,6 +282,10 @@ class Cluster:
             self.clock.cancel()
             with contextlib.suppress(asyncio.CancelledError):
                 await self.clock
+        for host in self.hosts.values():
+            if host.node.making is not None:
+                host.stopped = True
+                host.node.give_up(host.node.making)
         await asyncio.gather(*self.beginning, *(host.restarting for host in self.hosts.values() if host.restarting))
         await asyncio.gather(*(host.node.finish() for host in self.hosts.values()))
         await self.wire.close()

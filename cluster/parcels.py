@@ -10,7 +10,8 @@ from typing import NamedTuple
 sys.path.insert(0, str(Path(__file__).resolve().parent.parent / "tools"))
 import curpwire  # noqa: E402
 
-MOST = 16_777_250  # bytes of a parcel behind its length
+# Bytes of a parcel behind its length. What says more is none to a host; a node would take four times that.
+MOST = 1 << 30
 KINDS = "GCMBW"  # the kinds of nodes by their bytes
 
 # The tags of bodies that someone beside the nodes looks at.
@@ -20,8 +21,8 @@ PREPARE, PREPARED, GLANCE = 25, 26, 34
 ASKS = {UPDATE, SYNC, READ, GLANCE}  # what a client asks a master
 
 
-class TooLong(Exception):
-    """A parcel is longer than any may be, so nothing says where the next one begins."""
+class Garbled(Exception):
+    """What was said is no parcel, or one longer than any: so nothing says where the next one begins."""
 
 
 class Stands(NamedTuple):
@@ -65,7 +66,7 @@ class Completed(NamedTuple):
 
 
 class Refused(NamedTuple):
-    """An input of the process was refused, by the number that docs/RULES.md has."""
+    """An input of the process was refused: by the number that docs/RULES.md has, or by one of docs/PARCELS.md."""
 
     input: int
     number: int
@@ -124,7 +125,7 @@ Parcel = Stands | Sent | Completed | Refused | NoParcel | Withheld | Pending | B
 # ---- numbers and nodes
 
 
-def number_at(data: bytes, place: int, size: int) -> int:
+def number_at(data: bytes | bytearray, place: int, size: int) -> int:
     return int.from_bytes(data[place : place + size], "big")
 
 
@@ -137,22 +138,30 @@ def name_of(data: bytes) -> str:
 # ---- what a process says
 
 
-def cut(data: bytes) -> tuple[list[bytes], bytes]:
-    """The contents of the whole parcels that the bytes begin with, and what is left."""
+def cut(came: bytearray) -> list[bytes]:
+    """Takes the whole parcels that the bytes begin with, and gives their contents."""
     found, place = [], 0
-    while place + 4 <= len(data):
-        size = number_at(data, place, 4)
+    while place + 4 <= len(came):
+        size = number_at(came, place, 4)
         if size > MOST:
-            raise TooLong(place)
-        if place + 4 + size > len(data):
+            raise Garbled(f"a parcel of {size} bytes")
+        if place + 4 + size > len(came):
             break
-        found.append(data[place + 4 : place + 4 + size])
+        found.append(bytes(came[place + 4 : place + 4 + size]))
         place += 4 + size
-    return found, data[place:]
+    del came[:place]
+    return found
 
 
 def read(content: bytes) -> Parcel:
     """What a process said in a parcel."""
+    try:
+        return read_whole(content)
+    except (IndexError, KeyError, ValueError, curpwire.ShortFrame, curpwire.BadFrame) as fault:
+        raise Garbled(f"a parcel that begins with {content[:8].hex()}") from fault
+
+
+def read_whole(content: bytes) -> Parcel:
     kind = content[0]
     if kind == 0:
         return Stands(number_at(content, 1, 8), number_at(content, 9, 8))
@@ -233,7 +242,11 @@ def expire(client: int) -> bytes:
 
 
 def invoke(command: list) -> bytes:
-    return b"\6" + write_item("command", to_wire(command))
+    """A ValueError comes where it is no command: also where a key, a value or a list is too long or too short."""
+    try:
+        return b"\6" + write_item("command", to_wire(command))
+    except (curpwire.BadFrame, ArithmeticError, KeyError) as fault:
+        raise ValueError(f"no command: {command}") from fault
 
 
 def retry(number: int) -> bytes:

@@ -104,7 +104,7 @@ class ClientChores:
 class MasterChores:
     """Begins rounds and collections, and asks again for what the master waits for.
 
-    A master that isn't of the opening is ordered nothing before it shows that it took something: it begins by a message.
+    A master that isn't of the opening is ordered nothing before it shows that it took something: a message begins it.
     """
 
     WAITS = {parcels.APPEND, parcels.FENCE, parcels.FREEZE, parcels.RECOVERED, parcels.PREPARED}

@@ -1,6 +1,7 @@
 """What the clients of a cluster saw, in the order of real time, as `curp check` reads it."""
 
 import json
+import resource
 import subprocess
 from pathlib import Path
 
@@ -39,6 +40,11 @@ class Recorder(Watcher):
                 found.append(line(cmd=call.command, ev="invoke", id=name))
         return found
 
+    def unanswered(self) -> set[tuple[int, int]]:
+        """The requests that didn't complete; 0 stands for the number of one that no client node took."""
+        events = [(client, call) for client, call, _ in filter(None, self.events)]
+        return {(client, call.number) for client, call in events if not call.answer.done()}
+
     def answered(self) -> dict[tuple[int, int], list]:
         """The answer of each request that completed."""
         events = filter(None, self.events)
@@ -52,9 +58,15 @@ class Wrong(Exception):
     """Something that has to hold doesn't."""
 
 
-def run(words: list[str], given: str = "", limit: float = 120) -> str:
+MOST_SECONDS = 120  # of a processor, so that no verdict hangs on what else the machine does
+
+
+def run(words: list[str], given: str = "") -> str:
     """What a program writes. Another status than 0 is wrong."""
-    done = subprocess.run(words, input=given, capture_output=True, text=True, timeout=limit)
+    limit = resource.RLIMIT_CPU, (MOST_SECONDS, MOST_SECONDS)
+    done = subprocess.run(
+        words, input=given, capture_output=True, text=True, preexec_fn=lambda: resource.setrlimit(*limit)
+    )
     if done.returncode != 0:
         raise Wrong(f"{' '.join(words[:4])} ended with {done.returncode}: {done.stderr.strip()[-500:]}")
     return done.stdout
@@ -77,12 +89,19 @@ def check_script(curp: str, script: str, played: str) -> None:
 
 
 def check_history(curp: str, script: str, recorder: Recorder) -> None:
-    """The recorder's history is linearizable by the order of the script, and what was answered stands in the script."""
+    """The recorder's history is linearizable by the order of the script, and what was answered stands in the script.
+
+    And the recorder heard of all that the script completes, or the history would say too little.
+    """
     told = [json.loads(text) for text in run([curp, "play", "--history"], script).splitlines()]
     completed = {tuple(event["id"]): event["ans"] for event in told if event["ev"] == "complete"}
-    for name, answer in recorder.answered().items():
+    answered = recorder.answered()
+    for name, answer in answered.items():
         if completed.get(name) != answer:
             raise Wrong(f"request {name} was answered {answer}, and the script has {completed.get(name)}")
+    unheard = sorted(completed.keys() - answered.keys())
+    if unheard:
+        raise Wrong(f"requests completed, and the recorder never heard of it: {unheard[:5]}")
     places = [line(**event) for event in told if event["ev"] == "place"]
     verdict = run([curp, "check"], "\n".join([*recorder.lines(), *places, ""])).strip()
     if verdict != "yes":

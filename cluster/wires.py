@@ -8,6 +8,7 @@ from dataclasses import dataclass, replace
 
 import parcels
 from hosts import Alive, Letter, Probe
+from node import NAME
 
 Deliver = Callable[[str, str, Letter], None]
 
@@ -70,6 +71,9 @@ class Near:
         if not self.closed:
             self.deliver(source, target, letter)
 
+    def leave(self, name: str) -> None:
+        pass
+
     def heal(self) -> None:
         """No letter is lost, repeated or late any more. Those that are under way come when they would."""
         self.cut.clear()
@@ -83,6 +87,7 @@ class Near:
 
 MOST_WAITING = 8 << 20  # bytes that wait for a connection: what comes beyond is lost
 AGAIN = 0.1  # seconds until a connection that failed is made again
+MOST_NAMING = 5.0  # seconds in which whoever connects has to say its name
 
 
 def to_bytes(letter: Letter) -> bytes:
@@ -92,9 +97,12 @@ def to_bytes(letter: Letter) -> bytes:
 
 
 def from_bytes(content: bytes) -> Letter:
-    if content == b"?":
-        return Probe()
-    return Alive() if content == b"!" else parcels.read(content)
+    if content in (b"?", b"!"):
+        return Probe() if content == b"?" else Alive()
+    said = parcels.read(content)
+    if not isinstance(said, parcels.Sent):
+        raise parcels.Garbled(f"no letter: {type(said).__name__}")
+    return said
 
 
 class Connection:
@@ -118,24 +126,26 @@ class Connection:
                 await self.serve(reader, writer)
             await asyncio.sleep(AGAIN)
 
-    async def serve(self, reader: asyncio.StreamReader, writer: asyncio.StreamWriter, rest: bytes = b"") -> None:
+    async def serve(self, reader: asyncio.StreamReader, writer: asyncio.StreamWriter) -> None:
         """Hands over what comes, until the connection ends."""
         self.writer = writer
+        came = bytearray()
         try:
-            while True:
-                contents, rest = parcels.cut(rest)
-                for content in contents:
+            while data := await reader.read(1 << 16):
+                came += data
+                for content in parcels.cut(came):
                     self.deliver(self.other, self.own, from_bytes(content))
-                data = await reader.read(1 << 16)
-                if not data:
-                    return
-                rest += data
-        except (OSError, parcels.TooLong):
+        except (OSError, parcels.Garbled):
             return
         finally:
             writer.close()
             if self.writer is writer:
                 self.writer = None
+
+    def close(self) -> None:
+        """Ends the connection. The end that connects does so again, unless its host is gone."""
+        if self.writer:
+            self.writer.close()
 
 
 class Tcp:
@@ -147,6 +157,8 @@ class Tcp:
         self.servers: dict[str, asyncio.Server] = {}
         self.connections: dict[tuple[str, str], Connection] = {}
         self.tasks: set[asyncio.Task] = set()
+        self.connecting: dict[tuple[str, str], asyncio.Task] = {}
+        self.left: set[str] = set()
 
     def port_of(self, name: str) -> int:
         """The port of a host; none that is open where it isn't there."""
@@ -158,20 +170,22 @@ class Tcp:
                 lambda reader, writer: self._run(self._accept(name, reader, writer)), "127.0.0.1", 0
             )
 
-    def _run(self, work: Coroutine) -> None:
+    def _run(self, work: Coroutine) -> asyncio.Task:
         task = asyncio.create_task(work)
         self.tasks.add(task)
         task.add_done_callback(self.tasks.discard)
+        return task
 
     async def _accept(self, name: str, reader: asyncio.StreamReader, writer: asyncio.StreamWriter) -> None:
         """A host connects: its name is the first parcel."""
-        try:
-            size = int.from_bytes(await reader.readexactly(4), "big")
-            other = (await reader.readexactly(min(size, 16))).decode()
-        except (OSError, asyncio.IncompleteReadError, UnicodeDecodeError):
-            writer.close()
-            return
-        await self._connection(name, other).serve(reader, writer)
+        other = ""
+        with contextlib.suppress(OSError, TimeoutError, asyncio.IncompleteReadError, UnicodeDecodeError):
+            async with asyncio.timeout(MOST_NAMING):
+                size = int.from_bytes(await reader.readexactly(4), "big")
+                other = (await reader.readexactly(min(size, 16))).decode()
+        if NAME.fullmatch(other) and name not in self.left:
+            await self._connection(name, other).serve(reader, writer)
+        writer.close()
 
     def _connection(self, own: str, other: str) -> Connection:
         return self.connections.setdefault((own, other), Connection(own, other, self._bring))
@@ -180,9 +194,11 @@ class Tcp:
         if source == target:
             asyncio.get_running_loop().call_soon(self._bring, source, target, letter)
             return
+        if self.left & {source, target}:
+            return
         if (source, target) not in self.connections:
             low, high = sorted((source, target))
-            self._run(self._connection(low, high).connect(self.port_of))
+            self.connecting[low, high] = self._run(self._connection(low, high).connect(self.port_of))
             self._connection(high, low)
             if target not in self.servers:
                 # A node that isn't there yet begins with this: so the first message isn't lost.
@@ -195,6 +211,16 @@ class Tcp:
             asyncio.get_running_loop().call_later(self.delay, self.deliver, source, target, letter)
         else:
             self.deliver(source, target, letter)
+
+    def leave(self, name: str) -> None:
+        """Closes the port of a host and its connections: nothing is carried to it or from it any more."""
+        self.left.add(name)
+        if name in self.servers:
+            self.servers.pop(name).close()
+        for pair in [pair for pair in self.connections if name in pair]:
+            self.connections.pop(pair).close()
+            if pair in self.connecting:
+                self.connecting.pop(pair).cancel()
 
     async def close(self) -> None:
         for server in self.servers.values():

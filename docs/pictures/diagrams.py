@@ -93,7 +93,7 @@ def deployment():
         "when a node is given an order: invoke, retry, fetch; sync, collect; recover, replace, migrate, nudge, expire",
         "the clock behind these orders, and who finds that a node is gone: the nodes have neither",
         "threads or processes in which the nodes run, and memory",
-        "a disk under the manager's journal (trait Disk); the other nodes keep their state in memory alone",
+        "a disk under the journal of each node that is to outlive its process (trait Disk)",
     ], "", "start")
     parts += lines(44, 620, ["Messages as bytes are here: curp_wire."], "small", "start")
     return whole(810, 660, parts)
@@ -158,7 +158,7 @@ LAYERS = {
     "parts": ("parts of the nodes", "log, replies, witness, ..", "code",
               "slots backup rifl log tail collect rounds master recover client changes config"),
     "verdicts": ("verdicts", "claims; lines read and done", "code", "check runner judge law_print"),
-    "nodes": ("the nodes", "each behind Core", "code", "nodes opening mlog"),
+    "nodes": ("the nodes", "each behind Core", "code", "nodes opening"),
     "world": ("the world", "all nodes of a script", "code", "line cluster world serve"),
     "threads": ("threads", "nodes with inboxes", "code", "seat ruled desk merge fronts gather gather_ruled live"),
     "words": ("words", "play, make, manage, resp", "code", "play manage gen session"),
