@@ -52,6 +52,15 @@ def table(file, columns):
     return rows
 
 
+def has_history(history, text):
+    """A history has an event for each completion of a played text, and a place for each of its order."""
+    lines = text.splitlines()
+    completed = sum(line.startswith("c ") for line in lines)
+    ordered = int(next(line for line in lines if line.startswith("order ")).split()[1])
+    for what, wanted in (('"ev":"complete"', completed), ('"ev":"place"', ordered)):
+        require(history.count(what) == wanted, f"{history.count(what)} lines of the history have {what}, and not {wanted}")
+
+
 def as_bytes(text):
     """A text as bytes."""
     text = text() if callable(text) else text

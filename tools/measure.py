@@ -455,11 +455,11 @@ def main():
     parts = [
         "# Measured",
         "What the program costs, and how often an update takes one round trip. `tools/measure.py crates/curp/out/curp` "
-        "makes this page and its pictures; the times are the least of three runs on one machine, and the counts are the same on every "
+        "makes this page and its pictures, but for its last two sections; the times are the least of three runs on one machine, and the counts are the same on every "
         "machine. Memory below 17 MB isn't told apart.",
     ]
     parts += plan_part(curp) + beside_part(curp) + recovery_part(curp) + round_trip_part(curp) + full_set_part(curp) + frame_part() + live_part(curp)
-    # That part of the page is written by tools/measure_curpd.py.
+    # These parts of the page are written by tools/measure_curpd.py and cluster/figures.
     kept = PAGE.read_text(encoding="utf-8").partition("\n## Nodes as processes\n")
     PAGE.write_text("\n\n".join(parts) + "\n" + "".join(kept[1:]), encoding="utf-8")
 

@@ -3,14 +3,13 @@
 
     tools/refuse_growth.py CURP       CURP is the program, as `rt run` in crates/curp leaves it in crates/curp/out/curp
 
-For each row it runs the program once for each call of the allocator, with that call refused: by a small library that
-stands before the C library's allocator, and refuses its call of one number (it is compiled by cc). Each run has to end
-with status 6 (out of memory), with a front of the row's output; where a refusal is made good (as by a smaller growth, or
-in the C library itself), with the row's own status and output; words that are no command line may end with their own
-status and lines, but the one on which word is wrong. Runs on threads differ: each has to end within a minute, with
-status 6 and a front of a script and of what playing it writes, or well, with a whole one; there each call is refused up
-to the last that ended a run and a thousand more. It prints a line for each row, writes the table of docs/TESTING.md, and
-ends with 1, and writes no table, where a run did anything else.
+For each row it runs the program once for each call of the allocator, with that call refused, by tools/shim.py. Each run
+that was refused one has to end with status 6 (out of memory), with a front of the row's output; where a refusal is made
+good (as by a smaller growth, or in the C library itself), and where nothing was refused, with the row's own status and
+output; words that are no command line may end with their own status and lines, but the one on which word is wrong. Runs on
+threads differ: each has to end within a minute, with status 6 and a front of a script and of what playing it writes, or
+well, with a whole one; there each call is refused up to the last that ended a run and a thousand more. It prints a line for
+each row, writes the table of docs/TESTING.md, and ends with 1, and writes no table, where a run did anything else.
 """
 
 import os
@@ -20,47 +19,13 @@ import tempfile
 import time
 from pathlib import Path
 
+sys.dont_write_bytecode = True
+sys.path.insert(0, str(Path(__file__).resolve().parent))
+import shim  # noqa: E402
+
 TOP = Path(__file__).resolve().parent.parent
 PAGE = TOP / "docs" / "TESTING.md"
 BEGINS, ENDS = "<!-- refused growths: written by tools/refuse_growth.py -->", "<!-- end of refused growths -->"
-
-SHIM = r"""
-#define _GNU_SOURCE
-#include <dlfcn.h>
-#include <errno.h>
-#include <stdatomic.h>
-#include <stddef.h>
-#include <stdlib.h>
-
-extern void *__libc_malloc(size_t);
-extern void *__libc_calloc(size_t, size_t);
-extern void *__libc_realloc(void *, size_t);
-extern void *__libc_memalign(size_t, size_t);
-
-static atomic_long calls;
-static long refused = -1;
-
-static int refuses(void) {
-    if (refused == -1) {
-        const char *text = getenv("REFUSED_CALL");
-        refused = text ? atol(text) : 0;
-    }
-    if (atomic_fetch_add(&calls, 1) + 1 != refused) return 0;
-    errno = ENOMEM;
-    return 1;
-}
-
-void *malloc(size_t size) { return refuses() ? NULL : __libc_malloc(size); }
-void *calloc(size_t count, size_t size) { return refuses() ? NULL : __libc_calloc(count, size); }
-void *realloc(void *old, size_t size) { return refuses() ? NULL : __libc_realloc(old, size); }
-void *memalign(size_t align, size_t size) { return refuses() ? NULL : __libc_memalign(align, size); }
-void *aligned_alloc(size_t align, size_t size) { return refuses() ? NULL : __libc_memalign(align, size); }
-int posix_memalign(void **to, size_t align, size_t size) {
-    if (refuses()) return ENOMEM;
-    *to = __libc_memalign(align, size);
-    return *to ? 0 : ENOMEM;
-}
-"""
 
 PLAYED = ["retry-after-recovery", "migration-there-and-back", "recovery-replays", "replace-a-witness"]
 # Beside the examples that are played: words of the command line, and what stands on standard input.
@@ -87,38 +52,33 @@ ON_THREADS = {
 BEHIND = 1_000
 
 
-def shim_in(folder):
-    """The library that refuses a call, compiled."""
-    source, library = folder / "refuse.c", folder / "refuse.so"
-    source.write_text(SHIM)
-    subprocess.run(["cc", "-O1", "-shared", "-fPIC", "-o", library, source], check=True)
-    return library
-
-
 def run(curp, words, script, library, call):
-    """The status and the output of one run, with that call refused."""
-    settings = {"LD_PRELOAD": str(library), "REFUSED_CALL": str(call)}
-    child = subprocess.run([curp, *words], input=script, capture_output=True, env=settings, timeout=60)
-    return child.returncode, child.stdout, child.stderr
+    """What is seen of one run, with that call refused, if there is one."""
+    return library.run([curp, *words], script, shim.one(call) if call else None)
+
+
+def is_out_of_memory(ended):
+    """Whether a run ended for want of memory, which was refused."""
+    return ended.status == 6 and ended.err == b"curp: out of memory\n" and ended.counts.refused > 0
 
 
 def look_at(name, curp, words, script, library):
     """Refuses each call in turn until none is left, and gives the row of what came of it, where nothing else did."""
-    status, whole, told = run(curp, words, script, library, 0)
+    status, whole, told, _ = run(curp, words, script, library, 0)
     # Where no memory was left to find which word is wrong, the line on it is left out.
     errors = {told, told.split(b"\n", 1)[-1]} if status == 2 else {told}
     refused = last = 0
     statuses, faults = {}, []
     for call in range(1, MOST):
-        ended, out, err = run(curp, words, script, library, call)
-        statuses[ended] = statuses.get(ended, 0) + 1
-        is_whole = ended == status and out == whole and err in errors
-        is_cut = ended == 6 and whole.startswith(out) and err == b"curp: out of memory\n"
-        if is_cut or is_whole and err != told:
+        ended = run(curp, words, script, library, call)
+        statuses[ended.status] = statuses.get(ended.status, 0) + 1
+        is_whole = ended.status == status and ended.out == whole and ended.err in errors
+        is_cut = is_out_of_memory(ended) and whole.startswith(ended.out)
+        if is_cut or is_whole and ended.err != told:
             refused += 1
             last = call
         elif not is_whole:
-            faults.append((call, ended, err))
+            faults.append((call, ended.status, ended.err))
         if is_whole and call > 2 * last + 64:
             break
     told = ", ".join(f"{status}: {count}" for status, count in sorted(statuses.items()))
@@ -149,17 +109,13 @@ def look_at_threads(name, curp, words, library):
     statuses, faults = {}, []
     while call < MOST and call < last + BEHIND:
         call += 1
-        try:
-            ended, out, err = run(curp, words, b"", library, call)
-        except subprocess.TimeoutExpired:
-            ended, out, err = "none", b"", b""
-        statuses[ended] = statuses.get(ended, 0) + 1
-        is_cut = ended == 6 and err == b"curp: out of memory\n" and is_front_of_run(curp, out, False)
-        if is_cut:
+        ended = run(curp, words, b"", library, call)
+        statuses[ended.status] = statuses.get(ended.status, 0) + 1
+        if is_out_of_memory(ended) and is_front_of_run(curp, ended.out, False):
             refused += 1
             last = call
-        elif not (ended == 0 and err == b"" and is_front_of_run(curp, out, True)):
-            faults.append((call, ended, err))
+        elif not (ended.status == 0 and ended.err == b"" and is_front_of_run(curp, ended.out, True)):
+            faults.append((call, ended.status, ended.err))
             last = call
     told = ", ".join(f"{status}: {count}" for status, count in sorted(statuses.items(), key=str))
     return told_of(name, call, refused, told, faults)
@@ -180,7 +136,7 @@ def main():
     curp = os.path.abspath(sys.argv[1])
     rows = []
     with tempfile.TemporaryDirectory() as folder:
-        library = shim_in(Path(folder))
+        library = shim.Shim(folder)
         for name in PLAYED:
             script = (TOP / "examples" / f"{name}.script").read_bytes()
             rows.append(look_at(f"`{name}`", curp, ["play"], script, library))

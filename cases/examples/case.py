@@ -3,7 +3,7 @@
 
 from functools import partial
 
-from runs import TOP, Driven, Run, require, seen
+from runs import TOP, Driven, Run, has_history, require, seen
 
 EXAMPLES = TOP / "examples"
 # Those that are worked examples, and those that were made.
@@ -18,10 +18,13 @@ def ended(script):
 
 
 def claimed(program, script, status, line):
-    """`check` says yes to what `play --history` writes; of a script that is refused nothing is written."""
+    """`check` says yes to what `play --history` writes, which has each completion of the example, and its order; of a script
+    that is refused nothing is written."""
     run = seen(program, ["play", "--history"], script.read_bytes())
     run.has_to_be(status, None if status == 0 else b"", line)
     if status == 0:
+        out = script.with_suffix(".out").read_text(encoding="utf-8")
+        has_history(run.stdout.decode(), out)
         seen(program, ["check"], run.stdout).has_to_be(stdout="yes\n")
 
 

@@ -2,7 +2,7 @@
 
 from functools import partial
 
-from runs import Driven, require, seen, written
+from runs import Driven, has_history, require, seen, written
 
 
 def made_and_played(program, words, steps):
@@ -12,6 +12,7 @@ def made_and_played(program, words, steps):
     told = sum(line.startswith("s") for line in text)
     require(told == steps, f"{told} steps are told of, and not {steps}")
     claim = written(program, ["play", "--history"], script)
+    has_history(claim, "\n".join(text))
     seen(program, ["check"], claim).has_to_be(stdout="yes\n")
 
 

@@ -46,9 +46,17 @@ SESSION = [
     ("get z", "$128\r\n" + "v" * 128),
     ("set " + "k" * 32 + " 1", "+OK"),
     ("get " + "k" * 32, "$1\r\n1"),
+    ("echo a", "$1\r\na"),
+    ("ECHO " + "v" * 128, "$128\r\n" + "v" * 128),
     # What means no command, by the first that holds.
     ("ping", "-ERR unknown command"),
     ("gets a", "-ERR unknown command"),
+    ("client setinfo LIB-NAME redis-py", "-ERR unknown command"),
+    ("config get save", "-ERR unknown command"),
+    ("hello 3", "-ERR unknown command"),
+    ("echo", "-ERR arguments"),
+    ("echo a b", "-ERR arguments"),
+    ("echo " + "v" * 129, "-ERR size"),
     ("get", "-ERR arguments"),
     ("get a b", "-ERR arguments"),
     ("set a", "-ERR arguments"),
@@ -65,6 +73,14 @@ SESSION = [
     ("set a " + "v" * 129, "-ERR size"),
     ("mset a 1 a 2", "-ERR key twice"),
 ]
+
+
+# Requests that ask nothing.
+EMPTY = ["\r\n", "\n", "*0\r\n", "*00000\r\n", "*-1\r\n"]
+# Bytes that are none, and where that is seen.
+NONE = [("\r", 1), ("\r\r\n", 1), (" \r\n", 0), ("PING\r\n", 0), ("*-2\r\n", 2), ("*-1\n", 3), ("*0-1\r\n", 2)]
+# What redis-cli --pipe sends behind the bytes that it was given.
+LAST_OF_PIPE = "\r\n*2\r\n$4\r\nECHO\r\n$20\r\n" + "0123456789\r\n*$-+abcd" + "\r\n"
 
 
 def request(words):
@@ -170,6 +186,13 @@ def of_sessions():
         status, replies, stderr = cut(end)
         yield Run(f"cut-behind-{end}", ["resp", "--f", "1"], both[:end], replies, stderr, status)
     yield Driven("recoveries-change-no-answer", answers_with_recoveries)
+    for number, empty in enumerate(EMPTY, 1):
+        yield Run(f"nothing-is-asked-{number}", ["resp", "--f", "1"], empty + SET + empty + empty + GET + empty, REPLIES)
+    yield Run("nothing-asked-is-no-step", ["resp", "--f", "1", "--script"], "".join(EMPTY) + both + "\r\n", SCRIPT)
+    yield Run("a-pipe-is-ended", ["resp", "--f", "1"], both + LAST_OF_PIPE, REPLIES + LAST_OF_PIPE.split("ECHO\r\n")[1])
+    for number, (bytes_of, at) in enumerate(NONE, 1):
+        told = {"status": 11, "stderr": f"curp: bad request at {len(SET) + at}\n"}
+        yield Run(f"bytes-that-are-none-{number}", ["resp", "--f", "1"], SET + bytes_of, "+OK\r\n" + PROTOCOL, **told)
 
 
 def of_limits():
@@ -182,6 +205,7 @@ def of_limits():
     yield Run("200000-requests", ["resp", "--f", "1"], PING * 200_000, "-ERR unknown command\r\n" * 200_000)
     empty = "*1\r\n$0\r\n\r\n" * 200_001
     yield Run("200001-requests", ["resp", "--f", "1"], empty, "-ERR unknown command\r\n" * 200_000, more[1], more[0])
+    yield Run("200001-requests-that-ask-nothing", ["resp", "--f", "1"], "\n" * 200_001, "", more[1], more[0])
     yield Driven("too-heavy", too_heavy)
 
 

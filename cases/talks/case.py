@@ -114,6 +114,25 @@ def at_a_terminal(program):
         os.close(theirs)
 
 
+def long_talks():
+    """Talks that are longer than all that a word does from time to time, as a round behind each sixteenth command."""
+    replies = [(f"{{\"do\":\"deliver\",\"msg\":1}}\n", replied(step)) for step in range(2, 302)]
+    turns = [(f"{HEADER}\n", ""), (f"{INVOKE}\n", INVOKED), *replies]
+    order = "order 1\n1.1 put 61 31 -> done\n"
+    yield Driven("300 deliveries", partial(answered, words=["play"], turns=turns, at_the_end=order))
+    expiries = [('{"client":1,"do":"expire"}\n', f"s{step} done\nm{step} G M1 expire c1\n") for step in range(1, 101)]
+    turns = [(f"{SMALL}\n", ""), *expiries]
+    yield Driven("100 orders", partial(answered, words=["manage"], turns=turns, at_the_end="decisions 100\n"))
+    counted = [("*2\r\n$4\r\nINCR\r\n$1\r\nn\r\n", f":{count}\r\n") for count in range(1, 71)]
+    for words in (["resp", "--f", "1"], ["resp", "--f", "2", "--every", "7"]):
+        yield Driven(f"70 requests of {' '.join(words)}", partial(answered, words=words, turns=counted))
+
+
+def replied(step):
+    """What is printed where that step delivers the update again."""
+    return f"s{step} done\nm{step + 1} M1 C1 reply 1.1 unsynced e1 v1 done\n"
+
+
 def runs():
     order = "order 1\n1.1 put 61 31 -> done\n"
     yield Driven("play", partial(answered, words=["play"], turns=PUT, at_the_end=order))
@@ -122,6 +141,7 @@ def runs():
     long = [(f"{HEADER}\n", "")] + [(f"{INVOKE}\n", step(number)) for number in range(1, 9)]
     yield Driven("eight invocations", partial(answered, words=["play"], turns=long, at_the_end="order 0\n"))
     yield Driven("manage", partial(answered, words=["manage"], turns=ORDERS, at_the_end="decisions 2\n"))
+    yield from long_talks()
     for words in (["resp"], ["resp", "--f", "1", "--every", "1"], ["resp", "--f", "5", "--every", "2"]):
         yield Driven(" ".join(words), partial(answered, words=words, turns=REQUESTS))
     wrong = {"status": 11, "stderr": f"curp: bad request at {len(BOTH) + 1}\n"}
