@@ -4,9 +4,9 @@
     tools/pipes_test.py CURPD FOLDER [--curp CURP]
 
 CURPD is the program `curpd`, CURP the program `curp`: that of the environment's CURP, or crates/curp/out/curp, where
-none is said. Each scenario has a cluster of its own (G, M1, B1, W1, C1, C2), its journals and the pipes of its nodes in
-FOLDER/NAME, and leaves what it gathers as FOLDER/NAME.script. What is done and heard is printed, and the status is 1
-where something else comes than is wanted.
+none is said. Each scenario has a cluster of its own (G, M1, B1, W1, C1, C2), its journals in FOLDER/NAME, and leaves what
+it gathers as FOLDER/NAME.script. The pipes of its nodes are in a temporary folder, and go with it. What is done and heard
+is printed, and the status is 1 where something else comes than is wanted.
 """
 
 import argparse
@@ -15,6 +15,7 @@ import os
 import shutil
 import subprocess
 import sys
+import tempfile
 from collections.abc import Callable
 from pathlib import Path
 
@@ -35,8 +36,12 @@ LIMIT_OF_ALL = 300
 class PipedNode(node.Node):
     """A node whose process reads one named pipe and writes another, also when it begins again."""
 
+    def __init__(self, pipes: Path, *of_node):
+        super().__init__(*of_node)
+        self.pipes = pipes
+
     def pipe(self, end: str) -> Path:
-        path = self.setting.folder / f"{self.name}.{end}"
+        path = self.pipes / f"{self.name}.{end}"
         if not path.exists():
             os.mkfifo(path)
         return path
@@ -77,6 +82,8 @@ class Bench:
         self.folder = Path(options.folder) / name
         shutil.rmtree(self.folder, ignore_errors=True)
         self.folder.mkdir(parents=True)
+        self.pipes = options.pipes / name
+        self.pipes.mkdir()
         self.setting = node.Setting(options.curpd, header, self.folder)
         self.nodes: dict[str, node.Node] = {}
         self.said: dict[str, list[parcels.Parcel]] = {}
@@ -90,7 +97,7 @@ class Bench:
         for name in names:
             if name not in self.nodes:
                 heard, ended = self.hearing(name), self.ending(name)
-                self.nodes[name] = PipedNode(name, self.setting, heard, ended)
+                self.nodes[name] = PipedNode(self.pipes, name, self.setting, heard, ended)
             self.said[name] = []
             hosts.write_event(self.folder, name, "up", self.highest)
             await self.nodes[name].start()
@@ -442,7 +449,9 @@ def main() -> None:
     options = words.parse_args()
     options.curpd, options.curp = node.program(options.curpd), node.program(options.curp)
     try:
-        asyncio.run(run_all(options))
+        with tempfile.TemporaryDirectory(prefix="curp-pipes-") as pipes:
+            options.pipes = Path(pipes)
+            asyncio.run(run_all(options))
     except (Wrong, TimeoutError) as wrong:
         sys.exit(f"wrong: {wrong!r}" if isinstance(wrong, TimeoutError) else f"wrong: {wrong}")
     print("all is as wanted")
